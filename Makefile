@@ -1,0 +1,26 @@
+# make run: builds the programs into bin/ and runs the main job on a small sample
+# make test: the gate, every proof from nothing
+# make bench: the benchmarks of bench/, which are no tests
+
+PROGRAMS := show
+SOURCES := $(shell find crates -path '*/out' -prune -o \( -name '*.rt' -o -name '*.antt' \) -print) crates.txt
+
+.PHONY: run test bench clean
+
+run: $(PROGRAMS:%=bin/tftp-%)
+	bin/tftp-show < examples/packets.hex; test $$? -le 1 # 1: some lines of the sample are faults
+
+# `rt run` proves and links the program, and leaves it in the crate's out/
+bin/tftp-%: $(SOURCES)
+	cd crates/tftp_$*_main && rt run < /dev/null > /dev/null
+	@mkdir -p bin
+	cp crates/tftp_$*_main/out/tftp_$*_main $@
+
+test:
+	rt ci
+
+bench: $(PROGRAMS:%=bin/tftp-%)
+	bench/show/run.sh bin/tftp-show
+
+clean:
+	rm -rf bin crates/*/out
