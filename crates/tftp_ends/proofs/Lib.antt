@@ -1,0 +1,3 @@
+pub mod Fetching
+pub mod Sending
+pub mod Storing

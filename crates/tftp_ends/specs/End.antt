@@ -1,0 +1,105 @@
+-- The state of an end, and what it tells of itself.
+use Rattle.std.specs.Prelude.{ℕ, ◌+◌, ◌*◌, ◌/◌, ◌<◌, Bool, true, false, ◌&&◌, ◌||◌, not, nat_lt, List, Option, Some, None, is_some, option_map}
+use Rattle.tftp_wire.specs.declared.mode.Mode.{Mode}
+use Rattle.tftp_ends.specs.declared.endpoint.Endpoint.{Endpoint}
+use Rattle.tftp_ends.specs.declared.outcome.Outcome.{Outcome}
+use Rattle.tftp_ends.specs.declared.phase.Terms.{Terms}
+use Rattle.tftp_ends.specs.declared.phase.Phase.{Phase}
+use Rattle.tftp_ends.specs.declared.phase.Phase.TheVariants.{Waiting, Sending, Receiving, Dallying, Closed}
+use Rattle.tftp_ends.specs.declared.side.Side.{Side}
+use Rattle.tftp_ends.specs.declared.side.Side.TheVariants.{ClientRead, ClientWrite, ServerRead, ServerWrite}
+use Rattle.tftp_ends.specs.declared.record.Record.{Record}
+use Rattle.tftp_ends.specs.declared.record.Step.{Step}
+
+-- all that an end's steps depend on and change
+pub record EndState : Type 0 where
+  pub side : Side
+  pub mode : Mode
+  -- a sender's file as it was measured, in bytes of wire text
+  pub length : ℕ
+  pub retries : ℕ
+  pub retries_left : ℕ
+  -- what a timeout sends again, and where to
+  pub newest : List ℕ
+  pub newest_to : Endpoint
+  -- a receiver's wire text that awaits its next byte
+  pub held : List ℕ
+  pub phase : Phase
+
+-- the end sends DATA
+abbrev pub is_sender : Side → Bool
+is_sender ClientRead = false
+is_sender ClientWrite = true
+is_sender ServerRead = true
+is_sender ServerWrite = false
+
+-- the end is a client's
+abbrev pub is_client : Side → Bool
+is_client ClientRead = true
+is_client ClientWrite = true
+is_client ServerRead = false
+is_client ServerWrite = false
+
+-- what was agreed on
+abbrev pub terms_of : Phase → Option Terms
+terms_of (Waiting asked limit) = None
+terms_of (Sending terms number) = Some terms
+terms_of (Receiving terms number) = Some terms
+terms_of (Dallying terms number dally) = Some terms
+terms_of (Closed terms number complete outcome) = terms
+
+-- the newest DATA number of a sender, or how many blocks a receiver has stored
+abbrev pub number_of : Phase → ℕ
+number_of (Waiting asked limit) = 0
+number_of (Sending terms number) = number
+number_of (Receiving terms number) = number
+number_of (Dallying terms number dally) = number
+number_of (Closed terms number complete outcome) = number
+
+-- all was acknowledged, or stored and committed
+abbrev pub is_complete : Phase → Bool
+is_complete (Waiting asked limit) = false
+is_complete (Sending terms number) = false
+is_complete (Receiving terms number) = false
+is_complete (Dallying terms number dally) = true
+is_complete (Closed terms number complete outcome) = complete
+
+-- how it ended
+abbrev pub outcome_of : Phase → Option Outcome
+outcome_of (Waiting asked limit) = None
+outcome_of (Sending terms number) = None
+outcome_of (Receiving terms number) = None
+outcome_of (Dallying terms number dally) = None
+outcome_of (Closed terms number complete outcome) = Some outcome
+
+-- the block size, 512 while nothing is agreed
+abbrev pub size_of : Option Terms → ℕ
+size_of None = 512
+size_of (Some terms) = terms.size
+
+-- the agreed timeout
+abbrev pub timeout_of : Option Terms → Option ℕ
+timeout_of None = None
+timeout_of (Some terms) = terms.timeout
+
+-- what an end tells of itself
+abbrev pub record_of : EndState → Record
+record_of e =
+    record {
+      side = e.side;
+      peer = option_map (λ t. t.peer) (terms_of e.phase);
+      size = size_of (terms_of e.phase);
+      timeout = timeout_of (terms_of e.phase);
+      number = number_of e.phase;
+      complete = is_complete e.phase;
+      outcome = outcome_of e.phase;
+    }
+
+-- the peer was taken, the number rose, or the end became complete
+abbrev pub is_progress : Phase → Phase → Bool
+is_progress old new =
+    (not (is_some (terms_of old)) && is_some (terms_of new)) || (nat_lt (number_of old) (number_of new) || (not (is_complete old) && is_complete new))
+
+-- what a step that answered to there tells
+abbrev pub step_of : Phase → Phase → Option Endpoint → Step
+step_of old new to = record { to = to; progress = is_progress old new; closed = outcome_of new }

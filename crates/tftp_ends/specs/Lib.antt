@@ -1,0 +1,15 @@
+pub mod Outcome
+pub mod ErrorReply
+pub mod End
+pub mod Phase
+pub mod Text
+pub mod Waiting
+pub mod Sender
+pub mod Receiver
+pub mod Row
+pub mod Step
+pub mod Sound
+pub mod Filling
+pub mod Taking
+pub mod Files
+pub mod Opening

@@ -1,0 +1,71 @@
+-- What holds of every end between two events, and of every row that it finds.
+use Rattle.std.specs.Prelude.{ℕ, ◌≡◌, ◌*◌, ◌<◌, true, false, []}
+use Rattle.tftp_wire.specs.declared.mode.Mode.TheVariants.{Octet}
+use Rattle.tftp_negotiate.specs.Asked.{IsAskable}
+use Rattle.tftp_ends.specs.declared.phase.Phase.{Phase}
+use Rattle.tftp_ends.specs.declared.phase.Phase.TheVariants.{Waiting, Sending, Receiving, Dallying, Closed}
+use Rattle.tftp_ends.specs.declared.row.Row.{Row}
+use Rattle.tftp_ends.specs.declared.row.Row.TheVariants.{Ignore, Stranger, Again, Retry, Wait, Close, Refuse, Accept, Send, Store, Complete}
+use Rattle.tftp_ends.specs.declared.phase.Terms.{Terms}
+use Rattle.tftp_ends.specs.End.{EndState, is_sender, is_client}
+
+-- a sender's block size, whose blocks of the file can be numbered
+abbrev pub IsSending : EndState → Terms → Type 0
+IsSending e terms = (is_sender e.side ≡ true) × (0 < terms.size) × (e.length < 65535 * terms.size)
+
+-- clients wait, senders send, receivers receive
+abbrev pub PhaseFits : EndState → Phase → Type 0
+PhaseFits e (Waiting asked limit) = (is_client e.side ≡ true) × IsAskable asked
+PhaseFits e (Sending terms number) = IsSending e terms
+PhaseFits e (Receiving terms number) = is_sender e.side ≡ false
+PhaseFits e (Dallying terms number dally) = is_sender e.side ≡ false
+PhaseFits e (Closed terms number complete outcome) = Unit {0}
+
+-- what holds of an end between two events
+pub record IsSound (e : EndState) : Type 0 where
+  pub phase : PhaseFits e e.phase
+  -- netascii isn't carried yet
+  pub octet : e.mode ≡ Octet
+  pub nothing_held : e.held ≡ []
+
+-- a row that sends is a sender's, and one that receives a receiver's
+abbrev pub RowFits : EndState → Row → Type 0
+RowFits e Ignore = Unit {0}
+RowFits e Stranger = Unit {0}
+RowFits e Again = Unit {0}
+RowFits e Retry = 0 < e.retries_left
+RowFits e Wait = Unit {0}
+RowFits e (Close outcome) = Unit {0}
+RowFits e (Refuse terms reply outcome) = Unit {0}
+RowFits e (Accept terms) = is_sender e.side ≡ false
+RowFits e (Send terms number) = IsSending e terms
+RowFits e (Store terms number) = (is_sender e.side ≡ false) × (e.mode ≡ Octet)
+RowFits e Complete = Unit {0}
+
+-- a row that a sender of a file of that length finds at a packet
+abbrev pub FitsSender : ℕ → Row → Type 0
+FitsSender length Ignore = Unit {0}
+FitsSender length Stranger = Unit {0}
+FitsSender length Again = Unit {0}
+FitsSender length Retry = ⊥
+FitsSender length Wait = Unit {0}
+FitsSender length (Close outcome) = Unit {0}
+FitsSender length (Refuse terms reply outcome) = Unit {0}
+FitsSender length (Accept terms) = ⊥
+FitsSender length (Send terms number) = (0 < terms.size) × (length < 65535 * terms.size)
+FitsSender length (Store terms number) = ⊥
+FitsSender length Complete = Unit {0}
+
+-- a row that a receiver finds at a packet
+abbrev pub FitsReceiver : Row → Type 0
+FitsReceiver Ignore = Unit {0}
+FitsReceiver Stranger = Unit {0}
+FitsReceiver Again = Unit {0}
+FitsReceiver Retry = ⊥
+FitsReceiver Wait = Unit {0}
+FitsReceiver (Close outcome) = Unit {0}
+FitsReceiver (Refuse terms reply outcome) = Unit {0}
+FitsReceiver (Accept terms) = Unit {0}
+FitsReceiver (Send terms number) = ⊥
+FitsReceiver (Store terms number) = Unit {0}
+FitsReceiver Complete = Unit {0}

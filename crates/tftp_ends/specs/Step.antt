@@ -1,0 +1,257 @@
+-- What an end is after an event, and what it answers.
+use Rattle.std.specs.Prelude.{ℕ, ◌≡◌, ◌≢◌, ◌+◌, ◌-◌, ◌*◌, ◌≤◌, ◌<◌, min, nat_lt, ◌==◌, Bool, true, false, if◌then◌else◌, List, [], ◌∷◌, ◌++◌, length, drop, Option, Some, None, Result, Ok, Err, IfErr, option_map}
+use Rattle.tftp_wire.specs.declared.packet.Packet.{Packet}
+use Rattle.tftp_wire.specs.declared.packet.Packet.TheVariants.{Data, Ack, Error}
+use Rattle.tftp_wire.specs.Spelling.{canonical}
+use Rattle.tftp_file.specs.declared.fault.FileFault.{FileFault}
+use Rattle.tftp_file.specs.declared.fault.FileFault.TheVariants as file_faults
+use Rattle.tftp_file.specs.declared.fault.StoreFault.{StoreFault}
+use Rattle.tftp_file.specs.declared.fault.StoreFault.TheVariants as store_faults
+use Rattle.tftp_ends.specs.declared.endpoint.Endpoint.{Endpoint}
+use Rattle.tftp_ends.specs.declared.error_reply.ErrorReply.{ErrorReply}
+use Rattle.tftp_ends.specs.declared.error_reply.ErrorReply.TheVariants as replies
+use Rattle.tftp_ends.specs.declared.outcome.Outcome.{Outcome}
+use Rattle.tftp_ends.specs.declared.outcome.Outcome.TheVariants as outcomes
+use Rattle.tftp_ends.specs.declared.phase.Dally.TheVariants.{Fresh, Waited}
+use Rattle.tftp_ends.specs.declared.phase.Phase.{Phase}
+use Rattle.tftp_ends.specs.declared.phase.Phase.TheVariants.{Sending, Receiving, Dallying, Closed}
+use Rattle.tftp_ends.specs.declared.phase.Terms.{Terms}
+use Rattle.tftp_ends.specs.declared.record.Step.{Step}
+use Rattle.tftp_ends.specs.declared.row.Row.{Row}
+use Rattle.tftp_ends.specs.declared.row.Row.TheVariants.{Ignore, Stranger, Again, Retry, Wait, Close, Refuse, Accept, Send, Store, Complete}
+use Rattle.tftp_ends.specs.End.{EndState, terms_of, number_of, is_complete, is_progress, step_of}
+use Rattle.tftp_ends.specs.ErrorReply.{error_packet}
+use Rattle.tftp_ends.specs.Phase.{closed, refused, completed, waited}
+use Rattle.tftp_ends.specs.Row.{Says, datagram_row, timeout_row}
+use Rattle.tftp_ends.specs.Text.{Decoded}
+use Rattle.tftp_file.specs.Source.{Fills}
+use Rattle.tftp_file.specs.Sink.{Holding, Appends, Commits}
+use Rattle.tftp_file.specs.declared.files.Files.{Files}
+use Rattle.tftp_file.specs.declared.files.Files.TheVariants.{Source, Sink}
+
+-- what a call answers that has nothing to tell
+abbrev pub Done : Type 0
+Done = Unit {0}
+
+-- a datagram and where it goes
+pub record Reply : Type 0 where
+  pub to : Endpoint
+  pub bytes : List ℕ
+
+-- an end in another phase: progress gives its retries back
+abbrev pub in_phase : Phase → EndState → EndState
+in_phase phase e =
+    record e { phase = phase; retries_left = if is_progress e.phase phase then e.retries else e.retries_left }
+
+-- an end that has sent a new datagram, which a timeout will send again
+abbrev pub having_sent : Reply → EndState → EndState
+having_sent reply e = record e { newest = reply.bytes; newest_to = reply.to }
+
+-- the bytes of an ERROR, and of an ACK
+abbrev pub error_bytes : ErrorReply → List ℕ
+error_bytes reply = canonical (error_packet reply)
+
+abbrev pub ack_bytes : ℕ → List ℕ
+ack_bytes number = canonical (Ack number)
+
+abbrev pub data_bytes : ℕ → List ℕ → List ℕ
+data_bytes number bytes = canonical (Data number bytes)
+
+-- the end after a row that touches no file, where a datagram came from there
+abbrev pub after : Row → Endpoint → EndState → EndState
+after Ignore from e = e
+after Stranger from e = e
+after Again from e = e
+after Retry from e = record e { retries_left = e.retries_left - 1 }
+after Wait from e = record e { phase = waited e.phase }
+after (Close outcome) from e = in_phase (closed outcome e.phase) e
+after (Refuse terms reply outcome) from e = in_phase (refused terms outcome e.phase) e
+after (Accept terms) from e = having_sent (record { to = from; bytes = ack_bytes 0 }) (in_phase (Receiving terms 0) e)
+after (Send terms number) from e = e
+after (Store terms number) from e = e
+after Complete from e = in_phase (completed e.phase) e
+
+-- what is answered at a row that touches no file
+abbrev pub reply_at : Row → Endpoint → EndState → Option Reply
+reply_at Ignore from e = None
+reply_at Stranger from e = Some (record { to = from; bytes = error_bytes replies.UnknownTransferId })
+reply_at Again from e = Some (record { to = from; bytes = e.newest })
+reply_at Retry from e = Some (record { to = e.newest_to; bytes = e.newest })
+reply_at Wait from e = None
+reply_at (Close outcome) from e = None
+reply_at (Refuse terms reply outcome) from e = Some (record { to = from; bytes = error_bytes reply })
+reply_at (Accept terms) from e = Some (record { to = from; bytes = ack_bytes 0 })
+reply_at (Send terms number) from e = None
+reply_at (Store terms number) from e = None
+reply_at Complete from e = None
+
+-- an end after an event, and its answer
+pub record Turn : Type 0 where
+  pub end : EndState
+  pub reply : Option Reply
+
+-- a row that touches no file
+abbrev pub row_turn : Row → Endpoint → EndState → Turn
+row_turn row from e = record { end = after row from e; reply = reply_at row from e }
+
+-- an ERROR, and closed with these terms
+abbrev pub refused_turn : Terms → ErrorReply → Outcome → Endpoint → EndState → Turn
+refused_turn terms reply outcome from e = row_turn (Refuse (Some terms) reply outcome) from e
+
+-- a datagram that is kept as the newest, in that phase
+abbrev pub sent_turn : Phase → Endpoint → List ℕ → EndState → Turn
+sent_turn phase from bytes e =
+    let reply : Reply = record { to = from; bytes = bytes } in
+    record { end = having_sent reply (in_phase phase e); reply = Some reply }
+
+-- how many bytes DATA of this number carries, of a file of that length
+abbrev pub block_length : ℕ → ℕ → ℕ → ℕ
+block_length length size number = min size (length - (number - 1) * size)
+
+-- the answer is that so many bytes came
+abbrev pub result_count_is : ℕ → Result ℕ FileFault → Bool
+result_count_is want (Ok count) = count == want
+result_count_is want (Err fault) = false
+
+-- what a sender does when its source has answered a fill: DATA if the block is there, and else the file has changed
+abbrev pub filled_turn : Terms → ℕ → Endpoint → List ℕ → EndState → Result ℕ FileFault → Turn
+filled_turn terms number from piece e answer =
+    if result_count_is (block_length e.length terms.size number) answer then sent_turn (Sending terms number) from (data_bytes number piece) e
+    else refused_turn terms replies.FileChanged outcomes.SourceFault from e
+
+-- the fault of a commit, as it is answered
+abbrev pub commit_reply : StoreFault → ErrorReply
+commit_reply store_faults.Missing = replies.DiskFull
+commit_reply store_faults.Exists = replies.FileExists
+commit_reply store_faults.Full = replies.DiskFull
+commit_reply store_faults.Io = replies.DiskFull
+commit_reply store_faults.Memory = replies.DiskFull
+
+-- what a receiver does when its sink has answered the commit: the last block is acknowledged only behind it
+abbrev pub committed_turn : {A : Type 0} → Terms → ℕ → Endpoint → EndState → Result A StoreFault → Turn
+committed_turn terms number from e (Ok done) = sent_turn (Dallying terms number Fresh) from (ack_bytes number) e
+committed_turn terms number from e (Err fault) = refused_turn terms (commit_reply fault) outcomes.StoreFault from e
+
+-- a receiver that holds back this much text
+abbrev pub holding : List ℕ → EndState → EndState
+holding held e = record e { held = held }
+
+module _ {S : Type 0} (left : S → Option (List ℕ)) (may_fail : S → ℕ → Type 0) where
+  -- a source was asked for the next block, and DATA went out or the file had changed
+  pub record Sends (terms : Terms) (number : ℕ) (from : Endpoint) (e : EndState) (source : S) (turn : Turn) (source' : S) : Type 0 where
+    pub answer : Result ℕ FileFault
+    pub piece : List ℕ
+    pub fills : Fills (left source) (left source') (block_length e.length terms.size number) [] piece answer
+    pub read : answer ≡ Err file_faults.Read → may_fail source (block_length e.length terms.size number)
+    pub memory : answer ≢ Err file_faults.Memory
+    pub answers : turn ≡ filled_turn terms number from piece e answer
+
+module _ {K : Type 0} (held : K → Option Holding) (may_refuse_append : K → List ℕ → StoreFault → Type 0) (may_refuse_commit : K → StoreFault → Type 0) where
+  -- a sink took the bytes of a block, or wasn't asked where there are none
+  abbrev pub Appended : List ℕ → K → K → Result Done StoreFault → Type 0
+  Appended [] sink sink' answer = (answer ≡ Ok tt) × (sink' ≡ sink)
+  Appended (b ∷ bytes) sink sink' answer =
+      Appends (held sink) (held sink') (b ∷ bytes) answer × IfErr answer (may_refuse_append sink (b ∷ bytes))
+
+  -- a sink was asked to commit the whole
+  pub record Committed (terms : Terms) (number : ℕ) (from : Endpoint) (e : EndState) (sink : K) (turn : Turn) (sink' : K) : Type 0 where
+    pub answer : Result Done StoreFault
+    pub commits : Commits (held sink) (held sink') answer
+    pub refused : IfErr answer (may_refuse_commit sink)
+    pub answers : turn ≡ committed_turn terms number from e answer
+
+  -- what follows an append: the last block is committed and then acknowledged, another is acknowledged
+  abbrev pub GoesOn : Terms → ℕ → Endpoint → EndState → Bool → List ℕ → K → Result Done StoreFault → Turn → K → Type 0
+  GoesOn terms number from e last after sink (Err fault) turn sink' =
+      (turn ≡ refused_turn terms replies.DiskFull outcomes.StoreFault from e) × (sink' ≡ sink)
+  GoesOn terms number from e true after sink (Ok done) turn sink' =
+      Committed terms number from (holding after e) sink turn sink'
+  GoesOn terms number from e false after sink (Ok done) turn sink' =
+      (turn ≡ sent_turn (Receiving terms number) from (ack_bytes number) (holding after e)) × (sink' ≡ sink)
+
+  -- a block came: its text goes to the sink, and it is acknowledged or the store has refused it
+  pub record Stores (terms : Terms) (number : ℕ) (from : Endpoint) (piece : List ℕ) (e : EndState) (sink : K) (turn : Turn) (sink' : K) : Type 0 where
+    pub bytes : List ℕ
+    pub after : List ℕ
+    pub mid : K
+    pub answer : Result Done StoreFault
+    pub decoded : Decoded e.mode e.held piece bytes after
+    pub appended : Appended bytes sink mid answer
+    pub memory : answer ≢ Err store_faults.Memory
+    pub rest : GoesOn terms number from e (nat_lt (length piece) terms.size) after mid answer turn sink'
+
+module _ {S K : Type 0} (left : S → Option (List ℕ)) (may_fail : S → ℕ → Type 0) (held : K → Option Holding) (may_refuse_append : K → List ℕ → StoreFault → Type 0) (may_refuse_commit : K → StoreFault → Type 0) where
+  -- DATA is sent from a source
+  abbrev pub SendsFrom : Terms → ℕ → Endpoint → EndState → Files S K → Turn → Files S K → Type 0
+  SendsFrom terms number from e (Source source) turn (Source source') = Sends left may_fail terms number from e source turn source'
+  SendsFrom terms number from e _ turn _ = ⊥
+
+  -- a block is stored in a sink
+  abbrev pub StoresIn : Terms → ℕ → Endpoint → List ℕ → EndState → Files S K → Turn → Files S K → Type 0
+  StoresIn terms number from piece e (Sink sink) turn (Sink sink') = Stores held may_refuse_append may_refuse_commit terms number from piece e sink turn sink'
+  StoresIn terms number from piece e _ turn _ = ⊥
+
+  -- what an end does at a row, where a datagram of these bytes came from there
+  abbrev pub Acts : Row → Endpoint → List ℕ → EndState → Files S K → Turn → Files S K → Type 0
+  Acts (Send terms number) from bytes e files turn files' = SendsFrom terms number from e files turn files'
+  Acts (Store terms number) from bytes e files turn files' = StoresIn terms number from (drop 4 bytes) e files turn files'
+  Acts row from bytes e files turn files' = (turn ≡ row_turn row from e) × (files' ≡ files)
+
+  -- what an open end does at a datagram
+  pub record Hears (from : Endpoint) (bytes : List ℕ) (e : EndState) (files : Files S K) (turn : Turn) (files' : Files S K) : Type 0 where
+    pub heard : Option Packet
+    pub says : Says bytes heard
+    pub acts : Acts (datagram_row e from bytes heard) from bytes e files turn files'
+
+-- what an open end does at a timeout
+abbrev pub timeout_turn : EndState → Turn
+timeout_turn e = row_turn (timeout_row e.retries_left e.phase) e.newest_to e
+
+-- what a call tells of a turn
+abbrev pub told : EndState → Turn → Step
+told e turn = step_of e.phase turn.end.phase (option_map (λ (r : Reply). r.to) turn.reply)
+
+-- what a call appends
+abbrev pub reply_bytes : Option Reply → List ℕ
+reply_bytes None = []
+reply_bytes (Some reply) = reply.bytes
+
+-- a row that answers by a datagram, and so may want memory
+abbrev pub IsAnswered : Row → Type 0
+IsAnswered Ignore = ⊥
+IsAnswered Stranger = Unit {0}
+IsAnswered Again = Unit {0}
+IsAnswered Retry = Unit {0}
+IsAnswered Wait = ⊥
+IsAnswered (Close outcome) = ⊥
+IsAnswered (Refuse terms reply outcome) = Unit {0}
+IsAnswered (Accept terms) = Unit {0}
+IsAnswered (Send terms number) = Unit {0}
+IsAnswered (Store terms number) = Unit {0}
+IsAnswered Complete = ⊥
+
+-- a call has led to this turn: the end, where the answer goes, and what was appended
+pub record Carries (turn : Turn) (e : EndState) (to : Option Endpoint) (old new : List ℕ) : Type 0 where
+  pub state : e ≡ turn.end
+  pub goes : to ≡ option_map (λ (r : Reply). r.to) turn.reply
+  pub appended : new ≡ old ++ reply_bytes turn.reply
+
+-- a fill of a block went behind what was there, if all of the block came; a source that may not fail to read hasn't
+pub record Fetches (before after : Option (List ℕ)) (may_fail : Type 0) (want : ℕ) (old new : List ℕ) (is_whole : Bool) : Type 0 where
+  pub answer : Result ℕ FileFault
+  pub piece : List ℕ
+  pub fills : Fills before after want [] piece answer
+  pub read : answer ≡ Err file_faults.Read → may_fail
+  pub memory : answer ≢ Err file_faults.Memory
+  pub whole : is_whole ≡ result_count_is want answer
+  pub appended : new ≡ old ++ (if is_whole then piece else [])
+
+-- a fetch whose block went out as DATA, or the ERROR went out that says the file has changed
+pub record Offers (before after : Option (List ℕ)) (may_fail : Type 0) (number want : ℕ) (old new : List ℕ) (is_whole : Bool) : Type 0 where
+  pub answer : Result ℕ FileFault
+  pub piece : List ℕ
+  pub fills : Fills before after want [] piece answer
+  pub read : answer ≡ Err file_faults.Read → may_fail
+  pub memory : answer ≢ Err file_faults.Memory
+  pub whole : is_whole ≡ result_count_is want answer
+  pub appended : new ≡ old ++ (if is_whole then data_bytes number piece else error_bytes replies.FileChanged)

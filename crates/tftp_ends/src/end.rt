@@ -1,0 +1,229 @@
+//! An end of a transfer: what it makes of datagrams and timeouts.
+
+mod acting;
+mod opening;
+
+ghost use Rattle.std.specs.Prelude.{◌≡◌, ◌↔◌, option_map, Option, IfOk, OnErr, IsErrOf, IsSome, is_some};
+ghost use Rattle.tftp_wire.specs.Borrowed.{owned};
+ghost use Rattle.tftp_wire.specs.declared.packet.Packet.{Packet};
+
+use crate::endpoint::Endpoint;
+use crate::error_reply::ErrorReply;
+use crate::fault::EndFault;
+use crate::hearing::{begins_error, hear};
+use crate::outcome::Outcome;
+use crate::phase::{Dally, Phase, Terms};
+use crate::receiver::{dally_row, receiver_row};
+use crate::record::{Record, Step};
+use crate::row::Row;
+use crate::sender::sender_row;
+use crate::side::Side;
+use crate::waiting::{reader_row, writer_row};
+use std::marker::Model;
+use tftp_file::{Files, Sink, Source};
+use tftp_wire::{Mode, PacketRef};
+
+/// One end of a transfer.
+///
+/// Hand it each datagram that comes to its port ([`End::on_datagram`]), and a timeout
+/// ([`End::on_timeout`]) when nothing came for the agreed seconds after an opening, progress or the
+/// last timeout. The caller owns the socket and the clock: it sends what a call appends to `out` to
+/// the endpoint that the [`Step`] names. A call at a closed end is refused.
+#[derive(Debug, Drop)]
+pub struct End {
+    side: Side,
+    mode: Mode,
+    length: u64,
+    retries: u8,
+    retries_left: u8,
+    newest: Vec<u8>,
+    newest_to: Endpoint,
+    phase: Phase,
+}
+
+impl Model for End {
+    ghost use Rattle.std.specs.Prelude.{[], ◌≤◌, vec_capacity};
+    ghost use Rattle.tftp_ends.specs.End.{EndState};
+    ghost use Rattle.tftp_ends.specs.Sound.{IsSound};
+
+    ghost Value = { EndState };
+
+    ghost view = { λ e. record { side = e.side; mode = e.mode; length = e.length; retries = e.retries; retries_left = e.retries_left; newest = e.newest.items; newest_to = e.newest_to; held = []; phase = e.phase } };
+
+    ghost invariant = { λ e. IsSound (record { side = e.side; mode = e.mode; length = e.length; retries = e.retries; retries_left = e.retries_left; newest = e.newest.items; newest_to = e.newest_to; held = []; phase = e.phase }) × (4 ≤ vec_capacity e.newest) };
+}
+
+impl End {
+    ghost use Rattle.tftp_ends.specs.End.{record_of, outcome_of, terms_of};
+    ghost use Rattle.tftp_ends.specs.Row.{Says, datagram_row, packet_row, garbled_row, is_stranger, timeout_row};
+    ghost use Rattle.tftp_ends.specs.Sound.{RowFits};
+    ghost use Rattle.tftp_ends.specs.Files.{AreFilesOf, KeepsFiles, AreSame};
+    ghost use Rattle.tftp_ends.specs.Step.{Turn, Hears, Carries, IsAnswered, told, timeout_turn};
+
+    /// How far the end came.
+    pub fn record(&self) -> Record
+        ensures { result ≡ record_of self.now }
+    {
+        let terms = self.phase.terms();
+        Record {
+            side: self.side,
+            peer: terms.map(|terms| terms.peer),
+            size: terms.map_or(512, |terms| terms.size),
+            timeout: terms.and_then(|terms| terms.timeout),
+            number: self.phase.number(),
+            complete: self.phase.is_complete(),
+            outcome: self.phase.outcome(),
+        }
+    }
+
+    /// Whether a datagram from there is not from the other end, or, before there is one, not from
+    /// the server's address.
+    fn is_stranger(&self, from: Endpoint) -> bool
+        ensures { result ≡ is_stranger (terms_of self.now.phase) self.now.newest_to from }
+    {
+        match self.phase.terms() {
+            Some(terms) => terms.peer != from,
+            None => self.newest_to.ip != from.ip,
+        }
+    }
+
+    /// What begins as an ERROR and is none ends the transfer in silence, but not a dally.
+    fn garbled_row(&self) -> Row
+        ensures { result ≡ garbled_row self.now.phase }
+    {
+        match self.phase {
+            Phase::Waiting { .. } | Phase::Sending { .. } | Phase::Receiving { .. } => Row::Close {
+                outcome: Outcome::Illegal,
+            },
+            Phase::Dallying { .. } | Phase::Closed { .. } => Row::Ignore,
+        }
+    }
+
+    /// What the end makes of a packet from its peer, or from the server while it has none.
+    fn packet_row(&self, from: Endpoint, heard: &Option<PacketRef<'_>>) -> Row
+        ensures row { result ≡ packet_row self.now from (option_map owned heard.now) self.now.phase }
+        ensures fits { RowFits self.now result }
+    {
+        match self.phase {
+            Phase::Waiting { asked, limit } => {
+                if self.side.is_sender() {
+                    writer_row(&asked, limit, self.length, from, heard)
+                } else {
+                    reader_row(&asked, limit, from, heard)
+                }
+            }
+            Phase::Sending { terms, number } => {
+                sender_row(self.side, self.length, terms, number, heard)
+            }
+            Phase::Receiving { terms, number } => receiver_row(self.side, terms, number, heard),
+            Phase::Dallying { number, .. } => dally_row(number, heard),
+            Phase::Closed { .. } => Row::Ignore,
+        }
+    }
+
+    /// What the end makes of a datagram: first from whom it is, then whether it may be answered.
+    fn datagram_row(&self, from: Endpoint, bytes: &[u8]) -> Row
+        ensures row { (heard : Option Packet) × Says bytes.now heard × (result ≡ datagram_row self.now from bytes.now heard) }
+        ensures fits { RowFits self.now result }
+    {
+        let heard = hear(bytes);
+        let is_error = begins_error(bytes);
+        if self.is_stranger(from) {
+            return if is_error { Row::Ignore } else { Row::Stranger };
+        }
+        if is_error && heard.is_none() {
+            return self.garbled_row();
+        }
+        self.packet_row(from, &heard)
+    }
+
+    /// What the end makes of a timeout (RFC 1350, sections 2 and 6).
+    fn timeout_row(&self) -> Row
+        ensures row { result ≡ timeout_row self.now.retries_left self.now.phase }
+        ensures fits { RowFits self.now result }
+    {
+        match self.phase {
+            Phase::Dallying {
+                dally: Dally::Fresh,
+                ..
+            } => Row::Wait,
+            Phase::Dallying {
+                dally: Dally::Waited,
+                ..
+            } => Row::Close {
+                outcome: Outcome::Complete,
+            },
+            _ if self.retries_left == 0 => Row::Close {
+                outcome: Outcome::TimedOut,
+            },
+            _ => Row::Retry,
+        }
+    }
+
+    /// Whether the end is closed.
+    fn is_closed(&self) -> bool
+        ensures { result ≡ is_some (outcome_of self.now.phase) }
+    {
+        self.phase.outcome().is_some()
+    }
+
+    /// Where the end stands.
+    fn phase(&self) -> Phase
+        ensures { result ≡ self.now.phase }
+    {
+        self.phase
+    }
+
+    /// Takes a datagram that came from there to the end's port.
+    ///
+    /// At most one datagram is appended to `out`; [`Step::to`] says where it goes. `files` is the
+    /// end's source if it sends, and its sink if it receives. After `Closed` and after `Memory`
+    /// nothing has changed; `Memory` comes only where a datagram is to be answered.
+    pub fn on_datagram<S: Source, K: Sink>(
+        &mut self,
+        files: &mut Files<S, K>,
+        from: Endpoint,
+        bytes: &[u8],
+        out: &mut Vec<u8>,
+    ) -> Result<Step, EndFault>
+        requires { AreFilesOf self.old.side files.old }
+        ensures hears { IfOk result (λ step. (turn : Turn)
+            × Hears S.left S.may_fail K.held K.may_refuse_append K.may_refuse_commit from bytes.now self.old files.old turn files.new
+            × Carries turn self.new step.to out.old.items out.new.items × (step ≡ told self.old turn)) }
+        ensures closed { IsErrOf result EndFault.Closed ↔ IsSome (outcome_of self.old.phase) }
+        ensures memory { IsErrOf result EndFault.Memory → (heard : Option Packet) × Says bytes.now heard × IsAnswered (datagram_row self.old from bytes.now heard) }
+        ensures err { OnErr result ((self.new ≡ self.old) × (out.new.items ≡ out.old.items) × KeepsFiles S.left K.held files.old files.new) }
+        ensures same { AreSame S.is_same K.is_same files.old files.new }
+        ensures files { AreFilesOf self.new.side files.new }
+    {
+        if self.is_closed() {
+            return Err(EndFault::Closed);
+        }
+        let before = self.phase();
+        let row = self.datagram_row(from, bytes);
+        let to = self.act(row, files, from, bytes, out)?;
+        Ok(before.step_to(self.phase(), to))
+    }
+
+    /// Takes a timeout: nothing came for the agreed time since an opening, progress or the last
+    /// timeout. A late or an early one does no harm; each uses one retry.
+    ///
+    /// At most one datagram is appended to `out`; [`Step::to`] says where it goes. After `Closed` and
+    /// after `Memory` nothing has changed.
+    pub fn on_timeout(&mut self, out: &mut Vec<u8>) -> Result<Step, EndFault>
+        ensures steps { IfOk result (λ step. Carries (timeout_turn self.old) self.new step.to out.old.items out.new.items
+            × (step ≡ told self.old (timeout_turn self.old))) }
+        ensures closed { IsErrOf result EndFault.Closed ↔ IsSome (outcome_of self.old.phase) }
+        ensures memory { IsErrOf result EndFault.Memory → IsAnswered (timeout_row self.old.retries_left self.old.phase) }
+        ensures err { OnErr result ((self.new ≡ self.old) × (out.new.items ≡ out.old.items)) }
+        ensures side { self.new.side ≡ self.old.side }
+    {
+        if self.is_closed() {
+            return Err(EndFault::Closed);
+        }
+        let before = self.phase();
+        let row = self.timeout_row();
+        let to = self.answer(row, self.newest_to, out)?;
+        Ok(before.step_to(self.phase(), to))
+    }
+}

@@ -1,0 +1,224 @@
+//! How an end opens: a client by its request, a server's end by its first answer.
+
+ghost use Rattle.std.specs.Prelude.{◌≡◌, ◌↔◌, ◌++◌, ◌+◌, ◌*◌, ◌<◌, ◌≤◌, ◌⊎◌, IsTrue, IfOk, IfErr, OnOk, OnErr, IsErrOf, length, vec_capacity};
+ghost use Rattle.tftp_wire.specs.Spelling.{canonical};
+ghost use Rattle.tftp_wire.specs.Texts.{IsText};
+ghost use Rattle.tftp_wire.specs.declared.mode.Mode.TheVariants.{Octet};
+ghost use Rattle.tftp_wire.specs.declared.packet.Packet.TheVariants.{Read};
+ghost use Rattle.tftp_ends.specs.Filling.{is_whole};
+ghost use Rattle.tftp_ends.specs.Files.{AreFilesOf, KeepsFiles, AreSame};
+ghost use Rattle.tftp_ends.specs.Opening.{CanGet, CanServe, ServesFiles, StartsWith, getting, opening_step, request_of, nothing_asked};
+
+use crate::config::EndConfig;
+use crate::end::End;
+use crate::end::acting::{Filling, block_length, fetch, keep};
+use crate::endpoint::Endpoint;
+use crate::fault::OpenFault;
+use crate::phase::Phase;
+use crate::record::Step;
+use crate::reply::{HEADER, append_data_header};
+use crate::side::Side;
+use crate::waiting::{PLAIN_SIZE, plain_terms};
+use std::alloc::{AllocError, Global};
+use tftp_file::{Files, Sink, Source};
+use tftp_negotiate::{Agreed, Asked};
+use tftp_wire::{Bytes, Mode, Packet, RawOptions, Request, encode};
+
+/// The longest name of a request in octet without options, in bytes: with its opcode, two zero bytes
+/// and the word of its mode it makes 512.
+const MAX_NAME: usize = 503;
+
+/// What an opening tells: one datagram, which is no progress yet.
+fn opening_step(to: Endpoint) -> Step
+    ensures { result ≡ opening_step to }
+{
+    Step {
+        to: Some(to),
+        progress: false,
+        closed: None,
+    }
+}
+
+fn is_text(bytes: &[u8]) -> bool
+    ensures { IsTrue result ↔ IsText bytes.now }
+{
+    bytes.iter().all(|byte| *byte != 0)
+}
+
+fn is_nothing(asked: &Asked) -> bool
+    ensures { IsTrue result ↔ (asked.now ≡ nothing_asked) }
+{
+    asked.blksize.is_none() && asked.timeout.is_none() && asked.tsize.is_none()
+}
+
+/// Whether a read of that name can be asked for.
+fn can_get(name: &[u8], mode: Mode, asked: &Asked) -> bool
+    ensures { IsTrue result ↔ CanGet name.now mode asked.now }
+{
+    !name.is_empty()
+        && is_text(name)
+        && name.len() <= MAX_NAME
+        && mode == Mode::Octet
+        && is_nothing(asked)
+}
+
+/// The request for a file in octet, without options.
+fn request_bytes(alloc: Global, name: &[u8]) -> Result<Vec<u8>, OpenFault>
+    requires { CanGet name.now Octet nothing_asked }
+    ensures ok { IfOk result (λ v. v.items ≡ canonical (Read (request_of name.now Octet nothing_asked))) }
+    ensures room { IfOk result (λ v. 4 ≤ vec_capacity v) }
+    ensures memory { IfErr result (λ fault. fault ≡ OpenFault.Memory) }
+{
+    let packet = Packet::Read(Request {
+        name: Bytes::from_slice(alloc, name)?,
+        mode: Mode::Octet,
+        options: RawOptions::from(Vec::new(alloc)),
+    });
+    let mut bytes = Vec::new(alloc);
+    if encode(&packet, &mut bytes).is_err() {
+        return Err(OpenFault::Memory);
+    }
+    bytes.reserve(HEADER)?;
+    Ok(bytes)
+}
+
+/// Appends DATA 1 of a file of that length in blocks of 512 bytes, and a copy to keep, or nothing.
+fn start_with<S: Source>(
+    source: &mut S,
+    length: u64,
+    newest: &mut Vec<u8>,
+    out: &mut Vec<u8>,
+) -> Result<Filling, AllocError>
+    ensures starts { IfOk result (λ filling. StartsWith (S.left source.old) (S.left source.new) length newest.new.items out.old.items out.new.items (is_whole filling)) }
+    ensures room { OnOk result (4 ≤ vec_capacity newest.new) }
+    ensures err { OnErr result ((S.left source.new ≡ S.left source.old) × (out.new.items ≡ out.old.items)) }
+    ensures same { S.is_same source.old source.new }
+{
+    let want = block_length(length, PLAIN_SIZE, 1);
+    newest.reserve(HEADER + want)?;
+    out.reserve(HEADER + want)?;
+    let start = out.len();
+    let Ok(()) = append_data_header(out, 1) else {
+        unreachable!()
+    };
+    match fetch(source, want, out) {
+        Ok(Filling::Whole) => {
+            keep(newest, &out[start..]);
+            Ok(Filling::Whole)
+        }
+        Ok(Filling::Changed) => {
+            out.truncate(start);
+            Ok(Filling::Changed)
+        }
+        Err(error) => {
+            out.truncate(start);
+            Err(error)
+        }
+    }
+}
+
+impl End {
+    /// Opens a client that reads: its request is appended to `out`, for `to`.
+    ///
+    /// It retries `config.retries` times, and takes a file of at most `config.limits.max_file` bytes
+    /// where the server tells the length. `BadRequest` comes where the name is empty, holds a zero
+    /// byte or makes the request longer than 512 bytes (RFC 2347), and today for netascii and for
+    /// any option. After an error `out` is unchanged.
+    pub fn get(
+        alloc: Global,
+        to: Endpoint,
+        name: &[u8],
+        mode: Mode,
+        asked: &Asked,
+        config: &EndConfig,
+        out: &mut Vec<u8>,
+    ) -> Result<(End, Step), OpenFault>
+        ensures end { IfOk result (λ opened. opened.0 ≡ getting to name.now mode asked.now config.now.limits.max_file config.now.retries) }
+        ensures step { IfOk result (λ opened. opened.1 ≡ opening_step to) }
+        ensures sent { OnOk result (out.new.items ≡ out.old.items ++ canonical (Read (request_of name.now mode asked.now))) }
+        ensures ok { OnOk result (CanGet name.now mode asked.now) }
+        ensures bad_request { IsErrOf result OpenFault.BadRequest → CanGet name.now mode asked.now → ⊥ }
+        ensures memory { IsErrOf result OpenFault.Memory → CanGet name.now mode asked.now }
+        ensures err { IfErr result (λ fault. ((fault ≡ OpenFault.BadRequest) ⊎ (fault ≡ OpenFault.Memory)) × (out.new.items ≡ out.old.items)) }
+    {
+        if !can_get(name, mode, asked) {
+            return Err(OpenFault::BadRequest);
+        }
+        let newest = request_bytes(alloc, name)?;
+        out.extend_from_slice(&newest)?;
+        let end = End {
+            side: Side::ClientRead,
+            mode,
+            length: 0,
+            retries: config.retries,
+            retries_left: config.retries,
+            newest,
+            newest_to: to,
+            phase: Phase::Waiting {
+                asked: *asked,
+                limit: config.limits.max_file,
+            },
+        };
+        Ok((end, opening_step(to)))
+    }
+
+    /// Opens a server's end that sends a file of that length, in bytes of wire text, to a client.
+    ///
+    /// DATA 1 is appended to `out`, for `peer` (RFC 1350, section 4). `TooLarge` comes where the
+    /// file's blocks cannot be numbered, `SourceFault` where the first one cannot be read to the
+    /// measured length, and today `BadRequest` for netascii and for agreed options. After an error
+    /// `out` is unchanged; after `Memory` the source is, too.
+    pub fn serve_read<S: Source, K: Sink>(
+        alloc: Global,
+        files: &mut Files<S, K>,
+        peer: Endpoint,
+        mode: Mode,
+        agreed: &Agreed,
+        length: u64,
+        retries: u8,
+        out: &mut Vec<u8>,
+    ) -> Result<(End, Step), OpenFault>
+        requires { AreFilesOf Side.ServerRead files.old }
+        ensures serves { IfOk result (λ opened. ServesFiles S.left agreed.now peer mode length retries files.old files.new opened.0
+            × (out.new.items ≡ out.old.items ++ opened.0.newest)) }
+        ensures step { IfOk result (λ opened. opened.1 ≡ opening_step peer) }
+        ensures ok { OnOk result (CanServe mode agreed.now length) }
+        ensures bad_request { IsErrOf result OpenFault.BadRequest → CanServe mode agreed.now length → ⊥ }
+        ensures too_large { IsErrOf result OpenFault.TooLarge → CanServe mode agreed.now length → ⊥ }
+        ensures source { IsErrOf result OpenFault.SourceFault → CanServe mode agreed.now length }
+        ensures memory { IsErrOf result OpenFault.Memory → CanServe mode agreed.now length × KeepsFiles S.left K.held files.old files.new }
+        ensures err { OnErr result (out.new.items ≡ out.old.items) }
+        ensures same { AreSame S.is_same K.is_same files.old files.new }
+        ensures files { IfOk result (λ opened. AreFilesOf opened.0.side files.new) }
+    {
+        if mode != Mode::Octet || !agreed.is_empty() {
+            return Err(OpenFault::BadRequest);
+        }
+        if length >= 65_535 * u64::from(PLAIN_SIZE) {
+            return Err(OpenFault::TooLarge);
+        }
+        let Files::Source(source) = files else {
+            unreachable!()
+        };
+        let mut newest = Vec::new(alloc);
+        match start_with(source, length, &mut newest, out)? {
+            Filling::Changed => Err(OpenFault::SourceFault),
+            Filling::Whole => {
+                let end = End {
+                    side: Side::ServerRead,
+                    mode,
+                    length,
+                    retries,
+                    retries_left: retries,
+                    newest,
+                    newest_to: peer,
+                    phase: Phase::Sending {
+                        terms: plain_terms(peer),
+                        number: 1,
+                    },
+                };
+                Ok((end, opening_step(peer)))
+            }
+        }
+    }
+}

@@ -1,0 +1,53 @@
+//! Why a call at an end was refused.
+
+ghost use Rattle.std.specs.Prelude.{◌≡◌};
+ghost use Rattle.tftp_ends.specs.declared.fault.EndFault.TheVariants.{Memory};
+ghost use Rattle.tftp_ends.specs.declared.fault.OpenFault.TheVariants as opening;
+
+use std::alloc::AllocError;
+use thiserror::Error;
+
+/// Why an end was not opened. Of the first three the least that holds is answered.
+#[derive(Clone, Copy, Debug, PartialEq, Eq, Error)]
+pub enum OpenFault {
+    /// The name is empty or holds a zero byte, the request would pass 512 bytes, or the options
+    /// are not for this transfer.
+    #[error("the request cannot be sent")]
+    BadRequest = 1,
+    /// The file has more blocks than can be numbered at the block size.
+    #[error("the file is too large")]
+    TooLarge = 2,
+    /// The first block could not be read.
+    #[error("the file could not be read")]
+    SourceFault = 3,
+    /// Memory was wanting.
+    #[error("out of memory")]
+    Memory = 4,
+}
+
+/// Why an event was not taken. Nothing has changed.
+#[derive(Clone, Copy, Debug, PartialEq, Eq, Error)]
+pub enum EndFault {
+    /// The end is closed.
+    #[error("the end is closed")]
+    Closed = 1,
+    /// Memory was wanting for the answer.
+    #[error("out of memory")]
+    Memory = 2,
+}
+
+impl From<AllocError> for EndFault {
+    ghost from_gives = { λ _ e. e ≡ Memory };
+
+    fn from(_error: AllocError) -> EndFault {
+        EndFault::Memory
+    }
+}
+
+impl From<AllocError> for OpenFault {
+    ghost from_gives = { λ _ e. e ≡ opening.Memory };
+
+    fn from(_error: AllocError) -> OpenFault {
+        OpenFault::Memory
+    }
+}

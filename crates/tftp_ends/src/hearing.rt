@@ -1,0 +1,24 @@
+//! What the bytes of a datagram say.
+
+ghost use Rattle.std.specs.Prelude.{◌≡◌, ◌↔◌, option_map};
+ghost use Rattle.tftp_wire.specs.Borrowed.{owned};
+ghost use Rattle.tftp_ends.specs.Row.{Says, begins_error};
+
+use tftp_wire::{PacketRef, decode_ref};
+
+/// The packet that the bytes spell, if they spell one.
+pub(crate) fn hear(bytes: &[u8]) -> Option<PacketRef<'_>>
+    ensures { Says bytes.now (option_map owned result) }
+{
+    match decode_ref(bytes) {
+        Ok(packet) => Some(packet),
+        Err(_) => None,
+    }
+}
+
+/// Whether a datagram begins as an ERROR does. Such a datagram is never answered.
+pub(crate) fn begins_error(bytes: &[u8]) -> bool
+    ensures { result ≡ begins_error bytes.now }
+{
+    matches!(bytes, [0, 5, ..])
+}

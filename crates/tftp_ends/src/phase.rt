@@ -1,0 +1,190 @@
+//! Where an end stands between two events.
+
+ghost use Rattle.std.specs.Prelude.{◌≡◌};
+ghost use Rattle.tftp_ends.specs.End.{terms_of, number_of, is_complete, outcome_of, is_progress, step_of};
+ghost use Rattle.tftp_ends.specs.Phase.{closed, refused, completed, waited};
+
+use crate::endpoint::Endpoint;
+use crate::outcome::Outcome;
+use crate::record::Step;
+use tftp_negotiate::Asked;
+
+/// What the two ends of a transfer agreed on: at a client, once it has taken its peer.
+#[derive(Clone, Copy, Debug, PartialEq, Eq)]
+pub struct Terms {
+    /// The other end. A datagram from any other is a stranger's.
+    pub peer: Endpoint,
+    /// The block size in bytes, 8 to 65,464 (RFC 2348); 512 where none was agreed.
+    pub size: u16,
+    /// The agreed timeout in seconds (RFC 2349).
+    pub timeout: Option<u8>,
+    /// Whether an OACK opened the transfer (RFC 2347), and not DATA 1 or ACK 0.
+    pub by_oack: bool,
+}
+
+/// Whether a dallying receiver has seen its first timeout (RFC 1350, section 6).
+#[derive(Clone, Copy, Debug, PartialEq, Eq)]
+pub enum Dally {
+    /// No timeout yet.
+    Fresh,
+    /// One timeout; the next one closes the end.
+    Waited,
+}
+
+/// Where an end stands.
+///
+/// ```text
+///   get ──> Waiting ──DATA 1, OACK──> Receiving ──last DATA──> Dallying
+///   put ──> Waiting ──ACK 0, OACK───> Sending                     │ second timeout
+///   serve_write ────────────────────> Receiving                   v
+///   serve_read ─────────────────────> Sending ──last ACK──────> Closed
+///
+///   any ──ERROR, silence, a fault──> Closed
+/// ```
+#[derive(Clone, Copy, Debug, PartialEq, Eq)]
+pub enum Phase {
+    /// A client that waits for the first answer to its request.
+    Waiting {
+        /// What it asked for.
+        asked: Asked,
+        /// The longest file that it takes, in bytes, where the server tells the length.
+        limit: u64,
+    },
+    /// It sends: DATA `number` is its newest, or at 0 an OACK is.
+    Sending {
+        terms: Terms,
+        number: u16,
+    },
+    /// It receives: `number` blocks are stored.
+    Receiving {
+        terms: Terms,
+        number: u16,
+    },
+    /// It has stored and committed all, and answers a repeated last DATA for a while.
+    Dallying {
+        terms: Terms,
+        number: u16,
+        dally: Dally,
+    },
+    /// It takes no event any more.
+    Closed {
+        terms: Option<Terms>,
+        number: u16,
+        complete: bool,
+        outcome: Outcome,
+    },
+}
+
+impl Phase {
+    /// What was agreed on, once it was.
+    pub(crate) fn terms(self) -> Option<Terms>
+        ensures { result ≡ terms_of self }
+    {
+        match self {
+            Phase::Waiting { .. } => None,
+            Phase::Sending { terms, .. }
+            | Phase::Receiving { terms, .. }
+            | Phase::Dallying { terms, .. } => Some(terms),
+            Phase::Closed { terms, .. } => terms,
+        }
+    }
+
+    /// A sender's newest DATA number, or how many blocks a receiver has stored.
+    pub(crate) fn number(self) -> u16
+        ensures { result ≡ number_of self }
+    {
+        match self {
+            Phase::Waiting { .. } => 0,
+            Phase::Sending { number, .. }
+            | Phase::Receiving { number, .. }
+            | Phase::Dallying { number, .. }
+            | Phase::Closed { number, .. } => number,
+        }
+    }
+
+    /// Whether all was acknowledged, or stored and committed.
+    pub(crate) fn is_complete(self) -> bool
+        ensures { result ≡ is_complete self }
+    {
+        match self {
+            Phase::Waiting { .. } | Phase::Sending { .. } | Phase::Receiving { .. } => false,
+            Phase::Dallying { .. } => true,
+            Phase::Closed { complete, .. } => complete,
+        }
+    }
+
+    /// How the end closed, once it is closed.
+    pub(crate) fn outcome(self) -> Option<Outcome>
+        ensures { result ≡ outcome_of self }
+    {
+        match self {
+            Phase::Closed { outcome, .. } => Some(outcome),
+            _ => None,
+        }
+    }
+
+    /// Whether the peer was taken, the number rose or the end became complete on the way to `next`.
+    pub(crate) fn is_progress(self, next: Phase) -> bool
+        ensures { result ≡ is_progress self next }
+    {
+        (self.terms().is_none() && next.terms().is_some())
+            || self.number() < next.number()
+            || (!self.is_complete() && next.is_complete())
+    }
+
+    /// What a call tells that led from here to `next`, and sent a datagram there.
+    pub(crate) fn step_to(self, next: Phase, to: Option<Endpoint>) -> Step
+        ensures { result ≡ step_of self next to }
+    {
+        Step {
+            to,
+            progress: self.is_progress(next),
+            closed: next.outcome(),
+        }
+    }
+
+    /// Closed as it stands.
+    pub(crate) fn closed(self, outcome: Outcome) -> Phase
+        ensures { result ≡ closed outcome self }
+    {
+        self.refused(self.terms(), outcome)
+    }
+
+    /// Closed, with the terms that were taken by then.
+    pub(crate) fn refused(self, terms: Option<Terms>, outcome: Outcome) -> Phase
+        ensures { result ≡ refused terms outcome self }
+    {
+        Phase::Closed {
+            terms,
+            number: self.number(),
+            complete: self.is_complete(),
+            outcome,
+        }
+    }
+
+    /// Closed, the last block acknowledged.
+    pub(crate) fn completed(self) -> Phase
+        ensures { result ≡ completed self }
+    {
+        Phase::Closed {
+            terms: self.terms(),
+            number: self.number(),
+            complete: true,
+            outcome: Outcome::Complete,
+        }
+    }
+
+    /// A dally after its first timeout.
+    pub(crate) fn waited(self) -> Phase
+        ensures { result ≡ waited self }
+    {
+        match self {
+            Phase::Dallying { terms, number, .. } => Phase::Dallying {
+                terms,
+                number,
+                dally: Dally::Waited,
+            },
+            phase => phase,
+        }
+    }
+}

@@ -1,0 +1,35 @@
+//! What an end tells of itself: how far it came, and what a call did.
+
+use crate::endpoint::Endpoint;
+use crate::outcome::Outcome;
+use crate::side::Side;
+
+/// How far an end came.
+#[derive(Clone, Copy, Debug, PartialEq, Eq)]
+pub struct Record {
+    /// Which end it is.
+    pub side: Side,
+    /// The other end, once it is known.
+    pub peer: Option<Endpoint>,
+    /// The block size in bytes; 512 while there is no peer.
+    pub size: u16,
+    /// The agreed timeout in seconds (RFC 2349, "Timeout Interval Option Specification").
+    pub timeout: Option<u8>,
+    /// A sender's newest DATA number, or how many blocks a receiver has stored.
+    pub number: u16,
+    /// A sender's last block was acknowledged, or a receiver has stored and committed all.
+    pub complete: bool,
+    /// How it ended, once it is closed.
+    pub outcome: Option<Outcome>,
+}
+
+/// What a call did.
+#[derive(Clone, Copy, Debug, PartialEq, Eq)]
+pub struct Step {
+    /// Where the one datagram goes that the call appended; none was appended if there is none.
+    pub to: Option<Endpoint>,
+    /// The peer was taken, the number rose, or the end became complete. False at an opening.
+    pub progress: bool,
+    /// How the end closed, if the call closed it.
+    pub closed: Option<Outcome>,
+}

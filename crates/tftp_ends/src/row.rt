@@ -1,0 +1,47 @@
+//! What an end makes of an event, before a file is touched.
+
+use crate::error_reply::ErrorReply;
+use crate::outcome::Outcome;
+use crate::phase::Terms;
+
+/// What is to be done at an event.
+#[derive(Clone, Copy, Debug, PartialEq, Eq)]
+pub enum Row {
+    /// No datagram and no change.
+    Ignore,
+    /// ERROR 5 to the sender of the datagram, and no change.
+    Stranger,
+    /// The newest datagram once more, and no change.
+    Again,
+    /// A timeout with a retry left: the newest datagram once more, for one retry.
+    Retry,
+    /// The first timeout of a dally: it is counted.
+    Wait,
+    /// Closed in silence.
+    Close {
+        outcome: Outcome,
+    },
+    /// An ERROR, and closed. There are terms if the peer was taken by then.
+    Refuse {
+        terms: Option<Terms>,
+        reply: ErrorReply,
+        outcome: Outcome,
+    },
+    /// A client that reads takes an OACK: ACK 0.
+    Accept {
+        terms: Terms,
+    },
+    /// DATA of this number, if the source gives it.
+    Send {
+        terms: Terms,
+        number: u16,
+    },
+    /// The data that came is stored as the block of this number, if the store takes it, and then
+    /// acknowledged.
+    Store {
+        terms: Terms,
+        number: u16,
+    },
+    /// The last block was acknowledged: closed as complete, in silence.
+    Complete,
+}

@@ -1,0 +1,33 @@
+-- Beginnings of host's bytes and of their wire text.
+use Rattle.std.proofs.Common.{◌≡◌, ℕ, List, [], ◌∷◌, ◌++◌, sym, refl, ap, ◌∙◌, append_assoc}
+use Rattle.std.proofs.lemmas.List.{append-nil}
+use Rattle.tftp_wire.specs.declared.mode.Mode.{Mode}
+use Rattle.tftp_wire.specs.declared.mode.Mode.TheVariants.{Octet, Netascii}
+use Rattle.tftp_file.specs.Netascii.{wire_byte, netascii_text, wire_text}
+use Rattle.tftp_file.specs.Block.{IsBeginningOf}
+use Rattle.tftp_file.proofs.NetasciiLemmas.{byte_form}
+use Rattle.tftp_file.proofs.DecodingLemmas.{next_byte, stop_nil}
+use Rattle.tftp_file.proofs.BlockLemmas.{both_begin}
+use Rattle.tftp_file.proofs.LengthLemmas.{wire-append}
+
+netascii_begins : (xs ys rest : List ℕ) → netascii_text xs ++ rest ≡ netascii_text ys → IsBeginningOf xs ys
+netascii_begins [] ys rest e = (ys, refl)
+netascii_begins (x ∷ xs) [] rest e = absurd (stop_nil x (netascii_text xs ++ rest) (sym (append_assoc (wire_byte x) (netascii_text xs) rest) ∙ e))
+netascii_begins (x ∷ xs) (y ∷ ys) rest e =
+    let n = next_byte x y (netascii_text xs ++ rest) (netascii_text ys) (byte_form x) (byte_form y) (sym (append_assoc (wire_byte x) (netascii_text xs) rest) ∙ e) in
+    let h = netascii_begins xs ys rest n.1 in
+    (h.0, ap (λ (k : ℕ). k ∷ (xs ++ h.0)) n.0 ∙ ap (λ (t : List ℕ). y ∷ t) h.1)
+
+-- a beginning on the wire comes from a beginning of the host's bytes
+pub host_begins : (mode : Mode) (xs ys : List ℕ) → IsBeginningOf (wire_text mode xs) (wire_text mode ys) → IsBeginningOf xs ys
+host_begins Octet xs ys h = h
+host_begins Netascii xs ys h = netascii_begins xs ys h.0 h.1
+
+-- and travels as one
+pub wire_begins : (mode : Mode) (xs ys : List ℕ) → IsBeginningOf xs ys → IsBeginningOf (wire_text mode xs) (wire_text mode ys)
+wire_begins mode xs ys h = (wire_text mode h.0, sym (wire-append mode xs h.0) ∙ ap (λ (t : List ℕ). wire_text mode t) h.1)
+
+-- two host's texts travel alike only if they are the same
+pub same_wire : (mode : Mode) (xs ys : List ℕ) → wire_text mode xs ≡ wire_text mode ys → xs ≡ ys
+same_wire mode xs ys e =
+    both_begin xs ys (host_begins mode xs ys ([], append-nil (wire_text mode xs) ∙ e)) (host_begins mode ys xs ([], append-nil (wire_text mode ys) ∙ sym e))

@@ -1,0 +1,232 @@
+-- What a text begins with, and where it is wrong.
+use Rattle.std.proofs.Common.{◌≡◌, ◌≢◌, ℕ, ◌+◌, ◌≤◌, List, [], ◌∷◌, ◌++◌, sym, refl, ap, ◌∙◌, subst, arith, inl, inr, append_assoc, length, get_or}
+use Rattle.std.proofs.lemmas.List.{append-nil, length-append, nil_from_length}
+use Rattle.std.proofs.lemmas.Bool.{cases_eq}
+use Rattle.tftp_file.specs.Netascii.{wire_byte, netascii_text}
+use Rattle.tftp_file.specs.Lines.{EndsAtLine}
+use Rattle.tftp_file.specs.Decoding.{IsHeld, Decodes, IsWrong, Refuses, FirstWrong, BeginsWireText, held_bytes}
+use Rattle.tftp_file.specs.declared.netascii.Held.{Held}
+use Rattle.tftp_file.specs.declared.netascii.Held.TheVariants.{Nothing, CarriageReturn}
+use Rattle.tftp_file.specs.declared.netascii.NetFault.{NetFault}
+use Rattle.tftp_file.specs.declared.netascii.NetFault.TheVariants.{LoneCr, LoneLf, EndsInCr, Memory}
+use Rattle.tftp_file.proofs.NetasciiLemmas.{ByteForm, Line, Return, Itself, byte_form, netascii-append}
+
+-- the byte behind a held CR makes no pair
+pub wrong_pair : (piece : List ℕ) → 1 ≤ length piece → get_or piece 0 0 ≢ 10 → get_or piece 0 0 ≢ 0 → IsWrong (13 ∷ piece) LoneCr
+wrong_pair [] l a b = absurd (omega arith)
+wrong_pair (x ∷ xs) l a b = (1, ([], x, xs, a, b, refl, refl))
+
+-- a line byte that begins no pair
+pub wrong_front : (text : List ℕ) → EndsAtLine text
+    → (1 ≤ length text → get_or text 0 0 ≡ 10 → IsWrong text LoneLf)
+    × (2 ≤ length text → get_or text 0 0 ≢ 10 → get_or text 1 0 ≢ 10 → get_or text 1 0 ≢ 0 → IsWrong text LoneCr)
+wrong_front [] h = (λ l e. absurd (omega arith), λ l e a b. absurd (omega arith))
+wrong_front (x ∷ []) h = (λ l e. (0, ([], [], ap (λ (n : ℕ). n ∷ []) e, refl)), λ l e a b. absurd (omega arith))
+wrong_front (x ∷ y ∷ rest) h = (
+  λ l e. (0, ([], y ∷ rest, ap (λ (n : ℕ). n ∷ y ∷ rest) e, refl)),
+  λ l e a b. elim h [ inl p ↦ absurd (e p) | inr p ↦ (1, ([], y, rest, a, b, ap (λ (n : ℕ). n ∷ y ∷ rest) p, refl)) ],
+)
+
+-- host's bytes in front of a text
+pub front_joins : (front bytes rest : List ℕ) → netascii_text front ++ (netascii_text bytes ++ rest) ≡ netascii_text (front ++ bytes) ++ rest
+front_joins front bytes rest = sym (ap (λ (t : List ℕ). t ++ rest) (netascii-append front bytes) ∙ append_assoc (netascii_text front) (netascii_text bytes) rest)
+
+length_joins : (front bytes : List ℕ) → length (netascii_text (front ++ bytes)) ≡ length (netascii_text front) + length (netascii_text bytes)
+length_joins front bytes = ap length (netascii-append front bytes) ∙ length-append (netascii_text front) (netascii_text bytes)
+
+-- move a wrong byte behind host's bytes
+pub first_wrong_behind : (front text : List ℕ) (at : ℕ) (fault : NetFault) → FirstWrong text at fault → FirstWrong (netascii_text front ++ text) (length (netascii_text front) + at) fault
+first_wrong_behind front text at LoneCr h = (
+  front ++ h.0,
+  h.1,
+  h.2,
+  h.3,
+  h.4,
+  ap (λ (t : List ℕ). netascii_text front ++ t) h.5 ∙ front_joins front h.0 (13 ∷ h.1 ∷ h.2),
+  omega (arith, h.6, length_joins front h.0),
+)
+first_wrong_behind front text at LoneLf h = (
+  front ++ h.0,
+  h.1,
+  ap (λ (t : List ℕ). netascii_text front ++ t) h.2 ∙ front_joins front h.0 (10 ∷ h.1),
+  omega (arith, h.3, length_joins front h.0),
+)
+first_wrong_behind front text at EndsInCr h = h
+first_wrong_behind front text at Memory h = h
+
+pub wrong_behind : (front text : List ℕ) (fault : NetFault) → IsWrong text fault → IsWrong (netascii_text front ++ text) fault
+wrong_behind front text fault h = (length (netascii_text front) + h.0, first_wrong_behind front text h.0 fault h.1)
+
+-- and bytes behind a wrong one change nothing
+append_tail : (text front rest behind : List ℕ) → text ≡ front ++ rest → text ++ behind ≡ front ++ (rest ++ behind)
+append_tail text front rest behind e = ap (λ (t : List ℕ). t ++ behind) e ∙ append_assoc front rest behind
+
+pub first_wrong_before : (text behind : List ℕ) (at : ℕ) (fault : NetFault) → FirstWrong text at fault → FirstWrong (text ++ behind) at fault
+first_wrong_before text behind at LoneCr h = (h.0, h.1, h.2 ++ behind, h.3, h.4, append_tail text (netascii_text h.0) (13 ∷ h.1 ∷ h.2) behind h.5, h.6)
+first_wrong_before text behind at LoneLf h = (h.0, h.1 ++ behind, append_tail text (netascii_text h.0) (10 ∷ h.1) behind h.2, h.3)
+first_wrong_before text behind at EndsInCr h = h
+first_wrong_before text behind at Memory h = h
+
+pub begins_behind : (front text : List ℕ) → BeginsWireText text → BeginsWireText (netascii_text front ++ text)
+begins_behind front text h = (front ++ h.0, h.1, (h.2.0, ap (λ (t : List ℕ). netascii_text front ++ t) h.2.1 ∙ front_joins front h.0 h.1))
+
+-- a text at which no byte of the host travels begins
+abbrev pub Stop : List ℕ → Type 0
+Stop text = (x : ℕ) (rest : List ℕ) → wire_byte x ++ rest ≡ text → ⊥
+
+pub stop_nil : Stop []
+stop_nil x rest e = elim (byte_form x) [
+  | Line _ w _ ↦ let f : 13 ∷ 10 ∷ rest ≡ [] = rw w at e in cc
+  | Return _ w _ ↦ let f : 13 ∷ 0 ∷ rest ≡ [] = rw w at e in cc
+  | Itself _ _ w _ ↦ let f : x ∷ rest ≡ [] = rw w at e in cc
+]
+
+pub stop_cr : Stop (13 ∷ [])
+stop_cr x rest e = elim (byte_form x) [
+  | Line _ w _ ↦ let f : 13 ∷ 10 ∷ rest ≡ 13 ∷ [] = rw w at e in cc
+  | Return _ w _ ↦ let f : 13 ∷ 0 ∷ rest ≡ 13 ∷ [] = rw w at e in cc
+  | Itself _ n w _ ↦ let f : x ∷ rest ≡ 13 ∷ [] = rw w at e in n cc
+]
+
+pub stop_lone_cr : (byte : ℕ) (text : List ℕ) → byte ≢ 10 → byte ≢ 0 → Stop (13 ∷ byte ∷ text)
+stop_lone_cr byte text a b x rest e = elim (byte_form x) [
+  | Line _ w _ ↦ let f : 13 ∷ 10 ∷ rest ≡ 13 ∷ byte ∷ text = rw w at e in a cc
+  | Return _ w _ ↦ let f : 13 ∷ 0 ∷ rest ≡ 13 ∷ byte ∷ text = rw w at e in b cc
+  | Itself _ n w _ ↦ let f : x ∷ rest ≡ 13 ∷ byte ∷ text = rw w at e in n cc
+]
+
+pub stop_lf : (text : List ℕ) → Stop (10 ∷ text)
+stop_lf text x rest e = elim (byte_form x) [
+  | Line _ w _ ↦ let f : 13 ∷ 10 ∷ rest ≡ 10 ∷ text = rw w at e in let g : ◌≡◌ {A = ℕ} 13 10 = cc in absurd (omega arith)
+  | Return _ w _ ↦ let f : 13 ∷ 0 ∷ rest ≡ 10 ∷ text = rw w at e in let g : ◌≡◌ {A = ℕ} 13 10 = cc in absurd (omega arith)
+  | Itself n _ w _ ↦ let f : x ∷ rest ≡ 10 ∷ text = rw w at e in n cc
+]
+
+pub stop_held : (held : List ℕ) → IsHeld held → Stop held
+stop_held held h = elim h [
+  | inl e ↦ subst (λ (t : List ℕ). Stop t) (sym e) stop_nil
+  | inr e ↦ subst (λ (t : List ℕ). Stop t) (sym e) stop_cr
+]
+
+-- the next byte can be told from the wire text
+pub next_byte : (x y : ℕ) (xs ys : List ℕ) → ByteForm x → ByteForm y → wire_byte x ++ xs ≡ wire_byte y ++ ys → (x ≡ y) × (xs ≡ ys)
+next_byte x y xs ys (Line a b _) (Line c d _) e =
+    let f : 13 ∷ 10 ∷ xs ≡ 13 ∷ 10 ∷ ys = rw (b, d) at e in (a ∙ sym c, cc)
+next_byte x y xs ys (Return a b _) (Return c d _) e =
+    let f : 13 ∷ 0 ∷ xs ≡ 13 ∷ 0 ∷ ys = rw (b, d) at e in (a ∙ sym c, cc)
+next_byte x y xs ys (Itself _ _ b _) (Itself _ _ d _) e =
+    let f : x ∷ xs ≡ y ∷ ys = rw (b, d) at e in (cc, cc)
+next_byte x y xs ys (Line a b _) (Return c d _) e =
+    let f : 13 ∷ 10 ∷ xs ≡ 13 ∷ 0 ∷ ys = rw (b, d) at e in let g : ◌≡◌ {A = ℕ} 10 0 = cc in absurd (omega arith)
+next_byte x y xs ys (Return a b _) (Line c d _) e =
+    let f : 13 ∷ 0 ∷ xs ≡ 13 ∷ 10 ∷ ys = rw (b, d) at e in let g : ◌≡◌ {A = ℕ} 0 10 = cc in absurd (omega arith)
+next_byte x y xs ys (Itself _ a b _) (Line c d _) e =
+    let f : x ∷ xs ≡ 13 ∷ 10 ∷ ys = rw (b, d) at e in absurd (a cc)
+next_byte x y xs ys (Itself _ a b _) (Return c d _) e =
+    let f : x ∷ xs ≡ 13 ∷ 0 ∷ ys = rw (b, d) at e in absurd (a cc)
+next_byte x y xs ys (Line a b _) (Itself _ c d _) e =
+    let f : 13 ∷ 10 ∷ xs ≡ y ∷ ys = rw (b, d) at e in absurd (c cc)
+next_byte x y xs ys (Return a b _) (Itself _ c d _) e =
+    let f : 13 ∷ 0 ∷ xs ≡ y ∷ ys = rw (b, d) at e in absurd (c cc)
+
+-- a text is the wire text of some bytes, and then a stop, in one way
+pub one_way : (xs ys a b : List ℕ) → Stop a → Stop b → netascii_text xs ++ a ≡ netascii_text ys ++ b → (xs ≡ ys) × (a ≡ b)
+one_way [] [] a b p q e = (refl, e)
+one_way [] (y ∷ ys) a b p q e = absurd (p y (netascii_text ys ++ b) (sym (e ∙ append_assoc (wire_byte y) (netascii_text ys) b)))
+one_way (x ∷ xs) [] a b p q e = absurd (q x (netascii_text xs ++ a) (sym (append_assoc (wire_byte x) (netascii_text xs) a) ∙ e))
+one_way (x ∷ xs) (y ∷ ys) a b p q e =
+    let n = next_byte x y (netascii_text xs ++ a) (netascii_text ys ++ b) (byte_form x) (byte_form y) (sym (append_assoc (wire_byte x) (netascii_text xs) a) ∙ (e ∙ append_assoc (wire_byte y) (netascii_text ys) b)) in
+    let h = one_way xs ys a b p q n.1 in
+    (ap (λ (k : ℕ). k ∷ xs) n.0 ∙ ap (λ (zs : List ℕ). y ∷ zs) h.0, h.1)
+
+-- a text that begins a wire text has no first wrong byte
+pub begins_or_wrong : (text : List ℕ) (fault : NetFault) → BeginsWireText text → IsWrong text fault → ⊥
+begins_or_wrong text LoneCr h w =
+    let o = one_way h.0 w.1.0 h.1 (13 ∷ w.1.1 ∷ w.1.2) (stop_held h.1 h.2.0) (stop_lone_cr w.1.1 w.1.2 w.1.3 w.1.4) (sym h.2.1 ∙ w.1.5) in
+    let e : h.1 ≡ 13 ∷ w.1.1 ∷ w.1.2 = o.1 in
+    elim h.2.0 [ inl n ↦ (let f : [] ≡ 13 ∷ w.1.1 ∷ w.1.2 = sym n ∙ e in cc) | inr n ↦ (let f : 13 ∷ [] ≡ 13 ∷ w.1.1 ∷ w.1.2 = sym n ∙ e in cc) ]
+begins_or_wrong text LoneLf h w =
+    let o = one_way h.0 w.1.0 h.1 (10 ∷ w.1.1) (stop_held h.1 h.2.0) (stop_lf w.1.1) (sym h.2.1 ∙ w.1.2) in
+    let e : h.1 ≡ 10 ∷ w.1.1 = o.1 in
+    elim h.2.0 [ inl n ↦ (let f : [] ≡ 10 ∷ w.1.1 = sym n ∙ e in cc) | inr n ↦ (let f : 13 ∷ [] ≡ 10 ∷ w.1.1 = sym n ∙ e in let g : ◌≡◌ {A = ℕ} 13 10 = cc in absurd (omega arith)) ]
+begins_or_wrong text EndsInCr h w = w.1
+begins_or_wrong text Memory h w = w.1
+
+-- what a text begins with, or its first wrong byte
+pub data Reading (text : List ℕ) : Type 0 where
+  Begins : BeginsWireText text → Reading text
+  Wrong : (fault : NetFault) → IsWrong text fault → Reading text
+
+read_byte : (x : ℕ) (text : List ℕ) → Reading text → Reading (wire_byte x ++ text)
+read_byte x text (Begins h) = Begins (subst (λ (t : List ℕ). BeginsWireText (t ++ text)) (append-nil (wire_byte x)) (begins_behind (x ∷ []) text h))
+read_byte x text (Wrong fault h) = Wrong fault (subst (λ (t : List ℕ). IsWrong (t ++ text) fault) (append-nil (wire_byte x)) (wrong_behind (x ∷ []) text fault h))
+
+read_on : (text : List ℕ) → (Reading text) × (Reading (13 ∷ text))
+read_on [] = (Begins ([], [], (inl refl, refl)), Begins ([], 13 ∷ [], (inr refl, refl)))
+read_on (x ∷ xs) =
+    let h = read_on xs in (
+      elim (byte_form x) [
+        | Line e _ _ ↦ Wrong LoneLf (0, ([], xs, ap (λ (n : ℕ). n ∷ xs) e, refl))
+        | Return e _ _ ↦ subst (λ (n : ℕ). Reading (n ∷ xs)) (sym e) h.1
+        | Itself _ _ w _ ↦ subst (λ (t : List ℕ). Reading (t ++ xs)) w (read_byte x xs h.0)
+      ],
+      elim (cases_eq x 10) [
+        | inl e ↦ subst (λ (n : ℕ). Reading (13 ∷ n ∷ xs)) (sym e) (read_byte 10 xs h.0)
+        | inr a ↦ elim (cases_eq x 0) [
+          | inl e ↦ subst (λ (n : ℕ). Reading (13 ∷ n ∷ xs)) (sym e) (read_byte 13 xs h.0)
+          | inr b ↦ Wrong LoneCr (1, ([], x, xs, a, b, refl, refl))
+        ]
+      ],
+    )
+
+pub read : (text : List ℕ) → Reading text
+read text = (read_on text).0
+
+-- a run of plain bytes and a pair further on
+pub pair_taken : (text left run rest behind bytes : List ℕ) (byte : ℕ) → text ≡ netascii_text bytes ++ left → left ≡ run ++ rest → netascii_text run ≡ run → rest ≡ wire_byte byte ++ behind → text ≡ netascii_text (bytes ++ (run ++ byte ∷ [])) ++ behind
+pair_taken text left run rest behind bytes byte e p n r =
+    let pair : netascii_text (byte ∷ []) ++ behind ≡ rest = ap (λ (t : List ℕ). t ++ behind) (append-nil (wire_byte byte)) ∙ sym r in
+    let line : netascii_text (run ++ byte ∷ []) ++ behind ≡ left = sym (front_joins run (byte ∷ []) behind) ∙ (ap (λ (t : List ℕ). netascii_text run ++ t) pair ∙ (ap (λ (t : List ℕ). t ++ rest) n ∙ sym p)) in
+    e ∙ (ap (λ (t : List ℕ). netascii_text bytes ++ t) (sym line) ∙ front_joins bytes (run ++ byte ∷ []) behind)
+
+-- a run of plain bytes further on
+pub run_taken : (text left run rest bytes : List ℕ) → text ≡ netascii_text bytes ++ left → left ≡ run ++ rest → netascii_text run ≡ run → text ≡ netascii_text (bytes ++ run) ++ rest
+run_taken text left run rest bytes e p n =
+    e ∙ (ap (λ (t : List ℕ). netascii_text bytes ++ t) (p ∙ ap (λ (t : List ℕ). t ++ rest) (sym n)) ∙ front_joins bytes run rest)
+
+-- a wrong byte behind a run of plain bytes
+pub wrong_taken : (text left run rest bytes : List ℕ) (fault : NetFault) → text ≡ netascii_text bytes ++ left → left ≡ run ++ rest → netascii_text run ≡ run → IsWrong rest fault → IsWrong text fault
+wrong_taken text left run rest bytes fault e p n w =
+    subst (λ (t : List ℕ). IsWrong t fault) (sym (run_taken text left run rest bytes e p n)) (wrong_behind (bytes ++ run) rest fault w)
+
+-- a wrong byte is a reason to refuse
+pub wrong_refuses : (text : List ℕ) (fault : NetFault) → IsWrong text fault → Refuses text fault
+wrong_refuses text LoneCr h = h
+wrong_refuses text LoneLf h = h
+wrong_refuses text EndsInCr h = h.1
+wrong_refuses text Memory h = absurd h.1
+
+-- two readings of one text are the same
+pub decoded_once : (text bytes after more_bytes more_after : List ℕ) → Decodes [] text bytes after → Decodes [] text more_bytes more_after → (bytes ≡ more_bytes) × (after ≡ more_after)
+decoded_once text bytes after more_bytes more_after h k = one_way bytes more_bytes after more_after (stop_held after h.0) (stop_held more_after k.0) (sym h.1 ∙ k.1)
+
+-- an empty piece changes nothing
+pub held_is : (held : Held) → IsHeld (held_bytes held)
+held_is Nothing = inl refl
+held_is CarriageReturn = inr refl
+
+pub nothing_taken : (held : Held) (before piece : List ℕ) → held_bytes held ≡ before → length piece ≡ 0 → Decodes before piece [] before
+nothing_taken held before piece e z = (
+  subst (λ (t : List ℕ). IsHeld t) e (held_is held),
+  ap (λ (t : List ℕ). before ++ t) (nil_from_length piece z) ∙ append-nil before,
+)
+
+-- a piece is the pair that it completes, and then the rest
+pub piece_taken : (held piece first rest bytes after : List ℕ) → held ++ piece ≡ netascii_text first ++ rest → Decodes [] rest bytes after → Decodes held piece (first ++ bytes) after
+piece_taken held piece first rest bytes after e d = (d.0, e ∙ (ap (λ (t : List ℕ). netascii_text first ++ t) d.1 ∙ front_joins first bytes after))
+
+pub piece_begins : (held piece first rest bytes after : List ℕ) → held ++ piece ≡ netascii_text first ++ rest → Decodes [] rest bytes after → BeginsWireText (held ++ piece)
+piece_begins held piece first rest bytes after e d = (first ++ bytes, after, piece_taken held piece first rest bytes after e d)
+
+pub piece_wrong : (held piece first rest : List ℕ) (fault : NetFault) → held ++ piece ≡ netascii_text first ++ rest → IsWrong rest fault → Refuses (held ++ piece) fault
+piece_wrong held piece first rest fault e w = wrong_refuses (held ++ piece) fault (subst (λ (t : List ℕ). IsWrong t fault) (sym e) (wrong_behind first rest fault w))

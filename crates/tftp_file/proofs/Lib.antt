@@ -1,0 +1,12 @@
+pub mod PieceLemmas
+pub mod NetasciiLength
+pub mod MemSinkLemmas
+pub mod Reading
+pub mod Streaming
+pub mod NetasciiLemmas
+pub mod DecodingLemmas
+pub mod LengthLemmas
+pub mod PathLemmas
+pub mod BlockLemmas
+pub mod BeginningLemmas
+pub mod CutLemmas

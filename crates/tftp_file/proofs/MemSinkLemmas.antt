@@ -1,0 +1,24 @@
+-- What a full sink in memory has kept.
+use Rattle.std.proofs.Common.{◌≡◌, ℕ, ◌+◌, Bool, false, List, ◌++◌, length, take, drop, Some, refl}
+use Rattle.std.proofs.lemmas.List.{take-append-drop, take_at, drop_at}
+use Rattle.std.proofs.Math.Seq.{take-add}
+use Rattle.tftp_file.specs.Sink.{KeptBeginning}
+
+-- the first n bytes of the piece are a beginning of it
+pub kept_first : (bytes piece : List ℕ) (n : ℕ) (committed refuses : Bool)
+    → KeptBeginning (record { bytes = bytes; committed = committed; refuses = refuses })
+    (Some (record { bytes = bytes ++ take n piece; committed = false; refuses = refuses })) piece
+kept_first bytes piece n committed refuses = record {
+  holding = record { bytes = bytes ++ take n piece; committed = false; refuses = refuses };
+  told = refl;
+  kept = take n piece;
+  beginning = (drop n piece, take-append-drop n piece);
+  bytes = refl;
+  uncommitted = λ e. cc;
+  refuses = refl;
+}
+
+-- what has room of the piece fills the room
+pub kept_room : (bytes piece : List ℕ) (room n : ℕ) → length bytes + n ≡ room → bytes ++ take n piece ≡ take room (bytes ++ piece)
+kept_room bytes piece room n full =
+    rw (← full, take-add (length bytes) n (bytes ++ piece), take_at bytes piece (length bytes) refl, drop_at bytes piece (length bytes) refl) refl

@@ -1,0 +1,75 @@
+-- Bytes and their wire text in netascii.
+use Rattle.std.proofs.Common.{◌≡◌, ◌≢◌, ℕ, ◌+◌, List, [], ◌∷◌, ◌++◌, true, false, cond, refl, ap, ◌∙◌, arith, inl, inr, length, take, drop}
+use Rattle.std.specs.Prelude.{◌==◌, count_by, ltb, not, Option, Some, None, unwrap_or}
+use Rattle.std.specs.List.{position_or_len}
+use Rattle.std.proofs.lemmas.List.{length-append}
+use Rattle.std.proofs.lemmas.List.Concat.{flat_map-append}
+use Rattle.std.proofs.Math.Numerals.{one-add}
+use Rattle.std.proofs.lemmas.Bool.{cases_eq, cases_lt, lt-ltb, le-ltb, ne_eqb, cond-true, cond-false}
+use Rattle.std.proofs.lemmas.List.Sums.{prefix_len-le-length, sum_by-cons}
+use Rattle.tftp_file.specs.Netascii.{wire_byte, netascii_text}
+use Rattle.tftp_file.specs.Lines.{is_line_byte, EndsAtLine}
+
+-- LF, CR or another byte, and how each travels
+pub data ByteForm (x : ℕ) : Type 0 where
+  Line : x ≡ 10 → wire_byte x ≡ 13 ∷ 10 ∷ [] → is_line_byte x ≡ true → ByteForm x
+  Return : x ≡ 13 → wire_byte x ≡ 13 ∷ 0 ∷ [] → is_line_byte x ≡ true → ByteForm x
+  Itself : x ≢ 10 → x ≢ 13 → wire_byte x ≡ x ∷ [] → is_line_byte x ≡ false → ByteForm x
+
+pub byte_form : (x : ℕ) → ByteForm x
+byte_form x = elim (cases_eq x 10) [
+  | inl e ↦ Line e (rw e) (rw e)
+  | inr n ↦
+      let p : (x == 10) ≡ false = ne_eqb x 10 n in
+      elim (cases_eq x 13) [
+        | inl e ↦ Return e (rw e) (rw e)
+        | inr m ↦ let q : (x == 13) ≡ false = ne_eqb x 13 m in Itself n m (rw (p, q)) (rw (p, q))
+      ]
+]
+
+netascii_cons : (x : ℕ) (xs : List ℕ) → netascii_text (x ∷ xs) ≡ wire_byte x ++ netascii_text xs
+netascii_cons x xs = refl
+
+pub netascii-append : (xs ys : List ℕ) → netascii_text (xs ++ ys) ≡ netascii_text xs ++ netascii_text ys
+netascii-append xs ys = flat_map-append wire_byte xs ys
+
+-- the bytes before the first CR or LF travel as themselves
+pub plain_front : (xs : List ℕ) → netascii_text (take (position_or_len is_line_byte xs) xs) ≡ take (position_or_len is_line_byte xs) xs
+plain_front [] = refl
+plain_front (x ∷ xs) = elim (byte_form x) [
+  | Line _ _ t ↦ rw t
+  | Return _ _ t ↦ rw t
+  | Itself _ _ w t ↦ rw (t, one-add) (rw w (ap (λ (zs : List ℕ). x ∷ zs) (plain_front xs)))
+]
+
+-- and behind them is the end, a CR or an LF
+pub run_ends : (xs : List ℕ) → EndsAtLine (drop (position_or_len is_line_byte xs) xs)
+run_ends [] = tt
+run_ends (x ∷ xs) = elim (byte_form x) [
+  | Line e _ t ↦ rw t (inl e)
+  | Return e _ t ↦ rw t (inr e)
+  | Itself _ _ _ t ↦ rw (t, one-add) (run_ends xs)
+]
+
+-- the place that `position` gives, or else the length
+pub first_place : (xs : List ℕ) (r : Option ℕ) → r ≡ cond (ltb (position_or_len is_line_byte xs) (length xs)) (Some (position_or_len is_line_byte xs)) None → unwrap_or r (length xs) ≡ position_or_len is_line_byte xs
+first_place xs r e =
+    let p = position_or_len is_line_byte xs in
+    elim (cases_lt p (length xs)) [
+      | inl l ↦ ap (λ (o : Option ℕ). unwrap_or o (length xs)) (e ∙ cond-true (ltb p (length xs)) (Some p) None (lt-ltb p (length xs) l))
+      | inr n ↦
+          let m : length xs ≡ p = omega (arith, n, prefix_len-le-length (λ (x : ℕ). not (is_line_byte x)) xs) in
+          ap (λ (o : Option ℕ). unwrap_or o (length xs)) (e ∙ cond-false (ltb p (length xs)) (Some p) None (le-ltb p (length xs) n)) ∙ m
+    ]
+
+length-wire_byte : (x : ℕ) → length (wire_byte x) ≡ cond (is_line_byte x) 1 0 + 1
+length-wire_byte x = elim (byte_form x) [
+  | Line _ w t ↦ rw (w, t)
+  | Return _ w t ↦ rw (w, t)
+  | Itself _ _ w t ↦ rw (w, t)
+]
+
+-- each CR and LF takes one byte more
+pub length-netascii : (xs : List ℕ) → length (netascii_text xs) ≡ length xs + count_by is_line_byte xs
+length-netascii [] = refl
+length-netascii (x ∷ xs) = omega (arith, length-append (wire_byte x) (netascii_text xs), length-wire_byte x, length-netascii xs, sum_by-cons (λ (n : ℕ). cond (is_line_byte n) 1 0) x xs)

@@ -1,0 +1,20 @@
+-- Netascii is at most twice as long as the host's bytes.
+use Rattle.std.proofs.Common.{ℕ, ◌+◌, ◌*◌, ◌≤◌, List, length, Option, Some, None, arith}
+use Rattle.std.proofs.lemmas.List.Sums.{count_by-le-length}
+use Rattle.tftp_file.specs.Netascii.{netascii_text}
+use Rattle.tftp_file.specs.Encoding.{netascii_left}
+use Rattle.tftp_file.specs.Lines.{is_line_byte}
+use Rattle.tftp_file.proofs.NetasciiLemmas.{length-netascii}
+
+-- each byte has two wire bytes at most
+pub length-netascii_text : (xs : List ℕ) → length (netascii_text xs) ≤ 2 * length xs
+length-netascii_text xs = omega (arith, length-netascii xs, count_by-le-length is_line_byte xs)
+
+-- with a byte held back it is one longer
+pub length-netascii_left : (held : Option ℕ) (xs : List ℕ) → length (netascii_left held xs) ≤ 2 * length xs + 1
+length-netascii_left None xs = omega (arith, length-netascii_text xs)
+length-netascii_left (Some b) xs = omega (arith, length-netascii_text xs)
+
+-- no byte is lost in netascii
+pub netascii_text-longer : (xs : List ℕ) → length xs ≤ length (netascii_text xs)
+netascii_text-longer xs = omega (arith, length-netascii xs)

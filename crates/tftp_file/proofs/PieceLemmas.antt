@@ -1,0 +1,18 @@
+-- One element more from the front of a list.
+use Rattle.std.proofs.Common.{◌≡◌, ℕ, ◌+◌, ◌≤◌, List, [], ◌∷◌, ◌++◌, length, take, drop, ap, sym, ◌∙◌, arith, length-drop}
+use Rattle.std.proofs.lemmas.List.{drop-drop}
+use Rattle.std.proofs.Math.Seq.{take-add}
+
+-- the first n + 1 of a list whose rest after n begins with b
+pub record OneMore (n : ℕ) (xs : List ℕ) (b : ℕ) (rest : List ℕ) : Type 0 where
+  pub within : n + 1 ≤ length xs
+  pub front : take (n + 1) xs ≡ take n xs ++ b ∷ []
+  pub back : drop (n + 1) xs ≡ rest
+
+-- what comes next is the first of what is left
+pub one_more : (n : ℕ) (xs : List ℕ) (b : ℕ) (rest : List ℕ) → drop n xs ≡ b ∷ rest → OneMore n xs b rest
+one_more n xs b rest left = record {
+  within = omega (arith, length-drop n xs, ap length left);
+  front = take-add n 1 xs ∙ ap (λ tail. take n xs ++ take 1 tail) left;
+  back = sym (drop-drop 1 n xs) ∙ ap (drop 1) left;
+}

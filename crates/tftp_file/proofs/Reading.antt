@@ -1,0 +1,46 @@
+-- A read behind what was read before.
+use Rattle.std.proofs.Common.{◌≡◌, ℕ, ◌+◌, ◌-◌, ◌≤◌, List, ◌++◌, length, take, drop, Option, sym, ap, ◌∙◌, subst, arith}
+use Rattle.std.specs.Io.KnownBytes.{Consumes}
+use Rattle.std.proofs.KnownBytes.{Consumes-trans}
+use Rattle.std.proofs.lemmas.List.{take-take, drop-take, drop-drop}
+use Rattle.std.proofs.Math.Seq.{take-add}
+
+-- what stands in front of an earlier place stays
+pub front_stays : (start at : ℕ) (old new first : List ℕ) → start ≤ at → take at new ≡ take at old
+    → take start old ≡ take start first → take start new ≡ take start first
+front_stays start at old new first after same front =
+    sym (take-take start at new after) ∙ ap (take start) same ∙ take-take start at old after ∙ front
+
+-- what stands between two places that both lie in front stays
+between_stays : (start at : ℕ) (old new : List ℕ) → start ≤ at → take at new ≡ take at old
+    → take (at - start) (drop start new) ≡ take (at - start) (drop start old)
+between_stays start at old new after same =
+    let whole : start + (at - start) ≡ at = omega arith in
+    let inside : (xs : List ℕ) → drop start (take at xs) ≡ take (at - start) (drop start xs) =
+    λ xs. ap (λ k. drop start (take k xs)) (sym whole) ∙ drop-take start (at - start) xs in
+    sym (inside new) ∙ ap (drop start) same ∙ inside old
+
+-- a read at a place adds to what was read from the start up to it
+pub read_more : (a b c : Option (List ℕ)) (start at n : ℕ) (old new : List ℕ) → start ≤ at
+    → at ≤ length old → at + n ≤ length new → take at new ≡ take at old
+    → Consumes a b (take (at - start) (drop start old)) → Consumes b c (take n (drop at new))
+    → Consumes a c (take ((at + n) - start) (drop start new))
+read_more a b c start at n old new after within fits same before read =
+    let both : (at + n) - start ≡ (at - start) + n = omega arith in
+    let place : start + (at - start) ≡ at = omega arith in
+    let rest : take n (drop (at - start) (drop start new)) ≡ take n (drop at new) =
+    ap (take n) (drop-drop (at - start) start new ∙ ap (λ k. drop k new) place) in
+    let joined = ap (λ k. take k (drop start new)) both ∙ take-add (at - start) n (drop start new)
+    ∙ ap (λ l. l ++ take n (drop (at - start) (drop start new))) (between_stays start at old new after same)
+    ∙ ap (λ l. take (at - start) (drop start old) ++ l) rest in
+    subst (Consumes a c) (sym joined) (Consumes-trans a b c _ _ before read)
+
+-- a read that gives nothing adds nothing
+pub read_none : (a b c : Option (List ℕ)) (start at n : ℕ) (old new : List ℕ) → n ≡ 0 → start ≤ at
+    → at ≤ length old → at + n ≤ length new → take at new ≡ take at old
+    → Consumes a b (take (at - start) (drop start old)) → Consumes b c (take n (drop at new))
+    → Consumes a c (take (at - start) (drop start new))
+read_none a b c start at n old new none after within fits same before read =
+    let place : (at + n) - start ≡ at - start = omega arith in
+    subst (λ (k : ℕ). Consumes a c (take k (drop start new))) place
+    (read_more a b c start at n old new after within fits same before read)

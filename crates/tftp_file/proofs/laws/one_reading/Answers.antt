@@ -1,0 +1,15 @@
+use Rattle.tftp_file.proofs.DecodingLemmas.{begins_or_wrong}
+use Rattle.tftp_file.proofs.CutLemmas.{told, once, wrong_once}
+use Rattle.tftp_file.proofs.laws.one_reading.Goals as goal
+
+pub returns-clause-told : goal.returns-clause-told
+returns-clause-told c = told
+
+pub returns-clause-apart : goal.returns-clause-apart
+returns-clause-apart c = λ text at fault b w. begins_or_wrong text fault b (at, w)
+
+pub returns-clause-decoded_once : goal.returns-clause-decoded_once
+returns-clause-decoded_once c = once
+
+pub returns-clause-wrong_once : goal.returns-clause-wrong_once
+returns-clause-wrong_once c = wrong_once

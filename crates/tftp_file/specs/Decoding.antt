@@ -1,0 +1,60 @@
+-- What a decoder of netascii takes from the pieces of a text, and where it refuses one (RFC 764).
+use Rattle.std.specs.Prelude.{◌≡◌, ◌≢◌, ℕ, ◌+◌, ◌<◌, ◌≤◌, ◌⊎◌, List, [], ◌∷◌, ◌++◌, length}
+use Rattle.std.specs.List.{concat}
+use Rattle.tftp_file.specs.Netascii.{netascii_text}
+use Rattle.tftp_file.specs.declared.netascii.Held.{Held}
+use Rattle.tftp_file.specs.declared.netascii.Held.TheVariants.{Nothing, CarriageReturn}
+use Rattle.tftp_file.specs.declared.netascii.NetFault.{NetFault}
+use Rattle.tftp_file.specs.declared.netascii.NetFault.TheVariants.{LoneCr, LoneLf, EndsInCr, Memory}
+
+-- the number of a netascii fault
+abbrev pub net_fault_number : NetFault → ℕ
+net_fault_number LoneCr = 1
+net_fault_number LoneLf = 2
+net_fault_number EndsInCr = 3
+net_fault_number Memory = 4
+
+-- the wire bytes that a decoder keeps between two pieces
+abbrev pub held_bytes : Held → List ℕ
+held_bytes Nothing = []
+held_bytes CarriageReturn = 13 ∷ []
+
+-- nothing is held back, or the CR that begins a pair
+abbrev pub IsHeld : List ℕ → Type 0
+IsHeld held = (held ≡ []) ⊎ (held ≡ 13 ∷ [])
+
+-- with what was held back before it, a piece travels as the host's bytes and what is held back after it
+abbrev pub Decodes : List ℕ → List ℕ → List ℕ → List ℕ → Type 0
+Decodes held piece bytes after = IsHeld after × (held ++ piece ≡ netascii_text bytes ++ after)
+
+-- some host's bytes as they travel, and a CR at most
+abbrev pub BeginsWireText : List ℕ → Type 0
+BeginsWireText text = (bytes : List ℕ) × (after : List ℕ) × Decodes [] text bytes after
+
+-- the byte at this place is the first that no wire text has there: a byte other than LF and NUL
+-- behind a CR, or an LF without a CR before it
+abbrev pub FirstWrong : List ℕ → ℕ → NetFault → Type 0
+FirstWrong text at LoneCr = (bytes : List ℕ) × (byte : ℕ) × (rest : List ℕ) × (byte ≢ 10) × (byte ≢ 0) × (text ≡ netascii_text bytes ++ (13 ∷ byte ∷ rest)) × (at ≡ length (netascii_text bytes) + 1)
+FirstWrong text at LoneLf = (bytes : List ℕ) × (rest : List ℕ) × (text ≡ netascii_text bytes ++ (10 ∷ rest)) × (at ≡ length (netascii_text bytes))
+FirstWrong text at EndsInCr = ⊥
+FirstWrong text at Memory = ⊥
+
+-- the text has a first wrong byte
+abbrev pub IsWrong : List ℕ → NetFault → Type 0
+IsWrong text fault = (at : ℕ) × FirstWrong text at fault
+
+-- why a push refuses a text: its first wrong byte, or want of memory for a text without one
+abbrev pub Refuses : List ℕ → NetFault → Type 0
+Refuses text LoneCr = IsWrong text LoneCr
+Refuses text LoneLf = IsWrong text LoneLf
+Refuses text EndsInCr = ⊥
+Refuses text Memory = BeginsWireText text
+
+-- the pieces are taken one after another: the host's bytes that they give, and what is held back behind them
+abbrev pub TakesAll : List ℕ → List (List ℕ) → List ℕ → List ℕ → Type 0
+TakesAll held [] bytes after = (bytes ≡ []) × (after ≡ held)
+TakesAll held (piece ∷ pieces) bytes after = (first : List ℕ) × (between : List ℕ) × (rest : List ℕ) × Decodes held piece first between × TakesAll between pieces rest after × (bytes ≡ first ++ rest)
+
+-- the pieces before one are taken, and that one, which holds this place of the whole, is refused
+abbrev pub RefusesAt : List ℕ → List (List ℕ) → ℕ → NetFault → Type 0
+RefusesAt held pieces at fault = (before : List (List ℕ)) × (piece : List ℕ) × (behind : List (List ℕ)) × (given : List ℕ) × (between : List ℕ) × (pieces ≡ before ++ piece ∷ behind) × TakesAll held before given between × IsWrong (between ++ piece) fault × (length held + length (concat before) ≤ at) × (at < length held + length (concat before) + length piece)

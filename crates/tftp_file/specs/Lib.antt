@@ -1,0 +1,11 @@
+pub mod Netascii
+pub mod Block
+pub mod Fault
+pub mod Source
+pub mod Sink
+pub mod Encoding
+pub mod Memory
+pub mod Stream
+pub mod Decoding
+pub mod Lines
+pub mod Path

@@ -1,0 +1,34 @@
+-- What a sink in memory is, and when it refuses.
+use Rattle.std.specs.Prelude.{ℕ, ◌≡◌, ◌+◌, ◌<◌, Bool, true, false, List, [], length, ◌⊎◌, ⊤}
+use Rattle.tftp_file.specs.declared.fault.StoreFault.{StoreFault}
+use Rattle.tftp_file.specs.declared.fault.StoreFault.TheVariants.{Full, Memory}
+use Rattle.tftp_file.specs.Sink.{Holding}
+
+-- what a sink holds, how many bytes it has room for, and whether it was made to refuse its commit
+pub record MemSinkState : Type 0 where
+  pub holding : Holding
+  pub room : ℕ
+  pub refuses_commit : Bool
+
+-- an empty sink
+abbrev pub new_mem_sink : ℕ → Bool → MemSinkState
+new_mem_sink room refuses_commit = record {
+  holding = record { bytes = []; committed = false; refuses = false };
+  room = room;
+  refuses_commit = refuses_commit;
+}
+
+-- the sink, told to refuse its next call or told no more
+abbrev pub with_told : MemSinkState → Bool → MemSinkState
+with_told sink told = record sink { holding = record sink.holding { refuses = told } }
+
+-- an append answers Full as it was told or past the room, and else fails for memory alone
+abbrev pub MayRefuseAppend : MemSinkState → List ℕ → StoreFault → Type 0
+MayRefuseAppend sink piece Full = (sink.holding.refuses ≡ true) ⊎ (sink.room < length sink.holding.bytes + length piece)
+MayRefuseAppend sink piece Memory = ⊤
+MayRefuseAppend sink piece fault = ⊥
+
+-- a commit answers Full as it was told or as it was made, and fails in no other way
+abbrev pub MayRefuseCommit : MemSinkState → StoreFault → Type 0
+MayRefuseCommit sink Full = (sink.holding.refuses ≡ true) ⊎ (sink.refuses_commit ≡ true)
+MayRefuseCommit sink fault = ⊥

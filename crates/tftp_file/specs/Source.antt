@@ -1,0 +1,29 @@
+-- What a fill moves from a source to a buffer.
+use Rattle.std.specs.Prelude.{ℕ, ◌≡◌, ◌≤◌, List, ◌++◌, length, take, drop, min, Option, Some, None, Result, Ok, Err}
+use Rattle.tftp_file.specs.declared.fault.FileFault.{FileFault}
+use Rattle.tftp_file.specs.declared.fault.FileFault.TheVariants.{Memory, Read}
+
+-- the next k bytes of what was left came to the end of the buffer
+pub record Moved (left : List ℕ) (after : Option (List ℕ)) (want : ℕ) (old new : List ℕ) (k : ℕ) : Type 0 where
+  pub count : k ≡ min want (length left)
+  pub given : new ≡ old ++ take k left
+  pub rest : after ≡ Some (drop k left)
+
+-- some k bytes came to the end of the buffer
+pub record MovedUntold (want : ℕ) (old new : List ℕ) (k : ℕ) : Type 0 where
+  pub piece : List ℕ
+  pub given : new ≡ old ++ piece
+  pub count : length piece ≡ k
+  pub bound : k ≤ want
+
+-- nothing came, and nothing was taken
+pub record Unmoved (before after : Option (List ℕ)) (old new : List ℕ) : Type 0 where
+  pub kept : new ≡ old
+  pub rest : after ≡ before
+
+-- what a fill of so many bytes did, by what the source had left before and after it
+abbrev pub Fills : Option (List ℕ) → Option (List ℕ) → ℕ → List ℕ → List ℕ → Result ℕ FileFault → Type 0
+Fills (Some left) after want old new (Ok k) = Moved left after want old new k
+Fills None after want old new (Ok k) = MovedUntold want old new k
+Fills before after want old new (Err Read) = new ≡ old
+Fills before after want old new (Err Memory) = Unmoved before after old new

@@ -1,0 +1,58 @@
+-- What a source over a reader and a sink over a writer stand for, where the reader and the writer tell their bytes.
+use Rattle.std.specs.Prelude.{ℕ, ◌≡◌, Bool, false, List, [], ◌++◌, length, Option, option_to_list, option_map, Result, Ok, Err}
+use Rattle.std.specs.Io.KnownBytes.{Consumes, Appends as Grows}
+use Rattle.tftp_file.specs.declared.fault.StoreFault.{StoreFault}
+use Rattle.tftp_file.specs.declared.encoding.Encoding.{Encoding}
+use Rattle.tftp_file.specs.declared.encoding.Encoding.TheVariants.{Octet, Netascii}
+use Rattle.tftp_file.specs.declared.stream.ReadSource.{ReadSource}
+use Rattle.tftp_file.specs.declared.stream.WriteSink.{WriteSink}
+use Rattle.tftp_file.specs.Block.{IsBeginningOf}
+use Rattle.tftp_file.specs.Encoding.{text_left}
+use Rattle.tftp_file.specs.Sink.{Holding}
+
+-- the reader of a source
+abbrev pub source_reader : {R : Type 0} → ReadSource R → R
+source_reader source = source.reader
+
+-- how the bytes of a source travel, and what it holds back
+abbrev pub source_encoding : {R : Type 0} → ReadSource R → Encoding
+source_encoding source = source.encoding
+
+-- the wire text that is held back between calls, at most one byte
+abbrev pub text_held : Encoding → List ℕ
+text_held Octet = []
+text_held (Netascii held) = option_to_list held
+
+-- the wire text that a source has left, where its reader tells its bytes
+abbrev pub source_left : {R : Type 0} → (R → Option (List ℕ)) → ReadSource R → Option (List ℕ)
+source_left remaining source = option_map (text_left (source_encoding source)) (remaining (source_reader source))
+
+-- the writer of a sink
+abbrev pub sink_writer : {W : Type 0} → WriteSink W → W
+sink_writer sink = sink.writer
+
+-- a sink's bytes are committed
+abbrev pub sink_committed : {W : Type 0} → WriteSink W → Bool
+sink_committed sink = sink.is_committed
+
+-- what a sink holds, where its writer tells its bytes
+abbrev pub sink_holding : {W : Type 0} → (W → Option (List ℕ)) → WriteSink W → Option Holding
+sink_holding contents sink = option_map (λ bytes. record { bytes = bytes; committed = sink_committed sink; refuses = false }) (contents (sink_writer sink))
+
+-- n bytes came to the end of the buffer, and they are those that are gone from the front of what was left
+pub record Gives (before after : Option (List ℕ)) (old new : List ℕ) (n : ℕ) : Type 0 where
+  pub piece : List ℕ
+  pub given : new ≡ old ++ piece
+  pub count : length piece ≡ n
+  pub consumed : Consumes before after piece
+
+-- what was held grew by a beginning of the piece
+pub record GrowsByBeginning (before after : Option (List ℕ)) (piece : List ℕ) : Type 0 where
+  pub kept : List ℕ
+  pub beginning : IsBeginningOf kept piece
+  pub grown : Grows before after kept
+
+-- all of a piece was written, or a beginning of it
+abbrev pub Writes : {A : Type 0} → Option (List ℕ) → Option (List ℕ) → List ℕ → Result A StoreFault → Type 0
+Writes before after piece (Ok done) = Grows before after piece
+Writes before after piece (Err fault) = GrowsByBeginning before after piece

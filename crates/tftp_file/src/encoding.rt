@@ -1,0 +1,145 @@
+//! Encodes host bytes until so many wire bytes have come, wherever that cuts a pair.
+
+ghost use Rattle.std.specs.Prelude.{◌≡◌, ◌+◌, ◌≤◌, ◌++◌, ◌∷◌, length, drop, min, option_to_list, Some, vec_len, vec_capacity, IfNone, IfOk, OnErr, []};
+ghost use Rattle.tftp_file.specs.Netascii.{wire_byte};
+ghost use Rattle.tftp_file.specs.Encoding.{netascii_left, text_left};
+ghost use Rattle.tftp_file.specs.Source.{Moved};
+
+use crate::lines::{CR, LF, NUL};
+use std::alloc::AllocError;
+use tftp_wire::Mode;
+
+/// How a source's bytes travel, and what of a split pair it holds back.
+#[derive(Clone, Copy, Debug)]
+pub enum Encoding {
+    /// Each byte as itself.
+    Octet,
+    /// In netascii, with the second byte of a pair whose first has been given.
+    Netascii {
+        /// That byte.
+        held: Option<u8>,
+    },
+}
+
+/// How far a piece of wire text came.
+#[derive(Drop)]
+pub struct Given {
+    /// The wire bytes that were given.
+    pub count: usize,
+    /// The host bytes that were taken.
+    pub taken: usize,
+    /// How the rest goes on.
+    pub encoding: Encoding,
+}
+
+/// How far a piece of netascii came.
+#[derive(Drop)]
+pub struct Encoded {
+    /// The wire bytes that were given.
+    pub count: usize,
+    /// The host bytes that were taken.
+    pub taken: usize,
+    /// The second byte of a pair that was split.
+    pub held: Option<u8>,
+}
+
+impl From<Mode> for Encoding {
+    ghost use Rattle.std.specs.Prelude.{◌≡◌};
+    ghost use Rattle.tftp_file.specs.Encoding.{encoding_of};
+
+    ghost from_gives = { λ mode encoding. encoding ≡ encoding_of mode };
+
+    fn from(mode: Mode) -> Encoding {
+        match mode {
+            Mode::Octet => Encoding::Octet,
+            Mode::Netascii => Encoding::Netascii { held: None },
+        }
+    }
+}
+
+fn wire_pair(byte: u8) -> (u8, Option<u8>)
+    ensures { wire_byte byte ≡ result.0 ∷ option_to_list result.1 }
+{
+    match byte {
+        LF => (CR, Some(LF)),
+        CR => (CR, Some(NUL)),
+        _ => (byte, None),
+    }
+}
+
+fn next_wire_byte(bytes: &[u8], at: &mut usize, held: &mut Option<u8>) -> Option<u8>
+    requires { at.old ≤ length bytes.now }
+    ensures within { at.new ≤ length bytes.now }
+    ensures moves { netascii_left held.old (drop at.old bytes.now)
+        ≡ option_to_list result ++ netascii_left held.new (drop at.new bytes.now) }
+    ensures end { IfNone result (netascii_left held.old (drop at.old bytes.now) ≡ []) }
+{
+    if let Some(byte) = held.take() {
+        return Some(byte);
+    }
+    if *at == bytes.len() {
+        return None;
+    }
+    let (first, second) = wire_pair(bytes[*at]);
+    *held = second;
+    *at += 1;
+    Some(first)
+}
+
+/// Gives the next `want` wire bytes, or as many as there are, within the room of `out`.
+pub fn encode(bytes: &[u8], held: Option<u8>, want: usize, out: &mut Vec<u8>) -> Encoded
+    requires { vec_len out.old + min want (length (netascii_left held bytes.now))
+        ≤ vec_capacity out.old }
+    ensures within { result.taken ≤ length bytes.now }
+    ensures moves { Moved (netascii_left held bytes.now)
+        (Some (netascii_left result.held (drop result.taken bytes.now)))
+        want out.old.items out.new.items result.count }
+    ensures capacity { vec_capacity out.new ≡ vec_capacity out.old }
+{
+    let (mut count, mut taken, mut held) = (0, 0, held);
+    while count < want {
+        match next_wire_byte(bytes, &mut taken, &mut held) {
+            Some(byte) => out.push_reserved(byte),
+            None => break,
+        }
+        count += 1;
+    }
+    Encoded { count, taken, held }
+}
+
+/// Gives the next `want` bytes of wire text, or as many as there are. It makes its growth first.
+pub fn give(
+    bytes: &[u8],
+    encoding: Encoding,
+    want: usize,
+    out: &mut Vec<u8>,
+) -> Result<Given, AllocError>
+    ensures within { IfOk result (λ given. given.taken ≤ length bytes.now) }
+    ensures moves { IfOk result (λ given. Moved (text_left encoding bytes.now)
+        (Some (text_left given.encoding (drop given.taken bytes.now)))
+        want out.old.items out.new.items given.count) }
+    ensures err { OnErr result (out.new.items ≡ out.old.items) }
+    ensures capacity { vec_capacity out.old ≤ vec_capacity out.new }
+{
+    match encoding {
+        Encoding::Octet => {
+            let count = want.min(bytes.len());
+            out.extend_from_slice(&bytes[..count])?;
+            Ok(Given {
+                count,
+                taken: count,
+                encoding,
+            })
+        }
+        Encoding::Netascii { held } => {
+            let most = bytes.len().saturating_mul(2).saturating_add(1);
+            out.reserve(want.min(most))?;
+            let Encoded { count, taken, held } = encode(bytes, held, want, out);
+            Ok(Given {
+                count,
+                taken,
+                encoding: Encoding::Netascii { held },
+            })
+        }
+    }
+}

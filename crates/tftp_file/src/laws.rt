@@ -1,0 +1,55 @@
+//! What holds of the definitions alone: text that is cut anywhere, blocks, and beginnings.
+
+ghost use Rattle.std.specs.Prelude.{◌≡◌, ◌+◌, ◌*◌, ◌<◌, ◌≤◌, ◌↔◌, ◌⊎◌, ◌++◌, ℕ, List, [], length};
+ghost use Rattle.std.specs.List.{concat};
+ghost use Rattle.tftp_wire.specs.declared.mode.Mode.{Mode};
+ghost use Rattle.tftp_file.specs.declared.netascii.NetFault.{NetFault};
+ghost use Rattle.tftp_file.specs.Netascii.{wire_text};
+ghost use Rattle.tftp_file.specs.Block.{block, block_count, first_blocks, IsBeginningOf};
+ghost use Rattle.tftp_file.specs.Decoding.{IsHeld, Decodes, BeginsWireText, FirstWrong, TakesAll, RefusesAt};
+
+/// Netascii is decoded in the same way wherever it is cut (RFC 764).
+///
+/// The pieces of any cut join to the whole. A text that begins no wire text is refused at the piece
+/// that holds its first wrong byte, with the same fault in every cut, and what the pieces before
+/// that one gave stands.
+pub fn any_cut()
+    ensures joined { (held : List ℕ) (pieces : List (List ℕ)) (bytes after : List ℕ) → IsHeld held
+        → (TakesAll held pieces bytes after ↔ Decodes held (concat pieces) bytes after) }
+    ensures refused { (held : List ℕ) (pieces : List (List ℕ)) (at : ℕ) (fault : NetFault)
+        → IsHeld held → FirstWrong (held ++ concat pieces) at fault → RefusesAt held pieces at fault }
+{}
+
+/// A text begins a wire text, or it has a first wrong byte, and never both; what it gives, and what
+/// is wrong with it, can be told in one way (RFC 764).
+pub fn one_reading()
+    ensures told { (text : List ℕ) → BeginsWireText text
+        ⊎ ((at : ℕ) × (fault : NetFault) × FirstWrong text at fault) }
+    ensures apart { (text : List ℕ) (at : ℕ) (fault : NetFault) → BeginsWireText text
+        → FirstWrong text at fault → ⊥ }
+    ensures decoded_once { (held piece bytes after others left : List ℕ)
+        → Decodes held piece bytes after → Decodes held piece others left
+        → (bytes ≡ others) × (after ≡ left) }
+    ensures wrong_once { (text : List ℕ) (at other : ℕ) (fault wrong : NetFault)
+        → FirstWrong text at fault → FirstWrong text other wrong
+        → (at ≡ other) × (fault ≡ wrong) }
+{}
+
+/// The blocks of a text are the text, cut: each but the last has the block size, the last is
+/// shorter, and a text of a multiple of the size ends with an empty one (RFC 1350, section 6).
+pub fn blocks()
+    ensures joined { (text : List ℕ) (size : ℕ) → 0 < size
+        → first_blocks text size (block_count text size) ≡ text }
+    ensures full { (text : List ℕ) (size n : ℕ) → 0 < size → 1 ≤ n → n < block_count text size
+        → length (block text size n) ≡ size }
+    ensures last { (text : List ℕ) (size : ℕ) → 0 < size
+        → length (block text size (block_count text size)) < size }
+    ensures empty { (text : List ℕ) (size n : ℕ) → 0 < size → length text ≡ n * size
+        → block text size (block_count text size) ≡ [] }
+{}
+
+/// Host bytes begin others exactly if their wire texts do, in each mode.
+pub fn beginnings()
+    ensures { (mode : Mode) (xs ys : List ℕ)
+        → IsBeginningOf xs ys ↔ IsBeginningOf (wire_text mode xs) (wire_text mode ys) }
+{}

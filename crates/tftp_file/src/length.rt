@@ -1,0 +1,51 @@
+//! How long a file is on the wire, told by reading it once.
+
+ghost use Rattle.std.specs.Prelude.{◌≡◌, ◌≤◌, ◌+◌, length, min, IfOk, IfErr, IfSome};
+ghost use Rattle.tftp_file.specs.Netascii.{wire_text};
+ghost use Rattle.tftp_file.specs.declared.fault.FileFault.TheVariants.{Read as ReadFault};
+
+use crate::fault::FileFault;
+use crate::lines::line_byte_count;
+use std::io::Read;
+use tftp_wire::Mode;
+
+/// The longest wire text that any block size can carry, in bytes: 65,535 blocks of 65,464 bytes,
+/// the last of them one byte short (RFC 2348, "Blocksize Option Specification").
+pub const MAX_WIRE: u64 = 4_290_183_239;
+
+const CHUNK: usize = 8192;
+
+/// The length of the reader's text on the wire, in bytes, or `MAX_WIRE + 1` where it is greater; it
+/// reads no further then. `Read` where reading fails. It takes no memory.
+pub fn wire_length<R: Read + Drop>(mut reader: R, mode: Mode) -> Result<u64, FileFault>
+    ensures ok { IfOk result (λ count. IfSome (R.remaining reader)
+        (λ bytes. count ≡ min (length (wire_text mode bytes)) (MAX_WIRE + 1))) }
+    ensures within { IfOk result (λ count. count ≤ MAX_WIRE + 1) }
+    ensures read { IfErr result (λ fault. fault ≡ ReadFault) }
+{
+    let mut chunk = [0; CHUNK];
+    let mut total = 0;
+    while total <= MAX_WIRE {
+        let Ok(count) = reader.read(&mut chunk) else {
+            return Err(FileFault::Read);
+        };
+        if count == 0 {
+            return Ok(total);
+        }
+        total += wire_count(&chunk[..count], mode) as u64;
+    }
+    Ok(MAX_WIRE + 1)
+}
+
+/// The length of the bytes on the wire; there are few enough for it to fit.
+fn wire_count(bytes: &[u8], mode: Mode) -> usize
+    requires { length bytes.now ≤ 8192 }
+    ensures value { result ≡ length (wire_text mode bytes.now) }
+    ensures within { result ≤ 16384 }
+    ensures progress { length bytes.now ≤ result }
+{
+    match mode {
+        Mode::Octet => bytes.len(),
+        Mode::Netascii => bytes.len() + line_byte_count(bytes),
+    }
+}

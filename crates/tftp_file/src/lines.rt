@@ -1,0 +1,48 @@
+//! Where the bytes stand that netascii writes as pairs (RFC 764).
+
+ghost use Rattle.std.specs.Prelude.{◌≡◌, ◌≤◌, ◌++◌, length};
+ghost use Rattle.std.specs.List.{count_by, position_or_len};
+ghost use Rattle.tftp_file.specs.Netascii.{netascii_text};
+ghost use Rattle.tftp_file.specs.Lines.{EndsAtLine, is_line_byte};
+
+/// The line feed, which travels as CR LF.
+pub(crate) const LF: u8 = b'\n';
+
+/// The carriage return, which travels as CR NUL.
+pub(crate) const CR: u8 = b'\r';
+
+/// The byte behind a CR that stands for itself.
+pub(crate) const NUL: u8 = 0;
+
+/// Whether the byte is LF or CR.
+fn is_line_byte(byte: u8) -> bool
+    ensures { result ≡ is_line_byte byte }
+{
+    byte == LF || byte == CR
+}
+
+/// How many bytes are LF or CR, each of which takes two bytes of wire text.
+pub(crate) fn line_byte_count(bytes: &[u8]) -> usize
+    ensures { result ≡ count_by is_line_byte bytes.now }
+{
+    bytes.iter().filter(|byte| is_line_byte(**byte)).count()
+}
+
+/// The place of the first CR or LF, or else the length.
+fn run_length(text: &[u8]) -> usize
+    ensures place { result ≡ position_or_len is_line_byte text.now }
+    ensures within { result ≤ length text.now }
+{
+    let end = text.iter().position(|byte| is_line_byte(*byte));
+    end.unwrap_or(text.len())
+}
+
+/// The front of the text without CR and LF, and the rest.
+#[tactic(auto, using(crate::proofs::NetasciiLemmas::plain_front, crate::proofs::NetasciiLemmas::run_ends))]
+pub(crate) fn split_run(text: &[u8]) -> (&[u8], &[u8])
+    ensures parts { text.now ≡ result.0.now ++ result.1.now }
+    ensures plain { netascii_text result.0.now ≡ result.0.now }
+    ensures ends { EndsAtLine result.1.now }
+{
+    text.split_at(run_length(text))
+}

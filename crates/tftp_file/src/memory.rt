@@ -1,0 +1,204 @@
+//! A source and a sink that hold their file in memory.
+
+ghost use Rattle.std.specs.Prelude.{◌≡◌, ◌≤◌, length, IfErr, IfOk};
+ghost use Rattle.tftp_file.specs.Netascii.{wire_text};
+ghost use Rattle.tftp_file.specs.Memory.{new_mem_sink, with_told};
+
+use crate::encoding::{Encoding, give};
+use crate::{FileFault, Sink, Source, StoreFault};
+use std::alloc::Global;
+use std::marker::Model;
+use tftp_wire::Mode;
+
+/// A source of bytes in memory, which are encoded as they are given. Contracts see the wire text
+/// that is left.
+#[derive(Debug, Drop)]
+pub struct MemSource {
+    bytes: Vec<u8>,
+    at: usize,
+    encoding: Encoding,
+}
+
+impl Model for MemSource {
+    ghost use Rattle.std.specs.Prelude.{List, ℕ, drop, ◌≤◌, vec_len};
+    ghost use Rattle.tftp_file.specs.Encoding.{text_left};
+
+    ghost Value = { List ℕ };
+
+    ghost view = { λ s. text_left s.encoding (drop s.at s.bytes.items) };
+
+    ghost invariant = { λ s. s.at ≤ vec_len s.bytes };
+}
+
+impl MemSource {
+    /// A source of the bytes' wire text in the mode. It copies the bytes, and fails for want of
+    /// memory alone, with `Memory`.
+    pub fn new(alloc: Global, bytes: &[u8], mode: Mode) -> Result<MemSource, FileFault>
+        ensures ok { IfOk result (λ source. source ≡ wire_text mode bytes.now) }
+        ensures memory { IfErr result (λ fault. fault ≡ FileFault.Memory) }
+    {
+        Ok(MemSource {
+            bytes: Vec::from_slice(alloc, bytes)?,
+            at: 0,
+            encoding: Encoding::from(mode),
+        })
+    }
+}
+
+impl Source for MemSource {
+    ghost use Rattle.std.specs.Prelude.{Some, ⊤};
+
+    ghost left = { λ s. Some s };
+
+    ghost may_fail = { λ _ _. ⊥ };
+
+    ghost is_same = { λ _ _. ⊤ };
+
+    ghost stays = { λ _. tt };
+
+    ghost joins = { λ _ _ _ _ _. tt };
+
+    fn fill(&mut self, want: usize, out: &mut Vec<u8>) -> Result<usize, FileFault> {
+        let given = give(&self.bytes[self.at..], self.encoding, want, out)?;
+        self.at += given.taken;
+        self.encoding = given.encoding;
+        Ok(given.count)
+    }
+}
+
+/// A sink that keeps its bytes in memory, up to a room.
+///
+/// Contracts see what it holds, its room, and whether it was made to refuse its commit.
+#[derive(Debug, Drop)]
+pub struct MemSink {
+    bytes: Vec<u8>,
+    room: u64,
+    is_committed: bool,
+    refuses_next: bool,
+    refuses_commit: bool,
+}
+
+impl Model for MemSink {
+    ghost use Rattle.tftp_file.specs.Memory.{MemSinkState};
+
+    ghost Value = { MemSinkState };
+
+    ghost use Rattle.std.specs.Prelude.{vec_len, ◌≤◌};
+
+    ghost view = { λ s. record {
+      holding = record { bytes = s.bytes.items; committed = s.is_committed; refuses = s.refuses_next };
+      room = s.room;
+      refuses_commit = s.refuses_commit;
+    } };
+
+    ghost invariant = { λ s. vec_len s.bytes ≤ s.room };
+}
+
+impl MemSink {
+    /// An empty sink with room for so many bytes, whose commit is refused if told so. It takes no
+    /// memory.
+    pub fn new(alloc: Global, room: u64, refuse_commit: bool) -> MemSink
+        ensures { result ≡ new_mem_sink room refuse_commit }
+    {
+        MemSink {
+            bytes: Vec::new(alloc),
+            room,
+            is_committed: false,
+            refuses_next: false,
+            refuses_commit: refuse_commit,
+        }
+    }
+
+    /// The bytes held, at most as many as it has room for.
+    pub fn as_bytes(&self) -> &[u8]
+        ensures bytes { result.now ≡ self.now.holding.bytes }
+        ensures within { length result.now ≤ self.now.room }
+    {
+        self.bytes.as_slice()
+    }
+
+    /// Whether the bytes held are committed.
+    pub fn is_committed(&self) -> bool
+        ensures { result ≡ self.now.holding.committed }
+    {
+        self.is_committed
+    }
+
+    /// Tells the sink to refuse its next append or commit with `Full`, or takes that back.
+    pub fn refuse_next(&mut self, told: bool)
+        ensures { self.new ≡ with_told self.old told }
+    {
+        self.refuses_next = told;
+    }
+
+    /// Whether the next append or commit was told to be refused.
+    pub fn refuses(&self) -> bool
+        ensures { result ≡ self.now.holding.refuses }
+    {
+        self.refuses_next
+    }
+}
+
+impl Sink for MemSink {
+    ghost use Rattle.std.specs.Prelude.{Some, ⊤};
+    ghost use Rattle.std.specs.Prelude.{◌≡◌, ◌≢◌, ◌≤◌, ◌<◌, ◌+◌, ◌++◌, true, false, length, take, Err, IfErr, IsErr, refl};
+    ghost use Rattle.std.proofs.Common.{◌∙◌};
+    ghost use Rattle.tftp_file.specs.Sink.{Appends, Commits};
+    ghost use Rattle.tftp_file.specs.Memory.{MayRefuseAppend, MayRefuseCommit};
+
+    ghost held = { λ s. Some s.holding };
+
+    ghost may_refuse_append = { MayRefuseAppend };
+
+    ghost may_refuse_commit = { MayRefuseCommit };
+
+    ghost is_same = { λ s t. (t.room ≡ s.room) × (t.refuses_commit ≡ s.refuses_commit) };
+
+    ghost stays = { λ _. (refl, refl) };
+
+    ghost joins = { λ _ _ _ p q. (q.0 ∙ p.0, q.1 ∙ p.1) };
+
+    /// What has room of the bytes is kept, and where that is not all of them the answer is `Full`.
+    fn append(&mut self, bytes: &[u8]) -> Result<(), StoreFault>
+        ensures appends { Appends (Some self.old.holding) (Some self.new.holding) bytes.now result }
+        ensures refused { IfErr result (MayRefuseAppend self.old bytes.now) }
+        ensures same { (self.new.room ≡ self.old.room)
+            × (self.new.refuses_commit ≡ self.old.refuses_commit) }
+        ensures over { self.old.room < length self.old.holding.bytes + length bytes.now
+            → IsErr result }
+        ensures filled { result ≡ Err StoreFault.Full → self.old.holding.refuses ≡ false
+            → self.new.holding.bytes ≡ take self.old.room (self.old.holding.bytes ++ bytes.now) }
+    {
+        if self.refuses_next {
+            self.refuses_next = false;
+            return Err(StoreFault::Full);
+        }
+        let room = self.room as usize - self.bytes.len();
+        let kept = room.min(bytes.len());
+        self.bytes.extend_from_slice(&bytes[..kept])?;
+        self.is_committed = false;
+        if kept < bytes.len() {
+            return Err(StoreFault::Full);
+        }
+        Ok(())
+    }
+
+    fn commit(&mut self) -> Result<(), StoreFault>
+        ensures commits { Commits (Some self.old.holding) (Some self.new.holding) result }
+        ensures refused { IfErr result (MayRefuseCommit self.old) }
+        ensures not_memory { result ≢ Err StoreFault.Memory }
+        ensures same { (self.new.room ≡ self.old.room)
+            × (self.new.refuses_commit ≡ self.old.refuses_commit) }
+        ensures told { self.old.refuses_commit ≡ true → result ≡ Err StoreFault.Full }
+    {
+        if self.refuses_next {
+            self.refuses_next = false;
+            return Err(StoreFault::Full);
+        }
+        if self.refuses_commit {
+            return Err(StoreFault::Full);
+        }
+        self.is_committed = true;
+        Ok(())
+    }
+}

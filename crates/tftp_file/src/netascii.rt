@@ -1,0 +1,277 @@
+//! Netascii on its way out and in: a line end as CR LF, a CR as CR NUL (RFC 764).
+
+ghost use Rattle.std.specs.Prelude.{◌≡◌, ◌≢◌, ◌≤◌, ◌+◌, ◌++◌, ◌↔◌, ◌∷◌, [], ℕ, List, length, option_to_list, vec_len, vec_capacity, IsOk, IfOk, IfErr, IsErrOf, OnErr, OnOk, MatchOption};
+ghost use Rattle.tftp_file.specs.Decoding.{net_fault_number, held_bytes, IsHeld, Decodes, Refuses, BeginsWireText, IsWrong};
+ghost use Rattle.tftp_file.specs.Netascii.{netascii_text, wire_byte};
+ghost use Rattle.tftp_file.specs.Lines.{EndsAtLine};
+ghost use Rattle.tftp_file.specs.declared.netascii.NetFault.TheVariants.{LoneCr, EndsInCr, Memory};
+
+use crate::lines::{CR, LF, NUL, line_byte_count, split_run};
+use std::alloc::AllocError;
+use std::marker::Model;
+use thiserror::Error;
+
+/// Why bytes are no netascii, or that memory was wanting.
+#[derive(Clone, Copy, Debug, PartialEq, Eq, Error)]
+pub enum NetFault {
+    /// A CR stands before a byte other than LF and NUL.
+    #[error("a CR stands before a byte other than LF and NUL")]
+    LoneCr = 1,
+    /// An LF has no CR before it.
+    #[error("an LF has no CR before it")]
+    LoneLf = 2,
+    /// The text ends in a CR.
+    #[error("the text ends in a CR")]
+    EndsInCr = 3,
+    /// Memory was wanting; the text is not at fault.
+    #[error("out of memory")]
+    Memory = 4,
+}
+
+impl NetFault {
+    /// The number of the fault, 1 to 4.
+    pub fn number(self) -> u8
+        ensures { result ≡ net_fault_number self }
+    {
+        self as u8
+    }
+}
+
+impl From<AllocError> for NetFault {
+    ghost use Rattle.std.specs.Prelude.{◌≡◌};
+    ghost use Rattle.tftp_file.specs.declared.netascii.NetFault.TheVariants.{Memory};
+
+    ghost from_gives = { λ _ fault. fault ≡ Memory };
+
+    fn from(_error: AllocError) -> NetFault {
+        NetFault::Memory
+    }
+}
+
+/// Turns the host's bytes into wire text, piece by piece. It keeps nothing between two pieces.
+#[derive(Debug, Drop)]
+pub struct NetEncoder {}
+
+impl NetEncoder {
+    /// An encoder at the beginning of a text.
+    pub fn new() -> NetEncoder {
+        NetEncoder {}
+    }
+
+    /// Appends the wire text of the piece to `out`. It fails with `Memory` alone, and then `out` is
+    /// unchanged.
+    pub fn push(&mut self, piece: &[u8], out: &mut Vec<u8>) -> Result<(), NetFault>
+        ensures ok { OnOk result (out.new.items ≡ out.old.items ++ netascii_text piece.now) }
+        ensures memory { IfErr result (λ fault. fault ≡ Memory) }
+        ensures err { OnErr result (out.new.items ≡ out.old.items) }
+    {
+        let room = piece.len().checked_add(line_byte_count(piece));
+        out.reserve(room.ok_or(NetFault::Memory)?)?;
+        append_wire(piece, out);
+        Ok(())
+    }
+
+    /// Ends the text. It never fails: every text of host bytes ends well.
+    pub fn finish(&self) -> Result<(), NetFault>
+        ensures { IsOk result }
+    {
+        Ok(())
+    }
+}
+
+/// What a decoder keeps between two pieces.
+#[derive(Clone, Copy, Debug, PartialEq, Eq)]
+enum Held {
+    /// Nothing: the text so far ends behind a whole byte or pair.
+    Nothing,
+    /// The CR that begins a pair.
+    CarriageReturn,
+}
+
+/// Turns wire text into the host's bytes, piece by piece, wherever the text is cut.
+///
+/// A contract sees it as the bytes of wire text that it holds back: none, or the CR of a pair whose
+/// second byte is still to come.
+#[derive(Debug, Drop)]
+pub struct NetDecoder {
+    held: Held,
+}
+
+impl Model for NetDecoder {
+    ghost use Rattle.std.specs.Prelude.{List, ℕ};
+
+    ghost Value = { List ℕ };
+
+    ghost use Rattle.tftp_file.specs.Decoding.{held_bytes};
+
+    ghost view = { λ decoder. held_bytes decoder.held };
+}
+
+impl NetDecoder {
+    /// A decoder at the beginning of a text.
+    pub fn new() -> NetDecoder
+        ensures { result ≡ [] }
+    {
+        NetDecoder {
+            held: Held::Nothing,
+        }
+    }
+
+    /// How many bytes of wire text are held back, 0 or 1.
+    pub fn held(&self) -> usize
+        ensures count { result ≡ length self.now }
+        ensures held { IsHeld self.now }
+    {
+        match self.held {
+            Held::Nothing => 0,
+            Held::CarriageReturn => 1,
+        }
+    }
+
+    /// Appends to `out` the host's bytes that the piece completes.
+    ///
+    /// It is refused at its first wrong byte: `LoneCr` where a byte other than LF and NUL stands
+    /// behind a CR, `LoneLf` where an LF has no CR before it (RFC 764). `Memory` comes only where no
+    /// byte is wrong. After a refusal the decoder and `out` are unchanged.
+    pub fn push(&mut self, piece: &[u8], out: &mut Vec<u8>) -> Result<(), NetFault>
+        ensures ok { OnOk result ((bytes : List ℕ) × Decodes self.old piece.now bytes self.new
+            × (out.new.items ≡ out.old.items ++ bytes)) }
+        ensures refused { IfErr result (λ fault. Refuses (self.old ++ piece.now) fault) }
+        ensures err { OnErr result ((self.new ≡ self.old) × (out.new.items ≡ out.old.items)) }
+    {
+        let before = self.held;
+        if piece.is_empty() {
+            return Ok(());
+        }
+        let (first, rest) = complete_pair(before, piece)?;
+        let held = check(rest)?;
+        out.reserve(piece.len())?;
+        if let Some(byte) = first {
+            out.push_reserved(byte);
+        }
+        append_host(rest, out);
+        self.held = held;
+        Ok(())
+    }
+
+    /// Ends the text: `EndsInCr` exactly if a CR is held back.
+    pub fn finish(&self) -> Result<(), NetFault>
+        ensures ok { IsOk result ↔ (self.now ≡ []) }
+        ensures ends_in_cr { IsErrOf result EndsInCr ↔ (self.now ≡ 13 ∷ []) }
+    {
+        match self.held {
+            Held::Nothing => Ok(()),
+            Held::CarriageReturn => Err(NetFault::EndsInCr),
+        }
+    }
+}
+
+/// Appends the wire text of the bytes, for which there is room.
+fn append_wire(bytes: &[u8], out: &mut Vec<u8>)
+    requires { vec_len out.old + length (netascii_text bytes.now) ≤ vec_capacity out.old }
+    ensures { out.new.items ≡ out.old.items ++ netascii_text bytes.now }
+{
+    let mut left = bytes;
+    while !left.is_empty() {
+        let (run, rest) = split_run(left);
+        out.extend_from_slice(run).unwrap();
+        left = match rest {
+            [byte, behind @ ..] => {
+                out.push_reserved(CR);
+                out.push_reserved(if *byte == LF { LF } else { NUL });
+                behind
+            }
+            [] => rest,
+        };
+    }
+}
+
+/// The host's byte that a CR and this second byte make.
+fn pair_byte(second: u8) -> Option<u8>
+    ensures { MatchOption result ((second ≢ 10) × (second ≢ 0))
+        (λ byte. wire_byte byte ≡ 13 ∷ second ∷ []) }
+{
+    match second {
+        LF => Some(LF),
+        NUL => Some(CR),
+        _ => None,
+    }
+}
+
+/// The host's byte that the held CR and the piece's first byte make, if a CR is held, and the rest of
+/// the piece.
+#[tactic(auto, using(crate::proofs::DecodingLemmas::wrong_pair))]
+fn complete_pair(held: Held, piece: &[u8]) -> Result<(Option<u8>, &[u8]), NetFault>
+    requires { 1 ≤ length piece.now }
+    ensures ok { IfOk result (λ parts. held_bytes held ++ piece.now
+        ≡ netascii_text (option_to_list parts.0) ++ parts.1.now) }
+    ensures room { IfOk result (λ parts. length (option_to_list parts.0) + length parts.1.now
+        ≤ length piece.now) }
+    ensures wrong { IfErr result (λ fault. IsWrong (held_bytes held ++ piece.now) fault) }
+{
+    match (held, piece) {
+        (Held::CarriageReturn, [second, rest @ ..]) => match pair_byte(*second) {
+            Some(byte) => Ok((Some(byte), rest)),
+            None => Err(NetFault::LoneCr),
+        },
+        _ => Ok((None, piece)),
+    }
+}
+
+/// The host's byte that the pair at the front makes, and the rest; none at the end of a text, where a
+/// CR may be left.
+#[tactic(auto, using(crate::proofs::DecodingLemmas::wrong_front))]
+fn split_pair(text: &[u8]) -> Result<Option<(u8, &[u8])>, NetFault>
+    requires { EndsAtLine text.now }
+    ensures ok { IfOk result (λ pair. MatchOption pair (IsHeld text.now)
+        (λ parts. (text.now ≡ wire_byte parts.0 ++ parts.1.now)
+        × (length parts.1.now + 2 ≤ length text.now))) }
+    ensures wrong { IfErr result (λ fault. IsWrong text.now fault) }
+{
+    if let [LF, ..] = text {
+        return Err(NetFault::LoneLf);
+    }
+    let [_, second, rest @ ..] = text else {
+        return Ok(None);
+    };
+    match pair_byte(*second) {
+        Some(byte) => Ok(Some((byte, rest))),
+        None => Err(NetFault::LoneCr),
+    }
+}
+
+/// What is held back at the end of a text that begins a wire text; else its first fault.
+fn check(text: &[u8]) -> Result<Held, NetFault>
+    ensures ok { IfOk result (λ held. (bytes : List ℕ)
+        × Decodes [] text.now bytes (held_bytes held)) }
+    ensures wrong { IfErr result (λ fault. IsWrong text.now fault) }
+{
+    let mut left = text;
+    loop {
+        let (_, rest) = split_run(left);
+        match split_pair(rest)? {
+            Some((_, behind)) => left = behind,
+            None if rest.is_empty() => return Ok(Held::Nothing),
+            None => return Ok(Held::CarriageReturn),
+        }
+    }
+}
+
+/// Appends the host's bytes of a text that begins a wire text, for which there is room.
+fn append_host(text: &[u8], out: &mut Vec<u8>)
+    requires begins { BeginsWireText text.now }
+    requires room { vec_len out.old + length text.now ≤ vec_capacity out.old }
+    ensures { (bytes : List ℕ) × (after : List ℕ) × Decodes [] text.now bytes after
+        × (out.new.items ≡ out.old.items ++ bytes) }
+{
+    let mut left = text;
+    loop {
+        let (run, rest) = split_run(left);
+        out.extend_from_slice(run).unwrap();
+        let Ok(Some((byte, behind))) = split_pair(rest) else {
+            return;
+        };
+        out.push_reserved(byte);
+        left = behind;
+    }
+}

@@ -1,0 +1,76 @@
+//! What a receiver writes to: a file that is appended to, and then committed.
+
+ghost use Rattle.std.specs.Prelude.{◌≡◌, ◌≢◌, Err, IfErr, List, ℕ, Option};
+ghost use Rattle.tftp_file.specs.Sink.{Appends, Commits, Holding};
+ghost use Rattle.tftp_file.specs.declared.fault.StoreFault.{StoreFault};
+
+use crate::StoreFault;
+
+/// A file that is written from its front, and committed as a whole.
+///
+/// A sink over memory tells what it holds; one over a file tells nothing, and then its calls
+/// promise only which answers they give. Some sinks can be told to refuse their next call: it
+/// answers `Full`, changes nothing else, and is told no more.
+pub trait Sink {
+    /// The bytes held, whether they are committed and whether the next call was told to be refused,
+    /// where the sink tells them.
+    ghost held: { Self → Option Holding };
+
+    /// An append of these bytes may answer this fault.
+    ghost may_refuse_append: { Self → List ℕ → StoreFault → Type 0 } = { λ _ _ _. Unit {0} };
+
+    /// A commit may answer this fault.
+    ghost may_refuse_commit: { Self → StoreFault → Type 0 } = { λ _ _. Unit {0} };
+
+    /// It is the same sink as before, over the same borrows.
+    ghost is_same: { Self → Self → Type 0 };
+
+    /// Puts the bytes at the end of what is held.
+    ///
+    /// After `Memory` nothing has changed. After another fault some first of the bytes may have
+    /// been added, and none before them has gone.
+    fn append(&mut self, bytes: &[u8]) -> Result<(), StoreFault>
+        ensures appends { Appends (held self.old) (held self.new) bytes.now result }
+        ensures refused { IfErr result (may_refuse_append self.old bytes.now) }
+        ensures same { is_same self.old self.new };
+
+    /// Makes what is held the file's contents for good.
+    ///
+    /// After a fault nothing else has changed. Where memory is wanting the fault is `Full`.
+    fn commit(&mut self) -> Result<(), StoreFault>
+        ensures commits { Commits (held self.old) (held self.new) result }
+        ensures refused { IfErr result (may_refuse_commit self.old) }
+        ensures not_memory { result ≢ Err StoreFault.Memory }
+        ensures same { is_same self.old self.new };
+
+    /// Each sink is the same as itself.
+    ghost stays: { (a : Self) → is_same a a };
+
+    /// What is the same after one call and after the next is the same after both.
+    ghost joins: { (a b c : Self) → is_same a b → is_same b c → is_same a c };
+}
+
+impl<K: Sink> Sink for &mut K {
+    ghost use Rattle.std.specs.Prelude.{◌≡◌, refl};
+    ghost use Rattle.std.proofs.Common.{◌∙◌};
+
+    ghost held = { λ k. K.held k.now };
+
+    ghost may_refuse_append = { λ k bytes fault. K.may_refuse_append k.now bytes fault };
+
+    ghost may_refuse_commit = { λ k fault. K.may_refuse_commit k.now fault };
+
+    ghost is_same = { λ k l. (l.ghost_name ≡ k.ghost_name) × K.is_same k.now l.now };
+
+    ghost stays = { λ a. (refl, K.stays a.now) };
+
+    ghost joins = { λ a b c p q. (q.0 ∙ p.0, K.joins a.now b.now c.now p.1 q.1) };
+
+    fn append(&mut self, bytes: &[u8]) -> Result<(), StoreFault> {
+        Sink::append(&mut **self, bytes)
+    }
+
+    fn commit(&mut self) -> Result<(), StoreFault> {
+        Sink::commit(&mut **self)
+    }
+}

@@ -1,0 +1,58 @@
+//! What a sender reads from: wire text that is given in pieces.
+
+ghost use Rattle.std.specs.Prelude.{◌≡◌, ◌≤◌, Err, Option, List, ℕ, vec_capacity};
+ghost use Rattle.tftp_file.specs.Source.{Fills};
+
+use crate::FileFault;
+
+/// Wire text (RFC 1350, section 1), given in pieces from its front.
+///
+/// A source over memory tells what it has left; one over a file tells nothing, and then `fill`
+/// promises only which answers it gives.
+pub trait Source {
+    /// The wire text that is left, where the source tells it.
+    ghost left: { Self → Option (List ℕ) };
+
+    /// A fill of so many bytes may answer `Read`.
+    ghost may_fail: { Self → ℕ → Type 0 } = { λ _ _. Unit {0} };
+
+    /// It is the same source as before, over the same borrows.
+    ghost is_same: { Self → Self → Type 0 };
+
+    /// Moves the next `want` bytes, or as many as are left, to the end of `out`, and tells how
+    /// many.
+    ///
+    /// After `Read` the source is used no more. After `Memory` nothing has changed. The capacity of
+    /// `out` never shrinks.
+    fn fill(&mut self, want: usize, out: &mut Vec<u8>) -> Result<usize, FileFault>
+        ensures fills { Fills (left self.old) (left self.new) want
+            out.old.items out.new.items result }
+        ensures read { result ≡ Err FileFault.Read → may_fail self.old want }
+        ensures capacity { vec_capacity out.old ≤ vec_capacity out.new }
+        ensures same { is_same self.old self.new };
+
+    /// Each source is the same as itself.
+    ghost stays: { (a : Self) → is_same a a };
+
+    /// What is the same after one fill and after the next is the same after both.
+    ghost joins: { (a b c : Self) → is_same a b → is_same b c → is_same a c };
+}
+
+impl<S: Source> Source for &mut S {
+    ghost use Rattle.std.specs.Prelude.{◌≡◌, refl};
+    ghost use Rattle.std.proofs.Common.{◌∙◌};
+
+    ghost left = { λ s. S.left s.now };
+
+    ghost may_fail = { λ s want. S.may_fail s.now want };
+
+    ghost is_same = { λ s t. (t.ghost_name ≡ s.ghost_name) × S.is_same s.now t.now };
+
+    ghost stays = { λ a. (refl, S.stays a.now) };
+
+    ghost joins = { λ a b c p q. (q.0 ∙ p.0, S.joins a.now b.now c.now p.1 q.1) };
+
+    fn fill(&mut self, want: usize, out: &mut Vec<u8>) -> Result<usize, FileFault> {
+        Source::fill(&mut **self, want, out)
+    }
+}

@@ -1,0 +1,4 @@
+pub mod OptionsLemmas
+pub mod NegotiationLemmas
+pub mod TermsLemmas
+pub mod LawsLemmas

@@ -1,0 +1,46 @@
+use Rattle.std.proofs.Common.{◌≡◌, ℕ, ◌^◌, ◌<◌, Ok, decimal, sym, ◌∙◌, ap}
+use Rattle.std.specs.Result.{result_ok}
+use Rattle.std.specs.Str.{IsUtf8}
+use Rattle.std.proofs.lemmas.Fmt.{parse-decimal}
+use Rattle.std.proofs.lemmas.Option.{none-some}
+use Rattle.std.proofs.lemmas.Slice.Eq.{bytes_eq-Decides}
+use Rattle.tftp_negotiate.specs.Options.{number_of}
+use Rattle.tftp_negotiate.proofs.OptionsLemmas.{number_of_none, number_of-decimal, IsUtf8-from_decimal, why_none, what_some, parsed_small}
+use Rattle.tftp_negotiate.proofs.number.number_of.Goals as goal
+use Rattle.tftp_negotiate.proofs.number.number_of.Goals.{After-parse}
+
+-- what is no UTF-8 is no printing of a number
+pub returns-in_err-ok : goal.returns-in_err-ok
+returns-in_err-ok c =
+    c.from_residual.ensures ∙ number_of_none c.args.text.now (λ n small e.
+    why_none c.from_utf8.result _ _ (IsUtf8 c.args.text.now) c.from_utf8.ensures.cases (sym c.ok.ensures.value ∙ c.in_err-ok.was)
+    (IsUtf8-from_decimal c.args.text.now n small e))
+
+-- the text is what is parsed
+same_text : (c : After-parse) → c.in_ok-ok.field-0.now ≡ c.args.text.now
+same_text c = (what_some c.from_utf8.result _ _ c.in_ok-ok.field-0 c.from_utf8.ensures.cases c.in_ok-ok.ensures.value).0
+
+-- the printing of a number parses to it
+parses : (c : After-parse) (n : ℕ) → n < 2 ^ 64 → c.args.text.now ≡ decimal n → c.parse.result ≡ Ok n
+parses c n small e = parse-decimal 64 n c.in_ok-ok.field-0.now c.parse.result small small (same_text c ∙ e) c.parse.ensures.value.0
+
+pub returns-in_err-number : goal.returns-in_err-number
+returns-in_err-number c =
+    c.from_residual-in_err-number.ensures ∙ number_of_none c.args.text.now (λ n small e.
+    let parsed = parses (goal.at.returns-in_err-number c).After-parse n small e in
+    let none = sym c.ok-2.ensures.value ∙ c.in_err-number.was in
+    none-some n (sym none ∙ ap result_ok parsed))
+
+pub returns-then-eq : goal.returns-then-eq
+returns-then-eq c =
+    let same = (bytes_eq-Decides c.as_bytes.result.now c.args.text.now).0 (sym c.eq.ensures ∙ c.if-eq.true) in
+    let small = parsed_small c.in_ok-ok.field-0.now c.parse.result c.in_ok-number.number c.parse.ensures.value.0 c.in_ok-number.ensures.value in
+    sym (ap number_of (sym same ∙ (c.as_bytes.ensures.value ∙ c.format.ensures.text)) ∙ number_of-decimal c.in_ok-number.number small)
+
+pub returns-else-eq : goal.returns-else-eq
+returns-else-eq c =
+    number_of_none c.args.text.now (λ n small e.
+    let parsed = parses (goal.at.returns-else-eq c).After-parse n small e in
+    let one : c.in_ok-number.number ≡ n = cc (c.in_ok-number.ensures.value, ap result_ok parsed) in
+    let same = c.as_bytes.ensures.value ∙ (c.format.ensures.text ∙ (ap decimal one ∙ sym e)) in
+    cc ((bytes_eq-Decides c.as_bytes.result.now c.args.text.now).1 same, c.eq.ensures, c.if-eq.false))

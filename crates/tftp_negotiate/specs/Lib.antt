@@ -1,0 +1,11 @@
+pub mod Options
+pub mod Names
+pub mod Refusal
+pub mod Ranges
+pub mod Negotiation
+pub mod Asked
+pub mod Agreed
+pub mod Answer
+pub mod Agreement
+pub mod Terms
+pub mod Laws

@@ -1,0 +1,53 @@
+-- A list of options, judged one by one (RFC 2347, "Negotiation Protocol").
+use Rattle.std.specs.Prelude.{ℕ, Bool, false, true, ◌||◌, List, [], ◌∷◌, ◌++◌, Option, Some, None, Result, Ok, Err, count_by, nat_lt, if◌then◌else◌}
+use Rattle.tftp_wire.specs.declared.options.RawOption.{RawOption}
+use Rattle.tftp_negotiate.specs.declared.name.Name.{Name}
+use Rattle.tftp_negotiate.specs.declared.name.Name.TheVariants.{Blksize, Timeout, Tsize}
+use Rattle.tftp_negotiate.specs.declared.known.Known.{Known}
+use Rattle.tftp_negotiate.specs.declared.refusal.Refusal.{Refusal}
+use Rattle.tftp_negotiate.specs.declared.refusal.Refusal.TheVariants.{Repeated}
+use Rattle.tftp_negotiate.specs.Options.{name_of}
+
+-- two names are one
+abbrev pub same_name : Name → Name → Bool
+same_name Blksize Blksize = true
+same_name Timeout Timeout = true
+same_name Tsize Tsize = true
+same_name _ _ = false
+
+-- it is there, and is this name
+abbrev pub is_name : Name → Option Name → Bool
+is_name name None = false
+is_name name (Some other) = same_name name other
+
+-- in how many places a known name stands
+unfoldable pub places_of : Name → List RawOption → ℕ
+places_of name options = count_by (λ o. is_name name (name_of o.name)) options
+
+-- a known name stands in two places, whatever the values
+abbrev pub repeats : List RawOption → Bool
+repeats options = nat_lt 1 (places_of Blksize options)
+    || (nat_lt 1 (places_of Timeout options) || nat_lt 1 (places_of Tsize options))
+
+-- what is kept of one option stands before what is kept of the others, and its refusal comes first
+abbrev pub kept_before : Result (Option Known) Refusal → Result (List Known) Refusal → Result (List Known) Refusal
+kept_before (Err refusal) others = Err refusal
+kept_before (Ok None) others = others
+kept_before (Ok (Some known)) (Err refusal) = Err refusal
+kept_before (Ok (Some known)) (Ok others) = Ok (known ∷ others)
+
+-- what is kept of the options, in their order, or the first refusal from the left
+abbrev pub each_judged : (RawOption → Result (Option Known) Refusal) → List RawOption → Result (List Known) Refusal
+each_judged judgement [] = Ok []
+each_judged judgement (o ∷ os) = kept_before (judgement o) (each_judged judgement os)
+
+-- a repeated name is refused before any option is judged
+abbrev pub negotiated : (RawOption → Result (Option Known) Refusal) → List RawOption → Result (List Known) Refusal
+negotiated judgement options = if repeats options then Err Repeated else each_judged judgement options
+
+-- what is kept of one option stands after what was kept before it, and the first refusal stays
+abbrev pub kept_after : Result (List Known) Refusal → Result (Option Known) Refusal → Result (List Known) Refusal
+kept_after (Err refusal) judgement = Err refusal
+kept_after (Ok known) (Err refusal) = Err refusal
+kept_after (Ok known) (Ok None) = Ok known
+kept_after (Ok known) (Ok (Some one)) = Ok (known ++ one ∷ [])

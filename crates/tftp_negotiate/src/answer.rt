@@ -1,0 +1,133 @@
+//! What a server answers to the options of a request.
+
+ghost use Rattle.std.specs.Prelude.{◌≡◌, IfOk};
+ghost use Rattle.tftp_wire.specs.Borrowed.{owned_option};
+ghost use Rattle.tftp_negotiate.specs.Agreed.{IsAgreement};
+ghost use Rattle.tftp_negotiate.specs.Answer.{answer, answered_option, answered_blksize, answered_timeout, answered_tsize};
+ghost use Rattle.tftp_negotiate.specs.Ranges.{IsBlockSize};
+
+use crate::agreed::Agreed;
+use crate::known::{Kind, Known};
+use crate::limits::{Limits, MAX_BLOCK, MIN_BLOCK};
+use crate::name::Name;
+use crate::negotiation::{negotiate, negotiate_slice};
+use crate::number::number_of;
+use crate::refusal::Refusal;
+use crate::terms::Terms;
+use tftp_wire::{Mode, OptionRef, OptionsRef, RawOption};
+
+/// What a server answers to the options of a request, in their order (RFC 2347, "Negotiation
+/// Protocol"). `length` is that of the file to be read, in bytes as they travel; a write does not
+/// use it.
+///
+/// It fails with `Repeated` where a known option stands twice, whatever its values, and with
+/// `TooLarge` where the file of a write is longer than the limits allow.
+pub fn accept(
+    options: &[RawOption],
+    kind: Kind,
+    mode: Mode,
+    length: u64,
+    limits: &Limits,
+) -> Result<Agreed, Refusal>
+    requires { IsBlockSize limits.now.max_block }
+    ensures answers { result ≡ answer options.now kind mode length limits.now }
+    ensures rule { IfOk result IsAgreement }
+{
+    negotiate_slice(
+        options,
+        &Terms::Server {
+            kind,
+            mode,
+            length,
+            limits: *limits,
+        },
+    )
+}
+
+/// As [`accept`], for the options of a datagram.
+pub fn accept_ref(
+    options: &OptionsRef<'_>,
+    kind: Kind,
+    mode: Mode,
+    length: u64,
+    limits: &Limits,
+) -> Result<Agreed, Refusal>
+    requires { IsBlockSize limits.now.max_block }
+    ensures answers { result ≡ answer options.now kind mode length limits.now }
+    ensures rule { IfOk result IsAgreement }
+{
+    negotiate(
+        options.iter(),
+        &Terms::Server {
+            kind,
+            mode,
+            length,
+            limits: *limits,
+        },
+    )
+}
+
+/// What is answered to an option, or `None` where it is left out.
+#[tactic(auto, unfolding(crate::specs::Answer::answered_option))]
+pub(crate) fn answered(
+    kind: Kind,
+    mode: Mode,
+    length: u64,
+    limits: &Limits,
+    option: OptionRef<'_>,
+) -> Result<Option<Known>, Refusal>
+    ensures { result ≡ answered_option kind mode length limits.now (owned_option option.entry) }
+{
+    let Some(name) = Name::of(option.name) else {
+        return Ok(None);
+    };
+    let Some(number) = number_of(option.value) else {
+        return Ok(None);
+    };
+    match name {
+        Name::Blksize => Ok(answered_blksize(number, limits.max_block)),
+        Name::Timeout => Ok(answered_timeout(number)),
+        Name::Tsize => answered_tsize(mode, kind, length, limits.max_file, number),
+    }
+}
+
+/// The block size that was asked, but no more than the server allows (RFC 2348).
+fn answered_blksize(asked: u64, max_block: u16) -> Option<Known>
+    ensures { result ≡ answered_blksize asked max_block }
+{
+    if u64::from(MIN_BLOCK) <= asked && asked <= u64::from(MAX_BLOCK) {
+        Some(Known::Blksize(max_block.min(asked as u16)))
+    } else {
+        None
+    }
+}
+
+/// The seconds that were asked (RFC 2349).
+fn answered_timeout(asked: u64) -> Option<Known>
+    ensures { result ≡ answered_timeout asked }
+{
+    if 1 <= asked && asked <= 255 {
+        Some(Known::Timeout(asked as u8))
+    } else {
+        None
+    }
+}
+
+/// The length of the file: told to a read that asks 0, and taken from a write (RFC 2349).
+fn answered_tsize(
+    mode: Mode,
+    kind: Kind,
+    length: u64,
+    max_file: u64,
+    asked: u64,
+) -> Result<Option<Known>, Refusal>
+    ensures { result ≡ answered_tsize mode kind length max_file asked }
+{
+    match (mode, kind) {
+        (Mode::Netascii, _) => Ok(None),
+        (Mode::Octet, Kind::Read) if asked == 0 => Ok(Some(Known::Tsize(length))),
+        (Mode::Octet, Kind::Read) => Ok(None),
+        (Mode::Octet, Kind::Write) if asked <= max_file => Ok(Some(Known::Tsize(asked))),
+        (Mode::Octet, Kind::Write) => Err(Refusal::TooLarge),
+    }
+}

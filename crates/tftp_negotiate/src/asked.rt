@@ -1,0 +1,53 @@
+//! What a client asks of a server.
+
+ghost use Rattle.std.specs.Prelude.{◌≡◌, ◌↔◌, IsTrue};
+ghost use Rattle.tftp_negotiate.specs.Asked.{IsAskable, IsFor, asked_tsize};
+
+use crate::known::Kind;
+use crate::limits::{MAX_BLOCK, MIN_BLOCK};
+use tftp_wire::Mode;
+
+/// The options that a client asks, each with its value. Without any, no option is sent.
+#[derive(Clone, Copy, Debug, Default, PartialEq, Eq)]
+pub struct Asked {
+    /// The largest block size, in data bytes, 8 to 65,464 (RFC 2348).
+    pub blksize: Option<u16>,
+    /// The seconds before a datagram is sent again, 1 to 255 (RFC 2349).
+    pub timeout: Option<u8>,
+    /// 0 for a read, the file's length as it travels for a write (RFC 2349). In netascii it is not
+    /// sent, since the length is not known before the file has travelled.
+    pub tsize: Option<u64>,
+}
+
+impl Asked {
+    /// Whether this can be asked for a transfer of this kind and mode. `length` is the file's, in
+    /// bytes as they travel; a read does not use it.
+    pub fn is_for(&self, kind: Kind, mode: Mode, length: u64) -> bool
+        ensures { IsTrue result ↔ IsFor self.now kind mode length }
+    {
+        let tsize = match kind {
+            Kind::Read => 0,
+            Kind::Write => length,
+        };
+        self.is_askable() && self.tsize_in(mode).is_none_or(|n| n == tsize)
+    }
+
+    /// Whether `blksize` and `timeout`, where they are there, are in their ranges.
+    pub fn is_askable(&self) -> bool
+        ensures { IsTrue result ↔ IsAskable self.now }
+    {
+        self.blksize
+            .is_none_or(|size| MIN_BLOCK <= size && size <= MAX_BLOCK)
+            && self.timeout.is_none_or(|seconds| 1 <= seconds)
+    }
+
+    /// The `tsize` that is asked in this mode: in netascii there is none.
+    pub fn tsize_in(&self, mode: Mode) -> Option<u64>
+        ensures { result ≡ asked_tsize mode self.now }
+    {
+        match mode {
+            Mode::Octet => self.tsize,
+            Mode::Netascii => None,
+        }
+    }
+}

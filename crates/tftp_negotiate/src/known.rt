@@ -1,0 +1,33 @@
+//! The options that are known, each with its value, and the two kinds of transfer.
+
+/// Which way the file goes.
+#[derive(Clone, Copy, Debug, PartialEq, Eq)]
+pub enum Kind {
+    /// From the server to the client: the request is an RRQ.
+    Read,
+    /// From the client to the server: the request is a WRQ.
+    Write,
+}
+
+/// A known option with its value.
+#[derive(Clone, Copy, Debug, PartialEq, Eq)]
+pub enum Known {
+    /// The data bytes of a full block (RFC 2348).
+    Blksize(u16),
+    /// The seconds before a datagram is sent again (RFC 2349).
+    Timeout(u8),
+    /// The bytes of the file as they travel; 0 in the request of a read (RFC 2349).
+    Tsize(u64),
+}
+
+impl Default for Known {
+    ghost use Rattle.std.specs.Prelude.{◌≡◌};
+    ghost use Rattle.tftp_negotiate.specs.declared.known.Known.TheVariants.{Tsize};
+
+    ghost is_default = { λ known. known ≡ Tsize 0 };
+
+    /// `tsize` 0, as a read asks it. It fills the places of a list that are not in use.
+    fn default() -> Known {
+        Known::Tsize(0)
+    }
+}

@@ -1,0 +1,24 @@
+//! Laws of negotiation: their contracts speak of the definitions alone, and their bodies are empty.
+
+ghost use Rattle.tftp_negotiate.specs.Laws.{NumbersArePrinted, EndsAgree, AnswersWithinRequest, TakesNothingUnasked};
+
+/// A value is a number exactly if it is the number's decimal digits, without a leading zero.
+pub fn numbers_are_printed()
+    ensures { NumbersArePrinted }
+{}
+
+/// What a server answers to what a client asked, that client takes, option by option. So the two ends
+/// agree on one list, and with it on one block size and one time to wait.
+pub fn ends_agree()
+    ensures { EndsAgree }
+{}
+
+/// A server answers no more than was requested, and no more than its limits allow.
+pub fn answers_within_request()
+    ensures { AnswersWithinRequest }
+{}
+
+/// An OACK that is taken holds no option that was not asked, and no value beyond what was asked.
+pub fn takes_nothing_unasked()
+    ensures { TakesNothingUnasked }
+{}

@@ -1,0 +1,20 @@
+//! Which number an option's value is.
+
+ghost use Rattle.std.specs.Prelude.{◌≡◌};
+ghost use Rattle.tftp_negotiate.specs.Options.{number_of};
+
+use itoa::Buffer;
+
+/// The number below 2^64 whose decimal digits are this text: no sign, no space, and no leading zero
+/// but that of `0`. The RFCs only say that values are ASCII; this project takes one spelling.
+pub(crate) fn number_of(text: &[u8]) -> Option<u64>
+    ensures { result ≡ number_of text.now }
+{
+    let number = str::from_utf8(text).ok()?.parse::<u64>().ok()?;
+    let mut buffer = Buffer::new();
+    if buffer.format(number).as_bytes() == text {
+        Some(number)
+    } else {
+        None
+    }
+}

@@ -1,0 +1,134 @@
+//! What a client takes of the options of an OACK.
+
+ghost use Rattle.std.specs.Prelude.{◌≡◌, IfOk};
+ghost use Rattle.tftp_wire.specs.Borrowed.{owned_option};
+ghost use Rattle.tftp_negotiate.specs.Agreed.{IsAgreement};
+ghost use Rattle.tftp_negotiate.specs.Agreement.{agreement, taken_option, taken_blksize, taken_timeout, taken_tsize};
+ghost use Rattle.tftp_negotiate.specs.Asked.{IsAskable};
+
+use crate::agreed::Agreed;
+use crate::asked::Asked;
+use crate::known::{Kind, Known};
+use crate::limits::MIN_BLOCK;
+use crate::name::Name;
+use crate::negotiation::{negotiate, negotiate_slice};
+use crate::number::number_of;
+use crate::refusal::Refusal;
+use crate::terms::Terms;
+use tftp_wire::{Mode, OptionRef, OptionsRef, RawOption};
+
+/// What a client that asked this agrees to of an OACK (RFC 2347, "Negotiation Protocol"). `limit` is
+/// the longest file that it reads, in bytes as they travel; a write does not use it.
+///
+/// It fails with `Repeated` where a known option stands twice, whatever its values. Else the first
+/// option from the left that is wrong decides: `NotAsked` for one that was not asked, unknown ones
+/// among them, `TooLarge` for the length of a file above the limit, `BadValue` for any other value
+/// that the request does not allow.
+pub fn check_oack(
+    asked: &Asked,
+    kind: Kind,
+    mode: Mode,
+    options: &[RawOption],
+    limit: u64,
+) -> Result<Agreed, Refusal>
+    requires { IsAskable asked.now }
+    ensures agrees { result ≡ agreement asked.now kind mode options.now limit }
+    ensures rule { IfOk result IsAgreement }
+{
+    negotiate_slice(
+        options,
+        &Terms::Client {
+            asked: *asked,
+            kind,
+            mode,
+            limit,
+        },
+    )
+}
+
+/// As [`check_oack`], for the options of a datagram.
+pub fn check_oack_ref(
+    asked: &Asked,
+    kind: Kind,
+    mode: Mode,
+    options: &OptionsRef<'_>,
+    limit: u64,
+) -> Result<Agreed, Refusal>
+    requires { IsAskable asked.now }
+    ensures agrees { result ≡ agreement asked.now kind mode options.now limit }
+    ensures rule { IfOk result IsAgreement }
+{
+    negotiate(
+        options.iter(),
+        &Terms::Client {
+            asked: *asked,
+            kind,
+            mode,
+            limit,
+        },
+    )
+}
+
+/// What is taken of an option, or why it is wrong.
+#[tactic(auto, unfolding(crate::specs::Agreement::taken_option))]
+pub(crate) fn taken(
+    asked: &Asked,
+    kind: Kind,
+    mode: Mode,
+    limit: u64,
+    option: OptionRef<'_>,
+) -> Result<Option<Known>, Refusal>
+    ensures { result ≡ taken_option asked.now kind mode limit (owned_option option.entry) }
+{
+    let number = number_of(option.value);
+    match Name::of(option.name) {
+        None => Err(Refusal::NotAsked),
+        Some(Name::Blksize) => taken_blksize(asked.blksize, number),
+        Some(Name::Timeout) => taken_timeout(asked.timeout, number),
+        Some(Name::Tsize) => taken_tsize(asked.tsize_in(mode), kind, limit, number),
+    }
+}
+
+/// A block size of 8 up to what was asked (RFC 2348).
+fn taken_blksize(asked: Option<u16>, number: Option<u64>) -> Result<Option<Known>, Refusal>
+    ensures { result ≡ taken_blksize asked number }
+{
+    let most = asked.ok_or(Refusal::NotAsked)?;
+    match number {
+        Some(n) if u64::from(MIN_BLOCK) <= n && n <= u64::from(most) => {
+            Ok(Some(Known::Blksize(n as u16)))
+        }
+        _ => Err(Refusal::BadValue),
+    }
+}
+
+/// The seconds that were asked (RFC 2349).
+fn taken_timeout(asked: Option<u8>, number: Option<u64>) -> Result<Option<Known>, Refusal>
+    ensures { result ≡ taken_timeout asked number }
+{
+    let seconds = asked.ok_or(Refusal::NotAsked)?;
+    match number {
+        Some(n) if n == u64::from(seconds) => Ok(Some(Known::Timeout(seconds))),
+        _ => Err(Refusal::BadValue),
+    }
+}
+
+/// The length of the file to be read, up to the limit, or of the file to be written, as it was told
+/// (RFC 2349).
+fn taken_tsize(
+    asked: Option<u64>,
+    kind: Kind,
+    limit: u64,
+    number: Option<u64>,
+) -> Result<Option<Known>, Refusal>
+    ensures { result ≡ taken_tsize asked kind limit number }
+{
+    let told = asked.ok_or(Refusal::NotAsked)?;
+    let number = number.ok_or(Refusal::BadValue)?;
+    match kind {
+        Kind::Read if number <= limit => Ok(Some(Known::Tsize(number))),
+        Kind::Read => Err(Refusal::TooLarge),
+        Kind::Write if number == told => Ok(Some(Known::Tsize(number))),
+        Kind::Write => Err(Refusal::BadValue),
+    }
+}

@@ -1,0 +1,32 @@
+//! Why a negotiation fails.
+
+ghost use Rattle.std.specs.Prelude.{◌≡◌};
+ghost use Rattle.tftp_negotiate.specs.Refusal.{refusal_number};
+
+use thiserror::Error;
+
+/// Why a request or an OACK is refused.
+#[derive(Clone, Copy, Debug, PartialEq, Eq, Error)]
+pub enum Refusal {
+    /// A known option stands twice (RFC 2347: "an option may only be specified once").
+    #[error("a known option stands twice")]
+    Repeated = 1,
+    /// The file is longer than this end takes.
+    #[error("the file is too large")]
+    TooLarge = 2,
+    /// An OACK holds an option that was not asked.
+    #[error("an option was not asked")]
+    NotAsked = 3,
+    /// An OACK answers an option with a value that the request does not allow.
+    #[error("an option has a value that was not asked")]
+    BadValue = 4,
+}
+
+impl Refusal {
+    /// The number of the refusal, 1 to 4.
+    pub fn number(self) -> u8
+        ensures { result ≡ refusal_number self }
+    {
+        self as u8
+    }
+}

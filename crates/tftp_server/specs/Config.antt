@@ -1,0 +1,15 @@
+-- What a server may be set to (RFC 2348, "Blocksize Option Specification", for the block sizes; the rest is our choice).
+use Rattle.std.specs.Prelude.{◌≤◌}
+use Rattle.tftp_negotiate.specs.Ranges.{IsBlockSize}
+use Rattle.tftp_server.specs.declared.config.Config.{Config}
+
+-- each number is in its range
+pub record IsConfig (config : Config) : Type 0 where
+  pub max_block : IsBlockSize config.limits.max_block
+  pub retries : config.retries ≤ 10
+  pub some : 1 ≤ config.cap
+  pub cap : config.cap ≤ 64
+
+-- what a server is set to where nothing else is said
+abbrev pub default_config : Config
+default_config = record { limits = record { max_block = 1428; max_file = 4290183239 }; retries = 5; cap = 16 }

@@ -1,0 +1,18 @@
+-- The numbers of the faults.
+use Rattle.std.specs.Prelude.{ℕ}
+use Rattle.tftp_ends.specs.declared.fault.EndFault.{EndFault}
+use Rattle.tftp_ends.specs.declared.fault.EndFault.TheVariants.{Closed}
+use Rattle.tftp_ends.specs.declared.fault.EndFault.TheVariants as ends
+use Rattle.tftp_server.specs.declared.fault.ServerFault.{ServerFault}
+use Rattle.tftp_server.specs.declared.fault.ServerFault.TheVariants.{TidInUse, NoSuchTid, Memory}
+
+-- what a server says where an end of it did not take an event: a closed one counts as none
+abbrev pub of_end : EndFault → ServerFault
+of_end Closed = NoSuchTid
+of_end ends.Memory = Memory
+
+-- the number of a fault
+abbrev pub fault_number : ServerFault → ℕ
+fault_number TidInUse = 1
+fault_number NoSuchTid = 2
+fault_number Memory = 3

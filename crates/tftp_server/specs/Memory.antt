@@ -1,0 +1,51 @@
+-- A store in memory: how it is made, and when it refuses.
+use Rattle.std.specs.Prelude.{ℕ, ◌≡◌, Bool, true, false, not, ◌&&◌, ◌⊎◌, List, [], ◌∷◌, map, None, IsSome, is_some, ⊤}
+use Rattle.std.specs.declared.vec.Vec.{Vec}
+use Rattle.tftp_file.specs.declared.fault.StoreFault.{StoreFault}
+use Rattle.tftp_file.specs.declared.fault.StoreFault.TheVariants.{Missing, Exists, Full, Memory}
+use Rattle.tftp_server.specs.Store.{FileList, Stored, Drafted, file_at, with_file}
+
+-- the files of a list, each with its bytes
+abbrev pub contents : {A : Type 0} → List (List ℕ × Vec ℕ A) → FileList
+contents files = map (λ e. (e.0, e.1.items)) files
+
+-- the files put in one after the other, each at its place in the paths' order
+abbrev pub put_all : FileList → FileList → FileList
+put_all held [] = held
+put_all held (e ∷ files) = put_all (with_file held e.0 e.1) files
+
+-- the files in the order of their paths
+abbrev pub in_path_order : FileList → FileList
+in_path_order files = put_all [] files
+
+-- no path stands twice
+abbrev pub has_distinct_paths : FileList → Bool
+has_distinct_paths [] = true
+has_distinct_paths (e ∷ files) = not (is_some (file_at e.0 files)) && has_distinct_paths files
+
+-- the store, told to refuse its next append or commit or told no more
+abbrev pub with_told : Stored → Bool → Stored
+with_told stored told = record stored { refuses = told }
+
+-- an opening fails where there is no such file, or for want of memory
+abbrev pub MayRefuseOpen : Stored → List ℕ → StoreFault → Type 0
+MayRefuseOpen stored path Missing = file_at path stored.files ≡ None
+MayRefuseOpen stored path Memory = ⊤
+MayRefuseOpen stored path _ = ⊥
+
+-- a draft is refused where there is such a file
+abbrev pub MayRefuseBegin : Stored → List ℕ → StoreFault → Type 0
+MayRefuseBegin stored path Exists = IsSome (file_at path stored.files)
+MayRefuseBegin stored path _ = ⊥
+
+-- an append fails as it was told, or for want of memory
+abbrev pub MayRefuseAppend : Stored → Drafted → List ℕ → StoreFault → Type 0
+MayRefuseAppend stored draft bytes Full = stored.refuses ≡ true
+MayRefuseAppend stored draft bytes Memory = stored.refuses ≡ false
+MayRefuseAppend stored draft bytes _ = ⊥
+
+-- a commit fails as it was told, where there is such a file, or with Full for want of memory
+abbrev pub MayRefuseCommit : Stored → List ℕ → Drafted → StoreFault → Type 0
+MayRefuseCommit stored path draft Exists = (stored.refuses ≡ false) × IsSome (file_at path stored.files)
+MayRefuseCommit stored path draft Full = (stored.refuses ≡ true) ⊎ (file_at path stored.files ≡ None)
+MayRefuseCommit stored path draft _ = ⊥

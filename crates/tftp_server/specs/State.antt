@@ -1,0 +1,59 @@
+-- The state of a server: what it is set to, its store, and the transfers that it holds.
+use Rattle.std.specs.Prelude.{ℕ, Bool, false, not, List, Option, Some, None, is_some, if◌then◌else◌}
+use Rattle.std.specs.BTreeMap.{insert_entry, is_at}
+use Rattle.std.specs.Ordering.{nat_cmp}
+use Rattle.std.specs.Map.{lookup, remove_entry, set_value}
+use Rattle.tftp_file.specs.declared.files.Files.{Files}
+use Rattle.tftp_file.specs.declared.files.Files.TheVariants.{Source, Sink}
+use Rattle.tftp_ends.specs.declared.record.Record.{Record}
+use Rattle.tftp_ends.specs.End.{EndState, record_of, outcome_of}
+use Rattle.tftp_server.specs.declared.config.Config.{Config}
+
+-- a held transfer: its end, its source or draft, and the path of the file
+pub record Held (F D : Type 0) : Type 0 where
+  pub end : EndState
+  pub files : Files F D
+  pub path : List ℕ
+
+-- all of a server; the transfers stand in rising order of their identifiers
+pub record ServerState (S F D : Type 0) : Type 0 where
+  pub config : Config
+  pub store : S
+  pub held : List (ℕ × Held F D)
+
+module _ {F D : Type 0} where
+  -- the transfer has closed
+  abbrev pub is_closed : Held F D → Bool
+  is_closed held = is_some (outcome_of held.end.phase)
+
+  -- there is a transfer, and it has not closed
+  abbrev pub is_open : Option (Held F D) → Bool
+  is_open None = false
+  is_open (Some held) = not (is_closed held)
+
+  -- a file that is read
+  abbrev pub IsRead : Files F D → Type 0
+  IsRead (Source source) = Unit {0}
+  IsRead (Sink draft) = ⊥
+
+  -- what is handed out of a transfer that is taken: no transfer has a draft yet
+  abbrev pub taken_of : {K : Type 0} → Option (Held F D) → Option (Record × Option K)
+  taken_of None = None
+  taken_of (Some held) = if is_closed held then Some (record_of held.end, None) else None
+
+module _ {T : Type 0} where
+  -- the transfer at an identifier
+  abbrev pub at : ℕ → List (ℕ × T) → Option T
+  at tid held = lookup (is_at (nat_cmp tid)) held
+
+  -- the transfers with one more
+  abbrev pub with_new : ℕ → T → List (ℕ × T) → List (ℕ × T)
+  with_new tid transfer held = insert_entry nat_cmp held tid transfer
+
+  -- the transfers with this in the place of the one at the identifier
+  abbrev pub with_next : ℕ → T → List (ℕ × T) → List (ℕ × T)
+  with_next tid transfer held = set_value (is_at (nat_cmp tid)) held transfer
+
+  -- the transfers without the one at the identifier
+  abbrev pub without : ℕ → List (ℕ × T) → List (ℕ × T)
+  without tid held = remove_entry (is_at (nat_cmp tid)) held

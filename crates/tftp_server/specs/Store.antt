@@ -1,0 +1,88 @@
+-- What a store and its drafts are, and what their calls leave.
+use Rattle.std.specs.Prelude.{ℕ, ◌≡◌, min, Bool, false, List, [], length, Option, Some, None, IsSome, option_map, Result, Ok, Err, ⊤}
+use Rattle.std.specs.Cmp.Lexicographic.{slice_cmp}
+use Rattle.std.specs.Ordering.{nat_cmp}
+use Rattle.std.specs.declared.cmp.Ordering.{Ordering}
+use Rattle.std.specs.BTreeMap.{insert_entry, is_at}
+use Rattle.std.specs.Map.{lookup}
+use Rattle.tftp_wire.specs.declared.mode.Mode.{Mode}
+use Rattle.tftp_file.specs.Netascii.{wire_text}
+use Rattle.tftp_file.specs.Sink.{Holding}
+use Rattle.tftp_file.specs.declared.fault.StoreFault.{StoreFault}
+use Rattle.tftp_file.specs.declared.fault.StoreFault.TheVariants.{Missing, Exists, Memory}
+use Rattle.tftp_server.specs.declared.store.Opening.{Opening}
+
+-- files by path, in the paths' order
+abbrev pub FileList : Type 0
+FileList = List (List ℕ × List ℕ)
+
+-- the meaning of a store: its files, and whether it was told to refuse its next append or commit
+pub record Stored : Type 0 where
+  pub files : List (List ℕ × List ℕ)
+  pub refuses : Bool
+
+-- the meaning of a draft: its bytes, and whether they are committed
+pub record Drafted : Type 0 where
+  pub bytes : List ℕ
+  pub committed : Bool
+
+-- a draft as it begins
+abbrev pub new_draft : Drafted
+new_draft = record { bytes = []; committed = false }
+
+-- the order of paths
+abbrev pub path_cmp : List ℕ → List ℕ → Ordering
+path_cmp = slice_cmp nat_cmp
+
+-- the file at a path
+abbrev pub file_at : List ℕ → FileList → Option (List ℕ)
+file_at path files = lookup (is_at (path_cmp path)) files
+
+-- the files with one more
+abbrev pub with_file : FileList → List ℕ → List ℕ → FileList
+with_file files path bytes = insert_entry path_cmp files path bytes
+
+-- how long a file is on the wire, or one more than any block size carries where it is longer (65,535 blocks of 65,464 bytes, the last one short)
+abbrev pub measured : Mode → List ℕ → ℕ
+measured mode bytes = min (length (wire_text mode bytes)) 4290183240
+
+-- a store and one of its drafts, as a sink
+abbrev pub holding_of : Option Stored → Option Drafted → Option Holding
+holding_of (Some store) (Some draft) = Some (record { bytes = draft.bytes; committed = draft.committed; refuses = store.refuses })
+holding_of (Some store) None = None
+holding_of None draft = None
+
+-- the files, where they are told
+abbrev pub files_of : Option Stored → Option FileList
+files_of stored = option_map (λ s. s.files) stored
+
+module _ {S : Type 0} (left : S → Option (List ℕ)) where
+  -- a file was opened: its source has all of its wire text left
+  pub record IsOpening (mode : Mode) (bytes : List ℕ) (opening : Opening S) : Type 0 where
+    pub source : left opening.source ≡ Some (wire_text mode bytes)
+    pub length : opening.length ≡ measured mode bytes
+
+  -- what an opening answers, by what the store holds
+  abbrev pub Opens : Option Stored → List ℕ → Mode → Result (Opening S) StoreFault → Type 0
+  Opens None path mode result = ⊤
+  Opens (Some stored) path mode (Ok opening) = (bytes : List ℕ) × (file_at path stored.files ≡ Some bytes) × IsOpening mode bytes opening
+  Opens (Some stored) path mode (Err Missing) = file_at path stored.files ≡ None
+  Opens (Some stored) path mode (Err Memory) = IsSome (file_at path stored.files)
+  Opens (Some stored) path mode (Err _) = ⊤
+
+module _ {K : Type 0} (drafted : K → Option Drafted) where
+  -- what the beginning of a draft answers, by what the store holds
+  abbrev pub Begins : Option Stored → Option Stored → List ℕ → Result K StoreFault → Type 0
+  Begins None after path result = ⊤
+  Begins (Some before) after path (Ok draft) = (after ≡ Some before) × (file_at path before.files ≡ None) × (drafted draft ≡ Some new_draft)
+  Begins (Some before) after path (Err Exists) = (after ≡ Some before) × IsSome (file_at path before.files)
+  Begins (Some before) after path (Err Memory) = (after ≡ Some before) × (file_at path before.files ≡ None)
+  Begins (Some before) after path (Err _) = after ≡ Some before
+
+-- what a commit leaves of the files: on success the draft's bytes are the new file at the path
+abbrev pub Puts : {A : Type 0} → Option Stored → Option Stored → Option Drafted → List ℕ → Result A StoreFault → Type 0
+Puts (Some before) after (Some draft) path (Ok done) =
+    (files_of after ≡ Some (with_file before.files path draft.bytes)) × (file_at path before.files ≡ None)
+Puts before after draft path (Ok done) = ⊤
+Puts (Some before) after draft path (Err Exists) = (files_of after ≡ Some before.files) × IsSome (file_at path before.files)
+Puts before after draft path (Err _) = files_of after ≡ files_of before

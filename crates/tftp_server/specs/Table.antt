@@ -1,0 +1,24 @@
+-- A table as the list of its values with their identifiers, in rising order.
+use Rattle.std.specs.Prelude.{ℕ, ◌≡◌, ◌≢◌, List, [], ◌∷◌, Option, Some, None, IsSome}
+use Rattle.std.specs.List.{AllByRecursion}
+use Rattle.slab.specs.Slab.{Slab, get}
+
+-- an entry whose key has a value, before others
+abbrev pub with_found : {T : Type 0} → ℕ → Option T → List (ℕ × T) → List (ℕ × T)
+with_found tid None others = others
+with_found tid (Some value) others = (tid, value) ∷ others
+
+-- the values under the keys of the index
+abbrev pub joined : {T : Type 0} → List (ℕ × ℕ) → Slab T → List (ℕ × T)
+joined [] slots = []
+joined (e ∷ index) slots = with_found e.0 (get slots e.1) (joined index slots)
+
+-- each key of the index has a value, and no two identifiers share one
+abbrev pub IsJoined : {T : Type 0} → List (ℕ × ℕ) → Slab T → Type 0
+IsJoined [] slots = Unit {0}
+IsJoined (e ∷ index) slots = IsSome (get slots e.1) × AllByRecursion (λ f. f.1 ≢ e.1) index × IsJoined index slots
+
+-- the key that goes with what a look-up in the index has found: a vacant one where it has found nothing
+abbrev pub IsKeyFor : {T : Type 0} → Option ℕ → ℕ → Slab T → Type 0
+IsKeyFor None key slots = get slots key ≡ None
+IsKeyFor (Some found) key slots = key ≡ found

@@ -1,0 +1,55 @@
+//! What a server is set to.
+
+ghost use Rattle.std.specs.Prelude.{◌↔◌, IsTrue};
+ghost use Rattle.tftp_server.specs.Config.{IsConfig};
+
+use tftp_negotiate::{Limits, MAX_BLOCK, MIN_BLOCK};
+
+/// Most retries of an end.
+const MAX_RETRIES: u8 = 10;
+
+/// Most transfers of a table.
+const MAX_CAP: u8 = 64;
+
+/// What a server allows its transfers, and how many it holds.
+#[derive(Clone, Copy, Debug, PartialEq, Eq)]
+pub struct Config {
+    /// The largest block size that it answers and the longest file that it takes.
+    pub limits: Limits,
+    /// How often an end sends its newest datagram again without progress, 0 to 10.
+    pub retries: u8,
+    /// How many transfers it holds at once, 1 to 64; closed ones count until they are taken.
+    pub cap: u8,
+}
+
+impl Config {
+    /// Whether each number is in its range.
+    pub fn is_valid(&self) -> bool
+        ensures { IsTrue result ↔ IsConfig self.now }
+    {
+        MIN_BLOCK <= self.limits.max_block
+            && self.limits.max_block <= MAX_BLOCK
+            && self.retries <= MAX_RETRIES
+            && 1 <= self.cap
+            && self.cap <= MAX_CAP
+    }
+}
+
+impl Default for Config {
+    ghost use Rattle.std.specs.Prelude.{◌≡◌};
+    ghost use Rattle.tftp_server.specs.Config.{default_config};
+
+    ghost is_default = { λ c. c ≡ default_config };
+
+    /// Blocks of 1,428 bytes at most, any file that blocks can carry, 5 retries and 16 transfers.
+    fn default() -> Config {
+        Config {
+            limits: Limits {
+                max_block: 1_428,
+                max_file: 4_290_183_239,
+            },
+            retries: 5,
+            cap: 16,
+        }
+    }
+}

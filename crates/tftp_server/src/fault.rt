@@ -1,0 +1,44 @@
+//! Why a server did not take an event.
+
+ghost use Rattle.std.specs.Prelude.{◌≡◌};
+ghost use Rattle.tftp_server.specs.Fault.{fault_number};
+
+use tftp_ends::EndFault;
+use thiserror::Error;
+
+/// Why an event was not taken. Nothing has changed.
+#[derive(Clone, Copy, Debug, PartialEq, Eq, Error)]
+pub enum ServerFault {
+    /// A transfer with this identifier is held. This is tested first.
+    #[error("the transfer identifier is in use")]
+    TidInUse = 1,
+    /// No open transfer with this identifier is held.
+    #[error("no open transfer has this identifier")]
+    NoSuchTid = 2,
+    /// Memory was wanting.
+    #[error("out of memory")]
+    Memory = 3,
+}
+
+impl ServerFault {
+    /// The number of the fault, 1 to 3.
+    pub fn number(self) -> u8
+        ensures { result ≡ fault_number self }
+    {
+        self as u8
+    }
+}
+
+impl From<EndFault> for ServerFault {
+    ghost use Rattle.std.specs.Prelude.{◌≡◌};
+    ghost use Rattle.tftp_server.specs.Fault.{of_end};
+
+    ghost from_gives = { λ fault server. server ≡ of_end fault };
+
+    fn from(fault: EndFault) -> ServerFault {
+        match fault {
+            EndFault::Closed => ServerFault::NoSuchTid,
+            EndFault::Memory => ServerFault::Memory,
+        }
+    }
+}

@@ -1,0 +1,26 @@
+//! A TFTP server without IO: its request port and its table of transfers (RFC 1350, section 4;
+//! RFC 2347).
+//!
+//! It opens no socket, reads no clock and touches no file but through its [`Store`].
+//!
+//! Begin with [`Server`]: each datagram that comes to its port of requests, or to the port of one of
+//! its transfers, is one call. No call changes another transfer.
+#![tactic(auto)]
+
+mod config;
+mod fault;
+mod memory;
+mod opened;
+mod server;
+mod store;
+mod table;
+#[cfg(test)]
+mod tests;
+mod transfer;
+
+pub use config::Config;
+pub use fault::ServerFault;
+pub use memory::{MemDraft, MemStore};
+pub use opened::Opened;
+pub use server::Server;
+pub use store::{Opening, Store};

@@ -1,0 +1,226 @@
+//! A store that holds its files in memory.
+
+ghost use Rattle.std.specs.Prelude.{◌≡◌, IfOk, IfErr, option_map, count_by, true, false, List, ℕ, OnOk, OnErr};
+ghost use Rattle.tftp_server.specs.Store.{file_at, measured, with_file};
+ghost use Rattle.tftp_server.specs.Memory.{contents, in_path_order, has_distinct_paths, with_told};
+ghost use Rattle.tftp_file.specs.Lines.{is_line_byte};
+
+use crate::store::{Opening, Store};
+use std::alloc::{AllocError, Global};
+use std::collections::BTreeMap;
+use std::marker::Model;
+use tftp_file::{MAX_WIRE, MemSource, Path, StoreFault};
+use tftp_wire::{Bytes, Mode};
+
+/// A store in memory. Contracts see its files in the order of their paths, and whether it was told to
+/// refuse its next append or commit.
+#[derive(Drop)]
+pub struct MemStore {
+    files: BTreeMap<Path, Bytes>,
+    refuses_next: bool,
+}
+
+impl Model for MemStore {
+    ghost use Rattle.tftp_server.specs.Store.{Stored};
+
+    ghost Value = { Stored };
+
+    ghost view = { λ s. record { files = s.files.entries; refuses = s.refuses_next } };
+}
+
+impl MemStore {
+    /// A store of these files, whose paths are distinct. It fails for want of memory alone, with
+    /// `Memory`.
+    pub fn new(alloc: Global, files: Vec<(Path, Vec<u8>)>) -> Result<MemStore, StoreFault>
+        requires { has_distinct_paths (contents files.items) ≡ true }
+        ensures files { IfOk result (λ store. store.files ≡ in_path_order (contents files.items)) }
+        ensures found { IfOk result (λ store. (path : List ℕ) → file_at path store.files ≡ file_at path (contents files.items)) }
+        ensures told { IfOk result (λ store. store.refuses ≡ false) }
+        ensures memory { IfErr result (λ fault. fault ≡ StoreFault.Memory) }
+    {
+        Ok(MemStore {
+            files: in_path_order(alloc, files)?,
+            refuses_next: false,
+        })
+    }
+
+    /// The bytes of the file at the path, if there is one.
+    pub fn file(&self, path: &Path) -> Option<&[u8]>
+        ensures { option_map (λ bytes. bytes.now) result ≡ file_at path.now self.now.files }
+    {
+        match self.files.get(path) {
+            Some(bytes) => Some(bytes.as_slice()),
+            None => None,
+        }
+    }
+
+    /// Tells the store to refuse its next append or commit with `Full`, or takes that back.
+    pub fn refuse_next(&mut self, told: bool)
+        ensures { self.new ≡ with_told self.old told }
+    {
+        self.refuses_next = told;
+    }
+
+    /// Whether the next append or commit was told to be refused.
+    pub fn refuses(&self) -> bool
+        ensures { result ≡ self.now.refuses }
+    {
+        self.refuses_next
+    }
+}
+
+/// A file that is being written to a [`MemStore`]. Contracts see its bytes and whether they are
+/// committed.
+#[derive(Debug, Drop)]
+pub struct MemDraft {
+    bytes: Vec<u8>,
+    is_committed: bool,
+}
+
+impl Model for MemDraft {
+    ghost use Rattle.tftp_server.specs.Store.{Drafted};
+
+    ghost Value = { Drafted };
+
+    ghost view = { λ d. record { bytes = d.bytes.items; committed = d.is_committed } };
+}
+
+impl MemDraft {
+    /// The bytes that it holds.
+    pub fn as_bytes(&self) -> &[u8]
+        ensures { result.now ≡ self.now.bytes }
+    {
+        self.bytes.as_slice()
+    }
+
+    /// Whether they are committed.
+    pub fn is_committed(&self) -> bool
+        ensures { result ≡ self.now.committed }
+    {
+        self.is_committed
+    }
+}
+
+/// How long the bytes are on the wire, or `MAX_WIRE + 1` where they are longer.
+fn measure(bytes: &[u8], mode: Mode) -> u64
+    ensures { result ≡ measured mode bytes.now }
+{
+    let count = match mode {
+        Mode::Octet => bytes.len(),
+        Mode::Netascii => bytes.len() + line_byte_count(bytes),
+    };
+    (count as u64).min(MAX_WIRE + 1)
+}
+
+/// How many of the bytes are LF or CR, which netascii writes as pairs.
+fn line_byte_count(bytes: &[u8]) -> usize
+    ensures { result ≡ count_by is_line_byte bytes.now }
+{
+    bytes
+        .iter()
+        .filter(|byte| **byte == b'\n' || **byte == b'\r')
+        .count()
+}
+
+impl Store for MemStore {
+    ghost use Rattle.std.specs.Prelude.{Some};
+    ghost use Rattle.tftp_server.specs.Memory.{MayRefuseOpen, MayRefuseBegin, MayRefuseAppend, MayRefuseCommit};
+
+    type Source = MemSource;
+
+    type Draft = MemDraft;
+
+    ghost stored = { λ s. Some s };
+
+    ghost drafted = { λ d. Some d };
+
+    ghost may_refuse_open = { MayRefuseOpen };
+
+    ghost may_refuse_begin = { MayRefuseBegin };
+
+    ghost may_refuse_append = { MayRefuseAppend };
+
+    ghost may_refuse_commit = { MayRefuseCommit };
+
+    fn open(
+        &self,
+        alloc: Global,
+        path: &Path,
+        mode: Mode,
+    ) -> Result<Opening<MemSource>, StoreFault> {
+        let Some(bytes) = self.file(path) else {
+            return Err(StoreFault::Missing);
+        };
+        let Ok(source) = MemSource::new(alloc, bytes, mode) else {
+            return Err(StoreFault::Memory);
+        };
+        Ok(Opening {
+            source,
+            length: measure(bytes, mode),
+        })
+    }
+
+    fn begin(&mut self, alloc: Global, path: &Path) -> Result<MemDraft, StoreFault> {
+        if self.files.contains_key(path) {
+            return Err(StoreFault::Exists);
+        }
+        Ok(MemDraft {
+            bytes: Vec::new(alloc),
+            is_committed: false,
+        })
+    }
+
+    fn append(&mut self, draft: &mut MemDraft, bytes: &[u8]) -> Result<(), StoreFault> {
+        if self.refuses_next {
+            self.refuses_next = false;
+            return Err(StoreFault::Full);
+        }
+        draft.bytes.extend_from_slice(bytes)?;
+        draft.is_committed = false;
+        Ok(())
+    }
+
+    fn commit(&mut self, path: &Path, draft: &mut MemDraft) -> Result<(), StoreFault> {
+        if self.refuses_next {
+            self.refuses_next = false;
+            return Err(StoreFault::Full);
+        }
+        if self.files.contains_key(path) {
+            return Err(StoreFault::Exists);
+        }
+        let Ok(()) = put_copy(&mut self.files, path, &draft.bytes) else {
+            return Err(StoreFault::Full);
+        };
+        draft.is_committed = true;
+        Ok(())
+    }
+}
+
+/// The files in the order of their paths.
+fn in_path_order(
+    alloc: Global,
+    files: Vec<(Path, Vec<u8>)>,
+) -> Result<BTreeMap<Path, Bytes>, AllocError>
+    ensures { IfOk result (λ held. held.entries ≡ in_path_order (contents files.items)) }
+{
+    let mut held = BTreeMap::new(alloc);
+    for (path, bytes) in files {
+        held.insert(path, Bytes::from(bytes))?;
+    }
+    Ok(held)
+}
+
+/// Puts a copy of the bytes into the files. After a refusal they are as before.
+fn put_copy(
+    files: &mut BTreeMap<Path, Bytes>,
+    path: &Path,
+    bytes: &Vec<u8>,
+) -> Result<(), AllocError>
+    ensures ok { OnOk result (files.new.entries ≡ with_file files.old.entries path.now bytes.now.items) }
+    ensures err { OnErr result (files.new.entries ≡ files.old.entries) }
+{
+    let path = path.clone()?;
+    let bytes = bytes.clone()?;
+    files.insert(path, Bytes::from(bytes))?;
+    Ok(())
+}

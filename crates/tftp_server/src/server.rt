@@ -1,0 +1,164 @@
+//! A server: its store and its transfers.
+
+ghost use Rattle.std.specs.Prelude.{◌≡◌, ◌++◌, [], option_map, is_some, if◌then◌else◌, IfOk, IfErr, OnOk, OnErr};
+ghost use Rattle.std.specs.Map.{keys_of};
+ghost use Rattle.tftp_ends.specs.End.{record_of};
+ghost use Rattle.tftp_server.specs.Config.{IsConfig};
+ghost use Rattle.tftp_server.specs.State.{at, taken_of, without};
+ghost use Rattle.tftp_server.specs.Steps.{TimesOut, TimeoutFault, TakesDatagram, DatagramFault, KeepsHeld};
+ghost use Rattle.std.specs.Borrow.{Lends, sem};
+
+use crate::config::Config;
+use crate::fault::ServerFault;
+use crate::store::Store;
+use crate::table::Table;
+use crate::transfer::Transfer;
+use std::alloc::Global;
+use std::marker::Model;
+use tftp_ends::{Endpoint, Record, Step};
+
+/// A server: what it is set to, its store and the transfers that it holds.
+///
+/// Contracts see the transfers in rising order of their identifiers.
+#[derive(Drop)]
+pub struct Server<S: Store> {
+    alloc: Global,
+    config: Config,
+    store: S,
+    table: Table<Transfer<S::Source>>,
+}
+
+impl<S: Store> Model for Server<S> {
+    ghost use Rattle.tftp_server.specs.State.{ServerState};
+    ghost use Rattle.tftp_server.specs.Config.{IsConfig};
+    ghost use Rattle.tftp_file.specs.Memory.{MemSinkState};
+
+    ghost Value = { ServerState S S.Source MemSinkState };
+
+    ghost view = { λ s. record { config = s.config; store = s.store; held = s.table } };
+
+    ghost invariant = { λ s. IsConfig s.config };
+}
+
+impl<S: Store> Server<S> {
+    ghost use Rattle.tftp_server.specs.contracts.server.Server.{the_row};
+
+    /// A server without transfers. It fails for want of memory alone.
+    pub fn new(alloc: Global, config: Config, store: S) -> Result<Server<S>, ServerFault>
+        requires { IsConfig config }
+        ensures config { IfOk result (λ server. server.config ≡ config) }
+        ensures store { IfOk result (λ server. server.store ≡ store) }
+        ensures empty { IfOk result (λ server. server.held ≡ []) }
+        ensures memory { IfErr result (λ fault. fault ≡ ServerFault.Memory) }
+    {
+        Ok(Server {
+            alloc,
+            config,
+            store,
+            table: Table::new(alloc),
+        })
+    }
+
+    /// How far the transfer at the identifier came, closed or not, if one is held.
+    pub fn record(&self, tid: u16) -> Option<Record>
+        ensures { result ≡ option_map (λ held. record_of held.end) (at tid self.now.held) }
+    {
+        match self.table.get(tid) {
+            Some(transfer) => Some(transfer.record()),
+            None => None,
+        }
+    }
+
+    /// The transfer at the identifier takes a timeout. At most one datagram is appended to `out`, for
+    /// where [`Step::to`] says.
+    ///
+    /// `NoSuchTid` where no open transfer has the identifier; `Memory` only where a datagram is to be
+    /// sent. After a fault nothing has changed.
+    pub fn on_timeout(&mut self, tid: u16, out: &mut Vec<u8>) -> Result<Step, ServerFault>
+        ensures steps { IfOk result (λ step. TimesOut tid self.old.held self.new.held step out.old.items out.new.items) }
+        ensures rest { self.new ≡ record self.old { held = self.new.held } }
+        ensures fault { IfErr result (TimeoutFault (at tid self.old.held)) }
+        ensures err { OnErr result ((self.new ≡ self.old) × (out.new.items ≡ out.old.items)) }
+    {
+        let Some(transfer) = self.table.get_mut(tid) else {
+            return Err(ServerFault::NoSuchTid);
+        };
+        match transfer.on_timeout(out) {
+            Ok(step) => Ok(step),
+            Err(fault) => Err(ServerFault::from(fault)),
+        }
+    }
+
+    /// The transfer at the identifier takes a datagram that came from there. At most one datagram is
+    /// appended to `out`, for where [`Step::to`] says.
+    ///
+    /// `NoSuchTid` where no open transfer has the identifier; `Memory` only where a datagram is to be
+    /// sent. After a fault nothing has changed.
+    pub fn on_datagram(
+        &mut self,
+        tid: u16,
+        from: Endpoint,
+        bytes: &[u8],
+        out: &mut Vec<u8>,
+    ) -> Result<Step, ServerFault>
+        ensures takes { IfOk result (λ step. TakesDatagram S.Source.left S.Source.may_fail tid from bytes.now self.old.held self.new.held step out.old.items out.new.items) }
+        ensures rest { self.new ≡ record self.old { held = self.new.held } }
+        ensures fault { IfErr result (DatagramFault from bytes.now (at tid self.old.held)) }
+        ensures err { OnErr result (KeepsHeld S.Source.left S.Source.may_fail tid (at tid self.old.held) self.old.held self.new.held × (out.new.items ≡ out.old.items)) }
+    {
+        let Some(transfer) = self.table.get_mut(tid) else {
+            return Err(ServerFault::NoSuchTid);
+        };
+        match transfer.on_datagram(from, bytes, out) {
+            Ok(step) => Ok(step),
+            Err(fault) => Err(ServerFault::from(fault)),
+        }
+    }
+
+    /// Appends the identifiers of all transfers that are held, in rising order, closed ones among
+    /// them. It fails for want of memory alone, and then appends none.
+    pub fn tids(&self, out: &mut Vec<u16>) -> Result<(), ServerFault>
+        ensures ok { OnOk result (out.new.items ≡ out.old.items ++ keys_of self.now.held) }
+        ensures err { OnErr result (out.new.items ≡ out.old.items) }
+        ensures memory { IfErr result (λ fault. fault ≡ ServerFault.Memory) }
+    {
+        match self.table.append_tids(out) {
+            Ok(()) => Ok(()),
+            Err(_) => Err(ServerFault::Memory),
+        }
+    }
+
+    /// The store.
+    pub fn store(&self) -> &S
+        ensures { result.now ≡ self.now.store }
+    {
+        &self.store
+    }
+
+    /// The store, to be changed. No transfer changes.
+    pub fn store_mut(&mut self) -> &mut S
+        ensures* writes_back { sem 𝓛 (Lends (the_row S.row S.Source.row S.Draft.row S.Store S.Source.Source) S.row self.entry result (λ w. record self.old { store = w })) }
+        ensures value { result.now ≡ self.old.store }
+    {
+        &mut self.store
+    }
+}
+
+impl<S: Store + Drop> Server<S> {
+    /// Takes a closed transfer out of the table, with the draft of a write, and hands out how far it
+    /// came. Nothing changes if none with this identifier is held, or it has not closed.
+    pub fn take_closed(&mut self, tid: u16) -> Option<(Record, Option<S::Draft>)>
+        ensures taken { result ≡ taken_of (at tid self.old.held) }
+        ensures held { self.new.held ≡ (if is_some result then without tid self.old.held else self.old.held) }
+        ensures rest { self.new ≡ record self.old { held = self.new.held } }
+    {
+        match self.table.get(tid) {
+            Some(transfer) if transfer.is_closed() => {}
+            _ => return None,
+        }
+        let Some(transfer) = self.table.remove(tid) else {
+            unreachable!()
+        };
+        Some((transfer.record(), None))
+    }
+}

@@ -1,0 +1,89 @@
+//! Where a server's files are: they are read as sources, and written as drafts.
+
+ghost use Rattle.std.specs.Prelude.{◌≡◌, ◌≢◌, Err, IfErr, List, ℕ, Option};
+ghost use Rattle.tftp_file.specs.Sink.{Appends, Commits};
+ghost use Rattle.tftp_file.specs.declared.fault.StoreFault.{StoreFault};
+ghost use Rattle.tftp_server.specs.Store.{Stored, Drafted, Opens, Begins, holding_of, files_of, Puts};
+
+use std::alloc::Global;
+use tftp_file::{Path, Source, StoreFault};
+use tftp_wire::Mode;
+
+/// A file that was opened to be read.
+#[derive(Drop)]
+pub struct Opening<S> {
+    /// Gives its wire text.
+    pub source: S,
+    /// The length of that text in bytes, or one more than any block size can carry where it is longer.
+    pub length: u64,
+}
+
+/// The files of a server: each is read as a source, or written as a draft and then committed.
+///
+/// A store over memory tells what it holds; one over real files tells nothing, and then its calls
+/// promise only which answers they give. Some stores can be told to refuse their next append or
+/// commit: it answers `Full`, changes nothing else, and the store is told no more. Only a commit
+/// changes the files.
+pub trait Store {
+    /// A file that is read.
+    type Source: Source + Drop;
+
+    /// A file that is written and not yet committed.
+    type Draft: Drop;
+
+    /// Its files, and whether its next append or commit was told to be refused, where it tells them.
+    ghost stored: { Self → Option Stored };
+
+    /// What a draft holds, where it tells it.
+    ghost drafted: { Self.Draft → Option Drafted };
+
+    /// An opening of the path may answer this fault.
+    ghost may_refuse_open: { Self → List ℕ → StoreFault → Type 0 } = { λ _ _ _. Unit {0} };
+
+    /// A draft of the path may be refused with this fault.
+    ghost may_refuse_begin: { Self → List ℕ → StoreFault → Type 0 } = { λ _ _ _. Unit {0} };
+
+    /// An append of these bytes may answer this fault.
+    ghost may_refuse_append: { Self → Self.Draft → List ℕ → StoreFault → Type 0 } = { λ _ _ _ _. Unit {0} };
+
+    /// A commit under the path may answer this fault.
+    ghost may_refuse_commit: { Self → List ℕ → Self.Draft → StoreFault → Type 0 } = { λ _ _ _ _. Unit {0} };
+
+    /// Opens the file to be read in the mode.
+    ///
+    /// `Missing` if there is no such file; `Memory` only where there is one.
+    fn open(
+        &self,
+        alloc: Global,
+        path: &Path,
+        mode: Mode,
+    ) -> Result<Opening<Self::Source>, StoreFault>
+        ensures opens { Opens Self.Source.left (stored self.now) path.now mode result }
+        ensures refused { IfErr result (may_refuse_open self.now path.now) };
+
+    /// Begins a draft of a new file, which is empty.
+    ///
+    /// `Exists` if there is such a file; `Memory` only where there is none.
+    fn begin(&mut self, alloc: Global, path: &Path) -> Result<Self::Draft, StoreFault>
+        ensures begins { Begins drafted (stored self.old) (stored self.new) path.now result }
+        ensures refused { IfErr result (may_refuse_begin self.old path.now) };
+
+    /// Puts the bytes at the end of a draft.
+    ///
+    /// After `Memory` nothing has changed. After another fault some first of the bytes may have been
+    /// added, and none before them has gone.
+    fn append(&mut self, draft: &mut Self::Draft, bytes: &[u8]) -> Result<(), StoreFault>
+        ensures appends { Appends (holding_of (stored self.old) (drafted draft.old)) (holding_of (stored self.new) (drafted draft.new)) bytes.now result }
+        ensures files { files_of (stored self.new) ≡ files_of (stored self.old) }
+        ensures refused { IfErr result (may_refuse_append self.old draft.old bytes.now) };
+
+    /// Makes what a draft holds the file at the path, for good.
+    ///
+    /// `Exists` if there is such a file by now. After a fault no file and no byte has changed. Where
+    /// memory is wanting the fault is `Full`.
+    fn commit(&mut self, path: &Path, draft: &mut Self::Draft) -> Result<(), StoreFault>
+        ensures commits { Commits (holding_of (stored self.old) (drafted draft.old)) (holding_of (stored self.new) (drafted draft.new)) result }
+        ensures files { Puts (stored self.old) (stored self.new) (drafted draft.old) path.now result }
+        ensures refused { IfErr result (may_refuse_commit self.old path.now draft.old) }
+        ensures not_memory { result ≢ Err StoreFault.Memory };
+}

@@ -1,0 +1,134 @@
+//! The transfers of a server by their identifiers.
+
+ghost use Rattle.std.specs.Prelude.{◌≡◌, ◌++◌, [], length, option_copied, is_some, None, OnOk, OnErr};
+ghost use Rattle.std.specs.Map.{lookup, keys_of, remove_entry, set_value};
+ghost use Rattle.std.specs.Borrow.{LendsIf, sem};
+ghost use Rattle.std.specs.Option.{option_copied_mut};
+ghost use Rattle.tftp_server.specs.Table.{IsKeyFor};
+ghost use Rattle.std.specs.BTreeMap.{insert_entry, is_at};
+ghost use Rattle.std.specs.Ordering.{nat_cmp};
+
+use slab::Slab;
+use std::alloc::{AllocError, Global};
+use std::collections::BTreeMap;
+use std::marker::Model;
+
+/// Values by identifier. Contracts see the list of them in rising order of identifier.
+#[derive(Drop)]
+pub(crate) struct Table<T> {
+    slots: Slab<T>,
+    index: BTreeMap<u16, usize>,
+}
+
+impl<T> Model for Table<T> {
+    ghost use Rattle.std.specs.Prelude.{List, ℕ};
+    ghost use Rattle.tftp_server.specs.Table.{joined, IsJoined};
+
+    ghost Value = { List (ℕ × T) };
+
+    ghost view = { λ t. joined t.index.entries t.slots };
+
+    ghost invariant = { λ t. IsJoined t.index.entries t.slots };
+}
+
+impl<T> Table<T> {
+    ghost use Rattle.tftp_server.specs.contracts.table.Table.{the_row};
+
+    /// An empty table, which takes no memory.
+    pub(crate) fn new(alloc: Global) -> Table<T>
+        ensures { result ≡ [] }
+    {
+        Table {
+            slots: Slab::new(alloc),
+            index: BTreeMap::new(alloc),
+        }
+    }
+
+    /// How many values it holds.
+    pub(crate) fn len(&self) -> usize
+        ensures { result ≡ length self.now }
+    {
+        self.index.len()
+    }
+
+    /// The value at the identifier.
+    pub(crate) fn get(&self, tid: u16) -> Option<&T>
+        ensures { option_copied result ≡ lookup (is_at (nat_cmp tid)) self.now }
+    {
+        match self.index.get(&tid) {
+            Some(key) => self.slots.get(*key),
+            None => None,
+        }
+    }
+
+    /// Appends the identifiers in rising order. After a refusal none is appended.
+    pub(crate) fn append_tids(&self, out: &mut Vec<u16>) -> Result<(), AllocError>
+        ensures ok { OnOk result (out.new.items ≡ out.old.items ++ keys_of self.now) }
+        ensures err { OnErr result (out.new.items ≡ out.old.items) }
+    {
+        append_keys(&self.index, out)
+    }
+
+    /// The value at the identifier, to be changed.
+    pub(crate) fn get_mut(&mut self, tid: u16) -> Option<&mut T>
+        ensures* writes_back { sem 𝓛 (LendsIf (the_row T.row) T.row self.entry result (λ w. set_value (is_at (nat_cmp tid)) self.old w) self.old) }
+        ensures value { option_copied_mut result ≡ lookup (is_at (nat_cmp tid)) self.old }
+    {
+        let key = key_at(&self.index, &self.slots, tid);
+        self.slots.get_mut(key)
+    }
+
+    /// Whether it holds a value at the identifier.
+    pub(crate) fn contains(&self, tid: u16) -> bool
+        ensures { result ≡ is_some (lookup (is_at (nat_cmp tid)) self.now) }
+    {
+        self.index.contains_key(&tid)
+    }
+}
+
+impl<T: Drop> Table<T> {
+    /// Puts a value at an identifier that holds none. After a refusal nothing has changed.
+    pub(crate) fn insert(&mut self, tid: u16, value: T) -> Result<(), AllocError>
+        requires { lookup (is_at (nat_cmp tid)) self.old ≡ None }
+        ensures ok { OnOk result (self.new ≡ insert_entry nat_cmp self.old tid value) }
+        ensures err { OnErr result (self.new ≡ self.old) }
+    {
+        self.slots.reserve(1)?;
+        self.index.insert(tid, self.slots.vacant_key())?;
+        self.slots.insert_reserved(value);
+        Ok(())
+    }
+
+    /// Takes the value at the identifier out, if it holds one.
+    pub(crate) fn remove(&mut self, tid: u16) -> Option<T>
+        ensures value { result ≡ lookup (is_at (nat_cmp tid)) self.old }
+        ensures others { self.new ≡ remove_entry (is_at (nat_cmp tid)) self.old }
+    {
+        match self.index.remove(&tid) {
+            Some(key) => self.slots.try_remove(key),
+            None => None,
+        }
+    }
+}
+
+/// Appends the keys in order. After a refusal none is appended.
+fn append_keys(index: &BTreeMap<u16, usize>, out: &mut Vec<u16>) -> Result<(), AllocError>
+    ensures ok { OnOk result (out.new.items ≡ out.old.items ++ keys_of index.now.entries) }
+    ensures err { OnErr result (out.new.items ≡ out.old.items) }
+{
+    out.reserve(index.len())?;
+    for tid in index.keys() {
+        out.push_reserved(*tid);
+    }
+    Ok(())
+}
+
+/// The slab's key of an identifier, or a vacant one where the index has none.
+fn key_at<T>(index: &BTreeMap<u16, usize>, slots: &Slab<T>, tid: u16) -> usize
+    ensures { IsKeyFor (lookup (is_at (nat_cmp tid)) index.now.entries) result slots.now }
+{
+    match index.get(&tid) {
+        Some(key) => *key,
+        None => slots.vacant_key(),
+    }
+}

@@ -1,0 +1,80 @@
+//! A transfer that a server holds: its end, its file and where that file is.
+
+ghost use Rattle.std.specs.Prelude.{◌≡◌, ◌↔◌, true, IfOk, OnErr, IsErrOf, Option};
+ghost use Rattle.tftp_ends.specs.End.{record_of};
+ghost use Rattle.tftp_server.specs.State.{is_closed};
+ghost use Rattle.tftp_server.specs.Steps.{with_end, TakesIn, StaysAs};
+ghost use Rattle.tftp_ends.specs.Row.{Says, datagram_row, timeout_row};
+ghost use Rattle.tftp_ends.specs.Step.{Carries, IsAnswered, timeout_turn, told};
+ghost use Rattle.tftp_wire.specs.declared.packet.Packet.{Packet};
+
+use std::marker::Model;
+use tftp_ends::{End, EndFault, Endpoint, Record, Step};
+use tftp_file::{Files, MemSink, Path, Source};
+
+/// A transfer: an end with its source, and the path of the file. No transfer has a sink yet.
+#[derive(Drop)]
+pub(crate) struct Transfer<F> {
+    end: End,
+    files: Files<F, MemSink>,
+    path: Path,
+}
+
+impl<F> Model for Transfer<F> {
+    ghost use Rattle.tftp_server.specs.State.{Held};
+    ghost use Rattle.tftp_ends.specs.Files.{AreFilesOf};
+    ghost use Rattle.tftp_server.specs.State.{IsRead};
+    ghost use Rattle.tftp_file.specs.Memory.{MemSinkState};
+
+    ghost Value = { Held F MemSinkState };
+
+    ghost view = { λ t. record { end = t.end; files = t.files; path = t.path } };
+
+    ghost invariant = { λ t. AreFilesOf t.end.side t.files × IsRead t.files };
+}
+
+impl<F> Transfer<F> {
+    /// How far its end came.
+    pub(crate) fn record(&self) -> Record
+        ensures { result ≡ record_of self.now.end }
+    {
+        self.end.record()
+    }
+
+    /// Whether its end is closed.
+    pub(crate) fn is_closed(&self) -> bool
+        ensures { result ≡ is_closed self.now }
+    {
+        self.end.record().outcome.is_some()
+    }
+}
+
+impl<F> Transfer<F> {
+    /// Its end takes a timeout. After a fault nothing has changed.
+    pub(crate) fn on_timeout(&mut self, out: &mut Vec<u8>) -> Result<Step, EndFault>
+        ensures steps { IfOk result (λ step. Carries (timeout_turn self.old.end) self.new.end step.to out.old.items out.new.items
+            × (step ≡ told self.old.end (timeout_turn self.old.end)) × (self.new ≡ with_end self.new.end self.old)) }
+        ensures closed { IsErrOf result EndFault.Closed ↔ (is_closed self.old ≡ true) }
+        ensures memory { IsErrOf result EndFault.Memory → IsAnswered (timeout_row self.old.end.retries_left self.old.end.phase) }
+        ensures err { OnErr result ((self.new ≡ self.old) × (out.new.items ≡ out.old.items)) }
+    {
+        self.end.on_timeout(out)
+    }
+}
+
+impl<F: Source> Transfer<F> {
+    /// Its end takes a datagram. After a fault nothing has changed.
+    pub(crate) fn on_datagram(
+        &mut self,
+        from: Endpoint,
+        bytes: &[u8],
+        out: &mut Vec<u8>,
+    ) -> Result<Step, EndFault>
+        ensures takes { IfOk result (λ step. TakesIn F.left F.may_fail from bytes.now self.old self.new step out.old.items out.new.items) }
+        ensures closed { IsErrOf result EndFault.Closed ↔ (is_closed self.old ≡ true) }
+        ensures memory { IsErrOf result EndFault.Memory → (heard : Option Packet) × Says bytes.now heard × IsAnswered (datagram_row self.old.end from bytes.now heard) }
+        ensures err { OnErr result (StaysAs F.left F.may_fail self.old self.new × (out.new.items ≡ out.old.items)) }
+    {
+        self.end.on_datagram(&mut self.files, from, bytes, out)
+    }
+}

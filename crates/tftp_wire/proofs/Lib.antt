@@ -1,0 +1,4 @@
+pub mod TextsLemmas
+pub mod OptionsLemmas
+pub mod ReadingLemmas
+pub mod SpellingLemmas

@@ -1,0 +1,44 @@
+-- The numbers and names of the faults, and which of them is want of memory (own).
+use Rattle.std.specs.Prelude.{ℕ, ◌≡◌, List, codes, Option, Some, None}
+use Rattle.tftp_wire.specs.declared.fault.PacketFault.{PacketFault}
+use Rattle.tftp_wire.specs.declared.fault.PacketFaultKind.{PacketFaultKind}
+use Rattle.tftp_wire.specs.declared.fault.PacketFaultKind.TheVariants.{Short, Opcode, Unterminated, EmptyName, Mode, NoValue, EmptyOption, Trailing, TooLong, BlockZero, EmptyOack, Memory}
+
+-- the number of a kind
+abbrev pub kind_number : PacketFaultKind → ℕ
+kind_number Short = 1
+kind_number Opcode = 2
+kind_number Unterminated = 3
+kind_number EmptyName = 4
+kind_number Mode = 5
+kind_number NoValue = 6
+kind_number EmptyOption = 7
+kind_number Trailing = 8
+kind_number TooLong = 9
+kind_number BlockZero = 10
+kind_number EmptyOack = 11
+kind_number Memory = 12
+
+-- the name of a kind
+abbrev pub kind_name : PacketFaultKind → List ℕ
+kind_name Short = codes "Short"
+kind_name Opcode = codes "Opcode"
+kind_name Unterminated = codes "Unterminated"
+kind_name EmptyName = codes "EmptyName"
+kind_name Mode = codes "Mode"
+kind_name NoValue = codes "NoValue"
+kind_name EmptyOption = codes "EmptyOption"
+kind_name Trailing = codes "Trailing"
+kind_name TooLong = codes "TooLong"
+kind_name BlockZero = codes "BlockZero"
+kind_name EmptyOack = codes "EmptyOack"
+kind_name Memory = codes "Memory"
+
+-- memory was wanting
+abbrev pub out_of_memory : PacketFault
+out_of_memory = record { kind = Memory; at = 0 }
+
+-- why a reader that takes memory gives up: the first fault, and want of memory only where there is none
+abbrev pub IsFailure : Option PacketFault → PacketFault → Type 0
+IsFailure None e = e ≡ out_of_memory
+IsFailure (Some fault) e = e ≡ fault

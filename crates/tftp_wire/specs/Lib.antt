@@ -1,0 +1,10 @@
+pub mod Texts
+pub mod Modes
+pub mod Options
+pub mod Borrowed
+pub mod Spelling
+pub mod Faults
+pub mod Reading
+pub mod Parts
+pub mod Line
+pub mod Laws

@@ -1,0 +1,19 @@
+//! What holds of the definitions of the bytes of packets, whatever code reads or writes them.
+
+ghost use Rattle.tftp_wire.specs.Laws.{OneMeaning, FaultWhereNothing, SpelledHasNoFault, CanonicalSpells};
+
+/// Bytes spell at most one packet.
+pub fn one_meaning()
+    ensures { OneMeaning }
+{}
+
+/// A first fault exists exactly where nothing is spelled, so each datagram has an answer.
+pub fn fault_or_packet()
+    ensures nothing { FaultWhereNothing }
+    ensures spelled { SpelledHasNoFault }
+{}
+
+/// The canonical bytes of a valid packet spell it: what is encoded is decoded to the same packet.
+pub fn canonical_spells()
+    ensures { CanonicalSpells }
+{}
