@@ -1,0 +1,57 @@
+-- What `tftp-show` prints for an input, and its status (own).
+use Rattle.std.specs.Prelude.{ℕ, ◌≡◌, ◌==◌, Bool, true, false, ◌&&◌, if◌then◌else◌, List, [], ◌∷◌, ◌++◌, codes, Option, Some, None, is_none, Result, Ok, Err}
+use Rattle.std.specs.List.{flat_map, list_all}
+use Rattle.std.specs.Fmt.{decimal}
+use Rattle.hex.specs.Hex.{decode_of}
+use Rattle.hex.specs.declared.error.FromHexError.{FromHexError}
+use Rattle.tftp_wire.specs.declared.fault.PacketFault.{PacketFault}
+use Rattle.tftp_wire.specs.Faults.{kind_name}
+use Rattle.tftp_wire.specs.Line.{line}
+use Rattle.tftp_wire.specs.Parts.{packet_in}
+use Rattle.tftp_wire.specs.Reading.{first_fault}
+
+-- a byte in front of the first line, or a line of it alone
+abbrev pub onto_first : ℕ → List (List ℕ) → List (List ℕ)
+onto_first b [] = (b ∷ []) ∷ []
+onto_first b (first ∷ others) = (b ∷ first) ∷ others
+
+-- the lines, each without its line feed; what no line feed ends is a line if it isn't empty
+abbrev pub lines_of : List ℕ → List (List ℕ)
+lines_of [] = []
+lines_of (b ∷ input) = if b == 10 then [] ∷ lines_of input else onto_first b (lines_of input)
+
+-- the line of a datagram: its packet, or its first fault
+abbrev pub datagram_shown : List ℕ → Option PacketFault → List ℕ
+datagram_shown bytes None = line (packet_in bytes)
+datagram_shown bytes (Some fault) = codes "fault " ++ (kind_name fault.kind ++ (32 ∷ decimal fault.at))
+
+-- the line of what digits decode to
+abbrev pub decoded_shown : Result (List ℕ) FromHexError → List ℕ
+decoded_shown (Ok bytes) = datagram_shown bytes (first_fault bytes)
+decoded_shown (Err e) = codes "not hex"
+
+-- the line of digits
+abbrev pub line_shown : List ℕ → List ℕ
+line_shown digits = decoded_shown (decode_of digits)
+
+-- whether digits decode to a packet
+abbrev pub spells_packet : Result (List ℕ) FromHexError → Bool
+spells_packet (Ok bytes) = is_none (first_fault bytes)
+spells_packet (Err e) = false
+
+-- digits are said to be hexadecimal where they decode, and then the bytes are what they decode to
+abbrev pub Decodes : Result (List ℕ) FromHexError → Bool → List ℕ → Type 0
+Decodes (Ok decoded) is_hex bytes = (is_hex ≡ true) × (bytes ≡ decoded)
+Decodes (Err e) is_hex bytes = is_hex ≡ false
+
+-- whether all lines are packets
+abbrev pub are_packets : List ℕ → Bool
+are_packets input = list_all (λ digits. spells_packet (decode_of digits)) (lines_of input)
+
+-- what is printed for an input: a line for each line
+abbrev pub input_shown : List ℕ → List ℕ
+input_shown input = flat_map (λ digits. line_shown digits ++ 10 ∷ []) (lines_of input)
+
+-- the status, if all could be read and written
+abbrev pub status_of : List ℕ → ℕ
+status_of input = if are_packets input then 0 else 1

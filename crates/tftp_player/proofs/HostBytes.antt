@@ -1,0 +1,114 @@
+use Rattle.std.proofs.Common.{◌≡◌, ℕ, List, [], ◌∷◌, ◌++◌, sym, refl, ap, ◌∙◌, arith, inl, inr, append_assoc, length}
+use Rattle.std.specs.Prelude.{◌≢◌, ◌==◌, if◌then◌else◌}
+use Rattle.std.proofs.lemmas.Bool.{cases_eq, eq-eqb, ne_eqb, cond-true, cond-false}
+use Rattle.std.proofs.lemmas.List.{append-nil, length-append, nil_from_length}
+use Rattle.std.proofs.lemmas.List.Concat.{flat_map-append}
+use Rattle.tftp_wire.specs.declared.mode.Mode.{Mode}
+use Rattle.tftp_wire.specs.declared.mode.Mode.TheVariants.{Octet, Netascii}
+use Rattle.tftp_file.specs.Block.{IsBeginningOf}
+use Rattle.tftp_file.specs.Netascii.{wire_byte, netascii_text, wire_text}
+
+-- how a byte travels
+data ByteForm (x : ℕ) : Type 0 where
+  Line : x ≡ 10 → wire_byte x ≡ 13 ∷ 10 ∷ [] → ByteForm x
+  Return : x ≡ 13 → wire_byte x ≡ 13 ∷ 0 ∷ [] → ByteForm x
+  Itself : x ≢ 13 → wire_byte x ≡ x ∷ [] → ByteForm x
+
+byte_form : (x : ℕ) → ByteForm x
+byte_form x = elim (cases_eq x 10) [
+  | inl e ↦ Line e (cond-true (x == 10) (13 ∷ 10 ∷ []) (if x == 13 then 13 ∷ 0 ∷ [] else x ∷ []) (eq-eqb x 10 e))
+  | inr n ↦
+      let first : wire_byte x ≡ (if x == 13 then 13 ∷ 0 ∷ [] else x ∷ []) = cond-false (x == 10) (13 ∷ 10 ∷ []) (if x == 13 then 13 ∷ 0 ∷ [] else x ∷ []) (ne_eqb x 10 n) in
+      elim (cases_eq x 13) [
+        | inl e ↦ Return e (first ∙ cond-true (x == 13) (13 ∷ 0 ∷ []) (x ∷ []) (eq-eqb x 13 e))
+        | inr m ↦ Itself m (first ∙ cond-false (x == 13) (13 ∷ 0 ∷ []) (x ∷ []) (ne_eqb x 13 m))
+      ]
+]
+
+heads : (x y : ℕ) (xs ys : List ℕ) → x ∷ xs ≡ y ∷ ys → x ≡ y
+heads x y xs ys e = cc
+
+tails : (x y : ℕ) (xs ys : List ℕ) → x ∷ xs ≡ y ∷ ys → xs ≡ ys
+tails x y xs ys e = cc
+
+-- the next byte can be told from the wire text
+next_byte : (x y : ℕ) (xs ys : List ℕ) → ByteForm x → ByteForm y → wire_byte x ++ xs ≡ wire_byte y ++ ys → (x ≡ y) × (xs ≡ ys)
+next_byte x y xs ys (Line a b) (Line c d) e =
+    let f : 13 ∷ 10 ∷ xs ≡ 13 ∷ 10 ∷ ys = rw (b, d) at e in (a ∙ sym c, cc)
+next_byte x y xs ys (Return a b) (Return c d) e =
+    let f : 13 ∷ 0 ∷ xs ≡ 13 ∷ 0 ∷ ys = rw (b, d) at e in (a ∙ sym c, cc)
+next_byte x y xs ys (Itself a b) (Itself c d) e =
+    let f : x ∷ xs ≡ y ∷ ys = rw (b, d) at e in (cc, cc)
+next_byte x y xs ys (Line a b) (Return c d) e =
+    let f : 13 ∷ 10 ∷ xs ≡ 13 ∷ 0 ∷ ys = rw (b, d) at e in absurd (let g : 10 ≡ 0 = heads 10 0 xs ys (tails 13 13 (10 ∷ xs) (0 ∷ ys) f) in omega arith)
+next_byte x y xs ys (Return a b) (Line c d) e =
+    let f : 13 ∷ 0 ∷ xs ≡ 13 ∷ 10 ∷ ys = rw (b, d) at e in absurd (let g : 0 ≡ 10 = heads 0 10 xs ys (tails 13 13 (0 ∷ xs) (10 ∷ ys) f) in omega arith)
+next_byte x y xs ys (Itself a b) (Line c d) e =
+    let f : x ∷ xs ≡ 13 ∷ 10 ∷ ys = rw (b, d) at e in absurd (a (heads x 13 xs (10 ∷ ys) f))
+next_byte x y xs ys (Itself a b) (Return c d) e =
+    let f : x ∷ xs ≡ 13 ∷ 0 ∷ ys = rw (b, d) at e in absurd (a (heads x 13 xs (0 ∷ ys) f))
+next_byte x y xs ys (Line a b) (Itself c d) e =
+    let f : 13 ∷ 10 ∷ xs ≡ y ∷ ys = rw (b, d) at e in absurd (c (sym (heads 13 y (10 ∷ xs) ys f)))
+next_byte x y xs ys (Return a b) (Itself c d) e =
+    let f : 13 ∷ 0 ∷ xs ≡ y ∷ ys = rw (b, d) at e in absurd (c (sym (heads 13 y (0 ∷ xs) ys f)))
+
+not_empty : (x : ℕ) (xs : List ℕ) → ByteForm x → wire_byte x ++ xs ≡ [] → ⊥
+not_empty x xs (Line a b) e = let f : 13 ∷ 10 ∷ xs ≡ [] = rw b at e in cc
+not_empty x xs (Return a b) e = let f : 13 ∷ 0 ∷ xs ≡ [] = rw b at e in cc
+not_empty x xs (Itself a b) e = let f : x ∷ xs ≡ [] = rw b at e in cc
+
+joined : (x : ℕ) (xs rest : List ℕ) → netascii_text (x ∷ xs) ++ rest ≡ wire_byte x ++ (netascii_text xs ++ rest)
+joined x xs rest = append_assoc (wire_byte x) (netascii_text xs) rest
+
+netascii_beginning : (xs ys rest : List ℕ) → netascii_text xs ++ rest ≡ netascii_text ys → IsBeginningOf xs ys
+netascii_beginning [] ys rest e = (ys, refl)
+netascii_beginning (x ∷ xs) [] rest e = absurd (not_empty x (netascii_text xs ++ rest) (byte_form x) (sym (joined x xs rest) ∙ e))
+netascii_beginning (x ∷ xs) (y ∷ ys) rest e =
+    let n = next_byte x y (netascii_text xs ++ rest) (netascii_text ys) (byte_form x) (byte_form y) (sym (joined x xs rest) ∙ e) in
+    let h = netascii_beginning xs ys rest n.1 in
+    (h.0, ap (λ (k : ℕ). k ∷ (xs ++ h.0)) n.0 ∙ ap (λ (zs : List ℕ). y ∷ zs) h.1)
+
+-- a beginning on the wire is a beginning of the file
+pub wire_beginning : (mode : Mode) (xs ys : List ℕ) → IsBeginningOf (wire_text mode xs) (wire_text mode ys) → IsBeginningOf xs ys
+wire_beginning Octet xs ys h = h
+wire_beginning Netascii xs ys h = netascii_beginning xs ys h.0 h.1
+
+pub wire_text-append : (mode : Mode) (xs ys : List ℕ) → wire_text mode (xs ++ ys) ≡ wire_text mode xs ++ wire_text mode ys
+wire_text-append Octet xs ys = refl
+wire_text-append Netascii xs ys = flat_map-append wire_byte xs ys
+
+-- each of two is a beginning of the other only if they are the same
+both_beginnings : (xs ys : List ℕ) → IsBeginningOf xs ys → IsBeginningOf ys xs → xs ≡ ys
+both_beginnings xs ys a b =
+    let l = ap length a.1 in
+    let m = ap length b.1 in
+    let z : length a.0 ≡ 0 = omega (arith, l, m, length-append xs a.0, length-append ys b.0) in
+    let e : a.0 ≡ [] = nil_from_length a.0 z in
+    sym (append-nil xs) ∙ (ap (λ (zs : List ℕ). xs ++ zs) (sym e) ∙ a.1)
+
+-- two files that travel alike are the same
+pub wire_same : (mode : Mode) (xs ys : List ℕ) → wire_text mode xs ≡ wire_text mode ys → xs ≡ ys
+wire_same mode xs ys e =
+    both_beginnings xs ys (wire_beginning mode xs ys ([], append-nil (wire_text mode xs) ∙ e)) (wire_beginning mode ys xs ([], append-nil (wire_text mode ys) ∙ sym e))
+
+-- what a receiver stored is a beginning of the file, if it and the text held back begin the wire text
+pub stored_beginning : (mode : Mode) (stored held file : List ℕ) → IsBeginningOf (wire_text mode stored ++ held) (wire_text mode file) → IsBeginningOf stored file
+stored_beginning mode stored held file h =
+    wire_beginning mode stored file (held ++ h.0, sym (append_assoc (wire_text mode stored) held h.0) ∙ h.1)
+
+-- a block goes on with what is stored of it and the text that is held back then
+pub stored_more : (mode : Mode) (stored held bytes more after : List ℕ) → held ++ bytes ≡ wire_text mode more ++ after →
+    (wire_text mode stored ++ held) ++ bytes ≡ wire_text mode (stored ++ more) ++ after
+stored_more mode stored held bytes more after e =
+    append_assoc (wire_text mode stored) held bytes ∙ (ap (λ (zs : List ℕ). wire_text mode stored ++ zs) e
+    ∙ (sym (append_assoc (wire_text mode stored) (wire_text mode more) after) ∙ ap (λ (zs : List ℕ). zs ++ after) (sym (wire_text-append mode stored more))))
+
+-- a beginning of what a block would store travels as a beginning of the text with that block
+pub stored_part : (mode : Mode) (stored held bytes more after part : List ℕ) → held ++ bytes ≡ wire_text mode more ++ after → IsBeginningOf part more →
+    IsBeginningOf (wire_text mode (stored ++ part)) ((wire_text mode stored ++ held) ++ bytes)
+stored_part mode stored held bytes more after part e h =
+    let rest = wire_text mode h.0 ++ after in
+    let joins : wire_text mode (stored ++ part) ++ rest ≡ wire_text mode (stored ++ more) ++ after =
+    sym (append_assoc (wire_text mode (stored ++ part)) (wire_text mode h.0) after)
+    ∙ ap (λ (zs : List ℕ). zs ++ after) (sym (wire_text-append mode (stored ++ part) h.0) ∙ ap (wire_text mode) (append_assoc stored part h.0 ∙ ap (λ (zs : List ℕ). stored ++ zs) h.1)) in
+    (rest, joins ∙ sym (stored_more mode stored held bytes more after e))

@@ -1,0 +1,161 @@
+use Rattle.std.proofs.Common.{◌≡◌, ℕ, ◌+◌, ◌*◌, ◌^◌, ◌<◌, ◌≤◌, Bool, true, false, cond, List, [], ◌∷◌, ◌++◌, length, map, Result, Ok, Err, decimal, sym, refl, ap, ◌∙◌, subst, arith, inl, inr, suc}
+use Rattle.std.specs.Prelude.{◌≢◌, ◌||◌, nat_lt}
+use Rattle.std.specs.List.{AllByRecursion}
+use Rattle.std.proofs.lemmas.Bool.{true≢false, cases_eq, ltb-false}
+use Rattle.std.proofs.lemmas.List.{length-append}
+use Rattle.std.proofs.lemmas.Fmt.{length-decimal-le, decimal-digits_of, decimal_digit}
+use Rattle.tftp_wire.specs.declared.mode.Mode.{Mode}
+use Rattle.tftp_wire.specs.declared.options.RawOption.{RawOption}
+use Rattle.tftp_wire.specs.declared.packet.Packet.TheVariants.{Oack}
+use Rattle.tftp_wire.specs.Options.{IsOption, option_bytes, options_bytes}
+use Rattle.tftp_wire.specs.Spelling.{IsValid}
+use Rattle.tftp_wire.specs.Texts.{IsText}
+use Rattle.tftp_negotiate.specs.declared.known.Kind.{Kind}
+use Rattle.tftp_negotiate.specs.declared.known.Known.{Known}
+use Rattle.tftp_negotiate.specs.declared.known.Known.TheVariants as known
+use Rattle.tftp_negotiate.specs.declared.known.Kind.TheVariants as kinds
+use Rattle.tftp_negotiate.specs.declared.limits.Limits.{Limits}
+use Rattle.tftp_negotiate.specs.declared.name.Name.{Name}
+use Rattle.tftp_negotiate.specs.declared.name.Name.TheVariants.{Blksize, Timeout, Tsize}
+use Rattle.tftp_negotiate.specs.declared.refusal.Refusal.{Refusal}
+use Rattle.tftp_negotiate.specs.declared.refusal.Refusal.TheVariants.{Repeated}
+use Rattle.tftp_negotiate.specs.Agreed.{agreed_options, known_option, count_of}
+use Rattle.tftp_negotiate.specs.Answer.{answer, answered_option}
+use Rattle.tftp_negotiate.specs.Laws.{IsWithinRequest, Requests}
+use Rattle.tftp_negotiate.specs.Negotiation.{repeats, places_of, each_judged}
+use Rattle.tftp_negotiate.specs.Options.{name_text}
+use Rattle.tftp_negotiate.specs.Asked.{option_of}
+use Rattle.tftp_negotiate.specs.Ranges.{IsBlockSize}
+use Rattle.tftp_negotiate.proofs.LawsLemmas.{answers_within_request}
+use Rattle.tftp_negotiate.proofs.NegotiationLemmas.{counts, count_of-cons}
+use Rattle.tftp_negotiate.proofs.OptionsLemmas.{decimal-number_of}
+use Rattle.tftp_negotiate.proofs.TermsLemmas.{answered_option-Keeps}
+
+-- the digits of a number are no zero bytes
+digits_text : (digits : List ℕ) → IsText (map (λ d. 48 + d) digits)
+digits_text [] = tt
+digits_text (d ∷ digits) = ((let z : 48 + d ≢ 0 = omega arith in z), digits_text digits)
+
+number_text : (n : ℕ) → n < 2 ^ 64 → IsText (decimal n)
+number_text n fits = elim (cases_eq n 0) [
+  | inl e ↦ subst IsText (sym (ap decimal e ∙ decimal_digit 0 (omega arith))) ((let z : 48 + 0 ≢ 0 = omega arith in z), tt)
+  | inr s ↦ subst IsText (sym (decimal-digits_of n (omega (arith, s)) fits)) (digits_text _)
+]
+
+-- the number of an option fits
+abbrev Fits_word : Known → Type 0
+Fits_word (known.Blksize n) = n < 2 ^ 64
+Fits_word (known.Timeout n) = n < 2 ^ 64
+Fits_word (known.Tsize n) = n < 2 ^ 64
+
+name_is : (name : Name) → (name_text name ≢ []) × IsText (name_text name) × (length (name_text name) ≤ 7)
+name_is Blksize = ((λ e. cc), (omega arith, (omega arith, (omega arith, (omega arith, (omega arith, (omega arith, (omega arith, tt))))))), omega arith)
+name_is Timeout = ((λ e. cc), (omega arith, (omega arith, (omega arith, (omega arith, (omega arith, (omega arith, (omega arith, tt))))))), omega arith)
+name_is Tsize = ((λ e. cc), (omega arith, (omega arith, (omega arith, (omega arith, (omega arith, tt))))), omega arith)
+
+-- an option that is spelled with its number
+record Spelled (o : RawOption) : Type 0 where
+  pub option : IsOption o
+  pub short : length (option_bytes o) ≤ 29
+
+spelled_option : (name : Name) (n : ℕ) → n < 2 ^ 64 → Spelled (option_of name n)
+spelled_option name n fits =
+    let h = name_is name in
+    let l : length (decimal n) ≤ 20 = length-decimal-le 20 n (omega arith) (omega (arith, fits)) fits in
+    let a = length-append (name_text name) (0 ∷ []) in
+    let b = length-append (decimal n) (0 ∷ []) in
+    let c = length-append (name_text name ++ 0 ∷ []) (decimal n ++ 0 ∷ []) in
+    let short = h.2 in
+    record { option = record { named = h.0; name = h.1; value = number_text n fits }; short = omega (arith, a, b, c, l, short) }
+
+spelled_known : (k : Known) → Fits_word k → Spelled (known_option k)
+spelled_known (known.Blksize n) f = spelled_option Blksize n f
+spelled_known (known.Timeout n) f = spelled_option Timeout n f
+spelled_known (known.Tsize n) f = spelled_option Tsize n f
+
+-- the options of an answer, with their bytes
+record Spelled_all (ks : List Known) : Type 0 where
+  pub options : AllByRecursion IsOption (agreed_options ks)
+  pub short : length (options_bytes (agreed_options ks)) ≤ 29 * length ks
+
+spelled_all : (ks : List Known) → AllByRecursion Fits_word ks → Spelled_all ks
+spelled_all [] h = record { options = tt; short = omega arith }
+spelled_all (k ∷ ks) h =
+    let one = spelled_known k h.0 in
+    let others = spelled_all ks h.1 in
+    let a = length-append (option_bytes (known_option k)) (options_bytes (agreed_options ks)) in
+    let b = one.short in
+    let c = others.short in
+    record { options = (one.option, others.options); short = omega (arith, a, b, c) }
+
+-- the numbers of an answer fit
+word_of : (options : List RawOption) (name : Name) (n : ℕ) → Requests options name n → n < 2 ^ 64
+word_of options name n r = (decimal-number_of r.0.value n r.3).1
+
+fits_word : (options : List RawOption) (kind : Kind) (told : ℕ) (limits : Limits) (k : Known) → told < 2 ^ 64 → IsBlockSize limits.max_block → IsWithinRequest options kind told limits k → Fits_word k
+fits_word options kind told limits (known.Blksize n) f ok h = let a = h.0 in let b = ok.1 in omega (arith, a, b)
+fits_word options kind told limits (known.Timeout n) f ok h = word_of options Timeout n h
+fits_word options kinds.Read told limits (known.Tsize n) f ok h = subst (λ (m : ℕ). m < 2 ^ 64) (sym h.1) f
+fits_word options kinds.Write told limits (known.Tsize n) f ok h = word_of options Tsize n h.0
+
+fit_words : (options : List RawOption) (kind : Kind) (told : ℕ) (limits : Limits) (ks : List Known) → told < 2 ^ 64 → IsBlockSize limits.max_block → AllByRecursion (IsWithinRequest options kind told limits) ks → AllByRecursion Fits_word ks
+fit_words options kind told limits [] f ok h = tt
+fit_words options kind told limits (k ∷ ks) f ok h = (fits_word options kind told limits k f ok h.0, fit_words options kind told limits ks f ok h.1)
+
+-- each name stands once, so that there are three at most
+by_names : (ks : List Known) → length ks ≡ count_of Blksize ks + count_of Timeout ks + count_of Tsize ks
+by_names [] = refl
+by_names (known.Blksize n ∷ ks) =
+    let e = by_names ks in
+    let a = count_of-cons Blksize (known.Blksize n) ks in
+    let b = count_of-cons Timeout (known.Blksize n) ks in
+    let c = count_of-cons Tsize (known.Blksize n) ks in omega (arith, e, a, b, c)
+by_names (known.Timeout n ∷ ks) =
+    let e = by_names ks in
+    let a = count_of-cons Blksize (known.Timeout n) ks in
+    let b = count_of-cons Timeout (known.Timeout n) ks in
+    let c = count_of-cons Tsize (known.Timeout n) ks in omega (arith, e, a, b, c)
+by_names (known.Tsize n ∷ ks) =
+    let e = by_names ks in
+    let a = count_of-cons Blksize (known.Tsize n) ks in
+    let b = count_of-cons Timeout (known.Tsize n) ks in
+    let c = count_of-cons Tsize (known.Tsize n) ks in omega (arith, e, a, b, c)
+
+none_of : (a b c : Bool) → (a || (b || c)) ≡ false → (a ≡ false) × (b ≡ false) × (c ≡ false)
+none_of true b c e = absurd (true≢false e)
+none_of false true c e = absurd (true≢false e)
+none_of false false c e = (refl, refl, e)
+
+negotiated_once : (b : Bool) (r : Result (List Known) Refusal) (ks : List Known) → cond b (Err Repeated) r ≡ Ok ks → (b ≡ false) × (r ≡ Ok ks)
+negotiated_once true r ks e = cc
+negotiated_once false r ks e = (refl, e)
+
+three_at_most : (kind : Kind) (mode : Mode) (told : ℕ) (limits : Limits) (options : List RawOption) (ks : List Known) → IsBlockSize limits.max_block →
+    answer options kind mode told limits ≡ Ok ks → length ks ≤ 3
+three_at_most kind mode told limits options ks ok e =
+    let judgement = answered_option kind mode told limits in
+    let keeps = answered_option-Keeps kind mode told limits ok in
+    let h = negotiated_once (repeats options) (each_judged judgement options) ks e in
+    let n = none_of (nat_lt 1 (places_of Blksize options)) (nat_lt 1 (places_of Timeout options)) (nat_lt 1 (places_of Tsize options)) h.0 in
+    let a = ltb-false 1 (places_of Blksize options) n.0 in
+    let b = ltb-false 1 (places_of Timeout options) n.1 in
+    let c = ltb-false 1 (places_of Tsize options) n.2 in
+    let i = counts judgement keeps Blksize options ks h.1 in
+    let j = counts judgement keeps Timeout options ks h.1 in
+    let k = counts judgement keeps Tsize options ks h.1 in
+    let l = by_names ks in
+    omega (arith, a, b, c, i, j, k, l)
+
+some_options : (ks : List Known) → ks ≢ [] → agreed_options ks ≢ []
+some_options [] s e = s refl
+some_options (k ∷ ks) s e = cc
+
+-- the OACK of what a server answers can be spelled
+pub valid_oack : (kind : Kind) (mode : Mode) (told : ℕ) (limits : Limits) (options : List RawOption) (ks : List Known) → told < 2 ^ 64 → IsBlockSize limits.max_block →
+    answer options kind mode told limits ≡ Ok ks → ks ≢ [] → IsValid (Oack (agreed_options ks))
+valid_oack kind mode told limits options ks fits ok e some =
+    let words = fit_words options kind told limits ks fits ok (answers_within_request options kind mode told limits ks e) in
+    let all = spelled_all ks words in
+    let three = three_at_most kind mode told limits options ks ok e in
+    let l = all.short in
+    (some_options ks some, all.options, (let n : suc (suc (length (options_bytes (agreed_options ks)))) ≤ 512 = omega (arith, l, three) in n))

@@ -1,0 +1,199 @@
+use Rattle.std.proofs.Common.{◌≡◌, ℕ, ◌+◌, ◌*◌, ◌-◌, ◌/◌, ◌^◌, ◌<◌, ◌≤◌, Bool, true, false, List, [], ◌∷◌, ◌++◌, length, set, take, drop, min, Some, Result, Ok, Err, sym, refl, ap, ◌∙◌, subst, arith, inl, inr}
+use Rattle.std.specs.Prelude.{◌≢◌, if◌then◌else◌}
+use Rattle.std.specs.List.{Contains}
+use Rattle.std.proofs.Math.Nat.{div-lt_iff_lt-mul}
+use Rattle.std.proofs.lemmas.Bool.{true≢false, eq-eqb}
+use Rattle.std.proofs.lemmas.List.{append-nil, length-drop, length-take, take_min, drop_min, drop-drop}
+use Rattle.std.proofs.lemmas.Option.{same_Some}
+use Rattle.tftp_wire.specs.declared.packet.Packet.TheVariants.{Data}
+use Rattle.tftp_wire.specs.Spelling.{IsValid}
+use Rattle.tftp_file.specs.declared.fault.FileFault.{FileFault}
+use Rattle.tftp_file.specs.declared.fault.StoreFault.{StoreFault}
+use Rattle.tftp_file.specs.Source.{Fills}
+use Rattle.tftp_file.specs.declared.fault.FileFault.TheVariants as file_faults
+use Rattle.tftp_file.specs.declared.files.Files.{Files}
+use Rattle.tftp_file.specs.declared.files.Files.TheVariants.{Source, Sink}
+use Rattle.tftp_file.specs.Block.{block, block_count, Fits}
+use Rattle.tftp_file.specs.Sink.{Holding}
+use Rattle.tftp_ends.specs.declared.error_reply.ErrorReply.TheVariants as replies
+use Rattle.tftp_ends.specs.declared.outcome.Outcome.TheVariants as outcomes
+use Rattle.tftp_ends.specs.declared.phase.Phase.TheVariants.{Sending}
+use Rattle.tftp_ends.specs.declared.phase.Terms.{Terms}
+use Rattle.tftp_ends.specs.declared.row.Row.TheVariants.{Complete}
+use Rattle.tftp_ends.specs.End.{EndState, is_sender}
+use Rattle.tftp_ends.specs.Step.{Turn, row_turn, after, Sends, SendsFrom, sent_turn, refused_turn, data_bytes, block_length, filled_turn, result_count_is}
+use Rattle.tftp_player.specs.Machine.{Endpoint, Data as Says_data, Ack as Says_ack, Message}
+use Rattle.tftp_player.specs.Rules.{message}
+use Rattle.tftp_player.specs.Said.{said}
+use Rattle.tftp_player.specs.Shows.{EndView, IsShown}
+use Rattle.tftp_player.specs.World.{OpenedEnd, files_of, holding_of, in_state, end_after, text_of as text_of_end, received_text, view_of_end}
+use Rattle.tftp_player.specs.WorldSteps.{never_fails, may_refuse_append}
+use Rattle.tftp_player.specs.WorldKept.{EndKept, sent_text}
+use Rattle.tftp_player.proofs.Rows.{Stands, sends, completes}
+use Rattle.tftp_player.proofs.SaidLemmas.{spells_own}
+use Rattle.tftp_player.proofs.EndMoves.{Goes, placed}
+
+-- a source in memory was asked for block n + 1, behind the n blocks that it gave
+pub record BlockSent (terms : Terms) (n : ℕ) (from : Endpoint) (e : EndState) (text : List ℕ) (turn : Turn) (left : List ℕ) : Type 0 where
+  pub turn_is : turn ≡ sent_turn (Sending terms (n + 1)) from (data_bytes (n + 1) (block text terms.size (n + 1))) e
+  pub left_is : left ≡ drop ((n + 1) * terms.size) text
+
+back : (n : ℕ) → n + 1 - 1 ≡ n
+back n = omega arith
+
+-- as much is wanted of the source as it can give of a block
+wanted : (terms : Terms) (n : ℕ) (e : EndState) (text left : List ℕ) → e.length ≡ length text → left ≡ drop (n * terms.size) text →
+    block_length e.length terms.size (n + 1) ≡ min terms.size (length left)
+wanted terms n e text left measured behind =
+    let rest : length left ≡ length text - n * terms.size = ap length behind ∙ length-drop (n * terms.size) text in
+    let first : block_length e.length terms.size (n + 1) ≡ min terms.size (e.length - n * terms.size) =
+    ap (λ (m : ℕ). min terms.size (e.length - m * terms.size)) (back n) in
+    first ∙ ap (min terms.size) (ap (λ (l : ℕ). l - n * terms.size) measured ∙ sym rest)
+
+whole_count : (size l : ℕ) → min (min size l) l ≡ min size l
+whole_count size l = omega arith
+
+block_next : (text left : List ℕ) (size n : ℕ) → left ≡ drop (n * size) text → take size left ≡ block text size (n + 1)
+block_next text left size n behind =
+    ap (take size) behind ∙ ap (λ (m : ℕ). take size (drop (m * size) text)) (sym (back n))
+
+left_next : (text left : List ℕ) (size n : ℕ) → left ≡ drop (n * size) text → drop size left ≡ drop ((n + 1) * size) text
+left_next text left size n behind =
+    let e : n * size + size ≡ (n + 1) * size = omega arith in
+    ap (drop size) behind ∙ (drop-drop size (n * size) text ∙ ap (λ (m : ℕ). drop m text) e)
+
+counted : (want : ℕ) (k : ℕ) → k ≡ want → result_count_is want (Ok k) ≡ true
+counted want k e = eq-eqb k want e
+
+filled : (terms : Terms) (number : ℕ) (from : Endpoint) (piece : List ℕ) (e : EndState) (answer : Result ℕ FileFault) →
+    result_count_is (block_length e.length terms.size number) answer ≡ true →
+    filled_turn terms number from piece e answer ≡ sent_turn (Sending terms number) from (data_bytes number piece) e
+filled terms number from piece e answer h =
+    ap (λ (b : Bool). if b then sent_turn (Sending terms number) from (data_bytes number piece) e else refused_turn terms replies.FileChanged outcomes.SourceFault from e) h
+
+-- a source in memory gives the next block
+pub block_sent : (terms : Terms) (n : ℕ) (from : Endpoint) (e : EndState) (text left : List ℕ) (turn : Turn) (left' : List ℕ) →
+    e.length ≡ length text → left ≡ drop (n * terms.size) text →
+    Sends (λ (s : List ℕ). Some s) never_fails terms (n + 1) from e left turn left' → BlockSent terms n from e text turn left'
+block_sent terms n from e text left turn left' measured behind h = by_answer h.answer h.fills h.read h.memory h.answers where
+  by_answer : (answer : Result ℕ FileFault) →
+      Fills (Some left) (Some left') (block_length e.length terms.size (n + 1)) [] h.piece answer →
+      (answer ≡ Err file_faults.Read → ⊥) → answer ≢ Err file_faults.Memory → turn ≡ filled_turn terms (n + 1) from h.piece e answer →
+      BlockSent terms n from e text turn left'
+  by_answer (Err file_faults.Read) f r m a = absurd (r refl)
+  by_answer (Err file_faults.Memory) f r m a = absurd (m refl)
+  by_answer (Ok k) f r m a =
+      let want = wanted terms n e text left measured behind in
+      let count : k ≡ min terms.size (length left) = f.count ∙ (ap (λ (w : ℕ). min w (length left)) want ∙ whole_count terms.size (length left)) in
+      let turns = filled terms (n + 1) from h.piece e (Ok k) (counted (block_length e.length terms.size (n + 1)) k (count ∙ sym want)) in
+      let piece : h.piece ≡ block text terms.size (n + 1) =
+      f.given ∙ (ap (λ (j : ℕ). take j left) count ∙ (take_min terms.size left ∙ block_next text left terms.size n behind)) in
+      let rest : left' ≡ drop k left = same_Some left' (drop k left) f.rest in
+      record {
+        turn_is = a ∙ (turns ∙ ap (λ (p : List ℕ). sent_turn (Sending terms (n + 1)) from (data_bytes (n + 1) p) e) piece);
+        left_is = rest ∙ (ap (λ (j : ℕ). drop j left) count ∙ (drop_min terms.size left ∙ left_next text left terms.size n behind));
+      }
+
+-- what a row that sends did
+pub sends_from : (b : Bool) → b ≡ true → (refuses_commit : Holding → StoreFault → Type 0) (terms : Terms) (number : ℕ) (from : Endpoint) (e : EndState) (left : List ℕ) (holding : Holding) (turn : Turn) (held : Files (List ℕ) Holding) →
+    SendsFrom (λ (s : List ℕ). Some s) never_fails (λ (h : Holding). Some h) may_refuse_append refuses_commit terms number from e (if b then Source left else Sink holding) turn held →
+    (left' : List ℕ) × (held ≡ Source left') × Sends (λ (s : List ℕ). Some s) never_fails terms number from e left turn left'
+sends_from true t refuses_commit terms number from e left holding turn (Source left') h = (left', refl, h)
+sends_from true t refuses_commit terms number from e left holding turn (Sink k) h = absurd h
+sends_from false t refuses_commit terms number from e left holding turn held h = absurd (true≢false (sym t))
+
+-- the number of a block fits two bytes
+pub number_fits : (text : List ℕ) (size n : ℕ) → 0 < size → Fits text size → n ≤ block_count text size → n < 2 ^ 16
+number_fits text size n p f l =
+    let d : length text / size < 65535 = (div-lt_iff_lt-mul {k = size} {x = length text} {y = 65535} p).1 f in
+    omega arith
+
+pub valid_data : (text : List ℕ) (size n : ℕ) → 0 < size → size ≤ 65464 → Fits text size → n + 1 ≤ block_count text size → IsValid (Data (n + 1) (block text size (n + 1)))
+valid_data text size n p small f l =
+    let e = length-take size (drop ((n + 1 - 1) * size) text) in
+    ((let z : n + 1 ≢ 0 = omega arith in z), number_fits text size (n + 1) p f l, omega (arith, e))
+
+-- the turn in which block n + 1 is sent
+abbrev pub data_turn : OpenedEnd → Terms → ℕ → Endpoint → Turn
+data_turn x terms n from =
+    sent_turn (Sending terms (n + 1)) from (data_bytes (n + 1) (block (sent_text x) terms.size (n + 1))) x.state
+
+-- the end after it
+abbrev pub data_end : OpenedEnd → Terms → ℕ → Endpoint → OpenedEnd
+data_end x terms n from =
+    record (in_state (data_turn x terms n from).end x) { left = drop ((n + 1) * terms.size) (sent_text x) }
+
+-- a row that sends has sent the next block
+pub data_goes : (views : List EndView) (messages : List Message) (k : ℕ) (x : OpenedEnd) (terms : Terms) (n : ℕ) (from : Endpoint) (turn : Turn) (held : Files (List ℕ) Holding) (refuses_commit : Holding → StoreFault → Type 0) →
+    is_sender x.state.side ≡ true → x.state.length ≡ length (sent_text x) → x.left ≡ drop (n * terms.size) (sent_text x) →
+    Goes views messages k x (data_turn x terms n from) (data_end x terms n from) →
+    SendsFrom (λ (s : List ℕ). Some s) never_fails (λ (h : Holding). Some h) may_refuse_append refuses_commit terms (n + 1) from x.state (files_of x) turn held →
+    Goes views messages k x turn (end_after x turn held)
+data_goes views messages k x terms n from turn held refuses_commit sender measured behind g h =
+    let f = sends_from (is_sender x.state.side) sender refuses_commit terms (n + 1) from x.state x.left (holding_of x) turn held h in
+    let b = block_sent terms n from x.state (sent_text x) x.left turn f.0 measured behind f.2 in
+    subst (λ (fs : Files (List ℕ) Holding). Goes views messages k x turn (end_after x turn fs)) (sym f.1)
+    (subst (λ (t : Turn). Goes views messages k x t (end_after x t (Source f.0))) (sym b.turn_is)
+    (subst (λ (l : List ℕ). Goes views messages k x (data_turn x terms n from) (end_after x (data_turn x terms n from) (Source l))) (sym b.left_is) g))
+
+-- the sender's state after a block is kept
+pub data_kept : (x : OpenedEnd) (terms : Terms) (n : ℕ) (from : Endpoint) → EndKept x → is_sender x.state.side ≡ true → 0 < terms.size → terms.size ≤ 65464 →
+    Fits (sent_text x) terms.size → n + 1 ≤ block_count (sent_text x) terms.size → from ≡ terms.peer → EndKept (data_end x terms n from)
+data_kept x terms n from kept sender positive small fits l peer = record {
+  phase = record { sender = sender; positive = positive; size = small; fits = fits; so_far = l; left = refl; newest_to = peer };
+  length = kept.length;
+  held = kept.held;
+  committed = λ r. absurd (true≢false (sym sender ∙ r));
+}
+
+-- a sender's text is told
+pub text_if : (b : Bool) (f r : List ℕ) → b ≡ true → (if b then f else r) ≡ f
+text_if true f r e = refl
+text_if false f r e = absurd (true≢false (sym e))
+
+module _ (views : List EndView) (messages : List Message) (k : ℕ) (x0 : OpenedEnd) (terms : Terms) (n : ℕ)
+    (s : Stands views messages k (view_of_end (placed (Sending terms n) x0))) (kept : EndKept (placed (Sending terms n) x0)) where
+  -- the next block is sent
+  pub sends_next : (from : Endpoint) → terms.peer ≡ from → Contains messages (message from x0.address (Says_ack n)) → n < block_count (sent_text x0) terms.size →
+      Goes views messages k (placed (Sending terms n) x0) (data_turn (placed (Sending terms n) x0) terms n from) (data_end (placed (Sending terms n) x0) terms n from)
+  sends_next from peer acked more =
+      let x = placed (Sending terms n) x0 in
+      let u = kept.phase in
+      let text = sent_text x in
+      let told : text_of_end x ≡ text = text_if (is_sender x.state.side) text (received_text x) u.sender in
+      let l : n + 1 ≤ block_count text terms.size = omega arith in
+      let packet = Data (n + 1) (block text terms.size (n + 1)) in
+      let room : n < block_count (text_of_end x) terms.size = subst (λ (t : List ℕ). n < block_count t terms.size) (sym told) more in
+      let shown_now = sends views messages k (view_of_end x) s from (refl, refl) u.sender (ap Some peer) acked room in
+      record {
+        said_now = message x.address from (said packet) ∷ [];
+        shown = subst (λ (t : List ℕ). IsShown (set views k (view_of_end (data_end x terms n from))) (messages ++ message x.address from (Says_data (n + 1) (block t terms.size (n + 1))) ∷ [])) told shown_now;
+        replies = (packet, spells_own packet (valid_data text terms.size n u.positive u.size u.fits l), refl);
+        kept = data_kept x terms n from kept u.sender u.positive u.size u.fits l (sym peer);
+        side = refl;
+        newest = inr refl;
+        stored = λ _. refl;
+      }
+
+  -- the last block is acknowledged
+  pub ends_whole : (from : Endpoint) → terms.peer ≡ from → Contains messages (message from x0.address (Says_ack n)) → n ≡ block_count (sent_text x0) terms.size →
+      Goes views messages k (placed (Sending terms n) x0) (row_turn Complete from (placed (Sending terms n) x0).state) (in_state (after Complete from (placed (Sending terms n) x0).state) (placed (Sending terms n) x0))
+  ends_whole from peer acked last =
+      let x = placed (Sending terms n) x0 in
+      let u = kept.phase in
+      let text = sent_text x in
+      let told : text_of_end x ≡ text = text_if (is_sender x.state.side) text (received_text x) u.sender in
+      let whole : n ≡ block_count (text_of_end x) terms.size = subst (λ (t : List ℕ). n ≡ block_count t terms.size) (sym told) last in
+      let shown_now = completes views messages k (view_of_end x) s from (refl, refl) u.sender (ap Some peer) acked whole in
+      let y = in_state (after Complete from x.state) x in
+      let still : text_of_end x ≡ text_of_end y = told ∙ sym (text_if (is_sender x.state.side) text (received_text y) u.sender) in
+      record {
+        said_now = [];
+        shown = subst (λ (ms : List Message). IsShown (set views k (view_of_end y)) ms) (sym (append-nil messages))
+            (subst (λ (t : List ℕ). IsShown (set views k (record (view_of_end x) { done = true; text = t })) messages) still shown_now);
+        replies = refl;
+        kept = record { phase = tt; length = kept.length; held = kept.held; committed = λ r. absurd (true≢false (sym u.sender ∙ r)) };
+        side = refl;
+        newest = inl (refl, refl);
+        stored = λ _. refl;
+      }

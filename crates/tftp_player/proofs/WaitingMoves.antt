@@ -1,0 +1,225 @@
+use Rattle.std.proofs.Common.{◌≡◌, ℕ, ◌*◌, ◌<◌, ◌≤◌, true, false, List, [], ◌∷◌, ◌++◌, length, set, drop, Option, Some, None, Result, Ok, Err, sym, refl, ap, ◌∙◌, subst, arith, inr, append_assoc}
+use Rattle.std.specs.Prelude.{◌==◌, ◌&&◌, if◌then◌else◌, nat_lt, nat_le}
+use Rattle.std.specs.List.{Contains, AllByRecursion}
+use Rattle.std.proofs.lemmas.Bool.{leb-true, ltb-true, eqb-true}
+use Rattle.tftp_wire.specs.declared.mode.Mode.{Mode}
+use Rattle.tftp_wire.specs.declared.options.RawOption.{RawOption}
+use Rattle.tftp_wire.specs.declared.packet.Packet.{Packet as WirePacket}
+use Rattle.tftp_wire.specs.declared.packet.Packet.TheVariants.{Read, Write, Data, Ack, Error, Oack}
+use Rattle.tftp_wire.specs.Spelling.{Spells}
+use Rattle.tftp_negotiate.specs.declared.asked.Asked.{Asked}
+use Rattle.tftp_negotiate.specs.declared.known.Kind.{Kind}
+use Rattle.tftp_negotiate.specs.declared.known.Kind.TheVariants as kinds
+use Rattle.tftp_negotiate.specs.declared.known.Known.{Known}
+use Rattle.tftp_negotiate.specs.declared.known.Known.TheVariants.{Blksize, Timeout, Tsize}
+use Rattle.tftp_negotiate.specs.declared.refusal.Refusal.{Refusal}
+use Rattle.tftp_negotiate.specs.declared.refusal.Refusal.TheVariants as refusals
+use Rattle.tftp_negotiate.specs.Agreed.{size, IsAgreeable}
+use Rattle.tftp_negotiate.specs.Agreement.{agreement, taken_option}
+use Rattle.tftp_negotiate.specs.Asked.{IsAskable}
+use Rattle.tftp_negotiate.specs.Negotiation.{repeats, each_judged}
+use Rattle.tftp_negotiate.proofs.NegotiationLemmas.{values}
+use Rattle.tftp_negotiate.proofs.TermsLemmas.{taken_option-Keeps}
+use Rattle.tftp_file.specs.declared.fault.StoreFault.{StoreFault}
+use Rattle.tftp_file.specs.Block.{block, block_count, Fits}
+use Rattle.tftp_file.specs.Netascii.{wire_text}
+use Rattle.tftp_file.specs.Sink.{Holding}
+use Rattle.tftp_ends.specs.declared.error_reply.ErrorReply.{ErrorReply}
+use Rattle.tftp_ends.specs.declared.error_reply.ErrorReply.TheVariants as replies
+use Rattle.tftp_ends.specs.declared.outcome.Outcome.{Outcome}
+use Rattle.tftp_ends.specs.declared.outcome.Outcome.TheVariants as outcomes
+use Rattle.tftp_ends.specs.declared.phase.Phase.TheVariants.{Waiting}
+use Rattle.tftp_ends.specs.declared.phase.Terms.{Terms}
+use Rattle.tftp_ends.specs.declared.row.Row.{Row}
+use Rattle.tftp_ends.specs.declared.row.Row.TheVariants.{Close, Refuse, Accept, Send, Store}
+use Rattle.tftp_ends.specs.End.{is_sender}
+use Rattle.tftp_ends.specs.Receiver.{receiver_row}
+use Rattle.tftp_ends.specs.Sender.{illegal_row}
+use Rattle.tftp_ends.specs.Step.{StoresIn, row_turn, after}
+use Rattle.tftp_ends.specs.Text.{is_readable}
+use Rattle.tftp_ends.specs.Waiting.{plain_terms, agreed_terms, no_answer, refusal_row, accept_row, begin_row, begin_with_row, reader_row, writer_row}
+use Rattle.tftp_player.specs.Machine.{Endpoint, server_ip, Data as Says_data, Ack as Says_ack, Oack as Says_oack, Message}
+use Rattle.tftp_player.specs.Rules.{message}
+use Rattle.tftp_player.specs.Said.{said, oack_size}
+use Rattle.tftp_player.specs.Shows.{EndView, IsShown}
+use Rattle.tftp_player.specs.World.{OpenedEnd, files_of, holding_of, in_state, received_text, text_of as text_of_end, view_of_end}
+use Rattle.tftp_player.specs.WorldSteps.{never_fails, may_refuse_append}
+use Rattle.tftp_player.specs.WorldKept.{EndKept, sent_text}
+use Rattle.tftp_player.proofs.Rows.{Stands, IsWaiting, stores_first, refuses_first, accepts, sends_first, sends_first_with}
+use Rattle.tftp_player.proofs.SaidLemmas.{data_of, spells_own, taken_oack, negotiated_each}
+use Rattle.tftp_player.proofs.EndMoves.{Goes, placed, from_row, gives_up, refuses_now}
+use Rattle.tftp_player.proofs.SourceMoves.{text_if, data_turn, data_end, data_goes, data_kept, valid_data}
+use Rattle.tftp_player.proofs.SinkMoves.{Receives, told, block_goes, refused_goes}
+use Rattle.tftp_player.proofs.PhaseMoves.{Acting, Heard, if_acts, both_true}
+
+-- a block size of an agreement
+pub agreed_size : (known : List Known) → AllByRecursion IsAgreeable known → (0 < size known) × (size known ≤ 65464)
+agreed_size [] h = (omega arith, omega arith)
+agreed_size (Blksize n ∷ known) h = let l = h.0.0 in (omega arith, h.0.1)
+agreed_size (Timeout n ∷ known) h = agreed_size known h.1
+agreed_size (Tsize n ∷ known) h = agreed_size known h.1
+
+-- and of one that a client took
+pub taken_size : (asked : Asked) (kind : Kind) (options : List RawOption) (mode : Mode) (limit : ℕ) (known : List Known) → IsAskable asked → agreement asked kind mode options limit ≡ Ok known →
+    (0 < size known) × (size known ≤ 65464)
+taken_size asked kind options mode limit known askable e =
+    agreed_size known (values (taken_option asked kind mode limit) (taken_option-Keeps asked kind mode limit askable) options known
+    (negotiated_each (repeats options) (each_judged (taken_option asked kind mode limit) options) known e))
+
+module _ (views : List EndView) (messages : List Message) (k : ℕ) (x0 : OpenedEnd) (asked : Asked) (limit : ℕ)
+    (s : Stands views messages k (view_of_end (placed (Waiting asked limit) x0))) (kept : EndKept (placed (Waiting asked limit) x0))
+    (refuses_commit : Holding → StoreFault → Type 0) (from : Endpoint) (bytes : List ℕ) (server : from.ip ≡ server_ip) where
+  abbrev waiter : OpenedEnd
+  waiter = placed (Waiting asked limit) x0
+
+  abbrev Answers : Row → Type 0
+  Answers row = Acting views messages k waiter refuses_commit from bytes row
+
+  refuse_waiter : (reply : ErrorReply) (outcome : Outcome) → Answers (Refuse None reply outcome)
+  refuse_waiter reply outcome turn held h =
+      from_row views messages k waiter (Refuse None reply outcome) from turn held (refuses_now views messages k waiter s kept reply outcome from refl) h
+
+  close_waiter : (outcome : Outcome) → Answers (Close outcome)
+  close_waiter outcome turn held h =
+      from_row views messages k waiter (Close outcome) from turn held (gives_up views messages k waiter s kept outcome from refl) h
+
+  refusal_acts : (refusal : Refusal) → Answers (refusal_row refusal)
+  refusal_acts refusals.Repeated = refuse_waiter replies.OptionRefused (outcomes.Refused refusals.Repeated)
+  refusal_acts refusals.TooLarge = refuse_waiter replies.DiskFull outcomes.TooLarge
+  refusal_acts refusals.NotAsked = refuse_waiter replies.OptionRefused (outcomes.Refused refusals.NotAsked)
+  refusal_acts refusals.BadValue = refuse_waiter replies.OptionRefused (outcomes.Refused refusals.BadValue)
+
+  -- a reader takes an OACK
+  accept_acts : is_sender x0.state.side ≡ false → (options : List RawOption) (known : List Known) → Contains messages (message from x0.address (Says_oack (oack_size options))) →
+      agreement asked kinds.Read x0.state.mode options limit ≡ Ok known → Answers (Accept (agreed_terms from known))
+  accept_acts reader options known come e turn held h =
+      let row = Accept (agreed_terms from known) in
+      let y = in_state (after row from waiter.state) waiter in
+      let here : Contains messages (message from x0.address (Says_oack (size known))) =
+      subst (λ (n : ℕ). Contains messages (message from x0.address (Says_oack n))) (taken_oack asked kinds.Read x0.state.mode options limit known e) come in
+      let goes_now : Goes views messages k waiter (row_turn row from waiter.state) y = record {
+        said_now = message x0.address from (Says_ack 0) ∷ [];
+        shown = accepts views messages k (view_of_end waiter) s from (size known) ((refl, refl), kept.phase.0, refl, server) reader here;
+        replies = (Ack 0, spells_own (Ack 0) (omega arith), refl);
+        kept = record { phase = (reader, refl); length = kept.length; held = kept.held; committed = kept.committed };
+        side = refl;
+        newest = inr refl;
+        stored = λ _. refl;
+      } in
+      from_row views messages k waiter row from turn held goes_now h
+
+  accept_cases : is_sender x0.state.side ≡ false → (options : List RawOption) → Contains messages (message from x0.address (Says_oack (oack_size options))) →
+      (r : Result (List Known) Refusal) → agreement asked kinds.Read x0.state.mode options limit ≡ r → Answers (accept_row from r)
+  accept_cases reader options come (Ok known) e = accept_acts reader options known come e
+  accept_cases reader options come (Err refusal) e = refusal_acts refusal
+
+  -- a reader gets DATA 1
+  first_acts : is_sender x0.state.side ≡ false → (piece : List ℕ) → length piece ≤ 512 → Spells (Data 1 piece) bytes → Contains messages (message from x0.address (Says_data 1 piece)) →
+      Answers (receiver_row true x0.state.mode [] (plain_terms from) 0 (Some (Data 1 piece)))
+  first_acts reader piece l spelled come =
+      let terms = plain_terms from in
+      let last = nat_lt (length piece) 512 in
+      let none : x0.state.held ≡ [] = kept.phase.4 reader in
+      let waits : IsWaiting (view_of_end waiter) from = ((refl, refl), kept.phase.0, refl, server) in
+      let got : Receives views messages k waiter terms 1 from piece = record {
+        receiver = reader;
+        going = refl;
+        incomplete = refl;
+        peer = refl;
+        fits = omega arith;
+        stored = stores_first views messages k (view_of_end waiter) s from piece waits reader come l;
+        refused = λ t b. refuses_first views messages k (view_of_end waiter) s from piece t waits reader come l b;
+      } in
+      let refuse : (reply : ErrorReply) (outcome : Outcome) → Answers (Refuse (Some terms) reply outcome) =
+      λ reply outcome turn held h. from_row views messages k waiter (Refuse (Some terms) reply outcome) from turn held
+      (refused_goes views messages k waiter terms 1 from piece kept got x0.state.held (holding_of waiter) reply outcome kept.held (kept.committed reader)
+      (x0.state.held ++ piece, sym (append_assoc (wire_text x0.state.mode x0.stored) x0.state.held piece) ∙ ap (λ (t : List ℕ). t ++ piece) (sym (told views messages k waiter terms 1 from piece kept got)))) h in
+      if_acts Answers (nat_lt 512 (length piece)) (illegal_row terms)
+      (if is_readable x0.state.mode [] piece last then Store terms 1 else Refuse (Some terms) replies.NotNetascii outcomes.NotNetascii)
+      (λ e. refuse replies.IllegalOperation outcomes.Illegal)
+      (λ e. if_acts Answers (is_readable x0.state.mode [] piece last) (Store terms 1) (Refuse (Some terms) replies.NotNetascii outcomes.NotNetascii)
+      (λ readable turn held h. block_goes views messages k waiter terms 1 from piece kept got
+      (subst (λ (hs : List ℕ). is_readable x0.state.mode hs piece last ≡ true) (sym none) readable) refuses_commit turn held
+      (subst (λ (bs : List ℕ). StoresIn (λ (z : List ℕ). Some z) never_fails (λ (z : Holding). Some z) may_refuse_append refuses_commit terms 1 from bs waiter.state (files_of waiter) turn held) (data_of 1 piece bytes spelled) h))
+      (λ g. refuse replies.NotNetascii outcomes.NotNetascii))
+
+  first_cases : is_sender x0.state.side ≡ false → (number : ℕ) (piece : List ℕ) → number ≡ 1 → length piece ≤ 512 → Spells (Data number piece) bytes → Contains messages (message from x0.address (Says_data number piece)) →
+      Answers (receiver_row true x0.state.mode [] (plain_terms from) 0 (Some (Data number piece)))
+  first_cases reader number piece is l =
+      subst (λ (n : ℕ). Spells (Data n piece) bytes → Contains messages (message from x0.address (Says_data n piece)) → Answers (receiver_row true x0.state.mode [] (plain_terms from) 0 (Some (Data n piece))))
+      (sym is) (first_acts reader piece l)
+
+  -- a waiting reader with any packet
+  pub reader_acts : is_sender x0.state.side ≡ false → (heard : Option WirePacket) → ((p : WirePacket) → heard ≡ Some p → Spells p bytes) → Heard messages from x0 heard →
+      Answers (reader_row x0.state.mode asked limit from heard)
+  reader_acts reader None spelled come = refuse_waiter replies.IllegalOperation outcomes.Illegal
+  reader_acts reader (Some (Read r)) spelled come = refuse_waiter replies.IllegalOperation outcomes.Illegal
+  reader_acts reader (Some (Write r)) spelled come = refuse_waiter replies.IllegalOperation outcomes.Illegal
+  reader_acts reader (Some (Data number piece)) spelled come =
+      if_acts Answers (number == 1 && nat_le (length piece) 512) (receiver_row true x0.state.mode [] (plain_terms from) 0 (Some (Data number piece))) no_answer
+      (λ e. let b = both_true (number == 1) (nat_le (length piece) 512) e in
+      first_cases reader number piece (eqb-true number 1 b.0) (leb-true (length piece) 512 b.1) (spelled (Data number piece) refl) (come (Data number piece) refl))
+      (λ e. refuse_waiter replies.IllegalOperation outcomes.Illegal)
+  reader_acts reader (Some (Ack acked)) spelled come = refuse_waiter replies.IllegalOperation outcomes.Illegal
+  reader_acts reader (Some (Error code text)) spelled come = close_waiter (outcomes.PeerError code)
+  reader_acts reader (Some (Oack options)) spelled come =
+      accept_cases reader options (come (Oack options) refl) (agreement asked kinds.Read x0.state.mode options limit) refl
+
+  -- a writer begins
+  begin_acts : is_sender x0.state.side ≡ true → (terms : Terms) → terms.peer ≡ from → 0 < terms.size → terms.size ≤ 65464 →
+      (Fits (text_of_end waiter) terms.size → IsShown (set views k (record (view_of_end waiter) { peer = Some from; size = terms.size; number = 1 })) (messages ++ message x0.address from (Says_data 1 (block (text_of_end waiter) terms.size 1)) ∷ [])) →
+      Answers (begin_row x0.state.length terms)
+  begin_acts writer terms peer positive small shown =
+      if_acts Answers (nat_lt x0.state.length (65535 * terms.size)) (Send terms 1) (Refuse None replies.FileTooLarge outcomes.TooLarge)
+      (λ e.
+      let text = sent_text x0 in
+      let measured : x0.state.length ≡ length text = kept.length writer in
+      let fits : Fits text terms.size = subst (λ (n : ℕ). n < 65535 * terms.size) measured (ltb-true x0.state.length (65535 * terms.size) e) in
+      let told_now : text_of_end waiter ≡ text = text_if (is_sender x0.state.side) text (received_text waiter) writer in
+      let zero_blocks : 0 * terms.size ≡ 0 = omega arith in
+      let behind : x0.left ≡ drop (0 * terms.size) text = kept.phase.3 ∙ ap (λ (n : ℕ). drop n text) (sym zero_blocks) in
+      let l : 1 ≤ block_count text terms.size = omega arith in
+      let packet = Data 1 (block text terms.size 1) in
+      let goes_now : Goes views messages k waiter (data_turn waiter terms 0 from) (data_end waiter terms 0 from) = record {
+        said_now = message x0.address from (said packet) ∷ [];
+        shown = subst (λ (p : Endpoint). IsShown (set views k (record (view_of_end waiter) { peer = Some p; size = terms.size; number = 1 })) (messages ++ message x0.address from (said packet) ∷ [])) (sym peer)
+            (subst (λ (t : List ℕ). IsShown (set views k (record (view_of_end waiter) { peer = Some from; size = terms.size; number = 1 })) (messages ++ message x0.address from (Says_data 1 (block t terms.size 1)) ∷ [])) told_now
+            (shown (subst (λ (t : List ℕ). Fits t terms.size) (sym told_now) fits)));
+        replies = (packet, spells_own packet (valid_data text terms.size 0 positive small fits l), refl);
+        kept = data_kept waiter terms 0 from kept writer positive small fits l (sym peer);
+        side = refl;
+        newest = inr refl;
+        stored = λ _. refl;
+      } in
+      λ turn held h. data_goes views messages k waiter terms 0 from turn held refuses_commit writer measured behind goes_now h)
+      (λ e. refuse_waiter replies.FileTooLarge outcomes.TooLarge)
+
+  begin_plain : is_sender x0.state.side ≡ true → Contains messages (message from x0.address (Says_ack 0)) → Answers (begin_row x0.state.length (plain_terms from))
+  begin_plain writer come =
+      begin_acts writer (plain_terms from) refl (omega arith) (omega arith)
+      (λ fits. sends_first views messages k (view_of_end waiter) s from ((refl, refl), kept.phase.0, refl, server) writer come fits)
+
+  begin_with : is_sender x0.state.side ≡ true → (options : List RawOption) → Contains messages (message from x0.address (Says_oack (oack_size options))) →
+      (r : Result (List Known) Refusal) → agreement asked kinds.Write x0.state.mode options limit ≡ r → Answers (begin_with_row from x0.state.length r)
+  begin_with writer options come (Ok known) e =
+      let b = taken_size asked kinds.Write options x0.state.mode limit known kept.phase.1 e in
+      let here : Contains messages (message from x0.address (Says_oack (size known))) =
+      subst (λ (n : ℕ). Contains messages (message from x0.address (Says_oack n))) (taken_oack asked kinds.Write x0.state.mode options limit known e) come in
+      begin_acts writer (agreed_terms from known) refl b.0 b.1
+      (λ fits. sends_first_with views messages k (view_of_end waiter) s from (size known) ((refl, refl), kept.phase.0, refl, server) writer here fits)
+  begin_with writer options come (Err refusal) e = refusal_acts refusal
+
+  -- a waiting writer with any packet
+  pub writer_acts : is_sender x0.state.side ≡ true → (heard : Option WirePacket) → Heard messages from x0 heard →
+      Answers (writer_row x0.state.mode asked limit x0.state.length from heard)
+  writer_acts writer None come = refuse_waiter replies.IllegalOperation outcomes.Illegal
+  writer_acts writer (Some (Read r)) come = refuse_waiter replies.IllegalOperation outcomes.Illegal
+  writer_acts writer (Some (Write r)) come = refuse_waiter replies.IllegalOperation outcomes.Illegal
+  writer_acts writer (Some (Data number piece)) come = refuse_waiter replies.IllegalOperation outcomes.Illegal
+  writer_acts writer (Some (Ack acked)) come =
+      if_acts Answers (acked == 0) (begin_row x0.state.length (plain_terms from)) no_answer
+      (λ e. begin_plain writer (subst (λ (n : ℕ). Contains messages (message from x0.address (Says_ack n))) (eqb-true acked 0 e) (come (Ack acked) refl)))
+      (λ e. refuse_waiter replies.IllegalOperation outcomes.Illegal)
+  writer_acts writer (Some (Error code text)) come = close_waiter (outcomes.PeerError code)
+  writer_acts writer (Some (Oack options)) come =
+      begin_with writer options (come (Oack options) refl) (agreement asked kinds.Write x0.state.mode options limit) refl

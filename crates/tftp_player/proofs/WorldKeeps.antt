@@ -1,0 +1,231 @@
+use Rattle.std.proofs.Common.{◌≡◌, ℕ, ◌+◌, ◌*◌, ◌<◌, ◌≤◌, Bool, true, false, List, [], ◌∷◌, ◌++◌, length, map, drop, Option, Some, None, Result, Ok, Err, sym, refl, ap, ◌∙◌, subst, arith, suc}
+use Rattle.std.specs.Prelude.{◌≢◌, if◌then◌else◌, nat_lt, nat_le}
+use Rattle.std.specs.List.{Contains, AllByRecursion}
+use Rattle.std.proofs.lemmas.Bool.{true≢false, ltb-true}
+use Rattle.std.proofs.lemmas.List.{append-nil}
+use Rattle.tftp_wire.specs.declared.mode.Mode.{Mode}
+use Rattle.tftp_wire.specs.declared.mode.Mode.TheVariants.{Octet, Netascii}
+use Rattle.tftp_wire.specs.declared.packet.Packet.{Packet as WirePacket}
+use Rattle.tftp_wire.specs.declared.packet.Packet.TheVariants.{Read, Write, Data, Ack, Error, Oack}
+use Rattle.tftp_wire.specs.declared.packet.Request.{Request}
+use Rattle.tftp_wire.specs.Spelling.{IsValid}
+use Rattle.tftp_wire.specs.declared.options.RawOption.{RawOption}
+use Rattle.tftp_negotiate.specs.declared.asked.Asked.{Asked}
+use Rattle.tftp_negotiate.specs.declared.known.Kind.{Kind}
+use Rattle.tftp_negotiate.specs.declared.known.Kind.TheVariants as kinds
+use Rattle.tftp_negotiate.specs.declared.known.Known.{Known}
+use Rattle.tftp_negotiate.specs.declared.limits.Limits.{Limits}
+use Rattle.tftp_negotiate.specs.declared.refusal.Refusal.{Refusal}
+use Rattle.tftp_negotiate.specs.Agreed.{size, IsAgreeable, agreed_options}
+use Rattle.tftp_negotiate.specs.Answer.{answer, answered_option}
+use Rattle.tftp_negotiate.specs.Negotiation.{repeats, each_judged}
+use Rattle.tftp_negotiate.specs.Ranges.{IsBlockSize}
+use Rattle.tftp_negotiate.proofs.NegotiationLemmas.{values}
+use Rattle.tftp_negotiate.proofs.TermsLemmas.{answered_option-Keeps}
+use Rattle.tftp_file.specs.declared.path.PathFault.{PathFault}
+use Rattle.tftp_file.specs.Block.{block, block_count, Fits}
+use Rattle.tftp_file.specs.Netascii.{wire_text}
+use Rattle.tftp_file.specs.Path.{path_of_name}
+use Rattle.tftp_ends.specs.declared.error_reply.ErrorReply.{ErrorReply}
+use Rattle.tftp_ends.specs.declared.error_reply.ErrorReply.TheVariants.{FileTooLarge, ServerBusy, FileNotFound, AccessViolation, IllegalOperation, FileExists}
+use Rattle.tftp_ends.specs.ErrorReply.{error_packet}
+use Rattle.tftp_ends.specs.Row.{begins_error}
+use Rattle.tftp_ends.specs.Step.{error_bytes}
+use Rattle.tftp_player.specs.Machine.{Endpoint, Elsewhere, host_of, server_ip, client_ip, request_port, Request as Says_request, Oack as Says_oack}
+use Rattle.tftp_player.specs.Rules.{message}
+use Rattle.tftp_player.specs.Said.{said}
+use Rattle.tftp_player.specs.Shows.{IsShown}
+use Rattle.tftp_player.specs.World.{WorldState, OpenedEnd, file_at, datagram, said_in, view_of_end}
+use Rattle.tftp_player.specs.Openings.{request_of, reading_client, writing_client, MayRead, MayWrite, sending_end, receiving_end}
+use Rattle.tftp_player.specs.Requests.{Service, Ignores, Refuses, Sends_file, open_transfers, refusal_reply, sending, read_service, taking, write_service, path_service, packet_service, service}
+use Rattle.tftp_player.specs.WorldSteps.{Stays, Serves, Opens}
+use Rattle.tftp_player.specs.WorldKept.{HeldFits, IsOk}
+use Rattle.tftp_player.specs.declared.report.Report.{Report}
+use Rattle.tftp_player.proofs.Rows.{host_server, host_client, asks, serves_plainly, serves_with, says_error}
+use Rattle.tftp_player.proofs.SaidLemmas.{spells_own, own_oack, negotiated_each}
+use Rattle.tftp_player.proofs.EndMoves.{valid_error}
+use Rattle.tftp_player.proofs.SourceMoves.{valid_data}
+use Rattle.tftp_player.proofs.WaitingMoves.{agreed_size}
+use Rattle.tftp_player.proofs.OackLemmas.{valid_oack}
+use Rattle.tftp_player.proofs.WorldTurns.{opening_keeps, saying_keeps}
+
+at_server : (a : Endpoint) → a.ip ≡ server_ip → host_of a ≢ Elsewhere
+at_server a e f = let h = sym (host_server a e) ∙ f in cc
+
+at_client : (a : Endpoint) → a.ip ≡ client_ip → host_of a ≢ Elsewhere
+at_client a e f = let h = sym (host_client a e) ∙ f in cc
+
+length_views : (w : WorldState) → length (map view_of_end w.ends) ≡ length w.ends
+length_views w = counted w.ends where
+  counted : (ends : List OpenedEnd) → length (map view_of_end ends) ≡ length ends
+  counted [] = refl
+  counted (x ∷ ends) = ap suc (counted ends)
+
+empty_text : (mode : Mode) → wire_text mode [] ≡ []
+empty_text Octet = refl
+empty_text Netascii = refl
+
+empty_held : (mode : Mode) → HeldFits mode []
+empty_held Octet = refl
+empty_held Netascii = tt
+
+-- what a new receiver has
+no_text : (mode : Mode) → wire_text mode [] ++ [] ≡ []
+no_text mode = append-nil (wire_text mode []) ∙ empty_text mode
+
+pub stays_ok : (strangers : Bool) (w v : WorldState) (report : Report) → IsOk strangers w → Stays w report v → IsOk strangers v
+stays_ok strangers w v report ok s = subst (λ (z : WorldState). IsOk strangers z) (sym s.is) ok
+
+-- a client opens
+pub reading_keeps : (strangers : Bool) (w v : WorldState) (name : List ℕ) (mode : Mode) (asked : Asked) (report : Report) → IsOk strangers w → MayRead name mode asked →
+    Opens w (reading_client w name mode asked) report v → IsOk strangers v
+reading_keeps strangers w v name mode asked report ok may o =
+    let x = reading_client w name mode asked in
+    let p = Read (request_of name mode asked) in
+    let a = x.address in
+    let shown_now = asks (map view_of_end w.ends) ok.messages ok.shown a false mode (wire_text mode [] ++ []) refl (ap (λ (n : ℕ). 1024 + n) (sym (length_views w))) (λ _. no_text mode) in
+    opening_keeps strangers w v ok x report p (spells_own p may.valid) shown_now (at_client a refl)
+    (record { phase = (refl, may.allowed.askable, refl, refl, λ _. refl); length = λ e. absurd (true≢false (sym e)); held = empty_held mode; committed = λ _. refl }) refl o
+
+pub writing_keeps : (strangers : Bool) (w v : WorldState) (name : List ℕ) (mode : Mode) (asked : Asked) (file : List ℕ) (report : Report) → IsOk strangers w → MayWrite name mode asked file →
+    Opens w (writing_client w name mode asked file) report v → IsOk strangers v
+writing_keeps strangers w v name mode asked file report ok may o =
+    let x = writing_client w name mode asked file in
+    let p = Write (request_of name mode asked) in
+    let a = x.address in
+    let shown_now = asks (map view_of_end w.ends) ok.messages ok.shown a true mode (wire_text mode file) refl (ap (λ (n : ℕ). 1024 + n) (sym (length_views w))) (λ e. absurd (true≢false e)) in
+    opening_keeps strangers w v ok x report p (spells_own p may.valid) shown_now (at_client a refl)
+    (record { phase = (refl, may.allowed.askable, refl, refl, λ _. refl); length = λ _. refl; held = empty_held mode; committed = λ e. absurd (true≢false e) }) refl o
+
+-- the options that a server agreed to
+answered_values : (kind : Kind) (mode : Mode) (told : ℕ) (limits : Limits) (options : List RawOption) (known : List Known) → IsBlockSize limits.max_block →
+    answer options kind mode told limits ≡ Ok known → AllByRecursion IsAgreeable known
+answered_values kind mode told limits options known ok e =
+    values (answered_option kind mode told limits) (answered_option-Keeps kind mode told limits ok) options known
+    (negotiated_each (repeats options) (each_judged (answered_option kind mode told limits) options) known e)
+
+-- a read is served
+sending_keeps : (strangers : Bool) (w v : WorldState) (from : Endpoint) (mode : Mode) (path file : List ℕ) (agreed : List Known) (report : Report) (ok : IsOk strangers w) →
+    Contains ok.messages (message from request_port (Says_request false mode)) → AllByRecursion IsAgreeable agreed → (agreed ≢ [] → IsValid (Oack (agreed_options agreed))) → Fits (wire_text mode file) (size agreed) →
+    Opens w (sending_end w from mode path file agreed) report v → IsOk strangers v
+sending_keeps strangers w v from mode path file [] report ok come agreeable valid fits o =
+    let text = wire_text mode file in
+    let x = sending_end w from mode path file [] in
+    let one : 1 ≤ block_count text 512 = omega arith in
+    let p = Data 1 (block text 512 1) in
+    let shown_now = serves_plainly (map view_of_end w.ends) ok.messages ok.shown x.address from false mode text refl (ap (λ (n : ℕ). 1024 + n) (sym (length_views w))) come fits in
+    opening_keeps strangers w v ok x report p (spells_own p (valid_data text 512 0 (omega arith) (omega arith) fits one)) shown_now (at_server x.address refl)
+    (record {
+      phase = record { sender = refl; positive = omega arith; size = omega arith; fits = fits; so_far = one; left = refl; newest_to = refl };
+      length = λ _. refl;
+      held = empty_held mode;
+      committed = λ e. absurd (true≢false e);
+    }) refl o
+sending_keeps strangers w v from mode path file (known ∷ agreed) report ok come agreeable valid fits o =
+    let text = wire_text mode file in
+    let x = sending_end w from mode path file (known ∷ agreed) in
+    let b = agreed_size (known ∷ agreed) agreeable in
+    let p = Oack (agreed_options (known ∷ agreed)) in
+    let shown_now = serves_with (map view_of_end w.ends) ok.messages ok.shown x.address from false mode text (size (known ∷ agreed)) refl (ap (λ (n : ℕ). 1024 + n) (sym (length_views w))) come fits b.0 in
+    let says = subst (λ (n : ℕ). IsShown (map view_of_end w.ends ++ view_of_end x ∷ []) (ok.messages ++ message x.address from (Says_oack n) ∷ [])) (sym (own_oack (known ∷ agreed) agreeable)) shown_now in
+    let none : 0 * size (known ∷ agreed) ≡ 0 = omega arith in
+    opening_keeps strangers w v ok x report p (spells_own p (valid (λ e. cc))) says (at_server x.address refl)
+    (record {
+      phase = record { sender = refl; positive = b.0; size = b.1; fits = fits; so_far = omega arith; left = ap (λ (n : ℕ). drop n text) (sym none); newest_to = refl };
+      length = λ _. refl;
+      held = empty_held mode;
+      committed = λ e. absurd (true≢false e);
+    }) refl o
+
+-- a write is served
+taking_keeps : (strangers : Bool) (w v : WorldState) (from : Endpoint) (mode : Mode) (path : List ℕ) (agreed : List Known) (report : Report) (ok : IsOk strangers w) →
+    Contains ok.messages (message from request_port (Says_request true mode)) → AllByRecursion IsAgreeable agreed → (agreed ≢ [] → IsValid (Oack (agreed_options agreed))) →
+    Opens w (receiving_end w from mode path agreed) report v → IsOk strangers v
+taking_keeps strangers w v from mode path [] report ok come agreeable valid o =
+    let x = receiving_end w from mode path [] in
+    let shown_now = serves_plainly (map view_of_end w.ends) ok.messages ok.shown x.address from true mode (wire_text mode [] ++ []) refl (ap (λ (n : ℕ). 1024 + n) (sym (length_views w))) come (no_text mode) in
+    opening_keeps strangers w v ok x report (Ack 0) (spells_own (Ack 0) (omega arith)) shown_now (at_server x.address refl)
+    (record { phase = (refl, refl); length = λ e. absurd (true≢false (sym e)); held = empty_held mode; committed = λ _. refl }) refl o
+taking_keeps strangers w v from mode path (known ∷ agreed) report ok come agreeable valid o =
+    let x = receiving_end w from mode path (known ∷ agreed) in
+    let b = agreed_size (known ∷ agreed) agreeable in
+    let p = Oack (agreed_options (known ∷ agreed)) in
+    let shown_now = serves_with (map view_of_end w.ends) ok.messages ok.shown x.address from true mode (wire_text mode [] ++ []) (size (known ∷ agreed)) refl (ap (λ (n : ℕ). 1024 + n) (sym (length_views w))) come (no_text mode) b.0 in
+    let says = subst (λ (n : ℕ). IsShown (map view_of_end w.ends ++ view_of_end x ∷ []) (ok.messages ++ message x.address from (Says_oack n) ∷ [])) (sym (own_oack (known ∷ agreed) agreeable)) shown_now in
+    opening_keeps strangers w v ok x report p (spells_own p (valid (λ e. cc))) says (at_server x.address refl)
+    (record { phase = (refl, refl); length = λ e. absurd (true≢false (sym e)); held = empty_held mode; committed = λ _. refl }) refl o
+
+-- the request port refuses
+refusing_keeps : (strangers : Bool) (w v : WorldState) (from : Endpoint) (reply : ErrorReply) → IsOk strangers w → v ≡ said_in w (datagram request_port from (error_bytes reply)) → IsOk strangers v
+refusing_keeps strangers w v from reply ok e =
+    subst (λ (z : WorldState). IsOk strangers z) (sym e)
+    (saying_keeps strangers w ok request_port from (error_bytes reply) (error_packet reply) (spells_own (error_packet reply) (valid_error reply))
+    (says_error (map view_of_end w.ends) ok.messages ok.shown request_port from) (at_server request_port refl))
+
+-- either way of a test
+if_served : (P : Service → Type 0) (b : Bool) (r s : Service) → (b ≡ true → P r) → (b ≡ false → P s) → P (if b then r else s)
+if_served P true r s f g = f refl
+if_served P false r s f g = g refl
+
+module _ (strangers : Bool) (w v : WorldState) (from : Endpoint) (report : Report) (ok : IsOk strangers w) where
+  abbrev Kept_by : Service → Type 0
+  Kept_by service = Serves service w from report v → IsOk strangers v
+
+  refused : (reply : ErrorReply) → Kept_by (Refuses reply)
+  refused reply h = refusing_keeps strangers w v from reply ok h.1
+
+  -- a read with the server's answer to its options
+  sending_served : (r : Request) (path file : List ℕ) (a : Result (List Known) Refusal) → Contains ok.messages (message from request_port (Says_request false r.mode)) →
+      answer r.options kinds.Read r.mode (length (wire_text r.mode file)) w.limits ≡ a → Kept_by (sending path file r.mode a)
+  sending_served r path file (Err refusal) come e = refused (refusal_reply refusal)
+  sending_served r path file (Ok agreed) come e =
+      let text = wire_text r.mode file in
+      if_served Kept_by (nat_lt (length text) (65535 * size agreed)) (Sends_file path file r.mode agreed) (Refuses FileTooLarge)
+      (λ f.
+      let fits : Fits text (size agreed) = ltb-true (length text) (65535 * size agreed) f in
+      let agreeable = answered_values kinds.Read r.mode (length text) w.limits r.options agreed ok.max_block e in
+      let small = let b = agreed_size agreed agreeable in let c = b.1 in let l : length text < 65535 * 65464 = omega arith in l in
+      sending_keeps strangers w v from r.mode path file agreed report ok come agreeable
+      (λ some. valid_oack kinds.Read r.mode (length text) w.limits r.options agreed (omega (arith, small)) ok.max_block e some) fits)
+      (λ f. refused FileTooLarge)
+
+  reading_served : (r : Request) (path : List ℕ) (there : Option (List ℕ)) → Contains ok.messages (message from request_port (Says_request false r.mode)) → Kept_by (read_service w r path there)
+  reading_served r path None come = refused FileNotFound
+  reading_served r path (Some file) come = sending_served r path file (answer r.options kinds.Read r.mode (length (wire_text r.mode file)) w.limits) come refl
+
+  -- a write with the server's answer to its options
+  taking_served : (r : Request) (path : List ℕ) (there : Option (List ℕ)) (a : Result (List Known) Refusal) → Contains ok.messages (message from request_port (Says_request true r.mode)) →
+      answer r.options kinds.Write r.mode 0 w.limits ≡ a → Kept_by (taking path r.mode there a)
+  taking_served r path None (Err refusal) come e = refused (refusal_reply refusal)
+  taking_served r path (Some file) (Err refusal) come e = refused (refusal_reply refusal)
+  taking_served r path None (Ok agreed) come e =
+      taking_keeps strangers w v from r.mode path agreed report ok come (answered_values kinds.Write r.mode 0 w.limits r.options agreed ok.max_block e)
+      (λ some. valid_oack kinds.Write r.mode 0 w.limits r.options agreed (omega arith) ok.max_block e some)
+  taking_served r path (Some file) (Ok agreed) come e = refused FileExists
+
+  by_path : (write : Bool) (r : Request) (path : Result (List ℕ) PathFault) → Contains ok.messages (message from request_port (Says_request write r.mode)) → Kept_by (path_service w write r path)
+  by_path write r (Err fault) come = refused AccessViolation
+  by_path true r (Ok path) come =
+      if_served Kept_by (nat_le w.cap (open_transfers w.ends)) (Refuses ServerBusy) (write_service w r path)
+      (λ b. refused ServerBusy)
+      (λ b. taking_served r path (file_at w.files path) (answer r.options kinds.Write r.mode 0 w.limits) come refl)
+  by_path false r (Ok path) come =
+      if_served Kept_by (nat_le w.cap (open_transfers w.ends)) (Refuses ServerBusy) (read_service w r path (file_at w.files path))
+      (λ b. refused ServerBusy)
+      (λ b. reading_served r path (file_at w.files path) come)
+
+  by_request : (heard : Option WirePacket) → ((p : WirePacket) → heard ≡ Some p → Contains ok.messages (message from request_port (said p))) → Kept_by (packet_service w heard)
+  by_request None come = refused IllegalOperation
+  by_request (Some (Read r)) come = by_path false r (path_of_name r.name) (come (Read r) refl)
+  by_request (Some (Write r)) come = by_path true r (path_of_name r.name) (come (Write r) refl)
+  by_request (Some (Data number bytes)) come = refused IllegalOperation
+  by_request (Some (Ack number)) come = refused IllegalOperation
+  by_request (Some (Error code text)) come = refused IllegalOperation
+  by_request (Some (Oack options)) come = refused IllegalOperation
+
+  -- the request port keeps the world
+  pub serving_keeps : (bytes : List ℕ) (heard : Option WirePacket) → ((p : WirePacket) → heard ≡ Some p → Contains ok.messages (message from request_port (said p))) → Kept_by (service w bytes heard)
+  serving_keeps bytes heard come =
+      if_served Kept_by (begins_error bytes) Ignores (packet_service w heard)
+      (λ b h. stays_ok strangers w v report ok h)
+      (λ b. by_request heard come)

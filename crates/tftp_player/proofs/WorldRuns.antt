@@ -1,0 +1,241 @@
+use Rattle.std.proofs.Common.{◌≡◌, ℕ, Bool, true, false, List, [], ◌∷◌, ◌++◌, map, set, Option, Some, None, sym, refl, ap, ◌∙◌, subst, inl, inr, zero, suc}
+use Rattle.std.specs.Prelude.{if◌then◌else◌, slice_get}
+use Rattle.std.specs.List.{Contains}
+use Rattle.std.proofs.lemmas.Bool.{true≢false}
+use Rattle.std.proofs.lemmas.List.{map-set}
+use Rattle.std.proofs.lemmas.List.Elements.{Contains-append_cases, Contains-append_left, Contains-append_right, Contains-push}
+use Rattle.std.proofs.lemmas.Option.{same_Some}
+use Rattle.tftp_wire.specs.declared.packet.Packet.{Packet as WirePacket}
+use Rattle.tftp_wire.specs.Spelling.{Spells}
+use Rattle.tftp_negotiate.specs.declared.limits.Limits.{Limits}
+use Rattle.tftp_negotiate.specs.Ranges.{IsBlockSize}
+use Rattle.tftp_ends.specs.declared.phase.Phase.{Phase}
+use Rattle.tftp_ends.specs.declared.phase.Phase.TheVariants.{Waiting, Sending, Receiving, Dallying, Closed}
+use Rattle.tftp_ends.specs.End.{is_sender, is_client}
+use Rattle.tftp_ends.specs.Row.{Says, timeout_row}
+use Rattle.tftp_ends.specs.Step.{timeout_turn}
+use Rattle.tftp_player.specs.Machine.{Endpoint, Elsewhere, host_of, Message}
+use Rattle.tftp_player.specs.Rules.{message}
+use Rattle.tftp_player.specs.Said.{said}
+use Rattle.tftp_player.specs.Shows.{EndView, IsShown}
+use Rattle.tftp_player.specs.World.{WorldState, OpenedEnd, StoredFile, file_at, datagram, files_of, is_closed, new_world, view_of_end}
+use Rattle.tftp_player.specs.WorldSteps.{may_refuse_commit, Hearing, Arrives, At_request_port, At_open_end, At_closed_end, At_nobody, TimesOut, told_to_refuse}
+use Rattle.tftp_player.specs.WorldKept.{PhaseKept, IsKeptIn, IsOk}
+use Rattle.tftp_player.specs.WorldRuns.{Runs, MayAllHappen, StepsKeep}
+use Rattle.tftp_player.specs.WorldSafety.{HasPeersAtHome}
+use Rattle.tftp_player.specs.declared.datagram.Datagram.{Datagram}
+use Rattle.tftp_player.specs.declared.event.Event.{Event}
+use Rattle.tftp_player.specs.declared.event.Event.TheVariants.{Get, Put, Deliver, Timeout, RefuseStore, Stray}
+use Rattle.tftp_player.specs.declared.report.Report.{Report}
+use Rattle.tftp_player.proofs.Places.{slice_get-set_cases}
+use Rattle.tftp_player.proofs.Rows.{Stands, strays}
+use Rattle.tftp_player.proofs.Shown.{shown_start}
+use Rattle.tftp_player.proofs.ViewSafe.{shown_at_home}
+use Rattle.tftp_player.proofs.SaidLemmas.{one_packet, none_packet}
+use Rattle.tftp_player.proofs.EndMoves.{IsThere, from_row}
+use Rattle.tftp_player.proofs.EndTurns.{by_datagram, by_timeout}
+use Rattle.tftp_player.proofs.WorldTurns.{nothing_in, one_in, turn_keeps, view_at}
+use Rattle.tftp_player.proofs.WorldKeeps.{reading_keeps, writing_keeps, serving_keeps, stays_ok}
+
+contains_at : {X : Type 0} (xs : List X) (k : ℕ) (x : X) → slice_get xs k ≡ Some x → Contains xs x
+contains_at {X = X} [] k x e = absurd (let f : None ≡ Some x = e in cc)
+contains_at {X = X} (y ∷ ys) zero x e = subst (λ (z : X). Contains (y ∷ ys) z) (same_Some y x e) (Contains-append_left (y ∷ []) ys y (Contains-push [] y))
+contains_at {X = X} (y ∷ ys) (suc k) x e = Contains-append_right (y ∷ []) ys x (contains_at ys k x e)
+
+set_same : {X : Type 0} (xs : List X) (k : ℕ) (x : X) → slice_get xs k ≡ Some x → set xs k x ≡ xs
+set_same {X = X} [] k x e = refl
+set_same {X = X} (y ∷ ys) zero x e = ap (λ (z : X). z ∷ ys) (sym (same_Some y x e))
+set_same {X = X} (y ∷ ys) (suc k) x e = ap (λ (zs : List X). y ∷ zs) (set_same ys k x e)
+
+-- what a datagram of the list says is there
+come_from : (strangers : Bool) (w : WorldState) (ok : IsOk strangers w) (d : Datagram) → Contains w.sent d → (p : WirePacket) → Spells p d.bytes → Contains ok.messages (message d.from d.to (said p))
+come_from strangers w ok d i p s =
+    let h = ok.sent d i in
+    let same : h.1.packet ≡ p = one_packet h.1.packet p d.bytes h.1.spells s in
+    subst (λ (q : WirePacket). Contains ok.messages (message d.from d.to (said q))) same (subst (λ (m : Message). Contains ok.messages m) h.1.says h.2)
+
+there_now : (strangers : Bool) (w : WorldState) (ok : IsOk strangers w) (from to : Endpoint) (bytes : List ℕ) → Contains w.sent (datagram from to bytes) → IsThere ok.messages from to bytes
+there_now strangers w ok from to bytes i =
+    let h = ok.sent (datagram from to bytes) i in
+    (h.1.packet, h.1.spells, subst (λ (m : Message). Contains ok.messages m) h.1.says h.2)
+
+says_spelled : (bytes : List ℕ) (heard : Option WirePacket) → Says bytes heard → (p : WirePacket) → heard ≡ Some p → Spells p bytes
+says_spelled bytes (Some q) s p e = subst (λ (z : WirePacket). Spells z bytes) (same_Some q p e) s
+says_spelled bytes None s p e = absurd (let f : None ≡ Some p = e in cc)
+
+module _ (strangers : Bool) (w v : WorldState) (ok : IsOk strangers w) (report : Report) where
+  -- what an end has heard keeps the world
+  hearing_keeps : (k : ℕ) (x : OpenedEnd) (from : Endpoint) (bytes : List ℕ) → slice_get w.ends k ≡ Some x → is_closed x ≡ false →
+      ((p : WirePacket) → Spells p bytes → Contains ok.messages (message from x.address (said p))) → Hearing w k x from bytes report v → IsOk strangers v
+  hearing_keeps k x from bytes at open_now come h =
+      let views = map view_of_end w.ends in
+      let s : Stands views ok.messages k (view_of_end x) = record { shown = ok.shown; place = view_at w.ends k x at } in
+      let kept = ok.ends k x at in
+      let spelled = says_spelled bytes h.hears.heard h.hears.says in
+      let old = there_now strangers w ok x.address x.state.newest_to x.state.newest kept.newest in
+      let goes_now = by_datagram views ok.messages k x (may_refuse_commit (is_client x.state.side) (file_at w.files x.path)) from bytes h.hears.heard spelled
+      (λ p e. come p (spelled p e)) old x.state.phase s kept.kept open_now h.turn h.held h.hears.acts in
+      turn_keeps strangers w v ok k x h.turn h.held report at goes_now h.turns
+
+  -- a datagram that came keeps the world
+  arrives_keeps : (from to : Endpoint) (bytes : List ℕ) → ((p : WirePacket) → Spells p bytes → Contains ok.messages (message from to (said p))) →
+      Arrives w from to bytes report v → IsOk strangers v
+  arrives_keeps from to bytes come (At_request_port here port heard says served) =
+      let spelled = says_spelled bytes heard says in
+      serving_keeps strangers w v from report ok bytes heard
+      (λ p e. subst (λ (a : Endpoint). Contains ok.messages (message from a (said p))) here (come p (spelled p e))) served
+  arrives_keeps from to bytes come (At_open_end k x at here open_now h) =
+      hearing_keeps k x from bytes at open_now (λ p s. subst (λ (a : Endpoint). Contains ok.messages (message from a (said p))) (sym here) (come p s)) h
+  arrives_keeps from to bytes come (At_closed_end k x at here closed_now s) = stays_ok strangers w v report ok s
+  arrives_keeps from to bytes come (At_nobody away nobody_there s) = stays_ok strangers w v report ok s
+
+  -- a timeout keeps the world
+  timeout_keeps : (k : ℕ) (x : OpenedEnd) → slice_get w.ends k ≡ Some x → (b : Bool) → is_closed x ≡ b → TimesOut b w k x report v → IsOk strangers v
+  timeout_keeps k x at true closed_now s = stays_ok strangers w v report ok s
+  timeout_keeps k x at false open_now t =
+      let views = map view_of_end w.ends in
+      let s : Stands views ok.messages k (view_of_end x) = record { shown = ok.shown; place = view_at w.ends k x at } in
+      let kept = ok.ends k x at in
+      let old = there_now strangers w ok x.address x.state.newest_to x.state.newest kept.newest in
+      let g = by_timeout views ok.messages k x old x.state.phase s kept.kept open_now in
+      turn_keeps strangers w v ok k x (timeout_turn x.state) (files_of x) report at
+      (from_row views ok.messages k x (timeout_row x.state.retries_left x.state.phase) x.state.newest_to (timeout_turn x.state) (files_of x) g (refl, refl)) t
+
+-- what is to be refused has no part in what an end tells
+told_view : (b c : Bool) (x : OpenedEnd) → view_of_end (if b then x else if c then x else record x { refuses = true }) ≡ view_of_end x
+told_view true c x = refl
+told_view false true x = refl
+told_view false false x = refl
+
+phase_told : (phase : Phase) (x : OpenedEnd) → PhaseKept x phase → PhaseKept (record x { refuses = true }) phase
+phase_told (Waiting asked limit) x h = h
+phase_told (Sending terms number) x h = record {
+  sender = h.sender;
+  positive = h.positive;
+  size = h.size;
+  fits = h.fits;
+  so_far = h.so_far;
+  left = h.left;
+  newest_to = h.newest_to;
+}
+phase_told (Receiving terms number) x h = h
+phase_told (Dallying terms number dally) x h = h
+phase_told (Closed terms number complete outcome) x h = tt
+
+-- an end is kept in a world with the same datagrams and files
+same_kept : (w v : WorldState) (x : OpenedEnd) → v.sent ≡ w.sent → v.files ≡ w.files → IsKeptIn w x → IsKeptIn v x
+same_kept w v x s f h = record {
+  kept = h.kept;
+  newest = subst (λ (ds : List Datagram). Contains ds (datagram x.address x.state.newest_to x.state.newest)) (sym s) h.newest;
+  stored = λ c r d. subst (λ (files : List StoredFile). file_at files x.path ≡ Some x.stored) (sym f) (h.stored c r d);
+}
+
+told_kept : (w v : WorldState) (b c : Bool) (x : OpenedEnd) → v.sent ≡ w.sent → v.files ≡ w.files → IsKeptIn w x → IsKeptIn v (if b then x else if c then x else record x { refuses = true })
+told_kept w v true c x s f h = same_kept w v x s f h
+told_kept w v false true x s f h = same_kept w v x s f h
+told_kept w v false false x s f h =
+    let g = same_kept w v x s f h in record {
+      kept = record { phase = phase_told x.state.phase x g.kept.phase; length = g.kept.length; held = g.kept.held; committed = g.kept.committed };
+      newest = g.newest;
+      stored = g.stored;
+    }
+
+-- who is told to refuse keeps the world
+told_keeps : (strangers : Bool) (w : WorldState) (ok : IsOk strangers w) (k : ℕ) (x : OpenedEnd) → slice_get w.ends k ≡ Some x →
+    IsOk strangers (record w { ends = set w.ends k (told_to_refuse x) })
+told_keeps strangers w ok k x at =
+    let y = told_to_refuse x in
+    let v = record w { ends = set w.ends k y } in
+    let b = is_sender x.state.side in
+    let c = is_closed x in
+    let same : map view_of_end (set w.ends k y) ≡ map view_of_end w.ends =
+    map-set view_of_end w.ends k y ∙ (ap (λ (e : EndView). set (map view_of_end w.ends) k e) (told_view b c x)
+    ∙ set_same (map view_of_end w.ends) k (view_of_end x) (view_at w.ends k x at)) in
+    record {
+      messages = ok.messages;
+      shown = subst (λ (vs : List EndView). IsShown vs ok.messages) (sym same) ok.shown;
+      sent = ok.sent;
+      only = ok.only;
+      speakers = ok.speakers;
+      max_block = ok.max_block;
+      ends = λ j z i. elim (slice_get-set_cases w.ends k j y z i) [
+        | inl h ↦ subst (λ (u : OpenedEnd). IsKeptIn v u) (sym h.1) (told_kept w v b c x refl refl (ok.ends k x at))
+        | inr h ↦ same_kept w v z refl refl (ok.ends j z h.1)
+      ];
+    }
+
+-- a stranger has spoken
+stray_ok : (w : WorldState) (ok : IsOk true w) (from to : Endpoint) (p : WirePacket) → host_of from ≡ Elsewhere → IsOk true w
+stray_ok w ok from to p far =
+    let m = message from to (said p) in
+    record {
+      messages = ok.messages ++ m ∷ [];
+      shown = strays (map view_of_end w.ends) ok.messages ok.shown m far;
+      sent = λ d i. let h = ok.sent d i in (h.0, h.1, Contains-append_left ok.messages (m ∷ []) h.0 h.2);
+      only = λ n i. elim (Contains-append_cases ok.messages (m ∷ []) n i) [
+        | inl o ↦ ok.only n o
+        | inr e ↦ inr (subst (λ (z : Message). host_of z.from ≡ Elsewhere) (one_in n m e) far)
+      ];
+      speakers = λ n i e. absurd (true≢false e);
+      max_block = ok.max_block;
+      ends = ok.ends;
+    }
+
+-- the world with what a stranger said
+with_heard : (w : WorldState) (ok : IsOk true w) (from to : Endpoint) (bytes : List ℕ) (heard : Option WirePacket) → host_of from ≡ Elsewhere → Says bytes heard →
+    (more : IsOk true w) × ((p : WirePacket) → Spells p bytes → Contains more.messages (message from to (said p)))
+unfolding stray_ok
+with_heard w ok from to bytes (Some q) far says = (
+  stray_ok w ok from to q far,
+  λ p s. let e = one_packet q p bytes says s in
+      subst (λ (z : WirePacket). Contains (ok.messages ++ message from to (said q) ∷ []) (message from to (said z))) e (Contains-push ok.messages (message from to (said q))),
+)
+with_heard w ok from to bytes None far says =
+    (ok, λ p s. absurd (let f : None ≡ Some says.0 = sym (none_packet p bytes s) ∙ says.1 in cc))
+
+stray_keeps : (w v : WorldState) (ok : IsOk true w) (report : Report) (from to : Endpoint) (bytes : List ℕ) → host_of from ≡ Elsewhere → Arrives w from to bytes report v → IsOk true v
+stray_keeps w v ok report from to bytes far (At_request_port here port heard says served) =
+    let h = with_heard w ok from to bytes heard far says in
+    arrives_keeps true w v h.0 report from to bytes h.1 (At_request_port here port heard says served)
+stray_keeps w v ok report from to bytes far (At_open_end k x at here open_now g) =
+    let h = with_heard w ok from to bytes g.hears.heard far g.hears.says in
+    arrives_keeps true w v h.0 report from to bytes h.1 (At_open_end k x at here open_now g)
+stray_keeps w v ok report from to bytes far (At_closed_end k x at here closed_now s) = stays_ok true w v report ok s
+stray_keeps w v ok report from to bytes far (At_nobody away nobody_there s) = stays_ok true w v report ok s
+
+-- each step keeps the world
+pub step_keeps : StepsKeep
+step_keeps strangers w v (Get name mode asked) report may ok s = reading_keeps strangers w v name mode asked report ok s.1 s.2
+step_keeps strangers w v (Put name mode asked bytes) report may ok s = writing_keeps strangers w v name mode asked bytes report ok s.1 s.2
+step_keeps strangers w v (Deliver i) report may ok s =
+    arrives_keeps strangers w v ok report s.0.from s.0.to s.0.bytes (come_from strangers w ok s.0 (contains_at w.sent i s.0 s.1)) s.2
+step_keeps strangers w v (Timeout port) report may ok s = timeout_keeps strangers w v ok report s.0 s.1 s.2.there (is_closed s.1) refl s.3
+step_keeps strangers w v (RefuseStore port) report may ok s = subst (λ (z : WorldState). IsOk strangers z) (sym s.4) (told_keeps strangers w ok s.0 s.1 s.2.there)
+step_keeps true w v (Stray from to bytes) report may ok s = stray_keeps w v ok report from to bytes s.0 s.1
+step_keeps false w v (Stray from to bytes) report may ok s = absurd may
+
+-- so do all of them
+pub run_keeps : (strangers : Bool) (events : List Event) (w v : WorldState) → MayAllHappen strangers events → IsOk strangers w → Runs w events v → IsOk strangers v
+run_keeps strangers [] w v may ok r = subst (λ (z : WorldState). IsOk strangers z) (sym r) ok
+run_keeps strangers (event ∷ events) w v may ok r = run_keeps strangers events r.0 v may.1 (step_keeps strangers w r.0 event r.1 may.0 ok r.2) r.3
+
+-- a world begins
+pub new_ok : (strangers : Bool) (files : List StoredFile) (limits : Limits) (retries cap : ℕ) → IsBlockSize limits.max_block → IsOk strangers (new_world files limits retries cap)
+new_ok strangers files limits retries cap ok = record {
+  messages = [];
+  shown = shown_start;
+  sent = λ d i. absurd (nothing_in d i);
+  only = λ m i. absurd (nothing_in m i);
+  speakers = λ m i. absurd (nothing_in m i);
+  max_block = ok;
+  ends = λ k x i. absurd (let f : None ≡ Some x = i in cc);
+}
+
+pub any_may : (events : List Event) → MayAllHappen true events
+any_may [] = tt
+any_may (event ∷ events) = (tt, any_may events)
+
+-- a world without strangers has its peers at home
+pub ok_at_home : (w : WorldState) → IsOk false w → HasPeersAtHome w
+ok_at_home w ok x p i e =
+    shown_at_home (map view_of_end w.ends) ok.messages ok.shown (λ d c. ok.speakers d c refl) (view_of_end x) p (i.0, view_at w.ends i.0 x i.1) e

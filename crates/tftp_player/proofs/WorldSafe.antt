@@ -1,0 +1,134 @@
+use Rattle.std.proofs.Common.{◌≡◌, ℕ, Bool, true, false, List, [], ◌++◌, map, Option, Some, None, sym, refl, ap, ◌∙◌, subst, arith}
+use Rattle.std.specs.Prelude.{if◌then◌else◌, slice_get, option_map}
+use Rattle.std.proofs.lemmas.Bool.{true≢false}
+use Rattle.std.proofs.lemmas.List.{append-nil}
+use Rattle.std.proofs.lemmas.Option.{same_Some, slice_get-map}
+use Rattle.tftp_wire.specs.declared.mode.Mode.{Mode}
+use Rattle.tftp_wire.specs.declared.mode.Mode.TheVariants.{Octet, Netascii}
+use Rattle.tftp_file.specs.Block.{IsBeginningOf}
+use Rattle.tftp_file.specs.Netascii.{wire_text}
+use Rattle.tftp_ends.specs.declared.phase.Phase.{Phase}
+use Rattle.tftp_ends.specs.declared.phase.Phase.TheVariants.{Waiting, Sending, Receiving, Dallying, Closed}
+use Rattle.tftp_ends.specs.End.{is_sender, is_complete}
+use Rattle.tftp_player.specs.Machine.{Endpoint}
+use Rattle.tftp_player.specs.Shows.{EndView}
+use Rattle.tftp_player.specs.ViewSafety.{IsAmong, IsSafeViews}
+use Rattle.tftp_player.specs.World.{WorldState, OpenedEnd, new_world, goes_on, received_text, text_of as text_of_end, view_of_end}
+use Rattle.tftp_player.specs.WorldSafety.{IsIn, IsSafe}
+use Rattle.tftp_player.specs.WorldKept.{IsOk}
+use Rattle.tftp_player.specs.WorldRuns.{WorldsAreSafe, PeersStayHome, KeptIsSafe}
+use Rattle.tftp_player.proofs.HostBytes.{wire_beginning, wire_same}
+use Rattle.tftp_player.proofs.SourceMoves.{text_if}
+use Rattle.tftp_player.proofs.SinkMoves.{text_else}
+use Rattle.tftp_player.proofs.ViewSafe.{IsBeginningOf-trans, first_of_empty, shown_safe}
+use Rattle.tftp_player.proofs.WorldTurns.{view_at}
+use Rattle.tftp_player.proofs.WorldRuns.{run_keeps, new_ok, any_may, ok_at_home}
+
+-- an end that is shown is one of the world
+viewed : (e : EndView) (o : Option OpenedEnd) → option_map view_of_end o ≡ Some e → (x : OpenedEnd) × (o ≡ Some x) × (view_of_end x ≡ e)
+viewed e None h = absurd (let f : None ≡ Some e = h in cc)
+viewed e (Some x) h = (x, refl, same_Some (view_of_end x) e h)
+
+end_of : (w : WorldState) (e : EndView) → IsAmong (map view_of_end w.ends) e → (x : OpenedEnd) × IsIn w x × (view_of_end x ≡ e)
+end_of w e i =
+    let h = viewed e (slice_get w.ends i.0) (sym (slice_get-map view_of_end w.ends i.0) ∙ i.1) in
+    (h.0, (i.0, h.1), h.2)
+
+-- what a receiver stored begins its text
+stored_begins : (b g : Bool) (f w h : List ℕ) → b ≡ false → IsBeginningOf w (if b then f else if g then w ++ h else w)
+stored_begins true g f w h e = absurd (true≢false e)
+stored_begins false true f w h e = (h, refl)
+stored_begins false false f w h e = ([], append-nil w)
+
+-- a complete receiver's text is what it stored
+complete_stops : (phase : Phase) → is_complete phase ≡ true → goes_on phase ≡ false
+complete_stops (Waiting asked limit) e = absurd (true≢false (sym e))
+complete_stops (Sending terms number) e = absurd (true≢false (sym e))
+complete_stops (Receiving terms number) e = absurd (true≢false (sym e))
+complete_stops (Dallying terms number dally) e = refl
+complete_stops (Closed terms number complete outcome) e = refl
+
+nothing_travels : (mode : Mode) → wire_text mode [] ≡ []
+nothing_travels Octet = refl
+nothing_travels Netascii = refl
+
+module _ (strangers : Bool) (w : WorldState) (ok : IsOk strangers w) where
+  safe : IsSafeViews (map view_of_end w.ends)
+  safe = shown_safe (map view_of_end w.ends) ok.messages ok.shown
+
+  among : (x : OpenedEnd) → IsIn w x → IsAmong (map view_of_end w.ends) (view_of_end x)
+  among x i = (i.0, view_at w.ends i.0 x i.1)
+
+  begins : (x : OpenedEnd) → is_sender x.state.side ≡ false → IsBeginningOf (wire_text x.state.mode x.stored) (text_of_end x)
+  begins x r = stored_begins (is_sender x.state.side) (goes_on x.state.phase) (wire_text x.state.mode x.file) (wire_text x.state.mode x.stored) x.state.held r
+
+  whole : (x : OpenedEnd) → is_sender x.state.side ≡ false → is_complete x.state.phase ≡ true → text_of_end x ≡ wire_text x.state.mode x.stored
+  whole x r d =
+      let t = wire_text x.state.mode x.stored in
+      text_else (is_sender x.state.side) (wire_text x.state.mode x.file) (received_text x) r
+      ∙ ap (λ (b : Bool). if b then t ++ x.state.held else t) (complete_stops x.state.phase d)
+
+  sends : (z : OpenedEnd) → is_sender z.state.side ≡ true → text_of_end z ≡ wire_text z.state.mode z.file
+  sends z s = text_if (is_sender z.state.side) (wire_text z.state.mode z.file) (received_text z) s
+
+  pub ok_safe : IsSafe w
+  ok_safe = record {
+    unique = λ x y i j e.
+        let p = (ok.shown.3.ends i.0 (view_of_end x) (view_at w.ends i.0 x i.1)).1 in
+        let q = (ok.shown.3.ends j.0 (view_of_end y) (view_at w.ends j.0 y j.1)).1 in
+        let f : x.address.port ≡ y.address.port = ap (λ (a : Endpoint). a.port) e in
+        let k : i.0 ≡ j.0 = omega (arith, p, q, f) in
+        same_Some x y (sym i.1 ∙ (ap (slice_get w.ends) k ∙ j.1));
+    same_size = λ x y i j e f. safe.same_size (view_of_end x) (view_of_end y) (among x i) (among y j) e f;
+    is_empty = λ x i r e.
+        let t = safe.is_empty (view_of_end x) (among x i) r e in
+        let b = subst (λ (z : List ℕ). IsBeginningOf (wire_text x.state.mode x.stored) z) (t ∙ sym (nothing_travels x.state.mode)) (begins x r) in
+        first_of_empty x.stored (wire_beginning x.state.mode x.stored [] b);
+    is_beginning = λ x p i r e own.
+        let h = safe.is_beginning (view_of_end x) p (among x i) r e own in
+        let y = end_of w h.0 h.1.0 in
+        let z = y.0 in
+        let sender : is_sender z.state.side ≡ true = ap (λ (v : EndView). v.sender) y.2 ∙ h.2 in
+        let mode : z.state.mode ≡ x.state.mode = ap (λ (v : EndView). v.mode) y.2 ∙ h.3 in
+        let text : h.0.text ≡ wire_text x.state.mode z.file =
+        ap (λ (v : EndView). v.text) (sym y.2) ∙ (sends z sender ∙ ap (λ (m : Mode). wire_text m z.file) mode) in
+        let b = subst (λ (t : List ℕ). IsBeginningOf (wire_text x.state.mode x.stored) t) text
+        (IsBeginningOf-trans (wire_text x.state.mode x.stored) (text_of_end x) h.0.text (begins x r) h.4) in
+        (z, ((y.1, ap (λ (v : EndView). v.address) y.2 ∙ h.1.1), sender), wire_beginning x.state.mode x.stored z.file b);
+    is_committed = λ x i r d. (ok.ends i.0 x i.1).kept.committed r ∙ d;
+    is_whole = λ x i r d.
+        let g = safe.is_whole (view_of_end x) (among x i) r d in (
+          g.0,
+          g.1,
+          λ own.
+              let h = g.2 own in
+              let y = end_of w h.0 h.1.0 in
+              let z = y.0 in
+              let sender : is_sender z.state.side ≡ true = ap (λ (v : EndView). v.sender) y.2 ∙ h.2 in
+              let mode : z.state.mode ≡ x.state.mode = ap (λ (v : EndView). v.mode) y.2 ∙ h.3 in
+              let text : h.0.text ≡ wire_text x.state.mode z.file =
+              ap (λ (v : EndView). v.text) (sym y.2) ∙ (sends z sender ∙ ap (λ (m : Mode). wire_text m z.file) mode) in
+              (z, ((y.1, ap (λ (v : EndView). v.address) y.2 ∙ h.1.1), sender), wire_same x.state.mode x.stored z.file (sym (whole x r d) ∙ (h.4 ∙ text))),
+        );
+    is_at_path = λ x i r d c. (ok.ends i.0 x i.1).stored c r d;
+    sender_last = λ x i s d.
+        let g = safe.sender_last (view_of_end x) (among x i) s d in (
+          g.0,
+          g.1,
+          λ own.
+              let h = g.2 own in
+              let y = end_of w h.0 h.1.0 in
+              (y.0, (y.1, ap (λ (v : EndView). v.address) y.2 ∙ h.1.1), ap (λ (v : EndView). v.peer) y.2 ∙ h.2, ap (λ (v : EndView). v.done) y.2 ∙ h.3),
+        );
+  }
+
+pub kept_is_safe : KeptIsSafe
+kept_is_safe strangers w ok = ok_safe strangers w ok
+
+pub worlds_are_safe : WorldsAreSafe
+worlds_are_safe files limits retries cap events w max r =
+    ok_safe true w (run_keeps true events (new_world files limits retries cap) w (any_may events) (new_ok true files limits retries cap max) r)
+
+pub peers_stay_home : PeersStayHome
+peers_stay_home files limits retries cap events w max may r =
+    ok_at_home w (run_keeps false events (new_world files limits retries cap) w may (new_ok false files limits retries cap max) r)

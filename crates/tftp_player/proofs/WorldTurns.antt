@@ -1,0 +1,232 @@
+use Rattle.std.proofs.Common.{◌≡◌, ℕ, Bool, true, false, List, [], ◌∷◌, ◌++◌, map, Option, Some, None, sym, refl, ap, ◌∙◌, subst, arith, inl, inr}
+use Rattle.std.specs.Prelude.{◌≢◌, ◌⊎◌, ◌&&◌, not, slice_get, option_map}
+use Rattle.std.specs.List.{Contains}
+use Rattle.std.proofs.lemmas.Bool.{true≢false}
+use Rattle.std.proofs.lemmas.List.{map-set, map-append}
+use Rattle.std.proofs.lemmas.List.Elements.{Contains-append_cases, Contains-append_left, Contains-append_right, Contains-push, Contains-push_cases}
+use Rattle.std.proofs.lemmas.Option.{slice_get-map}
+use Rattle.tftp_wire.specs.declared.packet.Packet.{Packet as WirePacket}
+use Rattle.tftp_wire.specs.Spelling.{Spells}
+use Rattle.tftp_file.specs.declared.files.Files.{Files}
+use Rattle.tftp_file.specs.declared.files.Files.TheVariants.{Source, Sink}
+use Rattle.tftp_file.specs.Sink.{Holding}
+use Rattle.tftp_ends.specs.End.{is_sender, is_client, is_complete}
+use Rattle.tftp_ends.specs.Step.{Turn, Reply}
+use Rattle.tftp_player.specs.Machine.{Endpoint, Elsewhere, host_of, Message}
+use Rattle.tftp_player.specs.Rules.{message}
+use Rattle.tftp_player.specs.Said.{said}
+use Rattle.tftp_player.specs.Facts.{home}
+use Rattle.tftp_player.specs.Shows.{EndView, IsShown}
+use Rattle.tftp_player.specs.World.{WorldState, OpenedEnd, StoredFile, file_at, datagram, replied, end_after, with_files, has_committed, world_after, opened_in, said_in, view_of_end}
+use Rattle.tftp_player.specs.WorldSteps.{FilesAfter, Turns, Opens}
+use Rattle.tftp_player.specs.WorldKept.{EndKept, IsKeptIn, SaysSo, MaySpeak, IsOk}
+use Rattle.tftp_player.specs.declared.datagram.Datagram.{Datagram}
+use Rattle.tftp_player.specs.declared.report.Report.{Report}
+use Rattle.tftp_player.proofs.Places.{slice_get-set_cases, slice_get-push_cases}
+use Rattle.tftp_player.proofs.EndMoves.{Goes, Replies, Newest}
+
+pub nothing_in : {X : Type 0} (x : X) → Contains [] x → ⊥
+nothing_in x h = let l = h.1 in omega arith
+
+pub one_in : {X : Type 0} (x y : X) → Contains (y ∷ []) x → y ≡ x
+one_in x y h = elim (Contains-push_cases [] y x h) [
+  | inl n ↦ absurd (nothing_in x n)
+  | inr e ↦ e
+]
+
+here_in : {X : Type 0} (x : X) → Contains (x ∷ []) x
+here_in x = Contains-push [] x
+
+pub says_message : (from to : Endpoint) (bytes : List ℕ) (p : WirePacket) → Spells p bytes → SaysSo (datagram from to bytes) (message from to (said p))
+says_message from to bytes p s = record { packet = p; spells = s; says = refl }
+
+-- an answer is a datagram that says what was said
+reply_said : (from : Endpoint) (reply : Option Reply) (said_now : List Message) → Replies from reply said_now → (d : Datagram) → Contains (replied from reply) d →
+    (m : Message) × SaysSo d m × Contains said_now m
+reply_said from None said_now r d i = absurd (nothing_in d i)
+reply_said from (Some reply) said_now r d i =
+    let m = message from reply.to (said r.0) in
+    let e = one_in d (datagram from reply.to reply.bytes) i in
+    (m, subst (λ (z : Datagram). SaysSo z m) e (says_message from reply.to reply.bytes r.0 r.1), subst (λ (ms : List Message). Contains ms m) (sym r.2) (here_in m))
+
+said_reply : (from : Endpoint) (reply : Option Reply) (said_now : List Message) → Replies from reply said_now → (m : Message) → Contains said_now m →
+    (d : Datagram) × Contains (replied from reply) d × SaysSo d m
+said_reply from None said_now r m i = absurd (nothing_in m (subst (λ (ms : List Message). Contains ms m) r i))
+said_reply from (Some reply) said_now r m i =
+    let d = datagram from reply.to reply.bytes in
+    let e = one_in m (message from reply.to (said r.0)) (subst (λ (ms : List Message). Contains ms m) r.2 i) in
+    (d, here_in d, subst (λ (z : Message). SaysSo d z) e (says_message from reply.to reply.bytes r.0 r.1))
+
+from_of : (d : Datagram) (m : Message) → SaysSo d m → d.from ≡ m.from
+from_of d m s = ap (λ (z : Message). z.from) (sym s.says)
+
+replied_from : (from : Endpoint) (reply : Option Reply) (d : Datagram) → Contains (replied from reply) d → from ≡ d.from
+replied_from from None d i = absurd (nothing_in d i)
+replied_from from (Some reply) d i = ap (λ (z : Datagram). z.from) (one_in d (datagram from reply.to reply.bytes) i)
+
+home_not_elsewhere : (b : Bool) → home b ≢ Elsewhere
+home_not_elsewhere true e = cc
+home_not_elsewhere false e = cc
+
+-- what stands at a place is an end that is shown there
+pub view_at : (ends : List OpenedEnd) (k : ℕ) (x : OpenedEnd) → slice_get ends k ≡ Some x → slice_get (map view_of_end ends) k ≡ Some (view_of_end x)
+view_at ends k x e = slice_get-map view_of_end ends k ∙ ap (option_map view_of_end) e
+
+-- each end is at one of the two hosts
+pub at_home : (strangers : Bool) (w : WorldState) → IsOk strangers w → (k : ℕ) (x : OpenedEnd) → slice_get w.ends k ≡ Some x → host_of x.address ≢ Elsewhere
+at_home strangers w ok k x e f =
+    let there = (ok.shown.3.ends k (view_of_end x) (view_at w.ends k x e)).0 in
+    let h = (ok.shown.1.ends x.address there.is_open).at_home in
+    home_not_elsewhere (ok.shown.0.party x.address).client (sym h ∙ f)
+
+same_place : (x : OpenedEnd) (held : Files (List ℕ) Holding) → ((with_files x held).address ≡ x.address) × ((with_files x held).path ≡ x.path) × ((with_files x held).state ≡ x.state)
+same_place x (Source left) = (refl, refl, refl)
+same_place x (Sink holding) = (refl, refl, refl)
+
+-- the files stay where they are
+files_stay : (b : Bool) (path bytes : List ℕ) (old new : List StoredFile) → FilesAfter b path bytes old new → (q c : List ℕ) → file_at old q ≡ Some c → file_at new q ≡ Some c
+files_stay true path bytes old new h q c e = h.others q (λ same. let f : None ≡ Some c = sym h.free ∙ (ap (file_at old) (sym same) ∙ e) in cc) ∙ e
+files_stay false path bytes old new h q c e = ap (λ (files : List StoredFile). file_at files q) h ∙ e
+
+-- an end that changed nothing is kept when the world goes on
+still_kept : (w v : WorldState) (added : List Datagram) (x : OpenedEnd) → v.sent ≡ w.sent ++ added →
+    ((q c : List ℕ) → file_at w.files q ≡ Some c → file_at v.files q ≡ Some c) → IsKeptIn w x → IsKeptIn v x
+still_kept w v added x more stay h = record {
+  kept = h.kept;
+  newest = subst (λ (ds : List Datagram). Contains ds (datagram x.address x.state.newest_to x.state.newest)) (sym more) (Contains-append_left w.sent added (datagram x.address x.state.newest_to x.state.newest) h.newest);
+  stored = λ c r d. stay x.path x.stored (h.stored c r d);
+}
+
+-- what was sent and what is there, after an answer
+module _ (strangers : Bool) (w : WorldState) (ok : IsOk strangers w) (from : Endpoint) (own : host_of from ≢ Elsewhere)
+    (reply : Option Reply) (said_now : List Message) (r : Replies from reply said_now) where
+  pub sent_then : (d : Datagram) → Contains (w.sent ++ replied from reply) d → (m : Message) × SaysSo d m × Contains (ok.messages ++ said_now) m
+  sent_then d i = elim (Contains-append_cases w.sent (replied from reply) d i) [
+    | inl o ↦ let h = ok.sent d o in (h.0, h.1, Contains-append_left ok.messages said_now h.0 h.2)
+    | inr n ↦ let h = reply_said from reply said_now r d n in (h.0, h.1, Contains-append_right ok.messages said_now h.0 h.2)
+  ]
+
+  pub only_then : (m : Message) → Contains (ok.messages ++ said_now) m →
+      ((d : Datagram) × Contains (w.sent ++ replied from reply) d × SaysSo d m) ⊎ (host_of m.from ≡ Elsewhere)
+  only_then m i = elim (Contains-append_cases ok.messages said_now m i) [
+    | inl o ↦ elim (ok.only m o) [
+      | inl h ↦ inl (h.0, Contains-append_left w.sent (replied from reply) h.0 h.1, h.2)
+      | inr f ↦ inr f
+    ]
+    | inr n ↦ let h = said_reply from reply said_now r m n in inl (h.0, Contains-append_right w.sent (replied from reply) h.0 h.1, h.2)
+  ]
+
+  pub speakers_then : (m : Message) → Contains (ok.messages ++ said_now) m → MaySpeak strangers m.from
+  speakers_then m i = elim (Contains-append_cases ok.messages said_now m i) [
+    | inl o ↦ ok.speakers m o
+    | inr n ↦ let h = said_reply from reply said_now r m n in
+        λ _. subst (λ (a : Endpoint). host_of a ≢ Elsewhere) (replied_from from reply h.0 h.1 ∙ from_of h.0 m h.2) own
+  ]
+
+-- by whether an end was complete before
+complete_then : (old_done client old_committed new_committed : Bool) → old_committed ≡ old_done → new_committed ≡ true → client ≡ false →
+    (old_done ≡ true × (not client && (not old_committed && new_committed)) ≡ false) ⊎ ((not client && (not old_committed && new_committed)) ≡ true)
+complete_then true client old_committed new_committed o n c =
+    inl (refl, ap (λ (b : Bool). not client && (not b && new_committed)) o ∙ ap (λ (b : Bool). not b && false) c)
+complete_then false client old_committed new_committed o n c =
+    inr (ap (λ (b : Bool). not client && (not b && new_committed)) o ∙ (ap (λ (b : Bool). not client && b) n ∙ ap (λ (b : Bool). not b && true) c))
+
+-- a turn of an end keeps the world
+pub turn_keeps : (strangers : Bool) (w v : WorldState) (ok : IsOk strangers w) (k : ℕ) (x : OpenedEnd) (turn : Turn) (held : Files (List ℕ) Holding) (report : Report) →
+    slice_get w.ends k ≡ Some x → Goes (map view_of_end w.ends) ok.messages k x turn (end_after x turn held) → Turns w k x turn held report v → IsOk strangers v
+turn_keeps strangers w v ok k x turn held report at g t = subst (λ (z : WorldState). IsOk strangers z) (sym t.is) later where
+  newest_is : (to : Endpoint) (bytes : List ℕ) → Newest x turn (end_after x turn held) →
+      Contains (w.sent ++ replied x.address turn.reply) (datagram x.address (end_after x turn held).state.newest_to (end_after x turn held).state.newest)
+  newest_is to bytes (inl e) =
+      let there = Contains-append_left w.sent (replied x.address turn.reply) (datagram x.address x.state.newest_to x.state.newest) (ok.ends k x at).newest in
+      subst (λ (p : Endpoint). Contains (w.sent ++ replied x.address turn.reply) (datagram x.address p (end_after x turn held).state.newest)) (sym e.0)
+      (subst (λ (b : List ℕ). Contains (w.sent ++ replied x.address turn.reply) (datagram x.address x.state.newest_to b)) (sym e.1) there)
+  newest_is to bytes (inr e) =
+      let d = datagram x.address (end_after x turn held).state.newest_to (end_after x turn held).state.newest in
+      Contains-append_right w.sent (replied x.address turn.reply) d
+      (subst (λ (r : Option Reply). Contains (replied x.address r) d) (sym e) (here_in d))
+
+  stays : (q c : List ℕ) → file_at w.files q ≡ Some c → file_at t.files q ≡ Some c
+  stays = files_stay (not (is_client x.state.side) && has_committed x (end_after x turn held)) x.path (end_after x turn held).stored w.files t.files t.stored
+
+  stored_is : is_client (end_after x turn held).state.side ≡ false → is_sender (end_after x turn held).state.side ≡ false → is_complete (end_after x turn held).state.phase ≡ true →
+      file_at t.files (end_after x turn held).path ≡ Some (end_after x turn held).stored
+  stored_is c r d =
+      let y = end_after x turn held in
+      let path = (same_place (record x { state = turn.end }) held).1 in
+      let client : is_client x.state.side ≡ false = ap is_client (sym g.side) ∙ c in
+      let receiver : is_sender x.state.side ≡ false = ap is_sender (sym g.side) ∙ r in
+      let old = (ok.ends k x at).kept.committed receiver in
+      let new : y.committed ≡ true = g.kept.committed r ∙ d in
+      let under : file_at t.files x.path ≡ Some y.stored = elim (complete_then (is_complete x.state.phase) (is_client x.state.side) x.committed y.committed old new client) [
+        | inl h ↦ stays x.path y.stored ((ok.ends k x at).stored client receiver h.0 ∙ ap (λ (z : List ℕ). Some z) (sym (g.stored h.0)))
+        | inr h ↦ (subst (λ (b : Bool). FilesAfter b x.path y.stored w.files t.files) h t.stored).here
+      ] in
+      subst (λ (q : List ℕ). file_at t.files q ≡ Some y.stored) (sym path) under
+
+  later : IsOk strangers (world_after w k x turn held t.files)
+  later =
+      let y = end_after x turn held in
+      let place = (same_place (record x { state = turn.end }) held).0 in
+      let own = at_home strangers w ok k x at in
+      record {
+        messages = ok.messages ++ g.said_now;
+        shown = subst (λ (vs : List EndView). IsShown vs (ok.messages ++ g.said_now)) (sym (map-set view_of_end w.ends k y)) g.shown;
+        sent = sent_then strangers w ok x.address own turn.reply g.said_now g.replies;
+        only = only_then strangers w ok x.address own turn.reply g.said_now g.replies;
+        speakers = speakers_then strangers w ok x.address own turn.reply g.said_now g.replies;
+        max_block = ok.max_block;
+        ends = λ j z i. elim (slice_get-set_cases w.ends k j y z i) [
+          | inl h ↦ subst (λ (u : OpenedEnd). IsKeptIn (world_after w k x turn held t.files) u) (sym h.1) (record {
+            kept = g.kept;
+            newest = subst (λ (a : Endpoint). Contains (w.sent ++ replied x.address turn.reply) (datagram a y.state.newest_to y.state.newest)) (sym place) (newest_is y.state.newest_to y.state.newest g.newest);
+            stored = stored_is;
+          })
+          | inr h ↦ still_kept w (world_after w k x turn held t.files) (replied x.address turn.reply) z refl stays (ok.ends j z h.1)
+        ];
+      }
+
+-- an end that opened keeps the world
+pub opening_keeps : (strangers : Bool) (w v : WorldState) (ok : IsOk strangers w) (x : OpenedEnd) (report : Report) (p : WirePacket) →
+    Spells p x.state.newest → IsShown (map view_of_end w.ends ++ view_of_end x ∷ []) (ok.messages ++ message x.address x.state.newest_to (said p) ∷ []) →
+    host_of x.address ≢ Elsewhere → EndKept x → is_complete x.state.phase ≡ false → Opens w x report v → IsOk strangers v
+opening_keeps strangers w v ok x report p spells shown own kept incomplete o = subst (λ (z : WorldState). IsOk strangers z) (sym o.is) later where
+  later : IsOk strangers (opened_in w x)
+  later =
+      let reply : Option Reply = Some (record { to = x.state.newest_to; bytes = x.state.newest }) in
+      let m = message x.address x.state.newest_to (said p) in
+      let r : Replies x.address reply (m ∷ []) = (p, spells, refl) in
+      record {
+        messages = ok.messages ++ m ∷ [];
+        shown = subst (λ (vs : List EndView). IsShown vs (ok.messages ++ m ∷ [])) (sym (map-append view_of_end w.ends (x ∷ []))) shown;
+        sent = sent_then strangers w ok x.address own reply (m ∷ []) r;
+        only = only_then strangers w ok x.address own reply (m ∷ []) r;
+        speakers = speakers_then strangers w ok x.address own reply (m ∷ []) r;
+        max_block = ok.max_block;
+        ends = λ j z i. elim (slice_get-push_cases w.ends j x z i) [
+          | inl h ↦ still_kept w (opened_in w x) (replied x.address reply) z refl (λ q c e. e) (ok.ends j z h)
+          | inr h ↦ subst (λ (u : OpenedEnd). IsKeptIn (opened_in w x) u) (sym h.1) (record {
+            kept = kept;
+            newest = Contains-append_right w.sent (replied x.address reply) (datagram x.address x.state.newest_to x.state.newest) (here_in (datagram x.address x.state.newest_to x.state.newest));
+            stored = λ c f d. absurd (true≢false (sym d ∙ incomplete));
+          })
+        ];
+      }
+
+-- a datagram that changes no end keeps the world
+pub saying_keeps : (strangers : Bool) (w : WorldState) (ok : IsOk strangers w) (from to : Endpoint) (bytes : List ℕ) (p : WirePacket) →
+    Spells p bytes → IsShown (map view_of_end w.ends) (ok.messages ++ message from to (said p) ∷ []) → host_of from ≢ Elsewhere →
+    IsOk strangers (said_in w (datagram from to bytes))
+saying_keeps strangers w ok from to bytes p spells shown own =
+    let reply : Option Reply = Some (record { to = to; bytes = bytes }) in
+    let m = message from to (said p) in
+    let r : Replies from reply (m ∷ []) = (p, spells, refl) in
+    record {
+      messages = ok.messages ++ m ∷ [];
+      shown = shown;
+      sent = sent_then strangers w ok from own reply (m ∷ []) r;
+      only = only_then strangers w ok from own reply (m ∷ []) r;
+      speakers = speakers_then strangers w ok from own reply (m ∷ []) r;
+      max_block = ok.max_block;
+      ends = λ j z i. still_kept w (said_in w (datagram from to bytes)) (replied from reply) z refl (λ q c e. e) (ok.ends j z i);
+    }

@@ -1,0 +1,17 @@
+pub mod Machine
+pub mod Rules
+pub mod MachineSafety
+pub mod Facts
+pub mod Recorded
+pub mod Said
+pub mod Shows
+pub mod Kept
+pub mod ViewSafety
+pub mod Fault
+pub mod World
+pub mod Openings
+pub mod Requests
+pub mod WorldSteps
+pub mod WorldSafety
+pub mod WorldKept
+pub mod WorldRuns

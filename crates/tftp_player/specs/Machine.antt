@@ -1,0 +1,107 @@
+-- The guarded machine: the datagrams that were ever sent, and the ends of all transfers.
+use Rattle.std.specs.Prelude.{ℕ, ◌==◌, nat_eq, if◌then◌else◌, Bool, false, List, [], ◌∷◌, Option, None}
+use Rattle.std.specs.Cmp.Lexicographic.{pointwise}
+use Rattle.tftp_wire.specs.declared.mode.Mode.{Mode}
+use Rattle.tftp_wire.specs.declared.mode.Mode.TheVariants.{Octet}
+pub use Rattle.tftp_ends.specs.declared.endpoint.Endpoint.{Endpoint}
+
+-- whether the two addresses are the same
+abbrev pub is_same_ip : List ℕ → List ℕ → Bool
+is_same_ip a b = pointwise nat_eq a b
+
+-- whether the two endpoints are the same
+abbrev pub is_same : Endpoint → Endpoint → Bool
+is_same a b = if is_same_ip a.ip b.ip then a.port == b.port else false
+
+-- the hosts: one server, one that the clients share, and any other
+pub data Host : Type 0 where
+  At_server : Host
+  At_client : Host
+  Elsewhere : Host
+
+-- 10.0.0.1
+abbrev pub server_ip : List ℕ
+server_ip = 10 ∷ 0 ∷ 0 ∷ 1 ∷ []
+
+-- 10.0.0.2
+abbrev pub client_ip : List ℕ
+client_ip = 10 ∷ 0 ∷ 0 ∷ 2 ∷ []
+
+-- the host of this address
+abbrev pub host_at : List ℕ → Host
+host_at ip = if is_same_ip ip server_ip then At_server else if is_same_ip ip client_ip then At_client else Elsewhere
+
+-- the host of this endpoint
+unfoldable pub host_of : Endpoint → Host
+host_of e = host_at e.ip
+
+-- where the server takes requests (RFC 1350, section 4)
+abbrev pub request_port : Endpoint
+request_port = record { ip = server_ip; port = 69 }
+
+-- what a datagram says, as far as the machine goes: of an OACK the block size that it gives
+pub data Packet : Type 0 where
+  Request : (write : Bool) → Mode → Packet
+  Data : (block : ℕ) → (bytes : List ℕ) → Packet
+  Ack : (block : ℕ) → Packet
+  Oack : (size : ℕ) → Packet
+  Error : Packet
+
+-- a datagram on its way
+pub record Message : Type 0 where
+  pub from : Endpoint
+  pub to : Endpoint
+  pub packet : Packet
+
+-- one end of a transfer
+pub record Party : Type 0 where
+  -- it was opened, and may have ended since
+  pub is_open : Bool
+  -- it sent the request
+  pub client : Bool
+  -- it sends the file
+  pub sender : Bool
+  -- a server's end that was opened without options
+  pub plain : Bool
+  pub mode : Mode
+  pub peer : Option Endpoint
+  -- the block size, in bytes
+  pub size : ℕ
+  -- the newest block that it sent or took
+  pub number : ℕ
+  -- it completed
+  pub done : Bool
+  -- it ended otherwise
+  pub failed : Bool
+  -- a sender's wire text, or what a receiver took of it
+  pub text : List ℕ
+
+-- what stands at an endpoint that no end has opened
+abbrev pub nobody : Party
+nobody =
+    record {
+      is_open = false;
+      client = false;
+      sender = false;
+      plain = false;
+      mode = Octet;
+      peer = None;
+      size = 512;
+      number = 0;
+      done = false;
+      failed = false;
+      text = [];
+    }
+
+-- all that was ever sent, and the ends by their endpoints
+pub record Machine : Type 0 where
+  pub sent : List Message
+  pub party : Endpoint → Party
+
+-- nothing was sent, and no end is open
+abbrev pub start : Machine
+start = record { sent = []; party = λ _. nobody }
+
+-- the ends, after the one at this endpoint became x
+abbrev pub with_end : (Endpoint → Party) → Endpoint → Party → Endpoint → Party
+with_end ends a x q = if is_same q a then x else ends q

@@ -1,0 +1,43 @@
+-- What the guarded machine sees of a packet.
+use Rattle.std.specs.Prelude.{ℕ, true, false, List, [], ◌∷◌, ◌++◌, Option, Some, None, option_to_list}
+use Rattle.tftp_wire.specs.declared.options.RawOption.{RawOption}
+use Rattle.tftp_wire.specs.declared.packet.Packet.{Packet as WirePacket}
+use Rattle.tftp_wire.specs.declared.packet.Packet.TheVariants.{Read, Write, Data as WireData, Ack as WireAck, Error as WireError, Oack as WireOack}
+use Rattle.tftp_negotiate.specs.declared.known.Known.{Known}
+use Rattle.tftp_negotiate.specs.declared.known.Known.TheVariants as known
+use Rattle.tftp_negotiate.specs.declared.name.Name.{Name}
+use Rattle.tftp_negotiate.specs.declared.name.Name.TheVariants.{Blksize, Timeout, Tsize}
+use Rattle.tftp_negotiate.specs.Options.{name_of, number_of}
+use Rattle.tftp_negotiate.specs.Agreed.{size}
+use Rattle.tftp_player.specs.Machine.{Packet, Request, Data, Ack, Oack, Error}
+
+-- the option of this name with this number
+abbrev pub known_as : Name → ℕ → Known
+known_as Blksize n = known.Blksize n
+known_as Timeout n = known.Timeout n
+known_as Tsize n = known.Tsize n
+
+-- what an option tells, if its name is known and its value is a number
+abbrev pub told_as : Option Name → Option ℕ → Option Known
+told_as None value = None
+told_as (Some name) None = None
+told_as (Some name) (Some n) = Some (known_as name n)
+
+-- the known options of a list, in their order
+abbrev pub told_options : List RawOption → List Known
+told_options [] = []
+told_options (o ∷ options) = option_to_list (told_as (name_of o.name) (number_of o.value)) ++ told_options options
+
+-- the block size that an OACK gives: 512 where it tells none
+-- (RFC 2347, "Negotiation Protocol"; RFC 2348, "Blocksize Option Specification")
+abbrev pub oack_size : List RawOption → ℕ
+oack_size options = size (told_options options)
+
+-- the packet, as far as the machine goes
+abbrev pub said : WirePacket → Packet
+said (Read request) = Request false request.mode
+said (Write request) = Request true request.mode
+said (WireData block bytes) = Data block bytes
+said (WireAck block) = Ack block
+said (WireError code text) = Error
+said (WireOack options) = Oack (oack_size options)

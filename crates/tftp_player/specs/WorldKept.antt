@@ -1,0 +1,92 @@
+-- What every world keeps, and what makes it safe.
+use Rattle.std.specs.Prelude.{◌≡◌, ◌≢◌, ℕ, ◌*◌, ◌<◌, ◌≤◌, ◌⊎◌, Bool, true, false, List, [], map, length, drop, slice_get, Some}
+use Rattle.std.specs.List.{Contains}
+use Rattle.tftp_wire.specs.declared.mode.Mode.{Mode}
+use Rattle.tftp_wire.specs.declared.mode.Mode.TheVariants.{Octet, Netascii}
+use Rattle.tftp_wire.specs.declared.packet.Packet.{Packet as WirePacket}
+use Rattle.tftp_wire.specs.Spelling.{Spells}
+use Rattle.tftp_negotiate.specs.Asked.{IsAskable}
+use Rattle.tftp_negotiate.specs.Ranges.{IsBlockSize}
+use Rattle.tftp_file.specs.Block.{block_count, Fits}
+use Rattle.tftp_file.specs.Netascii.{wire_text}
+use Rattle.tftp_ends.specs.declared.phase.Phase.{Phase}
+use Rattle.tftp_ends.specs.declared.phase.Phase.TheVariants.{Waiting, Sending, Receiving, Dallying, Closed}
+use Rattle.tftp_ends.specs.declared.phase.Terms.{Terms}
+use Rattle.tftp_ends.specs.End.{is_sender, is_client, is_complete}
+use Rattle.tftp_player.specs.Machine.{Endpoint, Elsewhere, host_of, request_port, Message}
+use Rattle.tftp_player.specs.Rules.{message}
+use Rattle.tftp_player.specs.Said.{said}
+use Rattle.tftp_player.specs.Shows.{IsShown}
+use Rattle.tftp_player.specs.World.{WorldState, OpenedEnd, file_at, datagram, view_of_end}
+use Rattle.tftp_player.specs.declared.datagram.Datagram.{Datagram}
+
+-- the wire text of a sender's file
+abbrev pub sent_text : OpenedEnd → List ℕ
+sent_text x = wire_text x.state.mode x.file
+
+-- a sender whose newest block is this one: its source has left what the text holds behind it
+pub record IsUnderWay (x : OpenedEnd) (terms : Terms) (number : ℕ) : Type 0 where
+  pub sender : is_sender x.state.side ≡ true
+  pub positive : 0 < terms.size
+  pub size : terms.size ≤ 65464
+  pub fits : Fits (sent_text x) terms.size
+  pub so_far : number ≤ block_count (sent_text x) terms.size
+  pub left : x.left ≡ drop (number * terms.size) (sent_text x)
+  pub newest_to : x.state.newest_to ≡ terms.peer
+
+-- what holds of an end in this phase
+abbrev pub PhaseKept : OpenedEnd → Phase → Type 0
+PhaseKept x (Waiting asked limit) =
+    (is_client x.state.side ≡ true) × IsAskable asked × (x.state.newest_to ≡ request_port) × (x.left ≡ sent_text x)
+    × (is_sender x.state.side ≡ false → x.state.held ≡ [])
+PhaseKept x (Sending terms number) = IsUnderWay x terms number
+PhaseKept x (Receiving terms number) = (is_sender x.state.side ≡ false) × (x.state.newest_to ≡ terms.peer)
+PhaseKept x (Dallying terms number dally) = (is_sender x.state.side ≡ false) × (x.state.newest_to ≡ terms.peer)
+PhaseKept x (Closed terms number complete outcome) = Unit {0}
+
+-- in octet no text is held back
+abbrev pub HeldFits : Mode → List ℕ → Type 0
+HeldFits Octet held = held ≡ []
+HeldFits Netascii held = Unit {0}
+
+-- what holds of an end, whatever was sent
+pub record EndKept (x : OpenedEnd) : Type 0 where
+  pub phase : PhaseKept x x.state.phase
+  -- a sender's file is as long as it was measured
+  pub length : is_sender x.state.side ≡ true → x.state.length ≡ length (sent_text x)
+  pub held : HeldFits x.state.mode x.state.held
+  -- a receiver has committed what it stored exactly if it is complete
+  pub committed : is_sender x.state.side ≡ false → x.committed ≡ is_complete x.state.phase
+
+-- what holds of an end in its world
+pub record IsKeptIn (w : WorldState) (x : OpenedEnd) : Type 0 where
+  pub kept : EndKept x
+  -- its newest datagram was sent
+  pub newest : Contains w.sent (datagram x.address x.state.newest_to x.state.newest)
+  -- what a complete receiver stored stands under its path at the server
+  pub stored : is_client x.state.side ≡ false → is_sender x.state.side ≡ false → is_complete x.state.phase ≡ true →
+      file_at w.files x.path ≡ Some x.stored
+
+-- the datagram says this
+pub record SaysSo (d : Datagram) (m : Message) : Type 0 where
+  pub packet : WirePacket
+  pub spells : Spells packet d.bytes
+  pub says : m ≡ message d.from d.to (said packet)
+
+-- who may have spoken: a stranger only where strangers are
+abbrev pub MaySpeak : Bool → Endpoint → Type 0
+MaySpeak strangers a = strangers ≡ false → host_of a ≢ Elsewhere
+
+-- a guarded machine that keeps its facts shows the world's ends and what was sent; `strangers` says that
+-- somebody at neither host may have spoken
+pub record IsOk (strangers : Bool) (w : WorldState) : Type 0 where
+  pub messages : List Message
+  pub shown : IsShown (map view_of_end w.ends) messages
+  -- what was sent is there
+  pub sent : (d : Datagram) → Contains w.sent d → (m : Message) × SaysSo d m × Contains messages m
+  -- and what is there was sent, or a stranger said it
+  pub only : (m : Message) → Contains messages m →
+      ((d : Datagram) × Contains w.sent d × SaysSo d m) ⊎ (host_of m.from ≡ Elsewhere)
+  pub speakers : (m : Message) → Contains messages m → MaySpeak strangers m.from
+  pub max_block : IsBlockSize w.limits.max_block
+  pub ends : (k : ℕ) (x : OpenedEnd) → slice_get w.ends k ≡ Some x → IsKeptIn w x

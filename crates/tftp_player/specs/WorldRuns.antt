@@ -1,0 +1,48 @@
+-- Every run of a world.
+use Rattle.std.specs.Prelude.{◌≡◌, ℕ, Bool, false, List, [], ◌∷◌}
+use Rattle.tftp_negotiate.specs.declared.limits.Limits.{Limits}
+use Rattle.tftp_negotiate.specs.Ranges.{IsBlockSize}
+use Rattle.tftp_player.specs.World.{WorldState, StoredFile, new_world}
+use Rattle.tftp_player.specs.WorldSteps.{WorldStep}
+use Rattle.tftp_player.specs.WorldSafety.{IsSafe, HasPeersAtHome}
+use Rattle.tftp_player.specs.WorldKept.{IsOk}
+use Rattle.tftp_player.specs.declared.event.Event.{Event}
+use Rattle.tftp_player.specs.declared.event.Event.TheVariants.{Stray}
+use Rattle.tftp_player.specs.declared.report.Report.{Report}
+
+-- the events happened one after another; one that was refused is none of them, as it changed nothing
+abbrev pub Runs : WorldState → List Event → WorldState → Type 0
+Runs old [] new = new ≡ old
+Runs old (event ∷ events) new = (mid : WorldState) × (report : Report) × WorldStep old event report mid × Runs mid events new
+
+-- the event may happen, by whether there are strangers
+abbrev pub MayHappen : Bool → Event → Type 0
+MayHappen false (Stray from to bytes) = ⊥
+MayHappen strangers event = Unit {0}
+
+-- so may each of them
+abbrev pub MayAllHappen : Bool → List Event → Type 0
+MayAllHappen strangers [] = Unit {0}
+MayAllHappen strangers (event ∷ events) = MayHappen strangers event × MayAllHappen strangers events
+
+-- whatever happens, the world stays safe
+abbrev pub WorldsAreSafe : Type 0
+WorldsAreSafe =
+    (files : List StoredFile) (limits : Limits) (retries cap : ℕ) (events : List Event) (w : WorldState) →
+    IsBlockSize limits.max_block → Runs (new_world files limits retries cap) events w → IsSafe w
+
+-- without strangers every peer is at one of the two hosts
+abbrev pub PeersStayHome : Type 0
+PeersStayHome =
+    (files : List StoredFile) (limits : Limits) (retries cap : ℕ) (events : List Event) (w : WorldState) →
+    IsBlockSize limits.max_block → MayAllHappen false events → Runs (new_world files limits retries cap) events w → HasPeersAtHome w
+
+-- a step keeps what every world keeps
+abbrev pub StepsKeep : Type 0
+StepsKeep =
+    (strangers : Bool) (old new : WorldState) (event : Event) (report : Report) →
+    MayHappen strangers event → IsOk strangers old → WorldStep old event report new → IsOk strangers new
+
+-- which makes it safe
+abbrev pub KeptIsSafe : Type 0
+KeptIsSafe = (strangers : Bool) (w : WorldState) → IsOk strangers w → IsSafe w

@@ -1,0 +1,160 @@
+-- What an event makes of a world, and when it is refused.
+use Rattle.std.specs.Prelude.{ℕ, ◌≡◌, ◌≢◌, ◌+◌, ◌<◌, ◌≤◌, Bool, true, false, not, if◌then◌else◌, List, [], ◌∷◌, length, slice_get, slice_set, Option, Some, None, ⊤, ◌⊎◌, ◌&&◌}
+use Rattle.tftp_wire.specs.declared.packet.Packet.{Packet}
+use Rattle.tftp_file.specs.declared.fault.StoreFault.{StoreFault}
+use Rattle.tftp_file.specs.declared.fault.StoreFault.TheVariants as faults
+use Rattle.tftp_file.specs.declared.files.Files.{Files}
+use Rattle.tftp_file.specs.Sink.{Holding}
+use Rattle.tftp_ends.specs.End.{is_sender, is_client}
+use Rattle.tftp_ends.specs.Row.{Says}
+use Rattle.tftp_ends.specs.Step.{Turn, Hears, timeout_turn, error_bytes}
+use Rattle.tftp_player.specs.Machine.{Endpoint, Elsewhere, host_of, request_port}
+use Rattle.tftp_player.specs.World.{StoredFile, file_at, OpenedEnd, WorldState, next_port, is_closed, datagram, files_of, end_after, has_committed, world_after, report_of, no_report, opened_in, said_in, sent_report}
+use Rattle.tftp_player.specs.Openings.{reading_client, writing_client, MayRead, MayWrite, sending_end, receiving_end}
+use Rattle.tftp_player.specs.Requests.{Service, Ignores, Refuses, Sends_file, Takes_file, service}
+use Rattle.tftp_player.specs.declared.datagram.Datagram.{Datagram}
+use Rattle.tftp_player.specs.declared.event.Event.{Event}
+use Rattle.tftp_player.specs.declared.event.Event.TheVariants.{Get, Put, Deliver, Timeout, RefuseStore, Stray}
+use Rattle.tftp_player.specs.declared.report.Report.{Report}
+use Rattle.tftp_player.specs.declared.fault.WorldFault.{WorldFault}
+use Rattle.tftp_player.specs.declared.fault.WorldFault.TheVariants.{NoSuchDatagram, NoSuchEnd, NoPort, BadRequest, Memory}
+
+-- a source in memory never fails to read
+abbrev pub never_fails : List ℕ → ℕ → Type 0
+never_fails left want = ⊥
+
+-- an append is refused only as it was told, or for want of memory
+abbrev pub may_refuse_append : Holding → List ℕ → StoreFault → Type 0
+may_refuse_append holding bytes faults.Full = holding.refuses ≡ true
+may_refuse_append holding bytes faults.Memory = ⊤
+may_refuse_append holding bytes fault = ⊥
+
+-- a commit at a client is refused only as it was told; at the server also where memory is wanting, or the path is taken
+abbrev pub may_refuse_commit : Bool → Option (List ℕ) → Holding → StoreFault → Type 0
+may_refuse_commit true there holding faults.Full = holding.refuses ≡ true
+may_refuse_commit false there holding faults.Full = (holding.refuses ≡ true) ⊎ (there ≡ None)
+may_refuse_commit false there holding faults.Exists = (holding.refuses ≡ false) × (there ≢ None)
+may_refuse_commit client there holding fault = ⊥
+
+-- the file now stands under a path that was free, and the others stand where they stood
+pub record IsStored (path bytes : List ℕ) (old new : List StoredFile) : Type 0 where
+  pub free : file_at old path ≡ None
+  pub here : file_at new path ≡ Some bytes
+  pub others : (q : List ℕ) → q ≢ path → file_at new q ≡ file_at old q
+
+-- the server's files, by whether one of its ends has committed
+abbrev pub FilesAfter : Bool → List ℕ → List ℕ → List StoredFile → List StoredFile → Type 0
+FilesAfter true path bytes old new = IsStored path bytes old new
+FilesAfter false path bytes old new = new ≡ old
+
+-- the end at place k has made this turn of an event, and its file is this now
+pub record Turns (old : WorldState) (k : ℕ) (x : OpenedEnd) (turn : Turn) (held : Files (List ℕ) Holding) (report : Report) (new : WorldState) : Type 0 where
+  pub files : List StoredFile
+  pub stored : FilesAfter (not (is_client x.state.side) && has_committed x (end_after x turn held)) x.path (end_after x turn held).stored old.files files
+  pub tells : report ≡ report_of old x turn
+  pub is : new ≡ world_after old k x turn held files
+
+-- nothing happened
+pub record Stays (old : WorldState) (report : Report) (new : WorldState) : Type 0 where
+  pub tells : report ≡ no_report
+  pub is : new ≡ old
+
+-- an end opened, and sent its first datagram
+pub record Opens (old : WorldState) (x : OpenedEnd) (report : Report) (new : WorldState) : Type 0 where
+  pub tells : report ≡ sent_report old
+  pub is : new ≡ opened_in old x
+
+-- a port is left for another end
+abbrev pub HasPort : WorldState → Type 0
+HasPort w = next_port w ≤ 65535
+
+-- what the server's request port did
+abbrev pub Serves : Service → WorldState → Endpoint → Report → WorldState → Type 0
+Serves Ignores old from report new = Stays old report new
+Serves (Refuses reply) old from report new =
+    (report ≡ sent_report old) × (new ≡ said_in old (datagram request_port from (error_bytes reply)))
+Serves (Sends_file path file mode agreed) old from report new = Opens old (sending_end old from mode path file agreed) report new
+Serves (Takes_file path mode agreed) old from report new = Opens old (receiving_end old from mode path agreed) report new
+
+-- a datagram came to an open end
+pub record Hearing (old : WorldState) (k : ℕ) (x : OpenedEnd) (from : Endpoint) (bytes : List ℕ) (report : Report) (new : WorldState) : Type 0 where
+  pub turn : Turn
+  pub held : Files (List ℕ) Holding
+  pub hears : Hears (λ (s : List ℕ). Some s) never_fails (λ (h : Holding). Some h) may_refuse_append (may_refuse_commit (is_client x.state.side) (file_at old.files x.path)) from bytes x.state (files_of x) turn held
+  pub turns : Turns old k x turn held report new
+
+-- what a datagram did where it came to
+pub data Arrives (old : WorldState) (from to : Endpoint) (bytes : List ℕ) (report : Report) (new : WorldState) : Type 0 where
+  -- at the request port
+  At_request_port : (to ≡ request_port) → HasPort old → (heard : Option Packet) → Says bytes heard →
+      Serves (service old bytes heard) old from report new → Arrives old from to bytes report new
+  -- at an open end
+  At_open_end : (k : ℕ) (x : OpenedEnd) → slice_get old.ends k ≡ Some x → x.address ≡ to → is_closed x ≡ false →
+      Hearing old k x from bytes report new → Arrives old from to bytes report new
+  -- at a closed end
+  At_closed_end : (k : ℕ) (x : OpenedEnd) → slice_get old.ends k ≡ Some x → x.address ≡ to → is_closed x ≡ true →
+      Stays old report new → Arrives old from to bytes report new
+  -- where nobody is
+  At_nobody : (to ≢ request_port) → ((k : ℕ) (x : OpenedEnd) → slice_get old.ends k ≡ Some x → x.address ≢ to) →
+      Stays old report new → Arrives old from to bytes report new
+
+-- what a timeout does to the end at place k
+abbrev pub TimesOut : Bool → WorldState → ℕ → OpenedEnd → Report → WorldState → Type 0
+TimesOut true old k x report new = Stays old report new
+TimesOut false old k x report new = Turns old k x (timeout_turn x.state) (files_of x) report new
+
+-- an open receiver was told to refuse its next append or commit; another end cannot be told
+abbrev pub told_to_refuse : OpenedEnd → OpenedEnd
+told_to_refuse x = if is_sender x.state.side then x else if is_closed x then x else record x { refuses = true }
+
+-- the end at this port, whose place is k
+pub record IsAtPort (w : WorldState) (port k : ℕ) (x : OpenedEnd) : Type 0 where
+  pub is : port ≡ 1024 + k
+  pub there : slice_get w.ends k ≡ Some x
+
+-- what an event that is not refused makes of a world
+abbrev pub WorldStep : WorldState → Event → Report → WorldState → Type 0
+WorldStep old (Get name mode asked) report new =
+    HasPort old × MayRead name mode asked × Opens old (reading_client old name mode asked) report new
+WorldStep old (Put name mode asked bytes) report new =
+    HasPort old × MayWrite name mode asked bytes × Opens old (writing_client old name mode asked bytes) report new
+WorldStep old (Deliver i) report new =
+    (d : Datagram) × (slice_get old.sent i ≡ Some d) × Arrives old d.from d.to d.bytes report new
+WorldStep old (Timeout port) report new =
+    (k : ℕ) × (x : OpenedEnd) × IsAtPort old port k x × TimesOut (is_closed x) old k x report new
+WorldStep old (RefuseStore port) report new =
+    (k : ℕ) × (x : OpenedEnd) × IsAtPort old port k x
+    × (report ≡ no_report) × (new ≡ record old { ends = slice_set old.ends k (told_to_refuse x) })
+WorldStep old (Stray from to bytes) report new = (host_of from ≡ Elsewhere) × Arrives old from to bytes report new
+
+-- the event finds a datagram of this place
+abbrev pub FindsNone : List Datagram → ℕ → Type 0
+FindsNone sent i = length sent ≤ i
+
+-- no port is left for an end that a request could open
+abbrev pub LacksPort : WorldState → Endpoint → Type 0
+LacksPort w to = (to ≡ request_port) × (65535 < next_port w)
+
+-- no end was opened at this port
+abbrev pub NoneAt : WorldState → ℕ → Type 0
+NoneAt w port = (port < 1024) ⊎ (next_port w ≤ port)
+
+-- why an event is refused: the first reason that holds, in the order of their numbers
+abbrev pub WorldRefuses : WorldState → Event → WorldFault → Type 0
+WorldRefuses w (Deliver i) NoSuchDatagram = FindsNone w.sent i
+WorldRefuses w (Timeout port) NoSuchEnd = NoneAt w port
+WorldRefuses w (RefuseStore port) NoSuchEnd = NoneAt w port
+WorldRefuses w (Get name mode asked) NoPort = 65535 < next_port w
+WorldRefuses w (Put name mode asked bytes) NoPort = 65535 < next_port w
+WorldRefuses w (Deliver i) NoPort = (d : Datagram) × (slice_get w.sent i ≡ Some d) × LacksPort w d.to
+WorldRefuses w (Stray from to bytes) NoPort = LacksPort w to
+WorldRefuses w (Get name mode asked) BadRequest = HasPort w × (MayRead name mode asked → ⊥)
+WorldRefuses w (Put name mode asked bytes) BadRequest = HasPort w × (MayWrite name mode asked bytes → ⊥)
+WorldRefuses w event Memory = ⊤
+WorldRefuses w event fault = ⊥
+
+-- the datagrams from this place on were delivered one after another, so many of them
+abbrev pub Settles : WorldState → ℕ → List Report → WorldState → Type 0
+Settles old from [] new = new ≡ old
+Settles old from (report ∷ reports) new =
+    (mid : WorldState) × WorldStep old (Deliver from) report mid × Settles mid (from + 1) reports new

@@ -1,0 +1,39 @@
+//! What may happen in a world.
+
+use tftp_ends::Endpoint;
+use tftp_negotiate::Asked;
+use tftp_wire::{Bytes, Mode};
+
+/// One thing that happens. Whoever plays the world chooses it, and so what the network does.
+#[derive(Debug, Drop)]
+pub enum Event {
+    /// A client asks for the server's file of this name.
+    Get {
+        /// The name in the request.
+        name: Bytes,
+        /// The mode of the transfer.
+        mode: Mode,
+        /// The options of the request.
+        asked: Asked,
+    },
+    /// A client sends a file to the server, under this name.
+    Put {
+        /// The name in the request.
+        name: Bytes,
+        /// The mode of the transfer.
+        mode: Mode,
+        /// The options of the request.
+        asked: Asked,
+        /// The file, as the host keeps it.
+        bytes: Bytes,
+    },
+    /// The datagram at this place of all that was sent arrives, counted from 0.
+    Deliver(usize),
+    /// The end at this port has waited long enough.
+    Timeout(u16),
+    /// The next append or commit of the receiver at this port is to be refused for want of room.
+    RefuseStore(u16),
+    /// A datagram of these bytes arrives from the first endpoint, which is at neither host, at the
+    /// second.
+    Stray(Endpoint, Endpoint, Bytes),
+}

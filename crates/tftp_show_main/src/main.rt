@@ -1,0 +1,8 @@
+//! `tftp-show` prints TFTP datagrams: lines of hexadecimal digits in, a line for each out.
+#![tactic(auto)]
+
+use std::process::ExitCode;
+
+fn main(rt: HostRuntime) -> ExitCode {
+    ExitCode::from(tftp_cmd::show_command(&rt))
+}
