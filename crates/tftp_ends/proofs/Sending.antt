@@ -1,5 +1,5 @@
 -- A sender's step, from what its source offered.
-use Rattle.std.proofs.Common.{◌≡◌, ◌≢◌, ℕ, Bool, true, false, List, ◌++◌, length, drop, Option, Some, refl, sym, ap, subst, ◌∙◌}
+use Rattle.std.proofs.Common.{◌≡◌, ℕ, Bool, true, false, List, length, drop, Option, Some, refl, sym, ap, subst, ◌∙◌}
 use Rattle.std.proofs.Math.Seq.{drop-append_seam}
 use Rattle.tftp_ends.specs.declared.endpoint.Endpoint.{Endpoint}
 use Rattle.tftp_ends.specs.declared.error_reply.ErrorReply.TheVariants.{FileChanged}
@@ -8,7 +8,7 @@ use Rattle.tftp_ends.specs.declared.phase.Phase.TheVariants.{Sending}
 use Rattle.tftp_ends.specs.declared.phase.Terms.{Terms}
 use Rattle.tftp_ends.specs.End.{EndState}
 use Rattle.tftp_ends.specs.Phase.{refused}
-use Rattle.tftp_ends.specs.Step.{Reply, Turn, Sends, Carries, Offers, in_phase, having_sent, data_bytes, sent_turn, refused_turn, filled_turn, block_length}
+use Rattle.tftp_ends.specs.Step.{Turn, Sends, Carries, Offers, in_phase, having_sent, data_bytes, sent_turn, refused_turn, filled_turn, block_length}
 
 module _ {S : Type 0} (left : S → Option (List ℕ)) (may_fail : S → ℕ → Type 0) (terms : Terms) (number : ℕ) (from : Endpoint) (e : EndState) (source source' : S) (old new : List ℕ) where
   -- what was offered for the next block

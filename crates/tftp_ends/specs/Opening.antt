@@ -3,7 +3,6 @@ use Rattle.std.specs.Prelude.{ℕ, ◌≡◌, ◌≢◌, ◌*◌, ◌<◌, true,
 use Rattle.tftp_wire.specs.Spelling.{IsValid, canonical}
 use Rattle.tftp_wire.specs.declared.mode.Mode.{Mode}
 use Rattle.tftp_wire.specs.declared.mode.Mode.TheVariants.{Octet}
-use Rattle.tftp_wire.specs.declared.packet.Packet.{Packet}
 use Rattle.tftp_wire.specs.declared.packet.Packet.TheVariants.{Read, Oack}
 use Rattle.tftp_wire.specs.declared.packet.Request.{Request}
 use Rattle.tftp_negotiate.specs.Agreed.{size, agreed_options}
@@ -12,6 +11,8 @@ use Rattle.tftp_negotiate.specs.declared.asked.Asked.{Asked}
 use Rattle.tftp_negotiate.specs.declared.known.Kind.TheVariants as kinds
 use Rattle.tftp_negotiate.specs.declared.known.Known.{Known}
 use Rattle.tftp_file.specs.Source.{Fills}
+use Rattle.tftp_file.specs.declared.fault.FileFault.{FileFault}
+use Rattle.tftp_file.specs.declared.fault.FileFault.TheVariants as file_faults
 use Rattle.tftp_file.specs.declared.files.Files.{Files}
 use Rattle.tftp_file.specs.declared.files.Files.TheVariants.{Source, Sink}
 use Rattle.tftp_ends.specs.declared.endpoint.Endpoint.{Endpoint}
@@ -20,7 +21,7 @@ use Rattle.tftp_ends.specs.declared.phase.Terms.{Terms}
 use Rattle.tftp_ends.specs.declared.record.Step.{Step}
 use Rattle.tftp_ends.specs.declared.side.Side.TheVariants.{ClientRead, ServerRead}
 use Rattle.tftp_ends.specs.End.{EndState}
-use Rattle.tftp_ends.specs.Step.{block_length, data_bytes}
+use Rattle.tftp_ends.specs.Step.{block_length, data_bytes, result_count_is}
 use Rattle.tftp_ends.specs.Waiting.{plain_terms, agreed_terms}
 
 -- the request of a client
@@ -72,10 +73,14 @@ serving mode length retries terms number sent =
 abbrev pub opening_step : Endpoint → Step
 opening_step to = record { to = Some to; progress = false; closed = None }
 
--- a read can be served: its blocks can be numbered; netascii and options aren't carried yet
-pub record CanServe (mode : Mode) (agreed : List Known) (length : ℕ) : Type 0 where
+-- a read is in octet and without options: the others aren't carried yet
+pub record IsCarried (mode : Mode) (agreed : List Known) : Type 0 where
   pub octet : mode ≡ Octet
   pub plain : agreed ≡ []
+
+-- a read can be served: it is carried, and its blocks can be numbered
+pub record CanServe (mode : Mode) (agreed : List Known) (length : ℕ) : Type 0 where
+  pub carried : IsCarried mode agreed
   pub fits : length < 65535 * size agreed
 
 -- a read is served: DATA 1 goes out, or where options are agreed their OACK
@@ -93,9 +98,31 @@ ServesFiles left agreed peer mode length retries (Source source) (Source source'
     ServesRead left agreed peer mode length retries source source' e
 ServesFiles left agreed peer mode length retries _ _ e = ⊥
 
--- DATA 1 of a file of that length went out behind what was there, and was kept, or nothing went out
-abbrev pub StartsWith : Option (List ℕ) → Option (List ℕ) → ℕ → List ℕ → List ℕ → List ℕ → Bool → Type 0
-StartsWith before after length kept old new true =
+-- the source does not give so many bytes: fewer are left, or it cannot be read
+pub record FallsShort (before after : Option (List ℕ)) (may_fail : Type 0) (want : ℕ) : Type 0 where
+  pub answer : Result ℕ FileFault
+  pub piece : List ℕ
+  pub fills : Fills before after want [] piece answer
+  pub read : answer ≡ Err file_faults.Read → may_fail
+  pub memory : answer ≢ Err file_faults.Memory
+  pub short : result_count_is want answer ≡ false
+
+module _ {S : Type 0} (left : S → Option (List ℕ)) (may_fail : S → ℕ → Type 0) where
+  -- the source does not give DATA 1 of a file of that length
+  abbrev pub CannotStart : ℕ → S → Type 0
+  CannotStart length source =
+      (after : Option (List ℕ))
+      × FallsShort (left source) after (may_fail source (block_length length 512 1)) (block_length length 512 1)
+
+  -- the same, of an end's files
+  abbrev pub FilesCannotStart : {K : Type 0} → ℕ → Files S K → Type 0
+  FilesCannotStart length (Source source) = CannotStart length source
+  FilesCannotStart length (Sink sink) = ⊥
+
+-- DATA 1 of a file of that length went out behind what was there, and was kept, or it could not be had and nothing went out
+abbrev pub StartsWith : Option (List ℕ) → Option (List ℕ) → Type 0 → ℕ → List ℕ → List ℕ → List ℕ → Bool → Type 0
+StartsWith before after may_fail length kept old new true =
     (piece : List ℕ) × Fills before after (block_length length 512 1) [] piece (Ok (block_length length 512 1))
     × (kept ≡ data_bytes 1 piece) × (new ≡ old ++ data_bytes 1 piece)
-StartsWith before after length kept old new false = new ≡ old
+StartsWith before after may_fail length kept old new false =
+    FallsShort before after may_fail (block_length length 512 1) × (new ≡ old)

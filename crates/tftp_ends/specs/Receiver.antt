@@ -1,5 +1,5 @@
 -- What a receiver makes of a packet from its peer (RFC 1350, sections 2 and 6).
-use Rattle.std.specs.Prelude.{ℕ, ◌+◌, nat_lt, ◌==◌, ◌&&◌, not, Bool, if◌then◌else◌, List, length, Option, Some, None}
+use Rattle.std.specs.Prelude.{ℕ, ◌+◌, nat_lt, ◌==◌, ◌&&◌, Bool, if◌then◌else◌, List, length, Option, Some, None}
 use Rattle.tftp_wire.specs.declared.mode.Mode.{Mode}
 use Rattle.tftp_wire.specs.declared.packet.Packet.{Packet}
 use Rattle.tftp_wire.specs.declared.packet.Packet.TheVariants.{Data, Error, Oack}

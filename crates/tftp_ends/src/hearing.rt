@@ -7,7 +7,7 @@ ghost use Rattle.tftp_ends.specs.Row.{Says, begins_error};
 use tftp_wire::{PacketRef, decode_ref};
 
 /// The packet that the bytes spell, if they spell one.
-pub(crate) fn hear(bytes: &[u8]) -> Option<PacketRef<'_>>
+pub fn hear(bytes: &[u8]) -> Option<PacketRef<'_>>
     ensures { Says bytes.now (option_map owned result) }
 {
     match decode_ref(bytes) {
@@ -17,7 +17,7 @@ pub(crate) fn hear(bytes: &[u8]) -> Option<PacketRef<'_>>
 }
 
 /// Whether a datagram begins as an ERROR does. Such a datagram is never answered.
-pub(crate) fn begins_error(bytes: &[u8]) -> bool
+pub fn begins_error(bytes: &[u8]) -> bool
     ensures { result ≡ begins_error bytes.now }
 {
     matches!(bytes, [0, 5, ..])

@@ -30,6 +30,7 @@ pub use end::End;
 pub use endpoint::Endpoint;
 pub use error_reply::ErrorReply;
 pub use fault::{EndFault, OpenFault};
+pub use hearing::{begins_error, hear};
 pub use outcome::Outcome;
 pub use phase::{Dally, Phase, Terms};
 pub use record::{Record, Step};

@@ -1,3 +1,4 @@
 pub mod MemoryLemmas
 pub mod StepsLemmas
 pub mod TableLemmas
+mod RequestLemmas

@@ -1,8 +1,9 @@
 -- What the request port makes of a datagram (RFC 1350, sections 2 and 4; RFC 2347, "Negotiation Protocol").
-use Rattle.std.specs.Prelude.{ℕ, ◌≡◌, ◌≢◌, ◌*◌, nat_lt, nat_le, Bool, true, false, List, [], ◌∷◌, ◌⊎◌, length, Option, Some, None, Result, Ok, Err}
+use Rattle.std.specs.Prelude.{ℕ, ◌≡◌, ◌*◌, nat_lt, nat_le, Bool, true, false, List, [], ◌∷◌, ◌⊎◌, length, Option, Some, None, Result, Ok, Err}
 use Rattle.std.specs.Bool.{MatchBool}
 use Rattle.tftp_wire.specs.Spelling.{canonical}
 use Rattle.tftp_wire.specs.declared.mode.Mode.{Mode}
+use Rattle.tftp_wire.specs.declared.mode.Mode.TheVariants.{Octet, Netascii}
 use Rattle.tftp_wire.specs.declared.packet.Packet.{Packet}
 use Rattle.tftp_wire.specs.declared.packet.Packet.TheVariants.{Read, Write, Oack}
 use Rattle.tftp_wire.specs.declared.packet.Request.{Request}
@@ -13,13 +14,9 @@ use Rattle.tftp_negotiate.specs.declared.known.Known.{Known}
 use Rattle.tftp_negotiate.specs.declared.refusal.Refusal.{Refusal}
 use Rattle.tftp_negotiate.specs.declared.refusal.Refusal.TheVariants as refusals
 use Rattle.tftp_file.specs.Path.{path_of_name}
-use Rattle.tftp_file.specs.Source.{Fills}
-use Rattle.tftp_file.specs.declared.fault.FileFault.{FileFault}
-use Rattle.tftp_file.specs.declared.fault.FileFault.TheVariants as file_faults
 use Rattle.tftp_file.specs.declared.fault.StoreFault.{StoreFault}
 use Rattle.tftp_file.specs.declared.fault.StoreFault.TheVariants.{Missing, Exists, Full, Memory}
 use Rattle.tftp_file.specs.declared.path.PathFault.{PathFault}
-use Rattle.tftp_file.specs.declared.files.Files.{Files}
 use Rattle.tftp_file.specs.declared.files.Files.TheVariants.{Source, Sink}
 use Rattle.tftp_ends.specs.declared.endpoint.Endpoint.{Endpoint}
 use Rattle.tftp_ends.specs.declared.error_reply.ErrorReply.{ErrorReply}
@@ -28,11 +25,14 @@ use Rattle.tftp_ends.specs.declared.phase.Phase.TheVariants.{Receiving}
 use Rattle.tftp_ends.specs.declared.phase.Terms.{Terms}
 use Rattle.tftp_ends.specs.declared.side.Side.TheVariants.{ServerWrite}
 use Rattle.tftp_ends.specs.End.{EndState}
-use Rattle.tftp_ends.specs.Opening.{ServesRead}
+use Rattle.tftp_ends.specs.Opening.{ServesRead, CannotStart}
 use Rattle.tftp_ends.specs.Row.{Says, begins_error}
-use Rattle.tftp_ends.specs.Step.{ack_bytes, block_length, error_bytes, result_count_is}
+use Rattle.tftp_ends.specs.Step.{ack_bytes, error_bytes}
 use Rattle.tftp_ends.specs.Waiting.{plain_terms, agreed_terms}
+use Rattle.tftp_file.specs.Memory.{MemSinkState}
 use Rattle.tftp_server.specs.declared.opened.Opened.{Opened}
+use Rattle.tftp_server.specs.declared.server.request.Decision.{Decision}
+use Rattle.tftp_server.specs.declared.server.request.Decision.TheVariants.{Refuse, Open}
 use Rattle.tftp_server.specs.declared.store.Opening.{Opening}
 use Rattle.tftp_server.specs.State.{Held, ServerState, with_new}
 use Rattle.tftp_server.specs.Store.{Stored, Drafted, Opens, Begins}
@@ -74,21 +74,45 @@ write_end [] peer mode retries = receiving mode retries (plain_terms peer) (ack_
 write_end (known ∷ others) peer mode retries =
     receiving mode retries (agreed_terms peer (known ∷ others)) (canonical (Oack (agreed_options (known ∷ others))))
 
-module _ {S F D : Type 0} (left : F → Option (List ℕ)) (may_fail : F → ℕ → Type 0) (stored : S → Option Stored) (drafted : D → Option Drafted) where
-  -- what a request is answered from, who asked, and under which identifier a transfer would open
-  pub record Asking : Type 0 where
-    pub old : ServerState S F D
-    pub from : Endpoint
-    pub tid : ℕ
+-- a request to read in octet, without options
+abbrev pub plain_read : List ℕ → Request
+plain_read name = record { name = name; mode = Octet; options = [] }
 
-  -- what the request port left: the server, what it tells, and what it sent
-  pub record Left : Type 0 where
-    pub new : ServerState S F D
-    pub opened : Opened
-    pub sent : List ℕ
+-- what is carried of a request to read so far: in octet it is answered without its options, as RFC 2347 allows
+abbrev pub carried_read : List ℕ → Mode → Option Packet
+carried_read name Octet = Some (Read (plain_read name))
+carried_read name Netascii = None
+
+-- what is carried of a packet so far; a request to write has no place yet
+abbrev pub carried : Option Packet → Option Packet
+carried (Some (Read request)) = carried_read request.name request.mode
+carried _ = None
+
+-- the name in what is carried
+abbrev pub NamesFile : Option Packet → Option (List ℕ) → Type 0
+NamesFile (Some (Read request)) (Some name) = request ≡ plain_read name
+NamesFile None None = Unit {0}
+NamesFile _ _ = ⊥
+
+-- what a request is answered from, who asked, and under which identifier a transfer would open
+pub record Asking (S F D : Type 0) : Type 0 where
+  pub old : ServerState S F D
+  pub from : Endpoint
+  pub tid : ℕ
+
+-- what the request port left: the server, what it tells, and what it sent
+pub record Left (S F D : Type 0) : Type 0 where
+  pub new : ServerState S F D
+  pub opened : Opened
+  pub sent : List ℕ
+
+module _ {S F D : Type 0} where
+  -- who asks, and for which identifier
+  abbrev pub asked_of : ServerState S F D → Endpoint → ℕ → Asking S F D
+  asked_of old from tid = record { old = old; from = from; tid = tid }
 
   -- an ERROR from the request port, and nothing opens
-  abbrev pub refusing : ErrorReply → S → Asking → Left
+  abbrev pub refusing : ErrorReply → S → Asking S F D → Left S F D
   refusing reply store asking =
       record {
         new = record asking.old { store = store };
@@ -97,11 +121,11 @@ module _ {S F D : Type 0} (left : F → Option (List ℕ)) (may_fail : F → ℕ
       }
 
   -- silence
-  abbrev pub silent : Asking → Left
+  abbrev pub silent : Asking S F D → Left S F D
   silent asking = record { new = asking.old; opened = record { tid = None; to = None }; sent = [] }
 
   -- a transfer opens, and its first datagram goes out from its own port
-  abbrev pub opening : Held F D → S → Asking → Left
+  abbrev pub opening : Held F D → S → Asking S F D → Left S F D
   opening held store asking =
       record {
         new = record asking.old { store = store; held = with_new asking.tid held asking.old.held };
@@ -109,86 +133,92 @@ module _ {S F D : Type 0} (left : F → Option (List ℕ)) (may_fail : F → ℕ
         sent = held.end.newest;
       }
 
-  -- the source doesn't give DATA 1 of a file of that length
-  pub record CannotStart (length : ℕ) (source : F) : Type 0 where
-    pub answer : Result ℕ FileFault
-    pub after : Option (List ℕ)
-    pub piece : List ℕ
-    pub fills : Fills (left source) after (block_length length 512 1) [] piece answer
-    pub short : result_count_is (block_length length 512 1) answer ≡ false
-    pub memory : answer ≢ Err file_faults.Memory
-    pub read : answer ≡ Err file_faults.Read → may_fail source (block_length length 512 1)
-
+module _ {S F D : Type 0} (left : F → Option (List ℕ)) (may_fail : F → ℕ → Type 0) (stored : S → Option Stored) (drafted : D → Option Drafted) where
   -- the end of a read opens with DATA 1 or the OACK
-  pub record Serves (path : List ℕ) (mode : Mode) (length : ℕ) (agreed : List Known) (source : F) (asking : Asking) (result : Left) : Type 0 where
+  pub record Serves (path : List ℕ) (mode : Mode) (length : ℕ) (agreed : List Known) (source : F) (asking : Asking S F D) (result : Left S F D) : Type 0 where
     pub rest : F
     pub end : EndState
     pub serves : ServesRead left agreed asking.from mode length asking.old.config.retries source rest end
     pub opens : result ≡ opening (record { end = end; files = Source rest; path = path }) asking.old.store asking
 
   -- or, where no option is agreed and DATA 1 can't be had, the file has changed
-  abbrev pub Starts : List ℕ → Mode → ℕ → List Known → F → Asking → Left → Type 0
+  abbrev pub Starts : List ℕ → Mode → ℕ → List Known → F → Asking S F D → Left S F D → Type 0
   Starts path mode length agreed source asking result =
       Serves path mode length agreed source asking result
-      ⊎ ((agreed ≡ []) × CannotStart length source × (result ≡ refusing FileChanged asking.old.store asking))
+      ⊎ ((agreed ≡ []) × CannotStart left may_fail length source × (result ≡ refusing FileChanged asking.old.store asking))
 
   -- a read whose options are answered: its blocks must be such that they can be numbered
-  abbrev pub AnswersRead : List ℕ → Mode → ℕ → F → Result (List Known) Refusal → Asking → Left → Type 0
+  abbrev pub AnswersRead : List ℕ → Mode → ℕ → F → Result (List Known) Refusal → Asking S F D → Left S F D → Type 0
   AnswersRead path mode count source (Err refusal) asking result = result ≡ refusing (accept_reply refusal) asking.old.store asking
   AnswersRead path mode count source (Ok agreed) asking result =
       MatchBool (nat_lt count (65535 * size agreed)) (Starts path mode count agreed source asking result) (result ≡ refusing FileTooLarge asking.old.store asking)
 
   -- a read whose file was opened, or could not be
-  abbrev pub ReadsFrom : List ℕ → Request → Result (Opening F) StoreFault → Asking → Left → Type 0
+  abbrev pub ReadsFrom : List ℕ → Request → Result (Opening F) StoreFault → Asking S F D → Left S F D → Type 0
   ReadsFrom path request (Ok file) asking result =
       AnswersRead path request.mode file.length file.source (answer request.options kinds.Read request.mode file.length asking.old.config.limits) asking result
   ReadsFrom path request (Err Memory) asking result = ⊥
   ReadsFrom path request (Err fault) asking result = result ≡ refusing (open_reply fault) asking.old.store asking
 
   -- a read: the store is asked for the file
-  pub record AsksToRead (path : List ℕ) (request : Request) (asking : Asking) (result : Left) : Type 0 where
+  pub record AsksToRead (path : List ℕ) (request : Request) (asking : Asking S F D) (result : Left S F D) : Type 0 where
     pub file : Result (Opening F) StoreFault
     pub opens : Opens left (stored asking.old.store) path request.mode file
     pub goes_on : ReadsFrom path request file asking result
 
   -- a write whose draft was begun, or could not be
-  abbrev pub WritesTo : List ℕ → Mode → List Known → S → Result D StoreFault → Asking → Left → Type 0
+  abbrev pub WritesTo : List ℕ → Mode → List Known → S → Result D StoreFault → Asking S F D → Left S F D → Type 0
   WritesTo path mode agreed store (Ok draft) asking result =
       result ≡ opening (record { end = write_end agreed asking.from mode asking.old.config.retries; files = Sink draft; path = path }) store asking
   WritesTo path mode agreed store (Err Memory) asking result = ⊥
   WritesTo path mode agreed store (Err fault) asking result = result ≡ refusing (begin_reply fault) store asking
 
   -- a write whose options are answered: the store is asked for a draft
-  pub record BeginsWrite (path : List ℕ) (mode : Mode) (agreed : List Known) (asking : Asking) (result : Left) : Type 0 where
+  pub record BeginsWrite (path : List ℕ) (mode : Mode) (agreed : List Known) (asking : Asking S F D) (result : Left S F D) : Type 0 where
     pub store : S
     pub draft : Result D StoreFault
     pub begins : Begins drafted (stored asking.old.store) (stored store) path draft
     pub goes_on : WritesTo path mode agreed store draft asking result
 
   -- a write: its options are answered before the store is asked
-  abbrev pub AnswersWrite : List ℕ → Mode → Result (List Known) Refusal → Asking → Left → Type 0
+  abbrev pub AnswersWrite : List ℕ → Mode → Result (List Known) Refusal → Asking S F D → Left S F D → Type 0
   AnswersWrite path mode (Err refusal) asking result = result ≡ refusing (accept_reply refusal) asking.old.store asking
   AnswersWrite path mode (Ok agreed) asking result = BeginsWrite path mode agreed asking result
 
   -- a request for a path, of either direction, where the table has room
-  abbrev pub Requests : Bool → List ℕ → Request → Asking → Left → Type 0
+  abbrev pub Requests : Bool → List ℕ → Request → Asking S F D → Left S F D → Type 0
   Requests false path request asking result = AsksToRead path request asking result
   Requests true path request asking result =
       AnswersWrite path request.mode (answer request.options kinds.Write request.mode 0 asking.old.config.limits) asking result
 
   -- the name must be a path, and then the table must have room; `writes` says that it asks to write
-  abbrev pub Names : Bool → Request → Result (List ℕ) PathFault → Asking → Left → Type 0
+  abbrev pub Names : Bool → Request → Result (List ℕ) PathFault → Asking S F D → Left S F D → Type 0
   Names writes request (Err fault) asking result = result ≡ refusing AccessViolation asking.old.store asking
   Names writes request (Ok path) asking result =
       MatchBool (nat_le asking.old.config.cap (length asking.old.held)) (result ≡ refusing ServerBusy asking.old.store asking) (Requests writes path request asking result)
 
   -- what the request port makes of what a datagram says: only a request has a place there
-  abbrev pub PortStep : Option Packet → Asking → Left → Type 0
+  abbrev pub PortStep : Option Packet → Asking S F D → Left S F D → Type 0
   PortStep (Some (Read request)) asking result = Names false request (path_of_name request.name) asking result
   PortStep (Some (Write request)) asking result = Names true request (path_of_name request.name) asking result
   PortStep _ asking result = result ≡ refusing IllegalOperation asking.old.store asking
 
   -- what the request port makes of a datagram: what begins as an ERROR is never answered
-  abbrev pub RequestStep : List ℕ → Asking → Left → Type 0
+  abbrev pub RequestStep : List ℕ → Asking S F D → Left S F D → Type 0
   RequestStep bytes asking result =
       MatchBool (begins_error bytes) (result ≡ silent asking) ((heard : Option Packet) × Says bytes heard × PortStep heard asking result)
+
+  -- the same, where only what is carried so far has a place
+  abbrev pub CarriedStep : List ℕ → Asking S F D → Left S F D → Type 0
+  CarriedStep bytes asking result =
+      MatchBool (begins_error bytes) (result ≡ silent asking) ((heard : Option Packet) × Says bytes heard × PortStep (carried heard) asking result)
+
+-- what a decision comes to
+abbrev pub came_to : {S F : Type 0} → Decision F → Asking S F MemSinkState → Left S F MemSinkState
+came_to (Refuse reply) asking = refusing reply asking.old.store asking
+came_to (Open held) asking = opening held asking.old.store asking
+
+-- what a decision has sent so far
+abbrev pub decided_bytes : {F : Type 0} → Decision F → List ℕ
+decided_bytes (Refuse reply) = []
+decided_bytes (Open held) = held.end.newest

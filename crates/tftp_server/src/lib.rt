@@ -11,6 +11,8 @@ mod config;
 mod fault;
 mod memory;
 mod opened;
+#[cfg(test)]
+mod port_tests;
 mod server;
 mod store;
 mod table;

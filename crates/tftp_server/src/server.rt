@@ -1,21 +1,27 @@
 //! A server: its store and its transfers.
 
-ghost use Rattle.std.specs.Prelude.{◌≡◌, ◌++◌, [], option_map, is_some, if◌then◌else◌, IfOk, IfErr, OnOk, OnErr};
+mod request;
+
+ghost use Rattle.std.specs.Prelude.{◌≡◌, ◌↔◌, ◌⊎◌, ◌++◌, List, ℕ, [], None, option_map, is_some, IsSome, if◌then◌else◌, IfOk, IfErr, IsErrOf, OnOk, OnErr};
 ghost use Rattle.std.specs.Map.{keys_of};
 ghost use Rattle.tftp_ends.specs.End.{record_of};
+ghost use Rattle.tftp_file.specs.Memory.{MemSinkState};
 ghost use Rattle.tftp_server.specs.Config.{IsConfig};
+ghost use Rattle.tftp_server.specs.Request.{CarriedStep, asked_of};
 ghost use Rattle.tftp_server.specs.State.{at, taken_of, without};
 ghost use Rattle.tftp_server.specs.Steps.{TimesOut, TimeoutFault, TakesDatagram, DatagramFault, KeepsHeld};
 ghost use Rattle.std.specs.Borrow.{Lends, sem};
 
 use crate::config::Config;
 use crate::fault::ServerFault;
+use crate::opened::Opened;
+use crate::server::request::Decision;
 use crate::store::Store;
 use crate::table::Table;
 use crate::transfer::Transfer;
 use std::alloc::Global;
 use std::marker::Model;
-use tftp_ends::{Endpoint, Record, Step};
+use tftp_ends::{Endpoint, Record, Step, begins_error};
 
 /// A server: what it is set to, its store and the transfers that it holds.
 ///
@@ -112,6 +118,60 @@ impl<S: Store> Server<S> {
         match transfer.on_datagram(from, bytes, out) {
             Ok(step) => Ok(step),
             Err(fault) => Err(ServerFault::from(fault)),
+        }
+    }
+
+    /// A datagram came from there to the port of requests. Where it opens a transfer, that gets the
+    /// identifier `tid`, the port from which its datagrams go out (RFC 1350, section 4). At most one
+    /// datagram is appended to `out`, for where [`Opened::to`] says.
+    ///
+    /// Today a read in octet is served, and its options are left unanswered, as RFC 2347 allows; any
+    /// other request has no place yet (ERROR 4). `TidInUse` where a transfer has the identifier;
+    /// `Memory`. After a fault nothing has changed.
+    pub fn on_request(
+        &mut self,
+        from: Endpoint,
+        tid: u16,
+        bytes: &[u8],
+        out: &mut Vec<u8>,
+    ) -> Result<Opened, ServerFault>
+        ensures steps { IfOk result (λ opened. (sent : List ℕ) × (out.new.items ≡ out.old.items ++ sent)
+            × CarriedStep S.Source.left S.Source.may_fail S.stored (λ (draft : MemSinkState). None) bytes.now (asked_of self.old from tid) (record { new = self.new; opened = opened; sent = sent })) }
+        ensures in_use { IsErrOf result ServerFault.TidInUse ↔ IsSome (at tid self.old.held) }
+        ensures fault { IfErr result (λ fault. (fault ≡ ServerFault.TidInUse) ⊎ (fault ≡ ServerFault.Memory)) }
+        ensures err { OnErr result ((self.new ≡ self.old) × (out.new.items ≡ out.old.items)) }
+    {
+        if self.table.contains(tid) {
+            return Err(ServerFault::TidInUse);
+        }
+        if begins_error(bytes) {
+            return Ok(Opened {
+                tid: None,
+                to: None,
+            });
+        }
+        let start = out.len();
+        match self.decide(from, tid, bytes, out) {
+            Ok(Decision::Refuse(reply)) => {
+                let Ok(()) = reply.append_to(out) else {
+                    return Err(ServerFault::Memory);
+                };
+                Ok(Opened {
+                    tid: None,
+                    to: Some(from),
+                })
+            }
+            Ok(Decision::Open(transfer)) => {
+                let Ok(()) = self.table.insert(tid, transfer) else {
+                    out.truncate(start);
+                    return Err(ServerFault::Memory);
+                };
+                Ok(Opened {
+                    tid: Some(tid),
+                    to: Some(from),
+                })
+            }
+            Err(_) => Err(ServerFault::Memory),
         }
     }
 

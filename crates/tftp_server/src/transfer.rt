@@ -2,7 +2,8 @@
 
 ghost use Rattle.std.specs.Prelude.{◌≡◌, ◌↔◌, true, IfOk, OnErr, IsErrOf, Option};
 ghost use Rattle.tftp_ends.specs.End.{record_of};
-ghost use Rattle.tftp_server.specs.State.{is_closed};
+ghost use Rattle.tftp_server.specs.State.{is_closed, IsRead};
+ghost use Rattle.tftp_ends.specs.Files.{AreFilesOf};
 ghost use Rattle.tftp_server.specs.Steps.{with_end, TakesIn, StaysAs};
 ghost use Rattle.tftp_ends.specs.Row.{Says, datagram_row, timeout_row};
 ghost use Rattle.tftp_ends.specs.Step.{Carries, IsAnswered, timeout_turn, told};
@@ -34,6 +35,15 @@ impl<F> Model for Transfer<F> {
 }
 
 impl<F> Transfer<F> {
+    /// A transfer that reads the file at the path.
+    pub(crate) fn new(end: End, files: Files<F, MemSink>, path: Path) -> Transfer<F>
+        requires files { AreFilesOf end.side files }
+        requires read { IsRead files }
+        ensures { result ≡ record { end = end; files = files; path = path } }
+    {
+        Transfer { end, files, path }
+    }
+
     /// How far its end came.
     pub(crate) fn record(&self) -> Record
         ensures { result ≡ record_of self.now.end }

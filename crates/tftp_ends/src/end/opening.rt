@@ -7,7 +7,9 @@ ghost use Rattle.tftp_wire.specs.declared.mode.Mode.TheVariants.{Octet};
 ghost use Rattle.tftp_wire.specs.declared.packet.Packet.TheVariants.{Read};
 ghost use Rattle.tftp_ends.specs.Filling.{is_whole};
 ghost use Rattle.tftp_ends.specs.Files.{AreFilesOf, KeepsFiles, AreSame};
-ghost use Rattle.tftp_ends.specs.Opening.{CanGet, CanServe, ServesFiles, StartsWith, getting, opening_step, request_of, nothing_asked};
+ghost use Rattle.tftp_ends.specs.Opening.{CanGet, CanServe, IsCarried, ServesFiles, StartsWith, FilesCannotStart, getting, opening_step, request_of, nothing_asked};
+ghost use Rattle.tftp_ends.specs.Step.{block_length};
+ghost use Rattle.tftp_negotiate.specs.Agreed.{size};
 
 use crate::config::EndConfig;
 use crate::end::End;
@@ -89,7 +91,7 @@ fn start_with<S: Source>(
     newest: &mut Vec<u8>,
     out: &mut Vec<u8>,
 ) -> Result<Filling, AllocError>
-    ensures starts { IfOk result (λ filling. StartsWith (S.left source.old) (S.left source.new) length newest.new.items out.old.items out.new.items (is_whole filling)) }
+    ensures starts { IfOk result (λ filling. StartsWith (S.left source.old) (S.left source.new) (S.may_fail source.old (block_length length 512 1)) length newest.new.items out.old.items out.new.items (is_whole filling)) }
     ensures room { OnOk result (4 ≤ vec_capacity newest.new) }
     ensures err { OnErr result ((S.left source.new ≡ S.left source.old) × (out.new.items ≡ out.old.items)) }
     ensures same { S.is_same source.old source.new }
@@ -183,9 +185,9 @@ impl End {
             × (out.new.items ≡ out.old.items ++ opened.0.newest)) }
         ensures step { IfOk result (λ opened. opened.1 ≡ opening_step peer) }
         ensures ok { OnOk result (CanServe mode agreed.now length) }
-        ensures bad_request { IsErrOf result OpenFault.BadRequest → CanServe mode agreed.now length → ⊥ }
-        ensures too_large { IsErrOf result OpenFault.TooLarge → CanServe mode agreed.now length → ⊥ }
-        ensures source { IsErrOf result OpenFault.SourceFault → CanServe mode agreed.now length }
+        ensures bad_request { IsErrOf result OpenFault.BadRequest → IsCarried mode agreed.now → ⊥ }
+        ensures too_large { IsErrOf result OpenFault.TooLarge → IsCarried mode agreed.now × (65535 * size agreed.now ≤ length) }
+        ensures source { IsErrOf result OpenFault.SourceFault → CanServe mode agreed.now length × FilesCannotStart S.left S.may_fail length files.old }
         ensures memory { IsErrOf result OpenFault.Memory → CanServe mode agreed.now length × KeepsFiles S.left K.held files.old files.new }
         ensures err { OnErr result (out.new.items ≡ out.old.items) }
         ensures same { AreSame S.is_same K.is_same files.old files.new }

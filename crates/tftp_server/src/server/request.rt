@@ -1,0 +1,151 @@
+//! What the request port makes of a request to read.
+
+ghost use Rattle.std.specs.Prelude.{◌≡◌, ◌++◌, [], ◌<◌, List, ℕ, Option, Some, None, Ok, false, length, option_map, IfOk, IfErr, OnErr};
+ghost use Rattle.tftp_wire.specs.declared.mode.Mode.TheVariants.{Octet};
+ghost use Rattle.tftp_wire.specs.Borrowed.{owned};
+ghost use Rattle.tftp_wire.specs.declared.packet.Packet.{Packet};
+ghost use Rattle.tftp_file.specs.Memory.{MemSinkState};
+ghost use Rattle.tftp_file.specs.Path.{path_of_name};
+ghost use Rattle.tftp_ends.specs.Row.{Says};
+ghost use Rattle.tftp_server.specs.Request.{Asking, Left, NamesFile, PortStep, Names, AsksToRead, AnswersRead, asked_of, came_to, carried, decided_bytes, plain_read};
+
+use crate::fault::ServerFault;
+use crate::server::Server;
+use crate::store::{Opening, Store};
+use crate::transfer::Transfer;
+use tftp_ends::{End, Endpoint, ErrorReply, OpenFault, hear};
+use tftp_file::{Files, Path, PathFault, StoreFault, path_of};
+use tftp_negotiate::Agreed;
+use tftp_wire::{Mode, PacketRef};
+
+/// What is to be done at a request.
+#[derive(Drop)]
+pub(crate) enum Decision<F> {
+    /// An ERROR goes out from the request port.
+    Refuse(ErrorReply),
+    /// A transfer opens; its first datagram has been appended.
+    Open(Transfer<F>),
+}
+
+/// The name in a request to read in octet.
+fn file_name<'a>(heard: &Option<PacketRef<'a>>) -> Option<&'a [u8]>
+    ensures { NamesFile (carried (option_map owned heard.now)) (option_map (λ name. name.now) result) }
+{
+    match heard {
+        Some(PacketRef::Read(request)) => match request.mode {
+            Mode::Octet => Some(request.name),
+            Mode::Netascii => None,
+        },
+        _ => None,
+    }
+}
+
+impl<S: Store> Server<S> {
+    /// Opens a transfer of the file, if its blocks can be numbered and the first can be read.
+    fn serve(
+        &self,
+        from: Endpoint,
+        tid: u16,
+        path: Path,
+        file: Opening<S::Source>,
+        out: &mut Vec<u8>,
+    ) -> Result<Decision<S::Source>, ServerFault>
+        ensures answers { IfOk result (λ decision. AnswersRead S.Source.left S.Source.may_fail S.stored (λ (draft : MemSinkState). None) path Octet file.length file.source (Ok [])
+            (asked_of self.now from tid) (came_to decision (asked_of self.now from tid))) }
+        ensures sent { IfOk result (λ decision. out.new.items ≡ out.old.items ++ decided_bytes decision) }
+        ensures memory { IfErr result (λ fault. fault ≡ ServerFault.Memory) }
+        ensures err { OnErr result (out.new.items ≡ out.old.items) }
+    {
+        let length = file.length;
+        let retries = self.config.retries;
+        let mut files = Files::Source(file.source);
+        let opened = End::serve_read(
+            self.alloc,
+            &mut files,
+            from,
+            Mode::Octet,
+            &Agreed::new(),
+            length,
+            retries,
+            out,
+        );
+        match opened {
+            Ok((end, _)) => Ok(Decision::Open(Transfer::new(end, files, path))),
+            Err(OpenFault::TooLarge) => Ok(Decision::Refuse(ErrorReply::FileTooLarge)),
+            Err(OpenFault::SourceFault) => Ok(Decision::Refuse(ErrorReply::FileChanged)),
+            Err(OpenFault::Memory) => Err(ServerFault::Memory),
+            Err(OpenFault::BadRequest) => unreachable!(),
+        }
+    }
+
+    /// Opens the file at the path, if there is one and it can be opened.
+    fn read(
+        &self,
+        from: Endpoint,
+        tid: u16,
+        path: Path,
+        out: &mut Vec<u8>,
+    ) -> Result<Decision<S::Source>, ServerFault>
+        ensures asks { IfOk result (λ decision. (name : List ℕ) → AsksToRead S.Source.left S.Source.may_fail S.stored (λ (draft : MemSinkState). None) path (plain_read name)
+            (asked_of self.now from tid) (came_to decision (asked_of self.now from tid))) }
+        ensures sent { IfOk result (λ decision. out.new.items ≡ out.old.items ++ decided_bytes decision) }
+        ensures memory { IfErr result (λ fault. fault ≡ ServerFault.Memory) }
+        ensures err { OnErr result (out.new.items ≡ out.old.items) }
+    {
+        match self.store.open(self.alloc, &path, Mode::Octet) {
+            Ok(file) => self.serve(from, tid, path, file, out),
+            Err(StoreFault::Missing) => Ok(Decision::Refuse(ErrorReply::FileNotFound)),
+            Err(StoreFault::Memory) => Err(ServerFault::Memory),
+            Err(StoreFault::Exists | StoreFault::Full | StoreFault::Io) => {
+                Ok(Decision::Refuse(ErrorReply::AccessViolation))
+            }
+        }
+    }
+
+    /// Reads the name as a path, if it is one and the table has room.
+    fn read_name(
+        &self,
+        from: Endpoint,
+        tid: u16,
+        name: &[u8],
+        out: &mut Vec<u8>,
+    ) -> Result<Decision<S::Source>, ServerFault>
+        ensures names { IfOk result (λ decision. Names S.Source.left S.Source.may_fail S.stored (λ (draft : MemSinkState). None) false (plain_read name.now) (path_of_name name.now)
+            (asked_of self.now from tid) (came_to decision (asked_of self.now from tid))) }
+        ensures sent { IfOk result (λ decision. out.new.items ≡ out.old.items ++ decided_bytes decision) }
+        ensures memory { IfErr result (λ fault. fault ≡ ServerFault.Memory) }
+        ensures err { OnErr result (out.new.items ≡ out.old.items) }
+    {
+        let path = match path_of(self.alloc, name) {
+            Ok(path) => path,
+            Err(PathFault::Memory) => return Err(ServerFault::Memory),
+            Err(PathFault::Empty | PathFault::Segment | PathFault::Depth | PathFault::Length) => {
+                return Ok(Decision::Refuse(ErrorReply::AccessViolation));
+            }
+        };
+        if self.table.len() >= usize::from(self.config.cap) {
+            return Ok(Decision::Refuse(ErrorReply::ServerBusy));
+        }
+        self.read(from, tid, path, out)
+    }
+
+    /// What is to be done at a datagram that is no ERROR: only a request to read has a place.
+    pub(crate) fn decide(
+        &self,
+        from: Endpoint,
+        tid: u16,
+        bytes: &[u8],
+        out: &mut Vec<u8>,
+    ) -> Result<Decision<S::Source>, ServerFault>
+        ensures steps { IfOk result (λ decision. (heard : Option Packet) × Says bytes.now heard
+            × PortStep S.Source.left S.Source.may_fail S.stored (λ (draft : MemSinkState). None) (carried heard) (asked_of self.now from tid) (came_to decision (asked_of self.now from tid))) }
+        ensures sent { IfOk result (λ decision. out.new.items ≡ out.old.items ++ decided_bytes decision) }
+        ensures memory { IfErr result (λ fault. fault ≡ ServerFault.Memory) }
+        ensures err { OnErr result (out.new.items ≡ out.old.items) }
+    {
+        match file_name(&hear(bytes)) {
+            Some(name) => self.read_name(from, tid, name, out),
+            None => Ok(Decision::Refuse(ErrorReply::IllegalOperation)),
+        }
+    }
+}
