@@ -84,7 +84,7 @@ fn commit<K: Sink>(sink: &mut K) -> Result<(), StoreFault> {
 
 // Two line ends are four bytes of wire text (RFC 764), and a fill of three splits the second.
 #[test]
-fn a_source_holds_back_the_second_byte_of_a_split_pair(rt: HostRuntime) {
+fn stream_rows_of_a_source(rt: HostRuntime) {
     let mut source = ReadSource::new(b"\n\n".as_slice(), Mode::Netascii);
     let mut out = Vec::new(rt.alloc());
     assert_eq!(rt; source.held(), 0, "before the first fill");
@@ -172,7 +172,7 @@ fn a_growth_that_is_refused_reads_nothing(rt: HostRuntime) -> Result<(), Fail> {
 }
 
 #[test]
-fn a_writer_that_fails_holds_what_it_took(rt: HostRuntime) {
+fn stream_rows_of_a_sink(rt: HostRuntime) {
     for fails in [true, false] {
         let tape = Tape {
             written: Vec::new(rt.alloc()),

@@ -209,7 +209,7 @@ fn answers_tell_lengths(rt: HostRuntime) -> Result<(), Fail> {
 
 /// An OACK of an octet read, with files of at most 1,000 bytes.
 #[test]
-fn oack_rows(rt: HostRuntime) -> Result<(), Fail> {
+fn option_rows(rt: HostRuntime) -> Result<(), Fail> {
     let size = Asked {
         blksize: Some(1428),
         ..NOTHING
