@@ -13,3 +13,4 @@ pub mod Filling
 pub mod Taking
 pub mod Files
 pub mod Opening
+pub mod Endpoint

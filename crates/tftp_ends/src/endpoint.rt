@@ -13,6 +13,11 @@ pub struct Endpoint {
 }
 
 impl fmt::Display for Endpoint {
+    ghost use Rattle.std.specs.Prelude.{Some};
+    ghost use Rattle.tftp_ends.specs.Endpoint.{endpoint_text};
+
+    ghost output = { λ e. Some (endpoint_text e) };
+
     fn fmt<W: fmt::Write>(&self, f: &mut fmt::Formatter<W>) -> fmt::Result {
         let [a, b, c, d] = self.ip;
         let port = self.port;
