@@ -169,6 +169,7 @@ phase_retries (Sending terms number) x r h = record {
   so_far = h.so_far;
   left = h.left;
   newest_to = h.newest_to;
+  measured = h.measured;
 }
 phase_retries (Receiving terms number) x r h = h
 phase_retries (Dallying terms number dally) x r h = h
@@ -235,7 +236,7 @@ module _ (views : List EndView) (messages : List Message) (k : ℕ) (x : OpenedE
         said_now = m ∷ [];
         shown = goes views messages k (view_of_end x) s (Repeats m ∷ []) (open_live x.state.phase o) (refl, old.2, tt);
         replies = (old.0, old.1, refl);
-        kept = record { phase = phase_retries x.state.phase x (x.state.retries_left - 1) kept.phase; length = kept.length; held = kept.held; committed = kept.committed };
+        kept = record { phase = phase_retries x.state.phase x (x.state.retries_left - 1) kept.phase; held = kept.held; committed = kept.committed };
         side = refl;
         newest = inl (refl, refl);
         stored = λ _. refl;
@@ -244,7 +245,7 @@ module _ (views : List EndView) (messages : List Message) (k : ℕ) (x : OpenedE
   -- an end that has given up is kept
   closed_kept : (terms : Option Terms) (outcome : Outcome) →
       EndKept (in_state (after (Refuse terms UnknownTransferId outcome) x.address x.state) x)
-  closed_kept terms outcome = record { phase = tt; length = kept.length; held = kept.held; committed = kept.committed }
+  closed_kept terms outcome = record { phase = tt; held = kept.held; committed = kept.committed }
 
   -- it gives up in silence
   pub gives_up : (outcome : Outcome) (from : Endpoint) → goes_on x.state.phase ≡ true →

@@ -105,7 +105,7 @@ module _ (views : List EndView) (messages : List Message) (k : ℕ) (x0 : Opened
     said_now = [];
     shown = goes views messages k (view_of_end (placed (Dallying terms n Fresh) x0)) s [] refl tt;
     replies = refl;
-    kept = record { phase = kept.phase; length = kept.length; held = kept.held; committed = kept.committed };
+    kept = record { phase = kept.phase; held = kept.held; committed = kept.committed };
     side = refl;
     newest = inl (refl, refl);
     stored = λ _. refl;
@@ -114,7 +114,7 @@ module _ (views : List EndView) (messages : List Message) (k : ℕ) (x0 : Opened
     said_now = [];
     shown = goes views messages k (view_of_end (placed (Dallying terms n Waited) x0)) s [] refl tt;
     replies = refl;
-    kept = record { phase = tt; length = kept.length; held = kept.held; committed = kept.committed };
+    kept = record { phase = tt; held = kept.held; committed = kept.committed };
     side = refl;
     newest = inl (refl, refl);
     stored = λ _. refl;

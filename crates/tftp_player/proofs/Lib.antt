@@ -17,6 +17,15 @@ pub mod HostBytes
 pub mod StandardFacts
 pub mod SaidLemmas
 pub mod EndMoves
+pub mod Resting
+pub mod Measured
+pub mod HeldLemmas
+pub mod ServerLemmas
+pub mod ServerTurns
+pub mod PortLemmas
+pub mod PlacedEnds
+pub mod ClientLemmas
+pub mod StepLemmas
 pub mod SourceMoves
 pub mod SinkMoves
 pub mod PhaseMoves

@@ -99,7 +99,7 @@ module _ (views : List EndView) (messages : List Message) (k : ℕ) (x0 : Opened
       let P = Acting views messages k sender refuses_commit from bytes in
       let u = kept.phase in
       let text = sent_text x0 in
-      let measured : x0.state.length ≡ length text = kept.length u.sender in
+      let measured : x0.state.length ≡ length text = u.measured in
       if_acts P (acked == n) (if nat_lt n (x0.state.length / terms.size + 1) then Send terms (n + 1) else Complete) (if nat_lt acked n then Ignore else illegal_row terms)
       (λ e.
       let here : Contains messages (message from x0.address (Says_ack n)) = subst (λ (m : ℕ). Contains messages (message from x0.address (Says_ack m))) (eqb-true acked n e) come in

@@ -170,7 +170,7 @@ module _ (views : List EndView) (messages : List Message) (k : ℕ) (x : OpenedE
         shown = subst (λ (b : Bool). IsShown (set views k (record (view_of_end y) { failed = not b })) (messages ++ message x.address from Error ∷ []))
             (sym r.incomplete) shown_now;
         replies = error_says reply x.address from;
-        kept = record { phase = tt; length = kept.length; held = fits; committed = λ _. un ∙ sym r.incomplete };
+        kept = record { phase = tt; held = fits; committed = λ _. un ∙ sym r.incomplete };
         side = refl;
         newest = inl (refl, refl);
         stored = λ c. absurd (true≢false (sym c ∙ r.incomplete));
@@ -209,7 +209,7 @@ module _ (views : List EndView) (messages : List Message) (k : ℕ) (x : OpenedE
         said_now = message x.address from (Says_ack number) ∷ [];
         shown = sound_view (text_of_end y) false (messages ++ message x.address from (Says_ack number) ∷ []) (acknowledged sink more after bytes d (text_of_end y) text false last);
         replies = (Ack number, spells_own (Ack number) r.fits, refl);
-        kept = record { phase = (r.receiver, r.peer); length = kept.length; held = held_fits x.state.mode x.state.held piece more after kept.held d; committed = λ _. un };
+        kept = record { phase = (r.receiver, r.peer); held = held_fits x.state.mode x.state.held piece more after kept.held d; committed = λ _. un };
         side = refl;
         newest = inr refl;
         stored = λ c. absurd (true≢false (sym c ∙ r.incomplete));
@@ -233,7 +233,7 @@ module _ (views : List EndView) (messages : List Message) (k : ℕ) (x : OpenedE
         said_now = message x.address from (Says_ack number) ∷ [];
         shown = sound_view (text_of_end y) true (messages ++ message x.address from (Says_ack number) ∷ []) (acknowledged sink more after bytes d (text_of_end y) text true last);
         replies = (Ack number, spells_own (Ack number) r.fits, refl);
-        kept = record { phase = (r.receiver, r.peer); length = kept.length; held = held_fits x.state.mode x.state.held piece more after kept.held d; committed = λ _. done };
+        kept = record { phase = (r.receiver, r.peer); held = held_fits x.state.mode x.state.held piece more after kept.held d; committed = λ _. done };
         side = refl;
         newest = inr refl;
         stored = λ c. absurd (true≢false (sym c ∙ r.incomplete));

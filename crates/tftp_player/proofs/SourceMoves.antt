@@ -137,11 +137,10 @@ data_goes views messages k x terms n from turn held refuses_commit sender measur
     (subst (λ (l : List ℕ). Goes views messages k x (data_turn x terms n from) (end_after x (data_turn x terms n from) (Source l))) (sym b.left_is) g))
 
 -- the sender's state after a block is kept
-pub data_kept : (x : OpenedEnd) (terms : Terms) (n : ℕ) (from : Endpoint) → EndKept x → is_sender x.state.side ≡ true → 0 < terms.size → terms.size ≤ 65464 →
+pub data_kept : (x : OpenedEnd) (terms : Terms) (n : ℕ) (from : Endpoint) → EndKept x → x.state.length ≡ length (sent_text x) → is_sender x.state.side ≡ true → 0 < terms.size → terms.size ≤ 65464 →
     Fits (sent_text x) terms.size → n + 1 ≤ block_count (sent_text x) terms.size → from ≡ terms.peer → EndKept (data_end x terms n from)
-data_kept x terms n from kept sender positive small fits l peer = record {
-  phase = record { sender = sender; positive = positive; size = small; fits = fits; so_far = l; left = refl; newest_to = peer };
-  length = kept.length;
+data_kept x terms n from kept measured sender positive small fits l peer = record {
+  phase = record { sender = sender; positive = positive; size = small; fits = fits; so_far = l; left = refl; newest_to = peer; measured = measured };
   held = kept.held;
   committed = λ r. absurd (true≢false (sym sender ∙ r));
 }
@@ -169,7 +168,7 @@ module _ (views : List EndView) (messages : List Message) (k : ℕ) (x0 : Opened
         said_now = message x.address from (said packet) ∷ [];
         shown = subst (λ (t : List ℕ). IsShown (set views k (view_of_end (data_end x terms n from))) (messages ++ message x.address from (Says_data (n + 1) (block t terms.size (n + 1))) ∷ [])) told shown_now;
         replies = (packet, spells_own packet (valid_data text terms.size n u.positive u.size u.fits l), refl);
-        kept = data_kept x terms n from kept u.sender u.positive u.size u.fits l (sym peer);
+        kept = data_kept x terms n from kept u.measured u.sender u.positive u.size u.fits l (sym peer);
         side = refl;
         newest = inr refl;
         stored = λ _. refl;
@@ -192,7 +191,7 @@ module _ (views : List EndView) (messages : List Message) (k : ℕ) (x0 : Opened
         shown = subst (λ (ms : List Message). IsShown (set views k (view_of_end y)) ms) (sym (append-nil messages))
             (subst (λ (t : List ℕ). IsShown (set views k (record (view_of_end x) { done = true; text = t })) messages) still shown_now);
         replies = refl;
-        kept = record { phase = tt; length = kept.length; held = kept.held; committed = λ r. absurd (true≢false (sym u.sender ∙ r)) };
+        kept = record { phase = tt; held = kept.held; committed = λ r. absurd (true≢false (sym u.sender ∙ r)) };
         side = refl;
         newest = inl (refl, refl);
         stored = λ _. refl;

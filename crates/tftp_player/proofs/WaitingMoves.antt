@@ -101,7 +101,7 @@ module _ (views : List EndView) (messages : List Message) (k : ℕ) (x0 : Opened
         said_now = message x0.address from (Says_ack 0) ∷ [];
         shown = accepts views messages k (view_of_end waiter) s from (size known) ((refl, refl), kept.phase.0, refl, server) reader here;
         replies = (Ack 0, spells_own (Ack 0) (omega arith), refl);
-        kept = record { phase = (reader, refl); length = kept.length; held = kept.held; committed = kept.committed };
+        kept = record { phase = (reader, refl); held = kept.held; committed = kept.committed };
         side = refl;
         newest = inr refl;
         stored = λ _. refl;
@@ -173,7 +173,7 @@ module _ (views : List EndView) (messages : List Message) (k : ℕ) (x0 : Opened
       if_acts Answers (nat_lt x0.state.length (65535 * terms.size)) (Send terms 1) (Refuse None replies.FileTooLarge outcomes.TooLarge)
       (λ e.
       let text = sent_text x0 in
-      let measured : x0.state.length ≡ length text = kept.length writer in
+      let measured : x0.state.length ≡ length text = kept.phase.5 writer in
       let fits : Fits text terms.size = subst (λ (n : ℕ). n < 65535 * terms.size) measured (ltb-true x0.state.length (65535 * terms.size) e) in
       let told_now : text_of_end waiter ≡ text = text_if (is_sender x0.state.side) text (received_text waiter) writer in
       let zero_blocks : 0 * terms.size ≡ 0 = omega arith in
@@ -186,7 +186,7 @@ module _ (views : List EndView) (messages : List Message) (k : ℕ) (x0 : Opened
             (subst (λ (t : List ℕ). IsShown (set views k (record (view_of_end waiter) { peer = Some from; size = terms.size; number = 1 })) (messages ++ message x0.address from (Says_data 1 (block t terms.size 1)) ∷ [])) told_now
             (shown (subst (λ (t : List ℕ). Fits t terms.size) (sym told_now) fits)));
         replies = (packet, spells_own packet (valid_data text terms.size 0 positive small fits l), refl);
-        kept = data_kept waiter terms 0 from kept writer positive small fits l (sym peer);
+        kept = data_kept waiter terms 0 from kept measured writer positive small fits l (sym peer);
         side = refl;
         newest = inr refl;
         stored = λ _. refl;

@@ -31,6 +31,7 @@ use Rattle.tftp_ends.specs.declared.error_reply.ErrorReply.TheVariants.{FileTooL
 use Rattle.tftp_ends.specs.ErrorReply.{error_packet}
 use Rattle.tftp_ends.specs.Row.{begins_error}
 use Rattle.tftp_ends.specs.Step.{error_bytes}
+use Rattle.tftp_server.specs.Store.{measured}
 use Rattle.tftp_player.specs.Machine.{Endpoint, Elsewhere, host_of, server_ip, client_ip, request_port, Request as Says_request, Oack as Says_oack}
 use Rattle.tftp_player.specs.Rules.{message}
 use Rattle.tftp_player.specs.Said.{said}
@@ -46,6 +47,7 @@ use Rattle.tftp_player.proofs.SaidLemmas.{spells_own, own_oack, negotiated_each}
 use Rattle.tftp_player.proofs.EndMoves.{valid_error}
 use Rattle.tftp_player.proofs.SourceMoves.{valid_data}
 use Rattle.tftp_player.proofs.WaitingMoves.{agreed_size}
+use Rattle.tftp_player.proofs.Measured.{measured_fits}
 use Rattle.tftp_player.proofs.OackLemmas.{valid_oack}
 use Rattle.tftp_player.proofs.WorldTurns.{opening_keeps, saying_keeps}
 
@@ -85,7 +87,7 @@ reading_keeps strangers w v name mode asked report ok may o =
     let a = x.address in
     let shown_now = asks (map view_of_end w.ends) ok.messages ok.shown a false mode (wire_text mode [] ++ []) refl (ap (λ (n : ℕ). 1024 + n) (sym (length_views w))) (λ _. no_text mode) in
     opening_keeps strangers w v ok x report p (spells_own p may.valid) shown_now (at_client a refl)
-    (record { phase = (refl, may.allowed.askable, refl, refl, λ _. refl); length = λ e. absurd (true≢false (sym e)); held = empty_held mode; committed = λ _. refl }) refl o
+    (record { phase = (refl, may.allowed.askable, refl, refl, λ _. refl, λ e. absurd (true≢false (sym e))); held = empty_held mode; committed = λ _. refl }) refl o
 
 pub writing_keeps : (strangers : Bool) (w v : WorldState) (name : List ℕ) (mode : Mode) (asked : Asked) (file : List ℕ) (report : Report) → IsOk strangers w → MayWrite name mode asked file →
     Opens w (writing_client w name mode asked file) report v → IsOk strangers v
@@ -95,10 +97,10 @@ writing_keeps strangers w v name mode asked file report ok may o =
     let a = x.address in
     let shown_now = asks (map view_of_end w.ends) ok.messages ok.shown a true mode (wire_text mode file) refl (ap (λ (n : ℕ). 1024 + n) (sym (length_views w))) (λ e. absurd (true≢false e)) in
     opening_keeps strangers w v ok x report p (spells_own p may.valid) shown_now (at_client a refl)
-    (record { phase = (refl, may.allowed.askable, refl, refl, λ _. refl); length = λ _. refl; held = empty_held mode; committed = λ e. absurd (true≢false e) }) refl o
+    (record { phase = (refl, may.allowed.askable, refl, refl, λ _. refl, λ _. refl); held = empty_held mode; committed = λ e. absurd (true≢false e) }) refl o
 
 -- the options that a server agreed to
-answered_values : (kind : Kind) (mode : Mode) (told : ℕ) (limits : Limits) (options : List RawOption) (known : List Known) → IsBlockSize limits.max_block →
+pub answered_values : (kind : Kind) (mode : Mode) (told : ℕ) (limits : Limits) (options : List RawOption) (known : List Known) → IsBlockSize limits.max_block →
     answer options kind mode told limits ≡ Ok known → AllByRecursion IsAgreeable known
 answered_values kind mode told limits options known ok e =
     values (answered_option kind mode told limits) (answered_option-Keeps kind mode told limits ok) options known
@@ -116,8 +118,7 @@ sending_keeps strangers w v from mode path file [] report ok come agreeable vali
     let shown_now = serves_plainly (map view_of_end w.ends) ok.messages ok.shown x.address from false mode text refl (ap (λ (n : ℕ). 1024 + n) (sym (length_views w))) come fits in
     opening_keeps strangers w v ok x report p (spells_own p (valid_data text 512 0 (omega arith) (omega arith) fits one)) shown_now (at_server x.address refl)
     (record {
-      phase = record { sender = refl; positive = omega arith; size = omega arith; fits = fits; so_far = one; left = refl; newest_to = refl };
-      length = λ _. refl;
+      phase = record { sender = refl; positive = omega arith; size = omega arith; fits = fits; so_far = one; left = refl; newest_to = refl; measured = refl };
       held = empty_held mode;
       committed = λ e. absurd (true≢false e);
     }) refl o
@@ -131,8 +132,7 @@ sending_keeps strangers w v from mode path file (known ∷ agreed) report ok com
     let none : 0 * size (known ∷ agreed) ≡ 0 = omega arith in
     opening_keeps strangers w v ok x report p (spells_own p (valid (λ e. cc))) says (at_server x.address refl)
     (record {
-      phase = record { sender = refl; positive = b.0; size = b.1; fits = fits; so_far = omega arith; left = ap (λ (n : ℕ). drop n text) (sym none); newest_to = refl };
-      length = λ _. refl;
+      phase = record { sender = refl; positive = b.0; size = b.1; fits = fits; so_far = omega arith; left = ap (λ (n : ℕ). drop n text) (sym none); newest_to = refl; measured = refl };
       held = empty_held mode;
       committed = λ e. absurd (true≢false e);
     }) refl o
@@ -145,7 +145,7 @@ taking_keeps strangers w v from mode path [] report ok come agreeable valid o =
     let x = receiving_end w from mode path [] in
     let shown_now = serves_plainly (map view_of_end w.ends) ok.messages ok.shown x.address from true mode (wire_text mode [] ++ []) refl (ap (λ (n : ℕ). 1024 + n) (sym (length_views w))) come (no_text mode) in
     opening_keeps strangers w v ok x report (Ack 0) (spells_own (Ack 0) (omega arith)) shown_now (at_server x.address refl)
-    (record { phase = (refl, refl); length = λ e. absurd (true≢false (sym e)); held = empty_held mode; committed = λ _. refl }) refl o
+    (record { phase = (refl, refl); held = empty_held mode; committed = λ _. refl }) refl o
 taking_keeps strangers w v from mode path (known ∷ agreed) report ok come agreeable valid o =
     let x = receiving_end w from mode path (known ∷ agreed) in
     let b = agreed_size (known ∷ agreed) agreeable in
@@ -153,7 +153,7 @@ taking_keeps strangers w v from mode path (known ∷ agreed) report ok come agre
     let shown_now = serves_with (map view_of_end w.ends) ok.messages ok.shown x.address from true mode (wire_text mode [] ++ []) (size (known ∷ agreed)) refl (ap (λ (n : ℕ). 1024 + n) (sym (length_views w))) come (no_text mode) b.0 in
     let says = subst (λ (n : ℕ). IsShown (map view_of_end w.ends ++ view_of_end x ∷ []) (ok.messages ++ message x.address from (Says_oack n) ∷ [])) (sym (own_oack (known ∷ agreed) agreeable)) shown_now in
     opening_keeps strangers w v ok x report p (spells_own p (valid (λ e. cc))) says (at_server x.address refl)
-    (record { phase = (refl, refl); length = λ e. absurd (true≢false (sym e)); held = empty_held mode; committed = λ _. refl }) refl o
+    (record { phase = (refl, refl); held = empty_held mode; committed = λ _. refl }) refl o
 
 -- the request port refuses
 refusing_keeps : (strangers : Bool) (w v : WorldState) (from : Endpoint) (reply : ErrorReply) → IsOk strangers w → v ≡ said_in w (datagram request_port from (error_bytes reply)) → IsOk strangers v
@@ -176,22 +176,24 @@ module _ (strangers : Bool) (w v : WorldState) (from : Endpoint) (report : Repor
 
   -- a read with the server's answer to its options
   sending_served : (r : Request) (path file : List ℕ) (a : Result (List Known) Refusal) → Contains ok.messages (message from request_port (Says_request false r.mode)) →
-      answer r.options kinds.Read r.mode (length (wire_text r.mode file)) w.limits ≡ a → Kept_by (sending path file r.mode a)
+      answer r.options kinds.Read r.mode (measured r.mode file) w.limits ≡ a → Kept_by (sending path file r.mode a)
   sending_served r path file (Err refusal) come e = refused (refusal_reply refusal)
   sending_served r path file (Ok agreed) come e =
-      let text = wire_text r.mode file in
-      if_served Kept_by (nat_lt (length text) (65535 * size agreed)) (Sends_file path file r.mode agreed) (Refuses FileTooLarge)
+      let m = measured r.mode file in
+      if_served Kept_by (nat_lt m (65535 * size agreed)) (Sends_file path file r.mode agreed) (Refuses FileTooLarge)
       (λ f.
-      let fits : Fits text (size agreed) = ltb-true (length text) (65535 * size agreed) f in
-      let agreeable = answered_values kinds.Read r.mode (length text) w.limits r.options agreed ok.max_block e in
-      let small = let b = agreed_size agreed agreeable in let c = b.1 in let l : length text < 65535 * 65464 = omega arith in l in
+      let few : m < 65535 * size agreed = ltb-true m (65535 * size agreed) f in
+      let agreeable = answered_values kinds.Read r.mode m w.limits r.options agreed ok.max_block e in
+      let b = agreed_size agreed agreeable in
+      let fits : Fits (wire_text r.mode file) (size agreed) = measured_fits r.mode file (size agreed) b.1 few in
+      let small = let c = b.1 in let l : m < 65535 * 65464 = omega arith in l in
       sending_keeps strangers w v from r.mode path file agreed report ok come agreeable
-      (λ some. valid_oack kinds.Read r.mode (length text) w.limits r.options agreed (omega (arith, small)) ok.max_block e some) fits)
+      (λ some. valid_oack kinds.Read r.mode m w.limits r.options agreed (omega (arith, small)) ok.max_block e some) fits)
       (λ f. refused FileTooLarge)
 
   reading_served : (r : Request) (path : List ℕ) (there : Option (List ℕ)) → Contains ok.messages (message from request_port (Says_request false r.mode)) → Kept_by (read_service w r path there)
   reading_served r path None come = refused FileNotFound
-  reading_served r path (Some file) come = sending_served r path file (answer r.options kinds.Read r.mode (length (wire_text r.mode file)) w.limits) come refl
+  reading_served r path (Some file) come = sending_served r path file (answer r.options kinds.Read r.mode (measured r.mode file) w.limits) come refl
 
   -- a write with the server's answer to its options
   taking_served : (r : Request) (path : List ℕ) (there : Option (List ℕ)) (a : Result (List Known) Refusal) → Contains ok.messages (message from request_port (Says_request true r.mode)) →

@@ -19,15 +19,16 @@ use Rattle.tftp_player.specs.Rules.{message}
 use Rattle.tftp_player.specs.Said.{said}
 use Rattle.tftp_player.specs.Shows.{EndView, IsShown}
 use Rattle.tftp_player.specs.World.{WorldState, OpenedEnd, StoredFile, file_at, datagram, files_of, is_closed, new_world, view_of_end}
-use Rattle.tftp_player.specs.WorldSteps.{may_refuse_commit, Hearing, Arrives, At_request_port, At_open_end, At_closed_end, At_nobody, TimesOut, told_to_refuse}
+use Rattle.tftp_player.specs.WorldSteps.{may_refuse_commit, Hearing, Arrives, At_request_port, At_open_end, At_closed_end, At_nobody, TimesOut, told_to_refuse, EventStep}
 use Rattle.tftp_player.specs.WorldKept.{PhaseKept, IsKeptIn, IsOk}
-use Rattle.tftp_player.specs.WorldRuns.{Runs, MayAllHappen, StepsKeep}
+use Rattle.tftp_player.specs.WorldRuns.{Runs, MayHappen, MayAllHappen, StepsKeep}
 use Rattle.tftp_player.specs.WorldSafety.{HasPeersAtHome}
 use Rattle.tftp_player.specs.declared.datagram.Datagram.{Datagram}
 use Rattle.tftp_player.specs.declared.event.Event.{Event}
 use Rattle.tftp_player.specs.declared.event.Event.TheVariants.{Get, Put, Deliver, Timeout, RefuseStore, Stray}
 use Rattle.tftp_player.specs.declared.report.Report.{Report}
 use Rattle.tftp_player.proofs.Places.{slice_get-set_cases}
+use Rattle.tftp_player.proofs.Resting.{resting_ok}
 use Rattle.tftp_player.proofs.Rows.{Stands, strays}
 use Rattle.tftp_player.proofs.Shown.{shown_start}
 use Rattle.tftp_player.proofs.ViewSafe.{shown_at_home}
@@ -72,10 +73,10 @@ module _ (strangers : Bool) (w v : WorldState) (ok : IsOk strangers w) (report :
       let s : Stands views ok.messages k (view_of_end x) = record { shown = ok.shown; place = view_at w.ends k x at } in
       let kept = ok.ends k x at in
       let spelled = says_spelled bytes h.hears.heard h.hears.says in
-      let old = there_now strangers w ok x.address x.state.newest_to x.state.newest kept.newest in
+      let old = there_now strangers w ok x.address x.state.newest_to x.state.newest (kept.newest open_now) in
       let goes_now = by_datagram views ok.messages k x (may_refuse_commit (is_client x.state.side) (file_at w.files x.path)) from bytes h.hears.heard spelled
       (λ p e. come p (spelled p e)) old x.state.phase s kept.kept open_now h.turn h.held h.hears.acts in
-      turn_keeps strangers w v ok k x h.turn h.held report at goes_now h.turns
+      turn_keeps strangers w v ok k x h.turn h.held report at open_now goes_now h.turns
 
   -- a datagram that came keeps the world
   arrives_keeps : (from to : Endpoint) (bytes : List ℕ) → ((p : WirePacket) → Spells p bytes → Contains ok.messages (message from to (said p))) →
@@ -96,9 +97,9 @@ module _ (strangers : Bool) (w v : WorldState) (ok : IsOk strangers w) (report :
       let views = map view_of_end w.ends in
       let s : Stands views ok.messages k (view_of_end x) = record { shown = ok.shown; place = view_at w.ends k x at } in
       let kept = ok.ends k x at in
-      let old = there_now strangers w ok x.address x.state.newest_to x.state.newest kept.newest in
+      let old = there_now strangers w ok x.address x.state.newest_to x.state.newest (kept.newest open_now) in
       let g = by_timeout views ok.messages k x old x.state.phase s kept.kept open_now in
-      turn_keeps strangers w v ok k x (timeout_turn x.state) (files_of x) report at
+      turn_keeps strangers w v ok k x (timeout_turn x.state) (files_of x) report at open_now
       (from_row views ok.messages k x (timeout_row x.state.retries_left x.state.phase) x.state.newest_to (timeout_turn x.state) (files_of x) g (refl, refl)) t
 
 -- what is to be refused has no part in what an end tells
@@ -117,6 +118,7 @@ phase_told (Sending terms number) x h = record {
   so_far = h.so_far;
   left = h.left;
   newest_to = h.newest_to;
+  measured = h.measured;
 }
 phase_told (Receiving terms number) x h = h
 phase_told (Dallying terms number dally) x h = h
@@ -126,7 +128,7 @@ phase_told (Closed terms number complete outcome) x h = tt
 same_kept : (w v : WorldState) (x : OpenedEnd) → v.sent ≡ w.sent → v.files ≡ w.files → IsKeptIn w x → IsKeptIn v x
 same_kept w v x s f h = record {
   kept = h.kept;
-  newest = subst (λ (ds : List Datagram). Contains ds (datagram x.address x.state.newest_to x.state.newest)) (sym s) h.newest;
+  newest = λ o. subst (λ (ds : List Datagram). Contains ds (datagram x.address x.state.newest_to x.state.newest)) (sym s) (h.newest o);
   stored = λ c r d. subst (λ (files : List StoredFile). file_at files x.path ≡ Some x.stored) (sym f) (h.stored c r d);
 }
 
@@ -135,7 +137,7 @@ told_kept w v true c x s f h = same_kept w v x s f h
 told_kept w v false true x s f h = same_kept w v x s f h
 told_kept w v false false x s f h =
     let g = same_kept w v x s f h in record {
-      kept = record { phase = phase_told x.state.phase x g.kept.phase; length = g.kept.length; held = g.kept.held; committed = g.kept.committed };
+      kept = record { phase = phase_told x.state.phase x g.kept.phase; held = g.kept.held; committed = g.kept.committed };
       newest = g.newest;
       stored = g.stored;
     }
@@ -203,16 +205,21 @@ stray_keeps w v ok report from to bytes far (At_open_end k x at here open_now g)
 stray_keeps w v ok report from to bytes far (At_closed_end k x at here closed_now s) = stays_ok true w v report ok s
 stray_keeps w v ok report from to bytes far (At_nobody away nobody_there s) = stays_ok true w v report ok s
 
+-- each event keeps the world
+event_keeps : (strangers : Bool) (w v : WorldState) (event : Event) (report : Report) → MayHappen strangers event → IsOk strangers w → EventStep w event report v → IsOk strangers v
+event_keeps strangers w v (Get name mode asked) report may ok s = reading_keeps strangers w v name mode asked report ok s.1 s.2
+event_keeps strangers w v (Put name mode asked bytes) report may ok s = writing_keeps strangers w v name mode asked bytes report ok s.1 s.2
+event_keeps strangers w v (Deliver i) report may ok s =
+    arrives_keeps strangers w v ok report s.0.from s.0.to s.0.bytes (come_from strangers w ok s.0 (contains_at w.sent i s.0 s.1)) s.2
+event_keeps strangers w v (Timeout port) report may ok s = timeout_keeps strangers w v ok report s.0 s.1 s.2.there (is_closed s.1) refl s.3
+event_keeps strangers w v (RefuseStore port) report may ok s = subst (λ (z : WorldState). IsOk strangers z) (sym s.4) (told_keeps strangers w ok s.0 s.1 s.2.there)
+event_keeps true w v (Stray from to bytes) report may ok s = stray_keeps w v ok report from to bytes s.0 s.1
+event_keeps false w v (Stray from to bytes) report may ok s = absurd may
+
 -- each step keeps the world
 pub step_keeps : StepsKeep
-step_keeps strangers w v (Get name mode asked) report may ok s = reading_keeps strangers w v name mode asked report ok s.1 s.2
-step_keeps strangers w v (Put name mode asked bytes) report may ok s = writing_keeps strangers w v name mode asked bytes report ok s.1 s.2
-step_keeps strangers w v (Deliver i) report may ok s =
-    arrives_keeps strangers w v ok report s.0.from s.0.to s.0.bytes (come_from strangers w ok s.0 (contains_at w.sent i s.0 s.1)) s.2
-step_keeps strangers w v (Timeout port) report may ok s = timeout_keeps strangers w v ok report s.0 s.1 s.2.there (is_closed s.1) refl s.3
-step_keeps strangers w v (RefuseStore port) report may ok s = subst (λ (z : WorldState). IsOk strangers z) (sym s.4) (told_keeps strangers w ok s.0 s.1 s.2.there)
-step_keeps true w v (Stray from to bytes) report may ok s = stray_keeps w v ok report from to bytes s.0 s.1
-step_keeps false w v (Stray from to bytes) report may ok s = absurd may
+step_keeps strangers w v event report may ok s =
+    subst (λ (z : WorldState). IsOk strangers z) (sym s.2) (resting_ok strangers s.0 (event_keeps strangers w s.0 event report may ok s.1))
 
 -- so do all of them
 pub run_keeps : (strangers : Bool) (events : List Event) (w v : WorldState) → MayAllHappen strangers events → IsOk strangers w → Runs w events v → IsOk strangers v

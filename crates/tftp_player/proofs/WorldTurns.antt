@@ -17,7 +17,7 @@ use Rattle.tftp_player.specs.Rules.{message}
 use Rattle.tftp_player.specs.Said.{said}
 use Rattle.tftp_player.specs.Facts.{home}
 use Rattle.tftp_player.specs.Shows.{EndView, IsShown}
-use Rattle.tftp_player.specs.World.{WorldState, OpenedEnd, StoredFile, file_at, datagram, replied, end_after, with_files, has_committed, world_after, opened_in, said_in, view_of_end}
+use Rattle.tftp_player.specs.World.{WorldState, OpenedEnd, StoredFile, file_at, is_closed, datagram, replied, end_after, with_files, has_committed, world_after, opened_in, said_in, view_of_end}
 use Rattle.tftp_player.specs.WorldSteps.{FilesAfter, Turns, Opens}
 use Rattle.tftp_player.specs.WorldKept.{EndKept, IsKeptIn, SaysSo, MaySpeak, IsOk}
 use Rattle.tftp_player.specs.declared.datagram.Datagram.{Datagram}
@@ -93,7 +93,7 @@ still_kept : (w v : WorldState) (added : List Datagram) (x : OpenedEnd) → v.se
     ((q c : List ℕ) → file_at w.files q ≡ Some c → file_at v.files q ≡ Some c) → IsKeptIn w x → IsKeptIn v x
 still_kept w v added x more stay h = record {
   kept = h.kept;
-  newest = subst (λ (ds : List Datagram). Contains ds (datagram x.address x.state.newest_to x.state.newest)) (sym more) (Contains-append_left w.sent added (datagram x.address x.state.newest_to x.state.newest) h.newest);
+  newest = λ o. subst (λ (ds : List Datagram). Contains ds (datagram x.address x.state.newest_to x.state.newest)) (sym more) (Contains-append_left w.sent added (datagram x.address x.state.newest_to x.state.newest) (h.newest o));
   stored = λ c r d. stay x.path x.stored (h.stored c r d);
 }
 
@@ -133,12 +133,12 @@ complete_then false client old_committed new_committed o n c =
 
 -- a turn of an end keeps the world
 pub turn_keeps : (strangers : Bool) (w v : WorldState) (ok : IsOk strangers w) (k : ℕ) (x : OpenedEnd) (turn : Turn) (held : Files (List ℕ) Holding) (report : Report) →
-    slice_get w.ends k ≡ Some x → Goes (map view_of_end w.ends) ok.messages k x turn (end_after x turn held) → Turns w k x turn held report v → IsOk strangers v
-turn_keeps strangers w v ok k x turn held report at g t = subst (λ (z : WorldState). IsOk strangers z) (sym t.is) later where
+    slice_get w.ends k ≡ Some x → is_closed x ≡ false → Goes (map view_of_end w.ends) ok.messages k x turn (end_after x turn held) → Turns w k x turn held report v → IsOk strangers v
+turn_keeps strangers w v ok k x turn held report at open_now g t = subst (λ (z : WorldState). IsOk strangers z) (sym t.is) later where
   newest_is : (to : Endpoint) (bytes : List ℕ) → Newest x turn (end_after x turn held) →
       Contains (w.sent ++ replied x.address turn.reply) (datagram x.address (end_after x turn held).state.newest_to (end_after x turn held).state.newest)
   newest_is to bytes (inl e) =
-      let there = Contains-append_left w.sent (replied x.address turn.reply) (datagram x.address x.state.newest_to x.state.newest) (ok.ends k x at).newest in
+      let there = Contains-append_left w.sent (replied x.address turn.reply) (datagram x.address x.state.newest_to x.state.newest) ((ok.ends k x at).newest open_now) in
       subst (λ (p : Endpoint). Contains (w.sent ++ replied x.address turn.reply) (datagram x.address p (end_after x turn held).state.newest)) (sym e.0)
       (subst (λ (b : List ℕ). Contains (w.sent ++ replied x.address turn.reply) (datagram x.address x.state.newest_to b)) (sym e.1) there)
   newest_is to bytes (inr e) =
@@ -179,7 +179,7 @@ turn_keeps strangers w v ok k x turn held report at g t = subst (λ (z : WorldSt
         ends = λ j z i. elim (slice_get-set_cases w.ends k j y z i) [
           | inl h ↦ subst (λ (u : OpenedEnd). IsKeptIn (world_after w k x turn held t.files) u) (sym h.1) (record {
             kept = g.kept;
-            newest = subst (λ (a : Endpoint). Contains (w.sent ++ replied x.address turn.reply) (datagram a y.state.newest_to y.state.newest)) (sym place) (newest_is y.state.newest_to y.state.newest g.newest);
+            newest = λ _. subst (λ (a : Endpoint). Contains (w.sent ++ replied x.address turn.reply) (datagram a y.state.newest_to y.state.newest)) (sym place) (newest_is y.state.newest_to y.state.newest g.newest);
             stored = stored_is;
           })
           | inr h ↦ still_kept w (world_after w k x turn held t.files) (replied x.address turn.reply) z refl stays (ok.ends j z h.1)
@@ -207,7 +207,7 @@ opening_keeps strangers w v ok x report p spells shown own kept incomplete o = s
           | inl h ↦ still_kept w (opened_in w x) (replied x.address reply) z refl (λ q c e. e) (ok.ends j z h)
           | inr h ↦ subst (λ (u : OpenedEnd). IsKeptIn (opened_in w x) u) (sym h.1) (record {
             kept = kept;
-            newest = Contains-append_right w.sent (replied x.address reply) (datagram x.address x.state.newest_to x.state.newest) (here_in (datagram x.address x.state.newest_to x.state.newest));
+            newest = λ _. Contains-append_right w.sent (replied x.address reply) (datagram x.address x.state.newest_to x.state.newest) (here_in (datagram x.address x.state.newest_to x.state.newest));
             stored = λ c f d. absurd (true≢false (sym d ∙ incomplete));
           })
         ];

@@ -15,3 +15,4 @@ pub mod WorldSteps
 pub mod WorldSafety
 pub mod WorldKept
 pub mod WorldRuns
+pub mod Played

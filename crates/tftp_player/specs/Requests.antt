@@ -1,5 +1,5 @@
 -- What the server makes of a datagram at its request port (RFC 1350, section 4; RFC 2347, "Negotiation Protocol").
-use Rattle.std.specs.Prelude.{ℕ, ◌*◌, ◌&&◌, not, nat_lt, nat_le, Bool, true, false, if◌then◌else◌, List, length, count_by, Option, Some, None, Result, Ok, Err}
+use Rattle.std.specs.Prelude.{ℕ, ◌*◌, ◌&&◌, not, nat_lt, nat_le, Bool, true, false, if◌then◌else◌, List, count_by, Option, Some, None, Result, Ok, Err}
 use Rattle.tftp_wire.specs.declared.mode.Mode.{Mode}
 use Rattle.tftp_wire.specs.declared.packet.Packet.{Packet}
 use Rattle.tftp_wire.specs.declared.packet.Packet.TheVariants.{Read, Write}
@@ -11,12 +11,12 @@ use Rattle.tftp_negotiate.specs.declared.refusal.Refusal.TheVariants as refusals
 use Rattle.tftp_negotiate.specs.Agreed.{size}
 use Rattle.tftp_negotiate.specs.Answer.{answer}
 use Rattle.tftp_file.specs.declared.path.PathFault.{PathFault}
-use Rattle.tftp_file.specs.Netascii.{wire_text}
 use Rattle.tftp_file.specs.Path.{path_of_name}
 use Rattle.tftp_ends.specs.declared.error_reply.ErrorReply.{ErrorReply}
 use Rattle.tftp_ends.specs.declared.error_reply.ErrorReply.TheVariants.{FileTooLarge, ServerBusy, FileNotFound, AccessViolation, DiskFull, IllegalOperation, FileExists, OptionRefused}
 use Rattle.tftp_ends.specs.End.{is_client}
 use Rattle.tftp_ends.specs.Row.{begins_error}
+use Rattle.tftp_server.specs.Store.{measured}
 use Rattle.tftp_player.specs.World.{WorldState, OpenedEnd, file_at, is_closed}
 
 -- what the server does
@@ -41,17 +41,18 @@ refusal_reply refusals.TooLarge = DiskFull
 refusal_reply refusals.NotAsked = OptionRefused
 refusal_reply refusals.BadValue = OptionRefused
 
--- a file is sent, if its blocks can be numbered
+-- a file is sent, if its blocks can be numbered: by its length as it is counted, which a program stops counting where no
+-- block size could carry the file
 abbrev pub sending : List ℕ → List ℕ → Mode → Result (List Known) Refusal → Service
 sending path file mode (Err refusal) = Refuses (refusal_reply refusal)
 sending path file mode (Ok agreed) =
-    if nat_lt (length (wire_text mode file)) (65535 * size agreed) then Sends_file path file mode agreed else Refuses FileTooLarge
+    if nat_lt (measured mode file) (65535 * size agreed) then Sends_file path file mode agreed else Refuses FileTooLarge
 
 -- a read: the file must be there
 abbrev pub read_service : WorldState → Request → List ℕ → Option (List ℕ) → Service
 read_service w r path None = Refuses FileNotFound
 read_service w r path (Some file) =
-    sending path file r.mode (answer r.options kinds.Read r.mode (length (wire_text r.mode file)) w.limits)
+    sending path file r.mode (answer r.options kinds.Read r.mode (measured r.mode file) w.limits)
 
 -- a file is taken, if there is none of its name
 abbrev pub taking : List ℕ → Mode → Option (List ℕ) → Result (List Known) Refusal → Service

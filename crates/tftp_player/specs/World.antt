@@ -1,9 +1,10 @@
 -- The world: all that was sent, the server's files, and every end that was ever opened.
-use Rattle.std.specs.Prelude.{ℕ, ◌+◌, ◌&&◌, not, Bool, true, false, if◌then◌else◌, List, [], ◌∷◌, ◌++◌, length, slice_set, Option, Some, None, is_some, option_map}
+use Rattle.std.specs.Prelude.{ℕ, ◌+◌, ◌&&◌, not, Bool, true, false, if◌then◌else◌, List, [], ◌∷◌, ◌++◌, length, map, slice_set, Option, Some, None, is_some, option_map}
 use Rattle.std.specs.BTreeMap.{is_at}
 use Rattle.std.specs.Cmp.Lexicographic.{slice_cmp}
 use Rattle.std.specs.Map.{lookup}
 use Rattle.std.specs.Ordering.{nat_cmp}
+use Rattle.tftp_wire.specs.declared.mode.Mode.{Mode}
 use Rattle.tftp_negotiate.specs.declared.limits.Limits.{Limits}
 use Rattle.tftp_file.specs.declared.files.Files.{Files}
 use Rattle.tftp_file.specs.declared.files.Files.TheVariants.{Source, Sink}
@@ -12,10 +13,12 @@ use Rattle.tftp_file.specs.Sink.{Holding}
 use Rattle.tftp_ends.specs.declared.outcome.Outcome.{Outcome}
 use Rattle.tftp_ends.specs.declared.phase.Phase.{Phase}
 use Rattle.tftp_ends.specs.declared.phase.Phase.TheVariants.{Waiting, Sending, Receiving, Dallying, Closed}
+use Rattle.tftp_ends.specs.declared.phase.Terms.{Terms}
+use Rattle.tftp_ends.specs.declared.record.Record.{Record}
 use Rattle.tftp_ends.specs.declared.side.Side.{Side}
 use Rattle.tftp_ends.specs.End.{EndState, is_sender, is_client, terms_of, number_of, is_complete, outcome_of, size_of}
 use Rattle.tftp_ends.specs.Step.{Turn, Reply}
-use Rattle.tftp_player.specs.Machine.{Endpoint, server_ip, client_ip}
+use Rattle.tftp_player.specs.Machine.{Endpoint, server_ip, client_ip, request_port}
 use Rattle.tftp_player.specs.Shows.{EndView}
 use Rattle.tftp_player.specs.declared.datagram.Datagram.{Datagram}
 use Rattle.tftp_player.specs.declared.report.Report.{Report}
@@ -192,4 +195,59 @@ view_of_end x =
       done = is_complete x.state.phase;
       failed = has_failed x.state.phase;
       text = text_of x;
+    }
+
+-- terms as a record tells them: not whether an OACK gave them
+abbrev pub rest_terms : Terms → Terms
+rest_terms terms = record terms { by_oack = false }
+
+-- a closed end keeps its mode and what its record tells, and nothing that only a later step could use
+abbrev pub rest_state : Phase → EndState → EndState
+rest_state (Waiting asked limit) e = e
+rest_state (Sending terms number) e = e
+rest_state (Receiving terms number) e = e
+rest_state (Dallying terms number dally) e = e
+rest_state (Closed terms number complete outcome) e =
+    record {
+      side = e.side;
+      mode = e.mode;
+      length = 0;
+      retries = 0;
+      retries_left = 0;
+      newest = [];
+      newest_to = request_port;
+      held = [];
+      phase = Closed (option_map rest_terms terms) number complete outcome;
+    }
+
+-- nor has it a source any more
+abbrev pub rest_left : Phase → List ℕ → List ℕ
+rest_left phase left = if is_some (outcome_of phase) then [] else left
+
+-- an end, of which no more is kept than its record if it is closed
+abbrev pub at_rest : OpenedEnd → OpenedEnd
+at_rest x = record x { state = rest_state x.state.phase x.state; left = rest_left x.state.phase x.left }
+
+-- a world whose closed ends are at rest
+abbrev pub resting : WorldState → WorldState
+resting w = record w { ends = map at_rest w.ends }
+
+-- what was agreed on, as far as a record tells it
+abbrev pub recorded_terms : Record → Option Endpoint → Option Terms
+recorded_terms r None = None
+recorded_terms r (Some peer) = Some (record { peer = peer; size = r.size; timeout = r.timeout; by_oack = false })
+
+-- the state of a closed end, by its mode and its record
+abbrev pub closed_state : Mode → Record → Outcome → EndState
+closed_state mode r outcome =
+    record {
+      side = r.side;
+      mode = mode;
+      length = 0;
+      retries = 0;
+      retries_left = 0;
+      newest = [];
+      newest_to = request_port;
+      held = [];
+      phase = Closed (recorded_terms r r.peer) r.number r.complete outcome;
     }

@@ -17,7 +17,7 @@ use Rattle.tftp_player.specs.Machine.{Endpoint, Elsewhere, host_of, request_port
 use Rattle.tftp_player.specs.Rules.{message}
 use Rattle.tftp_player.specs.Said.{said}
 use Rattle.tftp_player.specs.Shows.{IsShown}
-use Rattle.tftp_player.specs.World.{WorldState, OpenedEnd, file_at, datagram, view_of_end}
+use Rattle.tftp_player.specs.World.{WorldState, OpenedEnd, file_at, is_closed, datagram, view_of_end}
 use Rattle.tftp_player.specs.declared.datagram.Datagram.{Datagram}
 
 -- the wire text of a sender's file
@@ -33,12 +33,15 @@ pub record IsUnderWay (x : OpenedEnd) (terms : Terms) (number : ℕ) : Type 0 wh
   pub so_far : number ≤ block_count (sent_text x) terms.size
   pub left : x.left ≡ drop (number * terms.size) (sent_text x)
   pub newest_to : x.state.newest_to ≡ terms.peer
+  -- its file is as long as it was measured
+  pub measured : x.state.length ≡ length (sent_text x)
 
 -- what holds of an end in this phase
 abbrev pub PhaseKept : OpenedEnd → Phase → Type 0
 PhaseKept x (Waiting asked limit) =
     (is_client x.state.side ≡ true) × IsAskable asked × (x.state.newest_to ≡ request_port) × (x.left ≡ sent_text x)
     × (is_sender x.state.side ≡ false → x.state.held ≡ [])
+    × (is_sender x.state.side ≡ true → x.state.length ≡ length (sent_text x))
 PhaseKept x (Sending terms number) = IsUnderWay x terms number
 PhaseKept x (Receiving terms number) = (is_sender x.state.side ≡ false) × (x.state.newest_to ≡ terms.peer)
 PhaseKept x (Dallying terms number dally) = (is_sender x.state.side ≡ false) × (x.state.newest_to ≡ terms.peer)
@@ -52,8 +55,6 @@ HeldFits Netascii held = Unit {0}
 -- what holds of an end, whatever was sent
 pub record EndKept (x : OpenedEnd) : Type 0 where
   pub phase : PhaseKept x x.state.phase
-  -- a sender's file is as long as it was measured
-  pub length : is_sender x.state.side ≡ true → x.state.length ≡ length (sent_text x)
   pub held : HeldFits x.state.mode x.state.held
   -- a receiver has committed what it stored exactly if it is complete
   pub committed : is_sender x.state.side ≡ false → x.committed ≡ is_complete x.state.phase
@@ -61,8 +62,8 @@ pub record EndKept (x : OpenedEnd) : Type 0 where
 -- what holds of an end in its world
 pub record IsKeptIn (w : WorldState) (x : OpenedEnd) : Type 0 where
   pub kept : EndKept x
-  -- its newest datagram was sent
-  pub newest : Contains w.sent (datagram x.address x.state.newest_to x.state.newest)
+  -- the newest datagram of an open end was sent
+  pub newest : is_closed x ≡ false → Contains w.sent (datagram x.address x.state.newest_to x.state.newest)
   -- what a complete receiver stored stands under its path at the server
   pub stored : is_client x.state.side ≡ false → is_sender x.state.side ≡ false → is_complete x.state.phase ≡ true →
       file_at w.files x.path ≡ Some x.stored

@@ -9,7 +9,7 @@ use Rattle.tftp_ends.specs.End.{is_sender, is_client}
 use Rattle.tftp_ends.specs.Row.{Says}
 use Rattle.tftp_ends.specs.Step.{Turn, Hears, timeout_turn, error_bytes}
 use Rattle.tftp_player.specs.Machine.{Endpoint, Elsewhere, host_of, request_port}
-use Rattle.tftp_player.specs.World.{StoredFile, file_at, OpenedEnd, WorldState, next_port, is_closed, datagram, files_of, end_after, has_committed, world_after, report_of, no_report, opened_in, said_in, sent_report}
+use Rattle.tftp_player.specs.World.{StoredFile, file_at, OpenedEnd, WorldState, next_port, is_closed, datagram, resting, files_of, end_after, has_committed, world_after, report_of, no_report, opened_in, said_in, sent_report}
 use Rattle.tftp_player.specs.Openings.{reading_client, writing_client, MayRead, MayWrite, sending_end, receiving_end}
 use Rattle.tftp_player.specs.Requests.{Service, Ignores, Refuses, Sends_file, Takes_file, service}
 use Rattle.tftp_player.specs.declared.datagram.Datagram.{Datagram}
@@ -112,20 +112,24 @@ pub record IsAtPort (w : WorldState) (port k : ℕ) (x : OpenedEnd) : Type 0 whe
   pub is : port ≡ 1024 + k
   pub there : slice_get w.ends k ≡ Some x
 
--- what an event that is not refused makes of a world
-abbrev pub WorldStep : WorldState → Event → Report → WorldState → Type 0
-WorldStep old (Get name mode asked) report new =
+-- what an event that is not refused makes of a world, closed ends as they were when they closed
+abbrev pub EventStep : WorldState → Event → Report → WorldState → Type 0
+EventStep old (Get name mode asked) report new =
     HasPort old × MayRead name mode asked × Opens old (reading_client old name mode asked) report new
-WorldStep old (Put name mode asked bytes) report new =
+EventStep old (Put name mode asked bytes) report new =
     HasPort old × MayWrite name mode asked bytes × Opens old (writing_client old name mode asked bytes) report new
-WorldStep old (Deliver i) report new =
+EventStep old (Deliver i) report new =
     (d : Datagram) × (slice_get old.sent i ≡ Some d) × Arrives old d.from d.to d.bytes report new
-WorldStep old (Timeout port) report new =
+EventStep old (Timeout port) report new =
     (k : ℕ) × (x : OpenedEnd) × IsAtPort old port k x × TimesOut (is_closed x) old k x report new
-WorldStep old (RefuseStore port) report new =
+EventStep old (RefuseStore port) report new =
     (k : ℕ) × (x : OpenedEnd) × IsAtPort old port k x
     × (report ≡ no_report) × (new ≡ record old { ends = slice_set old.ends k (told_to_refuse x) })
-WorldStep old (Stray from to bytes) report new = (host_of from ≡ Elsewhere) × Arrives old from to bytes report new
+EventStep old (Stray from to bytes) report new = (host_of from ≡ Elsewhere) × Arrives old from to bytes report new
+
+-- what an event makes of a world: of an end that is closed no more is kept than its record
+abbrev pub WorldStep : WorldState → Event → Report → WorldState → Type 0
+WorldStep old event report new = (mid : WorldState) × EventStep old event report mid × (new ≡ resting mid)
 
 -- the event finds a datagram of this place
 abbrev pub FindsNone : List Datagram → ℕ → Type 0

@@ -1,17 +1,29 @@
 //! A lossy network between one TFTP server and its clients, and what every run of it keeps.
 //!
 //! It opens no socket, reads no clock and touches no file.
+//!
+//! Begin with [`World`]: each [`Event`] is one call, and what was sent stays there to be delivered.
 #![tactic(auto)]
 
+mod client;
 mod datagram;
+mod effect;
 mod event;
 mod fault;
 #[cfg(test)]
 mod fault_tests;
+mod hosts;
 pub mod laws;
+mod player;
 mod report;
+mod served;
+mod shelf;
+mod world;
+#[cfg(test)]
+mod world_tests;
 
 pub use datagram::Datagram;
 pub use event::Event;
 pub use fault::WorldFault;
 pub use report::Report;
+pub use world::World;

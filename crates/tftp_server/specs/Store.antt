@@ -68,7 +68,7 @@ module _ {S : Type 0} (left : S → Option (List ℕ)) where
   Opens (Some stored) path mode (Ok opening) = (bytes : List ℕ) × (file_at path stored.files ≡ Some bytes) × IsOpening mode bytes opening
   Opens (Some stored) path mode (Err Missing) = file_at path stored.files ≡ None
   Opens (Some stored) path mode (Err Memory) = IsSome (file_at path stored.files)
-  Opens (Some stored) path mode (Err _) = ⊤
+  Opens (Some stored) path mode (Err _) = ⊥
 
 module _ {K : Type 0} (drafted : K → Option Drafted) where
   -- what the beginning of a draft answers, by what the store holds

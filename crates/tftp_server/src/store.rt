@@ -51,7 +51,8 @@ pub trait Store {
 
     /// Opens the file to be read in the mode.
     ///
-    /// `Missing` if there is no such file; `Memory` only where there is one.
+    /// `Missing` if there is no such file; `Memory` only where there is one. A store that tells its files
+    /// answers no other fault.
     fn open(
         &self,
         alloc: Global,

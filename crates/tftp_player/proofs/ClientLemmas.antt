@@ -1,0 +1,37 @@
+-- A client that was opened is the end that the world says.
+use Rattle.std.proofs.Common.{◌≡◌, ℕ, false, List, [], refl, ap}
+use Rattle.tftp_wire.specs.declared.mode.Mode.{Mode}
+use Rattle.tftp_wire.specs.declared.mode.Mode.TheVariants.{Octet, Netascii}
+use Rattle.tftp_negotiate.specs.declared.asked.Asked.{Asked}
+use Rattle.tftp_file.specs.Netascii.{wire_text}
+use Rattle.tftp_ends.specs.Opening.{CanGet, getting}
+use Rattle.tftp_player.specs.Machine.{client_ip, request_port}
+use Rattle.tftp_player.specs.World.{WorldState, OpenedEnd, next_port}
+use Rattle.tftp_player.specs.Openings.{MayRead, reading_client}
+
+-- what can be asked for may be
+pub may_read : (name : List ℕ) (mode : Mode) (asked : Asked) → CanGet name mode asked → MayRead name mode asked
+may_read name mode asked can = record { valid = can.valid; allowed = can.options }
+
+-- an empty file has no text
+pub no_wire : (mode : Mode) → wire_text mode [] ≡ []
+no_wire Octet = refl
+no_wire Netascii = refl
+
+-- a client that reads, as it opens
+abbrev pub getting_client : ℕ → List ℕ → Mode → Asked → ℕ → ℕ → OpenedEnd
+getting_client port name mode asked limit retries =
+    record {
+      address = record { ip = client_ip; port = port };
+      state = getting request_port name mode asked limit retries;
+      path = [];
+      file = [];
+      left = [];
+      stored = [];
+      committed = false;
+      refuses = false;
+    }
+
+pub reading_is : (w : WorldState) (name : List ℕ) (mode : Mode) (asked : Asked) →
+    reading_client w name mode asked ≡ getting_client (next_port w) name mode asked w.limits.max_file w.retries
+reading_is w name mode asked = ap (λ (left : List ℕ). record (reading_client w name mode asked) { left = left }) (no_wire mode)

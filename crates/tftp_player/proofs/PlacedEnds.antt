@@ -1,0 +1,182 @@
+-- Ends that are told of one after another, each by its port and by what is held at that port, and how many of them are open.
+use Rattle.std.proofs.Common.{◌≡◌, ◌≢◌, ℕ, suc, zero, ◌+◌, ◌<◌, ◌≤◌, Bool, true, false, List, [], ◌∷◌, ◌++◌, length, map, set, cond, count_by, Some, None, refl, sym, ap, ◌∙◌, subst, arith}
+use Rattle.std.specs.Prelude.{◌&&◌, not, slice_get, slice_set}
+use Rattle.std.proofs.lemmas.List.Sums.{sum_by-cons, sum_by_push}
+use Rattle.std.proofs.lemmas.Option.{same_Some}
+use Rattle.tftp_ends.specs.End.{is_client}
+use Rattle.tftp_server.specs.State.{at}
+use Rattle.tftp_ends.specs.declared.phase.Phase.{Phase}
+use Rattle.tftp_ends.specs.declared.phase.Phase.TheVariants.{Waiting, Sending, Receiving, Dallying, Closed}
+use Rattle.tftp_player.specs.World.{OpenedEnd, is_closed, at_rest}
+use Rattle.tftp_player.specs.Requests.{open_transfers}
+use Rattle.tftp_player.proofs.EndMoves.{placed}
+
+-- `told_from port held ps` is to be the list of what is told of each, in order, from this port on
+module _ {P T X : Type 0} (told_at : ℕ → List (ℕ × T) → P → X) (told_from : ℕ → List (ℕ × T) → List P → List X)
+    (empty : (port : ℕ) (held : List (ℕ × T)) → told_from port held [] ≡ [])
+    (first : (port : ℕ) (held : List (ℕ × T)) (p : P) (ps : List P) → told_from port held (p ∷ ps) ≡ told_at port held p ∷ told_from (port + 1) held ps) where
+  pub told-length : (port : ℕ) (held : List (ℕ × T)) (ps : List P) → length (told_from port held ps) ≡ length ps
+  told-length port held [] = ap length (empty port held)
+  told-length port held (p ∷ ps) = ap length (first port held p ps) ∙ ap suc (told-length (port + 1) held ps)
+
+  -- what is told of the one at a place
+  pub told-get : (port : ℕ) (held : List (ℕ × T)) (ps : List P) (k : ℕ) (p : P) → slice_get ps k ≡ Some p → slice_get (told_from port held ps) k ≡ Some (told_at (port + k) held p)
+  told-get port held [] k p e = absurd (let f : None ≡ Some p = e in cc)
+  told-get port held (q ∷ ps) zero p e =
+      let here : port ≡ port + zero = omega arith in
+      ap (λ (xs : List X). slice_get xs zero) (first port held q ps)
+      ∙ (ap (λ (r : P). Some (told_at port held r)) (same_Some q p e) ∙ ap (λ (n : ℕ). Some (told_at n held p)) here)
+  told-get port held (q ∷ ps) (suc k) p e =
+      let there : port + 1 + k ≡ port + suc k = omega arith in
+      ap (λ (xs : List X). slice_get xs (suc k)) (first port held q ps)
+      ∙ (told-get (port + 1) held ps k p e ∙ ap (λ (n : ℕ). Some (told_at n held p)) there)
+
+  -- one more
+  pub told-push : (port : ℕ) (held : List (ℕ × T)) (ps : List P) (p : P) → told_from port held (ps ++ p ∷ []) ≡ told_from port held ps ++ told_at (port + length ps) held p ∷ []
+  told-push port held [] p =
+      let here : port ≡ port + zero = omega arith in
+      first port held p []
+      ∙ (ap (λ (xs : List X). told_at port held p ∷ xs) (empty (port + 1) held)
+      ∙ (ap (λ (n : ℕ). told_at n held p ∷ []) here ∙ ap (λ (xs : List X). xs ++ told_at (port + zero) held p ∷ []) (sym (empty port held))))
+  told-push port held (q ∷ ps) p =
+      let there : port + 1 + length ps ≡ port + suc (length ps) = omega arith in
+      first port held q (ps ++ p ∷ [])
+      ∙ (ap (λ (xs : List X). told_at port held q ∷ xs) (told-push (port + 1) held ps p)
+      ∙ (ap (λ (n : ℕ). told_at port held q ∷ (told_from (port + 1) held ps ++ told_at n held p ∷ [])) there
+      ∙ ap (λ (xs : List X). xs ++ told_at (port + suc (length ps)) held p ∷ []) (sym (first port held q ps))))
+
+  module _ (by_port : (port : ℕ) (held held' : List (ℕ × T)) (p : P) → at port held' ≡ at port held → told_at port held' p ≡ told_at port held p) where
+    -- what is held elsewhere has no part in it
+    pub told-same : (port : ℕ) (held held' : List (ℕ × T)) (ps : List P) → ((other : ℕ) → port ≤ other → other < port + length ps → at other held' ≡ at other held) →
+        told_from port held' ps ≡ told_from port held ps
+    told-same port held held' [] same = empty port held' ∙ sym (empty port held)
+    told-same port held held' (p ∷ ps) same =
+        first port held' p ps
+        ∙ (ap (λ (x : X). x ∷ told_from (port + 1) held' ps) (by_port port held held' p (same port (omega arith) (omega arith)))
+        ∙ (ap (λ (xs : List X). told_at port held p ∷ xs) (told-same (port + 1) held held' ps (λ other l u. same other (omega arith) (omega arith)))
+        ∙ sym (first port held p ps)))
+
+    -- where the one at a place is another now, and what is held at its port
+    pub told-set : (port : ℕ) (held held' : List (ℕ × T)) (ps : List P) (k : ℕ) (p : P) → ((other : ℕ) → other ≢ port + k → at other held' ≡ at other held) →
+        told_from port held' (slice_set ps k p) ≡ slice_set (told_from port held ps) k (told_at (port + k) held' p)
+    told-set port held held' [] k p same =
+        empty port held' ∙ ap (λ (xs : List X). slice_set xs k (told_at (port + k) held' p)) (sym (empty port held))
+    told-set port held held' (q ∷ ps) zero p same =
+        let here : port ≡ port + zero = omega arith in
+        first port held' p ps
+        ∙ (ap (λ (xs : List X). told_at port held' p ∷ xs) (told-same (port + 1) held held' ps (λ other l u. same other (let n : other ≢ port + zero = omega arith in n)))
+        ∙ (ap (λ (n : ℕ). told_at n held' p ∷ told_from (port + 1) held ps) here
+        ∙ ap (λ (xs : List X). slice_set xs zero (told_at (port + zero) held' p)) (sym (first port held q ps))))
+    told-set port held held' (q ∷ ps) (suc k) p same =
+        let there : port + 1 + k ≡ port + suc k = omega arith in
+        first port held' q (slice_set ps k p)
+        ∙ (ap (λ (x : X). x ∷ told_from (port + 1) held' (slice_set ps k p)) (by_port port held held' q (same port (let n : port ≢ port + suc k = omega arith in n)))
+        ∙ (ap (λ (xs : List X). told_at port held q ∷ xs) (told-set (port + 1) held held' ps k p (λ other n. same other (λ e. n (e ∙ sym there))))
+        ∙ (ap (λ (n : ℕ). told_at port held q ∷ slice_set (told_from (port + 1) held ps) k (told_at n held' p)) there
+        ∙ ap (λ (xs : List X). slice_set xs (suc k) (told_at (port + suc k) held' p)) (sym (first port held q ps)))))
+
+-- what is to hold of each one, by its port and by what is held there
+module _ {P T : Type 0} (Kept_at : ℕ → List (ℕ × T) → P → Type 0) where
+  abbrev pub Kept_from : ℕ → List (ℕ × T) → List P → Type 0
+  Kept_from port held [] = Unit {0}
+  Kept_from port held (p ∷ ps) = Kept_at port held p × Kept_from (port + 1) held ps
+
+  pub kept-get : (port : ℕ) (held : List (ℕ × T)) (ps : List P) (k : ℕ) (p : P) → Kept_from port held ps → slice_get ps k ≡ Some p → Kept_at (port + k) held p
+  kept-get port held [] k p h e = absurd (let f : None ≡ Some p = e in cc)
+  kept-get port held (q ∷ ps) zero p h e =
+      let here : port ≡ port + zero = omega arith in
+      subst (λ (n : ℕ). Kept_at n held p) here (subst (Kept_at port held) (same_Some q p e) h.0)
+  kept-get port held (q ∷ ps) (suc k) p h e =
+      let there : port + 1 + k ≡ port + suc k = omega arith in subst (λ (n : ℕ). Kept_at n held p) there (kept-get (port + 1) held ps k p h.1 e)
+
+  module _ (by_port : (port : ℕ) (held held' : List (ℕ × T)) (p : P) → at port held' ≡ at port held → Kept_at port held p → Kept_at port held' p) where
+    pub kept-same : (port : ℕ) (held held' : List (ℕ × T)) (ps : List P) → ((other : ℕ) → port ≤ other → other < port + length ps → at other held' ≡ at other held) →
+        Kept_from port held ps → Kept_from port held' ps
+    kept-same port held held' [] same h = tt
+    kept-same port held held' (p ∷ ps) same h =
+        (by_port port held held' p (same port (omega arith) (omega arith)) h.0, kept-same (port + 1) held held' ps (λ other l u. same other (omega arith) (omega arith)) h.1)
+
+    pub kept-set : (port : ℕ) (held held' : List (ℕ × T)) (ps : List P) (k : ℕ) (p : P) → ((other : ℕ) → other ≢ port + k → at other held' ≡ at other held) →
+        Kept_from port held ps → Kept_at (port + k) held' p → Kept_from port held' (slice_set ps k p)
+    kept-set port held held' [] k p same h new = tt
+    kept-set port held held' (q ∷ ps) zero p same h new =
+        let here : port + zero ≡ port = omega arith in
+        (subst (λ (n : ℕ). Kept_at n held' p) here new, kept-same (port + 1) held held' ps (λ other l u. same other (let n : other ≢ port + zero = omega arith in n)) h.1)
+    kept-set port held held' (q ∷ ps) (suc k) p same h new =
+        let there : port + suc k ≡ port + 1 + k = omega arith in (
+          by_port port held held' q (same port (let n : port ≢ port + suc k = omega arith in n)) h.0,
+          kept-set (port + 1) held held' ps k p (λ other n. same other (λ e. n (e ∙ there))) h.1 (subst (λ (n : ℕ). Kept_at n held' p) there new),
+        )
+
+    pub kept-push : (port : ℕ) (held held' : List (ℕ × T)) (ps : List P) (p : P) → ((other : ℕ) → port ≤ other → other < port + length ps → at other held' ≡ at other held) →
+        Kept_from port held ps → Kept_at (port + length ps) held' p → Kept_from port held' (ps ++ p ∷ [])
+    kept-push port held held' [] p same h new =
+        let here : port + zero ≡ port = omega arith in (subst (λ (n : ℕ). Kept_at n held' p) here new, tt)
+    kept-push port held held' (q ∷ ps) p same h new =
+        let there : port + suc (length ps) ≡ port + 1 + length ps = omega arith in (
+          by_port port held held' q (same port (omega arith) (omega arith)) h.0,
+          kept-push (port + 1) held held' ps p (λ other l u. same other (omega arith) (omega arith)) h.1 (subst (λ (n : ℕ). Kept_at n held' p) there new),
+        )
+
+-- ---- how many ends of the server are open
+-- it is the server's and not closed
+abbrev pub is_transfer : OpenedEnd → Bool
+is_transfer x = not (is_client x.state.side) && not (is_closed x)
+
+abbrev one_if : Bool → ℕ
+one_if true = 1
+one_if false = 0
+
+one_if_is : (b : Bool) → cond b 1 0 ≡ one_if b
+one_if_is true = refl
+one_if_is false = refl
+
+count_one : {X : Type 0} (test : X → Bool) (x : X) (xs : List X) → count_by test (x ∷ xs) ≡ one_if (test x) + count_by test xs
+count_one test x xs = sum_by-cons (λ y. cond (test y) 1 0) x xs ∙ ap (λ (n : ℕ). n + count_by test xs) (one_if_is (test x))
+
+count_pushed : {X : Type 0} (test : X → Bool) (xs : List X) (x : X) → count_by test (xs ++ x ∷ []) ≡ count_by test xs + one_if (test x)
+count_pushed test xs x = sum_by_push (λ y. cond (test y) 1 0) xs x ∙ ap (λ (n : ℕ). count_by test xs + n) (one_if_is (test x))
+
+count_set : {X : Type 0} (test : X → Bool) (xs : List X) (k : ℕ) (x y : X) → slice_get xs k ≡ Some x →
+    count_by test (set xs k y) + one_if (test x) ≡ count_by test xs + one_if (test y)
+count_set {X = X} test [] k x y e = absurd (let f : None ≡ Some x = e in cc)
+count_set {X = X} test (z ∷ xs) zero x y e =
+    let same : one_if (test z) ≡ one_if (test x) = ap (λ (v : X). one_if (test v)) (same_Some z x e) in
+    omega (arith, count_one test y xs, count_one test z xs, same)
+count_set {X = X} test (z ∷ xs) (suc k) x y e = omega (arith, count_one test z (set xs k y), count_one test z xs, count_set test xs k x y e)
+
+pub transfers-push : (ends : List OpenedEnd) (x : OpenedEnd) → is_transfer x ≡ true → open_transfers (ends ++ x ∷ []) ≡ suc (open_transfers ends)
+transfers-push ends x e =
+    let one : one_if (is_transfer x) ≡ 1 = ap one_if e in omega (arith, count_pushed is_transfer ends x, one)
+
+pub transfers-push_other : (ends : List OpenedEnd) (x : OpenedEnd) → is_transfer x ≡ false → open_transfers (ends ++ x ∷ []) ≡ open_transfers ends
+transfers-push_other ends x e =
+    let none : one_if (is_transfer x) ≡ 0 = ap one_if e in omega (arith, count_pushed is_transfer ends x, none)
+
+pub transfers-set : (ends : List OpenedEnd) (k : ℕ) (x y : OpenedEnd) → slice_get ends k ≡ Some x → is_transfer y ≡ is_transfer x → open_transfers (slice_set ends k y) ≡ open_transfers ends
+transfers-set ends k x y e same =
+    let one : one_if (is_transfer y) ≡ one_if (is_transfer x) = ap one_if same in omega (arith, count_set is_transfer ends k x y e, one)
+
+pub transfers-close : (ends : List OpenedEnd) (k : ℕ) (x y : OpenedEnd) → slice_get ends k ≡ Some x → is_transfer x ≡ true → is_transfer y ≡ false →
+    suc (open_transfers (slice_set ends k y)) ≡ open_transfers ends
+transfers-close ends k x y e was is =
+    let one : one_if (is_transfer x) ≡ 1 = ap one_if was in
+    let none : one_if (is_transfer y) ≡ 0 = ap one_if is in
+    omega (arith, count_set is_transfer ends k x y e, one, none)
+
+-- ends at rest are as many
+rest_side : (phase : Phase) (x : OpenedEnd) → is_transfer (at_rest (placed phase x)) ≡ is_transfer (placed phase x)
+rest_side (Waiting asked limit) x = refl
+rest_side (Sending terms number) x = refl
+rest_side (Receiving terms number) x = refl
+rest_side (Dallying terms number dally) x = refl
+rest_side (Closed terms number complete outcome) x = refl
+
+pub is_transfer-rest : (x : OpenedEnd) → is_transfer (at_rest x) ≡ is_transfer x
+is_transfer-rest x = rest_side x.state.phase x
+
+pub transfers-rest : (ends : List OpenedEnd) → open_transfers (map at_rest ends) ≡ open_transfers ends
+transfers-rest [] = refl
+transfers-rest (x ∷ ends) =
+    let same : one_if (is_transfer (at_rest x)) ≡ one_if (is_transfer x) = ap one_if (is_transfer-rest x) in
+    omega (arith, count_one is_transfer (at_rest x) (map at_rest ends), count_one is_transfer x ends, same, transfers-rest ends)

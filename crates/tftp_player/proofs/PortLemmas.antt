@@ -1,0 +1,224 @@
+-- What can be seen of what the server's request port did.
+use Rattle.std.proofs.Common.{◌≡◌, ℕ, Bool, true, false, List, [], ◌∷◌, Option, Some, None, Result, Ok, Err, refl, sym, ap, ◌∙◌, inl, inr}
+use Rattle.std.specs.Prelude.{◌⊎◌, ◌*◌, if◌then◌else◌, nat_lt, nat_le}
+use Rattle.tftp_wire.specs.declared.mode.Mode.{Mode}
+use Rattle.tftp_wire.specs.declared.packet.Packet.{Packet}
+use Rattle.tftp_wire.specs.declared.packet.Packet.TheVariants.{Read, Write, Data, Ack, Error, Oack}
+use Rattle.tftp_wire.specs.declared.packet.Request.{Request}
+use Rattle.tftp_negotiate.specs.Agreed.{size}
+use Rattle.tftp_negotiate.specs.Answer.{answer}
+use Rattle.tftp_negotiate.specs.declared.known.Kind.TheVariants as kinds
+use Rattle.tftp_negotiate.specs.declared.known.Known.{Known}
+use Rattle.tftp_negotiate.specs.declared.refusal.Refusal.{Refusal}
+use Rattle.tftp_file.specs.Path.{path_of_name}
+use Rattle.tftp_file.specs.declared.path.PathFault.{PathFault}
+use Rattle.tftp_ends.specs.declared.error_reply.ErrorReply.{ErrorReply}
+use Rattle.tftp_ends.specs.declared.error_reply.ErrorReply.TheVariants.{FileTooLarge, ServerBusy}
+use Rattle.tftp_ends.specs.declared.side.Side.TheVariants.{ServerRead}
+use Rattle.tftp_ends.specs.End.{EndState}
+use Rattle.tftp_ends.specs.Row.{begins_error}
+use Rattle.tftp_server.specs.State.{Held, ServerState, at, with_new}
+use Rattle.tftp_server.specs.Store.{Stored, Drafted, measured}
+use Rattle.tftp_player.specs.Machine.{Endpoint, request_port, server_ip}
+use Rattle.tftp_player.specs.World.{WorldState, OpenedEnd, file_at, is_closed, next_port, datagram, no_report, opened_in, said_in, sent_report}
+use Rattle.tftp_player.specs.WorldSteps.{Serves}
+use Rattle.tftp_player.specs.Openings.{sending_end}
+use Rattle.tftp_player.specs.Requests.{Service, Ignores, Refuses, Sends_file, Takes_file, open_transfers, sending, read_service, path_service, packet_service, service}
+use Rattle.tftp_player.proofs.HeldLemmas.{AreBelow, at-above_all, at-with_new}
+use Rattle.tftp_player.proofs.ServerLemmas.{IsNoWrite, held_of, PortAsking, PortLeft, PortDid}
+
+-- a file is sent where a request to read names one that is there
+pub record ReadServed (w : WorldState) (heard : Option Packet) (path file : List ℕ) (mode : Mode) : Type 0 where
+  pub request : Request
+  pub heard_is : heard ≡ Some (Read request)
+  pub path_is : path_of_name request.name ≡ Ok path
+  pub file_is : file_at w.files path ≡ Some file
+  pub mode_is : mode ≡ request.mode
+
+module _ (w : WorldState) (path file : List ℕ) (mode : Mode) (agreed : List Known) where
+  abbrev Is_sent : Service → Type 0
+  Is_sent service = service ≡ Sends_file path file mode agreed
+
+  -- the other way of a test sends no file
+  other_way : (b : Bool) (this that : Service) → (Is_sent this → ⊥) → Is_sent (if b then this else that) → Is_sent that
+  other_way true this that none h = absurd (none h)
+  other_way false this that none h = h
+
+  first_way : (b : Bool) (this that : Service) → (Is_sent that → ⊥) → Is_sent (if b then this else that) → Is_sent this
+  first_way true this that none h = h
+  first_way false this that none h = absurd (none h)
+
+  refuses_none : (reply : ErrorReply) → Is_sent (Refuses reply) → ⊥
+  refuses_none reply h = cc
+
+  ignores_none : Is_sent Ignores → ⊥
+  ignores_none h = cc
+
+  by_answer : (p f : List ℕ) (m : Mode) (a : Result (List Known) Refusal) → Is_sent (sending p f m a) → (p ≡ path) × (f ≡ file) × (m ≡ mode)
+  by_answer p f m (Err refusal) h = absurd (refuses_none _ h)
+  by_answer p f m (Ok known) h =
+      let s : Sends_file p f m known ≡ Sends_file path file mode agreed = first_way (nat_lt (measured m f) (65535 * size known)) (Sends_file p f m known) (Refuses FileTooLarge) (refuses_none FileTooLarge) h in
+      ((let e : p ≡ path = cc in e), (let e : f ≡ file = cc in e), (let e : m ≡ mode = cc in e))
+
+  by_file : (request : Request) (p : List ℕ) (there : Option (List ℕ)) → Is_sent (read_service w request p there) →
+      (p ≡ path) × (there ≡ Some file) × (mode ≡ request.mode)
+  by_file request p None h = absurd (refuses_none _ h)
+  by_file request p (Some f) h =
+      let b = by_answer p f request.mode (answer request.options kinds.Read request.mode (measured request.mode f) w.limits) h in
+      (b.0, ap (λ (g : List ℕ). Some g) b.1, sym b.2)
+
+  by_name : (request : Request) (name : Result (List ℕ) PathFault) → path_of_name request.name ≡ name → Is_sent (path_service w false request name) → ReadServed w (Some (Read request)) path file mode
+  by_name request (Err fault) e h = absurd (refuses_none _ h)
+  by_name request (Ok p) e h =
+      let s = other_way (nat_le w.cap (open_transfers w.ends)) (Refuses ServerBusy) (read_service w request p (file_at w.files p)) (refuses_none ServerBusy) h in
+      let b = by_file request p (file_at w.files p) s in
+      record {
+        request = request;
+        heard_is = refl;
+        path_is = e ∙ ap (λ (q : List ℕ). Ok q) b.0;
+        file_is = ap (file_at w.files) (sym b.0) ∙ b.1;
+        mode_is = b.2;
+      }
+
+  by_packet : (heard : Option Packet) → IsNoWrite heard → Is_sent (packet_service w heard) → ReadServed w heard path file mode
+  by_packet None no_write h = absurd (refuses_none _ h)
+  by_packet (Some (Read request)) no_write h = by_name request (path_of_name request.name) refl h
+  by_packet (Some (Write request)) no_write h = absurd no_write
+  by_packet (Some (Data number bytes)) no_write h = absurd (refuses_none _ h)
+  by_packet (Some (Ack number)) no_write h = absurd (refuses_none _ h)
+  by_packet (Some (Error code text)) no_write h = absurd (refuses_none _ h)
+  by_packet (Some (Oack options)) no_write h = absurd (refuses_none _ h)
+
+  -- what was asked for where the server sends a file
+  pub service_sends : (bytes : List ℕ) (heard : Option Packet) → IsNoWrite heard → service w bytes heard ≡ Sends_file path file mode agreed → ReadServed w heard path file mode
+  service_sends bytes heard no_write h = by_packet heard no_write (other_way (begins_error bytes) Ignores (packet_service w heard) ignores_none h)
+
+pub sending_open : (w : WorldState) (peer : Endpoint) (mode : Mode) (path file : List ℕ) (agreed : List Known) → is_closed (sending_end w peer mode path file agreed) ≡ false
+sending_open w peer mode path file [] = refl
+sending_open w peer mode path file (known ∷ agreed) = refl
+
+-- a new end of the server that sends, by its state and by what its source has left
+abbrev pub new_sender : ℕ → EndState → List ℕ → List ℕ → List ℕ → OpenedEnd
+new_sender port state path file left =
+    record {
+      address = record { ip = server_ip; port = port };
+      state = state;
+      path = path;
+      file = file;
+      left = left;
+      stored = [];
+      committed = false;
+      refuses = false;
+    }
+
+pub sending_is : (w : WorldState) (peer : Endpoint) (mode : Mode) (path file : List ℕ) (agreed : List Known) →
+    sending_end w peer mode path file agreed
+    ≡ new_sender (next_port w) (sending_end w peer mode path file agreed).state path file (sending_end w peer mode path file agreed).left
+sending_is w peer mode path file [] = refl
+sending_is w peer mode path file (known ∷ agreed) = refl
+
+-- its side, and its mode
+pub sending_side : (w : WorldState) (peer : Endpoint) (mode : Mode) (path file : List ℕ) (agreed : List Known) →
+    ((sending_end w peer mode path file agreed).state.side ≡ ServerRead) × ((sending_end w peer mode path file agreed).state.mode ≡ mode)
+sending_side w peer mode path file [] = (refl, refl)
+sending_side w peer mode path file (known ∷ agreed) = (refl, refl)
+
+pub sending_newest_to : (w : WorldState) (peer : Endpoint) (mode : Mode) (path file : List ℕ) (agreed : List Known) → (sending_end w peer mode path file agreed).state.newest_to ≡ peer
+sending_newest_to w peer mode path file [] = refl
+sending_newest_to w peer mode path file (known ∷ agreed) = refl
+
+module _ {D : Type 0} (drafted : D → Option Drafted) (w : WorldState) (asking : PortAsking drafted) (result : PortLeft drafted) where
+  -- a transfer opened: the end that the world says, and its first datagram went to whoever asked
+  pub record PortOpened (service : Service) : Type 0 where
+    pub path : List ℕ
+    pub file : List ℕ
+    pub mode : Mode
+    pub agreed : List Known
+    pub service_is : service ≡ Sends_file path file mode agreed
+    pub tid : result.opened.tid ≡ Some asking.tid
+    pub to : result.opened.to ≡ Some asking.from
+    pub sent : result.sent ≡ (sending_end w asking.from mode path file agreed).state.newest
+    pub new : result.new ≡ record asking.old { held = with_new asking.tid (held_of (sending_end w asking.from mode path file agreed)) asking.old.held }
+    pub serves : Serves service w asking.from (sent_report w) (opened_in w (sending_end w asking.from mode path file agreed))
+
+  -- an ERROR went out from the request port, and nothing opened
+  pub record PortRefused (service : Service) : Type 0 where
+    pub tid : result.opened.tid ≡ None
+    pub to : result.opened.to ≡ Some asking.from
+    pub new : result.new ≡ asking.old
+    pub serves : Serves service w asking.from (sent_report w) (said_in w (datagram request_port asking.from result.sent))
+
+  -- nothing happened
+  pub record PortSilent (service : Service) : Type 0 where
+    pub tid : result.opened.tid ≡ None
+    pub to : result.opened.to ≡ None
+    pub sent : result.sent ≡ []
+    pub new : result.new ≡ asking.old
+    pub serves : Serves service w asking.from no_report w
+
+  -- one of the three
+  pub port_seen : (service : Service) → PortDid drafted w service asking result → PortOpened service ⊎ (PortRefused service ⊎ PortSilent service)
+  port_seen Ignores h = inr (inr (record {
+    tid = ap (λ (r : PortLeft drafted). r.opened.tid) h;
+    to = ap (λ (r : PortLeft drafted). r.opened.to) h;
+    sent = ap (λ (r : PortLeft drafted). r.sent) h;
+    new = ap (λ (r : PortLeft drafted). r.new) h;
+    serves = record { tells = refl; is = refl };
+  }))
+  port_seen (Refuses reply) h = inr (inl (record {
+    tid = ap (λ (r : PortLeft drafted). r.opened.tid) h;
+    to = ap (λ (r : PortLeft drafted). r.opened.to) h;
+    new = ap (λ (r : PortLeft drafted). r.new) h;
+    serves = (refl, ap (λ (bytes : List ℕ). said_in w (datagram request_port asking.from bytes)) (ap (λ (r : PortLeft drafted). r.sent) h));
+  }))
+  port_seen (Sends_file path file mode agreed) h = inl (record {
+    path = path;
+    file = file;
+    mode = mode;
+    agreed = agreed;
+    service_is = refl;
+    tid = ap (λ (r : PortLeft drafted). r.opened.tid) h;
+    to = ap (λ (r : PortLeft drafted). r.opened.to) h;
+    sent = ap (λ (r : PortLeft drafted). r.sent) h;
+    new = ap (λ (r : PortLeft drafted). r.new) h;
+    serves = record { tells = refl; is = refl };
+  })
+  port_seen (Takes_file path mode agreed) h = absurd h
+
+  -- by whether the call told an identifier
+  pub port_opened : (service : Service) (tid : ℕ) → PortDid drafted w service asking result → result.opened.tid ≡ Some tid → PortOpened service
+  port_opened service tid did told = elim (port_seen service did) [
+    | inl opened ↦ opened
+    | inr other ↦ absurd (elim other [
+      | inl refused ↦ let f : None ≡ Some tid = sym refused.tid ∙ told in cc
+      | inr quiet ↦ let f : None ≡ Some tid = sym quiet.tid ∙ told in cc
+    ])
+  ]
+
+  pub port_not_opened : (service : Service) → PortDid drafted w service asking result → result.opened.tid ≡ None → PortRefused service ⊎ PortSilent service
+  port_not_opened service did told = elim (port_seen service did) [
+    | inl opened ↦ absurd (let f : None ≡ Some asking.tid = sym told ∙ opened.tid in cc)
+    | inr other ↦ other
+  ]
+
+  -- or by what the server holds under the identifier, where it is above all others
+  pub port_holds : (service : Service) (held : Held (List ℕ) D) → PortDid drafted w service asking result → AreBelow asking.tid asking.old.held → at asking.tid result.new.held ≡ Some held → PortOpened service
+  port_holds service held did below there = elim (port_seen service did) [
+    | inl opened ↦ opened
+    | inr other ↦ absurd (elim other [
+      | inl refused ↦ nothing refused.new
+      | inr quiet ↦ nothing quiet.new
+    ])
+  ] where
+    nothing : result.new ≡ asking.old → ⊥
+    nothing same =
+        let f : None ≡ Some held = sym (at-above_all asking.tid asking.old.held below) ∙ (ap (λ (s : ServerState Stored (List ℕ) D). at asking.tid s.held) (sym same) ∙ there) in cc
+
+  pub port_holds_none : (service : Service) → PortDid drafted w service asking result → AreBelow asking.tid asking.old.held → at asking.tid result.new.held ≡ None → PortRefused service ⊎ PortSilent service
+  port_holds_none service did below there = elim (port_seen service did) [
+    | inl opened ↦ absurd (
+        let x = sending_end w asking.from opened.mode opened.path opened.file opened.agreed in
+        let f : None ≡ Some (held_of x) = sym there ∙ (ap (λ (s : ServerState Stored (List ℕ) D). at asking.tid s.held) opened.new ∙ at-with_new asking.tid (held_of x) asking.old.held below) in cc
+        )
+    | inr other ↦ other
+  ]

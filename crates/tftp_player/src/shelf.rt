@@ -1,0 +1,83 @@
+//! Where a client puts what it receives.
+
+use std::alloc::Global;
+use std::marker::Model;
+use tftp_file::{MemSink, Sink, StoreFault};
+
+/// A sink in memory with room for every file, which refuses only as it was told or for want of
+/// memory. Contracts see what it holds.
+#[derive(Drop)]
+pub(crate) struct Shelf {
+    sink: MemSink,
+}
+
+impl Model for Shelf {
+    ghost use Rattle.std.specs.Prelude.{◌≡◌, ◌-◌, ◌^◌, false};
+    ghost use Rattle.tftp_file.specs.Sink.{Holding};
+
+    ghost Value = { Holding };
+
+    ghost view = { λ s. s.sink.holding };
+
+    ghost invariant = { λ s. (s.sink.room ≡ 2 ^ 64 - 1) × (s.sink.refuses_commit ≡ false) };
+}
+
+impl Shelf {
+    ghost use Rattle.std.specs.Prelude.{◌≡◌, true, false, []};
+
+    /// An empty one. It takes no memory.
+    pub(crate) fn new(alloc: Global) -> Shelf
+        ensures { result ≡ record { bytes = []; committed = false; refuses = false } }
+    {
+        Shelf {
+            sink: MemSink::new(alloc, u64::MAX, false),
+        }
+    }
+
+    /// The bytes that it holds.
+    pub(crate) fn as_bytes(&self) -> &[u8]
+        ensures { result.now ≡ self.now.bytes }
+    {
+        self.sink.as_bytes()
+    }
+
+    /// Whether they are committed.
+    pub(crate) fn is_committed(&self) -> bool
+        ensures { result ≡ self.now.committed }
+    {
+        self.sink.is_committed()
+    }
+
+    /// Its next append or commit is to be refused.
+    pub(crate) fn refuse_next(&mut self)
+        ensures { self.new ≡ record self.old { refuses = true } }
+    {
+        self.sink.refuse_next(true);
+    }
+}
+
+impl Sink for Shelf {
+    ghost use Rattle.std.specs.Prelude.{Some, None, true, ⊤};
+    ghost use Rattle.tftp_player.specs.WorldSteps.{may_refuse_append, may_refuse_commit};
+
+    ghost held = { λ s. Some s };
+
+    ghost may_refuse_append = { may_refuse_append };
+
+    ghost may_refuse_commit = { may_refuse_commit true None };
+
+    ghost is_same = { λ _ _. ⊤ };
+
+    ghost stays = { λ _. tt };
+
+    ghost joins = { λ _ _ _ _ _. tt };
+
+    fn append(&mut self, bytes: &[u8]) -> Result<(), StoreFault> {
+        let _held = self.sink.as_bytes();
+        self.sink.append(bytes)
+    }
+
+    fn commit(&mut self) -> Result<(), StoreFault> {
+        self.sink.commit()
+    }
+}
