@@ -2,13 +2,14 @@
 # make test: the gate, every proof from nothing
 # make bench: the benchmarks of bench/, which are no tests
 
-PROGRAMS := show
+PROGRAMS := show play
 SOURCES := $(shell find crates -path '*/out' -prune -o \( -name '*.rt' -o -name '*.antt' \) -print) crates.txt
 
 .PHONY: run test bench clean
 
 run: $(PROGRAMS:%=bin/tftp-%)
 	bin/tftp-show < examples/packets.hex; test $$? -le 1 # 1: some lines of the sample are faults
+	bin/tftp-play examples/lossy.script
 
 # `rt run` proves and links the program, and leaves it in the crate's out/
 bin/tftp-%: $(SOURCES)
@@ -21,6 +22,7 @@ test:
 
 bench: $(PROGRAMS:%=bin/tftp-%)
 	bench/show/run.sh bin/tftp-show
+	python3 bench/play/settled.py bin/tftp-play
 
 clean:
 	rm -rf bin crates/*/out

@@ -1,12 +1,19 @@
 //! What the TFTP programs do, as functions over readers, writers and traits.
 //!
-//! A program's `main` only hands in the system. Begin with [`show_run`].
+//! A program's `main` only hands in the system. Begin with [`show_run`] and [`play_run`].
 #![tactic(auto)]
 
 mod arguments;
+mod play;
+#[cfg(test)]
+mod play_tests;
+mod script;
+#[cfg(test)]
+mod script_tests;
 mod show;
 #[cfg(test)]
 mod tests;
 
-pub use arguments::show_command;
+pub use arguments::{play_command, show_command};
+pub use play::play_run;
 pub use show::{show_lines, show_run};

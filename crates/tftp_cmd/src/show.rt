@@ -109,7 +109,11 @@ fn decode_digits(digits: &[u8], bytes: &mut Vec<u8>) -> Result<bool, AllocError>
 
 /// Appends the packet of a datagram, or its first fault, and answers whether it is a packet. It fails
 /// only for want of memory.
-fn show_datagram(alloc: Global, bytes: &[u8], text: &mut String) -> Result<bool, PacketFault>
+pub(crate) fn show_datagram(
+    alloc: Global,
+    bytes: &[u8],
+    text: &mut String,
+) -> Result<bool, PacketFault>
     ensures is_packet { IfOk result (λ is_packet. is_packet ≡ is_none (first_fault bytes.now)) }
     ensures appended { OnOk result (string_bytes text.new ≡ string_bytes text.old ++ datagram_shown bytes.now (first_fault bytes.now)) }
 {

@@ -1,6 +1,6 @@
 //! Whole runs of `tftp-show` over memory.
 
-use crate::arguments::told;
+use crate::arguments::{play_words, told};
 use crate::show_run;
 use std::alloc::Global;
 use std::io::{self, ErrorKind, Read, Write};
@@ -82,7 +82,7 @@ fn ends_of_input(rt: HostRuntime) -> Result<(), Fail> {
 
 /// Gives its bytes, and then fails.
 #[derive(Drop)]
-struct Breaks(&'static [u8]);
+pub(crate) struct Breaks(pub(crate) &'static [u8]);
 
 impl Read for Breaks {
     fn read(&mut self, buf: &mut [u8]) -> io::Result<usize> {
@@ -95,7 +95,7 @@ impl Read for Breaks {
 
 /// Takes nothing.
 #[derive(Drop)]
-struct Full;
+pub(crate) struct Full;
 
 impl Write for Full {
     fn write(&mut self, _: &[u8]) -> io::Result<usize> {
@@ -116,6 +116,29 @@ fn failures_are_two(rt: HostRuntime) {
     }
     let status = show_run(rt.alloc(), b"00040000\n".as_slice(), Full);
     assert_eq!(rt; status, 2, "a writer that fails");
+}
+
+#[test]
+fn play_command_lines(rt: HostRuntime) -> Result<(), Fail> {
+    let rows: [(&[&str], u8); 5] = [
+        (&["tftp-play", "--help"], 0),
+        (&["tftp-play", "--version"], 0),
+        (&["tftp-play", "--verbose"], 2),
+        (&["tftp-play", "a.script", "b.script"], 2),
+        (&["tftp-play", "/missing/a.script"], 2),
+    ];
+    for (words, status) in rows {
+        let mut errors = Vec::new(rt.alloc());
+        let answer = play_words(&rt, words, &mut errors)?;
+        assert_eq!(rt; answer, status, "the status of {words:?}");
+    }
+    let mut errors = Vec::new(rt.alloc());
+    play_words(&rt, &["tftp-play", "/missing/a.script"], &mut errors)?;
+    assert!(rt;
+        errors.as_slice().starts_with(b"/missing/a.script: "),
+        "the path is told"
+    );
+    Ok(())
 }
 
 #[test]

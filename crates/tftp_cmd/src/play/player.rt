@@ -1,0 +1,145 @@
+//! A world in play, and what is printed of it.
+
+ghost use Rattle.std.specs.Prelude.{◌≡◌, true};
+ghost use Rattle.tftp_server.specs.Config.{IsConfig};
+ghost use Rattle.tftp_server.specs.Memory.{contents, has_distinct_paths};
+
+use crate::play::PlayFault;
+use crate::script::Statement;
+use crate::show::show_datagram;
+use std::alloc::{AllocError, Global};
+use std::io::{BufWriter, Write};
+use tftp_ends::{Record, Side};
+use tftp_file::Path;
+use tftp_player::{Event, Report, World, WorldFault};
+use tftp_server::Config;
+
+/// Most deliveries of one settling.
+const MAX_SETTLED: usize = 1_000_000;
+
+/// A world, and where it is written what happens in it.
+#[derive(Drop)]
+pub(crate) struct Player<W: Write + Drop> {
+    alloc: Global,
+    world: World,
+    output: BufWriter<W>,
+}
+
+impl<W: Write + Drop> Player<W> {
+    /// A world in which nothing has happened.
+    pub(crate) fn new(
+        alloc: Global,
+        files: Vec<(Path, Vec<u8>)>,
+        config: Config,
+        output: W,
+    ) -> Result<Player<W>, PlayFault>
+        requires distinct { has_distinct_paths (contents files.items) ≡ true }
+        requires valid { IsConfig config }
+    {
+        Ok(Player {
+            alloc,
+            world: World::new(alloc, files, config).map_err(|_| AllocError)?,
+            output: BufWriter::new(alloc, output)?,
+        })
+    }
+
+    /// Does what a statement says, and writes what came of it.
+    pub(crate) fn play(&mut self, statement: Statement) -> Result<(), PlayFault> {
+        match statement {
+            Statement::Event(event) => {
+                let answer = self.world.apply(event);
+                self.write_answer(answer)
+            }
+            Statement::Settle(place) => self.settle(place),
+        }
+    }
+
+    /// Writes how far each end came, and answers whether every client is complete.
+    pub(crate) fn finish(mut self) -> Result<bool, PlayFault> {
+        for (port, record) in self.world.records() {
+            write_end(&mut self.output, *port, record)?;
+        }
+        self.output.flush()?;
+        Ok(self.is_complete())
+    }
+
+    fn is_complete(&self) -> bool {
+        self.world
+            .records()
+            .iter()
+            .all(|(_, record)| record.complete || !record.side.is_client())
+    }
+
+    /// Delivers the datagrams from this place on, until none is left or one is refused.
+    fn settle(&mut self, from: usize) -> Result<(), PlayFault> {
+        for place in from..from.saturating_add(MAX_SETTLED) {
+            match self.world.apply(Event::Deliver(place)) {
+                Ok(report) => self.write_report(&report)?,
+                Err(WorldFault::NoSuchDatagram) => return Ok(()),
+                Err(fault) => return self.write_answer(Err(fault)),
+            }
+        }
+        Ok(())
+    }
+
+    fn write_answer(&mut self, answer: Result<Report, WorldFault>) -> Result<(), PlayFault> {
+        match answer {
+            Ok(report) => self.write_report(&report),
+            Err(fault) => Ok(writeln!(self.output, "refused {fault:?}")?),
+        }
+    }
+
+    fn write_report(&mut self, report: &Report) -> Result<(), PlayFault> {
+        if let Some(place) = report.added {
+            self.write_datagram(place)?;
+        }
+        if let Some((port, outcome)) = report.closed {
+            writeln!(self.output, "closed {port} {outcome:?}")?;
+        }
+        if report.added.is_none() && report.closed.is_none() {
+            writeln!(self.output, "-")?;
+        }
+        Ok(())
+    }
+
+    fn write_datagram(&mut self, place: usize) -> Result<(), PlayFault> {
+        let Some(datagram) = self.world.sent().get(place) else {
+            return Ok(());
+        };
+        let mut shown = String::new(self.alloc);
+        show_datagram(self.alloc, datagram.bytes.as_slice(), &mut shown).map_err(|_| AllocError)?;
+        let from = datagram.from;
+        let to = datagram.to;
+        writeln!(self.output, "#{place} {from} > {to} {shown}")?;
+        Ok(())
+    }
+}
+
+/// Writes how far an end came.
+fn write_end<W: Write>(output: &mut W, port: u16, record: &Record) -> Result<(), PlayFault> {
+    let side = side_word(record.side);
+    write!(output, "end {port} {side} peer=")?;
+    match record.peer {
+        Some(peer) => write!(output, "{}", peer.port)?,
+        None => write!(output, "none")?,
+    }
+    let size = record.size;
+    let number = record.number;
+    let complete = if record.complete { "yes" } else { "no" };
+    write!(output, " size={size} number={number} complete={complete} ")?;
+    match record.outcome {
+        Some(outcome) => writeln!(output, "{outcome:?}")?,
+        None => writeln!(output, "open")?,
+    }
+    Ok(())
+}
+
+/// The word for a side.
+fn side_word(side: Side) -> &'static str {
+    match side {
+        Side::ClientRead => "client-read",
+        Side::ClientWrite => "client-write",
+        Side::ServerRead => "server-read",
+        Side::ServerWrite => "server-write",
+    }
+}

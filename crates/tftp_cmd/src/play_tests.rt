@@ -1,0 +1,198 @@
+//! Whole runs of `tftp-play` over memory. What they print is written by hand from RFC 1350, sections 2,
+//! 4 and 6, and RFC 1123, section 4.2.3.1.
+
+use crate::play_run;
+use crate::tests::{Breaks, Full};
+use std::alloc::Global;
+use std::process::Abort;
+use std::test::Fail;
+
+fn plays(rt: &impl Abort, alloc: Global, script: &str, want: &str, status: u8) -> Result<(), Fail> {
+    let mut output = Vec::new(alloc);
+    let mut errors = Vec::new(alloc);
+    let answer = play_run(alloc, script.as_bytes(), &mut output, &mut errors);
+    let output = str::from_utf8(output.as_slice())?;
+    assert_eq!(rt; output, want, "the output of {script:?}");
+    assert!(rt; errors.is_empty(), "an error of {script:?}");
+    assert_eq!(rt; answer, status, "the status of {script:?}");
+    Ok(())
+}
+
+#[test]
+fn play_first(rt: HostRuntime) -> Result<(), Fail> {
+    plays(
+        &rt,
+        rt.alloc(),
+        "file a 414243\nget a octet\nsettle 0\n",
+        "\
+#0 10.0.0.2:1024 > 10.0.0.1:69 RRQ a octet
+#1 10.0.0.1:1025 > 10.0.0.2:1024 DATA 1 3
+#2 10.0.0.2:1024 > 10.0.0.1:1025 ACK 1
+closed 1025 Complete
+end 1024 client-read peer=1025 size=512 number=1 complete=yes open
+end 1025 server-read peer=1024 size=512 number=1 complete=yes Complete
+",
+        0,
+    )
+}
+
+/// Scripts of reads, with what they print and their status.
+const READS: [(&str, &str, u8); 6] = [
+    // an empty file is one empty block (RFC 1350, section 6)
+    (
+        "file empty -\nget empty octet\nsettle 0\n",
+        "\
+#0 10.0.0.2:1024 > 10.0.0.1:69 RRQ empty octet
+#1 10.0.0.1:1025 > 10.0.0.2:1024 DATA 1 0
+#2 10.0.0.2:1024 > 10.0.0.1:1025 ACK 1
+closed 1025 Complete
+end 1024 client-read peer=1025 size=512 number=1 complete=yes open
+end 1025 server-read peer=1024 size=512 number=1 complete=yes Complete
+",
+        0,
+    ),
+    // a file of whole blocks ends with an empty one (RFC 1350, section 6)
+    (
+        "file block 00*512\nget block octet\nsettle 0\n",
+        "\
+#0 10.0.0.2:1024 > 10.0.0.1:69 RRQ block octet
+#1 10.0.0.1:1025 > 10.0.0.2:1024 DATA 1 512
+#2 10.0.0.2:1024 > 10.0.0.1:1025 ACK 1
+#3 10.0.0.1:1025 > 10.0.0.2:1024 DATA 2 0
+#4 10.0.0.2:1024 > 10.0.0.1:1025 ACK 2
+closed 1025 Complete
+end 1024 client-read peer=1025 size=512 number=2 complete=yes open
+end 1025 server-read peer=1024 size=512 number=2 complete=yes Complete
+",
+        0,
+    ),
+    // an ACK that comes again sends nothing again (RFC 1123, section 4.2.3.1)
+    (
+        "file blocks 0F*1024\nget blocks octet\ndeliver 0\ndeliver 1\ndeliver 2\ndeliver 2\ndeliver 2\n",
+        "\
+#0 10.0.0.2:1024 > 10.0.0.1:69 RRQ blocks octet
+#1 10.0.0.1:1025 > 10.0.0.2:1024 DATA 1 512
+#2 10.0.0.2:1024 > 10.0.0.1:1025 ACK 1
+#3 10.0.0.1:1025 > 10.0.0.2:1024 DATA 2 512
+-
+-
+end 1024 client-read peer=1025 size=512 number=1 complete=no open
+end 1025 server-read peer=1024 size=512 number=2 complete=no open
+",
+        1,
+    ),
+    // a request that comes twice opens two transfers, and the client takes one (RFC 1350, section 4)
+    (
+        "file a 414243\nget a octet\ndeliver 0\ndeliver 0\ndeliver 1\ndeliver 2\ndeliver 4\ndeliver 3\n",
+        "\
+#0 10.0.0.2:1024 > 10.0.0.1:69 RRQ a octet
+#1 10.0.0.1:1025 > 10.0.0.2:1024 DATA 1 3
+#2 10.0.0.1:1026 > 10.0.0.2:1024 DATA 1 3
+#3 10.0.0.2:1024 > 10.0.0.1:1025 ACK 1
+#4 10.0.0.2:1024 > 10.0.0.1:1026 ERROR 5 (unknown transfer id)
+closed 1026 PeerError(5)
+closed 1025 Complete
+end 1024 client-read peer=1025 size=512 number=1 complete=yes open
+end 1025 server-read peer=1024 size=512 number=1 complete=yes Complete
+end 1026 server-read peer=1024 size=512 number=1 complete=no PeerError(5)
+",
+        0,
+    ),
+    // the last ACK is lost, and the reader waits for the block again (RFC 1350, section 6)
+    (
+        "file a 414243\nget a octet\ndeliver 0\ndeliver 1\n\
+         timeout 1025\ndeliver 3\ntimeout 1024\ntimeout 1024\ndeliver 4\n",
+        "\
+#0 10.0.0.2:1024 > 10.0.0.1:69 RRQ a octet
+#1 10.0.0.1:1025 > 10.0.0.2:1024 DATA 1 3
+#2 10.0.0.2:1024 > 10.0.0.1:1025 ACK 1
+#3 10.0.0.1:1025 > 10.0.0.2:1024 DATA 1 3
+#4 10.0.0.2:1024 > 10.0.0.1:1025 ACK 1
+-
+closed 1024 Complete
+closed 1025 Complete
+end 1024 client-read peer=1025 size=512 number=1 complete=yes Complete
+end 1025 server-read peer=1024 size=512 number=1 complete=yes Complete
+",
+        0,
+    ),
+    // no ACK comes through: five retries, then the sender gives up
+    (
+        "file a 414243\nget a octet\ndeliver 0\ndeliver 1\n\
+         timeout 1025\ntimeout 1025\ntimeout 1025\ntimeout 1025\ntimeout 1025\ntimeout 1025\n",
+        "\
+#0 10.0.0.2:1024 > 10.0.0.1:69 RRQ a octet
+#1 10.0.0.1:1025 > 10.0.0.2:1024 DATA 1 3
+#2 10.0.0.2:1024 > 10.0.0.1:1025 ACK 1
+#3 10.0.0.1:1025 > 10.0.0.2:1024 DATA 1 3
+#4 10.0.0.1:1025 > 10.0.0.2:1024 DATA 1 3
+#5 10.0.0.1:1025 > 10.0.0.2:1024 DATA 1 3
+#6 10.0.0.1:1025 > 10.0.0.2:1024 DATA 1 3
+#7 10.0.0.1:1025 > 10.0.0.2:1024 DATA 1 3
+closed 1025 TimedOut
+end 1024 client-read peer=1025 size=512 number=1 complete=yes open
+end 1025 server-read peer=1024 size=512 number=1 complete=no TimedOut
+",
+        0,
+    ),
+];
+
+#[test]
+fn read_rows(rt: HostRuntime) -> Result<(), Fail> {
+    for (script, want, status) in READS {
+        plays(&rt, rt.alloc(), script, want, status)?;
+    }
+    Ok(())
+}
+
+/// Scripts on which little or nothing happens.
+const QUIET: [(&str, &str, u8); 6] = [
+    ("", "", 0),
+    ("# nothing\n\nset retries 0\nfile a 41\n", "", 0),
+    (
+        "deliver 0\ntimeout 1024\n",
+        "refused NoSuchDatagram\nrefused NoSuchEnd\n",
+        0,
+    ),
+    ("settle 0\nsettle 18446744073709551615\n", "", 0),
+    ("get \0 octet\n", "refused BadRequest\n", 0),
+    (
+        "set retries 0\nget a octet\ntimeout 1024\ntimeout 1024\n",
+        "\
+#0 10.0.0.2:1024 > 10.0.0.1:69 RRQ a octet
+closed 1024 TimedOut
+-
+end 1024 client-read peer=none size=512 number=0 complete=no TimedOut
+",
+        1,
+    ),
+];
+
+#[test]
+fn quiet_scripts(rt: HostRuntime) -> Result<(), Fail> {
+    for (script, want, status) in QUIET {
+        plays(&rt, rt.alloc(), script, want, status)?;
+    }
+    Ok(())
+}
+
+#[test]
+fn play_failures_are_two(rt: HostRuntime) -> Result<(), Fail> {
+    let mut output = Vec::new(rt.alloc());
+    let mut errors = Vec::new(rt.alloc());
+    let broken = Breaks(b"get a octet\n");
+    let status = play_run(rt.alloc(), broken, &mut output, &mut errors);
+    assert_eq!(rt; status, 2, "a script that breaks off");
+    assert!(rt; output.is_empty(), "nothing is played");
+    assert_eq!(rt; errors.as_slice(), b"script: unreadable\n".as_slice());
+
+    errors.clear();
+    let script = b"get a octet\n".as_slice();
+    let status = play_run(rt.alloc(), script, Full, &mut errors);
+    assert_eq!(rt; status, 2, "an output that takes nothing");
+    assert_eq!(rt; errors.as_slice(), b"output: unwritable\n".as_slice());
+
+    let status = play_run(rt.alloc(), b"\xff\n".as_slice(), &mut output, Full);
+    assert_eq!(rt; status, 2, "a message that cannot be written");
+    Ok(())
+}

@@ -1,0 +1,109 @@
+//! What single words of a script mean.
+
+ghost use Rattle.std.specs.Prelude.{◌≡◌, ◌≤◌, IfOk, vec_len};
+ghost use Rattle.tftp_negotiate.specs.Asked.{IsAskable};
+ghost use Rattle.tftp_wire.specs.Modes.{mode_word};
+
+use crate::script::line::LineFault;
+use hex::FromHexError;
+use std::alloc::Global;
+use std::str::FromStr;
+use tftp_negotiate::Asked;
+use tftp_wire::Mode;
+
+/// Most bytes of a file.
+const MAX_CONTENT: usize = 100_000_000;
+
+/// A decimal number without leading zeros that fits its type.
+pub(crate) fn number<N: FromStr>(word: &[u8]) -> Result<N, LineFault>
+where
+    N::Err: Drop,
+    ensures { IfOk result (λ number. N.from_str_gives word.now (Ok number)) }
+{
+    match word {
+        [b'0'] | [b'1'..=b'9', ..] => text(word)?.parse().map_err(|_| LineFault::Faulty),
+        _ => Err(LineFault::Faulty),
+    }
+}
+
+/// The mode of a transfer.
+pub(crate) fn mode(word: &[u8]) -> Result<Mode, LineFault>
+    ensures { IfOk result (λ mode. word.now ≡ mode_word mode) }
+{
+    match word {
+        b"octet" => Ok(Mode::Octet),
+        b"netascii" => Ok(Mode::Netascii),
+        _ => Err(LineFault::Faulty),
+    }
+}
+
+/// The options of a read: `blksize=N`, `timeout=N` and `tsize`, each at most once and in its range.
+pub(crate) fn asked(options: &[&[u8]]) -> Result<Asked, LineFault>
+    ensures { IfOk result IsAskable }
+{
+    let mut asked = Asked::default();
+    for option in options {
+        let option = text(option)?;
+        match option.split_once('=') {
+            Some(("blksize", size)) if asked.blksize.is_none() => {
+                asked.blksize = Some(number(size.as_bytes())?);
+            }
+            Some(("timeout", seconds)) if asked.timeout.is_none() => {
+                asked.timeout = Some(number(seconds.as_bytes())?);
+            }
+            None if option == "tsize" && asked.tsize.is_none() => asked.tsize = Some(0),
+            _ => return Err(LineFault::Faulty),
+        }
+    }
+    if asked.is_askable() {
+        Ok(asked)
+    } else {
+        Err(LineFault::Faulty)
+    }
+}
+
+/// The bytes of a file: `-` for none, hexadecimal digits, or `HEX*K` for K times the same.
+pub(crate) fn content(alloc: Global, word: &[u8]) -> Result<Vec<u8>, LineFault>
+    ensures { IfOk result (λ bytes. vec_len bytes ≤ MAX_CONTENT) }
+{
+    let word = text(word)?;
+    if word == "-" {
+        return Ok(Vec::new(alloc));
+    }
+    match word.split_once('*') {
+        Some((digits, count)) => repeated(alloc, digits, number(count.as_bytes())?),
+        None => repeated(alloc, word, 1),
+    }
+}
+
+/// What the digits stand for, this many times: at least one byte.
+fn repeated(alloc: Global, digits: &str, count: usize) -> Result<Vec<u8>, LineFault>
+    ensures { IfOk result (λ bytes. vec_len bytes ≤ MAX_CONTENT) }
+{
+    let bytes = hex::decode(alloc, digits)?;
+    let length = bytes.len().checked_mul(count).ok_or(LineFault::Faulty)?;
+    if length == 0 || length > MAX_CONTENT {
+        return Err(LineFault::Faulty);
+    }
+    let mut content = Vec::with_capacity(alloc, length)?;
+    for _ in 0..count {
+        content.extend_from_slice(bytes.as_slice())?;
+    }
+    Ok(content)
+}
+
+/// The word as text.
+fn text(word: &[u8]) -> Result<&str, LineFault>
+    ensures { IfOk result (λ text. text.now ≡ word.now) }
+{
+    str::from_utf8(word).map_err(|_| LineFault::Faulty)
+}
+
+impl From<FromHexError> for LineFault {
+    fn from(error: FromHexError) -> LineFault {
+        match error {
+            FromHexError::OutOfMemory => LineFault::Memory,
+            _ => LineFault::Faulty,
+        }
+    }
+}

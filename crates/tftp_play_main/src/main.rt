@@ -1,0 +1,8 @@
+//! `tftp-play` plays a script of TFTP transfers: a script in, a line for each thing that happens out.
+#![tactic(auto)]
+
+use std::process::ExitCode;
+
+fn main(rt: HostRuntime) -> ExitCode {
+    ExitCode::from(tftp_cmd::play_command(&rt, rt.stderr()))
+}
