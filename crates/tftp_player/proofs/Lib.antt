@@ -37,3 +37,14 @@ pub mod OackLemmas
 pub mod WorldRuns
 pub mod WorldSafe
 pub mod OpeningFacts
+pub mod ServingLemmas
+pub mod TurnKeeps
+pub mod StageLemmas
+pub mod PlayLemmas
+pub mod HearingLemmas
+pub mod OpenedLemmas
+pub mod TellingLemmas
+pub mod ArrivalLemmas
+pub mod RefusingLemmas
+pub mod AskingLemmas
+mod TodayKeeps

@@ -38,7 +38,7 @@ use Rattle.tftp_player.proofs.EndTurns.{by_datagram, by_timeout}
 use Rattle.tftp_player.proofs.WorldTurns.{nothing_in, one_in, turn_keeps, view_at}
 use Rattle.tftp_player.proofs.WorldKeeps.{reading_keeps, writing_keeps, serving_keeps, stays_ok}
 
-contains_at : {X : Type 0} (xs : List X) (k : ℕ) (x : X) → slice_get xs k ≡ Some x → Contains xs x
+pub contains_at : {X : Type 0} (xs : List X) (k : ℕ) (x : X) → slice_get xs k ≡ Some x → Contains xs x
 contains_at {X = X} [] k x e = absurd (let f : None ≡ Some x = e in cc)
 contains_at {X = X} (y ∷ ys) zero x e = subst (λ (z : X). Contains (y ∷ ys) z) (same_Some y x e) (Contains-append_left (y ∷ []) ys y (Contains-push [] y))
 contains_at {X = X} (y ∷ ys) (suc k) x e = Contains-append_right (y ∷ []) ys x (contains_at ys k x e)
@@ -49,7 +49,7 @@ set_same {X = X} (y ∷ ys) zero x e = ap (λ (z : X). z ∷ ys) (sym (same_Some
 set_same {X = X} (y ∷ ys) (suc k) x e = ap (λ (zs : List X). y ∷ zs) (set_same ys k x e)
 
 -- what a datagram of the list says is there
-come_from : (strangers : Bool) (w : WorldState) (ok : IsOk strangers w) (d : Datagram) → Contains w.sent d → (p : WirePacket) → Spells p d.bytes → Contains ok.messages (message d.from d.to (said p))
+pub come_from : (strangers : Bool) (w : WorldState) (ok : IsOk strangers w) (d : Datagram) → Contains w.sent d → (p : WirePacket) → Spells p d.bytes → Contains ok.messages (message d.from d.to (said p))
 come_from strangers w ok d i p s =
     let h = ok.sent d i in
     let same : h.1.packet ≡ p = one_packet h.1.packet p d.bytes h.1.spells s in
@@ -60,7 +60,7 @@ there_now strangers w ok from to bytes i =
     let h = ok.sent (datagram from to bytes) i in
     (h.1.packet, h.1.spells, subst (λ (m : Message). Contains ok.messages m) h.1.says h.2)
 
-says_spelled : (bytes : List ℕ) (heard : Option WirePacket) → Says bytes heard → (p : WirePacket) → heard ≡ Some p → Spells p bytes
+pub says_spelled : (bytes : List ℕ) (heard : Option WirePacket) → Says bytes heard → (p : WirePacket) → heard ≡ Some p → Spells p bytes
 says_spelled bytes (Some q) s p e = subst (λ (z : WirePacket). Spells z bytes) (same_Some q p e) s
 says_spelled bytes None s p e = absurd (let f : None ≡ Some p = e in cc)
 
@@ -79,7 +79,7 @@ module _ (strangers : Bool) (w v : WorldState) (ok : IsOk strangers w) (report :
       turn_keeps strangers w v ok k x h.turn h.held report at open_now goes_now h.turns
 
   -- a datagram that came keeps the world
-  arrives_keeps : (from to : Endpoint) (bytes : List ℕ) → ((p : WirePacket) → Spells p bytes → Contains ok.messages (message from to (said p))) →
+  pub arrives_keeps : (from to : Endpoint) (bytes : List ℕ) → ((p : WirePacket) → Spells p bytes → Contains ok.messages (message from to (said p))) →
       Arrives w from to bytes report v → IsOk strangers v
   arrives_keeps from to bytes come (At_request_port here port heard says served) =
       let spelled = says_spelled bytes heard says in
@@ -184,7 +184,7 @@ stray_ok w ok from to p far =
     }
 
 -- the world with what a stranger said
-with_heard : (w : WorldState) (ok : IsOk true w) (from to : Endpoint) (bytes : List ℕ) (heard : Option WirePacket) → host_of from ≡ Elsewhere → Says bytes heard →
+pub with_heard : (w : WorldState) (ok : IsOk true w) (from to : Endpoint) (bytes : List ℕ) (heard : Option WirePacket) → host_of from ≡ Elsewhere → Says bytes heard →
     (more : IsOk true w) × ((p : WirePacket) → Spells p bytes → Contains more.messages (message from to (said p)))
 unfolding stray_ok
 with_heard w ok from to bytes (Some q) far says = (
@@ -195,7 +195,7 @@ with_heard w ok from to bytes (Some q) far says = (
 with_heard w ok from to bytes None far says =
     (ok, λ p s. absurd (let f : None ≡ Some says.0 = sym (none_packet p bytes s) ∙ says.1 in cc))
 
-stray_keeps : (w v : WorldState) (ok : IsOk true w) (report : Report) (from to : Endpoint) (bytes : List ℕ) → host_of from ≡ Elsewhere → Arrives w from to bytes report v → IsOk true v
+pub stray_keeps : (w v : WorldState) (ok : IsOk true w) (report : Report) (from to : Endpoint) (bytes : List ℕ) → host_of from ≡ Elsewhere → Arrives w from to bytes report v → IsOk true v
 stray_keeps w v ok report from to bytes far (At_request_port here port heard says served) =
     let h = with_heard w ok from to bytes heard far says in
     arrives_keeps true w v h.0 report from to bytes h.1 (At_request_port here port heard says served)

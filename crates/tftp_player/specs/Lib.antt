@@ -15,4 +15,12 @@ pub mod WorldSteps
 pub mod WorldSafety
 pub mod WorldKept
 pub mod WorldRuns
+pub mod PlayedClient
+pub mod Effect
+pub mod Clients
+pub mod Serving
+pub mod Wanting
 pub mod Played
+pub mod Stage
+pub mod Today
+pub mod TodayRuns

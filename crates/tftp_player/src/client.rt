@@ -1,84 +1,124 @@
 //! A client of a world: its end, and the file that it sends or receives.
 
-use crate::WorldFault;
-use crate::effect::quiet;
-use crate::hosts::REQUEST_PORT;
+ghost use Rattle.std.specs.Prelude.{◌≡◌, ◌++◌, [], false, is_some, option_map, IfOk, IfErr, OnOk, OnErr};
+ghost use Rattle.tftp_ends.specs.End.{record_of, outcome_of};
+ghost use Rattle.tftp_ends.specs.Opening.{CanGet, getting};
+ghost use Rattle.tftp_ends.specs.Step.{timeout_turn};
+ghost use Rattle.tftp_player.specs.Machine.{request_port};
+ghost use Rattle.tftp_player.specs.Clients.{ClientTurns, ClientHears, asking_client, stored_by, told_client, client_at, holding_in, asking_effect, open_fault, BadOrMemory};
+
+use crate::effect::{Effect, effect_of};
+use crate::fault::WorldFault;
+use crate::hosts::{REQUEST_PORT, client_at};
 use crate::shelf::Shelf;
 use std::alloc::Global;
 use std::marker::Model;
-use tftp_ends::{End, EndConfig, EndFault, Endpoint, OpenFault, Record, Step};
+use tftp_ends::{End, EndConfig, EndFault, Endpoint, OpenFault, Record};
 use tftp_file::{Files, MemSource};
 use tftp_negotiate::Asked;
-use tftp_wire::Mode;
+use tftp_wire::{Bytes, Mode};
 
 /// A client, with its source if it sends and its shelf if it receives.
 #[derive(Drop)]
 pub(crate) struct Client {
     end: End,
     files: Files<MemSource, Shelf>,
+    /// The file that it sends, as its host keeps it; empty for one that receives.
+    file: Bytes,
 }
 
 impl Model for Client {
     ghost use Rattle.tftp_ends.specs.Files.{AreFilesOf};
-    ghost use Rattle.tftp_player.specs.Played.{PlayedClient};
+    ghost use Rattle.tftp_player.specs.PlayedClient.{PlayedClient};
 
     ghost Value = { PlayedClient };
 
-    ghost view = { λ c. record { end = c.end; files = c.files } };
+    ghost view = { λ c. record { end = c.end; files = c.files; file = c.file } };
 
     ghost invariant = { λ c. AreFilesOf c.end.side c.files };
 }
 
 impl Client {
-    /// A client that asks the server for a file. Its request is appended to `out`.
+    /// A client that asks the server for a file, and its request.
     pub(crate) fn get(
         alloc: Global,
+        port: u16,
         name: &[u8],
         mode: Mode,
         asked: &Asked,
         config: &EndConfig,
-        out: &mut Vec<u8>,
-    ) -> Result<Client, WorldFault> {
-        match End::get(alloc, REQUEST_PORT, name, mode, asked, config, out) {
-            Ok((end, _)) => Ok(Client {
-                end,
-                files: Files::Sink(Shelf::new(alloc)),
-            }),
-            Err(OpenFault::Memory) => Err(WorldFault::Memory),
-            Err(_) => Err(WorldFault::BadRequest),
+    ) -> Result<(Client, Effect), WorldFault>
+        ensures client { IfOk result (λ opened. opened.0 ≡ asking_client (getting request_port name.now mode asked.now config.now.limits.max_file config.now.retries)) }
+        ensures effect { IfOk result (λ opened. opened.1 ≡ asking_effect port name.now mode asked.now) }
+        ensures ok { OnOk result (CanGet name.now mode asked.now) }
+        ensures bad_request { IfErr result (λ fault. fault ≡ WorldFault.BadRequest → CanGet name.now mode asked.now → ⊥) }
+        ensures only { IfErr result (BadOrMemory) }
+    {
+        let mut out = Vec::new(alloc);
+        match End::get(alloc, REQUEST_PORT, name, mode, asked, config, &mut out) {
+            Ok((end, step)) => Ok((
+                Client {
+                    end,
+                    files: Files::Sink(Shelf::new(alloc)),
+                    file: Bytes::from(Vec::new(alloc)),
+                },
+                effect_of(client_at(port), step, out),
+            )),
+            Err(fault) => Err(open_fault(fault)),
         }
     }
 
     /// How far it came.
-    pub(crate) fn record(&self) -> Record {
+    pub(crate) fn record(&self) -> Record
+        ensures { result ≡ record_of self.now.end }
+    {
         self.end.record()
     }
 
-    /// It takes a datagram from there. A closed one takes none.
-    pub(crate) fn on_datagram(
+    /// It takes a datagram from there, while it is open.
+    pub(crate) fn hear(
         &mut self,
+        alloc: Global,
+        port: u16,
         from: Endpoint,
         bytes: &[u8],
-        out: &mut Vec<u8>,
-    ) -> Result<Step, WorldFault> {
-        match self.end.on_datagram(&mut self.files, from, bytes, out) {
-            Ok(step) => Ok(step),
-            Err(EndFault::Closed) => Ok(quiet()),
+    ) -> Result<(Effect, Record), WorldFault>
+        requires { is_some (outcome_of self.old.end.phase) ≡ false }
+        ensures hears { IfOk result (λ r. ClientHears port from bytes.now self.old self.new r.0 r.1) }
+        ensures memory { IfErr result (λ fault. fault ≡ WorldFault.Memory) }
+        ensures err { OnErr result (self.new ≡ self.old) }
+    {
+        let mut out = Vec::new(alloc);
+        match self.end.on_datagram(&mut self.files, from, bytes, &mut out) {
+            Ok(step) => Ok((effect_of(client_at(port), step, out), self.end.record())),
             Err(EndFault::Memory) => Err(WorldFault::Memory),
+            Err(EndFault::Closed) => unreachable!(),
         }
     }
 
-    /// It takes a timeout. A closed one takes none.
-    pub(crate) fn on_timeout(&mut self, out: &mut Vec<u8>) -> Result<Step, WorldFault> {
-        match self.end.on_timeout(out) {
-            Ok(step) => Ok(step),
-            Err(EndFault::Closed) => Ok(quiet()),
+    /// It takes a timeout, while it is open.
+    pub(crate) fn time_out(
+        &mut self,
+        alloc: Global,
+        port: u16,
+    ) -> Result<(Effect, Record), WorldFault>
+        requires { is_some (outcome_of self.old.end.phase) ≡ false }
+        ensures turns { IfOk result (λ r. ClientTurns port self.old self.new (timeout_turn self.old.end) self.old.files r.0 r.1) }
+        ensures memory { IfErr result (λ fault. fault ≡ WorldFault.Memory) }
+        ensures err { OnErr result (self.new ≡ self.old) }
+    {
+        let mut out = Vec::new(alloc);
+        match self.end.on_timeout(&mut out) {
+            Ok(step) => Ok((effect_of(client_at(port), step, out), self.end.record())),
             Err(EndFault::Memory) => Err(WorldFault::Memory),
+            Err(EndFault::Closed) => unreachable!(),
         }
     }
 
     /// Its next append or commit is to be refused, if it is an open receiver.
-    pub(crate) fn refuse_next(&mut self) {
+    pub(crate) fn refuse_next(&mut self)
+        ensures { self.new ≡ told_client self.old }
+    {
         if self.end.record().outcome.is_some() {
             return;
         }
@@ -88,7 +128,9 @@ impl Client {
     }
 
     /// What a receiver has stored.
-    pub(crate) fn stored(&self) -> Option<&[u8]> {
+    pub(crate) fn stored(&self) -> Option<&[u8]>
+        ensures { option_map (λ bytes. bytes.now) result ≡ stored_by self.now.files }
+    {
         match &self.files {
             Files::Source(_) => None,
             Files::Sink(shelf) => Some(shelf.as_bytes()),
@@ -96,10 +138,22 @@ impl Client {
     }
 
     /// Whether a receiver has committed what it stored.
-    pub(crate) fn committed(&self) -> bool {
+    pub(crate) fn committed(&self) -> bool
+        ensures { result ≡ (holding_in self.now.files).committed }
+    {
         match &self.files {
             Files::Source(_) => false,
             Files::Sink(shelf) => shelf.is_committed(),
         }
+    }
+}
+
+/// What the world says where a client was not opened.
+fn open_fault(fault: OpenFault) -> WorldFault
+    ensures { result ≡ open_fault fault }
+{
+    match fault {
+        OpenFault::Memory => WorldFault::Memory,
+        _ => WorldFault::BadRequest,
     }
 }

@@ -1,34 +1,67 @@
 //! What an event came to, before it is written into the world.
 
-ghost use Rattle.std.specs.Prelude.{◌<◌, vec_len, vec_capacity};
+ghost use Rattle.std.specs.Prelude.{◌≡◌, ◌<◌, ◌++◌, vec_len, vec_capacity};
+ghost use Rattle.tftp_player.specs.Effect.{no_effect, said_by, report_by};
+ghost use Rattle.tftp_player.specs.World.{closed_at};
 
-use crate::Datagram;
+use crate::datagram::Datagram;
 use crate::report::Report;
+use std::alloc::Global;
 use tftp_ends::{Endpoint, Outcome, Step};
 use tftp_wire::Bytes;
-
-/// Nothing was sent, and nothing closed.
-pub(crate) fn quiet() -> Step {
-    Step {
-        to: None,
-        progress: false,
-        closed: None,
-    }
-}
 
 /// What an event came to: a datagram that goes out, and an end that closed.
 #[derive(Drop)]
 pub(crate) struct Effect {
+    /// Where it goes out from; the end that closed is there.
     pub(crate) from: Endpoint,
     /// Where the datagram goes; none goes out if there is none.
     pub(crate) to: Option<Endpoint>,
-    pub(crate) bytes: Vec<u8>,
+    /// Its bytes.
+    pub(crate) bytes: Bytes,
+    /// How the end closed.
     pub(crate) closed: Option<Outcome>,
 }
 
-/// Puts what was sent behind all that was sent before, and reports it.
+/// What a step of the end there came to, which has appended this.
+pub(crate) fn effect_of(from: Endpoint, step: Step, out: Vec<u8>) -> Effect
+    ensures { result ≡ record { from = from; to = step.to; bytes = out.items; closed = step.closed } }
+{
+    Effect {
+        from,
+        to: step.to,
+        bytes: Bytes::from(out),
+        closed: step.closed,
+    }
+}
+
+/// Nothing comes of it.
+pub(crate) fn no_effect(alloc: Global, from: Endpoint) -> Effect
+    ensures { result ≡ no_effect from }
+{
+    Effect {
+        from,
+        to: None,
+        bytes: Bytes::from(Vec::new(alloc)),
+        closed: None,
+    }
+}
+
+/// The port, and how its end closed.
+fn closed_at(at: Endpoint, closed: Option<Outcome>) -> Option<(u16, Outcome)>
+    ensures { result ≡ closed_at at closed }
+{
+    match closed {
+        None => None,
+        Some(outcome) => Some((at.port, outcome)),
+    }
+}
+
+/// Puts what goes out behind all that was sent before, and reports it.
 pub(crate) fn write_down(sent: &mut Vec<Datagram>, effect: Effect) -> Report
     requires { vec_len sent.old < vec_capacity sent.old }
+    ensures sent { sent.new.items ≡ sent.old.items ++ said_by effect.from effect.to effect.bytes }
+    ensures report { result ≡ report_by sent.old.items effect }
 {
     let Effect {
         from,
@@ -36,7 +69,7 @@ pub(crate) fn write_down(sent: &mut Vec<Datagram>, effect: Effect) -> Report
         bytes,
         closed,
     } = effect;
-    let closed = closed.map(|outcome| (from.port, outcome));
+    let closed = closed_at(from, closed);
     match to {
         None => Report {
             added: None,
@@ -44,11 +77,7 @@ pub(crate) fn write_down(sent: &mut Vec<Datagram>, effect: Effect) -> Report
         },
         Some(to) => {
             let place = sent.len();
-            sent.push_reserved(Datagram {
-                from,
-                to,
-                bytes: Bytes::from(bytes),
-            });
+            sent.push_reserved(Datagram { from, to, bytes });
             Report {
                 added: Some(place),
                 closed,

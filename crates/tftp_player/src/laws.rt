@@ -10,6 +10,7 @@ ghost use Rattle.tftp_player.specs.Recorded.{AreRecorded};
 ghost use Rattle.tftp_player.specs.Rules.{Rule, IsLegal, run, start};
 ghost use Rattle.tftp_player.specs.Shows.{EndView, IsShown};
 ghost use Rattle.tftp_player.specs.ViewSafety.{IsSafeViews, PeersAtHome};
+ghost use Rattle.tftp_player.specs.TodayRuns.{TodayKeeps};
 ghost use Rattle.tftp_player.specs.WorldRuns.{WorldsAreSafe, PeersStayHome, StepsKeep, KeptIsSafe};
 
 /// After every list of rules that their guards allow, the transfers are safe: the ends of an
@@ -59,8 +60,10 @@ pub fn every_world_is_safe()
     ensures home { PeersStayHome }
 {}
 
-/// What makes a world safe is kept by each event, in both modes, for reads and for writes.
+/// What makes a world safe is kept by each event, in both modes, for reads and for writes; so it is by
+/// what an event comes to today.
 pub fn a_step_keeps_a_world()
     ensures kept { StepsKeep }
+    ensures today { TodayKeeps }
     ensures safe { KeptIsSafe }
 {}

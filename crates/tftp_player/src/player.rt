@@ -1,9 +1,16 @@
 //! An end of a world, by whoever plays it.
 
+ghost use Rattle.std.specs.Prelude.{◌≡◌, false, option_map, IfOk, IfErr, OnErr};
+ghost use Rattle.tftp_player.specs.Played.{PlayerKept, PlayerTimesOut, PlayerHears, has_ended, address_of, told_player, stored_of, committed_of};
+
 use crate::client::Client;
-use crate::hosts::{CLIENT_IP, SERVER_IP};
+use crate::effect::Effect;
+use crate::fault::WorldFault;
+use crate::hosts::{client_at, server_at};
 use crate::served::Served;
+use std::alloc::Global;
 use tftp_ends::{Endpoint, Record};
+use tftp_server::{MemStore, Server};
 
 /// An end that was opened.
 #[derive(Drop)]
@@ -15,26 +22,83 @@ pub(crate) enum Player {
 }
 
 impl Player {
-    /// The address of its host.
-    pub(crate) fn ip(&self) -> [u8; 4] {
-        match self {
-            Player::Client(_) => CLIENT_IP,
-            Player::Server(_) => SERVER_IP,
-        }
-    }
-
     /// Where it is, by its port.
-    pub(crate) fn address(&self, port: u16) -> Endpoint {
-        Endpoint {
-            ip: self.ip(),
-            port,
+    pub(crate) fn address(&self, port: u16) -> Endpoint
+        ensures { result ≡ address_of port self.now }
+    {
+        match self {
+            Player::Client(_) => client_at(port),
+            Player::Server(_) => server_at(port),
         }
     }
-}
 
-/// Keeps the record of the end at this place.
-pub(crate) fn keep_record(records: &mut [(u16, Record)], place: usize, port: u16, record: Record) {
-    if let Some(kept) = records.get_mut(place) {
-        *kept = (port, record);
+    /// It takes a timeout, while it is open.
+    pub(crate) fn time_out(
+        &mut self,
+        alloc: Global,
+        server: &mut Server<MemStore>,
+        port: u16,
+    ) -> Result<(Effect, Record), WorldFault>
+        requires kept { PlayerKept port server.old.held self.old }
+        requires open { has_ended self.old ≡ false }
+        ensures turns { IfOk result (λ r. PlayerTimesOut port self.old self.new server.old server.new r.0 r.1) }
+        ensures memory { IfErr result (λ fault. fault ≡ WorldFault.Memory) }
+        ensures err { OnErr result ((self.new ≡ self.old) × (server.new ≡ server.old)) }
+    {
+        match self {
+            Player::Client(client) => client.time_out(alloc, port),
+            Player::Server(served) => served.time_out(alloc, server, port),
+        }
+    }
+
+    /// It takes a datagram from there, while it is open.
+    pub(crate) fn hear(
+        &mut self,
+        alloc: Global,
+        server: &mut Server<MemStore>,
+        port: u16,
+        from: Endpoint,
+        bytes: &[u8],
+    ) -> Result<(Effect, Record), WorldFault>
+        requires kept { PlayerKept port server.old.held self.old }
+        requires open { has_ended self.old ≡ false }
+        ensures hears { IfOk result (λ r. PlayerHears port from bytes.now self.old self.new server.old server.new r.0 r.1) }
+        ensures memory { IfErr result (λ fault. fault ≡ WorldFault.Memory) }
+        ensures err { OnErr result ((self.new ≡ self.old) × (server.new ≡ server.old)) }
+    {
+        match self {
+            Player::Client(client) => client.hear(alloc, port, from, bytes),
+            Player::Server(served) => served.hear(alloc, server, port, from, bytes),
+        }
+    }
+
+    /// Its next append or commit is to be refused, if it is an open receiver.
+    pub(crate) fn refuse_next(&mut self)
+        ensures { self.new ≡ told_player self.old }
+    {
+        match self {
+            Player::Client(client) => client.refuse_next(),
+            Player::Server(_) => {}
+        }
+    }
+
+    /// What a receiver has stored.
+    pub(crate) fn stored(&self) -> Option<&[u8]>
+        ensures { option_map (λ bytes. bytes.now) result ≡ stored_of self.now }
+    {
+        match self {
+            Player::Client(client) => client.stored(),
+            Player::Server(_) => None,
+        }
+    }
+
+    /// Whether a receiver has committed what it stored.
+    pub(crate) fn committed(&self) -> bool
+        ensures { result ≡ committed_of self.now }
+    {
+        match self {
+            Player::Client(client) => client.committed(),
+            Player::Server(_) => false,
+        }
     }
 }

@@ -1,10 +1,20 @@
 //! What a world keeps of a server's end, beside the server that plays it.
 
-use crate::WorldFault;
+ghost use Rattle.std.specs.Prelude.{◌≡◌, false, Some, Ok, IfOk, IfErr, OnErr};
+ghost use Rattle.tftp_wire.specs.Borrowed.{owned};
+ghost use Rattle.tftp_file.specs.Path.{path_of_name};
+ghost use Rattle.tftp_player.specs.Wanting.{Wants, wanted_by, wanted_at};
+ghost use Rattle.tftp_ends.specs.Step.{timeout_turn};
+ghost use Rattle.tftp_server.specs.State.{at};
+ghost use Rattle.tftp_player.specs.Serving.{ServedKept, ServedTimesOut, ServedHears, Concludes, IsHeld, SameServer};
+
+use crate::effect::{Effect, effect_of};
+use crate::fault::WorldFault;
+use crate::hosts::server_at;
 use std::alloc::Global;
-use tftp_ends::Record;
+use tftp_ends::{Endpoint, Record};
 use tftp_file::{Path, PathFault, path_of};
-use tftp_server::MemStore;
+use tftp_server::{MemStore, Server, ServerFault};
 use tftp_wire::{Bytes, Mode, PacketRef, decode_ref};
 
 /// A server's end: what it was asked for, and how it ended once it is closed. While it is open the
@@ -18,49 +28,140 @@ pub(crate) struct Served {
     pub(crate) ended: Option<Record>,
 }
 
-/// What a datagram to the request port asks for, if it is a request for a path: the end that it may
-/// open, with its own copy of the file.
+impl Served {
+    /// It takes a timeout, while it is open.
+    pub(crate) fn time_out(
+        &mut self,
+        alloc: Global,
+        server: &mut Server<MemStore>,
+        port: u16,
+    ) -> Result<(Effect, Record), WorldFault>
+        requires { ServedKept port self.old server.old.held }
+        ensures turns { IfOk result (λ r. ServedTimesOut port self.old self.new server.old server.new r.0 r.1) }
+        ensures memory { IfErr result (λ fault. fault ≡ WorldFault.Memory) }
+        ensures err { OnErr result ((self.new ≡ self.old) × (server.new ≡ server.old)) }
+    {
+        let mut out = Vec::new(alloc);
+        match server.on_timeout(port, &mut out) {
+            Ok(step) => {
+                let record = self.conclude(server, port);
+                Ok((effect_of(server_at(port), step, out), record))
+            }
+            Err(ServerFault::Memory) => Err(WorldFault::Memory),
+            Err(_) => unreachable!(),
+        }
+    }
+
+    /// It takes a datagram from there, while it is open.
+    pub(crate) fn hear(
+        &mut self,
+        alloc: Global,
+        server: &mut Server<MemStore>,
+        port: u16,
+        from: Endpoint,
+        bytes: &[u8],
+    ) -> Result<(Effect, Record), WorldFault>
+        requires { ServedKept port self.old server.old.held }
+        ensures hears { IfOk result (λ r. ServedHears port from bytes.now self.old self.new server.old server.new r.0 r.1) }
+        ensures memory { IfErr result (λ fault. fault ≡ WorldFault.Memory) }
+        ensures err { OnErr result ((self.new ≡ self.old) × SameServer server.old server.new) }
+    {
+        let mut out = Vec::new(alloc);
+        match server.on_datagram(port, from, bytes, &mut out) {
+            Ok(step) => {
+                let record = self.conclude(server, port);
+                Ok((effect_of(server_at(port), step, out), record))
+            }
+            Err(ServerFault::Memory) => Err(WorldFault::Memory),
+            Err(_) => unreachable!(),
+        }
+    }
+
+    /// Takes it from the server if it has closed there, and tells how far it came.
+    fn conclude(&mut self, server: &mut Server<MemStore>, port: u16) -> Record
+        requires { IsHeld (at port server.old.held) }
+        ensures { Concludes port (at port server.old.held) self.old self.new server.old server.new result }
+    {
+        if let Some((record, _)) = server.take_closed(port) {
+            self.ended = Some(record);
+            return record;
+        }
+        match server.record(port) {
+            Some(record) => record,
+            None => unreachable!(),
+        }
+    }
+}
+
+/// What a datagram to the request port asks for: the end that may open, with its own copy of the
+/// file that is there. Only reads are served today.
 pub(crate) fn wanted(
     alloc: Global,
     store: &MemStore,
     bytes: &[u8],
-) -> Result<Option<Served>, WorldFault> {
+) -> Result<Option<Served>, WorldFault>
+    ensures { IfOk result (Wants store.now.files bytes.now) }
+{
     match decode_ref(bytes) {
-        Ok(PacketRef::Read(request)) => {
-            let Some(path) = path_in(alloc, request.name)? else {
-                return Ok(None);
-            };
-            let file = match store.file(&path) {
-                Some(file) => Bytes::from_slice(alloc, file)?,
-                None => return Ok(None),
-            };
-            Ok(Some(Served {
-                mode: request.mode,
-                path,
-                file,
-                ended: None,
-            }))
-        }
-        Ok(PacketRef::Write(request)) => {
-            let Some(path) = path_in(alloc, request.name)? else {
-                return Ok(None);
-            };
-            Ok(Some(Served {
-                mode: request.mode,
-                path,
-                file: Bytes::from(Vec::new(alloc)),
-                ended: None,
-            }))
-        }
-        _ => Ok(None),
+        Ok(packet) => wanted_by(alloc, store, &packet),
+        Err(_) => Ok(None),
     }
 }
 
-/// The path of a name, if it is one.
-fn path_in(alloc: Global, name: &[u8]) -> Result<Option<Path>, WorldFault> {
+fn wanted_by(
+    alloc: Global,
+    store: &MemStore,
+    packet: &PacketRef<'_>,
+) -> Result<Option<Served>, WorldFault>
+    ensures { IfOk result (λ o. o ≡ wanted_by store.now.files (Some (owned packet.now))) }
+{
+    match packet {
+        PacketRef::Read(request) => wanted_at(alloc, store, request.mode, request.name),
+        PacketRef::Write(_) => Ok(None),
+        PacketRef::Data { .. } => Ok(None),
+        PacketRef::Ack { .. } => Ok(None),
+        PacketRef::Error { .. } => Ok(None),
+        PacketRef::Oack(_) => Ok(None),
+    }
+}
+
+/// The end that sends the file of this name, if there is one.
+fn wanted_at(
+    alloc: Global,
+    store: &MemStore,
+    mode: Mode,
+    name: &[u8],
+) -> Result<Option<Served>, WorldFault>
+    ensures { IfOk result (λ o. o ≡ wanted_at store.now.files mode (path_of_name name.now)) }
+{
     match path_of(alloc, name) {
-        Ok(path) => Ok(Some(path)),
+        Ok(path) => wanted_file(alloc, store, mode, path),
         Err(PathFault::Memory) => Err(WorldFault::Memory),
-        Err(_) => Ok(None),
+        Err(PathFault::Empty) => Ok(None),
+        Err(PathFault::Segment) => Ok(None),
+        Err(PathFault::Depth) => Ok(None),
+        Err(PathFault::Length) => Ok(None),
+    }
+}
+
+fn wanted_file(
+    alloc: Global,
+    store: &MemStore,
+    mode: Mode,
+    path: Path,
+) -> Result<Option<Served>, WorldFault>
+    ensures { IfOk result (λ o. o ≡ wanted_at store.now.files mode (Ok path)) }
+{
+    match store.file(&path) {
+        None => Ok(None),
+        Some(file) => match Bytes::from_slice(alloc, file) {
+            Ok(file) => Ok(Some(Served {
+                mode,
+                path,
+                file,
+                ended: None,
+            })),
+            Err(_) => Err(WorldFault::Memory),
+        },
     }
 }

@@ -3,18 +3,29 @@
 mod arriving;
 mod opening;
 
-ghost use Rattle.std.specs.Prelude.{◌≡◌, ◌<◌, length, true};
+ghost use Rattle.std.specs.Prelude.{◌≡◌, ◌<◌, ◌+◌, [], true, length, option_map, slice_get, IfOk, IfErr, OnErr};
 ghost use Rattle.tftp_server.specs.Config.{IsConfig};
-ghost use Rattle.tftp_server.specs.Memory.{contents, has_distinct_paths};
+ghost use Rattle.tftp_server.specs.Memory.{contents, has_distinct_paths, in_path_order};
+ghost use Rattle.tftp_player.specs.Today.{StepToday, RefusesToday, IsPlayable};
+ghost use Rattle.tftp_player.specs.World.{new_world, file_at};
+ghost use Rattle.tftp_player.specs.WorldSteps.{WorldStep, WorldRefuses};
+ghost use Rattle.tftp_player.specs.TodayRuns.{BeginsSafe, StaysSafe, SettlesSafe, Settled, StopsAt};
+ghost use Rattle.tftp_player.specs.declared.event.Event.TheVariants.{Timeout, RefuseStore};
+ghost use Rattle.tftp_player.specs.Played.{records_from};
+ghost use Rattle.tftp_player.specs.Stage.{IsStaged, StageTimesOut, record_closed, stored_at, committed_at};
 
-use crate::effect::{Effect, quiet, write_down};
+use crate::datagram::Datagram;
+use crate::effect::{Effect, no_effect, write_down};
+use crate::event::Event;
+use crate::fault::WorldFault;
 use crate::hosts::place_of;
-use crate::player::{Player, keep_record};
-use crate::{Datagram, Event, Report, WorldFault};
+use crate::player::Player;
+use crate::report::Report;
 use std::alloc::Global;
-use tftp_ends::{Record, Step};
+use std::marker::Model;
+use tftp_ends::Record;
 use tftp_file::Path;
-use tftp_server::{Config, MemStore, Server, ServerFault};
+use tftp_server::{Config, MemStore, Server};
 
 /// One server, its clients, and a network that keeps all that was ever sent.
 ///
@@ -28,8 +39,22 @@ pub struct World {
     config: Config,
     server: Server<MemStore>,
     sent: Vec<Datagram>,
-    ends: Vec<Player>,
+    players: Vec<Player>,
     records: Vec<(u16, Record)>,
+}
+
+impl Model for World {
+    ghost use Rattle.std.specs.Prelude.{◌≡◌};
+    ghost use Rattle.tftp_player.specs.World.{WorldState};
+
+    ghost Value = { WorldState };
+
+    ghost use Rattle.tftp_negotiate.specs.Ranges.{IsBlockSize};
+    ghost use Rattle.tftp_player.specs.Stage.{IsStaged, world_of};
+
+    ghost view = { λ w. world_of w.config w.sent.items w.server w.players.items };
+
+    ghost invariant = { λ w. (w.server.config ≡ w.config) × IsStaged w.server w.players.items w.records.items × IsBlockSize w.config.limits.max_block };
 }
 
 impl World {
@@ -42,6 +67,9 @@ impl World {
     ) -> Result<World, WorldFault>
         requires paths { has_distinct_paths (contents files.items) ≡ true }
         requires config { IsConfig config }
+        ensures new { IfOk result (λ world. world ≡ new_world (in_path_order (contents files.items)) config.limits config.retries config.cap) }
+        ensures memory { IfErr result (λ fault. fault ≡ WorldFault.Memory) }
+        ensures safe { IfOk result BeginsSafe }
     {
         let Ok(store) = MemStore::new(alloc, files) else {
             return Err(WorldFault::Memory);
@@ -54,43 +82,49 @@ impl World {
             config,
             server,
             sent: Vec::new(alloc),
-            ends: Vec::new(alloc),
+            players: Vec::new(alloc),
             records: Vec::new(alloc),
         })
     }
 
     /// All that was ever sent, in order.
-    pub fn sent(&self) -> &[Datagram] {
-        &self.sent
+    pub fn sent(&self) -> &[Datagram]
+        ensures { result.now ≡ self.now.sent }
+    {
+        self.sent.as_slice()
     }
 
     /// Every end that was ever opened, by its port, and how far it came; in order of opening.
-    pub fn records(&self) -> &[(u16, Record)] {
-        &self.records
+    pub fn records(&self) -> &[(u16, Record)]
+        ensures { result.now ≡ records_from 1024 self.now.ends }
+    {
+        self.records.as_slice()
     }
 
     /// What the receiver at this port has stored, also after it closed. None for a sender.
-    pub fn stored(&self, port: u16) -> Option<&[u8]> {
-        let place = place_of(port, self.ends.len())?;
-        match self.ends.get(place)? {
-            Player::Client(client) => client.stored(),
-            Player::Server(_) => None,
+    pub fn stored(&self, port: u16) -> Option<&[u8]>
+        ensures { option_map (λ bytes. bytes.now) result ≡ stored_at self.now.ends port }
+    {
+        match place_of(port, self.players.len()) {
+            None => None,
+            Some(place) => self.players[place].stored(),
         }
     }
 
     /// Whether the receiver at this port has committed what it stored.
-    pub fn committed(&self, port: u16) -> bool {
-        let Some(place) = place_of(port, self.ends.len()) else {
-            return false;
-        };
-        match self.ends.get(place) {
-            Some(Player::Client(client)) => client.committed(),
-            _ => false,
+    pub fn committed(&self, port: u16) -> bool
+        ensures { result ≡ committed_at self.now.ends port }
+    {
+        match place_of(port, self.players.len()) {
+            None => false,
+            Some(place) => self.players[place].committed(),
         }
     }
 
     /// The server's file of this path, as it is now.
-    pub fn file(&self, path: &Path) -> Option<&[u8]> {
+    pub fn file(&self, path: &Path) -> Option<&[u8]>
+        ensures { option_map (λ bytes. bytes.now) result ≡ file_at self.now.files path.now }
+    {
         self.server.store().file(path)
     }
 
@@ -98,56 +132,94 @@ impl World {
     ///
     /// `NoSuchDatagram` and `NoSuchEnd` where an event names what was never sent or opened; `NoPort`
     /// where an end could open and no port is left; `BadRequest` where the client refuses to ask
-    /// this, and today for every `Put`.
-    pub fn apply(&mut self, event: Event) -> Result<Report, WorldFault> {
+    /// this, and today for every `Put`. A stray comes from an address of neither host.
+    ///
+    /// It copies a datagram's bytes once, since an end keeps its newest; its look-ups take a time that
+    /// grows with the logarithm of the open transfers, and a request that is served copies the file.
+    pub fn apply(&mut self, event: Event) -> Result<Report, WorldFault>
+        requires { IsPlayable event }
+        ensures steps { IfOk result (λ report. StepToday self.old event report self.new) }
+        ensures refused { IfErr result (RefusesToday self.old event) }
+        ensures err { OnErr result (self.new ≡ self.old) }
+        ensures safe { StaysSafe self.old event self.new }
+    {
+        self.step(event)
+    }
+
+    /// Makes the step of an event.
+    fn step(&mut self, event: Event) -> Result<Report, WorldFault>
+        requires { IsPlayable event }
+        ensures steps { IfOk result (λ report. StepToday self.old event report self.new) }
+        ensures refused { IfErr result (RefusesToday self.old event) }
+        ensures err { OnErr result (self.new ≡ self.old) }
+    {
         match event {
             Event::Get { name, mode, asked } => self.get(name.as_slice(), mode, &asked),
             Event::Put { .. } => self.put(),
             Event::Deliver(place) => self.deliver(place),
             Event::Timeout(port) => self.timeout(port),
             Event::RefuseStore(port) => self.refuse_store(port),
-            Event::Stray(from, to, bytes) => self.arrive(from, to, bytes.as_slice()),
+            Event::Stray(from, to, bytes) => self.stray(from, to, &bytes),
         }
     }
 
     /// Delivers the datagram at this place and each one behind it once, also those that are sent on
     /// the way, until none is left or so many were delivered, and answers how many.
     ///
-    /// A refusal stops it, and the deliveries before it stand.
-    pub fn settle(&mut self, from: usize, most: usize) -> Result<usize, WorldFault> {
+    /// A refusal stops it, and the deliveries before it stand. It is that many calls of
+    /// [`World::apply`].
+    pub fn settle(&mut self, from: usize, most: usize) -> Result<usize, WorldFault>
+        ensures settles { IfOk result (λ count. Settled self.old from most count self.new) }
+        ensures stops { IfErr result (λ fault. StopsAt self.old from most fault self.new) }
+        ensures safe { SettlesSafe self.old self.new }
+    {
         let mut count = 0;
         while count < most && count < self.sent.len().saturating_sub(from) {
-            self.apply(Event::Deliver(from + count))?;
-            count += 1;
+            match self.apply(Event::Deliver(from + count)) {
+                Ok(_) => count += 1,
+                Err(fault) => return Err(fault),
+            }
         }
         Ok(count)
     }
 
     /// The end at this port takes a timeout.
-    fn timeout(&mut self, port: u16) -> Result<Report, WorldFault> {
-        let Some(place) = place_of(port, self.ends.len()) else {
+    fn timeout(&mut self, port: u16) -> Result<Report, WorldFault>
+        ensures steps { IfOk result (λ report. WorldStep self.old (Timeout port) report self.new) }
+        ensures refused { IfErr result (WorldRefuses self.old (Timeout port)) }
+        ensures err { OnErr result (self.new ≡ self.old) }
+    {
+        let Some(place) = place_of(port, self.players.len()) else {
             return Err(WorldFault::NoSuchEnd);
         };
-        self.sent.reserve(1)?;
+        let Ok(()) = self.sent.reserve(1) else {
+            return Err(WorldFault::Memory);
+        };
         let effect = time_out(
             self.alloc,
             &mut self.server,
-            &mut self.ends,
+            &mut self.players,
             &mut self.records,
             place,
             port,
-        )?;
-        Ok(write_down(&mut self.sent, effect))
+        );
+        match effect {
+            Ok(effect) => Ok(write_down(&mut self.sent, effect)),
+            Err(fault) => Err(fault),
+        }
     }
 
     /// The receiver at this port is to refuse its next append or commit.
-    fn refuse_store(&mut self, port: u16) -> Result<Report, WorldFault> {
-        let Some(place) = place_of(port, self.ends.len()) else {
+    fn refuse_store(&mut self, port: u16) -> Result<Report, WorldFault>
+        ensures steps { IfOk result (λ report. WorldStep self.old (RefuseStore port) report self.new) }
+        ensures refused { IfErr result (WorldRefuses self.old (RefuseStore port)) }
+        ensures err { OnErr result (self.new ≡ self.old) }
+    {
+        let Some(place) = place_of(port, self.players.len()) else {
             return Err(WorldFault::NoSuchEnd);
         };
-        if let Some(Player::Client(client)) = self.ends.get_mut(place) {
-            client.refuse_next();
-        }
+        let player = &mut self.players[place];
+        player.refuse_next();
         Ok(Report {
             added: None,
             closed: None,
@@ -155,54 +227,41 @@ impl World {
     }
 }
 
-/// The end at this place takes a timeout.
+/// The end at this place takes a timeout, unless it is closed.
 fn time_out(
     alloc: Global,
     server: &mut Server<MemStore>,
-    ends: &mut [Player],
-    records: &mut [(u16, Record)],
+    players: &mut Vec<Player>,
+    records: &mut Vec<(u16, Record)>,
     place: usize,
     port: u16,
 ) -> Result<Effect, WorldFault>
-    requires { place < length ends.old }
+    requires staged { IsStaged server.old players.old.items records.old.items }
+    requires place { (place < length players.old.items) × (port ≡ 1024 + place) }
+    ensures times_out { IfOk result (λ effect. StageTimesOut place server.old server.new players.old.items players.new.items effect) }
+    ensures staged { IsStaged server.new players.new.items records.new.items }
+    ensures memory { IfErr result (λ fault. fault ≡ WorldFault.Memory) }
+    ensures err { OnErr result ((server.new ≡ server.old) × (players.new.items ≡ players.old.items)) }
 {
-    let mut bytes = Vec::new(alloc);
-    let end = &mut ends[place];
-    let from = end.address(port);
-    let step = match end {
-        Player::Client(client) => {
-            let step = client.on_timeout(&mut bytes)?;
-            keep_record(records, place, port, client.record());
-            step
+    let player = &mut players[place];
+    if is_recorded_closed(records, place) {
+        return Ok(no_effect(alloc, player.address(port)));
+    }
+    match player.time_out(alloc, server, port) {
+        Ok((effect, record)) => {
+            records[place] = (port, record);
+            Ok(effect)
         }
-        Player::Server(served) => {
-            let step = server_timeout(server, port, &mut bytes)?;
-            if let Some(record) = server.record(port) {
-                keep_record(records, place, port, record);
-            }
-            if let Some((record, _)) = server.take_closed(port) {
-                served.ended = Some(record);
-            }
-            step
-        }
-    };
-    Ok(Effect {
-        from,
-        to: step.to,
-        bytes,
-        closed: step.closed,
-    })
+        Err(fault) => Err(fault),
+    }
 }
 
-/// The server's end at this port takes a timeout. A closed one takes none.
-fn server_timeout(
-    server: &mut Server<MemStore>,
-    port: u16,
-    out: &mut Vec<u8>,
-) -> Result<Step, WorldFault> {
-    match server.on_timeout(port, out) {
-        Ok(step) => Ok(step),
-        Err(ServerFault::NoSuchTid) => Ok(quiet()),
-        Err(_) => Err(WorldFault::Memory),
+/// Whether the end at this place is recorded as closed.
+pub(crate) fn is_recorded_closed(records: &Vec<(u16, Record)>, place: usize) -> bool
+    ensures { result ≡ record_closed (slice_get records.now.items place) }
+{
+    match records.get(place) {
+        Some((_, record)) => record.outcome.is_some(),
+        None => true,
     }
 }

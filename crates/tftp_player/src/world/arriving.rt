@@ -1,37 +1,66 @@
 //! What a datagram does where it comes to.
 
-ghost use Rattle.std.specs.Prelude.{◌<◌, ◌≤◌, ◌+◌, vec_len, vec_capacity, length};
+ghost use Rattle.std.specs.Prelude.{◌≡◌, ◌≢◌, true, false, ◌<◌, ◌+◌, length, IfOk, IfErr, OnErr};
+ghost use Rattle.tftp_negotiate.specs.Ranges.{IsBlockSize};
+ghost use Rattle.tftp_player.specs.Machine.{request_port, host_of, Elsewhere};
+ghost use Rattle.tftp_player.specs.Stage.{IsStaged, StageHears};
+ghost use Rattle.tftp_player.specs.Today.{StepToday, ArrivesToday, ArrivalRefuses, StageAsks, StageArrives, StageRefuses};
+ghost use Rattle.tftp_player.specs.WorldSteps.{WorldRefuses};
+ghost use Rattle.tftp_player.specs.declared.event.Event.TheVariants.{Deliver, Stray};
 
-use crate::effect::{Effect, quiet, write_down};
-use crate::hosts::{REQUEST_PORT, place_of, port_of};
-use crate::player::{Player, keep_record};
+use crate::effect::{Effect, no_effect, write_down};
+use crate::hosts::{REQUEST_PORT, place_of, port_of, server_at};
+use crate::player::Player;
 use crate::served::wanted;
-use crate::world::World;
+use crate::world::{World, is_recorded_closed};
 use crate::{Report, WorldFault};
 use std::alloc::Global;
-use tftp_ends::{Endpoint, Record, Step};
-use tftp_server::{MemStore, Server, ServerFault};
+use tftp_ends::{Endpoint, Record};
+use tftp_server::{MemStore, Server};
+use tftp_wire::Bytes;
 
 impl World {
     /// The datagram at this place of all that was sent arrives.
-    pub(super) fn deliver(&mut self, place: usize) -> Result<Report, WorldFault> {
+    pub(super) fn deliver(&mut self, place: usize) -> Result<Report, WorldFault>
+        ensures steps { IfOk result (λ report. StepToday self.old (Deliver place) report self.new) }
+        ensures refused { IfErr result (WorldRefuses self.old (Deliver place)) }
+        ensures err { OnErr result (self.new ≡ self.old) }
+    {
         if place >= self.sent.len() {
             return Err(WorldFault::NoSuchDatagram);
         }
-        self.sent.reserve(1)?;
-        let Some(datagram) = self.sent.get(place) else {
-            return Err(WorldFault::NoSuchDatagram);
+        let Ok(()) = self.sent.reserve(1) else {
+            return Err(WorldFault::Memory);
         };
+        let datagram = &self.sent[place];
         let effect = take(
             self.alloc,
             &mut self.server,
-            &mut self.ends,
+            &mut self.players,
             &mut self.records,
             datagram.from,
             datagram.to,
             datagram.bytes.as_slice(),
-        )?;
-        Ok(write_down(&mut self.sent, effect))
+        );
+        match effect {
+            Ok(effect) => Ok(write_down(&mut self.sent, effect)),
+            Err(fault) => Err(fault),
+        }
+    }
+
+    /// A datagram of these bytes arrives from neither host.
+    pub(super) fn stray(
+        &mut self,
+        from: Endpoint,
+        to: Endpoint,
+        bytes: &Bytes,
+    ) -> Result<Report, WorldFault>
+        requires { host_of from ≡ Elsewhere }
+        ensures steps { IfOk result (λ report. StepToday self.old (Stray from to bytes.now) report self.new) }
+        ensures refused { IfErr result (WorldRefuses self.old (Stray from to bytes.now)) }
+        ensures err { OnErr result (self.new ≡ self.old) }
+    {
+        self.arrive(from, to, bytes.as_slice())
     }
 
     /// A datagram of these bytes arrives.
@@ -40,18 +69,27 @@ impl World {
         from: Endpoint,
         to: Endpoint,
         bytes: &[u8],
-    ) -> Result<Report, WorldFault> {
-        self.sent.reserve(1)?;
+    ) -> Result<Report, WorldFault>
+        ensures arrives { IfOk result (λ report. ArrivesToday self.old from to bytes.now report self.new) }
+        ensures refused { IfErr result (ArrivalRefuses self.old to) }
+        ensures err { OnErr result (self.new ≡ self.old) }
+    {
+        let Ok(()) = self.sent.reserve(1) else {
+            return Err(WorldFault::Memory);
+        };
         let effect = take(
             self.alloc,
             &mut self.server,
-            &mut self.ends,
+            &mut self.players,
             &mut self.records,
             from,
             to,
             bytes,
-        )?;
-        Ok(write_down(&mut self.sent, effect))
+        );
+        match effect {
+            Ok(effect) => Ok(write_down(&mut self.sent, effect)),
+            Err(fault) => Err(fault),
+        }
     }
 }
 
@@ -59,118 +97,123 @@ impl World {
 fn take(
     alloc: Global,
     server: &mut Server<MemStore>,
-    ends: &mut Vec<Player>,
+    players: &mut Vec<Player>,
     records: &mut Vec<(u16, Record)>,
     from: Endpoint,
     to: Endpoint,
     bytes: &[u8],
-) -> Result<Effect, WorldFault> {
-    if to == REQUEST_PORT {
-        return ask(alloc, server, ends, records, from, bytes);
+) -> Result<Effect, WorldFault>
+    requires staged { IsStaged server.old players.old.items records.old.items }
+    requires block { IsBlockSize server.old.config.limits.max_block }
+    ensures arrives { IfOk result (λ effect. StageArrives from to bytes.now server.old server.new players.old.items players.new.items effect) }
+    ensures staged { IsStaged server.new players.new.items records.new.items }
+    ensures config { server.new.config ≡ server.old.config }
+    ensures refused { IfErr result (StageRefuses to players.old.items) }
+    ensures err { OnErr result ((server.new ≡ server.old) × (players.new.items ≡ players.old.items)) }
+{
+    if !differs(to, REQUEST_PORT) {
+        return ask(alloc, server, players, records, from, bytes);
     }
-    match place_of(to.port, ends.len()) {
-        Some(place) => hear(alloc, server, ends, records, place, from, to, bytes),
-        None => Ok(lost(alloc, to)),
-    }
-}
-
-/// Nothing comes of it.
-fn lost(alloc: Global, at: Endpoint) -> Effect {
-    Effect {
-        from: at,
-        to: None,
-        bytes: Vec::new(alloc),
-        closed: None,
+    match place_of(to.port, players.len()) {
+        Some(place) => hear(alloc, server, players, records, place, from, to, bytes),
+        None => Ok(no_effect(alloc, to)),
     }
 }
 
-/// The end at this place takes a datagram, if it came to its host.
+/// The end at this place takes a datagram, unless it is closed or on the other host.
 fn hear(
     alloc: Global,
     server: &mut Server<MemStore>,
-    ends: &mut [Player],
-    records: &mut [(u16, Record)],
+    players: &mut Vec<Player>,
+    records: &mut Vec<(u16, Record)>,
     place: usize,
     from: Endpoint,
     to: Endpoint,
     bytes: &[u8],
 ) -> Result<Effect, WorldFault>
-    requires { place < length ends.old }
+    requires staged { IsStaged server.old players.old.items records.old.items }
+    requires place { (place < length players.old.items) × (to.port ≡ 1024 + place) }
+    ensures hears { IfOk result (λ effect. StageHears place from to bytes.now server.old server.new players.old.items players.new.items effect) }
+    ensures staged { IsStaged server.new players.new.items records.new.items }
+    ensures memory { IfErr result (λ fault. fault ≡ WorldFault.Memory) }
+    ensures err { OnErr result ((server.new ≡ server.old) × (players.new.items ≡ players.old.items)) }
 {
-    let mut out = Vec::new(alloc);
-    let end = &mut ends[place];
-    if end.address(to.port) != to {
-        return Ok(lost(alloc, to));
+    let player = &mut players[place];
+    let here = player.address(to.port);
+    if differs(here, to) {
+        return Ok(no_effect(alloc, to));
     }
-    let step = match end {
-        Player::Client(client) => {
-            let step = client.on_datagram(from, bytes, &mut out)?;
-            keep_record(records, place, to.port, client.record());
-            step
+    if is_recorded_closed(records, place) {
+        return Ok(no_effect(alloc, to));
+    }
+    match player.hear(alloc, server, to.port, from, bytes) {
+        Ok((effect, record)) => {
+            records[place] = (to.port, record);
+            Ok(effect)
         }
-        Player::Server(served) => {
-            let step = server_datagram(server, to.port, from, bytes, &mut out)?;
-            if let Some(record) = server.record(to.port) {
-                keep_record(records, place, to.port, record);
-            }
-            if let Some((record, _)) = server.take_closed(to.port) {
-                served.ended = Some(record);
-            }
-            step
-        }
-    };
-    Ok(Effect {
-        from: to,
-        to: step.to,
-        bytes: out,
-        closed: step.closed,
-    })
+        Err(fault) => Err(fault),
+    }
 }
 
-/// The server's end at this port takes a datagram. A closed one takes none.
-fn server_datagram(
-    server: &mut Server<MemStore>,
-    port: u16,
-    from: Endpoint,
-    bytes: &[u8],
-    out: &mut Vec<u8>,
-) -> Result<Step, WorldFault> {
-    match server.on_datagram(port, from, bytes, out) {
-        Ok(step) => Ok(step),
-        Err(ServerFault::NoSuchTid) => Ok(quiet()),
-        Err(_) => Err(WorldFault::Memory),
-    }
+/// Whether these are two endpoints.
+fn differs(a: Endpoint, b: Endpoint) -> bool
+    ensures differs { result ≡ true → a ≢ b }
+    ensures same { result ≡ false → a ≡ b }
+{
+    a != b
 }
 
 /// The request port takes a datagram, and may open an end at the next port.
 fn ask(
     alloc: Global,
     server: &mut Server<MemStore>,
-    ends: &mut Vec<Player>,
+    players: &mut Vec<Player>,
     records: &mut Vec<(u16, Record)>,
     from: Endpoint,
     bytes: &[u8],
-) -> Result<Effect, WorldFault> {
-    let Some(port) = port_of(ends.len()) else {
+) -> Result<Effect, WorldFault>
+    requires staged { IsStaged server.old players.old.items records.old.items }
+    requires block { IsBlockSize server.old.config.limits.max_block }
+    ensures asks { IfOk result (λ effect. StageAsks from bytes.now server.old server.new players.old.items players.new.items effect) }
+    ensures staged { IsStaged server.new players.new.items records.new.items }
+    ensures config { server.new.config ≡ server.old.config }
+    ensures refused { IfErr result (StageRefuses request_port players.old.items) }
+    ensures err { OnErr result ((server.new ≡ server.old) × (players.new.items ≡ players.old.items)) }
+{
+    let Some(port) = port_of(players.len()) else {
         return Err(WorldFault::NoPort);
     };
-    ends.reserve(1)?;
-    records.reserve(1)?;
-    let wanted = wanted(alloc, server.store(), bytes)?;
+    let Ok(()) = players.reserve(1) else {
+        return Err(WorldFault::Memory);
+    };
+    let Ok(()) = records.reserve(1) else {
+        return Err(WorldFault::Memory);
+    };
+    let Ok(wanted) = wanted(alloc, server.store(), bytes) else {
+        return Err(WorldFault::Memory);
+    };
     let mut out = Vec::new(alloc);
     let Ok(opened) = server.on_request(from, port, bytes, &mut out) else {
         return Err(WorldFault::Memory);
     };
-    let mut at = REQUEST_PORT;
-    if let (Some(served), Some(record)) = (wanted, server.record(port)) {
-        at.port = port;
-        records.push_reserved((port, record));
-        ends.push_reserved(Player::Server(served));
-    }
+    let Some(_) = opened.tid else {
+        return Ok(Effect {
+            from: REQUEST_PORT,
+            to: opened.to,
+            bytes: Bytes::from(out),
+            closed: None,
+        });
+    };
+    let Some(served) = wanted else { unreachable!() };
+    let Some(record) = server.record(port) else {
+        unreachable!()
+    };
+    records.push_reserved((port, record));
+    players.push_reserved(Player::Server(served));
     Ok(Effect {
-        from: at,
+        from: server_at(port),
         to: opened.to,
-        bytes: out,
+        bytes: Bytes::from(out),
         closed: None,
     })
 }

@@ -1,13 +1,17 @@
 //! How the ends of a world open.
 
+ghost use Rattle.std.specs.Prelude.{◌≡◌, IsErr, IfOk, IfErr, OnErr};
+ghost use Rattle.tftp_player.specs.Today.{RefusesToday, PutRefuses};
+ghost use Rattle.tftp_player.specs.WorldSteps.{WorldStep};
+ghost use Rattle.tftp_player.specs.declared.event.Event.TheVariants.{Get};
+
 use crate::client::Client;
-use crate::effect::{Effect, write_down};
-use crate::hosts::{CLIENT_IP, REQUEST_PORT, port_of};
+use crate::effect::write_down;
+use crate::hosts::port_of;
 use crate::player::Player;
-use crate::served::wanted;
 use crate::world::World;
 use crate::{Report, WorldFault};
-use tftp_ends::{EndConfig, Endpoint};
+use tftp_ends::EndConfig;
 use tftp_negotiate::Asked;
 use tftp_wire::Mode;
 
@@ -18,38 +22,46 @@ impl World {
         name: &[u8],
         mode: Mode,
         asked: &Asked,
-    ) -> Result<Report, WorldFault> {
-        let Some(port) = port_of(self.ends.len()) else {
+    ) -> Result<Report, WorldFault>
+        ensures steps { IfOk result (λ report. WorldStep self.old (Get name.now mode asked.now) report self.new) }
+        ensures refused { IfErr result (RefusesToday self.old (Get name.now mode asked.now)) }
+        ensures err { OnErr result (self.new ≡ self.old) }
+    {
+        let Some(port) = port_of(self.players.len()) else {
             return Err(WorldFault::NoPort);
         };
-        self.sent.reserve(1)?;
-        self.ends.reserve(1)?;
-        self.records.reserve(1)?;
+        let Ok(()) = self.sent.reserve(1) else {
+            return Err(WorldFault::Memory);
+        };
+        let Ok(()) = self.players.reserve(1) else {
+            return Err(WorldFault::Memory);
+        };
+        let Ok(()) = self.records.reserve(1) else {
+            return Err(WorldFault::Memory);
+        };
         let config = EndConfig {
             limits: self.config.limits,
             retries: self.config.retries,
         };
-        let mut bytes = Vec::new(self.alloc);
-        let client = Client::get(self.alloc, name, mode, asked, &config, &mut bytes)?;
-        self.records.push_reserved((port, client.record()));
-        self.ends.push_reserved(Player::Client(client));
-        let effect = Effect {
-            from: Endpoint {
-                ip: CLIENT_IP,
-                port,
-            },
-            to: Some(REQUEST_PORT),
-            bytes,
-            closed: None,
-        };
-        Ok(write_down(&mut self.sent, effect))
+        match Client::get(self.alloc, port, name, mode, asked, &config) {
+            Ok((client, effect)) => {
+                self.records.push_reserved((port, client.record()));
+                self.players.push_reserved(Player::Client(client));
+                Ok(write_down(&mut self.sent, effect))
+            }
+            Err(fault) => Err(fault),
+        }
     }
 
     /// A client that would send a file: not carried yet.
-    pub(super) fn put(&mut self) -> Result<Report, WorldFault> {
-        match port_of(self.ends.len()) {
-            None => Err(WorldFault::NoPort),
-            Some(_) => Err(WorldFault::BadRequest),
-        }
+    pub(super) fn put(&mut self) -> Result<Report, WorldFault>
+        ensures fails { IsErr result }
+        ensures refused { IfErr result (PutRefuses self.old) }
+        ensures err { self.new ≡ self.old }
+    {
+        let Some(_) = port_of(self.players.len()) else {
+            return Err(WorldFault::NoPort);
+        };
+        Err(WorldFault::BadRequest)
     }
 }

@@ -1,8 +1,13 @@
-use Rattle.std.proofs.Common.{◌-◌, ◌≤◌}
+use Rattle.std.proofs.Common.{◌≡◌, ◌-◌, ◌≤◌, List, length}
+use Rattle.tftp_player.specs.TodayRuns.{Delivered}
+use Rattle.tftp_player.specs.declared.report.Report.{Report}
 use Rattle.tftp_player.proofs.world.World.settle.Given as goal
 
 abbrev pub invariant-loop-count : goal.invariant-loop-count
-invariant-loop-count l = l.count ≤ l.most
+invariant-loop-count l = record {
+  delivered : (reports : List Report) × Delivered l.fn.self l.from reports l.self × (length reports ≡ l.count);
+  bounded : l.count ≤ l.most;
+}
 
 abbrev pub decreases-loop-count : goal.decreases-loop-count
 decreases-loop-count l = l.most - l.count

@@ -1,0 +1,279 @@
+-- What the request port makes of a world, from what the server did.
+use Rattle.std.proofs.Common.{◌≡◌, ◌≢◌, ℕ, ◌+◌, ◌<◌, ◌≤◌, true, List, [], ◌∷◌, ◌++◌, length, get_or, Option, Some, None, refl, sym, ap, ◌∙◌, subst, arith, inl, inr, length-append}
+use Rattle.std.specs.Prelude.{◌⊎◌, ◌&&◌, not, option_map}
+use Rattle.tftp_wire.specs.declared.mode.Mode.{Mode}
+use Rattle.tftp_wire.specs.declared.mode.Mode.TheVariants.{Octet, Netascii}
+use Rattle.tftp_wire.specs.declared.packet.Packet.TheVariants.{Read, Write, Data, Ack, Error, Oack}
+use Rattle.tftp_wire.specs.declared.packet.Request.{Request}
+use Rattle.tftp_negotiate.specs.declared.known.Known.{Known}
+use Rattle.tftp_file.specs.Path.{path_of_name}
+use Rattle.std.proofs.lemmas.List.{append-nil}
+use Rattle.tftp_wire.specs.declared.packet.Packet.{Packet}
+use Rattle.tftp_negotiate.specs.Ranges.{IsBlockSize}
+use Rattle.tftp_file.specs.Memory.{MemSinkState}
+use Rattle.tftp_ends.specs.declared.record.Record.{Record}
+use Rattle.tftp_ends.specs.Row.{Says}
+use Rattle.tftp_server.specs.declared.opened.Opened.{Opened}
+use Rattle.tftp_server.specs.Request.{CarriedStep, carried, carried_read, plain_read, asked_of}
+use Rattle.tftp_server.specs.Store.{Stored, Drafted, FileList}
+use Rattle.tftp_player.specs.Machine.{Endpoint, request_port}
+use Rattle.tftp_player.specs.Effect.{said_by, report_by}
+use Rattle.tftp_player.specs.Played.{PlayerKept, end_at, ends_from, records_from}
+use Rattle.tftp_player.specs.Requests.{service, Sends_file, open_transfers}
+use Rattle.tftp_player.specs.Wanting.{Wants, wanted_by, wanted_at}
+use Rattle.tftp_player.specs.declared.served.Served.{Served}
+use Rattle.tftp_player.specs.Serving.{PlayedServer, Transfer}
+use Rattle.tftp_player.specs.Stage.{IsStaged, ends_of, world_of}
+use Rattle.tftp_player.specs.Today.{ArrivesToday, At_port, StageAsks}
+use Rattle.tftp_player.specs.World.{WorldState, OpenedEnd, is_closed, datagram, no_report, said_in, opened_in, sent_report}
+use Rattle.tftp_player.specs.WorldSteps.{never_fails, HasPort}
+use Rattle.tftp_player.specs.declared.datagram.Datagram.{Datagram}
+use Rattle.tftp_player.specs.declared.effect.Effect.{Effect}
+use Rattle.tftp_player.specs.declared.player.Player.{Player}
+use Rattle.tftp_player.specs.declared.report.Report.{Report}
+use Rattle.tftp_player.proofs.PlayLemmas.{ends_length, ends_rest, to_kept, from_kept}
+use Rattle.tftp_player.proofs.PortLemmas.{PortOpened, PortRefused, PortSilent, port_opened, port_not_opened, service_sends, new_sender, sending_is, sending_side, sending_open, sending_newest_to}
+use Rattle.tftp_player.proofs.Resting.{resting_same, resting_opened}
+use Rattle.tftp_player.proofs.ServerLemmas.{says_something, says_one, carries_no_write, IsServerOf, PortLeft, PortDid, carried_did, held_of}
+use Rattle.tftp_player.proofs.HeldLemmas.{AreBelow, AreBelow-with_new, with_new-last, at-with_new, at-with_new_other}
+use Rattle.tftp_player.proofs.PlacedEnds.{told-same, kept-push, is_transfer, transfers-push}
+use Rattle.tftp_player.proofs.OpenedLemmas.{ends_push, records_push}
+use Rattle.tftp_player.specs.Clients.{server_at}
+use Rattle.tftp_ends.specs.declared.side.Side.{Side}
+use Rattle.tftp_player.proofs.StageLemmas.{served_is, by_port, kept_by_port}
+use Rattle.tftp_player.specs.Openings.{sending_end}
+use Rattle.tftp_server.specs.State.{at}
+use Rattle.tftp_ends.specs.End.{is_sender, is_client, record_of}
+use Rattle.tftp_player.specs.declared.player.Player.TheVariants.{Server}
+
+-- a draft tells nothing
+abbrev pub untold : MemSinkState → Option Drafted
+untold draft = None
+
+-- ---- where an end opens
+-- what is carried asks for the same end
+carried_wants_in : (files : FileList) (name : List ℕ) (m : Mode) (request : Request) → carried_read name m ≡ Some (Read request) → wanted_at files m (path_of_name name) ≡ wanted_at files request.mode (path_of_name request.name)
+carried_wants_in files name Octet request e = let f : plain_read name ≡ request = cc in ap (λ (r : Request). wanted_at files r.mode (path_of_name r.name)) f
+carried_wants_in files name Netascii request e = absurd (let f : None ≡ Some (Read request) = e in cc)
+
+no_request : (request : Request) → None ≡ Some (Read request) → ⊥
+no_request request e = cc
+
+carried_wants : (files : FileList) (heard : Option Packet) (request : Request) → carried heard ≡ Some (Read request) → wanted_by files heard ≡ wanted_at files request.mode (path_of_name request.name)
+carried_wants files None request e = absurd (no_request request e)
+carried_wants files (Some (Read r)) request e = carried_wants_in files r.name r.mode request e
+carried_wants files (Some (Write r)) request e = absurd (no_request request e)
+carried_wants files (Some (Data number bytes)) request e = absurd (no_request request e)
+carried_wants files (Some (Ack number)) request e = absurd (no_request request e)
+carried_wants files (Some (Error code text)) request e = absurd (no_request request e)
+carried_wants files (Some (Oack options)) request e = absurd (no_request request e)
+
+-- the end that opens is the one that was wanted
+pub wanted_is : (w : WorldState) (bytes : List ℕ) (heard : Option Packet) (path file : List ℕ) (mode : Mode) (agreed : List Known) (o : Option Served) → Says bytes heard →
+    service w bytes (carried heard) ≡ Sends_file path file mode agreed → Wants w.files bytes o → o ≡ Some (record { mode = mode; path = path; file = file; ended = None })
+wanted_is w bytes heard path file mode agreed o says sends wants =
+    let r = service_sends w path file mode agreed bytes (carried heard) (carries_no_write heard) sends in
+    wants.2
+    ∙ (ap (wanted_by w.files) (says_one bytes wants.0 heard wants.1 says)
+    ∙ (carried_wants w.files heard r.request r.heard_is
+    ∙ (ap (wanted_at w.files r.request.mode) r.path_is
+    ∙ (ap (λ (f : Option (List ℕ)). option_map (λ (g : List ℕ). let s : Served = record { mode = r.request.mode; path = path; file = g; ended = None } in s) f) r.file_is
+    ∙ ap (λ (m : Mode). let s : Option Served = Some (record { mode = m; path = path; file = file; ended = None }) in s) (sym r.mode_is)))))
+
+module _ (from : Endpoint) (bytes : List ℕ) (before : PlayedServer) (ps : List Player) (records : List (ℕ × Record)) (count port : ℕ) (staged : IsStaged before ps records)
+    (max : IsBlockSize before.config.limits.max_block) (counts : count ≡ length ps) (is : port ≡ 1024 + count) (fits : port < 65536) (range : (k : ℕ) → get_or bytes k 0 < 256) where
+  abbrev w : List Datagram → WorldState
+  w sent = world_of before.config sent before ps
+
+  has : (sent : List Datagram) → HasPort (w sent)
+  has sent = let n = ends_length before.held ps in let l : 1024 + length (ends_of before ps) ≤ 65535 = omega (arith, n, counts, is, fits) in l
+
+  is_server : (sent : List Datagram) → IsServerOf untold (w sent) before
+  is_server sent = record { files = refl; limits = refl; retries = refl; cap = refl; count = staged.count }
+
+  said : (heard : Option Packet) × Says bytes heard
+  said = says_something bytes range
+
+  did : (sent : List Datagram) (after : PlayedServer) (opened : Opened) (out : List ℕ) →
+      CarriedStep (λ (s : List ℕ). Some s) never_fails (λ (s : Stored). Some s) untold bytes (asked_of before from port) (record { new = after; opened = opened; sent = out }) →
+      PortDid untold (w sent) (service (w sent) bytes (carried said.0)) (asked_of before from port) (record { new = after; opened = opened; sent = out })
+  did sent after opened out h = carried_did untold (w sent) (asked_of before from port) (record { new = after; opened = opened; sent = out }) (is_server sent) max bytes said.0 said.1 h
+
+  module _ (after : PlayedServer) (opened : Opened) (out : List ℕ)
+      (h : CarriedStep (λ (s : List ℕ). Some s) never_fails (λ (s : Stored). Some s) untold bytes (asked_of before from port) (record { new = after; opened = opened; sent = out }))
+      (none : opened.tid ≡ None) where
+    abbrev result : PortLeft untold
+    result = record { new = after; opened = opened; sent = out }
+
+    seen : (sent : List Datagram) →
+        PortRefused untold (w sent) (asked_of before from port) result (service (w sent) bytes (carried said.0)) ⊎ PortSilent untold (w sent) (asked_of before from port) result (service (w sent) bytes (carried said.0))
+    seen sent = port_not_opened untold (w sent) (asked_of before from port) result (service (w sent) bytes (carried said.0)) (did sent after opened out h) none
+
+    -- where nothing opened the server is as before
+    pub not_opened_same : after ≡ before
+    not_opened_same = elim (seen []) [ inl refused ↦ refused.new | inr quiet ↦ quiet.new ]
+
+    abbrev effect : Effect
+    effect = record { from = request_port; to = opened.to; bytes = out; closed = None }
+
+    pub not_opened_asks : StageAsks from bytes before after ps ps effect
+    not_opened_asks sent = elim (seen sent) [
+      | inl refused ↦
+          let d = datagram request_port from out in
+          let report : report_by sent effect ≡ sent_report (w sent) = ap (λ (to : Option Endpoint). report_by sent (record effect { to = to })) refused.to in
+          let new : world_of before.config (sent ++ said_by request_port opened.to out) after ps ≡ said_in (w sent) d =
+          ap (λ (to : Option Endpoint). world_of before.config (sent ++ said_by request_port to out) after ps) refused.to
+          ∙ ap (λ (v : PlayedServer). world_of before.config (sent ++ d ∷ []) v ps) refused.new in
+          subst (λ (r : Report). ArrivesToday (w sent) from request_port bytes r (world_of before.config (sent ++ said_by request_port opened.to out) after ps)) (sym report)
+          (At_port refl (has sent) said.0 said.1 (said_in (w sent) d) refused.serves (new ∙ sym (resting_same (said_in (w sent) d) (ends_rest 1024 before.held ps staged.kept))))
+      | inr quiet ↦
+          let report : report_by sent effect ≡ no_report = ap (λ (to : Option Endpoint). report_by sent (record effect { to = to })) quiet.to in
+          let new : world_of before.config (sent ++ said_by request_port opened.to out) after ps ≡ w sent =
+          ap (λ (to : Option Endpoint). world_of before.config (sent ++ said_by request_port to out) after ps) quiet.to
+          ∙ (ap (λ (ds : List Datagram). world_of before.config ds after ps) (append-nil sent)
+          ∙ ap (λ (v : PlayedServer). world_of before.config sent v ps) quiet.new) in
+          subst (λ (r : Report). ArrivesToday (w sent) from request_port bytes r (world_of before.config (sent ++ said_by request_port opened.to out) after ps)) (sym report)
+          (At_port refl (has sent) said.0 said.1 (w sent) quiet.serves (new ∙ sym (resting_same (w sent) (ends_rest 1024 before.held ps staged.kept))))
+    ]
+
+    -- as it is told
+    pub quietly : (ps0 : List Player) (start given : List ℕ) → ps0 ≡ ps → start ≡ [] → given ≡ start ++ out →
+        StageAsks from bytes before after ps ps0 (record { from = request_port; to = opened.to; bytes = given; closed = None })
+    quietly ps0 start given same empty is_out =
+        let own : given ≡ out = is_out ∙ ap (λ (s : List ℕ). s ++ out) empty in
+        subst (λ (b : List ℕ). StageAsks from bytes before after ps ps0 (record { from = request_port; to = opened.to; bytes = b; closed = None })) (sym own)
+        (subst (λ (qs : List Player). StageAsks from bytes before after ps qs (record { from = request_port; to = opened.to; bytes = out; closed = None })) (sym same) not_opened_asks)
+
+    pub quietly_staged : (ps0 : List Player) (records0 : List (ℕ × Record)) → ps0 ≡ ps → records0 ≡ records → IsStaged after ps0 records0
+    quietly_staged ps0 records0 a b =
+        subst (λ (v : PlayedServer). IsStaged v ps0 records0) (sym not_opened_same)
+        (subst (λ (qs : List Player). IsStaged before qs records0) (sym a) (subst (λ (rs : List (ℕ × Record)). IsStaged before ps rs) (sym b) staged))
+
+  module _ (after : PlayedServer) (opened : Opened) (out : List ℕ)
+      (h : CarriedStep (λ (s : List ℕ). Some s) never_fails (λ (s : Stored). Some s) untold bytes (asked_of before from port) (record { new = after; opened = opened; sent = out }))
+      (t : ℕ) (told : opened.tid ≡ Some t) (o : Option Served) (wants : Wants before.store.files bytes o) where
+    abbrev result' : PortLeft untold
+    result' = record { new = after; opened = opened; sent = out }
+
+    q : (sent : List Datagram) → PortOpened untold (w sent) (asked_of before from port) result' (service (w sent) bytes (carried said.0))
+    q sent = port_opened untold (w sent) (asked_of before from port) result' (service (w sent) bytes (carried said.0)) t (did sent after opened out h) told
+
+    abbrev x : List Datagram → OpenedEnd
+    x sent = sending_end (w sent) from (q sent).mode (q sent).path (q sent).file (q sent).agreed
+
+    abbrev own : List Datagram → Served
+    own sent = record { mode = (q sent).mode; path = (q sent).path; file = (q sent).file; ended = None }
+
+    wanted_own : (sent : List Datagram) → o ≡ Some (own sent)
+    wanted_own sent = wanted_is (w sent) bytes said.0 (q sent).path (q sent).file (q sent).mode (q sent).agreed o said.1 (q sent).service_is wants
+
+    port_next : port ≡ 1024 + length ps
+    port_next = is ∙ ap (λ (n : ℕ). 1024 + n) counts
+
+    below : AreBelow port before.held
+    below = subst (λ (n : ℕ). AreBelow n before.held) (sym port_next) staged.below
+
+    found : (sent : List Datagram) → at port after.held ≡ Some (held_of (x sent))
+    found sent = ap (λ (s : PlayedServer). at port s.held) (q sent).new ∙ at-with_new port (held_of (x sent)) before.held below
+
+    -- it was wanted, and it is held
+    pub opened_wanted : o ≡ None → ⊥
+    opened_wanted e = let f : None ≡ Some (own []) = sym e ∙ wanted_own [] in cc
+
+    pub opened_recorded : (r : Option Record) → r ≡ option_map (λ (g : Transfer). record_of g.end) (at port after.held) → r ≡ None → ⊥
+    opened_recorded r e n = let f : None ≡ Some (record_of (x []).state) = sym n ∙ (e ∙ ap (option_map (λ (g : Transfer). record_of g.end)) (found [])) in cc
+
+    end_is : (sent : List Datagram) → end_at port after.held (Server (own sent)) ≡ x sent
+    end_is sent =
+        served_is port (own sent) after.held (held_of (x sent)) (x sent).left refl (found sent) refl
+        ∙ (ap (λ (n : ℕ). new_sender n (x sent).state (q sent).path (q sent).file (x sent).left) (port_next ∙ ap (λ (n : ℕ). 1024 + n) (sym (ends_length before.held ps)))
+        ∙ sym (sending_is (w sent) from (q sent).mode (q sent).path (q sent).file (q sent).agreed))
+
+    pub config_same : after.config ≡ before.config
+    config_same = ap (λ (s : PlayedServer). s.config) (q []).new
+
+    others : (other : ℕ) → 1024 ≤ other → other < 1024 + length ps → at other after.held ≡ at other before.held
+    others other low high =
+        let n : other ≢ port = omega (arith, port_next, high) in
+        ap (λ (s : PlayedServer). at other s.held) (q []).new ∙ at-with_new_other port other (held_of (x [])) before.held below n
+
+    new_kept : PlayerKept port after.held (Server (own []))
+    new_kept =
+        let side = sending_side (w []) from (q []).mode (q []).path (q []).file (q []).agreed in
+        record {
+          transfer = held_of (x []);
+          left = (x []).left;
+          found = found [];
+          is_open = sending_open (w []) from (q []).mode (q []).path (q []).file (q []).agreed;
+          sends = refl;
+          side = ap is_client side.0;
+          sender = ap is_sender side.0;
+          mode = side.1;
+        }
+
+    open_x : (sent : List Datagram) → is_transfer (x sent) ≡ true
+    open_x sent =
+        let side = sending_side (w sent) from (q sent).mode (q sent).path (q sent).file (q sent).agreed in
+        ap (λ (s : Side). not (is_client s) && not (is_closed (x sent))) side.0 ∙ ap not (sending_open (w sent) from (q sent).mode (q sent).path (q sent).file (q sent).agreed)
+
+    ends_now : (sent : List Datagram) → ends_of after (ps ++ Server (own sent) ∷ []) ≡ ends_of before ps ++ x sent ∷ []
+    ends_now sent =
+        ends_push after ps (Server (own sent))
+        ∙ (ap (λ (xs : List OpenedEnd). xs ++ end_at (1024 + length ps) after.held (Server (own sent)) ∷ []) (told-same end_at ends_from (λ n g. refl) (λ n g r rs. refl) by_port 1024 before.held after.held ps others)
+        ∙ (ap (λ (n : ℕ). ends_of before ps ++ end_at n after.held (Server (own sent)) ∷ []) (sym port_next)
+        ∙ ap (λ (y : OpenedEnd). ends_of before ps ++ y ∷ []) (end_is sent)))
+
+    held_now : after.held ≡ before.held ++ (port, held_of (x [])) ∷ []
+    held_now = ap (λ (s : PlayedServer). s.held) (q []).new ∙ with_new-last port (held_of (x [])) before.held below
+
+    staged_now : IsStaged after (ps ++ Server (own []) ∷ []) (records ++ (port, record_of (x []).state) ∷ [])
+    staged_now = record {
+      kept = from_kept 1024 after.held (ps ++ Server (own []) ∷ []) (kept-push PlayerKept kept_by_port 1024 before.held after.held ps (Server (own [])) others (to_kept 1024 before.held ps staged.kept)
+          (subst (λ (n : ℕ). PlayerKept n after.held (Server (own []))) port_next new_kept));
+      recorded =
+          ap (λ (rs : List (ℕ × Record)). rs ++ (port, record_of (x []).state) ∷ []) staged.recorded
+          ∙ (ap (λ (n : ℕ). records_from 1024 (ends_of before ps) ++ (n, record_of (x []).state) ∷ []) (port_next ∙ ap (λ (n : ℕ). 1024 + n) (sym (ends_length before.held ps)))
+          ∙ (sym (records_push 1024 (ends_of before ps) (x [])) ∙ ap (records_from 1024) (sym (ends_now []))));
+      below =
+          let n : port + 1 ≡ 1024 + length (ps ++ Server (own []) ∷ []) = omega (arith, port_next, length-append ps (Server (own []) ∷ [])) in
+          subst (λ (m : ℕ). AreBelow m after.held) n (subst (AreBelow (port + 1)) (sym (ap (λ (s : PlayedServer). s.held) (q []).new)) (AreBelow-with_new port (held_of (x [])) before.held below));
+      count =
+          let a : length after.held ≡ length (before.held ++ (port, held_of (x [])) ∷ []) = ap length held_now in
+          let b = transfers-push (ends_of before ps) (x []) (open_x []) in
+          let e = staged.count in
+          let n : length after.held ≡ open_transfers (ends_of before ps ++ x [] ∷ []) = omega (arith, a, length-append before.held ((port, held_of (x [])) ∷ []), b, e) in
+          n ∙ ap open_transfers (sym (ends_now []));
+    }
+
+    same_served : (served : Served) (sent : List Datagram) → o ≡ Some served → served ≡ own sent
+    same_served served sent e = let f : Some served ≡ Some (own sent) = sym e ∙ wanted_own sent in cc
+
+    pub opened_staged : (served : Served) (r : Record) (ps0 ps1 : List Player) (records0 records1 : List (ℕ × Record)) → o ≡ Some served → Some r ≡ option_map (λ (g : Transfer). record_of g.end) (at port after.held) →
+        ps0 ≡ ps → ps1 ≡ ps0 ++ Server served ∷ [] → records0 ≡ records → records1 ≡ records0 ++ (port, r) ∷ [] → IsStaged after ps1 records1
+    opened_staged served r ps0 ps1 records0 records1 e f a b g k =
+        let row : Some r ≡ Some (record_of (x []).state) = f ∙ ap (option_map (λ (h : Transfer). record_of h.end)) (found []) in
+        let same : r ≡ record_of (x []).state = cc in
+        subst (λ (qs : List Player). IsStaged after qs records1) (sym (b ∙ (ap (λ (qs : List Player). qs ++ Server served ∷ []) a ∙ ap (λ (s : Served). ps ++ Server s ∷ []) (same_served served [] e))))
+        (subst (λ (rs : List (ℕ × Record)). IsStaged after (ps ++ Server (own []) ∷ []) rs) (sym (k ∙ (ap (λ (rs : List (ℕ × Record)). rs ++ (port, r) ∷ []) g ∙ ap (λ (u : Record). records ++ (port, u) ∷ []) same))) staged_now)
+
+    pub opened_asks : (served : Served) (here : Endpoint) (ps0 ps1 : List Player) (start given : List ℕ) → o ≡ Some served → here ≡ server_at port → ps0 ≡ ps → ps1 ≡ ps0 ++ Server served ∷ [] → start ≡ [] → given ≡ start ++ out →
+        StageAsks from bytes before after ps ps1 (record { from = here; to = opened.to; bytes = given; closed = None })
+    opened_asks served here ps0 ps1 start given e at_here a b empty is_out sent =
+        let d = datagram (x sent).address (x sent).state.newest_to (x sent).state.newest in
+        let bytes_are : given ≡ (x sent).state.newest = is_out ∙ (ap (λ (s : List ℕ). s ++ out) empty ∙ (q sent).sent) in
+        let place : here ≡ (x sent).address = at_here ∙ (ap server_at (port_next ∙ ap (λ (n : ℕ). 1024 + n) (sym (ends_length before.held ps)))
+        ∙ sym (ap (λ (y : OpenedEnd). y.address) (sending_is (w sent) from (q sent).mode (q sent).path (q sent).file (q sent).agreed))) in
+        let goes : opened.to ≡ Some (x sent).state.newest_to = (q sent).to ∙ ap (λ (p : Endpoint). Some p) (sym (sending_newest_to (w sent) from (q sent).mode (q sent).path (q sent).file (q sent).agreed)) in
+        let players : ps1 ≡ ps ++ Server (own sent) ∷ [] = b ∙ (ap (λ (qs : List Player). qs ++ Server served ∷ []) a ∙ ap (λ (s : Served). ps ++ Server s ∷ []) (same_served served sent e)) in
+        let report : report_by sent (record { from = here; to = opened.to; bytes = given; closed = None }) ≡ sent_report (w sent) =
+        ap (λ (p : Option Endpoint). report_by sent (record { from = here; to = p; bytes = given; closed = None })) goes in
+        let new : world_of before.config (sent ++ said_by here opened.to given) after ps1 ≡ opened_in (w sent) (x sent) =
+        ap (λ (p : Endpoint). world_of before.config (sent ++ said_by p opened.to given) after ps1) place
+        ∙ (ap (λ (p : Option Endpoint). world_of before.config (sent ++ said_by (x sent).address p given) after ps1) goes
+        ∙ (ap (λ (bs : List ℕ). world_of before.config (sent ++ datagram (x sent).address (x sent).state.newest_to bs ∷ []) after ps1) bytes_are
+        ∙ (ap (λ (s : Stored). record (world_of before.config (sent ++ d ∷ []) after ps1) { files = s.files }) (ap (λ (s : PlayedServer). s.store) (q sent).new)
+        ∙ (ap (λ (qs : List Player). record (w sent) { sent = sent ++ d ∷ []; ends = ends_of after qs }) players
+        ∙ ap (λ (xs : List OpenedEnd). record (w sent) { sent = sent ++ d ∷ []; ends = xs }) (ends_now sent))))) in
+        subst (λ (r : Report). ArrivesToday (w sent) from request_port bytes r (world_of before.config (sent ++ said_by here opened.to given) after ps1)) (sym report)
+        (At_port refl (has sent) said.0 said.1 (opened_in (w sent) (x sent)) (q sent).serves
+        (new ∙ sym (resting_opened (w sent) (x sent) (ends_rest 1024 before.held ps staged.kept) (sending_open (w sent) from (q sent).mode (q sent).path (q sent).file (q sent).agreed))))

@@ -1,0 +1,323 @@
+-- What a turn at one place makes of all ends of a world, and of the world.
+use Rattle.std.proofs.Common.{◌≡◌, ℕ, suc, zero, ◌+◌, ◌<◌, ◌≤◌, Bool, true, false, List, [], ◌∷◌, ◌++◌, length, map, Option, Some, None, refl, sym, ap, ◌∙◌, subst, arith, inl, inr}
+use Rattle.std.specs.Prelude.{◌⊎◌, is_some, if◌then◌else◌, slice_get, slice_set, slice_index_or, option_map}
+use Rattle.std.proofs.lemmas.Bool.{true≢false}
+use Rattle.std.specs.List.{AllByRecursion}
+use Rattle.std.proofs.Math.ListN.{length-set}
+use Rattle.std.proofs.lemmas.List.{append-nil, set-get_or}
+use Rattle.tftp_player.specs.Requests.{open_transfers}
+use Rattle.std.proofs.lemmas.Option.{slice_get_read}
+use Rattle.tftp_file.specs.declared.files.Files.{Files}
+use Rattle.tftp_file.specs.declared.files.Files.TheVariants.{Source, Sink}
+use Rattle.tftp_file.specs.Sink.{Holding}
+use Rattle.tftp_ends.specs.declared.record.Record.{Record}
+use Rattle.tftp_ends.specs.declared.phase.Terms.{Terms}
+use Rattle.tftp_ends.specs.declared.phase.Phase.TheVariants.{Closed}
+use Rattle.tftp_ends.specs.End.{EndState, is_sender, outcome_of, record_of}
+use Rattle.tftp_ends.specs.Step.{Turn, Reply, reply_bytes, timeout_turn}
+use Rattle.tftp_server.specs.State.{at}
+use Rattle.tftp_server.specs.declared.config.Config.{Config}
+use Rattle.tftp_player.specs.Machine.{Endpoint}
+use Rattle.tftp_player.specs.Clients.{server_at}
+use Rattle.tftp_player.specs.Effect.{effect_of, no_effect, said_by, place_behind, report_by}
+use Rattle.tftp_player.specs.Played.{sending_served, served_end, ended_as, end_at, ends_from, records_from, PlayerKept, IsServed, AllKept, PlayerTimesOut, has_ended, address_of, client_end}
+use Rattle.tftp_player.specs.Serving.{PlayedServer, Transfer, ServedKept}
+use Rattle.tftp_player.specs.Stage.{ends_of, IsStaged, EndTimesOut, StageTimesOut, record_closed, world_of}
+use Rattle.tftp_player.specs.World.{WorldState, OpenedEnd, is_closed, files_of, end_after, at_rest, rest_terms, recorded_terms, closed_state, replied, added_at, closed_at, report_of, no_report}
+use Rattle.tftp_player.specs.WorldSteps.{WorldStep, IsAtPort}
+use Rattle.tftp_player.specs.declared.datagram.Datagram.{Datagram}
+use Rattle.tftp_player.specs.declared.effect.Effect.{Effect}
+use Rattle.tftp_player.specs.declared.event.Event.TheVariants.{Timeout}
+use Rattle.tftp_player.specs.declared.player.Player.{Player}
+use Rattle.tftp_player.specs.declared.player.Player.TheVariants.{Client, Server}
+use Rattle.tftp_player.specs.declared.served.Served.{Served}
+use Rattle.tftp_server.specs.Store.{Stored}
+use Rattle.tftp_player.specs.declared.report.Report.{Report}
+use Rattle.tftp_player.proofs.PlacedEnds.{told-length, told-get, told-set, Kept_from, kept-get, kept-set, is_transfer, transfers-set, transfers-close}
+use Rattle.tftp_player.proofs.Resting.{IsAtRest, at_rest_open, at_rest_twice, at_rest_closed}
+use Rattle.tftp_player.proofs.StageLemmas.{by_port, kept_by_port, Stepped, same_kind, client_steps, client_at_rest, served_steps, served_is, served_kept}
+use Rattle.tftp_player.proofs.StepLemmas.{turned, timeout_step, timeout_rests}
+use Rattle.tftp_player.proofs.TurnKeeps.{timeout_keeps}
+
+-- the ends, one after another
+pub ends_length : (held : List (ℕ × Transfer)) (ps : List Player) → length (ends_from 1024 held ps) ≡ length ps
+ends_length held ps = told-length end_at ends_from (λ port h. refl) (λ port h p qs. refl) 1024 held ps
+
+pub ends_get : (held : List (ℕ × Transfer)) (ps : List Player) (k : ℕ) (p : Player) → slice_get ps k ≡ Some p → slice_get (ends_from 1024 held ps) k ≡ Some (end_at (1024 + k) held p)
+ends_get held ps k p e = told-get end_at ends_from (λ port h. refl) (λ port h q qs. refl) 1024 held ps k p e
+
+pub to_kept : (port : ℕ) (held : List (ℕ × Transfer)) (ps : List Player) → AllKept port held ps → Kept_from PlayerKept port held ps
+to_kept port held [] k = tt
+to_kept port held (p ∷ ps) k = (k.0, to_kept (port + 1) held ps k.1)
+
+pub from_kept : (port : ℕ) (held : List (ℕ × Transfer)) (ps : List Player) → Kept_from PlayerKept port held ps → AllKept port held ps
+from_kept port held [] k = tt
+from_kept port held (p ∷ ps) k = (k.0, from_kept (port + 1) held ps k.1)
+
+pub kept_at : (held : List (ℕ × Transfer)) (ps : List Player) (k : ℕ) (p : Player) → AllKept 1024 held ps → slice_get ps k ≡ Some p → PlayerKept (1024 + k) held p
+kept_at held ps k p all e = kept-get PlayerKept 1024 held ps k p (to_kept 1024 held ps all) e
+
+-- what is recorded at a place
+pub records_get : (port : ℕ) (ends : List OpenedEnd) (k : ℕ) (x : OpenedEnd) → slice_get ends k ≡ Some x → slice_get (records_from port ends) k ≡ Some (port + k, record_of x.state)
+records_get port [] k x e = absurd (let f : None ≡ Some x = e in cc)
+records_get port (y ∷ ends) zero x e =
+    let same : y ≡ x = cc in
+    let here : port ≡ port + zero = omega arith in
+    ap (λ (z : OpenedEnd). Some (port, record_of z.state)) same ∙ ap (λ (n : ℕ). Some (n, record_of x.state)) here
+records_get port (y ∷ ends) (suc k) x e =
+    let there : port + 1 + k ≡ port + suc k = omega arith in
+    records_get (port + 1) ends k x e ∙ ap (λ (n : ℕ). Some (n, record_of x.state)) there
+
+pub records_set : (port : ℕ) (ends : List OpenedEnd) (k : ℕ) (y : OpenedEnd) → records_from port (slice_set ends k y) ≡ slice_set (records_from port ends) k (port + k, record_of y.state)
+records_set port [] k y = refl
+records_set port (x ∷ ends) zero y =
+    let here : port ≡ port + zero = omega arith in
+    ap (λ (n : ℕ). (n, record_of y.state) ∷ records_from (port + 1) ends) here
+records_set port (x ∷ ends) (suc k) y =
+    let there : port + 1 + k ≡ port + suc k = omega arith in
+    ap (λ (rs : List (ℕ × Record)). (port, record_of x.state) ∷ rs) (records_set (port + 1) ends k y)
+    ∙ ap (λ (n : ℕ). (port, record_of x.state) ∷ slice_set (records_from (port + 1) ends) k (n, record_of y.state)) there
+
+-- ---- a turn at one place
+module _ (place : ℕ) (before after : PlayedServer) (ps : List Player) (p p' : Player) (turn : Turn) (held : Files (List ℕ) Holding) (effect : Effect) (r : Record)
+    (t : Stepped (1024 + place) (end_at (1024 + place) before.held p) p' before after turn held effect r) where
+  set_ends : ends_of after (slice_set ps place p') ≡ slice_set (ends_of before ps) place (end_at (1024 + place) after.held p')
+  set_ends = told-set end_at ends_from (λ port h. refl) (λ port h q qs. refl) by_port 1024 before.held after.held ps place p' t.others
+
+  pub turn_ends : ends_of after (slice_set ps place p') ≡ slice_set (ends_of before ps) place (at_rest (end_after (end_at (1024 + place) before.held p) turn held))
+  turn_ends = set_ends ∙ ap (λ (y : OpenedEnd). slice_set (ends_of before ps) place y) t.end
+
+  pub turn_staged : (records : List (ℕ × Record)) → slice_get ps place ≡ Some p → IsStaged before ps records → IsStaged after (slice_set ps place p') (slice_set records place (1024 + place, r))
+  turn_staged records there staged = record {
+    kept = from_kept 1024 after.held (slice_set ps place p') (kept-set PlayerKept kept_by_port 1024 before.held after.held ps place p' t.others (to_kept 1024 before.held ps staged.kept) t.kept);
+    recorded =
+        ap (λ (rs : List (ℕ × Record)). slice_set rs place (1024 + place, r)) staged.recorded
+        ∙ (ap (λ (q : Record). slice_set (records_from 1024 (ends_of before ps)) place (1024 + place, q)) t.recorded
+        ∙ (sym (records_set 1024 (ends_of before ps) place (end_at (1024 + place) after.held p')) ∙ ap (records_from 1024) (sym set_ends)));
+    below = subst (λ (n : ℕ). AllByRecursion (λ (e : ℕ × Transfer). e.0 < 1024 + n) after.held) (sym (length-set ps place p')) (t.below (1024 + length ps) staged.below);
+    count = counted_still t.counted ∙ ap open_transfers (sym set_ends);
+  } where
+    counted_still : ((is_transfer (end_at (1024 + place) after.held p') ≡ is_transfer (end_at (1024 + place) before.held p)) × (length after.held ≡ length before.held))
+        ⊎ ((is_transfer (end_at (1024 + place) before.held p) ≡ true) × (is_transfer (end_at (1024 + place) after.held p') ≡ false) × (suc (length after.held) ≡ length before.held)) →
+        length after.held ≡ open_transfers (slice_set (ends_of before ps) place (end_at (1024 + place) after.held p'))
+    counted_still (inl same) =
+        same.1 ∙ (staged.count ∙ sym (transfers-set (ends_of before ps) place (end_at (1024 + place) before.held p) (end_at (1024 + place) after.held p') (ends_get before.held ps place p there) same.0))
+    counted_still (inr closed) =
+        let n = transfers-close (ends_of before ps) place (end_at (1024 + place) before.held p) (end_at (1024 + place) after.held p') (ends_get before.held ps place p there) closed.0 closed.1 in
+        let m = staged.count in
+        let k = closed.2 in
+        omega (arith, n, m, k)
+
+-- ---- a timeout
+pub sender_of : (port : ℕ) (s : Served) (held : List (ℕ × Transfer)) (h : Transfer) → at port held ≡ Some h → ServedKept port s held → is_sender h.end.side ≡ true
+sender_of port s held h found k = ap (λ (t : Transfer). is_sender t.end.side) (let f : Some h ≡ Some k.transfer = sym found ∙ k.found in let g : h ≡ k.transfer = cc in g) ∙ k.sender
+
+restated : (port : ℕ) (x : OpenedEnd) (p' : Player) (before after : PlayedServer) (turn turn' : Turn) (held held' : Files (List ℕ) Holding) (effect : Effect) (r : Record) → turn ≡ turn' → held ≡ held' →
+    Stepped port x p' before after turn held effect r → Stepped port x p' before after turn' held' effect r
+restated port x p' before after turn turn' held held' effect r e f s =
+    subst (λ (h : Files (List ℕ) Holding). Stepped port x p' before after turn' h effect r) f (subst (λ (u : Turn). Stepped port x p' before after u held effect r) e s)
+
+pub sending_files : (port : ℕ) (s : Served) (e : EndState) (left : List ℕ) → is_sender e.side ≡ true → files_of (sending_served port s e left) ≡ Source left
+sending_files port s e left sender = ap (λ (b : Bool). if b then Source left else Sink (record { bytes = []; committed = false; refuses = false })) sender
+
+pub player_times_out : (port : ℕ) (p p' : Player) (before after : PlayedServer) (effect : Effect) (r : Record) →
+    PlayerKept port before.held p → has_ended p ≡ false → PlayerTimesOut port p p' before after effect r →
+    Stepped port (end_at port before.held p) p' before after (timeout_turn (end_at port before.held p).state) (files_of (end_at port before.held p)) effect r
+player_times_out port (Client c) (Client c') before after effect r kept open_now t =
+    let x = client_at_rest port c before.held kept.1 open_now in
+    restated port (end_at port before.held (Client c)) (Client c') before after (timeout_turn c.end) _ c.files _ effect r
+    (ap timeout_turn (sym (ap (λ (y : OpenedEnd). y.state) x.1 ∙ x.2)))
+    (sym (ap files_of x.1 ∙ x.3))
+    (client_steps port c c' before after (timeout_turn c.end) c.files effect r kept open_now t.0 t.1 (same_kind c.files) (timeout_keeps c.end))
+player_times_out port (Server s) (Server s') before after effect r kept open_now t =
+    let x : end_at port before.held (Server s) ≡ sending_served port s t.0.end t.1 = served_is port s before.held t.0 t.1 open_now t.2 t.3 in
+    let sender : is_sender t.0.end.side ≡ true = sender_of port s before.held t.0 t.2 (served_kept port s before.held open_now kept) in
+    restated port (end_at port before.held (Server s)) (Server s') before after (timeout_turn t.0.end) _ (Source t.1) _ effect r
+    (ap timeout_turn (sym (ap (λ (y : OpenedEnd). y.state) x)))
+    (sym (ap files_of x ∙ sending_files port s t.0.end t.1 sender))
+    (served_steps port s s' before after t.0 t.1 (timeout_turn t.0.end) t.1 effect r t.2 t.3 open_now kept (timeout_keeps t.0.end) t.4)
+player_times_out port (Client c) (Server s') before after effect r kept open_now t = absurd t
+player_times_out port (Server s) (Client c') before after effect r kept open_now t = absurd t
+
+-- an end that is open in the world is open where it is played
+ended_by : (port : ℕ) (s : Served) (o : Option Record) (h : Option Transfer) → is_closed (served_end port s o h) ≡ false → is_some o ≡ false
+ended_by port s None h e = refl
+ended_by port s (Some r) h e = absurd (true≢false e)
+
+pub has_not_ended : (port : ℕ) (held : List (ℕ × Transfer)) (p : Player) → is_closed (end_at port held p) ≡ false → has_ended p ≡ false
+has_not_ended port held (Client c) e = sym (at_rest_closed (client_end port c)) ∙ e
+has_not_ended port held (Server s) e = ended_by port s s.ended (at port held) e
+
+-- what is recorded says whether it is closed
+pub closed_is : (server : PlayedServer) (ps : List Player) (records : List (ℕ × Record)) (k : ℕ) (p : Player) → IsStaged server ps records → slice_get ps k ≡ Some p →
+    record_closed (slice_get records k) ≡ is_closed (end_at (1024 + k) server.held p)
+closed_is server ps records k p staged e =
+    ap (λ (rs : List (ℕ × Record)). record_closed (slice_get rs k)) staged.recorded
+    ∙ ap record_closed (records_get 1024 (ends_of server ps) k (end_at (1024 + k) server.held p) (ends_get server.held ps k p e))
+
+pub stage_times_out : (place : ℕ) (before after : PlayedServer) (ps : List Player) (p p' : Player) (effect : Effect) (r : Record) → slice_get ps place ≡ Some p →
+    Stepped (1024 + place) (end_at (1024 + place) before.held p) p' before after (timeout_turn (end_at (1024 + place) before.held p).state) (files_of (end_at (1024 + place) before.held p)) effect r →
+    StageTimesOut place before after ps (slice_set ps place p') effect
+stage_times_out place before after ps p p' effect r e t =
+    let x = end_at (1024 + place) before.held p in
+    record {
+      end = x;
+      found = ends_get before.held ps place p e;
+      times_out = subst (λ (b : Bool). EndTimesOut b place x (ends_of before ps) (ends_of after (slice_set ps place p')) effect) (sym t.open_now)
+          (record { effects = t.effects; next = turn_ends place before after ps p p' (timeout_turn x.state) (files_of x) effect r t });
+      same = t.same;
+    }
+
+pub stage_rests : (place : ℕ) (server : PlayedServer) (ps : List Player) (p : Player) (effect : Effect) → slice_get ps place ≡ Some p → is_closed (end_at (1024 + place) server.held p) ≡ true →
+    effect ≡ no_effect (end_at (1024 + place) server.held p).address → StageTimesOut place server server ps ps effect
+stage_rests place server ps p effect e closed is =
+    let x = end_at (1024 + place) server.held p in
+    record {
+      end = x;
+      found = ends_get server.held ps place p e;
+      times_out = subst (λ (b : Bool). EndTimesOut b place x (ends_of server ps) (ends_of server ps) effect) (sym closed) (record { effects = is; next = refl });
+      same = record { config = refl; store = refl };
+    }
+
+-- ---- the world
+peers_rest : (r : Record) (o : Option Endpoint) → option_map rest_terms (recorded_terms r o) ≡ recorded_terms r o
+peers_rest r None = refl
+peers_rest r (Some peer) = refl
+
+served_rests : (port : ℕ) (s : Served) (held : List (ℕ × Transfer)) (o : Option Record) → IsServed port s o held → at_rest (served_end port s o (at port held)) ≡ served_end port s o (at port held)
+served_rests port s held (Some r) k =
+    ap (λ (terms : Option Terms). sending_served port s (record (closed_state s.mode r (ended_as r.outcome)) { phase = Closed terms r.number r.complete (ended_as r.outcome) }) []) (peers_rest r r.peer)
+served_rests port s held None k = subst (λ (h : Option Transfer). at_rest (served_end port s None h) ≡ served_end port s None h) (sym k.found) (at_rest_open (served_end port s None (Some k.transfer)) k.is_open)
+
+pub ends_rest : (port : ℕ) (held : List (ℕ × Transfer)) (ps : List Player) → AllKept port held ps → map at_rest (ends_from port held ps) ≡ ends_from port held ps
+ends_rest port held [] k = refl
+ends_rest port held (p ∷ ps) k =
+    ap (λ (x : OpenedEnd). x ∷ map at_rest (ends_from (port + 1) held ps)) (one p k.0) ∙ ap (λ (xs : List OpenedEnd). end_at port held p ∷ xs) (ends_rest (port + 1) held ps k.1) where
+      one : (q : Player) → PlayerKept port held q → at_rest (end_at port held q) ≡ end_at port held q
+      one (Client c) h = at_rest_twice (client_end port c)
+      one (Server s) h = served_rests port s held s.ended h
+
+-- what goes out is the world's datagram, and what is reported its report
+pub said_is : (at : Endpoint) (reply : Option Reply) → said_by at (option_map (λ (q : Reply). q.to) reply) (reply_bytes reply) ≡ replied at reply
+said_is at None = refl
+said_is at (Some reply) = refl
+
+placed_is : (w : WorldState) (reply : Option Reply) → place_behind w.sent (option_map (λ (q : Reply). q.to) reply) ≡ added_at w reply
+placed_is w None = refl
+placed_is w (Some reply) = refl
+
+pub report_is : (w : WorldState) (x : OpenedEnd) (turn : Turn) (effect : Effect) → effect ≡ effect_of x.address turn → report_by w.sent effect ≡ report_of w x turn
+report_is w x turn effect e =
+    ap (report_by w.sent) e ∙ ap (λ (a : Option ℕ). record { added = a; closed = closed_at x.address (outcome_of turn.end.phase) }) (placed_is w turn.reply)
+
+timed_by : (b : Bool) (config : Config) (sent : List Datagram) (place : ℕ) (before after : PlayedServer) (ps ps' : List Player) (effect : Effect) (port : ℕ) (x : OpenedEnd) →
+    IsAtRest (world_of config sent before ps) → IsAtPort (world_of config sent before ps) port place x → is_closed x ≡ b →
+    after.store ≡ before.store → EndTimesOut b place x (ends_of before ps) (ends_of after ps') effect →
+    WorldStep (world_of config sent before ps) (Timeout port) (report_by sent effect) (world_of config (sent ++ said_by effect.from effect.to effect.bytes) after ps')
+timed_by true config sent place before after ps ps' effect port x rest at closed store t =
+    let w = world_of config sent before ps in
+    let report : report_by sent effect ≡ no_report = ap (report_by sent) t.effects in
+    let same : world_of config (sent ++ said_by effect.from effect.to effect.bytes) after ps' ≡ w =
+    ap (λ (e : Effect). world_of config (sent ++ said_by e.from e.to e.bytes) after ps') t.effects
+    ∙ (ap (λ (ds : List Datagram). world_of config ds after ps') (append-nil sent)
+    ∙ (ap (λ (s : Stored). record w { files = s.files; ends = ends_of after ps' }) store ∙ ap (λ (xs : List OpenedEnd). record w { ends = xs }) t.next)) in
+    subst (λ (r : Report). WorldStep w (Timeout port) r (world_of config (sent ++ said_by effect.from effect.to effect.bytes) after ps')) (sym report)
+    (subst (λ (v : WorldState). WorldStep w (Timeout port) no_report v) (sym same) (timeout_rests w port place x rest at closed))
+timed_by false config sent place before after ps ps' effect port x rest at open_now store t =
+    let w = world_of config sent before ps in
+    let turn = timeout_turn x.state in
+    let same : world_of config (sent ++ said_by effect.from effect.to effect.bytes) after ps' ≡ turned w place x turn (files_of x) =
+    ap (λ (e : Effect). world_of config (sent ++ said_by e.from e.to e.bytes) after ps') t.effects
+    ∙ (ap (λ (ds : List Datagram). world_of config (sent ++ ds) after ps') (said_is x.address turn.reply)
+    ∙ (ap (λ (s : Stored). record w { sent = sent ++ replied x.address turn.reply; files = s.files; ends = ends_of after ps' }) store
+    ∙ ap (λ (xs : List OpenedEnd). record w { sent = sent ++ replied x.address turn.reply; ends = xs }) t.next)) in
+    subst (λ (r : Report). WorldStep w (Timeout port) r (world_of config (sent ++ said_by effect.from effect.to effect.bytes) after ps')) (sym (report_is w x turn effect t.effects))
+    (subst (λ (v : WorldState). WorldStep w (Timeout port) (report_of w x turn) v) (sym same) (timeout_step w port place x rest at open_now))
+
+pub world_timed_out : (config : Config) (sent : List Datagram) (place : ℕ) (before after : PlayedServer) (ps ps' : List Player) (effect : Effect) (port : ℕ) → port ≡ 1024 + place →
+    AllKept 1024 before.held ps → StageTimesOut place before after ps ps' effect →
+    WorldStep (world_of config sent before ps) (Timeout port) (report_by sent effect) (world_of config (sent ++ said_by effect.from effect.to effect.bytes) after ps')
+world_timed_out config sent place before after ps ps' effect port is kept t =
+    timed_by (is_closed t.end) config sent place before after ps ps' effect port t.end (ends_rest 1024 before.held ps kept) (record { is = is; there = t.found }) refl t.same.store t.times_out
+
+-- what an index reads
+pub list_get : {A : Type 0} (xs : List A) (k : ℕ) (x : A) → k < length xs → x ≡ slice_index_or xs k x → slice_get xs k ≡ Some x
+list_get xs k x within e = slice_get_read xs (length xs) k x refl within e
+
+records_length : (port : ℕ) (ends : List OpenedEnd) → length (records_from port ends) ≡ length ends
+records_length port [] = refl
+records_length port (x ∷ ends) = ap suc (records_length (port + 1) ends)
+
+served_address : (port : ℕ) (s : Served) (o : Option Record) (h : Option Transfer) → (served_end port s o h).address ≡ server_at port
+served_address port s (Some r) h = refl
+served_address port s None (Some h) = refl
+served_address port s None None = refl
+
+pub address_is : (port : ℕ) (held : List (ℕ × Transfer)) (p : Player) → (end_at port held p).address ≡ address_of port p
+address_is port held (Client c) = refl
+address_is port held (Server s) = served_address port s s.ended (at port held)
+
+-- what is known of the player at a place that is read
+module _ (server : PlayedServer) (ps : List Player) (records : List (ℕ × Record)) (place port : ℕ) (p : Player)
+    (staged : IsStaged server ps records) (at_place : (place < length ps) × (port ≡ 1024 + place)) (reads : p ≡ slice_index_or ps place p) where
+  is_there : slice_get ps place ≡ Some p
+  is_there = list_get ps place p at_place.0 reads
+
+  read_back : slice_set ps place p ≡ ps
+  read_back = ap (slice_set ps place) reads ∙ set-get_or ps place p
+
+  pub read_kept : PlayerKept port server.held p
+  read_kept = subst (λ (n : ℕ). PlayerKept n server.held p) (sym at_place.1) (kept_at server.held ps place p staged.kept is_there)
+
+  recorded_as : (b c : Bool) → b ≡ record_closed (slice_get records place) → b ≡ c → is_closed (end_at (1024 + place) server.held p) ≡ c
+  recorded_as b c told is = sym (closed_is server ps records place p staged is_there) ∙ (sym told ∙ is)
+
+  pub read_open : (b : Bool) → b ≡ record_closed (slice_get records place) → b ≡ false → has_ended p ≡ false
+  read_open b told is = has_not_ended (1024 + place) server.held p (recorded_as b false told is)
+
+  pub records_within : place < length records
+  records_within =
+      let n : length records ≡ length ps = ap length staged.recorded ∙ (records_length 1024 (ends_of server ps) ∙ ends_length server.held ps) in
+      let w = at_place.0 in
+      omega (arith, n)
+
+  pub rests_staged : (b : Bool) (here : Endpoint) (effect : Effect) → b ≡ record_closed (slice_get records place) → b ≡ true → here ≡ address_of port p → effect ≡ no_effect here →
+      StageTimesOut place server server ps (slice_set ps place p) effect
+  rests_staged b here effect told is address effects =
+      subst (λ (qs : List Player). StageTimesOut place server server ps qs effect) (sym read_back)
+      (stage_rests place server ps p effect is_there (recorded_as b true told is)
+      (effects ∙ ap no_effect (address ∙ (ap (λ (n : ℕ). address_of n p) at_place.1 ∙ sym (address_is (1024 + place) server.held p)))))
+
+  stepped_here : (b : Bool) (p' : Player) (after : PlayedServer) (effect : Effect) (r : Record) → b ≡ record_closed (slice_get records place) → b ≡ false →
+      PlayerTimesOut port p p' server after effect r →
+      Stepped (1024 + place) (end_at (1024 + place) server.held p) p' server after (timeout_turn (end_at (1024 + place) server.held p).state) (files_of (end_at (1024 + place) server.held p)) effect r
+  stepped_here b p' after effect r told is t =
+      player_times_out (1024 + place) p p' server after effect r (kept_at server.held ps place p staged.kept is_there) (read_open b told is)
+      (subst (λ (n : ℕ). PlayerTimesOut n p p' server after effect r) at_place.1 t)
+
+  pub times_out_staged : (b : Bool) (p' : Player) (after : PlayedServer) (effect : Effect) (r : Record) → b ≡ record_closed (slice_get records place) → b ≡ false →
+      PlayerTimesOut port p p' server after effect r → StageTimesOut place server after ps (slice_set ps place p') effect
+  times_out_staged b p' after effect r told is t =
+      stage_times_out place server after ps p p' effect r is_there (stepped_here b p' after effect r told is t)
+
+  pub times_out_keeps : (b : Bool) (p' : Player) (after : PlayedServer) (effect : Effect) (r : Record) → b ≡ record_closed (slice_get records place) → b ≡ false →
+      PlayerTimesOut port p p' server after effect r → IsStaged after (slice_set ps place p') (slice_set records place (port, r))
+  times_out_keeps b p' after effect r told is t =
+      let x = end_at (1024 + place) server.held p in
+      subst (λ (n : ℕ). IsStaged after (slice_set ps place p') (slice_set records place (n, r))) (sym at_place.1)
+      (turn_staged place server after ps p p' (timeout_turn x.state) (files_of x) effect r (stepped_here b p' after effect r told is t) records is_there staged)
+
+-- the same, where what was sent is told by equations
+pub timeout_result : (config : Config) (sent : List Datagram) (place : ℕ) (before after : PlayedServer) (ps ps' : List Player) (effect : Effect) (port : ℕ) (old : WorldState) (sent0 sent1 : List Datagram) (report : Report) →
+    world_of config sent before ps ≡ old → port ≡ 1024 + place → AllKept 1024 before.held ps → StageTimesOut place before after ps ps' effect →
+    sent0 ≡ sent → sent1 ≡ sent0 ++ said_by effect.from effect.to effect.bytes → report ≡ report_by sent0 effect →
+    WorldStep old (Timeout port) report (world_of config sent1 after ps')
+timeout_result config sent place before after ps ps' effect port old sent0 sent1 report view is kept t same more tells =
+    subst (λ (w : WorldState). WorldStep w (Timeout port) report (world_of config sent1 after ps')) view
+    (subst (λ (r : Report). WorldStep (world_of config sent before ps) (Timeout port) r (world_of config sent1 after ps')) (sym (tells ∙ ap (λ (ds : List Datagram). report_by ds effect) same))
+    (subst (λ (ds : List Datagram). WorldStep (world_of config sent before ps) (Timeout port) (report_by sent effect) (world_of config ds after ps')) (sym (more ∙ ap (λ (ds : List Datagram). ds ++ said_by effect.from effect.to effect.bytes) same))
+    (world_timed_out config sent place before after ps ps' effect port is kept t)))
+
+pub none_here : (server : PlayedServer) (ps : List Player) (count port : ℕ) → count ≡ length ps → (port < 1024) ⊎ (1024 + count ≤ port) → (port < 1024) ⊎ (1024 + length (ends_of server ps) ≤ port)
+none_here server ps count port e (inl low) = inl low
+none_here server ps count port e (inr high) = let n = ends_length server.held ps in let h : 1024 + length (ends_of server ps) ≤ port = omega (arith, n, e, high) in inr h

@@ -1,0 +1,123 @@
+-- An end that is told to refuse its next append or commit.
+use Rattle.std.proofs.Common.{◌≡◌, ℕ, ◌+◌, ◌<◌, Bool, true, false, List, length, Some, refl, sym, ap, ◌∙◌, subst}
+use Rattle.std.specs.Prelude.{is_some, if◌then◌else◌, slice_get, slice_set, slice_index_or}
+use Rattle.std.specs.List.{AllByRecursion}
+use Rattle.std.proofs.Math.ListN.{length-set}
+use Rattle.std.proofs.lemmas.List.{set-get_or}
+use Rattle.std.proofs.lemmas.Option.{get_or_from_slice_get}
+use Rattle.tftp_file.specs.declared.files.Files.{Files}
+use Rattle.tftp_file.specs.declared.files.Files.TheVariants.{Source, Sink}
+use Rattle.tftp_file.specs.Sink.{Holding}
+use Rattle.tftp_ends.specs.declared.record.Record.{Record}
+use Rattle.tftp_ends.specs.End.{is_sender, is_client, outcome_of, record_of}
+use Rattle.tftp_ends.specs.Files.{AreFilesOf}
+use Rattle.tftp_server.specs.declared.config.Config.{Config}
+use Rattle.tftp_player.specs.Clients.{told_files}
+use Rattle.tftp_player.specs.Played.{client_end, end_at, ends_from, records_from, PlayerKept, told_player}
+use Rattle.tftp_player.specs.PlayedClient.{PlayedClient}
+use Rattle.tftp_player.specs.Requests.{open_transfers}
+use Rattle.tftp_player.specs.Serving.{PlayedServer, Transfer}
+use Rattle.tftp_player.specs.Stage.{ends_of, IsStaged, world_of}
+use Rattle.tftp_player.specs.World.{WorldState, OpenedEnd, is_closed, at_rest, no_report}
+use Rattle.tftp_player.specs.WorldSteps.{WorldStep, told_to_refuse}
+use Rattle.tftp_player.specs.declared.datagram.Datagram.{Datagram}
+use Rattle.tftp_player.specs.declared.event.Event.TheVariants.{RefuseStore}
+use Rattle.tftp_player.specs.declared.player.Player.{Player}
+use Rattle.tftp_player.specs.declared.player.Player.TheVariants.{Client, Server}
+use Rattle.tftp_player.proofs.PlacedEnds.{told-set, kept-set, is_transfer, transfers-set}
+use Rattle.tftp_player.proofs.PlayLemmas.{ends_get, kept_at, list_get, to_kept, from_kept, ends_rest, records_get, records_set}
+use Rattle.tftp_player.proofs.Resting.{at_rest_open, at_rest_closed}
+use Rattle.tftp_player.proofs.StageLemmas.{by_port, kept_by_port}
+use Rattle.tftp_player.proofs.StepLemmas.{refuse_step}
+use Rattle.tftp_player.proofs.TellingLemmas.{served_stores}
+
+-- a sender and a closed end are told nothing
+told_sender : (x : OpenedEnd) → is_sender x.state.side ≡ true → told_to_refuse x ≡ x
+told_sender x e = ap (λ (b : Bool). if b then x else if is_closed x then x else record x { refuses = true }) e
+
+by_both : (x : OpenedEnd) (b : Bool) → (if b then x else x) ≡ x
+by_both x true = refl
+by_both x false = refl
+
+told_closed : (x : OpenedEnd) → is_closed x ≡ true → told_to_refuse x ≡ x
+told_closed x e = ap (λ (b : Bool). if is_sender x.state.side then x else if b then x else record x { refuses = true }) e ∙ by_both x (is_sender x.state.side)
+
+told_open : (x : OpenedEnd) → is_sender x.state.side ≡ false → is_closed x ≡ false → told_to_refuse x ≡ record x { refuses = true }
+told_open x e f =
+    ap (λ (b : Bool). if b then x else if is_closed x then x else record x { refuses = true }) e ∙ ap (λ (b : Bool). if b then x else record x { refuses = true }) f
+
+client_told_in : (port : ℕ) (c : PlayedClient) (files : Files (List ℕ) Holding) → AreFilesOf c.end.side files → is_some (outcome_of c.end.phase) ≡ false →
+    client_end port (record { end = c.end; files = told_files files; file = c.file }) ≡ told_to_refuse (client_end port (record { end = c.end; files = files; file = c.file }))
+client_told_in port c (Source left) fits open_now = sym (told_sender (client_end port (record { end = c.end; files = Source left; file = c.file })) fits)
+client_told_in port c (Sink holding) fits open_now = sym (told_open (client_end port (record { end = c.end; files = Sink holding; file = c.file })) fits open_now)
+
+fits_told : (side : _) (files : Files (List ℕ) Holding) → AreFilesOf side files → AreFilesOf side (told_files files)
+fits_told side (Source left) f = f
+fits_told side (Sink holding) f = f
+
+-- a client, by whether it is closed
+client_told : (port : ℕ) (c : PlayedClient) (b : Bool) → is_some (outcome_of c.end.phase) ≡ b → AreFilesOf c.end.side c.files →
+    at_rest (client_end port (if b then c else record c { files = told_files c.files })) ≡ told_to_refuse (at_rest (client_end port c))
+client_told port c true e fits = sym (told_closed (at_rest (client_end port c)) (at_rest_closed (client_end port c) ∙ e))
+client_told port c false e fits =
+    at_rest_open (client_end port (record c { files = told_files c.files })) e
+    ∙ (client_told_in port c c.files fits e ∙ ap told_to_refuse (sym (at_rest_open (client_end port c) e)))
+
+kept_told : (c : PlayedClient) (b : Bool) → (is_client c.end.side ≡ true) × AreFilesOf c.end.side c.files →
+    (is_client (if b then c else record c { files = told_files c.files }).end.side ≡ true) × AreFilesOf (if b then c else record c { files = told_files c.files }).end.side (if b then c else record c { files = told_files c.files }).files
+kept_told c true k = (k.0, k.1)
+kept_told c false k = (k.0, fits_told c.end.side c.files k.1)
+
+pub player_told : (port : ℕ) (held : List (ℕ × Transfer)) (p : Player) → PlayerKept port held p →
+    (end_at port held (told_player p) ≡ told_to_refuse (end_at port held p)) × PlayerKept port held (told_player p)
+player_told port held (Client c) k = (client_told port c (is_some (outcome_of c.end.phase)) refl k.1, kept_told c (is_some (outcome_of c.end.phase)) (k.0, k.1))
+player_told port held (Server s) k = (sym (told_sender (end_at port held (Server s)) (served_stores port s s.ended held k).0), k)
+
+-- only the flag changed
+flag_only : (x : OpenedEnd) (b c : Bool) → (record_of (if b then x else if c then x else record x { refuses = true }).state ≡ record_of x.state) × (is_transfer (if b then x else if c then x else record x { refuses = true }) ≡ is_transfer x)
+flag_only x true c = (refl, refl)
+flag_only x false true = (refl, refl)
+flag_only x false false = (refl, refl)
+
+module _ (config : Config) (sent : List Datagram) (server : PlayedServer) (ps : List Player) (records : List (ℕ × Record)) (old : WorldState) (view : world_of config sent server ps ≡ old) (staged : IsStaged server ps records)
+    (port place : ℕ) (p : Player) (within : place < length ps) (is : port ≡ 1024 + place) (reads : p ≡ slice_index_or ps place p) where
+  abbrev x : OpenedEnd
+  x = end_at (1024 + place) server.held p
+
+  there : slice_get ps place ≡ Some p
+  there = list_get ps place p within reads
+
+  told : (end_at (1024 + place) server.held (told_player p) ≡ told_to_refuse x) × PlayerKept (1024 + place) server.held (told_player p)
+  told = player_told (1024 + place) server.held p (kept_at server.held ps place p staged.kept there)
+
+  same_flags : (record_of (told_to_refuse x).state ≡ record_of x.state) × (is_transfer (told_to_refuse x) ≡ is_transfer x)
+  same_flags = flag_only x (is_sender x.state.side) (is_closed x)
+
+  new_ends : ends_of server (slice_set ps place (told_player p)) ≡ slice_set (ends_of server ps) place (told_to_refuse x)
+  new_ends =
+      told-set end_at ends_from (λ q h. refl) (λ q h r rs. refl) by_port 1024 server.held server.held ps place (told_player p) (λ other n. refl)
+      ∙ ap (λ (y : OpenedEnd). slice_set (ends_of server ps) place y) told.0
+
+  pub refused_staged : IsStaged server (slice_set ps place (told_player p)) records
+  refused_staged = record {
+    kept = from_kept 1024 server.held (slice_set ps place (told_player p)) (kept-set PlayerKept kept_by_port 1024 server.held server.held ps place (told_player p) (λ other n. refl) (to_kept 1024 server.held ps staged.kept) told.1);
+    recorded = staged.recorded ∙ (sym same_records ∙ ap (records_from 1024) (sym new_ends));
+    below = subst (λ (n : ℕ). AllByRecursion (λ (e : ℕ × Transfer). e.0 < 1024 + n) server.held) (sym (length-set ps place (told_player p))) staged.below;
+    count = staged.count ∙ (sym (transfers-set (ends_of server ps) place x (told_to_refuse x) (ends_get server.held ps place p there) same_flags.1) ∙ ap open_transfers (sym new_ends));
+  } where
+    row : ℕ × Record
+    row = (1024 + place, record_of x.state)
+
+    same_records : records_from 1024 (slice_set (ends_of server ps) place (told_to_refuse x)) ≡ records_from 1024 (ends_of server ps)
+    same_records =
+        records_set 1024 (ends_of server ps) place (told_to_refuse x)
+        ∙ (ap (λ (r : Record). slice_set (records_from 1024 (ends_of server ps)) place (1024 + place, r)) same_flags.0
+        ∙ (ap (slice_set (records_from 1024 (ends_of server ps)) place) (sym (get_or_from_slice_get (records_from 1024 (ends_of server ps)) place row row (records_get 1024 (ends_of server ps) place x (ends_get server.held ps place p there))))
+        ∙ set-get_or (records_from 1024 (ends_of server ps)) place row))
+
+  pub refused_step : WorldStep old (RefuseStore port) no_report (world_of config sent server (slice_set ps place (told_player p)))
+  refused_step =
+      let w = world_of config sent server ps in
+      subst (λ (v : WorldState). WorldStep v (RefuseStore port) no_report (world_of config sent server (slice_set ps place (told_player p)))) view
+      (subst (λ (v : WorldState). WorldStep w (RefuseStore port) no_report v) (sym (ap (λ (xs : List OpenedEnd). record w { ends = xs }) new_ends))
+      (refuse_step w port place x (ends_rest 1024 server.held ps staged.kept) (record { is = is; there = ends_get server.held ps place p there })))

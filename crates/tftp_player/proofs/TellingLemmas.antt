@@ -1,0 +1,100 @@
+-- What a world tells of the end at a port, and an end that is told to refuse.
+use Rattle.std.proofs.Common.{◌≡◌, ℕ, ◌+◌, ◌-◌, ◌<◌, ◌≤◌, Bool, true, false, List, length, Option, Some, None, refl, sym, ap, ◌∙◌, subst, arith, inl, inr}
+use Rattle.std.specs.Prelude.{◌⊎◌, nat_lt, if◌then◌else◌, unwrap_or, slice_get, slice_index_or, option_map, option_and_then}
+use Rattle.std.proofs.lemmas.Bool.{true≢false}
+use Rattle.std.proofs.lemmas.Bool.Decides.{nat_tests}
+use Rattle.std.proofs.lemmas.Option.{slice_get_past}
+use Rattle.tftp_file.specs.declared.files.Files.{Files}
+use Rattle.tftp_file.specs.declared.files.Files.TheVariants.{Source, Sink}
+use Rattle.tftp_file.specs.Sink.{Holding}
+use Rattle.tftp_ends.specs.declared.record.Record.{Record}
+use Rattle.tftp_ends.specs.End.{is_sender}
+use Rattle.tftp_ends.specs.Files.{AreFilesOf}
+use Rattle.tftp_server.specs.State.{at}
+use Rattle.tftp_server.specs.declared.config.Config.{Config}
+use Rattle.tftp_player.specs.Clients.{stored_by, holding_in}
+use Rattle.tftp_player.specs.Played.{client_end, served_end, end_at, PlayerKept, IsServed, stored_of, committed_of}
+use Rattle.tftp_player.specs.PlayedClient.{PlayedClient}
+use Rattle.tftp_player.specs.Serving.{PlayedServer, Transfer}
+use Rattle.tftp_player.specs.Stage.{ends_of, IsStaged, world_of, opened_at, stored_in, stored_at, committed_at}
+use Rattle.tftp_player.specs.World.{WorldState, OpenedEnd, at_rest}
+use Rattle.tftp_player.specs.declared.datagram.Datagram.{Datagram}
+use Rattle.tftp_player.specs.declared.player.Player.{Player}
+use Rattle.tftp_player.specs.declared.player.Player.TheVariants.{Client, Server}
+use Rattle.tftp_player.specs.declared.served.Served.{Served}
+use Rattle.tftp_player.proofs.PlayLemmas.{ends_length, ends_get, kept_at, list_get}
+use Rattle.tftp_player.proofs.Resting.{at_rest_record}
+
+-- a client's side, at rest or not
+rest_side : (x : OpenedEnd) → (at_rest x).state.side ≡ x.state.side
+rest_side x = ap (λ (r : Record). r.side) (at_rest_record x)
+
+client_stores : (c : PlayedClient) (b : Bool) (files : Files (List ℕ) Holding) → AreFilesOf c.end.side files → is_sender c.end.side ≡ b →
+    stored_by files ≡ (if b then None else Some (holding_in files).bytes)
+client_stores c true (Source left) f e = refl
+client_stores c false (Source left) f e = absurd (true≢false (sym f ∙ e))
+client_stores c true (Sink holding) f e = absurd (true≢false (sym e ∙ f))
+client_stores c false (Sink holding) f e = refl
+
+pub served_stores : (port : ℕ) (s : Served) (o : Option Record) (held : List (ℕ × Transfer)) → IsServed port s o held →
+    (is_sender (served_end port s o (at port held)).state.side ≡ true) × ((served_end port s o (at port held)).committed ≡ false)
+served_stores port s (Some r) held k = (k.2, refl)
+served_stores port s None held k =
+    subst (λ (h : Option Transfer). (is_sender (served_end port s None h).state.side ≡ true) × ((served_end port s None h).committed ≡ false)) (sym k.found) (k.sender, refl)
+
+pub stores_is : (port : ℕ) (held : List (ℕ × Transfer)) (p : Player) → PlayerKept port held p → stored_of p ≡ stored_in (end_at port held p)
+stores_is port held (Client c) k =
+    client_stores c (is_sender c.end.side) c.files k.1 refl
+    ∙ ap (λ (b : Bool). if b then None else Some (holding_in c.files).bytes) (sym (ap is_sender (rest_side (client_end port c))))
+stores_is port held (Server s) k = ap (λ (b : Bool). if b then None else Some (end_at port held (Server s)).stored) (sym (served_stores port s s.ended held k).0)
+
+pub commits_is : (port : ℕ) (held : List (ℕ × Transfer)) (p : Player) → PlayerKept port held p → committed_of p ≡ (end_at port held p).committed
+commits_is port held (Client c) k = refl
+commits_is port held (Server s) k = sym (served_stores port s s.ended held k).1
+
+-- the end at a port
+there_is : (ends : List OpenedEnd) (port place : ℕ) → port ≡ 1024 + place → opened_at ends port ≡ slice_get ends place
+there_is ends port place e =
+    let test : nat_lt port 1024 ≡ false = grind (arith, nat_tests) in
+    let same : port - 1024 ≡ place = omega arith in
+    ap (λ (b : Bool). if b then None else slice_get ends (port - 1024)) test ∙ ap (slice_get ends) same
+
+none_is : (ends : List OpenedEnd) (port : ℕ) → (port < 1024) ⊎ (1024 + length ends ≤ port) → opened_at ends port ≡ None
+none_is ends port (inl low) =
+    let test : nat_lt port 1024 ≡ true = grind (arith, nat_tests) in
+    ap (λ (b : Bool). if b then None else slice_get ends (port - 1024)) test
+none_is ends port (inr high) =
+    let test : nat_lt port 1024 ≡ false = grind (arith, nat_tests) in
+    let past : length ends ≤ port - 1024 = omega arith in
+    ap (λ (b : Bool). if b then None else slice_get ends (port - 1024)) test ∙ slice_get_past ends (port - 1024) past
+
+module _ (config : Config) (sent : List Datagram) (server : PlayedServer) (ps : List Player) (records : List (ℕ × Record)) (old : WorldState) (view : world_of config sent server ps ≡ old) (staged : IsStaged server ps records) (port : ℕ) where
+  -- what is told where an end is
+  module _ (place : ℕ) (p : Player) (within : place < length ps) (is : port ≡ 1024 + place) (reads : p ≡ slice_index_or ps place p) where
+    here : slice_get ps place ≡ Some p
+    here = list_get ps place p within reads
+
+    found : opened_at (ends_of server ps) port ≡ Some (end_at (1024 + place) server.held p)
+    found = there_is (ends_of server ps) port place is ∙ ends_get server.held ps place p here
+
+    pub stored_here : stored_of p ≡ stored_at old.ends port
+    stored_here =
+        stores_is (1024 + place) server.held p (kept_at server.held ps place p staged.kept here)
+        ∙ (sym (ap (option_and_then stored_in) found) ∙ ap (λ (w : WorldState). stored_at w.ends port) view)
+
+    pub committed_here : committed_of p ≡ committed_at old.ends port
+    committed_here =
+        commits_is (1024 + place) server.held p (kept_at server.held ps place p staged.kept here)
+        ∙ (sym (ap (λ (o : Option OpenedEnd). unwrap_or (option_map (λ (x : OpenedEnd). x.committed) o) false) found) ∙ ap (λ (w : WorldState). committed_at w.ends port) view)
+
+  -- and where none is
+  module _ (count : ℕ) (counts : count ≡ length ps) (none : (port < 1024) ⊎ (1024 + count ≤ port)) where
+    outside : (port < 1024) ⊎ (1024 + count ≤ port) → (port < 1024) ⊎ (1024 + length (ends_of server ps) ≤ port)
+    outside (inl low) = inl low
+    outside (inr high) = let n = ends_length server.held ps in let h : 1024 + length (ends_of server ps) ≤ port = omega (arith, n, counts, high) in inr h
+
+    pub stored_nowhere : None ≡ stored_at old.ends port
+    stored_nowhere = sym (ap (option_and_then stored_in) (none_is (ends_of server ps) port (outside none))) ∙ ap (λ (w : WorldState). stored_at w.ends port) view
+
+    pub committed_nowhere : false ≡ committed_at old.ends port
+    committed_nowhere = sym (ap (λ (o : Option OpenedEnd). unwrap_or (option_map (λ (x : OpenedEnd). x.committed) o) false) (none_is (ends_of server ps) port (outside none))) ∙ ap (λ (w : WorldState). committed_at w.ends port) view

@@ -1,0 +1,132 @@
+-- What an event makes of a world today keeps what every world keeps.
+use Rattle.std.proofs.Common.{◌≡◌, ℕ, ◌+◌, suc, arith, Bool, true, false, List, [], ◌∷◌, ◌++◌, length, Option, Some, None, Result, Ok, Err, IfOk, OnErr, refl, sym, ap, subst, ◌∙◌}
+use Rattle.std.specs.List.{Contains}
+use Rattle.std.proofs.lemmas.List.{length-append}
+use Rattle.std.proofs.lemmas.Option.{same_Some}
+use Rattle.tftp_wire.specs.declared.mode.Mode.{Mode}
+use Rattle.tftp_wire.specs.declared.mode.Mode.TheVariants.{Octet, Netascii}
+use Rattle.tftp_wire.specs.declared.packet.Packet.{Packet as WirePacket}
+use Rattle.tftp_wire.specs.declared.packet.Packet.TheVariants.{Read, Write, Data, Ack, Error, Oack}
+use Rattle.tftp_wire.specs.Spelling.{Spells}
+use Rattle.tftp_server.specs.Request.{carried, carried_read, plain_read}
+use Rattle.tftp_player.specs.Machine.{Endpoint, host_of, request_port, Packet, Request}
+use Rattle.tftp_player.specs.Machine.{Elsewhere as Far}
+use Rattle.tftp_player.specs.Rules.{message}
+use Rattle.tftp_player.specs.Said.{said}
+use Rattle.tftp_player.specs.Today.{ArrivesToday, At_port, Elsewhere, StepToday}
+use Rattle.tftp_player.specs.TodayRuns.{Delivered, StaysSafe, SettlesSafe, BeginsSafe}
+use Rattle.tftp_player.specs.World.{WorldState, StoredFile, new_world, resting}
+use Rattle.tftp_player.specs.WorldKept.{IsOk}
+use Rattle.tftp_player.specs.WorldRuns.{MayHappen}
+use Rattle.tftp_player.specs.declared.event.Event.{Event}
+use Rattle.tftp_player.specs.declared.event.Event.TheVariants.{Get, Put, Deliver, Timeout, RefuseStore, Stray}
+use Rattle.tftp_player.specs.declared.fault.WorldFault.{WorldFault}
+use Rattle.tftp_player.specs.declared.report.Report.{Report}
+use Rattle.tftp_negotiate.specs.declared.limits.Limits.{Limits}
+use Rattle.tftp_negotiate.specs.Ranges.{IsBlockSize}
+use Rattle.tftp_player.proofs.Resting.{resting_ok}
+use Rattle.tftp_player.proofs.WorldKeeps.{serving_keeps}
+use Rattle.tftp_player.proofs.WorldSafe.{kept_is_safe}
+use Rattle.tftp_player.proofs.WorldRuns.{arrives_keeps, come_from, contains_at, new_ok, says_spelled, step_keeps, stray_keeps, with_heard}
+
+-- what is carried of a packet says what the packet says, as far as the machine goes
+carried_says : (name : List ℕ) (mode : Mode) (p : WirePacket) → carried_read name mode ≡ Some p → said p ≡ Request false mode
+carried_says name Octet p e = ap said (sym (same_Some (Read (plain_read name)) p e))
+carried_says name Netascii p e = absurd (let f : None ≡ Some p = e in cc)
+
+carried_said : (heard : Option WirePacket) (p : WirePacket) → carried heard ≡ Some p → (q : WirePacket) × (heard ≡ Some q) × (said q ≡ said p)
+carried_said None p e = absurd (let f : None ≡ Some p = e in cc)
+carried_said (Some (Read request)) p e = (Read request, refl, sym (carried_says request.name request.mode p e))
+carried_said (Some (Write request)) p e = absurd (let f : None ≡ Some p = e in cc)
+carried_said (Some (Data number bytes)) p e = absurd (let f : None ≡ Some p = e in cc)
+carried_said (Some (Ack number)) p e = absurd (let f : None ≡ Some p = e in cc)
+carried_said (Some (Error code text)) p e = absurd (let f : None ≡ Some p = e in cc)
+carried_said (Some (Oack options)) p e = absurd (let f : None ≡ Some p = e in cc)
+
+-- closed ends go to rest in a world that is kept
+rested : (strangers : Bool) (mid v : WorldState) → v ≡ resting mid → IsOk strangers mid → IsOk strangers v
+rested strangers mid v e ok = subst (λ (z : WorldState). IsOk strangers z) (sym e) (resting_ok strangers mid ok)
+
+-- a datagram that came
+arrival_keeps : (strangers : Bool) (w v : WorldState) (ok : IsOk strangers w) (report : Report) (from to : Endpoint) (bytes : List ℕ) →
+    ((p : WirePacket) → Spells p bytes → Contains ok.messages (message from to (said p))) →
+    ArrivesToday w from to bytes report v → IsOk strangers v
+arrival_keeps strangers w v ok report from to bytes come (At_port here port heard says mid served new) =
+    rested strangers mid v new
+    (serving_keeps strangers w mid from report ok bytes (carried heard)
+    (λ p e. let q = carried_said heard p e in
+    subst (λ (packet : Packet). Contains ok.messages (message from request_port packet)) q.2
+    (subst (λ (a : Endpoint). Contains ok.messages (message from a (said q.0))) here (come q.0 (says_spelled bytes heard says q.0 q.1)))) served)
+arrival_keeps strangers w v ok report from to bytes come (Elsewhere away mid arrives new) =
+    rested strangers mid v new (arrives_keeps strangers w mid ok report from to bytes come arrives)
+
+-- a stranger's datagram that came
+strange_arrival_keeps : (w v : WorldState) (ok : IsOk true w) (report : Report) (from to : Endpoint) (bytes : List ℕ) → host_of from ≡ Far →
+    ArrivesToday w from to bytes report v → IsOk true v
+strange_arrival_keeps w v ok report from to bytes far (At_port here port heard says mid served new) =
+    let h = with_heard w ok from to bytes heard far says in
+    arrival_keeps true w v h.0 report from to bytes h.1 (At_port here port heard says mid served new)
+strange_arrival_keeps w v ok report from to bytes far (Elsewhere away mid arrives new) =
+    rested true mid v new (stray_keeps w mid ok report from to bytes far arrives)
+
+may_deliver : (strangers : Bool) (i : ℕ) → MayHappen strangers (Deliver i)
+may_deliver true i = tt
+may_deliver false i = tt
+
+add_0 : (n : ℕ) → n + 0 ≡ n
+add_0 n = omega arith
+
+shifted : (from n : ℕ) → from + suc n ≡ (from + 1) + n
+shifted from n = omega arith
+
+-- each event of today keeps the world
+pub today_keeps : (strangers : Bool) (w v : WorldState) (event : Event) (report : Report) → MayHappen strangers event → IsOk strangers w → StepToday w event report v → IsOk strangers v
+today_keeps strangers w v (Get name mode asked) report may ok s = step_keeps strangers w v (Get name mode asked) report may ok s
+today_keeps strangers w v (Put name mode asked bytes) report may ok s = step_keeps strangers w v (Put name mode asked bytes) report may ok s
+today_keeps strangers w v (Deliver i) report may ok s =
+    arrival_keeps strangers w v ok report s.0.from s.0.to s.0.bytes (come_from strangers w ok s.0 (contains_at w.sent i s.0 s.1)) s.2
+today_keeps strangers w v (Timeout port) report may ok s = step_keeps strangers w v (Timeout port) report may ok s
+today_keeps strangers w v (RefuseStore port) report may ok s = step_keeps strangers w v (RefuseStore port) report may ok s
+today_keeps true w v (Stray from to bytes) report may ok s = strange_arrival_keeps w v ok report from to bytes s.0 s.1
+today_keeps false w v (Stray from to bytes) report may ok s = absurd may
+
+-- whatever a call answered, the world stays safe
+pub stays_safe : (old new : WorldState) (event : Event) (result : Result Report WorldFault) → IfOk result (λ report. StepToday old event report new) → OnErr result (new ≡ old) → StaysSafe old event new
+stays_safe old new event (Ok report) s e = λ strangers may ok.
+    let kept = today_keeps strangers old new event report may ok s in (kept, kept_is_safe strangers new kept)
+stays_safe old new event (Err fault) s e = λ strangers may ok.
+    let kept = subst (λ (z : WorldState). IsOk strangers z) (sym e) ok in (kept, kept_is_safe strangers new kept)
+
+-- deliveries keep a world
+pub delivered_keeps : (strangers : Bool) (old new : WorldState) (from : ℕ) (reports : List Report) → IsOk strangers old → Delivered old from reports new → IsOk strangers new
+delivered_keeps strangers old new from [] ok d = subst (λ (z : WorldState). IsOk strangers z) (sym d) ok
+delivered_keeps strangers old new from (report ∷ reports) ok d =
+    delivered_keeps strangers d.0 new (from + 1) reports (today_keeps strangers old d.0 (Deliver from) report (may_deliver strangers from) ok d.1) d.2
+
+pub settles_safe : (old new : WorldState) (from : ℕ) (reports : List Report) → Delivered old from reports new → SettlesSafe old new
+settles_safe old new from reports d = λ strangers ok.
+    let kept = delivered_keeps strangers old new from reports ok d in (kept, kept_is_safe strangers new kept)
+
+-- one delivery more
+pub delivered_more : (old mid new : WorldState) (from : ℕ) (reports : List Report) (report : Report) → Delivered old from reports mid → StepToday mid (Deliver (from + length reports)) report new → Delivered old from (reports ++ report ∷ []) new
+delivered_more old mid new from [] report d s =
+    (new, subst (λ (w : WorldState). StepToday w (Deliver from) report new) d (subst (λ (n : ℕ). StepToday mid (Deliver n) report new) (add_0 from) s), refl)
+delivered_more old mid new from (r ∷ reports) report d s =
+    (d.0, d.1, delivered_more d.0 mid new (from + 1) reports report d.2 (subst (λ (n : ℕ). StepToday mid (Deliver n) report new) (shifted from (length reports)) s))
+
+-- a run of deliveries goes on
+pub delivers_on : (old mid new : WorldState) (from count : ℕ) (report : Report) → ((reports : List Report) × Delivered old from reports mid × (length reports ≡ count)) → StepToday mid (Deliver (from + count)) report new →
+    (reports : List Report) × Delivered old from reports new × (length reports ≡ count + 1)
+delivers_on old mid new from count report d s = (
+  d.0 ++ report ∷ [],
+  delivered_more old mid new from d.0 report d.1 (subst (λ (n : ℕ). StepToday mid (Deliver (from + n)) report new) (sym d.2) s),
+  length-append d.0 (report ∷ []) ∙ ap (λ (n : ℕ). n + 1) d.2,
+)
+
+-- a world begins safe
+pub begins_safe : (files : List StoredFile) (limits : Limits) (retries cap : ℕ) → IsBlockSize limits.max_block → BeginsSafe (new_world files limits retries cap)
+begins_safe files limits retries cap ok = λ strangers.
+    let kept = new_ok strangers files limits retries cap ok in (kept, kept_is_safe strangers (new_world files limits retries cap) kept)
+
+pub begins_as : (w : WorldState) (files : List StoredFile) (limits : Limits) (retries cap : ℕ) → w ≡ new_world files limits retries cap → IsBlockSize limits.max_block → BeginsSafe w
+begins_as w files limits retries cap e ok = subst BeginsSafe (sym e) (begins_safe files limits retries cap ok)

@@ -1,0 +1,93 @@
+-- What a client of a world does, by what the struct that plays it keeps of it.
+use Rattle.std.specs.Prelude.{ℕ, ◌≡◌, true, false, if◌then◌else◌, is_some, List, [], Option, Some, None, ⊤}
+use Rattle.tftp_wire.specs.Spelling.{canonical}
+use Rattle.tftp_wire.specs.declared.mode.Mode.{Mode}
+use Rattle.tftp_wire.specs.declared.packet.Packet.TheVariants.{Read}
+use Rattle.tftp_negotiate.specs.declared.asked.Asked.{Asked}
+use Rattle.tftp_file.specs.declared.files.Files.{Files}
+use Rattle.tftp_file.specs.declared.files.Files.TheVariants.{Source, Sink}
+use Rattle.tftp_file.specs.Sink.{Holding}
+use Rattle.tftp_ends.specs.declared.fault.OpenFault.{OpenFault}
+use Rattle.tftp_ends.specs.declared.fault.OpenFault.TheVariants as opening
+use Rattle.tftp_ends.specs.declared.record.Record.{Record}
+use Rattle.tftp_ends.specs.End.{EndState, record_of, outcome_of}
+use Rattle.tftp_ends.specs.Files.{AreSame}
+use Rattle.tftp_ends.specs.Opening.{request_of}
+use Rattle.tftp_ends.specs.Step.{Turn, Hears}
+use Rattle.tftp_player.specs.Machine.{Endpoint, server_ip, client_ip, request_port}
+use Rattle.tftp_player.specs.Effect.{effect_of}
+use Rattle.tftp_player.specs.PlayedClient.{PlayedClient}
+use Rattle.tftp_player.specs.WorldSteps.{never_fails, may_refuse_append, may_refuse_commit}
+use Rattle.tftp_player.specs.declared.effect.Effect.{Effect}
+use Rattle.tftp_player.specs.declared.fault.WorldFault.{WorldFault}
+use Rattle.tftp_player.specs.declared.fault.WorldFault.TheVariants.{BadRequest, Memory}
+
+-- an end of a client, or of the server
+abbrev pub client_at : ℕ → Endpoint
+client_at port = record { ip = client_ip; port = port }
+
+abbrev pub server_at : ℕ → Endpoint
+server_at port = record { ip = server_ip; port = port }
+
+-- what a source has left
+abbrev pub left_in : {K : Type 0} → Files (List ℕ) K → List ℕ
+left_in (Source left) = left
+left_in (Sink sink) = []
+
+-- a sink that holds nothing
+abbrev pub no_holding : Holding
+no_holding = record { bytes = []; committed = false; refuses = false }
+
+-- what a sink holds
+abbrev pub holding_in : Files (List ℕ) Holding → Holding
+holding_in (Source left) = no_holding
+holding_in (Sink holding) = holding
+
+-- a client made a turn, and its file is this now
+pub record ClientTurns (port : ℕ) (old new : PlayedClient) (turn : Turn) (files : Files (List ℕ) Holding) (effect : Effect) (r : Record) : Type 0 where
+  pub effects : effect ≡ effect_of (client_at port) turn
+  pub recorded : r ≡ record_of turn.end
+  pub client : new ≡ record old { end = turn.end; files = files }
+
+-- a client took a datagram
+pub record ClientHears (port : ℕ) (from : Endpoint) (bytes : List ℕ) (old new : PlayedClient) (effect : Effect) (r : Record) : Type 0 where
+  pub turn : Turn
+  pub hears : Hears (λ (s : List ℕ). Some s) never_fails (λ (h : Holding). Some h) may_refuse_append (may_refuse_commit true None) from bytes old.end old.files turn new.files
+  pub kind : AreSame (λ (a b : List ℕ). ⊤) (λ (a b : Holding). ⊤) old.files new.files
+  pub turns : ClientTurns port old new turn new.files effect r
+
+-- a client that has asked to read
+abbrev pub asking_client : EndState → PlayedClient
+asking_client end = record { end = end; files = Sink no_holding; file = [] }
+
+-- its request
+abbrev pub asking_effect : ℕ → List ℕ → Mode → Asked → Effect
+asking_effect port name mode asked =
+    record { from = client_at port; to = Some request_port; bytes = canonical (Read (request_of name mode asked)); closed = None }
+
+-- what a receiver has stored
+abbrev pub stored_by : Files (List ℕ) Holding → Option (List ℕ)
+stored_by (Source left) = None
+stored_by (Sink holding) = Some holding.bytes
+
+-- the files, told to refuse the next append or commit
+abbrev pub told_files : Files (List ℕ) Holding → Files (List ℕ) Holding
+told_files (Source left) = Source left
+told_files (Sink holding) = Sink (record holding { refuses = true })
+
+-- the client, told so while it is open
+abbrev pub told_client : PlayedClient → PlayedClient
+told_client c = if is_some (outcome_of c.end.phase) then c else record c { files = told_files c.files }
+
+-- why the world has no new client
+abbrev pub open_fault : OpenFault → WorldFault
+open_fault opening.BadRequest = BadRequest
+open_fault opening.TooLarge = BadRequest
+open_fault opening.SourceFault = BadRequest
+open_fault opening.Memory = Memory
+
+-- a fault of an opening
+abbrev pub BadOrMemory : WorldFault → Type 0
+BadOrMemory BadRequest = ⊤
+BadOrMemory Memory = ⊤
+BadOrMemory _ = ⊥

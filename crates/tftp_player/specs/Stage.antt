@@ -1,0 +1,114 @@
+-- The ends of a world and the server that plays some of them, together, and what an event does there.
+use Rattle.std.specs.List.{AllByRecursion}
+use Rattle.std.specs.Prelude.{ℕ, ◌+◌, ◌<◌, length, ◌≡◌, ◌≢◌, ◌⊎◌, ◌&&◌, not, ◌-◌, nat_lt, if◌then◌else◌, Bool, true, false, List, slice_get, slice_set, Option, Some, None, is_some, option_map, option_and_then, unwrap_or}
+use Rattle.tftp_file.specs.declared.files.Files.{Files}
+use Rattle.tftp_file.specs.Sink.{Holding}
+use Rattle.tftp_ends.specs.declared.record.Record.{Record}
+use Rattle.tftp_ends.specs.End.{is_sender, is_client}
+use Rattle.tftp_ends.specs.Step.{Turn, Hears, timeout_turn}
+use Rattle.tftp_player.specs.Effect.{effect_of, no_effect}
+use Rattle.tftp_player.specs.Played.{ends_from, records_from, AllKept}
+use Rattle.tftp_player.specs.Serving.{PlayedServer, Transfer}
+use Rattle.tftp_player.specs.Requests.{open_transfers}
+use Rattle.tftp_player.specs.Machine.{Endpoint}
+use Rattle.tftp_player.specs.World.{WorldState, OpenedEnd, StoredFile, file_at, is_closed, files_of, end_after, has_committed, at_rest}
+use Rattle.tftp_player.specs.WorldSteps.{never_fails, may_refuse_append, may_refuse_commit, FilesAfter}
+use Rattle.tftp_server.specs.declared.config.Config.{Config}
+use Rattle.tftp_player.specs.declared.datagram.Datagram.{Datagram}
+use Rattle.tftp_player.specs.declared.effect.Effect.{Effect}
+use Rattle.tftp_player.specs.declared.player.Player.{Player}
+
+-- the ends
+abbrev pub ends_of : PlayedServer → List Player → List OpenedEnd
+ends_of server players = ends_from 1024 server.held players
+
+-- the ends, the server and what is recorded agree
+pub record IsStaged (server : PlayedServer) (players : List Player) (records : List (ℕ × Record)) : Type 0 where
+  pub kept : AllKept 1024 server.held players
+  pub recorded : records ≡ records_from 1024 (ends_of server players)
+  -- the server holds transfers of these ends alone, and as many as are open
+  pub below : AllByRecursion (λ (e : ℕ × Transfer). e.0 < 1024 + length players) server.held
+  pub count : length server.held ≡ open_transfers (ends_of server players)
+
+-- the end at this place made a turn
+pub record EndTurns (place : ℕ) (x : OpenedEnd) (turn : Turn) (held : Files (List ℕ) Holding) (ends ends' : List OpenedEnd) (effect : Effect) : Type 0 where
+  pub effects : effect ≡ effect_of x.address turn
+  pub next : ends' ≡ slice_set ends place (at_rest (end_after x turn held))
+
+-- the end at this place is closed, and nothing happened
+pub record EndRests (x : OpenedEnd) (ends ends' : List OpenedEnd) (effect : Effect) : Type 0 where
+  pub effects : effect ≡ no_effect x.address
+  pub next : ends' ≡ ends
+
+-- the end at this place took a timeout, unless it is closed
+abbrev pub EndTimesOut : Bool → ℕ → OpenedEnd → List OpenedEnd → List OpenedEnd → Effect → Type 0
+EndTimesOut true place x ends ends' effect = EndRests x ends ends' effect
+EndTimesOut false place x ends ends' effect = EndTurns place x (timeout_turn x.state) (files_of x) ends ends' effect
+
+-- the server has the same files, and is set to the same
+pub record SameStore (before after : PlayedServer) : Type 0 where
+  pub config : after.config ≡ before.config
+  pub store : after.store ≡ before.store
+
+-- of all ends and the server, that came of a timeout of the end at this place
+pub record StageTimesOut (place : ℕ) (before after : PlayedServer) (players players' : List Player) (effect : Effect) : Type 0 where
+  pub end : OpenedEnd
+  pub found : slice_get (ends_of before players) place ≡ Some end
+  pub times_out : EndTimesOut (is_closed end) place end (ends_of before players) (ends_of after players') effect
+  pub same : SameStore before after
+
+-- the end at a port
+abbrev pub opened_at : List OpenedEnd → ℕ → Option OpenedEnd
+opened_at ends port = if nat_lt port 1024 then None else slice_get ends (port - 1024)
+
+-- what a receiver has stored
+abbrev pub stored_in : OpenedEnd → Option (List ℕ)
+stored_in x = if is_sender x.state.side then None else Some x.stored
+
+abbrev pub stored_at : List OpenedEnd → ℕ → Option (List ℕ)
+stored_at ends port = option_and_then stored_in (opened_at ends port)
+
+-- whether it is committed
+abbrev pub committed_at : List OpenedEnd → ℕ → Bool
+committed_at ends port = unwrap_or (option_map (λ (x : OpenedEnd). x.committed) (opened_at ends port)) false
+
+-- what is recorded is that the end is closed
+abbrev pub record_closed : Option (ℕ × Record) → Bool
+record_closed None = true
+record_closed (Some r) = is_some r.1.outcome
+
+-- the world that is played so
+abbrev pub world_of : Config → List Datagram → PlayedServer → List Player → WorldState
+world_of config sent server players =
+    record {
+      sent = sent;
+      files = server.store.files;
+      ends = ends_of server players;
+      limits = config.limits;
+      retries = config.retries;
+      cap = config.cap;
+    }
+
+-- a datagram came to an end of this place and was taken; the server's files stay
+pub record HeardAt (place : ℕ) (x : OpenedEnd) (from : Endpoint) (bytes : List ℕ) (files : List StoredFile) (ends ends' : List OpenedEnd) (effect : Effect) : Type 0 where
+  pub open_now : is_closed x ≡ false
+  pub turn : Turn
+  pub held : Files (List ℕ) Holding
+  pub hears : Hears (λ (s : List ℕ). Some s) never_fails (λ (h : Holding). Some h) may_refuse_append (may_refuse_commit (is_client x.state.side) (file_at files x.path)) from bytes x.state (files_of x) turn held
+  pub commits : FilesAfter (not (is_client x.state.side) && has_committed x (end_after x turn held)) x.path (end_after x turn held).stored files files
+  pub turns : EndTurns place x turn held ends ends' effect
+
+-- nothing came of it
+pub record LostAt (to : Endpoint) (ends ends' : List OpenedEnd) (effect : Effect) : Type 0 where
+  pub effects : effect ≡ no_effect to
+  pub next : ends' ≡ ends
+
+-- of all ends and the server, that came of a datagram for the end at this place
+pub record StageHears (place : ℕ) (from to : Endpoint) (bytes : List ℕ) (before after : PlayedServer) (players players' : List Player) (effect : Effect) : Type 0 where
+  pub end : OpenedEnd
+  pub found : slice_get (ends_of before players) place ≡ Some end
+  pub comes : ((end.address ≢ to) × LostAt to (ends_of before players) (ends_of after players') effect)
+      ⊎ ((end.address ≡ to)
+      × (((is_closed end ≡ true) × LostAt to (ends_of before players) (ends_of after players') effect)
+      ⊎ HeardAt place end from bytes before.store.files (ends_of before players) (ends_of after players') effect))
+  pub same : SameStore before after

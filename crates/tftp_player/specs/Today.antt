@@ -1,0 +1,77 @@
+-- What is carried so far of what may happen in a world, and how its calls are refused today.
+use Rattle.std.specs.Prelude.{ℕ, ◌≡◌, ◌≢◌, ◌+◌, ◌<◌, ⊤, List, ◌++◌, length, slice_get, Option, Some}
+use Rattle.tftp_wire.specs.declared.packet.Packet.{Packet}
+use Rattle.tftp_ends.specs.Opening.{CanGet}
+use Rattle.tftp_ends.specs.Row.{Says}
+use Rattle.tftp_server.specs.Request.{carried}
+use Rattle.tftp_player.specs.Effect.{said_by, report_by}
+use Rattle.tftp_player.specs.Machine.{Endpoint, host_of, request_port}
+use Rattle.tftp_player.specs.Machine.{Elsewhere as Far}
+use Rattle.tftp_player.specs.Requests.{service}
+use Rattle.tftp_player.specs.Serving.{PlayedServer}
+use Rattle.tftp_player.specs.Stage.{world_of}
+use Rattle.tftp_player.specs.World.{WorldState, next_port, resting}
+use Rattle.tftp_player.specs.WorldSteps.{HasPort, LacksPort, WorldRefuses, WorldStep, Serves, Arrives}
+use Rattle.tftp_player.specs.declared.datagram.Datagram.{Datagram}
+use Rattle.tftp_player.specs.declared.effect.Effect.{Effect}
+use Rattle.tftp_player.specs.declared.player.Player.{Player}
+use Rattle.tftp_player.specs.declared.report.Report.{Report}
+use Rattle.tftp_player.specs.declared.event.Event.{Event}
+use Rattle.tftp_player.specs.declared.event.Event.TheVariants.{Get, Put, Deliver, Stray}
+use Rattle.tftp_player.specs.declared.fault.WorldFault.{WorldFault}
+use Rattle.tftp_player.specs.declared.fault.WorldFault.TheVariants.{NoPort, BadRequest, Memory}
+
+-- why a client that would write is refused
+abbrev pub PutRefuses : WorldState → WorldFault → Type 0
+PutRefuses w NoPort = 65535 < next_port w
+PutRefuses w BadRequest = HasPort w
+PutRefuses w fault = ⊥
+
+-- a client takes today octet without options alone, and asks to write nothing
+abbrev pub RefusesToday : WorldState → Event → WorldFault → Type 0
+RefusesToday w (Get name mode asked) BadRequest = HasPort w × (CanGet name mode asked → ⊥)
+RefusesToday w (Put name mode asked bytes) BadRequest = HasPort w
+RefusesToday w event fault = WorldRefuses w event fault
+
+-- what arrived where, as far as the request port carries it, and then closed ends at rest
+pub data ArrivesToday (old : WorldState) (from to : Endpoint) (bytes : List ℕ) (report : Report) (new : WorldState) : Type 0 where
+  -- at the request port, which serves today what is carried of a packet
+  At_port : (to ≡ request_port) → HasPort old → (heard : Option Packet) → Says bytes heard → (mid : WorldState) →
+      Serves (service old bytes (carried heard)) old from report mid → (new ≡ resting mid) → ArrivesToday old from to bytes report new
+  -- anywhere else
+  Elsewhere : (to ≢ request_port) → (mid : WorldState) → Arrives old from to bytes report mid → (new ≡ resting mid) → ArrivesToday old from to bytes report new
+
+-- what an event makes of a world today: the request port answers what is carried of a request
+abbrev pub StepToday : WorldState → Event → Report → WorldState → Type 0
+StepToday old (Deliver i) report new = (d : Datagram) × (slice_get old.sent i ≡ Some d) × ArrivesToday old d.from d.to d.bytes report new
+StepToday old (Stray from to bytes) report new = (host_of from ≡ Far) × ArrivesToday old from to bytes report new
+StepToday old event report new = WorldStep old event report new
+
+-- why an arrival is refused
+abbrev pub ArrivalRefuses : WorldState → Endpoint → WorldFault → Type 0
+ArrivalRefuses w to NoPort = LacksPort w to
+ArrivalRefuses w to Memory = ⊤
+ArrivalRefuses w to fault = ⊥
+
+-- what came of a datagram for the request port, whatever was sent before
+abbrev pub StageAsks : Endpoint → List ℕ → PlayedServer → PlayedServer → List Player → List Player → Effect → Type 0
+StageAsks from bytes before after players players' effect =
+    (sent : List Datagram) → ArrivesToday (world_of before.config sent before players) from request_port bytes (report_by sent effect)
+    (world_of before.config (sent ++ said_by effect.from effect.to effect.bytes) after players')
+
+-- what came of a datagram, whatever was sent before
+abbrev pub StageArrives : Endpoint → Endpoint → List ℕ → PlayedServer → PlayedServer → List Player → List Player → Effect → Type 0
+StageArrives from to bytes before after players players' effect =
+    (sent : List Datagram) → ArrivesToday (world_of before.config sent before players) from to bytes (report_by sent effect)
+    (world_of before.config (sent ++ said_by effect.from effect.to effect.bytes) after players')
+
+-- no port is left for an end that the datagram could open
+abbrev pub StageRefuses : Endpoint → List Player → WorldFault → Type 0
+StageRefuses to players NoPort = (to ≡ request_port) × (65535 < 1024 + length players)
+StageRefuses to players Memory = ⊤
+StageRefuses to players fault = ⊥
+
+-- what can be played: a stray comes from neither host
+abbrev pub IsPlayable : Event → Type 0
+IsPlayable (Stray from to bytes) = host_of from ≡ Far
+IsPlayable event = ⊤

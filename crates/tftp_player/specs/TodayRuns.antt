@@ -1,0 +1,49 @@
+-- What an event makes of a world today keeps it safe.
+use Rattle.std.specs.Prelude.{ℕ, ◌≡◌, ◌+◌, ◌≤◌, ◌⊎◌, Bool, List, [], ◌∷◌, length}
+use Rattle.tftp_player.specs.Today.{StepToday, RefusesToday}
+use Rattle.tftp_player.specs.World.{WorldState}
+use Rattle.tftp_player.specs.WorldKept.{IsOk}
+use Rattle.tftp_player.specs.WorldRuns.{MayHappen}
+use Rattle.tftp_player.specs.WorldSafety.{IsSafe}
+use Rattle.tftp_player.specs.declared.event.Event.{Event}
+use Rattle.tftp_player.specs.declared.event.Event.TheVariants.{Deliver}
+use Rattle.tftp_player.specs.declared.fault.WorldFault.{WorldFault}
+use Rattle.tftp_player.specs.declared.report.Report.{Report}
+
+-- each event of today keeps what every world keeps
+abbrev pub TodayKeeps : Type 0
+TodayKeeps =
+    (strangers : Bool) (old new : WorldState) (event : Event) (report : Report) →
+    MayHappen strangers event → IsOk strangers old → StepToday old event report new → IsOk strangers new
+
+-- a world that was kept is kept and safe; `strangers` says that somebody at neither host may have spoken
+abbrev pub StaysSafe : WorldState → Event → WorldState → Type 0
+StaysSafe old event new = (strangers : Bool) → MayHappen strangers event → IsOk strangers old → IsOk strangers new × IsSafe new
+
+-- the same of deliveries, with which no stranger speaks
+abbrev pub SettlesSafe : WorldState → WorldState → Type 0
+SettlesSafe old new = (strangers : Bool) → IsOk strangers old → IsOk strangers new × IsSafe new
+
+-- a world in which nothing has happened
+abbrev pub BeginsSafe : WorldState → Type 0
+BeginsSafe w = (strangers : Bool) → IsOk strangers w × IsSafe w
+
+-- the datagrams from this place on were delivered one after another, so many of them
+abbrev pub Delivered : WorldState → ℕ → List Report → WorldState → Type 0
+Delivered old from [] new = new ≡ old
+Delivered old from (report ∷ reports) new =
+    (mid : WorldState) × StepToday old (Deliver from) report mid × Delivered mid (from + 1) reports new
+
+-- so many were delivered: as many as were wanted, or all that there are
+pub record Settled (old : WorldState) (from most count : ℕ) (new : WorldState) : Type 0 where
+  pub reports : List Report
+  pub delivered : Delivered old from reports new
+  pub counted : length reports ≡ count
+  pub bounded : count ≤ most
+  pub all : (count ≡ most) ⊎ (length new.sent ≤ from + count)
+
+-- some were delivered, and the next was refused
+pub record StopsAt (old : WorldState) (from most : ℕ) (fault : WorldFault) (new : WorldState) : Type 0 where
+  pub reports : List Report
+  pub delivered : Delivered old from reports new
+  pub refused : RefusesToday new (Deliver (from + length reports)) fault
