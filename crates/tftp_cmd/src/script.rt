@@ -10,8 +10,9 @@ mod word;
 use line::LineFault;
 use std::alloc::Global;
 use tftp_file::Path;
-use tftp_player::Event;
+use tftp_negotiate::Asked;
 use tftp_server::Config;
+use tftp_wire::{Bytes, Mode};
 
 /// What a script says: how the server is set, which files it has, and what then happens.
 #[derive(Drop)]
@@ -29,8 +30,16 @@ pub(crate) struct Script {
 /// A line on which something happens.
 #[derive(Debug, Drop)]
 pub(crate) enum Statement {
-    /// This happens.
-    Event(Event),
+    /// A client asks for the server's file of this name.
+    Get {
+        name: Bytes,
+        mode: Mode,
+        asked: Asked,
+    },
+    /// The datagram at this place of all that was sent arrives.
+    Deliver(usize),
+    /// The end at this port has waited long enough.
+    Timeout(u16),
     /// The datagram at this place arrives, then the next, and so on, new ones too.
     Settle(usize),
 }

@@ -4,7 +4,6 @@ use crate::play_run;
 use crate::script::{Script, Statement};
 use std::test::Fail;
 use tftp_negotiate::{Asked, Limits};
-use tftp_player::Event;
 use tftp_server::Config;
 use tftp_wire::Mode;
 
@@ -137,9 +136,9 @@ fn whole_scripts(rt: HostRuntime) -> Result<(), Fail> {
     assert!(rt; empty.1.is_empty(), "no bytes");
 
     let [
-        Statement::Event(Event::Get { name, mode, asked }),
-        Statement::Event(Event::Deliver(place)),
-        Statement::Event(Event::Timeout(port)),
+        Statement::Get { name, mode, asked },
+        Statement::Deliver(place),
+        Statement::Timeout(port),
         Statement::Settle(from),
     ] = script.statements.as_slice()
     else {

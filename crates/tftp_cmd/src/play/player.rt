@@ -45,13 +45,15 @@ impl<W: Write + Drop> Player<W> {
 
     /// Does what a statement says, and writes what came of it.
     pub(crate) fn play(&mut self, statement: Statement) -> Result<(), PlayFault> {
-        match statement {
-            Statement::Event(event) => {
-                let answer = self.world.apply(event);
-                self.write_answer(answer)
+        let answer = match statement {
+            Statement::Get { name, mode, asked } => {
+                self.world.apply(Event::Get { name, mode, asked })
             }
-            Statement::Settle(place) => self.settle(place),
-        }
+            Statement::Deliver(place) => self.world.apply(Event::Deliver(place)),
+            Statement::Timeout(port) => self.world.apply(Event::Timeout(port)),
+            Statement::Settle(place) => return self.settle(place),
+        };
+        self.write_answer(answer)
     }
 
     /// Writes how far each end came, and answers whether every client is complete.

@@ -8,7 +8,6 @@ use crate::script::word::{asked, content, mode, number};
 use crate::script::{Script, Statement};
 use std::alloc::{AllocError, AllocFailed, Global};
 use tftp_file::{Path, PathFault, path_of};
-use tftp_player::Event;
 use tftp_wire::Bytes;
 
 /// Why a line is not taken.
@@ -41,13 +40,13 @@ impl Script {
             [b"set" | b"file", ..] if !self.statements.is_empty() => Err(LineFault::Faulty),
             [b"set", name, value] => self.set(name, value),
             [b"file", name, bytes] => self.add_file(path_of(alloc, name)?, content(alloc, bytes)?),
-            [b"get", name, word, options @ ..] => self.happens(Event::Get {
+            [b"get", name, word, options @ ..] => self.push(Statement::Get {
                 name: Bytes::from_slice(alloc, name)?,
                 mode: mode(word)?,
                 asked: asked(options)?,
             }),
-            [b"deliver", place] => self.happens(Event::Deliver(number(place)?)),
-            [b"timeout", port] => self.happens(Event::Timeout(number(port)?)),
+            [b"deliver", place] => self.push(Statement::Deliver(number(place)?)),
+            [b"timeout", port] => self.push(Statement::Timeout(number(port)?)),
             [b"settle", place] => self.push(Statement::Settle(number(place)?)),
             _ => Err(LineFault::Faulty),
         }
@@ -77,10 +76,6 @@ impl Script {
         }
         self.files.push((path, bytes))?;
         Ok(())
-    }
-
-    fn happens(&mut self, event: Event) -> Result<(), LineFault> {
-        self.push(Statement::Event(event))
     }
 
     fn push(&mut self, statement: Statement) -> Result<(), LineFault> {
