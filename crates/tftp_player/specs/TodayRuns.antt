@@ -1,5 +1,5 @@
 -- What an event makes of a world today keeps it safe.
-use Rattle.std.specs.Prelude.{ℕ, ◌≡◌, ◌+◌, ◌≤◌, ◌⊎◌, Bool, List, [], ◌∷◌, length}
+use Rattle.std.specs.Prelude.{ℕ, ◌≡◌, ◌+◌, ◌<◌, ◌≤◌, ◌⊎◌, Bool, List, [], ◌∷◌, length}
 use Rattle.tftp_player.specs.Today.{StepToday, RefusesToday}
 use Rattle.tftp_player.specs.World.{WorldState}
 use Rattle.tftp_player.specs.WorldKept.{IsOk}
@@ -42,8 +42,9 @@ pub record Settled (old : WorldState) (from most count : ℕ) (new : WorldState)
   pub bounded : count ≤ most
   pub all : (count ≡ most) ⊎ (length new.sent ≤ from + count)
 
--- some were delivered, and the next was refused
+-- some were delivered, fewer than were wanted, and the next was refused
 pub record StopsAt (old : WorldState) (from most : ℕ) (fault : WorldFault) (new : WorldState) : Type 0 where
   pub reports : List Report
   pub delivered : Delivered old from reports new
+  pub fewer : length reports < most
   pub refused : RefusesToday new (Deliver (from + length reports)) fault
