@@ -1,3 +1,3 @@
-pub mod Fetching
+pub mod ReadingBlocks
 pub mod Sending
 pub mod Storing

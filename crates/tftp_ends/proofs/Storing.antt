@@ -4,8 +4,8 @@ use Rattle.tftp_wire.specs.declared.mode.Mode.{Mode}
 use Rattle.tftp_wire.specs.declared.mode.Mode.TheVariants.{Octet}
 use Rattle.tftp_file.specs.Sink.{Holding}
 use Rattle.tftp_file.specs.declared.fault.StoreFault.{StoreFault}
-use Rattle.tftp_ends.specs.declared.end.acting.Taking.{Taking}
-use Rattle.tftp_ends.specs.declared.end.acting.Taking.TheVariants.{More, All, Refused}
+use Rattle.tftp_ends.specs.declared.end.acting.BlockStored.{BlockStored}
+use Rattle.tftp_ends.specs.declared.end.acting.BlockStored.TheVariants.{More, All, Refused}
 use Rattle.tftp_ends.specs.declared.endpoint.Endpoint.{Endpoint}
 use Rattle.tftp_ends.specs.declared.error_reply.ErrorReply.{ErrorReply}
 use Rattle.tftp_ends.specs.declared.outcome.Outcome.TheVariants as outcomes
@@ -15,7 +15,7 @@ use Rattle.tftp_ends.specs.declared.phase.Terms.{Terms}
 use Rattle.tftp_ends.specs.End.{EndState}
 use Rattle.tftp_ends.specs.Phase.{refused}
 use Rattle.tftp_ends.specs.Step.{Done, Turn, Stores, GoesOn, Carries, in_phase, having_sent, ack_bytes, error_bytes, sent_turn, refused_turn, committed_turn}
-use Rattle.tftp_ends.specs.Taking.{Takes, TakesOn, committed_as}
+use Rattle.tftp_ends.specs.BlockStored.{StoresBlock, StoresOn, committed_as}
 use Rattle.tftp_ends.specs.Text.{Decoded}
 
 -- in octet the bytes stand for themselves
@@ -24,33 +24,33 @@ octet_decoded mode held piece e = subst (λ (m : Mode). Decoded m held piece pie
 
 module _ {K : Type 0} (held : K → Option Holding) (may_refuse_append : K → List ℕ → StoreFault → Type 0) (may_refuse_commit : K → StoreFault → Type 0) (terms : Terms) (number : ℕ) (from : Endpoint) (piece : List ℕ) (e : EndState) (octet : e.mode ≡ Octet) (sink sink' : K) (old new : List ℕ) where
   -- the turn that this comes to
-  abbrev pub taken_turn : Taking → Turn
-  taken_turn More = sent_turn (Receiving terms number) from (ack_bytes number) e
-  taken_turn All = sent_turn (Dallying terms number Fresh) from (ack_bytes number) e
-  taken_turn (Refused reply) = refused_turn terms reply outcomes.StoreFault from e
+  abbrev pub stored_turn : BlockStored → Turn
+  stored_turn More = sent_turn (Receiving terms number) from (ack_bytes number) e
+  stored_turn All = sent_turn (Dallying terms number Fresh) from (ack_bytes number) e
+  stored_turn (Refused reply) = refused_turn terms reply outcomes.StoreFault from e
 
   -- what was made of the block
-  abbrev pub TakesNext : Taking → Type 0
-  TakesNext taking = Takes held may_refuse_append may_refuse_commit piece (ltb (length piece) terms.size) sink sink' taking
+  abbrev pub StoresNext : BlockStored → Type 0
+  StoresNext block_stored = StoresBlock held may_refuse_append may_refuse_commit piece (ltb (length piece) terms.size) sink sink' block_stored
 
-  -- what a receiver does at a row that stores, and what its call carries
+  -- what a receiver does at an action that stores, and what its call carries
   abbrev pub IsStored : EndState → Type 0
   IsStored e' =
       (turn : Turn) × Stores held may_refuse_append may_refuse_commit terms number from piece e sink turn sink' × Carries turn e' (Some from) old new
 
-  committed : (answer : Result Done StoreFault) → taken_turn (committed_as held may_refuse_append may_refuse_commit answer) ≡ committed_turn terms number from e answer
+  committed : (answer : Result Done StoreFault) → stored_turn (committed_as held may_refuse_append may_refuse_commit answer) ≡ committed_turn terms number from e answer
   committed (Ok done) = refl
   committed (Err fault) = refl
 
-  goes_on : (last : Bool) (answer : Result Done StoreFault) (mid : K) (taking : Taking) → TakesOn held may_refuse_append may_refuse_commit last mid sink' taking answer → GoesOn held may_refuse_append may_refuse_commit terms number from e last e.held mid answer (taken_turn taking) sink'
-  goes_on true (Err fault) mid taking o = (ap taken_turn o.0, o.1)
-  goes_on false (Err fault) mid taking o = (ap taken_turn o.0, o.1)
-  goes_on true (Ok done) mid taking o =
-      record { answer = o.answer; commits = o.commits; refused = o.refused; answers = ap taken_turn o.comes_to ∙ committed o.answer }
-  goes_on false (Ok done) mid taking o = (ap taken_turn o.0, o.1)
+  goes_on : (last : Bool) (answer : Result Done StoreFault) (mid : K) (block_stored : BlockStored) → StoresOn held may_refuse_append may_refuse_commit last mid sink' block_stored answer → GoesOn held may_refuse_append may_refuse_commit terms number from e last e.held mid answer (stored_turn block_stored) sink'
+  goes_on true (Err fault) mid block_stored o = (ap stored_turn o.0, o.1)
+  goes_on false (Err fault) mid block_stored o = (ap stored_turn o.0, o.1)
+  goes_on true (Ok done) mid block_stored o =
+      record { answer = o.answer; commits = o.commits; refused = o.refused; answers = ap stored_turn o.comes_to ∙ committed o.answer }
+  goes_on false (Ok done) mid block_stored o = (ap stored_turn o.0, o.1)
 
-  stores : (taking : Taking) → TakesNext taking → Stores held may_refuse_append may_refuse_commit terms number from piece e sink (taken_turn taking) sink'
-  stores taking o =
+  stores : (block_stored : BlockStored) → StoresNext block_stored → Stores held may_refuse_append may_refuse_commit terms number from piece e sink (stored_turn block_stored) sink'
+  stores block_stored o =
       record {
         bytes = piece;
         after = e.held;
@@ -59,17 +59,17 @@ module _ {K : Type 0} (held : K → Option Holding) (may_refuse_append : K → L
         decoded = octet_decoded e.mode e.held piece octet;
         appended = o.appended;
         memory = o.memory;
-        rest = goes_on (ltb (length piece) terms.size) o.answer o.mid taking o.rest;
+        rest = goes_on (ltb (length piece) terms.size) o.answer o.mid block_stored o.rest;
       }
 
   -- the block was stored, and more is to come
-  pub stored_more : TakesNext More → (e' : EndState) → new ≡ old ++ ack_bytes number → e' ≡ having_sent (record { to = from; bytes = ack_bytes number }) (in_phase (Receiving terms number) e) → IsStored e'
-  stored_more o e' a s = (taken_turn More, stores More o, record { state = s; goes = refl; appended = a })
+  pub stored_more : StoresNext More → (e' : EndState) → new ≡ old ++ ack_bytes number → e' ≡ having_sent (record { to = from; bytes = ack_bytes number }) (in_phase (Receiving terms number) e) → IsStored e'
+  stored_more o e' a s = (stored_turn More, stores More o, record { state = s; goes = refl; appended = a })
 
   -- the whole was stored and committed
-  pub stored_all : TakesNext All → (e' : EndState) → new ≡ old ++ ack_bytes number → e' ≡ having_sent (record { to = from; bytes = ack_bytes number }) (in_phase (Dallying terms number Fresh) e) → IsStored e'
-  stored_all o e' a s = (taken_turn All, stores All o, record { state = s; goes = refl; appended = a })
+  pub stored_all : StoresNext All → (e' : EndState) → new ≡ old ++ ack_bytes number → e' ≡ having_sent (record { to = from; bytes = ack_bytes number }) (in_phase (Dallying terms number Fresh) e) → IsStored e'
+  stored_all o e' a s = (stored_turn All, stores All o, record { state = s; goes = refl; appended = a })
 
   -- the store has refused
-  pub stored_not : (reply : ErrorReply) → TakesNext (Refused reply) → (e' : EndState) → new ≡ old ++ error_bytes reply → e' ≡ in_phase (refused (Some terms) outcomes.StoreFault e.phase) e → IsStored e'
-  stored_not reply o e' a s = (taken_turn (Refused reply), stores (Refused reply) o, record { state = s; goes = refl; appended = a })
+  pub stored_not : (reply : ErrorReply) → StoresNext (Refused reply) → (e' : EndState) → new ≡ old ++ error_bytes reply → e' ≡ in_phase (refused (Some terms) outcomes.StoreFault e.phase) e → IsStored e'
+  stored_not reply o e' a s = (stored_turn (Refused reply), stores (Refused reply) o, record { state = s; goes = refl; appended = a })

@@ -20,8 +20,8 @@ pub record EndState : Type 0 where
   pub retries : ℕ
   pub retries_left : ℕ
   -- what a timeout sends again, and where to
-  pub newest : List ℕ
-  pub newest_to : Endpoint
+  pub last_sent : List ℕ
+  pub last_sent_to : Endpoint
   -- a receiver's wire text that awaits its next byte
   pub held : List ℕ
   pub phase : Phase

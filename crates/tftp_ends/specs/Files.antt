@@ -5,7 +5,7 @@ use Rattle.tftp_file.specs.declared.files.Files.{Files}
 use Rattle.tftp_file.specs.declared.files.Files.TheVariants.{Source, Sink}
 use Rattle.tftp_ends.specs.declared.side.Side.{Side}
 use Rattle.tftp_ends.specs.End.{is_sender}
-use Rattle.tftp_ends.specs.Taking.{KeepsHolding}
+use Rattle.tftp_ends.specs.BlockStored.{KeepsHolding}
 
 module _ {S K : Type 0} where
   -- a source for a sender, a sink for a receiver

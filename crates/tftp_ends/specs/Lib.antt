@@ -6,11 +6,11 @@ pub mod Text
 pub mod Waiting
 pub mod Sender
 pub mod Receiver
-pub mod Row
+pub mod Action
 pub mod Step
 pub mod Sound
-pub mod Filling
-pub mod Taking
+pub mod BlockRead
+pub mod BlockStored
 pub mod Files
 pub mod Opening
 pub mod Endpoint

@@ -22,7 +22,7 @@ use Rattle.tftp_ends.specs.declared.record.Step.{Step}
 use Rattle.tftp_ends.specs.declared.side.Side.TheVariants.{ClientRead, ServerRead}
 use Rattle.tftp_ends.specs.End.{EndState}
 use Rattle.tftp_ends.specs.Step.{block_length, data_bytes, result_count_is}
-use Rattle.tftp_ends.specs.Waiting.{plain_terms, agreed_terms}
+use Rattle.tftp_ends.specs.Waiting.{default_terms, agreed_terms}
 
 -- the request of a client
 abbrev pub request_of : List ℕ → Mode → Asked → Request
@@ -48,8 +48,8 @@ getting to name mode asked limit retries =
       length = 0;
       retries = retries;
       retries_left = retries;
-      newest = canonical (Read (request_of name mode asked));
-      newest_to = to;
+      last_sent = canonical (Read (request_of name mode asked));
+      last_sent_to = to;
       held = [];
       phase = Waiting asked limit;
     }
@@ -63,8 +63,8 @@ serving mode length retries terms number sent =
       length = length;
       retries = retries;
       retries_left = retries;
-      newest = sent;
-      newest_to = terms.peer;
+      last_sent = sent;
+      last_sent_to = terms.peer;
       held = [];
       phase = Sending terms number;
     }
@@ -74,20 +74,20 @@ abbrev pub opening_step : Endpoint → Step
 opening_step to = record { to = Some to; progress = false; closed = None }
 
 -- a read is in octet and without options: the others aren't carried yet
-pub record IsCarried (mode : Mode) (agreed : List Known) : Type 0 where
+pub record IsSupported (mode : Mode) (agreed : List Known) : Type 0 where
   pub octet : mode ≡ Octet
   pub plain : agreed ≡ []
 
--- a read can be served: it is carried, and its blocks can be numbered
+-- a read can be served: it is supported, and its blocks can be numbered
 pub record CanServe (mode : Mode) (agreed : List Known) (length : ℕ) : Type 0 where
-  pub carried : IsCarried mode agreed
+  pub supported : IsSupported mode agreed
   pub fits : length < 65535 * size agreed
 
 -- a read is served: DATA 1 goes out, or where options are agreed their OACK
 abbrev pub ServesRead : {S : Type 0} → (S → Option (List ℕ)) → List Known → Endpoint → Mode → ℕ → ℕ → S → S → EndState → Type 0
 ServesRead left [] peer mode length retries source source' e =
     (piece : List ℕ) × Fills (left source) (left source') (block_length length 512 1) [] piece (Ok (block_length length 512 1))
-    × (e ≡ serving mode length retries (plain_terms peer) 1 (data_bytes 1 piece))
+    × (e ≡ serving mode length retries (default_terms peer) 1 (data_bytes 1 piece))
 ServesRead left (known ∷ others) peer mode length retries source source' e =
     (source' ≡ source)
     × (e ≡ serving mode length retries (agreed_terms peer (known ∷ others)) 0 (canonical (Oack (agreed_options (known ∷ others)))))

@@ -1,27 +1,27 @@
--- What a sender makes of a packet from its peer (RFC 1350, sections 2 and 6; RFC 1123, section 4.2.3.1).
+-- How a sender handles a packet from its peer (RFC 1350, sections 2 and 6; RFC 1123, section 4.2.3.1).
 use Rattle.std.specs.Prelude.{ℕ, ◌+◌, ◌/◌, nat_lt, ◌==◌, ◌&&◌, Bool, if◌then◌else◌, Option, Some, None}
 use Rattle.tftp_wire.specs.declared.packet.Packet.{Packet}
 use Rattle.tftp_wire.specs.declared.packet.Packet.TheVariants.{Ack, Error, Oack}
 use Rattle.tftp_ends.specs.declared.error_reply.ErrorReply.TheVariants.{IllegalOperation}
 use Rattle.tftp_ends.specs.declared.outcome.Outcome.TheVariants as outcomes
 use Rattle.tftp_ends.specs.declared.phase.Terms.{Terms}
-use Rattle.tftp_ends.specs.declared.row.Row.{Row}
-use Rattle.tftp_ends.specs.declared.row.Row.TheVariants.{Ignore, Close, Refuse, Send, Complete}
+use Rattle.tftp_ends.specs.declared.action.Action.{Action}
+use Rattle.tftp_ends.specs.declared.action.Action.TheVariants.{Ignore, Close, Refuse, Send, Complete}
 
 -- a packet that has no place in the transfer
-abbrev pub illegal_row : Terms → Row
-illegal_row terms = Refuse (Some terms) IllegalOperation outcomes.Illegal
+abbrev pub illegal_action : Terms → Action
+illegal_action terms = Refuse (Some terms) IllegalOperation outcomes.Illegal
 
 -- an ACK of the newest block asks for the next one, or ends the transfer; an older one asks for nothing
-abbrev pub acked_row : ℕ → Terms → ℕ → ℕ → Row
-acked_row length terms number acked =
+abbrev pub acked_action : ℕ → Terms → ℕ → ℕ → Action
+acked_action length terms number acked =
     if acked == number then (if nat_lt number (length / terms.size + 1) then Send terms (number + 1) else Complete)
-    else if nat_lt acked number then Ignore else illegal_row terms
+    else if nat_lt acked number then Ignore else illegal_action terms
 
--- what a sender makes of a packet; `client` says that it is a client's end
-abbrev pub sender_row : Bool → ℕ → Terms → ℕ → Option Packet → Row
-sender_row client length terms number None = illegal_row terms
-sender_row client length terms number (Some (Ack acked)) = acked_row length terms number acked
-sender_row client length terms number (Some (Error code text)) = Close (outcomes.PeerError code)
-sender_row client length terms number (Some (Oack options)) = if client && terms.by_oack then Ignore else illegal_row terms
-sender_row client length terms number (Some _) = illegal_row terms
+-- how a sender handles a packet; `client` says that it is a client's end
+abbrev pub sender_action : Bool → ℕ → Terms → ℕ → Option Packet → Action
+sender_action client length terms number None = illegal_action terms
+sender_action client length terms number (Some (Ack acked)) = acked_action length terms number acked
+sender_action client length terms number (Some (Error code text)) = Close (outcomes.PeerError code)
+sender_action client length terms number (Some (Oack options)) = if client && terms.by_oack then Ignore else illegal_action terms
+sender_action client length terms number (Some _) = illegal_action terms

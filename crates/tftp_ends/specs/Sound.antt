@@ -1,11 +1,11 @@
--- What holds of every end between two events, and of every row that it finds.
+-- What holds of every end between two events, and of every action that it finds.
 use Rattle.std.specs.Prelude.{ℕ, ◌≡◌, ◌*◌, ◌<◌, true, false, []}
 use Rattle.tftp_wire.specs.declared.mode.Mode.TheVariants.{Octet}
 use Rattle.tftp_negotiate.specs.Asked.{IsAskable}
 use Rattle.tftp_ends.specs.declared.phase.Phase.{Phase}
 use Rattle.tftp_ends.specs.declared.phase.Phase.TheVariants.{Waiting, Sending, Receiving, Dallying, Closed}
-use Rattle.tftp_ends.specs.declared.row.Row.{Row}
-use Rattle.tftp_ends.specs.declared.row.Row.TheVariants.{Ignore, Stranger, Again, Retry, Wait, Close, Refuse, Accept, Send, Store, Complete}
+use Rattle.tftp_ends.specs.declared.action.Action.{Action}
+use Rattle.tftp_ends.specs.declared.action.Action.TheVariants.{Ignore, Stranger, ResendReply, Retransmit, Wait, Close, Refuse, Accept, Send, Store, Complete}
 use Rattle.tftp_ends.specs.declared.phase.Terms.{Terms}
 use Rattle.tftp_ends.specs.End.{EndState, is_sender, is_client}
 
@@ -24,30 +24,30 @@ PhaseFits e (Closed terms number complete outcome) = Unit {0}
 -- what holds of an end between two events
 pub record IsSound (e : EndState) : Type 0 where
   pub phase : PhaseFits e e.phase
-  -- netascii isn't carried yet
+  -- netascii isn't supported yet
   pub octet : e.mode ≡ Octet
   pub nothing_held : e.held ≡ []
 
--- a row that sends is a sender's, and one that receives a receiver's
-abbrev pub RowFits : EndState → Row → Type 0
-RowFits e Ignore = Unit {0}
-RowFits e Stranger = Unit {0}
-RowFits e Again = Unit {0}
-RowFits e Retry = 0 < e.retries_left
-RowFits e Wait = Unit {0}
-RowFits e (Close outcome) = Unit {0}
-RowFits e (Refuse terms reply outcome) = Unit {0}
-RowFits e (Accept terms) = is_sender e.side ≡ false
-RowFits e (Send terms number) = IsSending e terms
-RowFits e (Store terms number) = (is_sender e.side ≡ false) × (e.mode ≡ Octet)
-RowFits e Complete = Unit {0}
+-- an action that sends is a sender's, and one that receives a receiver's
+abbrev pub ActionFits : EndState → Action → Type 0
+ActionFits e Ignore = Unit {0}
+ActionFits e Stranger = Unit {0}
+ActionFits e ResendReply = Unit {0}
+ActionFits e Retransmit = 0 < e.retries_left
+ActionFits e Wait = Unit {0}
+ActionFits e (Close outcome) = Unit {0}
+ActionFits e (Refuse terms reply outcome) = Unit {0}
+ActionFits e (Accept terms) = is_sender e.side ≡ false
+ActionFits e (Send terms number) = IsSending e terms
+ActionFits e (Store terms number) = (is_sender e.side ≡ false) × (e.mode ≡ Octet)
+ActionFits e Complete = Unit {0}
 
--- a row that a sender of a file of that length finds at a packet
-abbrev pub FitsSender : ℕ → Row → Type 0
+-- an action that a sender of a file of that length finds at a packet
+abbrev pub FitsSender : ℕ → Action → Type 0
 FitsSender length Ignore = Unit {0}
 FitsSender length Stranger = Unit {0}
-FitsSender length Again = Unit {0}
-FitsSender length Retry = ⊥
+FitsSender length ResendReply = Unit {0}
+FitsSender length Retransmit = ⊥
 FitsSender length Wait = Unit {0}
 FitsSender length (Close outcome) = Unit {0}
 FitsSender length (Refuse terms reply outcome) = Unit {0}
@@ -56,12 +56,12 @@ FitsSender length (Send terms number) = (0 < terms.size) × (length < 65535 * te
 FitsSender length (Store terms number) = ⊥
 FitsSender length Complete = Unit {0}
 
--- a row that a receiver finds at a packet
-abbrev pub FitsReceiver : Row → Type 0
+-- an action that a receiver finds at a packet
+abbrev pub FitsReceiver : Action → Type 0
 FitsReceiver Ignore = Unit {0}
 FitsReceiver Stranger = Unit {0}
-FitsReceiver Again = Unit {0}
-FitsReceiver Retry = ⊥
+FitsReceiver ResendReply = Unit {0}
+FitsReceiver Retransmit = ⊥
 FitsReceiver Wait = Unit {0}
 FitsReceiver (Close outcome) = Unit {0}
 FitsReceiver (Refuse terms reply outcome) = Unit {0}

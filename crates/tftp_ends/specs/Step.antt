@@ -17,12 +17,12 @@ use Rattle.tftp_ends.specs.declared.phase.Phase.{Phase}
 use Rattle.tftp_ends.specs.declared.phase.Phase.TheVariants.{Sending, Receiving, Dallying}
 use Rattle.tftp_ends.specs.declared.phase.Terms.{Terms}
 use Rattle.tftp_ends.specs.declared.record.Step.{Step}
-use Rattle.tftp_ends.specs.declared.row.Row.{Row}
-use Rattle.tftp_ends.specs.declared.row.Row.TheVariants.{Ignore, Stranger, Again, Retry, Wait, Close, Refuse, Accept, Send, Store, Complete}
+use Rattle.tftp_ends.specs.declared.action.Action.{Action}
+use Rattle.tftp_ends.specs.declared.action.Action.TheVariants.{Ignore, Stranger, ResendReply, Retransmit, Wait, Close, Refuse, Accept, Send, Store, Complete}
 use Rattle.tftp_ends.specs.End.{EndState, is_progress, step_of}
 use Rattle.tftp_ends.specs.ErrorReply.{error_packet}
 use Rattle.tftp_ends.specs.Phase.{closed, refused, completed, waited}
-use Rattle.tftp_ends.specs.Row.{Says, datagram_row, timeout_row}
+use Rattle.tftp_ends.specs.Action.{Decodes, datagram_action, timeout_action}
 use Rattle.tftp_ends.specs.Text.{Decoded}
 use Rattle.tftp_file.specs.Source.{Fills}
 use Rattle.tftp_file.specs.Sink.{Holding, Appends, Commits}
@@ -45,7 +45,7 @@ in_phase phase e =
 
 -- an end that has sent a new datagram, which a timeout will send again
 abbrev pub having_sent : Reply → EndState → EndState
-having_sent reply e = record e { newest = reply.bytes; newest_to = reply.to }
+having_sent reply e = record e { last_sent = reply.bytes; last_sent_to = reply.to }
 
 -- the bytes of an ERROR, and of an ACK
 abbrev pub error_bytes : ErrorReply → List ℕ
@@ -57,12 +57,12 @@ ack_bytes number = canonical (Ack number)
 abbrev pub data_bytes : ℕ → List ℕ → List ℕ
 data_bytes number bytes = canonical (Data number bytes)
 
--- the end after a row that touches no file, where a datagram came from there
-abbrev pub after : Row → Endpoint → EndState → EndState
+-- the end after an action that touches no file, where a datagram came from there
+abbrev pub after : Action → Endpoint → EndState → EndState
 after Ignore from e = e
 after Stranger from e = e
-after Again from e = e
-after Retry from e = record e { retries_left = e.retries_left - 1 }
+after ResendReply from e = e
+after Retransmit from e = record e { retries_left = e.retries_left - 1 }
 after Wait from e = record e { phase = waited e.phase }
 after (Close outcome) from e = in_phase (closed outcome e.phase) e
 after (Refuse terms reply outcome) from e = in_phase (refused terms outcome e.phase) e
@@ -71,12 +71,12 @@ after (Send terms number) from e = e
 after (Store terms number) from e = e
 after Complete from e = in_phase (completed e.phase) e
 
--- what is answered at a row that touches no file
-abbrev pub reply_at : Row → Endpoint → EndState → Option Reply
+-- what is answered at an action that touches no file
+abbrev pub reply_at : Action → Endpoint → EndState → Option Reply
 reply_at Ignore from e = None
 reply_at Stranger from e = Some (record { to = from; bytes = error_bytes replies.UnknownTransferId })
-reply_at Again from e = Some (record { to = from; bytes = e.newest })
-reply_at Retry from e = Some (record { to = e.newest_to; bytes = e.newest })
+reply_at ResendReply from e = Some (record { to = from; bytes = e.last_sent })
+reply_at Retransmit from e = Some (record { to = e.last_sent_to; bytes = e.last_sent })
 reply_at Wait from e = None
 reply_at (Close outcome) from e = None
 reply_at (Refuse terms reply outcome) from e = Some (record { to = from; bytes = error_bytes reply })
@@ -90,15 +90,15 @@ pub record Turn : Type 0 where
   pub end : EndState
   pub reply : Option Reply
 
--- a row that touches no file
-abbrev pub row_turn : Row → Endpoint → EndState → Turn
-row_turn row from e = record { end = after row from e; reply = reply_at row from e }
+-- an action that touches no file
+abbrev pub action_turn : Action → Endpoint → EndState → Turn
+action_turn action from e = record { end = after action from e; reply = reply_at action from e }
 
 -- an ERROR, and closed with these terms
 abbrev pub refused_turn : Terms → ErrorReply → Outcome → Endpoint → EndState → Turn
-refused_turn terms reply outcome from e = row_turn (Refuse (Some terms) reply outcome) from e
+refused_turn terms reply outcome from e = action_turn (Refuse (Some terms) reply outcome) from e
 
--- a datagram that is kept as the newest, in that phase
+-- a datagram that is kept as the last one sent, in that phase
 abbrev pub sent_turn : Phase → Endpoint → List ℕ → EndState → Turn
 sent_turn phase from bytes e =
     let reply : Reply = record { to = from; bytes = bytes } in
@@ -191,21 +191,21 @@ module _ {S K : Type 0} (left : S → Option (List ℕ)) (may_fail : S → ℕ �
   StoresIn terms number from piece e (Sink sink) turn (Sink sink') = Stores held may_refuse_append may_refuse_commit terms number from piece e sink turn sink'
   StoresIn terms number from piece e _ turn _ = ⊥
 
-  -- what an end does at a row, where a datagram of these bytes came from there
-  abbrev pub Acts : Row → Endpoint → List ℕ → EndState → Files S K → Turn → Files S K → Type 0
+  -- what an end does at an action, where a datagram of these bytes came from there
+  abbrev pub Acts : Action → Endpoint → List ℕ → EndState → Files S K → Turn → Files S K → Type 0
   Acts (Send terms number) from bytes e files turn files' = SendsFrom terms number from e files turn files'
   Acts (Store terms number) from bytes e files turn files' = StoresIn terms number from (drop 4 bytes) e files turn files'
-  Acts row from bytes e files turn files' = (turn ≡ row_turn row from e) × (files' ≡ files)
+  Acts action from bytes e files turn files' = (turn ≡ action_turn action from e) × (files' ≡ files)
 
   -- what an open end does at a datagram
-  pub record Hears (from : Endpoint) (bytes : List ℕ) (e : EndState) (files : Files S K) (turn : Turn) (files' : Files S K) : Type 0 where
-    pub heard : Option Packet
-    pub says : Says bytes heard
-    pub acts : Acts (datagram_row e from bytes heard) from bytes e files turn files'
+  pub record DatagramStep (from : Endpoint) (bytes : List ℕ) (e : EndState) (files : Files S K) (turn : Turn) (files' : Files S K) : Type 0 where
+    pub decoded : Option Packet
+    pub says : Decodes bytes decoded
+    pub acts : Acts (datagram_action e from bytes decoded) from bytes e files turn files'
 
 -- what an open end does at a timeout
 abbrev pub timeout_turn : EndState → Turn
-timeout_turn e = row_turn (timeout_row e.retries_left e.phase) e.newest_to e
+timeout_turn e = action_turn (timeout_action e.retries_left e.phase) e.last_sent_to e
 
 -- what a call tells of a turn
 abbrev pub told : EndState → Turn → Step
@@ -216,12 +216,12 @@ abbrev pub reply_bytes : Option Reply → List ℕ
 reply_bytes None = []
 reply_bytes (Some reply) = reply.bytes
 
--- a row that answers by a datagram, and so may want memory
-abbrev pub IsAnswered : Row → Type 0
+-- an action that answers by a datagram, and so may want memory
+abbrev pub IsAnswered : Action → Type 0
 IsAnswered Ignore = ⊥
 IsAnswered Stranger = Unit {0}
-IsAnswered Again = Unit {0}
-IsAnswered Retry = Unit {0}
+IsAnswered ResendReply = Unit {0}
+IsAnswered Retransmit = Unit {0}
 IsAnswered Wait = ⊥
 IsAnswered (Close outcome) = ⊥
 IsAnswered (Refuse terms reply outcome) = Unit {0}
@@ -237,7 +237,7 @@ pub record Carries (turn : Turn) (e : EndState) (to : Option Endpoint) (old new 
   pub appended : new ≡ old ++ reply_bytes turn.reply
 
 -- a fill of a block went behind what was there, if all of the block came; a source that may not fail to read hasn't
-pub record Fetches (before after : Option (List ℕ)) (may_fail : Type 0) (want : ℕ) (old new : List ℕ) (is_whole : Bool) : Type 0 where
+pub record ReadsBlock (before after : Option (List ℕ)) (may_fail : Type 0) (want : ℕ) (old new : List ℕ) (is_whole : Bool) : Type 0 where
   pub answer : Result ℕ FileFault
   pub piece : List ℕ
   pub fills : Fills before after want [] piece answer
@@ -247,7 +247,7 @@ pub record Fetches (before after : Option (List ℕ)) (may_fail : Type 0) (want 
   pub appended : new ≡ old ++ (if is_whole then piece else [])
 
 -- a fetch whose block went out as DATA, or the ERROR went out that says the file has changed
-pub record Offers (before after : Option (List ℕ)) (may_fail : Type 0) (number want : ℕ) (old new : List ℕ) (is_whole : Bool) : Type 0 where
+pub record AppendsDataOrError (before after : Option (List ℕ)) (may_fail : Type 0) (number want : ℕ) (old new : List ℕ) (is_whole : Bool) : Type 0 where
   pub answer : Result ℕ FileFault
   pub piece : List ℕ
   pub fills : Fills before after want [] piece answer

@@ -1,4 +1,4 @@
-//! An end of a transfer: what it makes of datagrams and timeouts.
+//! An end of a transfer: how it handles datagrams and timeouts.
 
 mod acting;
 mod opening;
@@ -7,18 +7,18 @@ ghost use Rattle.std.specs.Prelude.{◌≡◌, ◌↔◌, option_map, Option, If
 ghost use Rattle.tftp_wire.specs.Borrowed.{owned};
 ghost use Rattle.tftp_wire.specs.declared.packet.Packet.{Packet};
 
+use crate::action::Action;
+use crate::decoding::{decode_packet, has_error_opcode};
 use crate::endpoint::Endpoint;
 use crate::error_reply::ErrorReply;
 use crate::fault::EndFault;
-use crate::hearing::{begins_error, hear};
 use crate::outcome::Outcome;
 use crate::phase::{Dally, Phase, Terms};
-use crate::receiver::{dally_row, receiver_row};
+use crate::receiver::{dally_action, receiver_action};
 use crate::record::{Record, Step};
-use crate::row::Row;
-use crate::sender::sender_row;
+use crate::sender::sender_action;
 use crate::side::Side;
-use crate::waiting::{reader_row, writer_row};
+use crate::waiting::{reader_action, writer_action};
 use std::marker::Model;
 use tftp_file::{Files, Sink, Source};
 use tftp_wire::{Mode, PacketRef};
@@ -36,8 +36,8 @@ pub struct End {
     length: u64,
     retries: u8,
     retries_left: u8,
-    newest: Vec<u8>,
-    newest_to: Endpoint,
+    last_sent: Vec<u8>,
+    last_sent_to: Endpoint,
     phase: Phase,
 }
 
@@ -48,17 +48,17 @@ impl Model for End {
 
     ghost Value = { EndState };
 
-    ghost view = { λ e. record { side = e.side; mode = e.mode; length = e.length; retries = e.retries; retries_left = e.retries_left; newest = e.newest.items; newest_to = e.newest_to; held = []; phase = e.phase } };
+    ghost view = { λ e. record { side = e.side; mode = e.mode; length = e.length; retries = e.retries; retries_left = e.retries_left; last_sent = e.last_sent.items; last_sent_to = e.last_sent_to; held = []; phase = e.phase } };
 
-    ghost invariant = { λ e. IsSound (record { side = e.side; mode = e.mode; length = e.length; retries = e.retries; retries_left = e.retries_left; newest = e.newest.items; newest_to = e.newest_to; held = []; phase = e.phase }) × (4 ≤ vec_capacity e.newest) };
+    ghost invariant = { λ e. IsSound (record { side = e.side; mode = e.mode; length = e.length; retries = e.retries; retries_left = e.retries_left; last_sent = e.last_sent.items; last_sent_to = e.last_sent_to; held = []; phase = e.phase }) × (4 ≤ vec_capacity e.last_sent) };
 }
 
 impl End {
     ghost use Rattle.tftp_ends.specs.End.{record_of, outcome_of, terms_of};
-    ghost use Rattle.tftp_ends.specs.Row.{Says, datagram_row, packet_row, garbled_row, is_stranger, timeout_row};
-    ghost use Rattle.tftp_ends.specs.Sound.{RowFits};
+    ghost use Rattle.tftp_ends.specs.Action.{Decodes, datagram_action, packet_action, garbled_action, is_stranger, timeout_action};
+    ghost use Rattle.tftp_ends.specs.Sound.{ActionFits};
     ghost use Rattle.tftp_ends.specs.Files.{AreFilesOf, KeepsFiles, AreSame};
-    ghost use Rattle.tftp_ends.specs.Step.{Turn, Hears, Carries, IsAnswered, told, timeout_turn};
+    ghost use Rattle.tftp_ends.specs.Step.{Turn, DatagramStep, Carries, IsAnswered, told, timeout_turn};
 
     /// How far the end came.
     pub fn record(&self) -> Record
@@ -79,84 +79,91 @@ impl End {
     /// Whether a datagram from there is not from the other end, or, before there is one, not from
     /// the server's address.
     fn is_stranger(&self, from: Endpoint) -> bool
-        ensures { result ≡ is_stranger (terms_of self.now.phase) self.now.newest_to from }
+        ensures { result ≡ is_stranger (terms_of self.now.phase) self.now.last_sent_to from }
     {
         match self.phase.terms() {
             Some(terms) => terms.peer != from,
-            None => self.newest_to.ip != from.ip,
+            None => self.last_sent_to.ip != from.ip,
         }
     }
 
     /// What begins as an ERROR and is none ends the transfer in silence, but not a dally.
-    fn garbled_row(&self) -> Row
-        ensures { result ≡ garbled_row self.now.phase }
+    fn garbled_action(&self) -> Action
+        ensures { result ≡ garbled_action self.now.phase }
     {
         match self.phase {
-            Phase::Waiting { .. } | Phase::Sending { .. } | Phase::Receiving { .. } => Row::Close {
-                outcome: Outcome::Illegal,
-            },
-            Phase::Dallying { .. } | Phase::Closed { .. } => Row::Ignore,
+            Phase::Waiting { .. } | Phase::Sending { .. } | Phase::Receiving { .. } =>
+                Action::Close {
+                    outcome: Outcome::Illegal,
+                },
+            Phase::Dallying { .. } | Phase::Closed { .. } => Action::Ignore,
         }
     }
 
-    /// What the end makes of a packet from its peer, or from the server while it has none.
-    fn packet_row(&self, from: Endpoint, heard: &Option<PacketRef<'_>>) -> Row
-        ensures row { result ≡ packet_row self.now from (option_map owned heard.now) self.now.phase }
-        ensures fits { RowFits self.now result }
+    /// How the end handles a packet from its peer, or from the server while it has none.
+    fn packet_action(&self, from: Endpoint, decoded: &Option<PacketRef<'_>>) -> Action
+        ensures action { result ≡ packet_action self.now from (option_map owned decoded.now) self.now.phase }
+        ensures fits { ActionFits self.now result }
     {
         match self.phase {
             Phase::Waiting { asked, limit } => {
                 if self.side.is_sender() {
-                    writer_row(&asked, limit, self.length, from, heard)
+                    writer_action(&asked, limit, self.length, from, decoded)
                 } else {
-                    reader_row(&asked, limit, from, heard)
+                    reader_action(&asked, limit, from, decoded)
                 }
             }
             Phase::Sending { terms, number } => {
-                sender_row(self.side, self.length, terms, number, heard)
+                sender_action(self.side, self.length, terms, number, decoded)
             }
-            Phase::Receiving { terms, number } => receiver_row(self.side, terms, number, heard),
-            Phase::Dallying { number, .. } => dally_row(number, heard),
-            Phase::Closed { .. } => Row::Ignore,
+            Phase::Receiving { terms, number } => receiver_action(
+                self.side, terms, number, decoded,
+            ),
+            Phase::Dallying { number, .. } => dally_action(number, decoded),
+            Phase::Closed { .. } => Action::Ignore,
         }
     }
 
-    /// What the end makes of a datagram: first from whom it is, then whether it may be answered.
-    fn datagram_row(&self, from: Endpoint, bytes: &[u8]) -> Row
-        ensures row { (heard : Option Packet) × Says bytes.now heard × (result ≡ datagram_row self.now from bytes.now heard) }
-        ensures fits { RowFits self.now result }
+    /// How the end handles a datagram: first from whom it is, then whether it may be answered.
+    fn datagram_action(&self, from: Endpoint, bytes: &[u8]) -> Action
+        ensures action { (decoded : Option Packet) × Decodes bytes.now decoded × (result ≡ datagram_action self.now from bytes.now decoded) }
+        ensures fits { ActionFits self.now result }
     {
-        let heard = hear(bytes);
-        let is_error = begins_error(bytes);
+        let decoded = decode_packet(bytes);
+        let is_error = has_error_opcode(bytes);
         if self.is_stranger(from) {
-            return if is_error { Row::Ignore } else { Row::Stranger };
+            return if is_error {
+                Action::Ignore
+            } else {
+                Action::Stranger
+            };
         }
-        if is_error && heard.is_none() {
-            return self.garbled_row();
+        if is_error && decoded.is_none() {
+            return self.garbled_action();
         }
-        self.packet_row(from, &heard)
+        self.packet_action(from, &decoded)
     }
 
-    /// What the end makes of a timeout (RFC 1350, sections 2 and 6).
-    fn timeout_row(&self) -> Row
-        ensures row { result ≡ timeout_row self.now.retries_left self.now.phase }
-        ensures fits { RowFits self.now result }
+    /// How the end handles a timeout (RFC 1350, sections 2 and 6).
+    fn timeout_action(&self) -> Action
+        ensures action { result ≡ timeout_action self.now.retries_left self.now.phase }
+        ensures fits { ActionFits self.now result }
     {
         match self.phase {
             Phase::Dallying {
                 dally: Dally::Fresh,
                 ..
-            } => Row::Wait,
+            } => Action::Wait,
             Phase::Dallying {
                 dally: Dally::Waited,
                 ..
-            } => Row::Close {
+            } => Action::Close {
                 outcome: Outcome::Complete,
             },
-            _ if self.retries_left == 0 => Row::Close {
+            _ if self.retries_left == 0 => Action::Close {
                 outcome: Outcome::TimedOut,
             },
-            _ => Row::Retry,
+            _ => Action::Retransmit,
         }
     }
 
@@ -187,11 +194,11 @@ impl End {
         out: &mut Vec<u8>,
     ) -> Result<Step, EndFault>
         requires { AreFilesOf self.old.side files.old }
-        ensures hears { IfOk result (λ step. (turn : Turn)
-            × Hears S.left S.may_fail K.held K.may_refuse_append K.may_refuse_commit from bytes.now self.old files.old turn files.new
+        ensures steps { IfOk result (λ step. (turn : Turn)
+            × DatagramStep S.left S.may_fail K.held K.may_refuse_append K.may_refuse_commit from bytes.now self.old files.old turn files.new
             × Carries turn self.new step.to out.old.items out.new.items × (step ≡ told self.old turn)) }
         ensures closed { IsErrOf result EndFault.Closed ↔ IsSome (outcome_of self.old.phase) }
-        ensures memory { IsErrOf result EndFault.Memory → (heard : Option Packet) × Says bytes.now heard × IsAnswered (datagram_row self.old from bytes.now heard) }
+        ensures memory { IsErrOf result EndFault.Memory → (decoded : Option Packet) × Decodes bytes.now decoded × IsAnswered (datagram_action self.old from bytes.now decoded) }
         ensures err { OnErr result ((self.new ≡ self.old) × (out.new.items ≡ out.old.items) × KeepsFiles S.left K.held files.old files.new) }
         ensures same { AreSame S.is_same K.is_same files.old files.new }
         ensures files { AreFilesOf self.new.side files.new }
@@ -200,8 +207,8 @@ impl End {
             return Err(EndFault::Closed);
         }
         let before = self.phase();
-        let row = self.datagram_row(from, bytes);
-        let to = self.act(row, files, from, bytes, out)?;
+        let action = self.datagram_action(from, bytes);
+        let to = self.act(action, files, from, bytes, out)?;
         Ok(before.step_to(self.phase(), to))
     }
 
@@ -214,7 +221,7 @@ impl End {
         ensures steps { IfOk result (λ step. Carries (timeout_turn self.old) self.new step.to out.old.items out.new.items
             × (step ≡ told self.old (timeout_turn self.old))) }
         ensures closed { IsErrOf result EndFault.Closed ↔ IsSome (outcome_of self.old.phase) }
-        ensures memory { IsErrOf result EndFault.Memory → IsAnswered (timeout_row self.old.retries_left self.old.phase) }
+        ensures memory { IsErrOf result EndFault.Memory → IsAnswered (timeout_action self.old.retries_left self.old.phase) }
         ensures err { OnErr result ((self.new ≡ self.old) × (out.new.items ≡ out.old.items)) }
         ensures side { self.new.side ≡ self.old.side }
     {
@@ -222,8 +229,8 @@ impl End {
             return Err(EndFault::Closed);
         }
         let before = self.phase();
-        let row = self.timeout_row();
-        let to = self.answer(row, self.newest_to, out)?;
+        let action = self.timeout_action();
+        let to = self.answer(action, self.last_sent_to, out)?;
         Ok(before.step_to(self.phase(), to))
     }
 }

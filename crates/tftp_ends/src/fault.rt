@@ -20,7 +20,7 @@ pub enum OpenFault {
     /// The first block could not be read.
     #[error("the file could not be read")]
     SourceFault = 3,
-    /// Memory was wanting.
+    /// Out of memory.
     #[error("out of memory")]
     Memory = 4,
 }
@@ -31,7 +31,7 @@ pub enum EndFault {
     /// The end is closed.
     #[error("the end is closed")]
     Closed = 1,
-    /// Memory was wanting for the answer.
+    /// Out of memory for the answer.
     #[error("out of memory")]
     Memory = 2,
 }

@@ -7,32 +7,32 @@
 //! Begin with [`End`]. Each of its calls makes one step of the machine that specs/ defines.
 #![tactic(auto)]
 
+mod action;
 mod config;
+mod decoding;
 mod end;
 mod endpoint;
 mod error_reply;
 mod fault;
-mod hearing;
 mod outcome;
 mod phase;
 mod receiver;
 mod record;
 mod reply;
-mod row;
 mod sender;
 mod side;
 #[cfg(test)]
 mod tests;
 mod waiting;
 
+pub use action::Action;
 pub use config::EndConfig;
+pub use decoding::{decode_packet, has_error_opcode};
 pub use end::End;
 pub use endpoint::Endpoint;
 pub use error_reply::ErrorReply;
 pub use fault::{EndFault, OpenFault};
-pub use hearing::{begins_error, hear};
 pub use outcome::Outcome;
 pub use phase::{Dally, Phase, Terms};
 pub use record::{Record, Step};
-pub use row::Row;
 pub use side::Side;

@@ -50,7 +50,7 @@ pub enum Phase {
         /// The longest file that it takes, in bytes, where the server tells the length.
         limit: u64,
     },
-    /// It sends: DATA `number` is its newest, or at 0 an OACK is.
+    /// It sends: DATA `number` is the last datagram sent, or at 0 an OACK is.
     Sending {
         terms: Terms,
         number: u16,

@@ -71,7 +71,7 @@ pub(crate) fn append_error(out: &mut Vec<u8>, reply: ErrorReply) -> Result<(), A
 }
 
 impl ErrorReply {
-    /// Appends the ERROR, as it is sent. It fails for want of memory alone, and then appends nothing.
+    /// Appends the ERROR, as it is sent. It fails only when out of memory, and then appends nothing.
     pub fn append_to(self, out: &mut Vec<u8>) -> Result<(), AllocError>
         ensures ok { OnOk result (out.new.items ≡ out.old.items ++ error_bytes self) }
         ensures err { OnErr result (out.new.items ≡ out.old.items) }

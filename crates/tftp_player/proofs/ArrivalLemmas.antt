@@ -1,4 +1,4 @@
--- What a datagram makes of a world, from what it made of its ends.
+-- How a datagram handles a world, from what it made of its ends.
 use Rattle.std.proofs.Common.{◌≡◌, ◌≢◌, ℕ, suc, zero, ◌+◌, ◌<◌, ◌≤◌, true, List, [], ◌∷◌, ◌++◌, length, Some, None, refl, sym, ap, ◌∙◌, subst, arith, inl, inr}
 use Rattle.std.specs.Prelude.{◌⊎◌, slice_get, slice_index_or}
 use Rattle.std.proofs.lemmas.List.{append-nil}
@@ -9,7 +9,7 @@ use Rattle.tftp_player.specs.Machine.{Endpoint, request_port}
 use Rattle.tftp_player.specs.Effect.{no_effect, said_by, report_by}
 use Rattle.tftp_player.specs.Played.{ends_from, end_at, address_of, AllKept}
 use Rattle.tftp_player.specs.Serving.{PlayedServer, Transfer}
-use Rattle.tftp_player.specs.Stage.{ends_of, world_of, StageHears, HeardAt, LostAt}
+use Rattle.tftp_player.specs.Stage.{ends_of, world_of, StageDatagramStep, DatagramAt, LostAt}
 use Rattle.tftp_player.specs.Today.{ArrivesToday, Elsewhere, StepToday, ArrivalRefuses, StageAsks, StageArrives, StageRefuses}
 use Rattle.tftp_player.specs.World.{WorldState, OpenedEnd, is_closed, replied, report_of, no_report}
 use Rattle.tftp_player.specs.declared.datagram.Datagram.{Datagram}
@@ -64,19 +64,19 @@ module _ (from to : Endpoint) (bytes : List ℕ) (before after : PlayedServer) (
       ∙ (ap (λ (ds : List Datagram). world_of before.config ds after ps') (append-nil sent)
       ∙ (ap (λ (st : Stored). record (old sent) { files = st.files; ends = ends_of after ps' }) store ∙ ap (λ (xs : List OpenedEnd). record (old sent) { ends = xs }) lost.next))
 
-  heard_as : (sent : List Datagram) (place : ℕ) (x : OpenedEnd) → after.store ≡ before.store → (h : HeardAt place x from bytes before.store.files (ends_of before ps) (ends_of after ps') effect) →
+  decoded_as : (sent : List Datagram) (place : ℕ) (x : OpenedEnd) → after.store ≡ before.store → (h : DatagramAt place x from bytes before.store.files (ends_of before ps) (ends_of after ps') effect) →
       new sent ≡ turned (old sent) place x h.turn h.held
-  heard_as sent place x store h =
+  decoded_as sent place x store h =
       ap (λ (e : Effect). world_of before.config (sent ++ said_by e.from e.to e.bytes) after ps') h.turns.effects
       ∙ (ap (λ (ds : List Datagram). world_of before.config (sent ++ ds) after ps') (said_is x.address h.turn.reply)
       ∙ (ap (λ (st : Stored). record (old sent) { sent = sent ++ replied x.address h.turn.reply; files = st.files; ends = ends_of after ps' }) store
       ∙ ap (λ (xs : List OpenedEnd). record (old sent) { sent = sent ++ replied x.address h.turn.reply; ends = xs }) h.turns.next))
 
-  pub hears_arrives : (place : ℕ) → to.port ≡ 1024 + place → StageHears place from to bytes before after ps ps' effect → StageArrives from to bytes before after ps ps' effect
-  hears_arrives place port t sent = by_case t.comes where
+  pub step_arrives : (place : ℕ) → to.port ≡ 1024 + place → StageDatagramStep place from to bytes before after ps ps' effect → StageArrives from to bytes before after ps ps' effect
+  step_arrives place port t sent = by_case t.comes where
     by_case : ((t.end.address ≢ to) × LostAt to (ends_of before ps) (ends_of after ps') effect)
         ⊎ ((t.end.address ≡ to) × (((is_closed t.end ≡ true) × LostAt to (ends_of before ps) (ends_of after ps') effect)
-        ⊎ HeardAt place t.end from bytes before.store.files (ends_of before ps) (ends_of after ps') effect)) →
+        ⊎ DatagramAt place t.end from bytes before.store.files (ends_of before ps) (ends_of after ps') effect)) →
         ArrivesToday (old sent) from to bytes (report_by sent effect) (new sent)
     by_case (inl (differs, lost)) =
         elsewhere (old sent) (old sent) (new sent) from to bytes no_report (report_by sent effect) away (ap (report_by sent) lost.effects) (still sent t.same.store lost)
@@ -86,9 +86,9 @@ module _ (from to : Endpoint) (bytes : List ℕ) (before after : PlayedServer) (
         (subst (λ (a : Endpoint). ArrivesAtRest (old sent) from a bytes no_report (old sent)) same (closed_arrives (old sent) place t.end from bytes (rests sent) t.found closed))
     by_case (inr (same, inr h)) =
         elsewhere (old sent) (turned (old sent) place t.end h.turn h.held) (new sent) from to bytes (report_of (old sent) t.end h.turn) (report_by sent effect) away
-        (report_is (old sent) t.end h.turn effect h.turns.effects) (heard_as sent place t.end t.same.store h)
+        (report_is (old sent) t.end h.turn effect h.turns.effects) (decoded_as sent place t.end t.same.store h)
         (subst (λ (a : Endpoint). ArrivesAtRest (old sent) from a bytes (report_of (old sent) t.end h.turn) (turned (old sent) place t.end h.turn h.held)) same
-        (open_arrives (old sent) place t.end from bytes h.turn h.held (rests sent) t.found h.open_now h.hears h.commits))
+        (open_arrives (old sent) place t.end from bytes h.turn h.held (rests sent) t.found h.open_now h.steps h.commits))
 
   pub nobody_arrives : (count : ℕ) → count ≡ length ps → (to.port < 1024) ⊎ (1024 + count ≤ to.port) → after ≡ before → ps' ≡ ps → effect ≡ no_effect to → StageArrives from to bytes before after ps ps' effect
   nobody_arrives count counts none e f lost sent =

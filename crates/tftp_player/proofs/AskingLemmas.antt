@@ -1,4 +1,4 @@
--- What the request port makes of a world, from what the server did.
+-- How the request port handles a world, from what the server did.
 use Rattle.std.proofs.Common.{◌≡◌, ◌≢◌, ℕ, ◌+◌, ◌<◌, ◌≤◌, true, List, [], ◌∷◌, ◌++◌, length, get_or, Option, Some, None, refl, sym, ap, ◌∙◌, subst, arith, inl, inr, length-append}
 use Rattle.std.specs.Prelude.{◌⊎◌, ◌&&◌, not, option_map}
 use Rattle.tftp_wire.specs.declared.mode.Mode.{Mode}
@@ -12,15 +12,15 @@ use Rattle.tftp_wire.specs.declared.packet.Packet.{Packet}
 use Rattle.tftp_negotiate.specs.Ranges.{IsBlockSize}
 use Rattle.tftp_file.specs.Memory.{MemSinkState}
 use Rattle.tftp_ends.specs.declared.record.Record.{Record}
-use Rattle.tftp_ends.specs.Row.{Says}
+use Rattle.tftp_ends.specs.Action.{Decodes}
 use Rattle.tftp_server.specs.declared.opened.Opened.{Opened}
-use Rattle.tftp_server.specs.Request.{CarriedStep, carried, carried_read, plain_read, asked_of}
+use Rattle.tftp_server.specs.Request.{SupportedStep, supported, supported_read, default_read, asked_of}
 use Rattle.tftp_server.specs.Store.{Stored, Drafted, FileList}
 use Rattle.tftp_player.specs.Machine.{Endpoint, request_port}
 use Rattle.tftp_player.specs.Effect.{said_by, report_by}
 use Rattle.tftp_player.specs.Played.{PlayerKept, end_at, ends_from, records_from}
 use Rattle.tftp_player.specs.Requests.{service, Sends_file, open_transfers}
-use Rattle.tftp_player.specs.Wanting.{Wants, wanted_by, wanted_at}
+use Rattle.tftp_player.specs.Requested.{IsRequested, requested_by, requested_at}
 use Rattle.tftp_player.specs.declared.served.Served.{Served}
 use Rattle.tftp_player.specs.Serving.{PlayedServer, Transfer}
 use Rattle.tftp_player.specs.Stage.{IsStaged, ends_of, world_of}
@@ -32,9 +32,9 @@ use Rattle.tftp_player.specs.declared.effect.Effect.{Effect}
 use Rattle.tftp_player.specs.declared.player.Player.{Player}
 use Rattle.tftp_player.specs.declared.report.Report.{Report}
 use Rattle.tftp_player.proofs.PlayLemmas.{ends_length, ends_rest, to_kept, from_kept}
-use Rattle.tftp_player.proofs.PortLemmas.{PortOpened, PortRefused, PortSilent, port_opened, port_not_opened, service_sends, new_sender, sending_is, sending_side, sending_open, sending_newest_to}
+use Rattle.tftp_player.proofs.PortLemmas.{PortOpened, PortRefused, PortSilent, port_opened, port_not_opened, service_sends, new_sender, sending_is, sending_side, sending_open, sending_last_sent_to}
 use Rattle.tftp_player.proofs.Resting.{resting_same, resting_opened}
-use Rattle.tftp_player.proofs.ServerLemmas.{says_something, says_one, carries_no_write, IsServerOf, PortLeft, PortDid, carried_did, held_of}
+use Rattle.tftp_player.proofs.ServerLemmas.{says_something, says_one, carries_no_write, IsServerOf, PortLeft, PortDid, supported_did, held_of}
 use Rattle.tftp_player.proofs.HeldLemmas.{AreBelow, AreBelow-with_new, with_new-last, at-with_new, at-with_new_other}
 use Rattle.tftp_player.proofs.PlacedEnds.{told-same, kept-push, is_transfer, transfers-push}
 use Rattle.tftp_player.proofs.OpenedLemmas.{ends_push, records_push}
@@ -51,32 +51,32 @@ abbrev pub untold : MemSinkState → Option Drafted
 untold draft = None
 
 -- ---- where an end opens
--- what is carried asks for the same end
-carried_wants_in : (files : FileList) (name : List ℕ) (m : Mode) (request : Request) → carried_read name m ≡ Some (Read request) → wanted_at files m (path_of_name name) ≡ wanted_at files request.mode (path_of_name request.name)
-carried_wants_in files name Octet request e = let f : plain_read name ≡ request = cc in ap (λ (r : Request). wanted_at files r.mode (path_of_name r.name)) f
-carried_wants_in files name Netascii request e = absurd (let f : None ≡ Some (Read request) = e in cc)
+-- what is supported asks for the same end
+supported_requests_in : (files : FileList) (name : List ℕ) (m : Mode) (request : Request) → supported_read name m ≡ Some (Read request) → requested_at files m (path_of_name name) ≡ requested_at files request.mode (path_of_name request.name)
+supported_requests_in files name Octet request e = let f : default_read name ≡ request = cc in ap (λ (r : Request). requested_at files r.mode (path_of_name r.name)) f
+supported_requests_in files name Netascii request e = absurd (let f : None ≡ Some (Read request) = e in cc)
 
 no_request : (request : Request) → None ≡ Some (Read request) → ⊥
 no_request request e = cc
 
-carried_wants : (files : FileList) (heard : Option Packet) (request : Request) → carried heard ≡ Some (Read request) → wanted_by files heard ≡ wanted_at files request.mode (path_of_name request.name)
-carried_wants files None request e = absurd (no_request request e)
-carried_wants files (Some (Read r)) request e = carried_wants_in files r.name r.mode request e
-carried_wants files (Some (Write r)) request e = absurd (no_request request e)
-carried_wants files (Some (Data number bytes)) request e = absurd (no_request request e)
-carried_wants files (Some (Ack number)) request e = absurd (no_request request e)
-carried_wants files (Some (Error code text)) request e = absurd (no_request request e)
-carried_wants files (Some (Oack options)) request e = absurd (no_request request e)
+supported_requests : (files : FileList) (decoded : Option Packet) (request : Request) → supported decoded ≡ Some (Read request) → requested_by files decoded ≡ requested_at files request.mode (path_of_name request.name)
+supported_requests files None request e = absurd (no_request request e)
+supported_requests files (Some (Read r)) request e = supported_requests_in files r.name r.mode request e
+supported_requests files (Some (Write r)) request e = absurd (no_request request e)
+supported_requests files (Some (Data number bytes)) request e = absurd (no_request request e)
+supported_requests files (Some (Ack number)) request e = absurd (no_request request e)
+supported_requests files (Some (Error code text)) request e = absurd (no_request request e)
+supported_requests files (Some (Oack options)) request e = absurd (no_request request e)
 
 -- the end that opens is the one that was wanted
-pub wanted_is : (w : WorldState) (bytes : List ℕ) (heard : Option Packet) (path file : List ℕ) (mode : Mode) (agreed : List Known) (o : Option Served) → Says bytes heard →
-    service w bytes (carried heard) ≡ Sends_file path file mode agreed → Wants w.files bytes o → o ≡ Some (record { mode = mode; path = path; file = file; ended = None })
-wanted_is w bytes heard path file mode agreed o says sends wants =
-    let r = service_sends w path file mode agreed bytes (carried heard) (carries_no_write heard) sends in
-    wants.2
-    ∙ (ap (wanted_by w.files) (says_one bytes wants.0 heard wants.1 says)
-    ∙ (carried_wants w.files heard r.request r.heard_is
-    ∙ (ap (wanted_at w.files r.request.mode) r.path_is
+pub requested_is : (w : WorldState) (bytes : List ℕ) (decoded : Option Packet) (path file : List ℕ) (mode : Mode) (agreed : List Known) (o : Option Served) → Decodes bytes decoded →
+    service w bytes (supported decoded) ≡ Sends_file path file mode agreed → IsRequested w.files bytes o → o ≡ Some (record { mode = mode; path = path; file = file; ended = None })
+requested_is w bytes decoded path file mode agreed o says sends requests =
+    let r = service_sends w path file mode agreed bytes (supported decoded) (carries_no_write decoded) sends in
+    requests.2
+    ∙ (ap (requested_by w.files) (says_one bytes requests.0 decoded requests.1 says)
+    ∙ (supported_requests w.files decoded r.request r.decoded_is
+    ∙ (ap (requested_at w.files r.request.mode) r.path_is
     ∙ (ap (λ (f : Option (List ℕ)). option_map (λ (g : List ℕ). let s : Served = record { mode = r.request.mode; path = path; file = g; ended = None } in s) f) r.file_is
     ∙ ap (λ (m : Mode). let s : Option Served = Some (record { mode = m; path = path; file = file; ended = None }) in s) (sym r.mode_is)))))
 
@@ -91,23 +91,23 @@ module _ (from : Endpoint) (bytes : List ℕ) (before : PlayedServer) (ps : List
   is_server : (sent : List Datagram) → IsServerOf untold (w sent) before
   is_server sent = record { files = refl; limits = refl; retries = refl; cap = refl; count = staged.count }
 
-  said : (heard : Option Packet) × Says bytes heard
+  said : (decoded : Option Packet) × Decodes bytes decoded
   said = says_something bytes range
 
   did : (sent : List Datagram) (after : PlayedServer) (opened : Opened) (out : List ℕ) →
-      CarriedStep (λ (s : List ℕ). Some s) never_fails (λ (s : Stored). Some s) untold bytes (asked_of before from port) (record { new = after; opened = opened; sent = out }) →
-      PortDid untold (w sent) (service (w sent) bytes (carried said.0)) (asked_of before from port) (record { new = after; opened = opened; sent = out })
-  did sent after opened out h = carried_did untold (w sent) (asked_of before from port) (record { new = after; opened = opened; sent = out }) (is_server sent) max bytes said.0 said.1 h
+      SupportedStep (λ (s : List ℕ). Some s) never_fails (λ (s : Stored). Some s) untold bytes (asked_of before from port) (record { new = after; opened = opened; sent = out }) →
+      PortDid untold (w sent) (service (w sent) bytes (supported said.0)) (asked_of before from port) (record { new = after; opened = opened; sent = out })
+  did sent after opened out h = supported_did untold (w sent) (asked_of before from port) (record { new = after; opened = opened; sent = out }) (is_server sent) max bytes said.0 said.1 h
 
   module _ (after : PlayedServer) (opened : Opened) (out : List ℕ)
-      (h : CarriedStep (λ (s : List ℕ). Some s) never_fails (λ (s : Stored). Some s) untold bytes (asked_of before from port) (record { new = after; opened = opened; sent = out }))
+      (h : SupportedStep (λ (s : List ℕ). Some s) never_fails (λ (s : Stored). Some s) untold bytes (asked_of before from port) (record { new = after; opened = opened; sent = out }))
       (none : opened.tid ≡ None) where
     abbrev result : PortLeft untold
     result = record { new = after; opened = opened; sent = out }
 
     seen : (sent : List Datagram) →
-        PortRefused untold (w sent) (asked_of before from port) result (service (w sent) bytes (carried said.0)) ⊎ PortSilent untold (w sent) (asked_of before from port) result (service (w sent) bytes (carried said.0))
-    seen sent = port_not_opened untold (w sent) (asked_of before from port) result (service (w sent) bytes (carried said.0)) (did sent after opened out h) none
+        PortRefused untold (w sent) (asked_of before from port) result (service (w sent) bytes (supported said.0)) ⊎ PortSilent untold (w sent) (asked_of before from port) result (service (w sent) bytes (supported said.0))
+    seen sent = port_not_opened untold (w sent) (asked_of before from port) result (service (w sent) bytes (supported said.0)) (did sent after opened out h) none
 
     -- where nothing opened the server is as before
     pub not_opened_same : after ≡ before
@@ -150,13 +150,13 @@ module _ (from : Endpoint) (bytes : List ℕ) (before : PlayedServer) (ps : List
         (subst (λ (qs : List Player). IsStaged before qs records0) (sym a) (subst (λ (rs : List (ℕ × Record)). IsStaged before ps rs) (sym b) staged))
 
   module _ (after : PlayedServer) (opened : Opened) (out : List ℕ)
-      (h : CarriedStep (λ (s : List ℕ). Some s) never_fails (λ (s : Stored). Some s) untold bytes (asked_of before from port) (record { new = after; opened = opened; sent = out }))
-      (t : ℕ) (told : opened.tid ≡ Some t) (o : Option Served) (wants : Wants before.store.files bytes o) where
+      (h : SupportedStep (λ (s : List ℕ). Some s) never_fails (λ (s : Stored). Some s) untold bytes (asked_of before from port) (record { new = after; opened = opened; sent = out }))
+      (t : ℕ) (told : opened.tid ≡ Some t) (o : Option Served) (requests : IsRequested before.store.files bytes o) where
     abbrev result' : PortLeft untold
     result' = record { new = after; opened = opened; sent = out }
 
-    q : (sent : List Datagram) → PortOpened untold (w sent) (asked_of before from port) result' (service (w sent) bytes (carried said.0))
-    q sent = port_opened untold (w sent) (asked_of before from port) result' (service (w sent) bytes (carried said.0)) t (did sent after opened out h) told
+    q : (sent : List Datagram) → PortOpened untold (w sent) (asked_of before from port) result' (service (w sent) bytes (supported said.0))
+    q sent = port_opened untold (w sent) (asked_of before from port) result' (service (w sent) bytes (supported said.0)) t (did sent after opened out h) told
 
     abbrev x : List Datagram → OpenedEnd
     x sent = sending_end (w sent) from (q sent).mode (q sent).path (q sent).file (q sent).agreed
@@ -164,8 +164,8 @@ module _ (from : Endpoint) (bytes : List ℕ) (before : PlayedServer) (ps : List
     abbrev own : List Datagram → Served
     own sent = record { mode = (q sent).mode; path = (q sent).path; file = (q sent).file; ended = None }
 
-    wanted_own : (sent : List Datagram) → o ≡ Some (own sent)
-    wanted_own sent = wanted_is (w sent) bytes said.0 (q sent).path (q sent).file (q sent).mode (q sent).agreed o said.1 (q sent).service_is wants
+    requested_own : (sent : List Datagram) → o ≡ Some (own sent)
+    requested_own sent = requested_is (w sent) bytes said.0 (q sent).path (q sent).file (q sent).mode (q sent).agreed o said.1 (q sent).service_is requests
 
     port_next : port ≡ 1024 + length ps
     port_next = is ∙ ap (λ (n : ℕ). 1024 + n) counts
@@ -177,8 +177,8 @@ module _ (from : Endpoint) (bytes : List ℕ) (before : PlayedServer) (ps : List
     found sent = ap (λ (s : PlayedServer). at port s.held) (q sent).new ∙ at-with_new port (held_of (x sent)) before.held below
 
     -- it was wanted, and it is held
-    pub opened_wanted : o ≡ None → ⊥
-    opened_wanted e = let f : None ≡ Some (own []) = sym e ∙ wanted_own [] in cc
+    pub opened_requested : o ≡ None → ⊥
+    opened_requested e = let f : None ≡ Some (own []) = sym e ∙ requested_own [] in cc
 
     pub opened_recorded : (r : Option Record) → r ≡ option_map (λ (g : Transfer). record_of g.end) (at port after.held) → r ≡ None → ⊥
     opened_recorded r e n = let f : None ≡ Some (record_of (x []).state) = sym n ∙ (e ∙ ap (option_map (λ (g : Transfer). record_of g.end)) (found [])) in cc
@@ -246,12 +246,12 @@ module _ (from : Endpoint) (bytes : List ℕ) (before : PlayedServer) (ps : List
     }
 
     same_served : (served : Served) (sent : List Datagram) → o ≡ Some served → served ≡ own sent
-    same_served served sent e = let f : Some served ≡ Some (own sent) = sym e ∙ wanted_own sent in cc
+    same_served served sent e = let f : Some served ≡ Some (own sent) = sym e ∙ requested_own sent in cc
 
     pub opened_staged : (served : Served) (r : Record) (ps0 ps1 : List Player) (records0 records1 : List (ℕ × Record)) → o ≡ Some served → Some r ≡ option_map (λ (g : Transfer). record_of g.end) (at port after.held) →
         ps0 ≡ ps → ps1 ≡ ps0 ++ Server served ∷ [] → records0 ≡ records → records1 ≡ records0 ++ (port, r) ∷ [] → IsStaged after ps1 records1
     opened_staged served r ps0 ps1 records0 records1 e f a b g k =
-        let row : Some r ≡ Some (record_of (x []).state) = f ∙ ap (option_map (λ (h : Transfer). record_of h.end)) (found []) in
+        let action : Some r ≡ Some (record_of (x []).state) = f ∙ ap (option_map (λ (h : Transfer). record_of h.end)) (found []) in
         let same : r ≡ record_of (x []).state = cc in
         subst (λ (qs : List Player). IsStaged after qs records1) (sym (b ∙ (ap (λ (qs : List Player). qs ++ Server served ∷ []) a ∙ ap (λ (s : Served). ps ++ Server s ∷ []) (same_served served [] e))))
         (subst (λ (rs : List (ℕ × Record)). IsStaged after (ps ++ Server (own []) ∷ []) rs) (sym (k ∙ (ap (λ (rs : List (ℕ × Record)). rs ++ (port, r) ∷ []) g ∙ ap (λ (u : Record). records ++ (port, u) ∷ []) same))) staged_now)
@@ -259,18 +259,18 @@ module _ (from : Endpoint) (bytes : List ℕ) (before : PlayedServer) (ps : List
     pub opened_asks : (served : Served) (here : Endpoint) (ps0 ps1 : List Player) (start given : List ℕ) → o ≡ Some served → here ≡ server_at port → ps0 ≡ ps → ps1 ≡ ps0 ++ Server served ∷ [] → start ≡ [] → given ≡ start ++ out →
         StageAsks from bytes before after ps ps1 (record { from = here; to = opened.to; bytes = given; closed = None })
     opened_asks served here ps0 ps1 start given e at_here a b empty is_out sent =
-        let d = datagram (x sent).address (x sent).state.newest_to (x sent).state.newest in
-        let bytes_are : given ≡ (x sent).state.newest = is_out ∙ (ap (λ (s : List ℕ). s ++ out) empty ∙ (q sent).sent) in
+        let d = datagram (x sent).address (x sent).state.last_sent_to (x sent).state.last_sent in
+        let bytes_are : given ≡ (x sent).state.last_sent = is_out ∙ (ap (λ (s : List ℕ). s ++ out) empty ∙ (q sent).sent) in
         let place : here ≡ (x sent).address = at_here ∙ (ap server_at (port_next ∙ ap (λ (n : ℕ). 1024 + n) (sym (ends_length before.held ps)))
         ∙ sym (ap (λ (y : OpenedEnd). y.address) (sending_is (w sent) from (q sent).mode (q sent).path (q sent).file (q sent).agreed))) in
-        let goes : opened.to ≡ Some (x sent).state.newest_to = (q sent).to ∙ ap (λ (p : Endpoint). Some p) (sym (sending_newest_to (w sent) from (q sent).mode (q sent).path (q sent).file (q sent).agreed)) in
+        let goes : opened.to ≡ Some (x sent).state.last_sent_to = (q sent).to ∙ ap (λ (p : Endpoint). Some p) (sym (sending_last_sent_to (w sent) from (q sent).mode (q sent).path (q sent).file (q sent).agreed)) in
         let players : ps1 ≡ ps ++ Server (own sent) ∷ [] = b ∙ (ap (λ (qs : List Player). qs ++ Server served ∷ []) a ∙ ap (λ (s : Served). ps ++ Server s ∷ []) (same_served served sent e)) in
         let report : report_by sent (record { from = here; to = opened.to; bytes = given; closed = None }) ≡ sent_report (w sent) =
         ap (λ (p : Option Endpoint). report_by sent (record { from = here; to = p; bytes = given; closed = None })) goes in
         let new : world_of before.config (sent ++ said_by here opened.to given) after ps1 ≡ opened_in (w sent) (x sent) =
         ap (λ (p : Endpoint). world_of before.config (sent ++ said_by p opened.to given) after ps1) place
         ∙ (ap (λ (p : Option Endpoint). world_of before.config (sent ++ said_by (x sent).address p given) after ps1) goes
-        ∙ (ap (λ (bs : List ℕ). world_of before.config (sent ++ datagram (x sent).address (x sent).state.newest_to bs ∷ []) after ps1) bytes_are
+        ∙ (ap (λ (bs : List ℕ). world_of before.config (sent ++ datagram (x sent).address (x sent).state.last_sent_to bs ∷ []) after ps1) bytes_are
         ∙ (ap (λ (s : Stored). record (world_of before.config (sent ++ d ∷ []) after ps1) { files = s.files }) (ap (λ (s : PlayedServer). s.store) (q sent).new)
         ∙ (ap (λ (qs : List Player). record (w sent) { sent = sent ++ d ∷ []; ends = ends_of after qs }) players
         ∙ ap (λ (xs : List OpenedEnd). record (w sent) { sent = sent ++ d ∷ []; ends = xs }) (ends_now sent))))) in

@@ -17,18 +17,18 @@ use Rattle.tftp_ends.specs.declared.outcome.Outcome.{Outcome}
 use Rattle.tftp_ends.specs.declared.phase.Phase.{Phase}
 use Rattle.tftp_ends.specs.declared.phase.Phase.TheVariants.{Waiting, Sending, Receiving, Dallying, Closed}
 use Rattle.tftp_ends.specs.declared.phase.Terms.{Terms}
-use Rattle.tftp_ends.specs.declared.row.Row.{Row}
-use Rattle.tftp_ends.specs.declared.row.Row.TheVariants.{Ignore, Stranger, Again, Retry, Close, Refuse}
+use Rattle.tftp_ends.specs.declared.action.Action.{Action}
+use Rattle.tftp_ends.specs.declared.action.Action.TheVariants.{Ignore, Stranger, ResendReply, Retransmit, Close, Refuse}
 use Rattle.tftp_ends.specs.End.{is_sender, terms_of, is_complete, outcome_of}
 use Rattle.tftp_ends.specs.ErrorReply.{code_of, text_of, error_packet}
-use Rattle.tftp_ends.specs.Step.{Turn, Reply, row_turn, after}
+use Rattle.tftp_ends.specs.Step.{Turn, Reply, action_turn, after}
 use Rattle.tftp_player.specs.Machine.{Endpoint, Error, Message}
 use Rattle.tftp_player.specs.Rules.{Says_error, Repeats, message}
 use Rattle.tftp_player.specs.Said.{said}
 use Rattle.tftp_player.specs.Shows.{EndView, IsShown}
 use Rattle.tftp_player.specs.World.{OpenedEnd, files_of, holding_of, with_files, in_state, end_after, has_failed, goes_on, text_of as text_of_end, view_of_end}
 use Rattle.tftp_player.specs.WorldKept.{EndKept, PhaseKept}
-use Rattle.tftp_player.proofs.Rows.{Stands, goes, closes, refuses}
+use Rattle.tftp_player.proofs.Actions.{Stands, goes, closes, refuses}
 use Rattle.tftp_player.proofs.SaidLemmas.{spells_own}
 
 -- the texts of the ERRORs hold no zero byte
@@ -103,11 +103,11 @@ Replies from (Some reply) said_now =
 pub error_says : (r : ErrorReply) (from to : Endpoint) → Replies from (Some (record { to = to; bytes = canonical (error_packet r) })) (message from to Error ∷ [])
 error_says r from to = (error_packet r, spells_own (error_packet r) (valid_error r), refl)
 
--- the newest datagram stays, or is the answer
+-- the last datagram sent stays, or is the answer
 abbrev pub Newest : OpenedEnd → Turn → OpenedEnd → Type 0
 Newest x turn y =
-    ((y.state.newest_to ≡ x.state.newest_to) × (y.state.newest ≡ x.state.newest))
-    ⊎ (turn.reply ≡ Some (record { to = y.state.newest_to; bytes = y.state.newest }))
+    ((y.state.last_sent_to ≡ x.state.last_sent_to) × (y.state.last_sent ≡ x.state.last_sent))
+    ⊎ (turn.reply ≡ Some (record { to = y.state.last_sent_to; bytes = y.state.last_sent }))
 
 -- what a message of this datagram is there
 abbrev pub IsThere : List Message → Endpoint → Endpoint → List ℕ → Type 0
@@ -124,7 +124,7 @@ pub record Goes (views : List EndView) (messages : List Message) (k : ℕ) (x : 
   pub replies : Replies x.address turn.reply said_now
   pub kept : EndKept y
   pub side : y.state.side ≡ x.state.side
-  pub newest : Newest x turn y
+  pub last_sent : Newest x turn y
   pub stored : is_complete x.state.phase ≡ true → y.stored ≡ x.stored
 
 pub open_live : (phase : Phase) → is_some (outcome_of phase) ≡ false → has_failed phase ≡ false
@@ -138,16 +138,16 @@ same_files : (b : Bool) (x : OpenedEnd) → with_files x (if b then Source x.lef
 same_files true x = refl
 same_files false x = refl
 
--- a row that touches no file
-pub from_row : (views : List EndView) (messages : List Message) (k : ℕ) (x : OpenedEnd) (row : Row) (from : Endpoint) (turn : Turn) (held : Files (List ℕ) Holding) →
-    Goes views messages k x (row_turn row from x.state) (in_state (after row from x.state) x) →
-    (turn ≡ row_turn row from x.state) × (held ≡ files_of x) → Goes views messages k x turn (end_after x turn held)
-from_row views messages k x row from turn held g h =
-    let y = in_state (after row from x.state) x in
+-- an action that touches no file
+pub from_action : (views : List EndView) (messages : List Message) (k : ℕ) (x : OpenedEnd) (action : Action) (from : Endpoint) (turn : Turn) (held : Files (List ℕ) Holding) →
+    Goes views messages k x (action_turn action from x.state) (in_state (after action from x.state) x) →
+    (turn ≡ action_turn action from x.state) × (held ≡ files_of x) → Goes views messages k x turn (end_after x turn held)
+from_action views messages k x action from turn held g h =
+    let y = in_state (after action from x.state) x in
     let same : with_files y (files_of x) ≡ y = same_files (is_sender x.state.side) y in
     subst (λ (t : Turn). Goes views messages k x t (end_after x t held)) (sym h.0)
-    (subst (λ (f : Files (List ℕ) Holding). Goes views messages k x (row_turn row from x.state) (with_files y f)) (sym h.1)
-    (subst (λ (z : OpenedEnd). Goes views messages k x (row_turn row from x.state) z) (sym same) g))
+    (subst (λ (f : Files (List ℕ) Holding). Goes views messages k x (action_turn action from x.state) (with_files y f)) (sym h.1)
+    (subst (λ (z : OpenedEnd). Goes views messages k x (action_turn action from x.state) z) (sym same) g))
 
 text_cut : (b g : Bool) (f w h : List ℕ) → IsBeginningOf (if b then f else w) (if b then f else if g then w ++ h else w)
 text_cut true g f w h = ([], append-nil f)
@@ -168,7 +168,7 @@ phase_retries (Sending terms number) x r h = record {
   fits = h.fits;
   so_far = h.so_far;
   left = h.left;
-  newest_to = h.newest_to;
+  last_sent_to = h.last_sent_to;
   measured = h.measured;
 }
 phase_retries (Receiving terms number) x r h = h
@@ -189,32 +189,32 @@ going_live (Closed terms number complete outcome) e = absurd (true≢false (sym 
 
 module _ (views : List EndView) (messages : List Message) (k : ℕ) (x : OpenedEnd) (s : Stands views messages k (view_of_end x)) (kept : EndKept x) where
   -- nothing changes
-  pub ignores : (from : Endpoint) → is_some (outcome_of x.state.phase) ≡ false → Goes views messages k x (row_turn Ignore from x.state) x
+  pub ignores : (from : Endpoint) → is_some (outcome_of x.state.phase) ≡ false → Goes views messages k x (action_turn Ignore from x.state) x
   ignores from o = record {
     said_now = [];
     shown = goes views messages k (view_of_end x) s [] (open_live x.state.phase o) tt;
     replies = refl;
     kept = kept;
     side = refl;
-    newest = inl (refl, refl);
+    last_sent = inl (refl, refl);
     stored = λ _. refl;
   }
 
   -- a stranger is told so
-  pub tells_stranger : (from : Endpoint) → is_some (outcome_of x.state.phase) ≡ false → Goes views messages k x (row_turn Stranger from x.state) x
+  pub tells_stranger : (from : Endpoint) → is_some (outcome_of x.state.phase) ≡ false → Goes views messages k x (action_turn Stranger from x.state) x
   tells_stranger from o = record {
     said_now = message x.address from Error ∷ [];
     shown = goes views messages k (view_of_end x) s (Says_error x.address from ∷ []) (open_live x.state.phase o) (refl, tt, tt);
     replies = error_says UnknownTransferId x.address from;
     kept = kept;
     side = refl;
-    newest = inl (refl, refl);
+    last_sent = inl (refl, refl);
     stored = λ _. refl;
   }
 
-  -- the newest datagram goes out again
-  pub answers_again : (from : Endpoint) → is_some (outcome_of x.state.phase) ≡ false → from ≡ x.state.newest_to →
-      IsThere messages x.address x.state.newest_to x.state.newest → Goes views messages k x (row_turn Again from x.state) x
+  -- the last datagram sent goes out again
+  pub answers_again : (from : Endpoint) → is_some (outcome_of x.state.phase) ≡ false → from ≡ x.state.last_sent_to →
+      IsThere messages x.address x.state.last_sent_to x.state.last_sent → Goes views messages k x (action_turn ResendReply from x.state) x
   answers_again from o same old =
       let m = message x.address from (said old.0) in record {
         said_now = m ∷ [];
@@ -223,22 +223,22 @@ module _ (views : List EndView) (messages : List Message) (k : ℕ) (x : OpenedE
         replies = (old.0, old.1, refl);
         kept = kept;
         side = refl;
-        newest = inl (refl, refl);
+        last_sent = inl (refl, refl);
         stored = λ _. refl;
       }
 
-  -- a timeout: the newest datagram goes out again, for one retry
+  -- a timeout: the last datagram sent goes out again, for one retry
   pub retries : (from : Endpoint) → is_some (outcome_of x.state.phase) ≡ false →
-      IsThere messages x.address x.state.newest_to x.state.newest →
-      Goes views messages k x (row_turn Retry from x.state) (in_state (after Retry from x.state) x)
+      IsThere messages x.address x.state.last_sent_to x.state.last_sent →
+      Goes views messages k x (action_turn Retransmit from x.state) (in_state (after Retransmit from x.state) x)
   retries from o old =
-      let m = message x.address x.state.newest_to (said old.0) in record {
+      let m = message x.address x.state.last_sent_to (said old.0) in record {
         said_now = m ∷ [];
         shown = goes views messages k (view_of_end x) s (Repeats m ∷ []) (open_live x.state.phase o) (refl, old.2, tt);
         replies = (old.0, old.1, refl);
         kept = record { phase = phase_retries x.state.phase x (x.state.retries_left - 1) kept.phase; held = kept.held; committed = kept.committed };
         side = refl;
-        newest = inl (refl, refl);
+        last_sent = inl (refl, refl);
         stored = λ _. refl;
       }
 
@@ -249,7 +249,7 @@ module _ (views : List EndView) (messages : List Message) (k : ℕ) (x : OpenedE
 
   -- it gives up in silence
   pub gives_up : (outcome : Outcome) (from : Endpoint) → goes_on x.state.phase ≡ true →
-      Goes views messages k x (row_turn (Close outcome) from x.state) (in_state (after (Close outcome) from x.state) x)
+      Goes views messages k x (action_turn (Close outcome) from x.state) (in_state (after (Close outcome) from x.state) x)
   gives_up outcome from going =
       let y = in_state (after (Close outcome) from x.state) x in
       let live = going_live x.state.phase going in
@@ -266,13 +266,13 @@ module _ (views : List EndView) (messages : List Message) (k : ℕ) (x : OpenedE
         replies = refl;
         kept = closed_kept (terms_of x.state.phase) outcome;
         side = refl;
-        newest = inl (refl, refl);
+        last_sent = inl (refl, refl);
         stored = λ _. refl;
       }
 
   -- it gives up, and says so
   pub refuses_now : (reply : ErrorReply) (outcome : Outcome) (from : Endpoint) → goes_on x.state.phase ≡ true →
-      Goes views messages k x (row_turn (Refuse (terms_of x.state.phase) reply outcome) from x.state) (in_state (after (Refuse (terms_of x.state.phase) reply outcome) from x.state) x)
+      Goes views messages k x (action_turn (Refuse (terms_of x.state.phase) reply outcome) from x.state) (in_state (after (Refuse (terms_of x.state.phase) reply outcome) from x.state) x)
   refuses_now reply outcome from going =
       let y = in_state (after (Refuse (terms_of x.state.phase) reply outcome) from x.state) x in
       let live = going_live x.state.phase going in
@@ -288,6 +288,6 @@ module _ (views : List EndView) (messages : List Message) (k : ℕ) (x : OpenedE
         replies = error_says reply x.address from;
         kept = closed_kept (terms_of x.state.phase) outcome;
         side = refl;
-        newest = inl (refl, refl);
+        last_sent = inl (refl, refl);
         stored = λ _. refl;
       }

@@ -11,103 +11,103 @@ use Rattle.tftp_ends.specs.declared.phase.Dally.TheVariants.{Fresh, Waited}
 use Rattle.tftp_ends.specs.declared.phase.Phase.{Phase}
 use Rattle.tftp_ends.specs.declared.phase.Phase.TheVariants.{Waiting, Sending, Receiving, Dallying, Closed}
 use Rattle.tftp_ends.specs.declared.phase.Terms.{Terms}
-use Rattle.tftp_ends.specs.declared.row.Row.{Row}
-use Rattle.tftp_ends.specs.declared.row.Row.TheVariants.{Ignore, Stranger, Retry, Close}
+use Rattle.tftp_ends.specs.declared.action.Action.{Action}
+use Rattle.tftp_ends.specs.declared.action.Action.TheVariants.{Ignore, Stranger, Retransmit, Close}
 use Rattle.tftp_ends.specs.End.{is_sender, is_client, terms_of, outcome_of}
-use Rattle.tftp_ends.specs.Row.{same_address, same_endpoint, begins_error, is_stranger, garbled_row, packet_row, datagram_row, timeout_row}
-use Rattle.tftp_ends.specs.Step.{row_turn, after}
-use Rattle.tftp_ends.specs.Waiting.{reader_row, writer_row}
+use Rattle.tftp_ends.specs.Action.{same_address, same_endpoint, has_error_opcode, is_stranger, garbled_action, packet_action, datagram_action, timeout_action}
+use Rattle.tftp_ends.specs.Step.{action_turn, after}
+use Rattle.tftp_ends.specs.Waiting.{reader_action, writer_action}
 use Rattle.tftp_player.specs.Machine.{Endpoint, server_ip, Message}
 use Rattle.tftp_player.specs.Shows.{EndView}
 use Rattle.tftp_player.specs.World.{OpenedEnd, in_state, goes_on, view_of_end}
 use Rattle.tftp_player.specs.WorldKept.{EndKept}
-use Rattle.tftp_player.proofs.Rows.{Stands, goes}
-use Rattle.tftp_player.proofs.EndMoves.{Goes, IsThere, placed, from_row, gives_up, retries}
-use Rattle.tftp_player.proofs.PhaseMoves.{Acting, Heard, if_acts, not_false, same_ips, same_endpoints, ignore_acts, stranger_acts, sender_acts, receiver_acts, dally_acts}
+use Rattle.tftp_player.proofs.Actions.{Stands, goes}
+use Rattle.tftp_player.proofs.EndMoves.{Goes, IsThere, placed, from_action, gives_up, retries}
+use Rattle.tftp_player.proofs.PhaseMoves.{Acting, OfDecoded, if_acts, not_false, same_ips, same_endpoints, ignore_acts, stranger_acts, sender_acts, receiver_acts, dally_acts}
 use Rattle.tftp_player.proofs.WaitingMoves.{reader_acts, writer_acts}
 
 module _ (views : List EndView) (messages : List Message) (k : ℕ) (x0 : OpenedEnd)
-    (refuses_commit : Holding → StoreFault → Type 0) (from : Endpoint) (bytes : List ℕ) (heard : Option WirePacket)
-    (spelled : (p : WirePacket) → heard ≡ Some p → Spells p bytes) (come : Heard messages from x0 heard)
-    (old : IsThere messages x0.address x0.state.newest_to x0.state.newest) where
+    (refuses_commit : Holding → StoreFault → Type 0) (from : Endpoint) (bytes : List ℕ) (decoded : Option WirePacket)
+    (spelled : (p : WirePacket) → decoded ≡ Some p → Spells p bytes) (come : OfDecoded messages from x0 decoded)
+    (old : IsThere messages x0.address x0.state.last_sent_to x0.state.last_sent) where
   abbrev There : Phase → Type 0
   There phase = Stands views messages k (view_of_end (placed phase x0))
 
-  abbrev Goes_on : Phase → Row → Type 0
-  Goes_on phase row = Acting views messages k (placed phase x0) refuses_commit from bytes row
+  abbrev Goes_on : Phase → Action → Type 0
+  Goes_on phase action = Acting views messages k (placed phase x0) refuses_commit from bytes action
 
   -- an open end with a packet from its peer, or from the server while it waits
   by_packet : (phase : Phase) → There phase → EndKept (placed phase x0) → is_some (outcome_of phase) ≡ false →
-      is_stranger (terms_of phase) x0.state.newest_to from ≡ false → Goes_on phase (packet_row (placed phase x0).state from heard phase)
+      is_stranger (terms_of phase) x0.state.last_sent_to from ≡ false → Goes_on phase (packet_action (placed phase x0).state from decoded phase)
   by_packet (Waiting asked limit) s kept o near =
-      let at_server : from.ip ≡ server_ip = sym (same_ips x0.state.newest_to from (not_false (same_address x0.state.newest_to from) near)) ∙ ap (λ (p : Endpoint). p.ip) kept.phase.2 in
+      let at_server : from.ip ≡ server_ip = sym (same_ips x0.state.last_sent_to from (not_false (same_address x0.state.last_sent_to from) near)) ∙ ap (λ (p : Endpoint). p.ip) kept.phase.2 in
       let x = placed (Waiting asked limit) x0 in
-      if_acts (Goes_on (Waiting asked limit)) (is_sender x0.state.side) (writer_row x0.state.mode asked limit x0.state.length from heard) (reader_row x0.state.mode asked limit from heard)
-      (λ w. writer_acts views messages k x0 asked limit s kept refuses_commit from bytes at_server w heard come)
-      (λ r. reader_acts views messages k x0 asked limit s kept refuses_commit from bytes at_server r heard spelled come)
+      if_acts (Goes_on (Waiting asked limit)) (is_sender x0.state.side) (writer_action x0.state.mode asked limit x0.state.length from decoded) (reader_action x0.state.mode asked limit from decoded)
+      (λ w. writer_acts views messages k x0 asked limit s kept refuses_commit from bytes at_server w decoded come)
+      (λ r. reader_acts views messages k x0 asked limit s kept refuses_commit from bytes at_server r decoded spelled come)
   by_packet (Sending terms n) s kept o near =
-      sender_acts views messages k x0 terms n s kept refuses_commit from bytes (is_client x0.state.side) heard (same_endpoints terms.peer from (not_false (same_endpoint terms.peer from) near)) come
+      sender_acts views messages k x0 terms n s kept refuses_commit from bytes (is_client x0.state.side) decoded (same_endpoints terms.peer from (not_false (same_endpoint terms.peer from) near)) come
   by_packet (Receiving terms n) s kept o near =
-      receiver_acts views messages k x0 terms n s kept refuses_commit from bytes (same_endpoints terms.peer from (not_false (same_endpoint terms.peer from) near)) old (is_client x0.state.side) heard spelled come
+      receiver_acts views messages k x0 terms n s kept refuses_commit from bytes (same_endpoints terms.peer from (not_false (same_endpoint terms.peer from) near)) old (is_client x0.state.side) decoded spelled come
   by_packet (Dallying terms n dally) s kept o near =
-      dally_acts views messages k x0 terms n dally s kept refuses_commit from bytes (same_endpoints terms.peer from (not_false (same_endpoint terms.peer from) near)) old heard
+      dally_acts views messages k x0 terms n dally s kept refuses_commit from bytes (same_endpoints terms.peer from (not_false (same_endpoint terms.peer from) near)) old decoded
   by_packet (Closed terms n complete outcome) s kept o near = absurd (true≢false o)
 
   -- what begins as an ERROR and is none
-  by_garbled : (phase : Phase) → There phase → EndKept (placed phase x0) → is_some (outcome_of phase) ≡ false → Goes_on phase (garbled_row phase)
+  by_garbled : (phase : Phase) → There phase → EndKept (placed phase x0) → is_some (outcome_of phase) ≡ false → Goes_on phase (garbled_action phase)
   by_garbled (Waiting asked limit) s kept o turn held h =
-      let x = placed (Waiting asked limit) x0 in from_row views messages k x (Close outcomes.Illegal) from turn held (gives_up views messages k x s kept outcomes.Illegal from refl) h
+      let x = placed (Waiting asked limit) x0 in from_action views messages k x (Close outcomes.Illegal) from turn held (gives_up views messages k x s kept outcomes.Illegal from refl) h
   by_garbled (Sending terms n) s kept o turn held h =
-      let x = placed (Sending terms n) x0 in from_row views messages k x (Close outcomes.Illegal) from turn held (gives_up views messages k x s kept outcomes.Illegal from refl) h
+      let x = placed (Sending terms n) x0 in from_action views messages k x (Close outcomes.Illegal) from turn held (gives_up views messages k x s kept outcomes.Illegal from refl) h
   by_garbled (Receiving terms n) s kept o turn held h =
-      let x = placed (Receiving terms n) x0 in from_row views messages k x (Close outcomes.Illegal) from turn held (gives_up views messages k x s kept outcomes.Illegal from refl) h
+      let x = placed (Receiving terms n) x0 in from_action views messages k x (Close outcomes.Illegal) from turn held (gives_up views messages k x s kept outcomes.Illegal from refl) h
   by_garbled (Dallying terms n dally) s kept o turn held h = ignore_acts views messages k (placed (Dallying terms n dally) x0) s kept refuses_commit from bytes refl turn held h
   by_garbled (Closed terms n complete outcome) s kept o turn held h = absurd (true≢false o)
 
   -- an open end with any datagram
   pub by_datagram : (phase : Phase) → There phase → EndKept (placed phase x0) → is_some (outcome_of phase) ≡ false →
-      Goes_on phase (datagram_row (placed phase x0).state from bytes heard)
+      Goes_on phase (datagram_action (placed phase x0).state from bytes decoded)
   by_datagram phase s kept o =
       let P = Goes_on phase in
       let e = (placed phase x0).state in
-      let far = is_stranger (terms_of phase) x0.state.newest_to from in
-      let near_row = if begins_error bytes && is_none heard then garbled_row phase else packet_row e from heard phase in
-      if_acts P far (if begins_error bytes then Ignore else Stranger) near_row
-      (λ f. if_acts P (begins_error bytes) Ignore Stranger
+      let far = is_stranger (terms_of phase) x0.state.last_sent_to from in
+      let near_action = if has_error_opcode bytes && is_none decoded then garbled_action phase else packet_action e from decoded phase in
+      if_acts P far (if has_error_opcode bytes then Ignore else Stranger) near_action
+      (λ f. if_acts P (has_error_opcode bytes) Ignore Stranger
       (λ b. ignore_acts views messages k (placed phase x0) s kept refuses_commit from bytes o)
       (λ b. stranger_acts views messages k (placed phase x0) s kept refuses_commit from bytes o))
-      (λ f. if_acts P (begins_error bytes && is_none heard) (garbled_row phase) (packet_row e from heard phase)
+      (λ f. if_acts P (has_error_opcode bytes && is_none decoded) (garbled_action phase) (packet_action e from decoded phase)
       (λ b. by_garbled phase s kept o)
       (λ b. by_packet phase s kept o f))
 
 -- an open end at a timeout
 module _ (views : List EndView) (messages : List Message) (k : ℕ) (x0 : OpenedEnd)
-    (old : IsThere messages x0.address x0.state.newest_to x0.state.newest) where
-  abbrev Turns_at : OpenedEnd → Row → Type 0
-  Turns_at x row = Goes views messages k x (row_turn row x.state.newest_to x.state) (in_state (after row x.state.newest_to x.state) x)
+    (old : IsThere messages x0.address x0.state.last_sent_to x0.state.last_sent) where
+  abbrev Turns_at : OpenedEnd → Action → Type 0
+  Turns_at x action = Goes views messages k x (action_turn action x.state.last_sent_to x.state) (in_state (after action x.state.last_sent_to x.state) x)
 
-  if_turns : (x : OpenedEnd) (b : Bool) (r s : Row) → Turns_at x r → Turns_at x s → Turns_at x (if b then r else s)
+  if_turns : (x : OpenedEnd) (b : Bool) (r s : Action) → Turns_at x r → Turns_at x s → Turns_at x (if b then r else s)
   if_turns x true r s f g = f
   if_turns x false r s f g = g
 
   waits_or_gives_up : (phase : Phase) → Stands views messages k (view_of_end (placed phase x0)) → EndKept (placed phase x0) → is_some (outcome_of phase) ≡ false → goes_on phase ≡ true →
-      Turns_at (placed phase x0) (if x0.state.retries_left == 0 then Close outcomes.TimedOut else Retry)
+      Turns_at (placed phase x0) (if x0.state.retries_left == 0 then Close outcomes.TimedOut else Retransmit)
   waits_or_gives_up phase s kept o going =
       let x = placed phase x0 in
-      if_turns x (x0.state.retries_left == 0) (Close outcomes.TimedOut) Retry
-      (gives_up views messages k x s kept outcomes.TimedOut x0.state.newest_to going)
-      (retries views messages k x s kept x0.state.newest_to o old)
+      if_turns x (x0.state.retries_left == 0) (Close outcomes.TimedOut) Retransmit
+      (gives_up views messages k x s kept outcomes.TimedOut x0.state.last_sent_to going)
+      (retries views messages k x s kept x0.state.last_sent_to o old)
 
   -- a dally goes on, or ends
   dally_turns : (terms : Terms) (n : ℕ) (dally : Dally) → Stands views messages k (view_of_end (placed (Dallying terms n dally) x0)) → EndKept (placed (Dallying terms n dally) x0) →
-      Turns_at (placed (Dallying terms n dally) x0) (timeout_row x0.state.retries_left (Dallying terms n dally))
+      Turns_at (placed (Dallying terms n dally) x0) (timeout_action x0.state.retries_left (Dallying terms n dally))
   dally_turns terms n Fresh s kept = record {
     said_now = [];
     shown = goes views messages k (view_of_end (placed (Dallying terms n Fresh) x0)) s [] refl tt;
     replies = refl;
     kept = record { phase = kept.phase; held = kept.held; committed = kept.committed };
     side = refl;
-    newest = inl (refl, refl);
+    last_sent = inl (refl, refl);
     stored = λ _. refl;
   }
   dally_turns terms n Waited s kept = record {
@@ -116,12 +116,12 @@ module _ (views : List EndView) (messages : List Message) (k : ℕ) (x0 : Opened
     replies = refl;
     kept = record { phase = tt; held = kept.held; committed = kept.committed };
     side = refl;
-    newest = inl (refl, refl);
+    last_sent = inl (refl, refl);
     stored = λ _. refl;
   }
 
   pub by_timeout : (phase : Phase) → Stands views messages k (view_of_end (placed phase x0)) → EndKept (placed phase x0) → is_some (outcome_of phase) ≡ false →
-      Turns_at (placed phase x0) (timeout_row x0.state.retries_left phase)
+      Turns_at (placed phase x0) (timeout_action x0.state.retries_left phase)
   by_timeout (Waiting asked limit) s kept o = waits_or_gives_up (Waiting asked limit) s kept o refl
   by_timeout (Sending terms n) s kept o = waits_or_gives_up (Sending terms n) s kept o refl
   by_timeout (Receiving terms n) s kept o = waits_or_gives_up (Receiving terms n) s kept o refl

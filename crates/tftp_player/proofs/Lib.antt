@@ -12,7 +12,7 @@ pub mod Places
 pub mod Acting
 pub mod Shown
 pub mod ViewSafe
-pub mod Rows
+pub mod Actions
 pub mod HostBytes
 pub mod StandardFacts
 pub mod SaidLemmas
@@ -41,7 +41,7 @@ pub mod ServingLemmas
 pub mod TurnKeeps
 pub mod StageLemmas
 pub mod PlayLemmas
-pub mod HearingLemmas
+pub mod DatagramLemmas
 pub mod OpenedLemmas
 pub mod TellingLemmas
 pub mod ArrivalLemmas

@@ -97,8 +97,8 @@ sends m h at peer g x v up t ends added told =
     let new = with_end m.party at x in
     let has : x.peer ≡ Some peer = v.peer ∙ g.2 in
     let sender : x.sender ≡ true = v.sender ∙ g.1 in
-    let heard : host_of peer ≢ Elsewhere → Told (m.party peer) at (Ack old.number) = h.told (message peer at (Ack old.number)) g.3 in
-    let back : host_of peer ≢ Elsewhere → (new peer).peer ≡ Some at = λ o. let k = heard o in (all.grows peer k.is_open).peer at k.peer in
+    let decoded : host_of peer ≢ Elsewhere → Told (m.party peer) at (Ack old.number) = h.told (message peer at (Ack old.number)) g.3 in
+    let back : host_of peer ≢ Elsewhere → (new peer).peer ≡ Some at = λ o. let k = decoded o in (all.grows peer k.is_open).peer at k.peer in
     kept m at x added h grows
     (λ _. IsSound-moves new at old x v (IsSound-grows m.party new all at old (h.ends at g.0.0))
     (λ e. absurd (let k : Some peer ≡ None = sym has ∙ e in cc))
@@ -108,7 +108,7 @@ sends m h at peer g x v up t ends added told =
     (λ s d p e o. let same : peer ≡ p = (let k : Some peer ≡ Some p = sym has ∙ e in cc) in
     let own : host_of peer ≢ Elsewhere = rw same o in
     subst (λ (q : Endpoint). ((new q).peer ≡ Some at) × ((new q).done ≡ true)) same
-    (back own, (all.grows peer (heard own).is_open).done (ends d own))))
+    (back own, (all.grows peer (decoded own).is_open).done (ends d own))))
     told
 
 -- the peer of a sender whose last block is acknowledged is done

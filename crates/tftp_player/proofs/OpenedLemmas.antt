@@ -55,14 +55,14 @@ pub client_staged : (server : PlayedServer) (ps : List Player) (records : List (
     IsStaged server (ps ++ Client c ∷ []) (records ++ (port, r) ∷ [])
 client_staged server ps records c port r staged is told client fits =
     let x = end_at (1024 + length ps) server.held (Client c) in
-    let row : (port, r) ≡ (1024 + length (ends_of server ps), record_of x.state) =
+    let action : (port, r) ≡ (1024 + length (ends_of server ps), record_of x.state) =
     ap (λ (n : ℕ). (n, r)) (is ∙ ap (λ (n : ℕ). 1024 + n) (sym (ends_length server.held ps)))
     ∙ ap (λ (q : Record). (1024 + length (ends_of server ps), q)) (told ∙ sym (at_rest_record (client_end (1024 + length ps) c))) in
     record {
       kept = from_kept 1024 server.held (ps ++ Client c ∷ []) (kept-push PlayerKept kept_by_port 1024 server.held server.held ps (Client c) (λ other l u. refl) (to_kept 1024 server.held ps staged.kept) (client, fits));
       recorded =
           ap (λ (rs : List (ℕ × Record)). rs ++ (port, r) ∷ []) staged.recorded
-          ∙ (ap (λ (e : ℕ × Record). records_from 1024 (ends_of server ps) ++ e ∷ []) row
+          ∙ (ap (λ (e : ℕ × Record). records_from 1024 (ends_of server ps) ++ e ∷ []) action
           ∙ (sym (records_push 1024 (ends_of server ps) x) ∙ ap (records_from 1024) (sym (ends_push server ps (Client c)))));
       below = subst (λ (n : ℕ). AreBelow (1024 + n) server.held) (sym (length_push ps (Client c))) (AreBelow-more (1024 + length ps) (1024 + suc (length ps)) server.held (omega arith) staged.below);
       count = staged.count
@@ -88,7 +88,7 @@ get_result config sent server ps old name mode asked c effect port sent0 sent1 r
     let new : world_of config sent1 server (ps ++ Client c ∷ []) ≡ opened_in w (reading_client w name mode asked) =
     ap (λ (ds : List Datagram). world_of config ds server (ps ++ Client c ∷ [])) (more ∙ ap (λ (ds : List Datagram). ds ++ said_by effect.from effect.to effect.bytes) same)
     ∙ (ap (λ (e : Effect). world_of config (sent ++ said_by e.from e.to e.bytes) server (ps ++ Client c ∷ [])) asks
-    ∙ ap (λ (xs : List OpenedEnd). record w { sent = sent ++ said_by (client_at (next_port w)) (Some request_port) g.newest; ends = xs }) ends) in
+    ∙ ap (λ (xs : List OpenedEnd). record w { sent = sent ++ said_by (client_at (next_port w)) (Some request_port) g.last_sent; ends = xs }) ends) in
     let report_is : report ≡ sent_report w = tells ∙ (ap (λ (ds : List Datagram). report_by ds effect) same ∙ ap (report_by sent) asks) in
     let has : HasPort w = omega (arith, next, is, fits) in
     subst (λ (v : WorldState). WorldStep v (Get name mode asked) report (world_of config sent1 server (ps ++ Client c ∷ []))) view

@@ -9,7 +9,7 @@ use Rattle.tftp_wire.specs.Spelling.{canonical}
 use Rattle.tftp_wire.specs.declared.packet.Packet.TheVariants.{Oack}
 use Rattle.tftp_ends.specs.Opening.{getting, serving}
 use Rattle.tftp_ends.specs.Step.{data_bytes}
-use Rattle.tftp_ends.specs.Waiting.{plain_terms, agreed_terms}
+use Rattle.tftp_ends.specs.Waiting.{default_terms, agreed_terms}
 use Rattle.tftp_player.specs.Machine.{Endpoint, request_port}
 use Rattle.tftp_player.specs.World.{WorldState}
 use Rattle.tftp_player.specs.Openings.{reading_client, sending_end}
@@ -22,7 +22,7 @@ reading_gets w name mode asked = refl
 -- a server's end that sends opens by DATA 1
 sending_serves : (w : WorldState) (peer : Endpoint) (mode : Mode) (path file : List ℕ) →
     (sending_end w peer mode path file []).state
-    ≡ serving mode (length (wire_text mode file)) w.retries (plain_terms peer) 1 (data_bytes 1 (block (wire_text mode file) 512 1))
+    ≡ serving mode (length (wire_text mode file)) w.retries (default_terms peer) 1 (data_bytes 1 (block (wire_text mode file) 512 1))
 sending_serves w peer mode path file = refl
 
 -- or by the OACK of the options that it took

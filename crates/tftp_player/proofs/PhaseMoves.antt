@@ -17,12 +17,12 @@ use Rattle.tftp_ends.specs.declared.outcome.Outcome.{Outcome}
 use Rattle.tftp_ends.specs.declared.outcome.Outcome.TheVariants as outcomes
 use Rattle.tftp_ends.specs.declared.phase.Phase.TheVariants.{Sending, Receiving, Dallying}
 use Rattle.tftp_ends.specs.declared.phase.Terms.{Terms}
-use Rattle.tftp_ends.specs.declared.row.Row.{Row}
-use Rattle.tftp_ends.specs.declared.row.Row.TheVariants.{Ignore, Stranger, Again, Close, Refuse, Send, Store, Complete}
+use Rattle.tftp_ends.specs.declared.action.Action.{Action}
+use Rattle.tftp_ends.specs.declared.action.Action.TheVariants.{Ignore, Stranger, ResendReply, Close, Refuse, Send, Store, Complete}
 use Rattle.tftp_ends.specs.End.{outcome_of}
-use Rattle.tftp_ends.specs.Receiver.{receiver_row, data_row, next_row, dally_row}
-use Rattle.tftp_ends.specs.Row.{same_address, same_endpoint}
-use Rattle.tftp_ends.specs.Sender.{sender_row, acked_row, illegal_row}
+use Rattle.tftp_ends.specs.Receiver.{receiver_action, data_action, next_action, dally_action}
+use Rattle.tftp_ends.specs.Action.{same_address, same_endpoint}
+use Rattle.tftp_ends.specs.Sender.{sender_action, acked_action, illegal_action}
 use Rattle.tftp_ends.specs.Step.{Turn, Acts, StoresIn}
 use Rattle.tftp_ends.specs.Text.{is_readable}
 use Rattle.tftp_player.specs.Machine.{Endpoint, Data as Says_data, Ack as Says_ack, Message}
@@ -33,14 +33,14 @@ use Rattle.tftp_player.specs.World.{OpenedEnd, files_of, end_after, text_of as t
 use Rattle.tftp_player.specs.WorldSteps.{never_fails, may_refuse_append}
 use Rattle.tftp_player.specs.WorldKept.{EndKept, sent_text}
 use Rattle.tftp_player.proofs.Endpoints.{endpoint_from}
-use Rattle.tftp_player.proofs.Rows.{Stands, stores, refuses_next}
+use Rattle.tftp_player.proofs.Actions.{Stands, stores, refuses_next}
 use Rattle.tftp_player.proofs.SaidLemmas.{data_of}
-use Rattle.tftp_player.proofs.EndMoves.{Goes, IsThere, placed, from_row, ignores, tells_stranger, answers_again, gives_up, refuses_now}
+use Rattle.tftp_player.proofs.EndMoves.{Goes, IsThere, placed, from_action, ignores, tells_stranger, answers_again, gives_up, refuses_now}
 use Rattle.tftp_player.proofs.SourceMoves.{data_goes, sends_next, ends_whole}
 use Rattle.tftp_player.proofs.SinkMoves.{Receives, block_goes}
 
 -- either way of a test
-pub if_acts : (P : Row → Type 0) (b : Bool) (r s : Row) → (b ≡ true → P r) → (b ≡ false → P s) → P (if b then r else s)
+pub if_acts : (P : Action → Type 0) (b : Bool) (r s : Action) → (b ≡ true → P r) → (b ≡ false → P s) → P (if b then r else s)
 if_acts P true r s f g = f refl
 if_acts P false r s f g = g refl
 
@@ -60,27 +60,27 @@ same_endpoints a b e =
     let h = both_true (same_address a b) (a.port == b.port) e in
     endpoint_from a b (same_ips a b h.0) (eqb-true a.port b.port h.1)
 
--- whatever comes of a row is shown again
-abbrev pub Acting : List EndView → List Message → ℕ → OpenedEnd → (Holding → StoreFault → Type 0) → Endpoint → List ℕ → Row → Type 0
-Acting views messages k x refuses_commit from bytes row =
+-- whatever comes of an action is shown again
+abbrev pub Acting : List EndView → List Message → ℕ → OpenedEnd → (Holding → StoreFault → Type 0) → Endpoint → List ℕ → Action → Type 0
+Acting views messages k x refuses_commit from bytes action =
     (turn : Turn) (held : Files (List ℕ) Holding) →
-    Acts (λ (s : List ℕ). Some s) never_fails (λ (h : Holding). Some h) may_refuse_append refuses_commit row from bytes x.state (files_of x) turn held →
+    Acts (λ (s : List ℕ). Some s) never_fails (λ (h : Holding). Some h) may_refuse_append refuses_commit action from bytes x.state (files_of x) turn held →
     Goes views messages k x turn (end_after x turn held)
 
 -- the packet that was heard was sent
-abbrev pub Heard : List Message → Endpoint → OpenedEnd → Option WirePacket → Type 0
-Heard messages from x heard = (p : WirePacket) → heard ≡ Some p → Contains messages (message from x.address (said p))
+abbrev pub OfDecoded : List Message → Endpoint → OpenedEnd → Option WirePacket → Type 0
+OfDecoded messages from x decoded = (p : WirePacket) → decoded ≡ Some p → Contains messages (message from x.address (said p))
 
 module _ (views : List EndView) (messages : List Message) (k : ℕ) (x : OpenedEnd) (s : Stands views messages k (view_of_end x)) (kept : EndKept x)
     (refuses_commit : Holding → StoreFault → Type 0) (from : Endpoint) (bytes : List ℕ) (open_now : is_some (outcome_of x.state.phase) ≡ false) where
   pub ignore_acts : Acting views messages k x refuses_commit from bytes Ignore
-  ignore_acts turn held h = from_row views messages k x Ignore from turn held (ignores views messages k x s kept from open_now) h
+  ignore_acts turn held h = from_action views messages k x Ignore from turn held (ignores views messages k x s kept from open_now) h
 
   pub stranger_acts : Acting views messages k x refuses_commit from bytes Stranger
-  stranger_acts turn held h = from_row views messages k x Stranger from turn held (tells_stranger views messages k x s kept from open_now) h
+  stranger_acts turn held h = from_action views messages k x Stranger from turn held (tells_stranger views messages k x s kept from open_now) h
 
-  pub again_acts : from ≡ x.state.newest_to → IsThere messages x.address x.state.newest_to x.state.newest → Acting views messages k x refuses_commit from bytes Again
-  again_acts same old turn held h = from_row views messages k x Again from turn held (answers_again views messages k x s kept from open_now same old) h
+  pub again_acts : from ≡ x.state.last_sent_to → IsThere messages x.address x.state.last_sent_to x.state.last_sent → Acting views messages k x refuses_commit from bytes ResendReply
+  again_acts same old turn held h = from_action views messages k x ResendReply from turn held (answers_again views messages k x s kept from open_now same old) h
 
 module _ (views : List EndView) (messages : List Message) (k : ℕ) (x0 : OpenedEnd) (terms : Terms) (n : ℕ)
     (s : Stands views messages k (view_of_end (placed (Sending terms n) x0))) (kept : EndKept (placed (Sending terms n) x0))
@@ -88,19 +88,19 @@ module _ (views : List EndView) (messages : List Message) (k : ℕ) (x0 : Opened
   abbrev sender : OpenedEnd
   sender = placed (Sending terms n) x0
 
-  illegal_sender : Acting views messages k sender refuses_commit from bytes (illegal_row terms)
+  illegal_sender : Acting views messages k sender refuses_commit from bytes (illegal_action terms)
   illegal_sender turn held h =
-      from_row views messages k sender (illegal_row terms) from turn held (refuses_now views messages k sender s kept replies.IllegalOperation outcomes.Illegal from refl) h
+      from_action views messages k sender (illegal_action terms) from turn held (refuses_now views messages k sender s kept replies.IllegalOperation outcomes.Illegal from refl) h
 
   -- a sender with an ACK
   acked_acts : (acked : ℕ) → terms.peer ≡ from → Contains messages (message from x0.address (Says_ack acked)) →
-      Acting views messages k sender refuses_commit from bytes (acked_row x0.state.length terms n acked)
+      Acting views messages k sender refuses_commit from bytes (acked_action x0.state.length terms n acked)
   acked_acts acked peer come =
       let P = Acting views messages k sender refuses_commit from bytes in
       let u = kept.phase in
       let text = sent_text x0 in
       let measured : x0.state.length ≡ length text = u.measured in
-      if_acts P (acked == n) (if nat_lt n (x0.state.length / terms.size + 1) then Send terms (n + 1) else Complete) (if nat_lt acked n then Ignore else illegal_row terms)
+      if_acts P (acked == n) (if nat_lt n (x0.state.length / terms.size + 1) then Send terms (n + 1) else Complete) (if nat_lt acked n then Ignore else illegal_action terms)
       (λ e.
       let here : Contains messages (message from x0.address (Says_ack n)) = subst (λ (m : ℕ). Contains messages (message from x0.address (Says_ack m))) (eqb-true acked n e) come in
       if_acts P (nat_lt n (x0.state.length / terms.size + 1)) (Send terms (n + 1)) Complete
@@ -110,37 +110,37 @@ module _ (views : List EndView) (messages : List Message) (k : ℕ) (x0 : Opened
       (λ l. let least : block_count text terms.size ≤ n = subst (λ (m : ℕ). m / terms.size + 1 ≤ n) measured (ltb-false n (x0.state.length / terms.size + 1) l) in
       let most = u.so_far in
       let last : n ≡ block_count text terms.size = omega arith in
-      λ turn held h. from_row views messages k sender Complete from turn held (ends_whole views messages k x0 terms n s kept from peer here last) h))
-      (λ e. if_acts P (nat_lt acked n) Ignore (illegal_row terms)
+      λ turn held h. from_action views messages k sender Complete from turn held (ends_whole views messages k x0 terms n s kept from peer here last) h))
+      (λ e. if_acts P (nat_lt acked n) Ignore (illegal_action terms)
       (λ l. ignore_acts views messages k sender s kept refuses_commit from bytes refl)
       (λ l. illegal_sender))
 
   -- a sender with any packet
-  pub sender_acts : (client : Bool) (heard : Option WirePacket) → terms.peer ≡ from → Heard messages from x0 heard →
-      Acting views messages k sender refuses_commit from bytes (sender_row client x0.state.length terms n heard)
+  pub sender_acts : (client : Bool) (decoded : Option WirePacket) → terms.peer ≡ from → OfDecoded messages from x0 decoded →
+      Acting views messages k sender refuses_commit from bytes (sender_action client x0.state.length terms n decoded)
   sender_acts client None peer come = illegal_sender
   sender_acts client (Some (Read r)) peer come = illegal_sender
   sender_acts client (Some (Write r)) peer come = illegal_sender
   sender_acts client (Some (Data number piece)) peer come = illegal_sender
   sender_acts client (Some (Ack acked)) peer come = acked_acts acked peer (come (Ack acked) refl)
   sender_acts client (Some (Error code text)) peer come =
-      λ turn held h. from_row views messages k sender (Close (outcomes.PeerError code)) from turn held (gives_up views messages k sender s kept (outcomes.PeerError code) from refl) h
+      λ turn held h. from_action views messages k sender (Close (outcomes.PeerError code)) from turn held (gives_up views messages k sender s kept (outcomes.PeerError code) from refl) h
   sender_acts client (Some (Oack options)) peer come =
-      if_acts (Acting views messages k sender refuses_commit from bytes) (client && terms.by_oack) Ignore (illegal_row terms)
+      if_acts (Acting views messages k sender refuses_commit from bytes) (client && terms.by_oack) Ignore (illegal_action terms)
       (λ e. ignore_acts views messages k sender s kept refuses_commit from bytes refl) (λ e. illegal_sender)
 
 module _ (views : List EndView) (messages : List Message) (k : ℕ) (x0 : OpenedEnd) (terms : Terms) (n : ℕ)
     (s : Stands views messages k (view_of_end (placed (Receiving terms n) x0))) (kept : EndKept (placed (Receiving terms n) x0))
     (refuses_commit : Holding → StoreFault → Type 0) (from : Endpoint) (bytes : List ℕ)
-    (peer : terms.peer ≡ from) (old : IsThere messages x0.address x0.state.newest_to x0.state.newest) where
+    (peer : terms.peer ≡ from) (old : IsThere messages x0.address x0.state.last_sent_to x0.state.last_sent) where
   abbrev receiver : OpenedEnd
   receiver = placed (Receiving terms n) x0
 
   refuse_receiver : (reply : ErrorReply) (outcome : Outcome) → Acting views messages k receiver refuses_commit from bytes (Refuse (Some terms) reply outcome)
   refuse_receiver reply outcome turn held h =
-      from_row views messages k receiver (Refuse (Some terms) reply outcome) from turn held (refuses_now views messages k receiver s kept reply outcome from refl) h
+      from_action views messages k receiver (Refuse (Some terms) reply outcome) from turn held (refuses_now views messages k receiver s kept reply outcome from refl) h
 
-  again_receiver : Acting views messages k receiver refuses_commit from bytes Again
+  again_receiver : Acting views messages k receiver refuses_commit from bytes ResendReply
   again_receiver = again_acts views messages k receiver s kept refuses_commit from bytes refl (sym peer ∙ sym kept.phase.1) old
 
   ignore_receiver : Acting views messages k receiver refuses_commit from bytes Ignore
@@ -148,12 +148,12 @@ module _ (views : List EndView) (messages : List Message) (k : ℕ) (x0 : Opened
 
   -- a receiver with its next block
   next_acts : (number : ℕ) (piece : List ℕ) → number ≡ n + 1 → Spells (Data number piece) bytes → Contains messages (message from x0.address (Says_data number piece)) →
-      Acting views messages k receiver refuses_commit from bytes (next_row x0.state.mode x0.state.held terms number piece)
+      Acting views messages k receiver refuses_commit from bytes (next_action x0.state.mode x0.state.held terms number piece)
   next_acts number piece is spelled come =
       let P = Acting views messages k receiver refuses_commit from bytes in
       let last = nat_lt (length piece) terms.size in
       let store = if is_readable x0.state.mode x0.state.held piece last then Store terms number else Refuse (Some terms) replies.NotNetascii outcomes.NotNetascii in
-      if_acts P (nat_lt terms.size (length piece)) (illegal_row terms)
+      if_acts P (nat_lt terms.size (length piece)) (illegal_action terms)
       (if number == 65535 && (length piece == terms.size) then Refuse (Some terms) replies.FileTooLarge outcomes.TooLarge else store)
       (λ e. refuse_receiver replies.IllegalOperation outcomes.Illegal)
       (λ e.
@@ -177,38 +177,38 @@ module _ (views : List EndView) (messages : List Message) (k : ℕ) (x0 : Opened
       (λ g. refuse_receiver replies.NotNetascii outcomes.NotNetascii)))
 
   data_acts : (number : ℕ) (piece : List ℕ) → Spells (Data number piece) bytes → Contains messages (message from x0.address (Says_data number piece)) →
-      Acting views messages k receiver refuses_commit from bytes (data_row x0.state.mode x0.state.held terms n number piece)
+      Acting views messages k receiver refuses_commit from bytes (data_action x0.state.mode x0.state.held terms n number piece)
   data_acts number piece spelled come =
       let P = Acting views messages k receiver refuses_commit from bytes in
-      let later = if number == n + 1 then next_row x0.state.mode x0.state.held terms number piece else illegal_row terms in
-      if_acts P (number == n) Again (if nat_lt number n then Ignore else later)
+      let later = if number == n + 1 then next_action x0.state.mode x0.state.held terms number piece else illegal_action terms in
+      if_acts P (number == n) ResendReply (if nat_lt number n then Ignore else later)
       (λ e. again_receiver)
       (λ e. if_acts P (nat_lt number n) Ignore later
       (λ f. ignore_receiver)
-      (λ f. if_acts P (number == n + 1) (next_row x0.state.mode x0.state.held terms number piece) (illegal_row terms)
+      (λ f. if_acts P (number == n + 1) (next_action x0.state.mode x0.state.held terms number piece) (illegal_action terms)
       (λ g. next_acts number piece (eqb-true number (n + 1) g) spelled come)
       (λ g. refuse_receiver replies.IllegalOperation outcomes.Illegal)))
 
   -- a receiver with any packet
-  pub receiver_acts : (client : Bool) (heard : Option WirePacket) → ((p : WirePacket) → heard ≡ Some p → Spells p bytes) → Heard messages from x0 heard →
-      Acting views messages k receiver refuses_commit from bytes (receiver_row client x0.state.mode x0.state.held terms n heard)
+  pub receiver_acts : (client : Bool) (decoded : Option WirePacket) → ((p : WirePacket) → decoded ≡ Some p → Spells p bytes) → OfDecoded messages from x0 decoded →
+      Acting views messages k receiver refuses_commit from bytes (receiver_action client x0.state.mode x0.state.held terms n decoded)
   receiver_acts client None spelled come = refuse_receiver replies.IllegalOperation outcomes.Illegal
   receiver_acts client (Some (Read r)) spelled come = refuse_receiver replies.IllegalOperation outcomes.Illegal
   receiver_acts client (Some (Write r)) spelled come = refuse_receiver replies.IllegalOperation outcomes.Illegal
   receiver_acts client (Some (Data number piece)) spelled come = data_acts number piece (spelled (Data number piece) refl) (come (Data number piece) refl)
   receiver_acts client (Some (Ack acked)) spelled come = refuse_receiver replies.IllegalOperation outcomes.Illegal
   receiver_acts client (Some (Error code text)) spelled come =
-      λ turn held h. from_row views messages k receiver (Close (outcomes.PeerError code)) from turn held (gives_up views messages k receiver s kept (outcomes.PeerError code) from refl) h
+      λ turn held h. from_action views messages k receiver (Close (outcomes.PeerError code)) from turn held (gives_up views messages k receiver s kept (outcomes.PeerError code) from refl) h
   receiver_acts client (Some (Oack options)) spelled come =
       let P = Acting views messages k receiver refuses_commit from bytes in
-      if_acts P (client && terms.by_oack) (if n == 0 then Again else Ignore) (illegal_row terms)
-      (λ e. if_acts P (n == 0) Again Ignore (λ f. again_receiver) (λ f. ignore_receiver))
+      if_acts P (client && terms.by_oack) (if n == 0 then ResendReply else Ignore) (illegal_action terms)
+      (λ e. if_acts P (n == 0) ResendReply Ignore (λ f. again_receiver) (λ f. ignore_receiver))
       (λ e. refuse_receiver replies.IllegalOperation outcomes.Illegal)
 
 module _ (views : List EndView) (messages : List Message) (k : ℕ) (x0 : OpenedEnd) (terms : Terms) (n : ℕ) (dally : Dally)
     (s : Stands views messages k (view_of_end (placed (Dallying terms n dally) x0))) (kept : EndKept (placed (Dallying terms n dally) x0))
     (refuses_commit : Holding → StoreFault → Type 0) (from : Endpoint) (bytes : List ℕ)
-    (peer : terms.peer ≡ from) (old : IsThere messages x0.address x0.state.newest_to x0.state.newest) where
+    (peer : terms.peer ≡ from) (old : IsThere messages x0.address x0.state.last_sent_to x0.state.last_sent) where
   abbrev dallier : OpenedEnd
   dallier = placed (Dallying terms n dally) x0
 
@@ -216,12 +216,12 @@ module _ (views : List EndView) (messages : List Message) (k : ℕ) (x0 : Opened
   ignore_dallier = ignore_acts views messages k dallier s kept refuses_commit from bytes refl
 
   -- a receiver that dallies, with any packet
-  pub dally_acts : (heard : Option WirePacket) → Acting views messages k dallier refuses_commit from bytes (dally_row n heard)
+  pub dally_acts : (decoded : Option WirePacket) → Acting views messages k dallier refuses_commit from bytes (dally_action n decoded)
   dally_acts None = ignore_dallier
   dally_acts (Some (Read r)) = ignore_dallier
   dally_acts (Some (Write r)) = ignore_dallier
   dally_acts (Some (Data number piece)) =
-      if_acts (Acting views messages k dallier refuses_commit from bytes) (number == n) Again Ignore
+      if_acts (Acting views messages k dallier refuses_commit from bytes) (number == n) ResendReply Ignore
       (λ e. again_acts views messages k dallier s kept refuses_commit from bytes refl (sym peer ∙ sym kept.phase.1) old)
       (λ e. ignore_dallier)
   dally_acts (Some (Ack acked)) = ignore_dallier

@@ -1,4 +1,4 @@
--- What a turn at one place makes of all ends of a world, and of the world.
+-- How a turn at one place handles all ends of a world, and of the world.
 use Rattle.std.proofs.Common.{◌≡◌, ℕ, suc, zero, ◌+◌, ◌<◌, ◌≤◌, Bool, true, false, List, [], ◌∷◌, ◌++◌, length, map, Option, Some, None, refl, sym, ap, ◌∙◌, subst, arith, inl, inr}
 use Rattle.std.specs.Prelude.{◌⊎◌, is_some, if◌then◌else◌, slice_get, slice_set, slice_index_or, option_map}
 use Rattle.std.proofs.lemmas.Bool.{true≢false}
@@ -20,9 +20,9 @@ use Rattle.tftp_server.specs.declared.config.Config.{Config}
 use Rattle.tftp_player.specs.Machine.{Endpoint}
 use Rattle.tftp_player.specs.Clients.{server_at}
 use Rattle.tftp_player.specs.Effect.{effect_of, no_effect, said_by, place_behind, report_by}
-use Rattle.tftp_player.specs.Played.{sending_served, served_end, ended_as, end_at, ends_from, records_from, PlayerKept, IsServed, AllKept, PlayerTimesOut, has_ended, address_of, client_end}
+use Rattle.tftp_player.specs.Played.{sending_served, served_end, ended_as, end_at, ends_from, records_from, PlayerKept, IsServed, AllKept, PlayerTimeoutStep, has_ended, address_of, client_end}
 use Rattle.tftp_player.specs.Serving.{PlayedServer, Transfer, ServedKept}
-use Rattle.tftp_player.specs.Stage.{ends_of, IsStaged, EndTimesOut, StageTimesOut, record_closed, world_of}
+use Rattle.tftp_player.specs.Stage.{ends_of, IsStaged, EndTimesOut, StageTimeoutStep, record_closed, world_of}
 use Rattle.tftp_player.specs.World.{WorldState, OpenedEnd, is_closed, files_of, end_after, at_rest, rest_terms, recorded_terms, closed_state, replied, added_at, closed_at, report_of, no_report}
 use Rattle.tftp_player.specs.WorldSteps.{WorldStep, IsAtPort}
 use Rattle.tftp_player.specs.declared.datagram.Datagram.{Datagram}
@@ -121,7 +121,7 @@ pub sending_files : (port : ℕ) (s : Served) (e : EndState) (left : List ℕ) �
 sending_files port s e left sender = ap (λ (b : Bool). if b then Source left else Sink (record { bytes = []; committed = false; refuses = false })) sender
 
 pub player_times_out : (port : ℕ) (p p' : Player) (before after : PlayedServer) (effect : Effect) (r : Record) →
-    PlayerKept port before.held p → has_ended p ≡ false → PlayerTimesOut port p p' before after effect r →
+    PlayerKept port before.held p → has_ended p ≡ false → PlayerTimeoutStep port p p' before after effect r →
     Stepped port (end_at port before.held p) p' before after (timeout_turn (end_at port before.held p).state) (files_of (end_at port before.held p)) effect r
 player_times_out port (Client c) (Client c') before after effect r kept open_now t =
     let x = client_at_rest port c before.held kept.1 open_now in
@@ -157,7 +157,7 @@ closed_is server ps records k p staged e =
 
 pub stage_times_out : (place : ℕ) (before after : PlayedServer) (ps : List Player) (p p' : Player) (effect : Effect) (r : Record) → slice_get ps place ≡ Some p →
     Stepped (1024 + place) (end_at (1024 + place) before.held p) p' before after (timeout_turn (end_at (1024 + place) before.held p).state) (files_of (end_at (1024 + place) before.held p)) effect r →
-    StageTimesOut place before after ps (slice_set ps place p') effect
+    StageTimeoutStep place before after ps (slice_set ps place p') effect
 stage_times_out place before after ps p p' effect r e t =
     let x = end_at (1024 + place) before.held p in
     record {
@@ -169,7 +169,7 @@ stage_times_out place before after ps p p' effect r e t =
     }
 
 pub stage_rests : (place : ℕ) (server : PlayedServer) (ps : List Player) (p : Player) (effect : Effect) → slice_get ps place ≡ Some p → is_closed (end_at (1024 + place) server.held p) ≡ true →
-    effect ≡ no_effect (end_at (1024 + place) server.held p).address → StageTimesOut place server server ps ps effect
+    effect ≡ no_effect (end_at (1024 + place) server.held p).address → StageTimeoutStep place server server ps ps effect
 stage_rests place server ps p effect e closed is =
     let x = end_at (1024 + place) server.held p in
     record {
@@ -235,7 +235,7 @@ timed_by false config sent place before after ps ps' effect port x rest at open_
     (subst (λ (v : WorldState). WorldStep w (Timeout port) (report_of w x turn) v) (sym same) (timeout_step w port place x rest at open_now))
 
 pub world_timed_out : (config : Config) (sent : List Datagram) (place : ℕ) (before after : PlayedServer) (ps ps' : List Player) (effect : Effect) (port : ℕ) → port ≡ 1024 + place →
-    AllKept 1024 before.held ps → StageTimesOut place before after ps ps' effect →
+    AllKept 1024 before.held ps → StageTimeoutStep place before after ps ps' effect →
     WorldStep (world_of config sent before ps) (Timeout port) (report_by sent effect) (world_of config (sent ++ said_by effect.from effect.to effect.bytes) after ps')
 world_timed_out config sent place before after ps ps' effect port is kept t =
     timed_by (is_closed t.end) config sent place before after ps ps' effect port t.end (ends_rest 1024 before.held ps kept) (record { is = is; there = t.found }) refl t.same.store t.times_out
@@ -282,26 +282,26 @@ module _ (server : PlayedServer) (ps : List Player) (records : List (ℕ × Reco
       omega (arith, n)
 
   pub rests_staged : (b : Bool) (here : Endpoint) (effect : Effect) → b ≡ record_closed (slice_get records place) → b ≡ true → here ≡ address_of port p → effect ≡ no_effect here →
-      StageTimesOut place server server ps (slice_set ps place p) effect
+      StageTimeoutStep place server server ps (slice_set ps place p) effect
   rests_staged b here effect told is address effects =
-      subst (λ (qs : List Player). StageTimesOut place server server ps qs effect) (sym read_back)
+      subst (λ (qs : List Player). StageTimeoutStep place server server ps qs effect) (sym read_back)
       (stage_rests place server ps p effect is_there (recorded_as b true told is)
       (effects ∙ ap no_effect (address ∙ (ap (λ (n : ℕ). address_of n p) at_place.1 ∙ sym (address_is (1024 + place) server.held p)))))
 
   stepped_here : (b : Bool) (p' : Player) (after : PlayedServer) (effect : Effect) (r : Record) → b ≡ record_closed (slice_get records place) → b ≡ false →
-      PlayerTimesOut port p p' server after effect r →
+      PlayerTimeoutStep port p p' server after effect r →
       Stepped (1024 + place) (end_at (1024 + place) server.held p) p' server after (timeout_turn (end_at (1024 + place) server.held p).state) (files_of (end_at (1024 + place) server.held p)) effect r
   stepped_here b p' after effect r told is t =
       player_times_out (1024 + place) p p' server after effect r (kept_at server.held ps place p staged.kept is_there) (read_open b told is)
-      (subst (λ (n : ℕ). PlayerTimesOut n p p' server after effect r) at_place.1 t)
+      (subst (λ (n : ℕ). PlayerTimeoutStep n p p' server after effect r) at_place.1 t)
 
   pub times_out_staged : (b : Bool) (p' : Player) (after : PlayedServer) (effect : Effect) (r : Record) → b ≡ record_closed (slice_get records place) → b ≡ false →
-      PlayerTimesOut port p p' server after effect r → StageTimesOut place server after ps (slice_set ps place p') effect
+      PlayerTimeoutStep port p p' server after effect r → StageTimeoutStep place server after ps (slice_set ps place p') effect
   times_out_staged b p' after effect r told is t =
       stage_times_out place server after ps p p' effect r is_there (stepped_here b p' after effect r told is t)
 
   pub times_out_keeps : (b : Bool) (p' : Player) (after : PlayedServer) (effect : Effect) (r : Record) → b ≡ record_closed (slice_get records place) → b ≡ false →
-      PlayerTimesOut port p p' server after effect r → IsStaged after (slice_set ps place p') (slice_set records place (port, r))
+      PlayerTimeoutStep port p p' server after effect r → IsStaged after (slice_set ps place p') (slice_set records place (port, r))
   times_out_keeps b p' after effect r told is t =
       let x = end_at (1024 + place) server.held p in
       subst (λ (n : ℕ). IsStaged after (slice_set ps place p') (slice_set records place (n, r))) (sym at_place.1)
@@ -309,7 +309,7 @@ module _ (server : PlayedServer) (ps : List Player) (records : List (ℕ × Reco
 
 -- the same, where what was sent is told by equations
 pub timeout_result : (config : Config) (sent : List Datagram) (place : ℕ) (before after : PlayedServer) (ps ps' : List Player) (effect : Effect) (port : ℕ) (old : WorldState) (sent0 sent1 : List Datagram) (report : Report) →
-    world_of config sent before ps ≡ old → port ≡ 1024 + place → AllKept 1024 before.held ps → StageTimesOut place before after ps ps' effect →
+    world_of config sent before ps ≡ old → port ≡ 1024 + place → AllKept 1024 before.held ps → StageTimeoutStep place before after ps ps' effect →
     sent0 ≡ sent → sent1 ≡ sent0 ++ said_by effect.from effect.to effect.bytes → report ≡ report_by sent0 effect →
     WorldStep old (Timeout port) report (world_of config sent1 after ps')
 timeout_result config sent place before after ps ps' effect port old sent0 sent1 report view is kept t same more tells =

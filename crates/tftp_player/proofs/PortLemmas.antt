@@ -16,7 +16,7 @@ use Rattle.tftp_ends.specs.declared.error_reply.ErrorReply.{ErrorReply}
 use Rattle.tftp_ends.specs.declared.error_reply.ErrorReply.TheVariants.{FileTooLarge, ServerBusy}
 use Rattle.tftp_ends.specs.declared.side.Side.TheVariants.{ServerRead}
 use Rattle.tftp_ends.specs.End.{EndState}
-use Rattle.tftp_ends.specs.Row.{begins_error}
+use Rattle.tftp_ends.specs.Action.{has_error_opcode}
 use Rattle.tftp_server.specs.State.{Held, ServerState, at, with_new}
 use Rattle.tftp_server.specs.Store.{Stored, Drafted, measured}
 use Rattle.tftp_player.specs.Machine.{Endpoint, request_port, server_ip}
@@ -28,9 +28,9 @@ use Rattle.tftp_player.proofs.HeldLemmas.{AreBelow, at-above_all, at-with_new}
 use Rattle.tftp_player.proofs.ServerLemmas.{IsNoWrite, held_of, PortAsking, PortLeft, PortDid}
 
 -- a file is sent where a request to read names one that is there
-pub record ReadServed (w : WorldState) (heard : Option Packet) (path file : List ℕ) (mode : Mode) : Type 0 where
+pub record ReadServed (w : WorldState) (decoded : Option Packet) (path file : List ℕ) (mode : Mode) : Type 0 where
   pub request : Request
-  pub heard_is : heard ≡ Some (Read request)
+  pub decoded_is : decoded ≡ Some (Read request)
   pub path_is : path_of_name request.name ≡ Ok path
   pub file_is : file_at w.files path ≡ Some file
   pub mode_is : mode ≡ request.mode
@@ -74,13 +74,13 @@ module _ (w : WorldState) (path file : List ℕ) (mode : Mode) (agreed : List Kn
       let b = by_file request p (file_at w.files p) s in
       record {
         request = request;
-        heard_is = refl;
+        decoded_is = refl;
         path_is = e ∙ ap (λ (q : List ℕ). Ok q) b.0;
         file_is = ap (file_at w.files) (sym b.0) ∙ b.1;
         mode_is = b.2;
       }
 
-  by_packet : (heard : Option Packet) → IsNoWrite heard → Is_sent (packet_service w heard) → ReadServed w heard path file mode
+  by_packet : (decoded : Option Packet) → IsNoWrite decoded → Is_sent (packet_service w decoded) → ReadServed w decoded path file mode
   by_packet None no_write h = absurd (refuses_none _ h)
   by_packet (Some (Read request)) no_write h = by_name request (path_of_name request.name) refl h
   by_packet (Some (Write request)) no_write h = absurd no_write
@@ -90,8 +90,8 @@ module _ (w : WorldState) (path file : List ℕ) (mode : Mode) (agreed : List Kn
   by_packet (Some (Oack options)) no_write h = absurd (refuses_none _ h)
 
   -- what was asked for where the server sends a file
-  pub service_sends : (bytes : List ℕ) (heard : Option Packet) → IsNoWrite heard → service w bytes heard ≡ Sends_file path file mode agreed → ReadServed w heard path file mode
-  service_sends bytes heard no_write h = by_packet heard no_write (other_way (begins_error bytes) Ignores (packet_service w heard) ignores_none h)
+  pub service_sends : (bytes : List ℕ) (decoded : Option Packet) → IsNoWrite decoded → service w bytes decoded ≡ Sends_file path file mode agreed → ReadServed w decoded path file mode
+  service_sends bytes decoded no_write h = by_packet decoded no_write (other_way (has_error_opcode bytes) Ignores (packet_service w decoded) ignores_none h)
 
 pub sending_open : (w : WorldState) (peer : Endpoint) (mode : Mode) (path file : List ℕ) (agreed : List Known) → is_closed (sending_end w peer mode path file agreed) ≡ false
 sending_open w peer mode path file [] = refl
@@ -123,9 +123,9 @@ pub sending_side : (w : WorldState) (peer : Endpoint) (mode : Mode) (path file :
 sending_side w peer mode path file [] = (refl, refl)
 sending_side w peer mode path file (known ∷ agreed) = (refl, refl)
 
-pub sending_newest_to : (w : WorldState) (peer : Endpoint) (mode : Mode) (path file : List ℕ) (agreed : List Known) → (sending_end w peer mode path file agreed).state.newest_to ≡ peer
-sending_newest_to w peer mode path file [] = refl
-sending_newest_to w peer mode path file (known ∷ agreed) = refl
+pub sending_last_sent_to : (w : WorldState) (peer : Endpoint) (mode : Mode) (path file : List ℕ) (agreed : List Known) → (sending_end w peer mode path file agreed).state.last_sent_to ≡ peer
+sending_last_sent_to w peer mode path file [] = refl
+sending_last_sent_to w peer mode path file (known ∷ agreed) = refl
 
 module _ {D : Type 0} (drafted : D → Option Drafted) (w : WorldState) (asking : PortAsking drafted) (result : PortLeft drafted) where
   -- a transfer opened: the end that the world says, and its first datagram went to whoever asked
@@ -137,7 +137,7 @@ module _ {D : Type 0} (drafted : D → Option Drafted) (w : WorldState) (asking 
     pub service_is : service ≡ Sends_file path file mode agreed
     pub tid : result.opened.tid ≡ Some asking.tid
     pub to : result.opened.to ≡ Some asking.from
-    pub sent : result.sent ≡ (sending_end w asking.from mode path file agreed).state.newest
+    pub sent : result.sent ≡ (sending_end w asking.from mode path file agreed).state.last_sent
     pub new : result.new ≡ record asking.old { held = with_new asking.tid (held_of (sending_end w asking.from mode path file agreed)) asking.old.held }
     pub serves : Serves service w asking.from (sent_report w) (opened_in w (sending_end w asking.from mode path file agreed))
 

@@ -105,15 +105,15 @@ module _ (config : Config) (sent : List Datagram) (server : PlayedServer) (ps : 
     below = subst (λ (n : ℕ). AllByRecursion (λ (e : ℕ × Transfer). e.0 < 1024 + n) server.held) (sym (length-set ps place (told_player p))) staged.below;
     count = staged.count ∙ (sym (transfers-set (ends_of server ps) place x (told_to_refuse x) (ends_get server.held ps place p there) same_flags.1) ∙ ap open_transfers (sym new_ends));
   } where
-    row : ℕ × Record
-    row = (1024 + place, record_of x.state)
+    action : ℕ × Record
+    action = (1024 + place, record_of x.state)
 
     same_records : records_from 1024 (slice_set (ends_of server ps) place (told_to_refuse x)) ≡ records_from 1024 (ends_of server ps)
     same_records =
         records_set 1024 (ends_of server ps) place (told_to_refuse x)
         ∙ (ap (λ (r : Record). slice_set (records_from 1024 (ends_of server ps)) place (1024 + place, r)) same_flags.0
-        ∙ (ap (slice_set (records_from 1024 (ends_of server ps)) place) (sym (get_or_from_slice_get (records_from 1024 (ends_of server ps)) place row row (records_get 1024 (ends_of server ps) place x (ends_get server.held ps place p there))))
-        ∙ set-get_or (records_from 1024 (ends_of server ps)) place row))
+        ∙ (ap (slice_set (records_from 1024 (ends_of server ps)) place) (sym (get_or_from_slice_get (records_from 1024 (ends_of server ps)) place action action (records_get 1024 (ends_of server ps) place x (ends_get server.held ps place p there))))
+        ∙ set-get_or (records_from 1024 (ends_of server ps)) place action))
 
   pub refused_step : WorldStep old (RefuseStore port) no_report (world_of config sent server (slice_set ps place (told_player p)))
   refused_step =

@@ -105,13 +105,13 @@ no_held Netascii = tt
 
 -- an end is kept in its world at rest
 kept_in : (w : WorldState) (phase : Phase) (x : OpenedEnd) → IsKeptIn w (placed phase x) → IsKeptIn (resting w) (at_rest (placed phase x))
-kept_in w (Waiting asked limit) x h = record { kept = h.kept; newest = h.newest; stored = h.stored }
-kept_in w (Sending terms number) x h = record { kept = h.kept; newest = h.newest; stored = h.stored }
-kept_in w (Receiving terms number) x h = record { kept = h.kept; newest = h.newest; stored = h.stored }
-kept_in w (Dallying terms number dally) x h = record { kept = h.kept; newest = h.newest; stored = h.stored }
+kept_in w (Waiting asked limit) x h = record { kept = h.kept; last_sent = h.last_sent; stored = h.stored }
+kept_in w (Sending terms number) x h = record { kept = h.kept; last_sent = h.last_sent; stored = h.stored }
+kept_in w (Receiving terms number) x h = record { kept = h.kept; last_sent = h.last_sent; stored = h.stored }
+kept_in w (Dallying terms number dally) x h = record { kept = h.kept; last_sent = h.last_sent; stored = h.stored }
 kept_in w (Closed terms number complete outcome) x h = record {
   kept = record { phase = tt; held = no_held x.state.mode; committed = h.kept.committed };
-  newest = λ o. absurd (true≢false o);
+  last_sent = λ o. absurd (true≢false o);
   stored = h.stored;
 }
 

@@ -37,10 +37,10 @@ use Rattle.tftp_ends.specs.declared.error_reply.ErrorReply.{ErrorReply}
 use Rattle.tftp_ends.specs.declared.error_reply.ErrorReply.TheVariants.{FileTooLarge, ServerBusy}
 use Rattle.tftp_ends.specs.End.{EndState}
 use Rattle.tftp_ends.specs.Opening.{ServesRead, serving}
-use Rattle.tftp_ends.specs.Row.{Says, begins_error}
+use Rattle.tftp_ends.specs.Action.{Decodes, has_error_opcode}
 use Rattle.tftp_ends.specs.Step.{block_length, data_bytes, result_count_is}
-use Rattle.tftp_ends.specs.Waiting.{plain_terms, agreed_terms}
-use Rattle.tftp_server.specs.Request.{Asking, Left, refusing, silent, opening, accept_reply, AnswersRead, ReadsFrom, Names, PortStep, RequestStep, CarriedStep, carried, carried_read}
+use Rattle.tftp_ends.specs.Waiting.{default_terms, agreed_terms}
+use Rattle.tftp_server.specs.Request.{Asking, Left, refusing, silent, opening, accept_reply, AnswersRead, ReadsFrom, Names, PortStep, RequestStep, SupportedStep, supported, supported_read}
 use Rattle.tftp_server.specs.State.{Held, ServerState}
 use Rattle.tftp_server.specs.Store.{Stored, Drafted, Opens, measured, file_at as file_under}
 use Rattle.tftp_server.specs.declared.store.Opening.{Opening}
@@ -59,16 +59,16 @@ pub same_file_at : (files : List StoredFile) (path : List ℕ) → file_under pa
 same_file_at files path = refl
 
 -- bytes say one thing
-pub says_one : (bytes : List ℕ) (a b : Option Packet) → Says bytes a → Says bytes b → a ≡ b
+pub says_one : (bytes : List ℕ) (a b : Option Packet) → Decodes bytes a → Decodes bytes b → a ≡ b
 says_one bytes (Some p) (Some q) s t = ap Some (one_packet p q bytes s t)
 says_one bytes (Some p) None s t = absurd (let f : None ≡ Some t.0 = sym (none_packet p bytes s) ∙ t.1 in cc)
 says_one bytes None (Some q) s t = absurd (let f : None ≡ Some s.0 = sym (none_packet q bytes t) ∙ s.1 in cc)
 says_one bytes None None s t = refl
 
 -- and each datagram says something
-pub says_something : (bytes : List ℕ) → ((k : ℕ) → get_or bytes k 0 < 256) → (heard : Option Packet) × Says bytes heard
+pub says_something : (bytes : List ℕ) → ((k : ℕ) → get_or bytes k 0 < 256) → (decoded : Option Packet) × Decodes bytes decoded
 says_something bytes fine = by_fault (first_fault bytes) refl where
-  by_fault : (fault : Option PacketFault) → first_fault bytes ≡ fault → (heard : Option Packet) × Says bytes heard
+  by_fault : (fault : Option PacketFault) → first_fault bytes ≡ fault → (decoded : Option Packet) × Decodes bytes decoded
   by_fault None e = (Some (packet_in bytes), fine_spells bytes fine e)
   by_fault (Some fault) e = (None, (fault, e))
 
@@ -113,9 +113,9 @@ read_end w peer mode path file [] m retries rest e whole r s =
     let text = wire_text mode file in
     let b = first_moved text rest s.0 m whole s.1 in (
       s.2
-          ∙ (ap (λ (n : ℕ). serving mode n retries (plain_terms peer) 1 (data_bytes 1 s.0)) whole
-          ∙ (ap (λ (n : ℕ). serving mode (length text) n (plain_terms peer) 1 (data_bytes 1 s.0)) r
-          ∙ ap (λ (p : List ℕ). serving mode (length text) w.retries (plain_terms peer) 1 (data_bytes 1 p)) b.0)),
+          ∙ (ap (λ (n : ℕ). serving mode n retries (default_terms peer) 1 (data_bytes 1 s.0)) whole
+          ∙ (ap (λ (n : ℕ). serving mode (length text) n (default_terms peer) 1 (data_bytes 1 s.0)) r
+          ∙ ap (λ (p : List ℕ). serving mode (length text) w.retries (default_terms peer) 1 (data_bytes 1 p)) b.0)),
       b.1,
     )
 read_end w peer mode path file (known ∷ others) m retries rest e whole r s =
@@ -134,18 +134,18 @@ sending_path w peer mode path file (known ∷ agreed) = refl
 -- no request to write
 abbrev pub IsNoWrite : Option Packet → Type 0
 IsNoWrite (Some (Write request)) = ⊥
-IsNoWrite heard = Unit {0}
+IsNoWrite decoded = Unit {0}
 
 -- the transfer that a sender of the world is at its server
 abbrev pub held_of : {D : Type 0} → OpenedEnd → Held (List ℕ) D
 held_of x = record { end = x.state; files = Source x.left; path = x.path }
 
--- no request to write is carried
-carries_no_write_in : (name : List ℕ) (mode : Mode) → IsNoWrite (carried_read name mode)
+-- no request to write is supported
+carries_no_write_in : (name : List ℕ) (mode : Mode) → IsNoWrite (supported_read name mode)
 carries_no_write_in name Octet = tt
 carries_no_write_in name Netascii = tt
 
-pub carries_no_write : (heard : Option Packet) → IsNoWrite (carried heard)
+pub carries_no_write : (decoded : Option Packet) → IsNoWrite (supported decoded)
 carries_no_write None = tt
 carries_no_write (Some (Read request)) = carries_no_write_in request.name request.mode
 carries_no_write (Some (Write request)) = tt
@@ -255,7 +255,7 @@ module _ {D : Type 0} (drafted : D → Option Drafted) where
         (λ b asks. by_file request path asks.file (file_at w.files path) refl asks.opens asks.goes_on) h)
 
     -- the port did at what a datagram says as the world's server does
-    pub port_did : (heard : Option Packet) → IsNoWrite heard → PortStep (λ (s : List ℕ). Some s) never_fails (λ (s : Stored). Some s) drafted heard asking result → Did (packet_service w heard)
+    pub port_did : (decoded : Option Packet) → IsNoWrite decoded → PortStep (λ (s : List ℕ). Some s) never_fails (λ (s : Stored). Some s) drafted decoded asking result → Did (packet_service w decoded)
     port_did None no_write h = h
     port_did (Some (Read request)) no_write h = by_name request (path_of_name request.name) h
     port_did (Some (Write request)) no_write h = absurd no_write
@@ -265,20 +265,20 @@ module _ {D : Type 0} (drafted : D → Option Drafted) where
     port_did (Some (Oack options)) no_write h = h
 
     -- and at a datagram
-    pub request_did : (bytes : List ℕ) (heard : Option Packet) → Says bytes heard → IsNoWrite heard →
-        RequestStep (λ (s : List ℕ). Some s) never_fails (λ (s : Stored). Some s) drafted bytes asking result → Did (service w bytes heard)
-    request_did bytes heard says no_write h =
-        if_did (begins_error bytes) Ignores (packet_service w heard) _ _
+    pub request_did : (bytes : List ℕ) (decoded : Option Packet) → Decodes bytes decoded → IsNoWrite decoded →
+        RequestStep (λ (s : List ℕ). Some s) never_fails (λ (s : Stored). Some s) drafted bytes asking result → Did (service w bytes decoded)
+    request_did bytes decoded says no_write h =
+        if_did (has_error_opcode bytes) Ignores (packet_service w decoded) _ _
         (λ b quiet. quiet)
-        (λ b port. let same = says_one bytes port.0 heard port.1 says in
-        port_did heard no_write (subst (λ (p : Option Packet). PortStep (λ (s : List ℕ). Some s) never_fails (λ (s : Stored). Some s) drafted p asking result) same port.2)) h
+        (λ b port. let same = says_one bytes port.0 decoded port.1 says in
+        port_did decoded no_write (subst (λ (p : Option Packet). PortStep (λ (s : List ℕ). Some s) never_fails (λ (s : Stored). Some s) drafted p asking result) same port.2)) h
 
-    -- and where only what is carried so far has a place
-    pub carried_did : (bytes : List ℕ) (heard : Option Packet) → Says bytes heard →
-        CarriedStep (λ (s : List ℕ). Some s) never_fails (λ (s : Stored). Some s) drafted bytes asking result → Did (service w bytes (carried heard))
-    carried_did bytes heard says h =
-        if_did (begins_error bytes) Ignores (packet_service w (carried heard)) _ _
+    -- and where only what is supported so far has a place
+    pub supported_did : (bytes : List ℕ) (decoded : Option Packet) → Decodes bytes decoded →
+        SupportedStep (λ (s : List ℕ). Some s) never_fails (λ (s : Stored). Some s) drafted bytes asking result → Did (service w bytes (supported decoded))
+    supported_did bytes decoded says h =
+        if_did (has_error_opcode bytes) Ignores (packet_service w (supported decoded)) _ _
         (λ b quiet. quiet)
-        (λ b port. let same = says_one bytes port.0 heard port.1 says in
-        port_did (carried heard) (carries_no_write heard)
-        (subst (λ (p : Option Packet). PortStep (λ (s : List ℕ). Some s) never_fails (λ (s : Stored). Some s) drafted (carried p) asking result) same port.2)) h
+        (λ b port. let same = says_one bytes port.0 decoded port.1 says in
+        port_did (supported decoded) (carries_no_write decoded)
+        (subst (λ (p : Option Packet). PortStep (λ (s : List ℕ). Some s) never_fails (λ (s : Stored). Some s) drafted (supported p) asking result) same port.2)) h

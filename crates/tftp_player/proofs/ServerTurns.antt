@@ -7,16 +7,16 @@ use Rattle.tftp_file.specs.declared.fault.StoreFault.{StoreFault}
 use Rattle.tftp_file.specs.declared.files.Files.{Files}
 use Rattle.tftp_file.specs.declared.files.Files.TheVariants.{Source, Sink}
 use Rattle.tftp_ends.specs.declared.record.Step.{Step}
-use Rattle.tftp_ends.specs.declared.row.Row.{Row}
-use Rattle.tftp_ends.specs.declared.row.Row.TheVariants.{Ignore, Stranger, Again, Retry, Wait, Close, Refuse, Accept, Send, Store, Complete}
+use Rattle.tftp_ends.specs.declared.action.Action.{Action}
+use Rattle.tftp_ends.specs.declared.action.Action.TheVariants.{Ignore, Stranger, ResendReply, Retransmit, Wait, Close, Refuse, Accept, Send, Store, Complete}
 use Rattle.tftp_ends.specs.End.{EndState, is_sender, is_client, outcome_of}
-use Rattle.tftp_ends.specs.Row.{datagram_row}
-use Rattle.tftp_ends.specs.Step.{Turn, Reply, Acts, Hears, Carries, reply_bytes, timeout_turn, told}
+use Rattle.tftp_ends.specs.Action.{datagram_action}
+use Rattle.tftp_ends.specs.Step.{Turn, Reply, Acts, DatagramStep, Carries, reply_bytes, timeout_turn, told}
 use Rattle.tftp_server.specs.State.{Held}
-use Rattle.tftp_server.specs.Steps.{TakesIn, HearsIn, HearsRead}
+use Rattle.tftp_server.specs.Steps.{TakesIn, DatagramStepIn, ReadDatagramStep}
 use Rattle.tftp_player.specs.Machine.{Endpoint}
 use Rattle.tftp_player.specs.World.{WorldState, OpenedEnd, StoredFile, file_at, datagram, replied, in_state, files_of, holding_of, with_files, end_after, has_committed, world_after, added_at, closed_at, report_of}
-use Rattle.tftp_player.specs.WorldSteps.{never_fails, may_refuse_append, may_refuse_commit, FilesAfter, Turns, Hearing}
+use Rattle.tftp_player.specs.WorldSteps.{never_fails, may_refuse_append, may_refuse_commit, FilesAfter, Turns, OnDatagram}
 use Rattle.tftp_player.specs.declared.datagram.Datagram.{Datagram}
 use Rattle.tftp_player.specs.declared.report.Report.{Report}
 use Rattle.tftp_player.proofs.ServerLemmas.{held_of}
@@ -108,17 +108,17 @@ source_only (Source left) = Source left
 source_only (Sink sink) = Source []
 
 module _ (refuses_commit : Holding → StoreFault → Type 0) (from : Endpoint) (bytes : List ℕ) (e : EndState) (left left' : List ℕ) (turn : Turn) where
-  abbrev Heard_as : Row → Type 0
-  Heard_as row =
-      Acts (λ (s : List ℕ). Some s) never_fails (λ (sink : Unit {0}). None) (λ sink piece fault. Unit {0}) (λ sink fault. Unit {0}) row from bytes e (Source left) turn (Source left')
+  abbrev Decoded_as : Action → Type 0
+  Decoded_as action =
+      Acts (λ (s : List ℕ). Some s) never_fails (λ (sink : Unit {0}). None) (λ sink piece fault. Unit {0}) (λ sink fault. Unit {0}) action from bytes e (Source left) turn (Source left')
 
   -- an end that sends wants no sink
-  sends_alone : (row : Row) → Heard_as row →
-      Acts (λ (s : List ℕ). Some s) never_fails (λ (h : Holding). Some h) may_refuse_append refuses_commit row from bytes e (Source left) turn (Source left')
+  sends_alone : (action : Action) → Decoded_as action →
+      Acts (λ (s : List ℕ). Some s) never_fails (λ (h : Holding). Some h) may_refuse_append refuses_commit action from bytes e (Source left) turn (Source left')
   sends_alone Ignore h = (h.0, ap source_only h.1)
   sends_alone Stranger h = (h.0, ap source_only h.1)
-  sends_alone Again h = (h.0, ap source_only h.1)
-  sends_alone Retry h = (h.0, ap source_only h.1)
+  sends_alone ResendReply h = (h.0, ap source_only h.1)
+  sends_alone Retransmit h = (h.0, ap source_only h.1)
   sends_alone Wait h = (h.0, ap source_only h.1)
   sends_alone (Close outcome) h = (h.0, ap source_only h.1)
   sends_alone (Refuse terms reply outcome) h = (h.0, ap source_only h.1)
@@ -128,13 +128,13 @@ module _ (refuses_commit : Holding → StoreFault → Type 0) (from : Endpoint) 
   sends_alone Complete h = (h.0, ap source_only h.1)
 
 -- what a transfer that sends has heard is what an end of the world hears
-pub read_heard : (refuses_commit : Holding → StoreFault → Type 0) (from : Endpoint) (bytes : List ℕ) (e : EndState) (left left' : List ℕ) (turn : Turn) →
-    HearsRead (λ (s : List ℕ). Some s) never_fails from bytes e left turn left' →
-    Hears (λ (s : List ℕ). Some s) never_fails (λ (h : Holding). Some h) may_refuse_append refuses_commit from bytes e (Source left) turn (Source left')
-read_heard refuses_commit from bytes e left left' turn h = record {
-  heard = h.heard;
+pub read_stepped : (refuses_commit : Holding → StoreFault → Type 0) (from : Endpoint) (bytes : List ℕ) (e : EndState) (left left' : List ℕ) (turn : Turn) →
+    ReadDatagramStep (λ (s : List ℕ). Some s) never_fails from bytes e left turn left' →
+    DatagramStep (λ (s : List ℕ). Some s) never_fails (λ (h : Holding). Some h) may_refuse_append refuses_commit from bytes e (Source left) turn (Source left')
+read_stepped refuses_commit from bytes e left left' turn h = record {
+  decoded = h.decoded;
   says = h.says;
-  acts = sends_alone refuses_commit from bytes e left left' turn (datagram_row e from bytes h.heard) h.acts;
+  acts = sends_alone refuses_commit from bytes e left left' turn (datagram_action e from bytes h.decoded) h.acts;
 }
 
 -- what a sender's source has left
@@ -152,20 +152,20 @@ sender_files false x e = absurd (true≢false (sym e))
 
 module _ {D : Type 0} (w : WorldState) (k : ℕ) (x : OpenedEnd) (from : Endpoint) (bytes : List ℕ) (sender : is_sender x.state.side ≡ true) where
   by_files : (files : Files (List ℕ) D) (e : EndState) (path : List ℕ) (step : Step) (out : List ℕ) (turn : Turn) →
-      HearsIn {D = D} (λ (s : List ℕ). Some s) never_fails from bytes x.state (Source x.left) turn files → Carries turn e step.to [] out → step ≡ told x.state turn →
-      Hearing w k x from bytes (told_report w x.address step) (stepped w k x (with_held {D = D} x (record { end = e; files = files; path = path })) step out)
-  by_files (Sink draft) e path step out turn hears carries tells = absurd hears
-  by_files (Source left') e path step out turn hears carries tells =
+      DatagramStepIn {D = D} (λ (s : List ℕ). Some s) never_fails from bytes x.state (Source x.left) turn files → Carries turn e step.to [] out → step ≡ told x.state turn →
+      OnDatagram w k x from bytes (told_report w x.address step) (stepped w k x (with_held {D = D} x (record { end = e; files = files; path = path })) step out)
+  by_files (Sink draft) e path step out turn steps carries tells = absurd steps
+  by_files (Source left') e path step out turn steps carries tells =
       let refuses_commit = may_refuse_commit (is_client x.state.side) (file_at w.files x.path) in
-      let acts = sends_alone refuses_commit from bytes x.state x.left left' turn (datagram_row x.state from bytes hears.heard) hears.acts in
+      let acts = sends_alone refuses_commit from bytes x.state x.left left' turn (datagram_action x.state from bytes steps.decoded) steps.acts in
       let own : files_of x ≡ Source x.left = sender_files (is_sender x.state.side) x sender in
       record {
         turn = turn;
         held = Source left';
-        hears = record {
-          heard = hears.heard;
-          says = hears.says;
-          acts = subst (λ (f : Files (List ℕ) Holding). Acts (λ (s : List ℕ). Some s) never_fails (λ (h : Holding). Some h) may_refuse_append refuses_commit (datagram_row x.state from bytes hears.heard) from bytes x.state f turn (Source left')) (sym own) acts;
+        steps = record {
+          decoded = steps.decoded;
+          says = steps.says;
+          acts = subst (λ (f : Files (List ℕ) Holding). Acts (λ (s : List ℕ). Some s) never_fails (λ (h : Holding). Some h) may_refuse_append refuses_commit (datagram_action x.state from bytes steps.decoded) from bytes x.state f turn (Source left')) (sym own) acts;
         };
         turns = turn_told w k x turn (Source left') (record x { state = e; left = left' }) step out
             (ap (λ (z : EndState). record x { state = z; left = left' }) carries.state) tells carries.appended
@@ -173,9 +173,9 @@ module _ {D : Type 0} (w : WorldState) (k : ℕ) (x : OpenedEnd) (from : Endpoin
       }
 
   -- a transfer that took a datagram, and appended its answer to nothing, is the world's end that heard it
-  pub takes_hearing : (next : Held (List ℕ) D) (step : Step) (out : List ℕ) → TakesIn (λ (s : List ℕ). Some s) never_fails from bytes (held_of x) next step [] out →
-      Hearing w k x from bytes (told_report w x.address step) (stepped w k x (with_held x next) step out)
-  takes_hearing next step out takes = by_files next.files next.end next.path step out takes.turn takes.hears takes.carries takes.tells
+  pub takes_datagram : (next : Held (List ℕ) D) (step : Step) (out : List ℕ) → TakesIn (λ (s : List ℕ). Some s) never_fails from bytes (held_of x) next step [] out →
+      OnDatagram w k x from bytes (told_report w x.address step) (stepped w k x (with_held x next) step out)
+  takes_datagram next step out takes = by_files next.files next.end next.path step out takes.turn takes.steps takes.carries takes.tells
 
 -- the transfer that it is now, where the path stayed
 pub held_with : {D : Type 0} (x : OpenedEnd) (next : Held (List ℕ) D) (left : List ℕ) → next.files ≡ Source left → next.path ≡ x.path → held_of (with_held x next) ≡ next
@@ -185,10 +185,10 @@ held_with x next left f p =
     ∙ ap (λ (q : List ℕ). record { end = next.end; files = next.files; path = q }) (sym p))
 
 -- what a transfer that sends made of a datagram, in the words of the world's ends
-pub record HeardBy {D : Type 0} (refuses_commit : Holding → StoreFault → Type 0) (from : Endpoint) (bytes : List ℕ) (e : EndState) (left : List ℕ) (next : Held (List ℕ) D) (step : Step) (before after : List ℕ) : Type 0 where
+pub record DecodedBy {D : Type 0} (refuses_commit : Holding → StoreFault → Type 0) (from : Endpoint) (bytes : List ℕ) (e : EndState) (left : List ℕ) (next : Held (List ℕ) D) (step : Step) (before after : List ℕ) : Type 0 where
   pub turn : Turn
   pub rest : List ℕ
-  pub hears : Hears (λ (s : List ℕ). Some s) never_fails (λ (h : Holding). Some h) may_refuse_append refuses_commit from bytes e (Source left) turn (Source rest)
+  pub steps : DatagramStep (λ (s : List ℕ). Some s) never_fails (λ (h : Holding). Some h) may_refuse_append refuses_commit from bytes e (Source left) turn (Source rest)
   pub end : next.end ≡ turn.end
   pub files : next.files ≡ Source rest
   pub goes : step.to ≡ option_map (λ (r : Reply). r.to) turn.reply
@@ -196,14 +196,14 @@ pub record HeardBy {D : Type 0} (refuses_commit : Holding → StoreFault → Typ
   pub closed : step.closed ≡ outcome_of turn.end.phase
 
 module _ {D : Type 0} (refuses_commit : Holding → StoreFault → Type 0) (from : Endpoint) (bytes : List ℕ) where
-  source_heard : (files : Files (List ℕ) D) (e e' : EndState) (left : List ℕ) (path before after : List ℕ) (step : Step) (turn : Turn) →
-      HearsIn {D = D} (λ (s : List ℕ). Some s) never_fails from bytes e (Source left) turn files → Carries turn e' step.to before after → step ≡ told e turn →
-      HeardBy {D = D} refuses_commit from bytes e left (record { end = e'; files = files; path = path }) step before after
-  source_heard (Sink draft) e e' left path before after step turn hears carries tells = absurd hears
-  source_heard (Source rest) e e' left path before after step turn hears carries tells = record {
+  source_stepped : (files : Files (List ℕ) D) (e e' : EndState) (left : List ℕ) (path before after : List ℕ) (step : Step) (turn : Turn) →
+      DatagramStepIn {D = D} (λ (s : List ℕ). Some s) never_fails from bytes e (Source left) turn files → Carries turn e' step.to before after → step ≡ told e turn →
+      DecodedBy {D = D} refuses_commit from bytes e left (record { end = e'; files = files; path = path }) step before after
+  source_stepped (Sink draft) e e' left path before after step turn steps carries tells = absurd steps
+  source_stepped (Source rest) e e' left path before after step turn steps carries tells = record {
     turn = turn;
     rest = rest;
-    hears = record { heard = hears.heard; says = hears.says; acts = sends_alone refuses_commit from bytes e left rest turn (datagram_row e from bytes hears.heard) hears.acts };
+    steps = record { decoded = steps.decoded; says = steps.says; acts = sends_alone refuses_commit from bytes e left rest turn (datagram_action e from bytes steps.decoded) steps.acts };
     end = carries.state;
     files = refl;
     goes = carries.goes;
@@ -211,8 +211,8 @@ module _ {D : Type 0} (refuses_commit : Holding → StoreFault → Type 0) (from
     closed = ap (λ (s : Step). s.closed) tells;
   }
 
-  pub takes_heard : (transfer next : Held (List ℕ) D) (left : List ℕ) (step : Step) (before after : List ℕ) → transfer.files ≡ Source left →
-      TakesIn (λ (s : List ℕ). Some s) never_fails from bytes transfer next step before after → HeardBy refuses_commit from bytes transfer.end left next step before after
-  takes_heard transfer next left step before after sends takes =
-      source_heard next.files transfer.end next.end left next.path before after step takes.turn
-      (subst (λ (f : Files (List ℕ) D). HearsIn {D = D} (λ (s : List ℕ). Some s) never_fails from bytes transfer.end f takes.turn next.files) sends takes.hears) takes.carries takes.tells
+  pub takes_stepped : (transfer next : Held (List ℕ) D) (left : List ℕ) (step : Step) (before after : List ℕ) → transfer.files ≡ Source left →
+      TakesIn (λ (s : List ℕ). Some s) never_fails from bytes transfer next step before after → DecodedBy refuses_commit from bytes transfer.end left next step before after
+  takes_stepped transfer next left step before after sends takes =
+      source_stepped next.files transfer.end next.end left next.path before after step takes.turn
+      (subst (λ (f : Files (List ℕ) D). DatagramStepIn {D = D} (λ (s : List ℕ). Some s) never_fails from bytes transfer.end f takes.turn next.files) sends takes.steps) takes.carries takes.tells

@@ -9,7 +9,7 @@ use Rattle.tftp_ends.specs.declared.record.Step.{Step}
 use Rattle.tftp_ends.specs.End.{EndState, outcome_of, record_of}
 use Rattle.tftp_ends.specs.Step.{Turn, Carries, timeout_turn, told, reply_bytes}
 use Rattle.tftp_server.specs.State.{at, with_next, is_closed}
-use Rattle.tftp_server.specs.Steps.{TimesOut, TakesDatagram, HearsIn, HearsRead, KeepsHeld, with_end}
+use Rattle.tftp_server.specs.Steps.{TimesOut, TakesDatagram, DatagramStepIn, ReadDatagramStep, KeepsHeld, with_end}
 use Rattle.tftp_ends.specs.Files.{KeepsFiles}
 use Rattle.tftp_file.specs.Memory.{MemSinkState}
 use Rattle.std.specs.BTreeMap.{is_at}
@@ -17,7 +17,7 @@ use Rattle.std.specs.Ordering.{nat_cmp}
 use Rattle.tftp_player.specs.Machine.{Endpoint}
 use Rattle.tftp_player.specs.Clients.{server_at}
 use Rattle.tftp_player.specs.Effect.{effect_of}
-use Rattle.tftp_player.specs.Serving.{PlayedServer, Transfer, ServedKept, ServedTurns, ServedTimesOut, ServedHears, Concludes, IsHeld, SameServer, rested_served, rested_held}
+use Rattle.tftp_player.specs.Serving.{PlayedServer, Transfer, ServedKept, ServedTurns, ServedTimeoutStep, ServedDatagramStep, Concludes, IsHeld, SameServer, rested_served, rested_held}
 use Rattle.tftp_player.specs.declared.effect.Effect.{Effect}
 use Rattle.tftp_player.specs.declared.served.Served.{Served}
 use Rattle.tftp_player.proofs.HeldLemmas.{at-with_next}
@@ -62,7 +62,7 @@ same_files a b e = ap (λ (h : Transfer). h.files) (let f : a ≡ b = cc in f)
 pub served_times_out : (port : ℕ) (old new : Served) (before mid after : PlayedServer) (step : Step) (start out : List ℕ) (effect : Effect) (r : Record) → start ≡ [] →
     ServedKept port old before.held → TimesOut port before.held mid.held step start out → mid ≡ record before { held = mid.held } →
     Concludes port (at port mid.held) old new mid after r → (from_here : Endpoint) → from_here ≡ server_at port → effect ≡ record { from = from_here; to = step.to; bytes = out; closed = step.closed } →
-    ServedTimesOut port old new before after effect r
+    ServedTimeoutStep port old new before after effect r
 served_times_out port old new before mid after step start out effect r none kept t rest c here is_here made =
     let same : Some t.transfer ≡ Some kept.transfer = sym t.found ∙ kept.found in
     let files : t.transfer.files ≡ Source kept.left = same_files t.transfer kept.transfer same ∙ kept.sends in
@@ -85,15 +85,15 @@ pub takes_datagram_held : (port : ℕ) (from : Endpoint) (bytes : List ℕ) (old
 takes_datagram_held port from bytes old new step before after t = next_is_held port t.transfer t.next old new t.found t.held
 
 -- an end that read heard so, and reads still
-heard_read : (from : Endpoint) (bytes : List ℕ) (e : EndState) (left : List ℕ) (turn : Turn) (files files' : Files (List ℕ) MemSinkState) → files ≡ Source left →
-    HearsIn (λ (s : List ℕ). Some s) never_fails from bytes e files turn files' →
-    (left' : List ℕ) × (files' ≡ Source left') × HearsRead (λ (s : List ℕ). Some s) never_fails from bytes e left turn left'
-heard_read from bytes e left turn files (Source left') is h =
-    let k : HearsIn {D = MemSinkState} (λ (s : List ℕ). Some s) never_fails from bytes e (Source left) turn (Source left') =
-    subst (λ (f : Files (List ℕ) MemSinkState). HearsIn (λ (s : List ℕ). Some s) never_fails from bytes e f turn (Source left')) is h in
+decoded_read : (from : Endpoint) (bytes : List ℕ) (e : EndState) (left : List ℕ) (turn : Turn) (files files' : Files (List ℕ) MemSinkState) → files ≡ Source left →
+    DatagramStepIn (λ (s : List ℕ). Some s) never_fails from bytes e files turn files' →
+    (left' : List ℕ) × (files' ≡ Source left') × ReadDatagramStep (λ (s : List ℕ). Some s) never_fails from bytes e left turn left'
+decoded_read from bytes e left turn files (Source left') is h =
+    let k : DatagramStepIn {D = MemSinkState} (λ (s : List ℕ). Some s) never_fails from bytes e (Source left) turn (Source left') =
+    subst (λ (f : Files (List ℕ) MemSinkState). DatagramStepIn (λ (s : List ℕ). Some s) never_fails from bytes e f turn (Source left')) is h in
     (left', refl, k)
-heard_read from bytes e left turn files (Sink sink) is h =
-    absurd (subst (λ (f : Files (List ℕ) MemSinkState). HearsIn (λ (s : List ℕ). Some s) never_fails from bytes e f turn (Sink sink)) is h)
+decoded_read from bytes e left turn files (Sink sink) is h =
+    absurd (subst (λ (f : Files (List ℕ) MemSinkState). DatagramStepIn (λ (s : List ℕ). Some s) never_fails from bytes e f turn (Sink sink)) is h)
 
 transfer_is : (next : Transfer) (end : EndState) (left path : List ℕ) → next.end ≡ end → next.files ≡ Source left → next.path ≡ path →
     next ≡ record { end = end; files = Source left; path = path }
@@ -102,23 +102,23 @@ transfer_is next end left path a b c =
     ∙ (ap (λ (f : Files (List ℕ) MemSinkState). record { end = end; files = f; path = next.path }) b
     ∙ ap (λ (p : List ℕ). record { end = end; files = Source left; path = p }) c)
 
-pub served_hears : (port : ℕ) (from : Endpoint) (bytes : List ℕ) (old new : Served) (before mid after : PlayedServer) (step : Step) (start out : List ℕ) (effect : Effect) (r : Record) → start ≡ [] →
+pub served_steps : (port : ℕ) (from : Endpoint) (bytes : List ℕ) (old new : Served) (before mid after : PlayedServer) (step : Step) (start out : List ℕ) (effect : Effect) (r : Record) → start ≡ [] →
     ServedKept port old before.held → TakesDatagram (λ (s : List ℕ). Some s) never_fails port from bytes before.held mid.held step start out → mid ≡ record before { held = mid.held } →
     Concludes port (at port mid.held) old new mid after r → (from_here : Endpoint) → from_here ≡ server_at port → effect ≡ record { from = from_here; to = step.to; bytes = out; closed = step.closed } →
-    ServedHears port from bytes old new before after effect r
-served_hears port from bytes old new before mid after step start out effect r none kept t rest c here is_here made =
+    ServedDatagramStep port from bytes old new before after effect r
+served_steps port from bytes old new before mid after step start out effect r none kept t rest c here is_here made =
     let same : Some t.transfer ≡ Some kept.transfer = sym t.found ∙ kept.found in
     let files : t.transfer.files ≡ Source kept.left = same_files t.transfer kept.transfer same ∙ kept.sends in
-    let heard = heard_read from bytes t.transfer.end kept.left t.takes.turn t.transfer.files t.next.files files t.takes.hears in (
+    let decoded = decoded_read from bytes t.transfer.end kept.left t.takes.turn t.transfer.files t.next.files files t.takes.steps in (
       t.transfer,
       kept.left,
       t.takes.turn,
-      heard.0,
+      decoded.0,
       t.found,
       files,
-      heard.2,
-      turns_served port old new before mid after t.next t.takes.turn heard.0 t.next.path effect r
-          (transfer_is t.next t.takes.turn.end heard.0 t.next.path t.takes.carries.state heard.1 refl)
+      decoded.2,
+      turns_served port old new before mid after t.next t.takes.turn decoded.0 t.next.path effect r
+          (transfer_is t.next t.takes.turn.end decoded.0 t.next.path t.takes.carries.state decoded.1 refl)
           (ap (at port) t.held ∙ at-with_next port t.transfer t.next before.held t.found)
           (rest ∙ ap (λ (held : List (ℕ × Transfer)). record before { held = held }) t.held)
           c
@@ -144,9 +144,9 @@ next_same port h [] found = refl
 next_same port h (e ∷ held) found =
     same_by port h e held (is_at (nat_cmp port) e.0) refl found (λ t. next_same port h held (sym (ap (λ (c : Bool). cond c (Some e.1) (at port held)) t) ∙ found))
 
-pub unheard : (port : ℕ) (s : Served) (before after : PlayedServer) → ServedKept port s before.held → after ≡ record before { held = after.held } →
+pub not_decoded : (port : ℕ) (s : Served) (before after : PlayedServer) → ServedKept port s before.held → after ≡ record before { held = after.held } →
     KeepsHeld (λ (s : List ℕ). Some s) never_fails port (at port before.held) before.held after.held → SameServer before after
-unheard port s before after kept rest k =
+not_decoded port s before after kept rest k =
     let h : KeepsHeld (λ (s : List ℕ). Some s) never_fails port (Some kept.transfer) before.held after.held =
     subst (λ (o : Option Transfer). KeepsHeld (λ (s : List ℕ). Some s) never_fails port o before.held after.held) kept.found k in
     let files : h.0.files ≡ kept.transfer.files = kept_files kept.left kept.transfer.files h.0.files kept.sends h.1.files in

@@ -172,7 +172,7 @@ module _ (views : List EndView) (messages : List Message) (k : ℕ) (x : OpenedE
         replies = error_says reply x.address from;
         kept = record { phase = tt; held = fits; committed = λ _. un ∙ sym r.incomplete };
         side = refl;
-        newest = inl (refl, refl);
+        last_sent = inl (refl, refl);
         stored = λ c. absurd (true≢false (sym c ∙ r.incomplete));
       }
 
@@ -211,7 +211,7 @@ module _ (views : List EndView) (messages : List Message) (k : ℕ) (x : OpenedE
         replies = (Ack number, spells_own (Ack number) r.fits, refl);
         kept = record { phase = (r.receiver, r.peer); held = held_fits x.state.mode x.state.held piece more after kept.held d; committed = λ _. un };
         side = refl;
-        newest = inr refl;
+        last_sent = inr refl;
         stored = λ c. absurd (true≢false (sym c ∙ r.incomplete));
       }
 
@@ -235,7 +235,7 @@ module _ (views : List EndView) (messages : List Message) (k : ℕ) (x : OpenedE
         replies = (Ack number, spells_own (Ack number) r.fits, refl);
         kept = record { phase = (r.receiver, r.peer); held = held_fits x.state.mode x.state.held piece more after kept.held d; committed = λ _. done };
         side = refl;
-        newest = inr refl;
+        last_sent = inr refl;
         stored = λ c. absurd (true≢false (sym c ∙ r.incomplete));
       }
 
@@ -282,7 +282,7 @@ module _ (views : List EndView) (messages : List Message) (k : ℕ) (x : OpenedE
       (subst (λ (t : Turn). Goes views messages k x t (end_after x t (Sink mid))) (sym h.0)
       (next_goes mid more after same (un uncommitted) d is))
 
-  -- a row that stores has gone on
+  -- an action that stores has gone on
   pub block_goes : Readable x terms piece → (refuses_commit : Holding → StoreFault → Type 0) (turn : Turn) (held : Files (List ℕ) Holding) →
       StoresIn (λ (s : List ℕ). Some s) never_fails (λ (h : Holding). Some h) may_refuse_append refuses_commit terms number from piece x.state (files_of x) turn held →
       Goes views messages k x turn (end_after x turn held)

@@ -19,9 +19,9 @@ use Rattle.tftp_ends.specs.declared.error_reply.ErrorReply.TheVariants as replie
 use Rattle.tftp_ends.specs.declared.outcome.Outcome.TheVariants as outcomes
 use Rattle.tftp_ends.specs.declared.phase.Phase.TheVariants.{Sending}
 use Rattle.tftp_ends.specs.declared.phase.Terms.{Terms}
-use Rattle.tftp_ends.specs.declared.row.Row.TheVariants.{Complete}
+use Rattle.tftp_ends.specs.declared.action.Action.TheVariants.{Complete}
 use Rattle.tftp_ends.specs.End.{EndState, is_sender}
-use Rattle.tftp_ends.specs.Step.{Turn, row_turn, after, Sends, SendsFrom, sent_turn, refused_turn, data_bytes, block_length, filled_turn, result_count_is}
+use Rattle.tftp_ends.specs.Step.{Turn, action_turn, after, Sends, SendsFrom, sent_turn, refused_turn, data_bytes, block_length, filled_turn, result_count_is}
 use Rattle.tftp_player.specs.Machine.{Endpoint, Data as Says_data, Ack as Says_ack, Message}
 use Rattle.tftp_player.specs.Rules.{message}
 use Rattle.tftp_player.specs.Said.{said}
@@ -29,7 +29,7 @@ use Rattle.tftp_player.specs.Shows.{EndView, IsShown}
 use Rattle.tftp_player.specs.World.{OpenedEnd, files_of, holding_of, in_state, end_after, text_of as text_of_end, received_text, view_of_end}
 use Rattle.tftp_player.specs.WorldSteps.{never_fails, may_refuse_append}
 use Rattle.tftp_player.specs.WorldKept.{EndKept, sent_text}
-use Rattle.tftp_player.proofs.Rows.{Stands, sends, completes}
+use Rattle.tftp_player.proofs.Actions.{Stands, sends, completes}
 use Rattle.tftp_player.proofs.SaidLemmas.{spells_own}
 use Rattle.tftp_player.proofs.EndMoves.{Goes, placed}
 
@@ -42,9 +42,9 @@ back : (n : ℕ) → n + 1 - 1 ≡ n
 back n = omega arith
 
 -- as much is wanted of the source as it can give of a block
-wanted : (terms : Terms) (n : ℕ) (e : EndState) (text left : List ℕ) → e.length ≡ length text → left ≡ drop (n * terms.size) text →
+requested_end : (terms : Terms) (n : ℕ) (e : EndState) (text left : List ℕ) → e.length ≡ length text → left ≡ drop (n * terms.size) text →
     block_length e.length terms.size (n + 1) ≡ min terms.size (length left)
-wanted terms n e text left measured behind =
+requested_end terms n e text left measured behind =
     let rest : length left ≡ length text - n * terms.size = ap length behind ∙ length-drop (n * terms.size) text in
     let first : block_length e.length terms.size (n + 1) ≡ min terms.size (e.length - n * terms.size) =
     ap (λ (m : ℕ). min terms.size (e.length - m * terms.size)) (back n) in
@@ -83,7 +83,7 @@ block_sent terms n from e text left turn left' measured behind h = by_answer h.a
   by_answer (Err file_faults.Read) f r m a = absurd (r refl)
   by_answer (Err file_faults.Memory) f r m a = absurd (m refl)
   by_answer (Ok k) f r m a =
-      let want = wanted terms n e text left measured behind in
+      let want = requested_end terms n e text left measured behind in
       let count : k ≡ min terms.size (length left) = f.count ∙ (ap (λ (w : ℕ). min w (length left)) want ∙ whole_count terms.size (length left)) in
       let turns = filled terms (n + 1) from h.piece e (Ok k) (counted (block_length e.length terms.size (n + 1)) k (count ∙ sym want)) in
       let piece : h.piece ≡ block text terms.size (n + 1) =
@@ -94,7 +94,7 @@ block_sent terms n from e text left turn left' measured behind h = by_answer h.a
         left_is = rest ∙ (ap (λ (j : ℕ). drop j left) count ∙ (drop_min terms.size left ∙ left_next text left terms.size n behind));
       }
 
--- what a row that sends did
+-- what an action that sends did
 pub sends_from : (b : Bool) → b ≡ true → (refuses_commit : Holding → StoreFault → Type 0) (terms : Terms) (number : ℕ) (from : Endpoint) (e : EndState) (left : List ℕ) (holding : Holding) (turn : Turn) (held : Files (List ℕ) Holding) →
     SendsFrom (λ (s : List ℕ). Some s) never_fails (λ (h : Holding). Some h) may_refuse_append refuses_commit terms number from e (if b then Source left else Sink holding) turn held →
     (left' : List ℕ) × (held ≡ Source left') × Sends (λ (s : List ℕ). Some s) never_fails terms number from e left turn left'
@@ -123,7 +123,7 @@ abbrev pub data_end : OpenedEnd → Terms → ℕ → Endpoint → OpenedEnd
 data_end x terms n from =
     record (in_state (data_turn x terms n from).end x) { left = drop ((n + 1) * terms.size) (sent_text x) }
 
--- a row that sends has sent the next block
+-- an action that sends has sent the next block
 pub data_goes : (views : List EndView) (messages : List Message) (k : ℕ) (x : OpenedEnd) (terms : Terms) (n : ℕ) (from : Endpoint) (turn : Turn) (held : Files (List ℕ) Holding) (refuses_commit : Holding → StoreFault → Type 0) →
     is_sender x.state.side ≡ true → x.state.length ≡ length (sent_text x) → x.left ≡ drop (n * terms.size) (sent_text x) →
     Goes views messages k x (data_turn x terms n from) (data_end x terms n from) →
@@ -140,7 +140,7 @@ data_goes views messages k x terms n from turn held refuses_commit sender measur
 pub data_kept : (x : OpenedEnd) (terms : Terms) (n : ℕ) (from : Endpoint) → EndKept x → x.state.length ≡ length (sent_text x) → is_sender x.state.side ≡ true → 0 < terms.size → terms.size ≤ 65464 →
     Fits (sent_text x) terms.size → n + 1 ≤ block_count (sent_text x) terms.size → from ≡ terms.peer → EndKept (data_end x terms n from)
 data_kept x terms n from kept measured sender positive small fits l peer = record {
-  phase = record { sender = sender; positive = positive; size = small; fits = fits; so_far = l; left = refl; newest_to = peer; measured = measured };
+  phase = record { sender = sender; positive = positive; size = small; fits = fits; so_far = l; left = refl; last_sent_to = peer; measured = measured };
   held = kept.held;
   committed = λ r. absurd (true≢false (sym sender ∙ r));
 }
@@ -170,13 +170,13 @@ module _ (views : List EndView) (messages : List Message) (k : ℕ) (x0 : Opened
         replies = (packet, spells_own packet (valid_data text terms.size n u.positive u.size u.fits l), refl);
         kept = data_kept x terms n from kept u.measured u.sender u.positive u.size u.fits l (sym peer);
         side = refl;
-        newest = inr refl;
+        last_sent = inr refl;
         stored = λ _. refl;
       }
 
   -- the last block is acknowledged
   pub ends_whole : (from : Endpoint) → terms.peer ≡ from → Contains messages (message from x0.address (Says_ack n)) → n ≡ block_count (sent_text x0) terms.size →
-      Goes views messages k (placed (Sending terms n) x0) (row_turn Complete from (placed (Sending terms n) x0).state) (in_state (after Complete from (placed (Sending terms n) x0).state) (placed (Sending terms n) x0))
+      Goes views messages k (placed (Sending terms n) x0) (action_turn Complete from (placed (Sending terms n) x0).state) (in_state (after Complete from (placed (Sending terms n) x0).state) (placed (Sending terms n) x0))
   ends_whole from peer acked last =
       let x = placed (Sending terms n) x0 in
       let u = kept.phase in
@@ -193,6 +193,6 @@ module _ (views : List EndView) (messages : List Message) (k : ℕ) (x0 : Opened
         replies = refl;
         kept = record { phase = tt; held = kept.held; committed = λ r. absurd (true≢false (sym u.sender ∙ r)) };
         side = refl;
-        newest = inl (refl, refl);
+        last_sent = inl (refl, refl);
         stored = λ _. refl;
       }

@@ -1,4 +1,4 @@
--- What a turn of one player makes of the ends of a world.
+-- How a turn of one player handles the ends of a world.
 use Rattle.std.proofs.Common.{◌≡◌, ◌≢◌, ℕ, suc, ◌<◌, length, inl, inr, Bool, true, false, List, [], Option, Some, None, refl, sym, ap, ◌∙◌, subst}
 use Rattle.std.specs.Prelude.{◌⊎◌, ◌&&◌, not, is_some, if◌then◌else◌}
 use Rattle.std.proofs.lemmas.Bool.{true≢false}
@@ -51,7 +51,7 @@ pub kept_by_port : (port : ℕ) (held held' : List (ℕ × Transfer)) (p : Playe
 kept_by_port port held held' (Client c) e k = k
 kept_by_port port held held' (Server s) e k = served_by_port port s s.ended held held' e k
 
--- what a turn of the player at this port makes of its end, x before, and of the rest
+-- how a turn of the player at this port handles its end, x before, and of the rest
 pub record Stepped (port : ℕ) (x : OpenedEnd) (p' : Player) (before after : PlayedServer) (turn : Turn) (held : Files (List ℕ) Holding) (effect : Effect) (r : Record) : Type 0 where
   pub open_now : is_closed x ≡ false
   pub effects : effect ≡ effect_of x.address turn

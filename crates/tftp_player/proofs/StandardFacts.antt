@@ -15,6 +15,6 @@ unfolding name_of number_of digits
 any_case = refl
 
 -- without a block size it is 512
-plain_size : oack_size (record { name = codes "timeout"; value = codes "1" } ∷ []) ≡ 512
+default_size : oack_size (record { name = codes "timeout"; value = codes "1" } ∷ []) ≡ 512
 unfolding name_of number_of digits
-plain_size = refl
+default_size = refl

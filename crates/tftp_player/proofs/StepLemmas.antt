@@ -9,7 +9,7 @@ use Rattle.tftp_file.specs.declared.files.Files.{Files}
 use Rattle.tftp_file.specs.Sink.{Holding}
 use Rattle.tftp_ends.specs.declared.phase.Phase.{Phase}
 use Rattle.tftp_ends.specs.End.{is_sender, is_client}
-use Rattle.tftp_ends.specs.Step.{Turn, Hears, timeout_turn}
+use Rattle.tftp_ends.specs.Step.{Turn, DatagramStep, timeout_turn}
 use Rattle.tftp_player.specs.Machine.{Endpoint, Elsewhere, host_of, request_port}
 use Rattle.tftp_player.specs.World.{WorldState, OpenedEnd, StoredFile, file_at, is_closed, replied, files_of, end_after, has_committed, world_after, report_of, no_report, opened_in, sent_report, at_rest, resting, view_of_end}
 use Rattle.tftp_player.specs.WorldSteps.{never_fails, may_refuse_append, may_refuse_commit, FilesAfter, Turns, Arrives, At_open_end, At_closed_end, At_nobody, HasPort, IsAtPort, TimesOut, told_to_refuse, WorldStep}
@@ -97,11 +97,11 @@ stray_step w new from to bytes report far a = (a.0, (far, a.1), a.2)
 
 -- at an open end that heard it, and changed no file of the server
 pub open_arrives : (w : WorldState) (k : ℕ) (x : OpenedEnd) (from : Endpoint) (bytes : List ℕ) (turn : Turn) (held : Files (List ℕ) Holding) → IsAtRest w → slice_get w.ends k ≡ Some x → is_closed x ≡ false →
-    Hears (λ (s : List ℕ). Some s) never_fails (λ (h : Holding). Some h) may_refuse_append (may_refuse_commit (is_client x.state.side) (file_at w.files x.path)) from bytes x.state (files_of x) turn held →
+    DatagramStep (λ (s : List ℕ). Some s) never_fails (λ (h : Holding). Some h) may_refuse_append (may_refuse_commit (is_client x.state.side) (file_at w.files x.path)) from bytes x.state (files_of x) turn held →
     FilesAfter (not (is_client x.state.side) && has_committed x (end_after x turn held)) x.path (end_after x turn held).stored w.files w.files →
     ArrivesAtRest w from x.address bytes (report_of w x turn) (turned w k x turn held)
-open_arrives w k x from bytes turn held r at open_now hears same =
-    (world_after w k x turn held w.files, At_open_end k x at refl open_now (record { turn = turn; held = held; hears = hears; turns = turns_as w k x turn held same }), turned_rests w k x turn held r)
+open_arrives w k x from bytes turn held r at open_now steps same =
+    (world_after w k x turn held w.files, At_open_end k x at refl open_now (record { turn = turn; held = held; steps = steps; turns = turns_as w k x turn held same }), turned_rests w k x turn held r)
 
 -- at a closed end
 pub closed_arrives : (w : WorldState) (k : ℕ) (x : OpenedEnd) (from : Endpoint) (bytes : List ℕ) → IsAtRest w → slice_get w.ends k ≡ Some x → is_closed x ≡ true →

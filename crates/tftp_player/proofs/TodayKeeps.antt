@@ -1,4 +1,4 @@
--- What an event makes of a world today keeps what every world keeps.
+-- How an event handles a world today keeps what every world keeps.
 use Rattle.std.proofs.Common.{◌≡◌, ℕ, ◌+◌, suc, arith, Bool, true, false, List, [], ◌∷◌, ◌++◌, length, Option, Some, None, Result, Ok, Err, IfOk, OnErr, refl, sym, ap, subst, ◌∙◌}
 use Rattle.std.specs.List.{Contains}
 use Rattle.std.proofs.lemmas.List.{length-append}
@@ -8,7 +8,7 @@ use Rattle.tftp_wire.specs.declared.mode.Mode.TheVariants.{Octet, Netascii}
 use Rattle.tftp_wire.specs.declared.packet.Packet.{Packet as WirePacket}
 use Rattle.tftp_wire.specs.declared.packet.Packet.TheVariants.{Read, Write, Data, Ack, Error, Oack}
 use Rattle.tftp_wire.specs.Spelling.{Spells}
-use Rattle.tftp_server.specs.Request.{carried, carried_read, plain_read}
+use Rattle.tftp_server.specs.Request.{supported, supported_read, default_read}
 use Rattle.tftp_player.specs.Machine.{Endpoint, host_of, request_port, Packet, Request}
 use Rattle.tftp_player.specs.Machine.{Elsewhere as Far}
 use Rattle.tftp_player.specs.Rules.{message}
@@ -27,21 +27,21 @@ use Rattle.tftp_negotiate.specs.Ranges.{IsBlockSize}
 use Rattle.tftp_player.proofs.Resting.{resting_ok}
 use Rattle.tftp_player.proofs.WorldKeeps.{serving_keeps}
 use Rattle.tftp_player.proofs.WorldSafe.{kept_is_safe}
-use Rattle.tftp_player.proofs.WorldRuns.{arrives_keeps, come_from, contains_at, new_ok, says_spelled, step_keeps, stray_keeps, with_heard}
+use Rattle.tftp_player.proofs.WorldRuns.{arrives_keeps, come_from, contains_at, new_ok, says_spelled, step_keeps, stray_keeps, with_decoded}
 
--- what is carried of a packet says what the packet says, as far as the machine goes
-carried_says : (name : List ℕ) (mode : Mode) (p : WirePacket) → carried_read name mode ≡ Some p → said p ≡ Request false mode
-carried_says name Octet p e = ap said (sym (same_Some (Read (plain_read name)) p e))
-carried_says name Netascii p e = absurd (let f : None ≡ Some p = e in cc)
+-- what is supported of a packet says what the packet says, as far as the machine goes
+supported_decodes : (name : List ℕ) (mode : Mode) (p : WirePacket) → supported_read name mode ≡ Some p → said p ≡ Request false mode
+supported_decodes name Octet p e = ap said (sym (same_Some (Read (default_read name)) p e))
+supported_decodes name Netascii p e = absurd (let f : None ≡ Some p = e in cc)
 
-carried_said : (heard : Option WirePacket) (p : WirePacket) → carried heard ≡ Some p → (q : WirePacket) × (heard ≡ Some q) × (said q ≡ said p)
-carried_said None p e = absurd (let f : None ≡ Some p = e in cc)
-carried_said (Some (Read request)) p e = (Read request, refl, sym (carried_says request.name request.mode p e))
-carried_said (Some (Write request)) p e = absurd (let f : None ≡ Some p = e in cc)
-carried_said (Some (Data number bytes)) p e = absurd (let f : None ≡ Some p = e in cc)
-carried_said (Some (Ack number)) p e = absurd (let f : None ≡ Some p = e in cc)
-carried_said (Some (Error code text)) p e = absurd (let f : None ≡ Some p = e in cc)
-carried_said (Some (Oack options)) p e = absurd (let f : None ≡ Some p = e in cc)
+supported_said : (decoded : Option WirePacket) (p : WirePacket) → supported decoded ≡ Some p → (q : WirePacket) × (decoded ≡ Some q) × (said q ≡ said p)
+supported_said None p e = absurd (let f : None ≡ Some p = e in cc)
+supported_said (Some (Read request)) p e = (Read request, refl, sym (supported_decodes request.name request.mode p e))
+supported_said (Some (Write request)) p e = absurd (let f : None ≡ Some p = e in cc)
+supported_said (Some (Data number bytes)) p e = absurd (let f : None ≡ Some p = e in cc)
+supported_said (Some (Ack number)) p e = absurd (let f : None ≡ Some p = e in cc)
+supported_said (Some (Error code text)) p e = absurd (let f : None ≡ Some p = e in cc)
+supported_said (Some (Oack options)) p e = absurd (let f : None ≡ Some p = e in cc)
 
 -- closed ends go to rest in a world that is kept
 rested : (strangers : Bool) (mid v : WorldState) → v ≡ resting mid → IsOk strangers mid → IsOk strangers v
@@ -51,21 +51,21 @@ rested strangers mid v e ok = subst (λ (z : WorldState). IsOk strangers z) (sym
 arrival_keeps : (strangers : Bool) (w v : WorldState) (ok : IsOk strangers w) (report : Report) (from to : Endpoint) (bytes : List ℕ) →
     ((p : WirePacket) → Spells p bytes → Contains ok.messages (message from to (said p))) →
     ArrivesToday w from to bytes report v → IsOk strangers v
-arrival_keeps strangers w v ok report from to bytes come (At_port here port heard says mid served new) =
+arrival_keeps strangers w v ok report from to bytes come (At_port here port decoded says mid served new) =
     rested strangers mid v new
-    (serving_keeps strangers w mid from report ok bytes (carried heard)
-    (λ p e. let q = carried_said heard p e in
+    (serving_keeps strangers w mid from report ok bytes (supported decoded)
+    (λ p e. let q = supported_said decoded p e in
     subst (λ (packet : Packet). Contains ok.messages (message from request_port packet)) q.2
-    (subst (λ (a : Endpoint). Contains ok.messages (message from a (said q.0))) here (come q.0 (says_spelled bytes heard says q.0 q.1)))) served)
+    (subst (λ (a : Endpoint). Contains ok.messages (message from a (said q.0))) here (come q.0 (says_spelled bytes decoded says q.0 q.1)))) served)
 arrival_keeps strangers w v ok report from to bytes come (Elsewhere away mid arrives new) =
     rested strangers mid v new (arrives_keeps strangers w mid ok report from to bytes come arrives)
 
 -- a stranger's datagram that came
 strange_arrival_keeps : (w v : WorldState) (ok : IsOk true w) (report : Report) (from to : Endpoint) (bytes : List ℕ) → host_of from ≡ Far →
     ArrivesToday w from to bytes report v → IsOk true v
-strange_arrival_keeps w v ok report from to bytes far (At_port here port heard says mid served new) =
-    let h = with_heard w ok from to bytes heard far says in
-    arrival_keeps true w v h.0 report from to bytes h.1 (At_port here port heard says mid served new)
+strange_arrival_keeps w v ok report from to bytes far (At_port here port decoded says mid served new) =
+    let h = with_decoded w ok from to bytes decoded far says in
+    arrival_keeps true w v h.0 report from to bytes h.1 (At_port here port decoded says mid served new)
 strange_arrival_keeps w v ok report from to bytes far (Elsewhere away mid arrives new) =
     rested true mid v new (stray_keeps w mid ok report from to bytes far arrives)
 

@@ -30,14 +30,14 @@ use Rattle.tftp_ends.specs.declared.outcome.Outcome.{Outcome}
 use Rattle.tftp_ends.specs.declared.outcome.Outcome.TheVariants as outcomes
 use Rattle.tftp_ends.specs.declared.phase.Phase.TheVariants.{Waiting}
 use Rattle.tftp_ends.specs.declared.phase.Terms.{Terms}
-use Rattle.tftp_ends.specs.declared.row.Row.{Row}
-use Rattle.tftp_ends.specs.declared.row.Row.TheVariants.{Close, Refuse, Accept, Send, Store}
+use Rattle.tftp_ends.specs.declared.action.Action.{Action}
+use Rattle.tftp_ends.specs.declared.action.Action.TheVariants.{Close, Refuse, Accept, Send, Store}
 use Rattle.tftp_ends.specs.End.{is_sender}
-use Rattle.tftp_ends.specs.Receiver.{receiver_row}
-use Rattle.tftp_ends.specs.Sender.{illegal_row}
-use Rattle.tftp_ends.specs.Step.{StoresIn, row_turn, after}
+use Rattle.tftp_ends.specs.Receiver.{receiver_action}
+use Rattle.tftp_ends.specs.Sender.{illegal_action}
+use Rattle.tftp_ends.specs.Step.{StoresIn, action_turn, after}
 use Rattle.tftp_ends.specs.Text.{is_readable}
-use Rattle.tftp_ends.specs.Waiting.{plain_terms, agreed_terms, no_answer, refusal_row, accept_row, begin_row, begin_with_row, reader_row, writer_row}
+use Rattle.tftp_ends.specs.Waiting.{default_terms, agreed_terms, no_answer, refusal_action, accept_action, begin_action, begin_with_action, reader_action, writer_action}
 use Rattle.tftp_player.specs.Machine.{Endpoint, server_ip, Data as Says_data, Ack as Says_ack, Oack as Says_oack, Message}
 use Rattle.tftp_player.specs.Rules.{message}
 use Rattle.tftp_player.specs.Said.{said, oack_size}
@@ -45,12 +45,12 @@ use Rattle.tftp_player.specs.Shows.{EndView, IsShown}
 use Rattle.tftp_player.specs.World.{OpenedEnd, files_of, holding_of, in_state, received_text, text_of as text_of_end, view_of_end}
 use Rattle.tftp_player.specs.WorldSteps.{never_fails, may_refuse_append}
 use Rattle.tftp_player.specs.WorldKept.{EndKept, sent_text}
-use Rattle.tftp_player.proofs.Rows.{Stands, IsWaiting, stores_first, refuses_first, accepts, sends_first, sends_first_with}
+use Rattle.tftp_player.proofs.Actions.{Stands, IsWaiting, stores_first, refuses_first, accepts, sends_first, sends_first_with}
 use Rattle.tftp_player.proofs.SaidLemmas.{data_of, spells_own, taken_oack, negotiated_each}
-use Rattle.tftp_player.proofs.EndMoves.{Goes, placed, from_row, gives_up, refuses_now}
+use Rattle.tftp_player.proofs.EndMoves.{Goes, placed, from_action, gives_up, refuses_now}
 use Rattle.tftp_player.proofs.SourceMoves.{text_if, data_turn, data_end, data_goes, data_kept, valid_data}
 use Rattle.tftp_player.proofs.SinkMoves.{Receives, told, block_goes, refused_goes}
-use Rattle.tftp_player.proofs.PhaseMoves.{Acting, Heard, if_acts, both_true}
+use Rattle.tftp_player.proofs.PhaseMoves.{Acting, OfDecoded, if_acts, both_true}
 
 -- a block size of an agreement
 pub agreed_size : (known : List Known) → AllByRecursion IsAgreeable known → (0 < size known) × (size known ≤ 65464)
@@ -72,18 +72,18 @@ module _ (views : List EndView) (messages : List Message) (k : ℕ) (x0 : Opened
   abbrev waiter : OpenedEnd
   waiter = placed (Waiting asked limit) x0
 
-  abbrev Answers : Row → Type 0
-  Answers row = Acting views messages k waiter refuses_commit from bytes row
+  abbrev Answers : Action → Type 0
+  Answers action = Acting views messages k waiter refuses_commit from bytes action
 
   refuse_waiter : (reply : ErrorReply) (outcome : Outcome) → Answers (Refuse None reply outcome)
   refuse_waiter reply outcome turn held h =
-      from_row views messages k waiter (Refuse None reply outcome) from turn held (refuses_now views messages k waiter s kept reply outcome from refl) h
+      from_action views messages k waiter (Refuse None reply outcome) from turn held (refuses_now views messages k waiter s kept reply outcome from refl) h
 
   close_waiter : (outcome : Outcome) → Answers (Close outcome)
   close_waiter outcome turn held h =
-      from_row views messages k waiter (Close outcome) from turn held (gives_up views messages k waiter s kept outcome from refl) h
+      from_action views messages k waiter (Close outcome) from turn held (gives_up views messages k waiter s kept outcome from refl) h
 
-  refusal_acts : (refusal : Refusal) → Answers (refusal_row refusal)
+  refusal_acts : (refusal : Refusal) → Answers (refusal_action refusal)
   refusal_acts refusals.Repeated = refuse_waiter replies.OptionRefused (outcomes.Refused refusals.Repeated)
   refusal_acts refusals.TooLarge = refuse_waiter replies.DiskFull outcomes.TooLarge
   refusal_acts refusals.NotAsked = refuse_waiter replies.OptionRefused (outcomes.Refused refusals.NotAsked)
@@ -93,31 +93,31 @@ module _ (views : List EndView) (messages : List Message) (k : ℕ) (x0 : Opened
   accept_acts : is_sender x0.state.side ≡ false → (options : List RawOption) (known : List Known) → Contains messages (message from x0.address (Says_oack (oack_size options))) →
       agreement asked kinds.Read x0.state.mode options limit ≡ Ok known → Answers (Accept (agreed_terms from known))
   accept_acts reader options known come e turn held h =
-      let row = Accept (agreed_terms from known) in
-      let y = in_state (after row from waiter.state) waiter in
+      let action = Accept (agreed_terms from known) in
+      let y = in_state (after action from waiter.state) waiter in
       let here : Contains messages (message from x0.address (Says_oack (size known))) =
       subst (λ (n : ℕ). Contains messages (message from x0.address (Says_oack n))) (taken_oack asked kinds.Read x0.state.mode options limit known e) come in
-      let goes_now : Goes views messages k waiter (row_turn row from waiter.state) y = record {
+      let goes_now : Goes views messages k waiter (action_turn action from waiter.state) y = record {
         said_now = message x0.address from (Says_ack 0) ∷ [];
         shown = accepts views messages k (view_of_end waiter) s from (size known) ((refl, refl), kept.phase.0, refl, server) reader here;
         replies = (Ack 0, spells_own (Ack 0) (omega arith), refl);
         kept = record { phase = (reader, refl); held = kept.held; committed = kept.committed };
         side = refl;
-        newest = inr refl;
+        last_sent = inr refl;
         stored = λ _. refl;
       } in
-      from_row views messages k waiter row from turn held goes_now h
+      from_action views messages k waiter action from turn held goes_now h
 
   accept_cases : is_sender x0.state.side ≡ false → (options : List RawOption) → Contains messages (message from x0.address (Says_oack (oack_size options))) →
-      (r : Result (List Known) Refusal) → agreement asked kinds.Read x0.state.mode options limit ≡ r → Answers (accept_row from r)
+      (r : Result (List Known) Refusal) → agreement asked kinds.Read x0.state.mode options limit ≡ r → Answers (accept_action from r)
   accept_cases reader options come (Ok known) e = accept_acts reader options known come e
   accept_cases reader options come (Err refusal) e = refusal_acts refusal
 
   -- a reader gets DATA 1
   first_acts : is_sender x0.state.side ≡ false → (piece : List ℕ) → length piece ≤ 512 → Spells (Data 1 piece) bytes → Contains messages (message from x0.address (Says_data 1 piece)) →
-      Answers (receiver_row true x0.state.mode [] (plain_terms from) 0 (Some (Data 1 piece)))
+      Answers (receiver_action true x0.state.mode [] (default_terms from) 0 (Some (Data 1 piece)))
   first_acts reader piece l spelled come =
-      let terms = plain_terms from in
+      let terms = default_terms from in
       let last = nat_lt (length piece) 512 in
       let none : x0.state.held ≡ [] = kept.phase.4 reader in
       let waits : IsWaiting (view_of_end waiter) from = ((refl, refl), kept.phase.0, refl, server) in
@@ -131,10 +131,10 @@ module _ (views : List EndView) (messages : List Message) (k : ℕ) (x0 : Opened
         refused = λ t b. refuses_first views messages k (view_of_end waiter) s from piece t waits reader come l b;
       } in
       let refuse : (reply : ErrorReply) (outcome : Outcome) → Answers (Refuse (Some terms) reply outcome) =
-      λ reply outcome turn held h. from_row views messages k waiter (Refuse (Some terms) reply outcome) from turn held
+      λ reply outcome turn held h. from_action views messages k waiter (Refuse (Some terms) reply outcome) from turn held
       (refused_goes views messages k waiter terms 1 from piece kept got x0.state.held (holding_of waiter) reply outcome kept.held (kept.committed reader)
       (x0.state.held ++ piece, sym (append_assoc (wire_text x0.state.mode x0.stored) x0.state.held piece) ∙ ap (λ (t : List ℕ). t ++ piece) (sym (told views messages k waiter terms 1 from piece kept got)))) h in
-      if_acts Answers (nat_lt 512 (length piece)) (illegal_row terms)
+      if_acts Answers (nat_lt 512 (length piece)) (illegal_action terms)
       (if is_readable x0.state.mode [] piece last then Store terms 1 else Refuse (Some terms) replies.NotNetascii outcomes.NotNetascii)
       (λ e. refuse replies.IllegalOperation outcomes.Illegal)
       (λ e. if_acts Answers (is_readable x0.state.mode [] piece last) (Store terms 1) (Refuse (Some terms) replies.NotNetascii outcomes.NotNetascii)
@@ -144,19 +144,19 @@ module _ (views : List EndView) (messages : List Message) (k : ℕ) (x0 : Opened
       (λ g. refuse replies.NotNetascii outcomes.NotNetascii))
 
   first_cases : is_sender x0.state.side ≡ false → (number : ℕ) (piece : List ℕ) → number ≡ 1 → length piece ≤ 512 → Spells (Data number piece) bytes → Contains messages (message from x0.address (Says_data number piece)) →
-      Answers (receiver_row true x0.state.mode [] (plain_terms from) 0 (Some (Data number piece)))
+      Answers (receiver_action true x0.state.mode [] (default_terms from) 0 (Some (Data number piece)))
   first_cases reader number piece is l =
-      subst (λ (n : ℕ). Spells (Data n piece) bytes → Contains messages (message from x0.address (Says_data n piece)) → Answers (receiver_row true x0.state.mode [] (plain_terms from) 0 (Some (Data n piece))))
+      subst (λ (n : ℕ). Spells (Data n piece) bytes → Contains messages (message from x0.address (Says_data n piece)) → Answers (receiver_action true x0.state.mode [] (default_terms from) 0 (Some (Data n piece))))
       (sym is) (first_acts reader piece l)
 
   -- a waiting reader with any packet
-  pub reader_acts : is_sender x0.state.side ≡ false → (heard : Option WirePacket) → ((p : WirePacket) → heard ≡ Some p → Spells p bytes) → Heard messages from x0 heard →
-      Answers (reader_row x0.state.mode asked limit from heard)
+  pub reader_acts : is_sender x0.state.side ≡ false → (decoded : Option WirePacket) → ((p : WirePacket) → decoded ≡ Some p → Spells p bytes) → OfDecoded messages from x0 decoded →
+      Answers (reader_action x0.state.mode asked limit from decoded)
   reader_acts reader None spelled come = refuse_waiter replies.IllegalOperation outcomes.Illegal
   reader_acts reader (Some (Read r)) spelled come = refuse_waiter replies.IllegalOperation outcomes.Illegal
   reader_acts reader (Some (Write r)) spelled come = refuse_waiter replies.IllegalOperation outcomes.Illegal
   reader_acts reader (Some (Data number piece)) spelled come =
-      if_acts Answers (number == 1 && nat_le (length piece) 512) (receiver_row true x0.state.mode [] (plain_terms from) 0 (Some (Data number piece))) no_answer
+      if_acts Answers (number == 1 && nat_le (length piece) 512) (receiver_action true x0.state.mode [] (default_terms from) 0 (Some (Data number piece))) no_answer
       (λ e. let b = both_true (number == 1) (nat_le (length piece) 512) e in
       first_cases reader number piece (eqb-true number 1 b.0) (leb-true (length piece) 512 b.1) (spelled (Data number piece) refl) (come (Data number piece) refl))
       (λ e. refuse_waiter replies.IllegalOperation outcomes.Illegal)
@@ -168,7 +168,7 @@ module _ (views : List EndView) (messages : List Message) (k : ℕ) (x0 : Opened
   -- a writer begins
   begin_acts : is_sender x0.state.side ≡ true → (terms : Terms) → terms.peer ≡ from → 0 < terms.size → terms.size ≤ 65464 →
       (Fits (text_of_end waiter) terms.size → IsShown (set views k (record (view_of_end waiter) { peer = Some from; size = terms.size; number = 1 })) (messages ++ message x0.address from (Says_data 1 (block (text_of_end waiter) terms.size 1)) ∷ [])) →
-      Answers (begin_row x0.state.length terms)
+      Answers (begin_action x0.state.length terms)
   begin_acts writer terms peer positive small shown =
       if_acts Answers (nat_lt x0.state.length (65535 * terms.size)) (Send terms 1) (Refuse None replies.FileTooLarge outcomes.TooLarge)
       (λ e.
@@ -188,19 +188,19 @@ module _ (views : List EndView) (messages : List Message) (k : ℕ) (x0 : Opened
         replies = (packet, spells_own packet (valid_data text terms.size 0 positive small fits l), refl);
         kept = data_kept waiter terms 0 from kept measured writer positive small fits l (sym peer);
         side = refl;
-        newest = inr refl;
+        last_sent = inr refl;
         stored = λ _. refl;
       } in
       λ turn held h. data_goes views messages k waiter terms 0 from turn held refuses_commit writer measured behind goes_now h)
       (λ e. refuse_waiter replies.FileTooLarge outcomes.TooLarge)
 
-  begin_plain : is_sender x0.state.side ≡ true → Contains messages (message from x0.address (Says_ack 0)) → Answers (begin_row x0.state.length (plain_terms from))
+  begin_plain : is_sender x0.state.side ≡ true → Contains messages (message from x0.address (Says_ack 0)) → Answers (begin_action x0.state.length (default_terms from))
   begin_plain writer come =
-      begin_acts writer (plain_terms from) refl (omega arith) (omega arith)
+      begin_acts writer (default_terms from) refl (omega arith) (omega arith)
       (λ fits. sends_first views messages k (view_of_end waiter) s from ((refl, refl), kept.phase.0, refl, server) writer come fits)
 
   begin_with : is_sender x0.state.side ≡ true → (options : List RawOption) → Contains messages (message from x0.address (Says_oack (oack_size options))) →
-      (r : Result (List Known) Refusal) → agreement asked kinds.Write x0.state.mode options limit ≡ r → Answers (begin_with_row from x0.state.length r)
+      (r : Result (List Known) Refusal) → agreement asked kinds.Write x0.state.mode options limit ≡ r → Answers (begin_with_action from x0.state.length r)
   begin_with writer options come (Ok known) e =
       let b = taken_size asked kinds.Write options x0.state.mode limit known kept.phase.1 e in
       let here : Contains messages (message from x0.address (Says_oack (size known))) =
@@ -210,14 +210,14 @@ module _ (views : List EndView) (messages : List Message) (k : ℕ) (x0 : Opened
   begin_with writer options come (Err refusal) e = refusal_acts refusal
 
   -- a waiting writer with any packet
-  pub writer_acts : is_sender x0.state.side ≡ true → (heard : Option WirePacket) → Heard messages from x0 heard →
-      Answers (writer_row x0.state.mode asked limit x0.state.length from heard)
+  pub writer_acts : is_sender x0.state.side ≡ true → (decoded : Option WirePacket) → OfDecoded messages from x0 decoded →
+      Answers (writer_action x0.state.mode asked limit x0.state.length from decoded)
   writer_acts writer None come = refuse_waiter replies.IllegalOperation outcomes.Illegal
   writer_acts writer (Some (Read r)) come = refuse_waiter replies.IllegalOperation outcomes.Illegal
   writer_acts writer (Some (Write r)) come = refuse_waiter replies.IllegalOperation outcomes.Illegal
   writer_acts writer (Some (Data number piece)) come = refuse_waiter replies.IllegalOperation outcomes.Illegal
   writer_acts writer (Some (Ack acked)) come =
-      if_acts Answers (acked == 0) (begin_row x0.state.length (plain_terms from)) no_answer
+      if_acts Answers (acked == 0) (begin_action x0.state.length (default_terms from)) no_answer
       (λ e. begin_plain writer (subst (λ (n : ℕ). Contains messages (message from x0.address (Says_ack n))) (eqb-true acked 0 e) (come (Ack acked) refl)))
       (λ e. refuse_waiter replies.IllegalOperation outcomes.Illegal)
   writer_acts writer (Some (Error code text)) come = close_waiter (outcomes.PeerError code)

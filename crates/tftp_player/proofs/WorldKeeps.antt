@@ -29,7 +29,7 @@ use Rattle.tftp_file.specs.Path.{path_of_name}
 use Rattle.tftp_ends.specs.declared.error_reply.ErrorReply.{ErrorReply}
 use Rattle.tftp_ends.specs.declared.error_reply.ErrorReply.TheVariants.{FileTooLarge, ServerBusy, FileNotFound, AccessViolation, IllegalOperation, FileExists}
 use Rattle.tftp_ends.specs.ErrorReply.{error_packet}
-use Rattle.tftp_ends.specs.Row.{begins_error}
+use Rattle.tftp_ends.specs.Action.{has_error_opcode}
 use Rattle.tftp_ends.specs.Step.{error_bytes}
 use Rattle.tftp_server.specs.Store.{measured}
 use Rattle.tftp_player.specs.Machine.{Endpoint, Elsewhere, host_of, server_ip, client_ip, request_port, Request as Says_request, Oack as Says_oack}
@@ -42,7 +42,7 @@ use Rattle.tftp_player.specs.Requests.{Service, Ignores, Refuses, Sends_file, op
 use Rattle.tftp_player.specs.WorldSteps.{Stays, Serves, Opens}
 use Rattle.tftp_player.specs.WorldKept.{HeldFits, IsOk}
 use Rattle.tftp_player.specs.declared.report.Report.{Report}
-use Rattle.tftp_player.proofs.Rows.{host_server, host_client, asks, serves_plainly, serves_with, says_error}
+use Rattle.tftp_player.proofs.Actions.{host_server, host_client, asks, serves_plainly, serves_with, says_error}
 use Rattle.tftp_player.proofs.SaidLemmas.{spells_own, own_oack, negotiated_each}
 use Rattle.tftp_player.proofs.EndMoves.{valid_error}
 use Rattle.tftp_player.proofs.SourceMoves.{valid_data}
@@ -118,7 +118,7 @@ sending_keeps strangers w v from mode path file [] report ok come agreeable vali
     let shown_now = serves_plainly (map view_of_end w.ends) ok.messages ok.shown x.address from false mode text refl (ap (λ (n : ℕ). 1024 + n) (sym (length_views w))) come fits in
     opening_keeps strangers w v ok x report p (spells_own p (valid_data text 512 0 (omega arith) (omega arith) fits one)) shown_now (at_server x.address refl)
     (record {
-      phase = record { sender = refl; positive = omega arith; size = omega arith; fits = fits; so_far = one; left = refl; newest_to = refl; measured = refl };
+      phase = record { sender = refl; positive = omega arith; size = omega arith; fits = fits; so_far = one; left = refl; last_sent_to = refl; measured = refl };
       held = empty_held mode;
       committed = λ e. absurd (true≢false e);
     }) refl o
@@ -132,7 +132,7 @@ sending_keeps strangers w v from mode path file (known ∷ agreed) report ok com
     let none : 0 * size (known ∷ agreed) ≡ 0 = omega arith in
     opening_keeps strangers w v ok x report p (spells_own p (valid (λ e. cc))) says (at_server x.address refl)
     (record {
-      phase = record { sender = refl; positive = b.0; size = b.1; fits = fits; so_far = omega arith; left = ap (λ (n : ℕ). drop n text) (sym none); newest_to = refl; measured = refl };
+      phase = record { sender = refl; positive = b.0; size = b.1; fits = fits; so_far = omega arith; left = ap (λ (n : ℕ). drop n text) (sym none); last_sent_to = refl; measured = refl };
       held = empty_held mode;
       committed = λ e. absurd (true≢false e);
     }) refl o
@@ -216,7 +216,7 @@ module _ (strangers : Bool) (w v : WorldState) (from : Endpoint) (report : Repor
       (λ b. refused ServerBusy)
       (λ b. reading_served r path (file_at w.files path) come)
 
-  by_request : (heard : Option WirePacket) → ((p : WirePacket) → heard ≡ Some p → Contains ok.messages (message from request_port (said p))) → Kept_by (packet_service w heard)
+  by_request : (decoded : Option WirePacket) → ((p : WirePacket) → decoded ≡ Some p → Contains ok.messages (message from request_port (said p))) → Kept_by (packet_service w decoded)
   by_request None come = refused IllegalOperation
   by_request (Some (Read r)) come = by_path false r (path_of_name r.name) (come (Read r) refl)
   by_request (Some (Write r)) come = by_path true r (path_of_name r.name) (come (Write r) refl)
@@ -226,8 +226,8 @@ module _ (strangers : Bool) (w v : WorldState) (from : Endpoint) (report : Repor
   by_request (Some (Oack options)) come = refused IllegalOperation
 
   -- the request port keeps the world
-  pub serving_keeps : (bytes : List ℕ) (heard : Option WirePacket) → ((p : WirePacket) → heard ≡ Some p → Contains ok.messages (message from request_port (said p))) → Kept_by (service w bytes heard)
-  serving_keeps bytes heard come =
-      if_served Kept_by (begins_error bytes) Ignores (packet_service w heard)
+  pub serving_keeps : (bytes : List ℕ) (decoded : Option WirePacket) → ((p : WirePacket) → decoded ≡ Some p → Contains ok.messages (message from request_port (said p))) → Kept_by (service w bytes decoded)
+  serving_keeps bytes decoded come =
+      if_served Kept_by (has_error_opcode bytes) Ignores (packet_service w decoded)
       (λ b h. stays_ok strangers w v report ok h)
-      (λ b. by_request heard come)
+      (λ b. by_request decoded come)

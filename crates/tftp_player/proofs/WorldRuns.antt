@@ -12,14 +12,14 @@ use Rattle.tftp_negotiate.specs.Ranges.{IsBlockSize}
 use Rattle.tftp_ends.specs.declared.phase.Phase.{Phase}
 use Rattle.tftp_ends.specs.declared.phase.Phase.TheVariants.{Waiting, Sending, Receiving, Dallying, Closed}
 use Rattle.tftp_ends.specs.End.{is_sender, is_client}
-use Rattle.tftp_ends.specs.Row.{Says, timeout_row}
+use Rattle.tftp_ends.specs.Action.{Decodes, timeout_action}
 use Rattle.tftp_ends.specs.Step.{timeout_turn}
 use Rattle.tftp_player.specs.Machine.{Endpoint, Elsewhere, host_of, Message}
 use Rattle.tftp_player.specs.Rules.{message}
 use Rattle.tftp_player.specs.Said.{said}
 use Rattle.tftp_player.specs.Shows.{EndView, IsShown}
 use Rattle.tftp_player.specs.World.{WorldState, OpenedEnd, StoredFile, file_at, datagram, files_of, is_closed, new_world, view_of_end}
-use Rattle.tftp_player.specs.WorldSteps.{may_refuse_commit, Hearing, Arrives, At_request_port, At_open_end, At_closed_end, At_nobody, TimesOut, told_to_refuse, EventStep}
+use Rattle.tftp_player.specs.WorldSteps.{may_refuse_commit, OnDatagram, Arrives, At_request_port, At_open_end, At_closed_end, At_nobody, TimesOut, told_to_refuse, EventStep}
 use Rattle.tftp_player.specs.WorldKept.{PhaseKept, IsKeptIn, IsOk}
 use Rattle.tftp_player.specs.WorldRuns.{Runs, MayHappen, MayAllHappen, StepsKeep}
 use Rattle.tftp_player.specs.WorldSafety.{HasPeersAtHome}
@@ -29,11 +29,11 @@ use Rattle.tftp_player.specs.declared.event.Event.TheVariants.{Get, Put, Deliver
 use Rattle.tftp_player.specs.declared.report.Report.{Report}
 use Rattle.tftp_player.proofs.Places.{slice_get-set_cases}
 use Rattle.tftp_player.proofs.Resting.{resting_ok}
-use Rattle.tftp_player.proofs.Rows.{Stands, strays}
+use Rattle.tftp_player.proofs.Actions.{Stands, strays}
 use Rattle.tftp_player.proofs.Shown.{shown_start}
 use Rattle.tftp_player.proofs.ViewSafe.{shown_at_home}
 use Rattle.tftp_player.proofs.SaidLemmas.{one_packet, none_packet}
-use Rattle.tftp_player.proofs.EndMoves.{IsThere, from_row}
+use Rattle.tftp_player.proofs.EndMoves.{IsThere, from_action}
 use Rattle.tftp_player.proofs.EndTurns.{by_datagram, by_timeout}
 use Rattle.tftp_player.proofs.WorldTurns.{nothing_in, one_in, turn_keeps, view_at}
 use Rattle.tftp_player.proofs.WorldKeeps.{reading_keeps, writing_keeps, serving_keeps, stays_ok}
@@ -60,33 +60,33 @@ there_now strangers w ok from to bytes i =
     let h = ok.sent (datagram from to bytes) i in
     (h.1.packet, h.1.spells, subst (λ (m : Message). Contains ok.messages m) h.1.says h.2)
 
-pub says_spelled : (bytes : List ℕ) (heard : Option WirePacket) → Says bytes heard → (p : WirePacket) → heard ≡ Some p → Spells p bytes
+pub says_spelled : (bytes : List ℕ) (decoded : Option WirePacket) → Decodes bytes decoded → (p : WirePacket) → decoded ≡ Some p → Spells p bytes
 says_spelled bytes (Some q) s p e = subst (λ (z : WirePacket). Spells z bytes) (same_Some q p e) s
 says_spelled bytes None s p e = absurd (let f : None ≡ Some p = e in cc)
 
 module _ (strangers : Bool) (w v : WorldState) (ok : IsOk strangers w) (report : Report) where
   -- what an end has heard keeps the world
-  hearing_keeps : (k : ℕ) (x : OpenedEnd) (from : Endpoint) (bytes : List ℕ) → slice_get w.ends k ≡ Some x → is_closed x ≡ false →
-      ((p : WirePacket) → Spells p bytes → Contains ok.messages (message from x.address (said p))) → Hearing w k x from bytes report v → IsOk strangers v
-  hearing_keeps k x from bytes at open_now come h =
+  datagram_keeps : (k : ℕ) (x : OpenedEnd) (from : Endpoint) (bytes : List ℕ) → slice_get w.ends k ≡ Some x → is_closed x ≡ false →
+      ((p : WirePacket) → Spells p bytes → Contains ok.messages (message from x.address (said p))) → OnDatagram w k x from bytes report v → IsOk strangers v
+  datagram_keeps k x from bytes at open_now come h =
       let views = map view_of_end w.ends in
       let s : Stands views ok.messages k (view_of_end x) = record { shown = ok.shown; place = view_at w.ends k x at } in
       let kept = ok.ends k x at in
-      let spelled = says_spelled bytes h.hears.heard h.hears.says in
-      let old = there_now strangers w ok x.address x.state.newest_to x.state.newest (kept.newest open_now) in
-      let goes_now = by_datagram views ok.messages k x (may_refuse_commit (is_client x.state.side) (file_at w.files x.path)) from bytes h.hears.heard spelled
-      (λ p e. come p (spelled p e)) old x.state.phase s kept.kept open_now h.turn h.held h.hears.acts in
+      let spelled = says_spelled bytes h.steps.decoded h.steps.says in
+      let old = there_now strangers w ok x.address x.state.last_sent_to x.state.last_sent (kept.last_sent open_now) in
+      let goes_now = by_datagram views ok.messages k x (may_refuse_commit (is_client x.state.side) (file_at w.files x.path)) from bytes h.steps.decoded spelled
+      (λ p e. come p (spelled p e)) old x.state.phase s kept.kept open_now h.turn h.held h.steps.acts in
       turn_keeps strangers w v ok k x h.turn h.held report at open_now goes_now h.turns
 
   -- a datagram that came keeps the world
   pub arrives_keeps : (from to : Endpoint) (bytes : List ℕ) → ((p : WirePacket) → Spells p bytes → Contains ok.messages (message from to (said p))) →
       Arrives w from to bytes report v → IsOk strangers v
-  arrives_keeps from to bytes come (At_request_port here port heard says served) =
-      let spelled = says_spelled bytes heard says in
-      serving_keeps strangers w v from report ok bytes heard
+  arrives_keeps from to bytes come (At_request_port here port decoded says served) =
+      let spelled = says_spelled bytes decoded says in
+      serving_keeps strangers w v from report ok bytes decoded
       (λ p e. subst (λ (a : Endpoint). Contains ok.messages (message from a (said p))) here (come p (spelled p e))) served
   arrives_keeps from to bytes come (At_open_end k x at here open_now h) =
-      hearing_keeps k x from bytes at open_now (λ p s. subst (λ (a : Endpoint). Contains ok.messages (message from a (said p))) (sym here) (come p s)) h
+      datagram_keeps k x from bytes at open_now (λ p s. subst (λ (a : Endpoint). Contains ok.messages (message from a (said p))) (sym here) (come p s)) h
   arrives_keeps from to bytes come (At_closed_end k x at here closed_now s) = stays_ok strangers w v report ok s
   arrives_keeps from to bytes come (At_nobody away nobody_there s) = stays_ok strangers w v report ok s
 
@@ -97,10 +97,10 @@ module _ (strangers : Bool) (w v : WorldState) (ok : IsOk strangers w) (report :
       let views = map view_of_end w.ends in
       let s : Stands views ok.messages k (view_of_end x) = record { shown = ok.shown; place = view_at w.ends k x at } in
       let kept = ok.ends k x at in
-      let old = there_now strangers w ok x.address x.state.newest_to x.state.newest (kept.newest open_now) in
+      let old = there_now strangers w ok x.address x.state.last_sent_to x.state.last_sent (kept.last_sent open_now) in
       let g = by_timeout views ok.messages k x old x.state.phase s kept.kept open_now in
       turn_keeps strangers w v ok k x (timeout_turn x.state) (files_of x) report at open_now
-      (from_row views ok.messages k x (timeout_row x.state.retries_left x.state.phase) x.state.newest_to (timeout_turn x.state) (files_of x) g (refl, refl)) t
+      (from_action views ok.messages k x (timeout_action x.state.retries_left x.state.phase) x.state.last_sent_to (timeout_turn x.state) (files_of x) g (refl, refl)) t
 
 -- what is to be refused has no part in what an end tells
 told_view : (b c : Bool) (x : OpenedEnd) → view_of_end (if b then x else if c then x else record x { refuses = true }) ≡ view_of_end x
@@ -117,7 +117,7 @@ phase_told (Sending terms number) x h = record {
   fits = h.fits;
   so_far = h.so_far;
   left = h.left;
-  newest_to = h.newest_to;
+  last_sent_to = h.last_sent_to;
   measured = h.measured;
 }
 phase_told (Receiving terms number) x h = h
@@ -128,7 +128,7 @@ phase_told (Closed terms number complete outcome) x h = tt
 same_kept : (w v : WorldState) (x : OpenedEnd) → v.sent ≡ w.sent → v.files ≡ w.files → IsKeptIn w x → IsKeptIn v x
 same_kept w v x s f h = record {
   kept = h.kept;
-  newest = λ o. subst (λ (ds : List Datagram). Contains ds (datagram x.address x.state.newest_to x.state.newest)) (sym s) (h.newest o);
+  last_sent = λ o. subst (λ (ds : List Datagram). Contains ds (datagram x.address x.state.last_sent_to x.state.last_sent)) (sym s) (h.last_sent o);
   stored = λ c r d. subst (λ (files : List StoredFile). file_at files x.path ≡ Some x.stored) (sym f) (h.stored c r d);
 }
 
@@ -138,7 +138,7 @@ told_kept w v false true x s f h = same_kept w v x s f h
 told_kept w v false false x s f h =
     let g = same_kept w v x s f h in record {
       kept = record { phase = phase_told x.state.phase x g.kept.phase; held = g.kept.held; committed = g.kept.committed };
-      newest = g.newest;
+      last_sent = g.last_sent;
       stored = g.stored;
     }
 
@@ -184,23 +184,23 @@ stray_ok w ok from to p far =
     }
 
 -- the world with what a stranger said
-pub with_heard : (w : WorldState) (ok : IsOk true w) (from to : Endpoint) (bytes : List ℕ) (heard : Option WirePacket) → host_of from ≡ Elsewhere → Says bytes heard →
+pub with_decoded : (w : WorldState) (ok : IsOk true w) (from to : Endpoint) (bytes : List ℕ) (decoded : Option WirePacket) → host_of from ≡ Elsewhere → Decodes bytes decoded →
     (more : IsOk true w) × ((p : WirePacket) → Spells p bytes → Contains more.messages (message from to (said p)))
 unfolding stray_ok
-with_heard w ok from to bytes (Some q) far says = (
+with_decoded w ok from to bytes (Some q) far says = (
   stray_ok w ok from to q far,
   λ p s. let e = one_packet q p bytes says s in
       subst (λ (z : WirePacket). Contains (ok.messages ++ message from to (said q) ∷ []) (message from to (said z))) e (Contains-push ok.messages (message from to (said q))),
 )
-with_heard w ok from to bytes None far says =
+with_decoded w ok from to bytes None far says =
     (ok, λ p s. absurd (let f : None ≡ Some says.0 = sym (none_packet p bytes s) ∙ says.1 in cc))
 
 pub stray_keeps : (w v : WorldState) (ok : IsOk true w) (report : Report) (from to : Endpoint) (bytes : List ℕ) → host_of from ≡ Elsewhere → Arrives w from to bytes report v → IsOk true v
-stray_keeps w v ok report from to bytes far (At_request_port here port heard says served) =
-    let h = with_heard w ok from to bytes heard far says in
-    arrives_keeps true w v h.0 report from to bytes h.1 (At_request_port here port heard says served)
+stray_keeps w v ok report from to bytes far (At_request_port here port decoded says served) =
+    let h = with_decoded w ok from to bytes decoded far says in
+    arrives_keeps true w v h.0 report from to bytes h.1 (At_request_port here port decoded says served)
 stray_keeps w v ok report from to bytes far (At_open_end k x at here open_now g) =
-    let h = with_heard w ok from to bytes g.hears.heard far g.hears.says in
+    let h = with_decoded w ok from to bytes g.steps.decoded far g.steps.says in
     arrives_keeps true w v h.0 report from to bytes h.1 (At_open_end k x at here open_now g)
 stray_keeps w v ok report from to bytes far (At_closed_end k x at here closed_now s) = stays_ok true w v report ok s
 stray_keeps w v ok report from to bytes far (At_nobody away nobody_there s) = stays_ok true w v report ok s

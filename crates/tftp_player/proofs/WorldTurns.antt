@@ -93,7 +93,7 @@ still_kept : (w v : WorldState) (added : List Datagram) (x : OpenedEnd) → v.se
     ((q c : List ℕ) → file_at w.files q ≡ Some c → file_at v.files q ≡ Some c) → IsKeptIn w x → IsKeptIn v x
 still_kept w v added x more stay h = record {
   kept = h.kept;
-  newest = λ o. subst (λ (ds : List Datagram). Contains ds (datagram x.address x.state.newest_to x.state.newest)) (sym more) (Contains-append_left w.sent added (datagram x.address x.state.newest_to x.state.newest) (h.newest o));
+  last_sent = λ o. subst (λ (ds : List Datagram). Contains ds (datagram x.address x.state.last_sent_to x.state.last_sent)) (sym more) (Contains-append_left w.sent added (datagram x.address x.state.last_sent_to x.state.last_sent) (h.last_sent o));
   stored = λ c r d. stay x.path x.stored (h.stored c r d);
 }
 
@@ -135,14 +135,14 @@ complete_then false client old_committed new_committed o n c =
 pub turn_keeps : (strangers : Bool) (w v : WorldState) (ok : IsOk strangers w) (k : ℕ) (x : OpenedEnd) (turn : Turn) (held : Files (List ℕ) Holding) (report : Report) →
     slice_get w.ends k ≡ Some x → is_closed x ≡ false → Goes (map view_of_end w.ends) ok.messages k x turn (end_after x turn held) → Turns w k x turn held report v → IsOk strangers v
 turn_keeps strangers w v ok k x turn held report at open_now g t = subst (λ (z : WorldState). IsOk strangers z) (sym t.is) later where
-  newest_is : (to : Endpoint) (bytes : List ℕ) → Newest x turn (end_after x turn held) →
-      Contains (w.sent ++ replied x.address turn.reply) (datagram x.address (end_after x turn held).state.newest_to (end_after x turn held).state.newest)
-  newest_is to bytes (inl e) =
-      let there = Contains-append_left w.sent (replied x.address turn.reply) (datagram x.address x.state.newest_to x.state.newest) ((ok.ends k x at).newest open_now) in
-      subst (λ (p : Endpoint). Contains (w.sent ++ replied x.address turn.reply) (datagram x.address p (end_after x turn held).state.newest)) (sym e.0)
-      (subst (λ (b : List ℕ). Contains (w.sent ++ replied x.address turn.reply) (datagram x.address x.state.newest_to b)) (sym e.1) there)
-  newest_is to bytes (inr e) =
-      let d = datagram x.address (end_after x turn held).state.newest_to (end_after x turn held).state.newest in
+  last_sent_is : (to : Endpoint) (bytes : List ℕ) → Newest x turn (end_after x turn held) →
+      Contains (w.sent ++ replied x.address turn.reply) (datagram x.address (end_after x turn held).state.last_sent_to (end_after x turn held).state.last_sent)
+  last_sent_is to bytes (inl e) =
+      let there = Contains-append_left w.sent (replied x.address turn.reply) (datagram x.address x.state.last_sent_to x.state.last_sent) ((ok.ends k x at).last_sent open_now) in
+      subst (λ (p : Endpoint). Contains (w.sent ++ replied x.address turn.reply) (datagram x.address p (end_after x turn held).state.last_sent)) (sym e.0)
+      (subst (λ (b : List ℕ). Contains (w.sent ++ replied x.address turn.reply) (datagram x.address x.state.last_sent_to b)) (sym e.1) there)
+  last_sent_is to bytes (inr e) =
+      let d = datagram x.address (end_after x turn held).state.last_sent_to (end_after x turn held).state.last_sent in
       Contains-append_right w.sent (replied x.address turn.reply) d
       (subst (λ (r : Option Reply). Contains (replied x.address r) d) (sym e) (here_in d))
 
@@ -179,7 +179,7 @@ turn_keeps strangers w v ok k x turn held report at open_now g t = subst (λ (z 
         ends = λ j z i. elim (slice_get-set_cases w.ends k j y z i) [
           | inl h ↦ subst (λ (u : OpenedEnd). IsKeptIn (world_after w k x turn held t.files) u) (sym h.1) (record {
             kept = g.kept;
-            newest = λ _. subst (λ (a : Endpoint). Contains (w.sent ++ replied x.address turn.reply) (datagram a y.state.newest_to y.state.newest)) (sym place) (newest_is y.state.newest_to y.state.newest g.newest);
+            last_sent = λ _. subst (λ (a : Endpoint). Contains (w.sent ++ replied x.address turn.reply) (datagram a y.state.last_sent_to y.state.last_sent)) (sym place) (last_sent_is y.state.last_sent_to y.state.last_sent g.last_sent);
             stored = stored_is;
           })
           | inr h ↦ still_kept w (world_after w k x turn held t.files) (replied x.address turn.reply) z refl stays (ok.ends j z h.1)
@@ -188,13 +188,13 @@ turn_keeps strangers w v ok k x turn held report at open_now g t = subst (λ (z 
 
 -- an end that opened keeps the world
 pub opening_keeps : (strangers : Bool) (w v : WorldState) (ok : IsOk strangers w) (x : OpenedEnd) (report : Report) (p : WirePacket) →
-    Spells p x.state.newest → IsShown (map view_of_end w.ends ++ view_of_end x ∷ []) (ok.messages ++ message x.address x.state.newest_to (said p) ∷ []) →
+    Spells p x.state.last_sent → IsShown (map view_of_end w.ends ++ view_of_end x ∷ []) (ok.messages ++ message x.address x.state.last_sent_to (said p) ∷ []) →
     host_of x.address ≢ Elsewhere → EndKept x → is_complete x.state.phase ≡ false → Opens w x report v → IsOk strangers v
 opening_keeps strangers w v ok x report p spells shown own kept incomplete o = subst (λ (z : WorldState). IsOk strangers z) (sym o.is) later where
   later : IsOk strangers (opened_in w x)
   later =
-      let reply : Option Reply = Some (record { to = x.state.newest_to; bytes = x.state.newest }) in
-      let m = message x.address x.state.newest_to (said p) in
+      let reply : Option Reply = Some (record { to = x.state.last_sent_to; bytes = x.state.last_sent }) in
+      let m = message x.address x.state.last_sent_to (said p) in
       let r : Replies x.address reply (m ∷ []) = (p, spells, refl) in
       record {
         messages = ok.messages ++ m ∷ [];
@@ -207,7 +207,7 @@ opening_keeps strangers w v ok x report p spells shown own kept incomplete o = s
           | inl h ↦ still_kept w (opened_in w x) (replied x.address reply) z refl (λ q c e. e) (ok.ends j z h)
           | inr h ↦ subst (λ (u : OpenedEnd). IsKeptIn (opened_in w x) u) (sym h.1) (record {
             kept = kept;
-            newest = λ _. Contains-append_right w.sent (replied x.address reply) (datagram x.address x.state.newest_to x.state.newest) (here_in (datagram x.address x.state.newest_to x.state.newest));
+            last_sent = λ _. Contains-append_right w.sent (replied x.address reply) (datagram x.address x.state.last_sent_to x.state.last_sent) (here_in (datagram x.address x.state.last_sent_to x.state.last_sent));
             stored = λ c f d. absurd (true≢false (sym d ∙ incomplete));
           })
         ];

@@ -13,7 +13,7 @@ use Rattle.tftp_ends.specs.declared.record.Record.{Record}
 use Rattle.tftp_ends.specs.End.{EndState, record_of, outcome_of}
 use Rattle.tftp_ends.specs.Files.{AreSame}
 use Rattle.tftp_ends.specs.Opening.{request_of}
-use Rattle.tftp_ends.specs.Step.{Turn, Hears}
+use Rattle.tftp_ends.specs.Step.{Turn, DatagramStep}
 use Rattle.tftp_player.specs.Machine.{Endpoint, server_ip, client_ip, request_port}
 use Rattle.tftp_player.specs.Effect.{effect_of}
 use Rattle.tftp_player.specs.PlayedClient.{PlayedClient}
@@ -50,9 +50,9 @@ pub record ClientTurns (port : ℕ) (old new : PlayedClient) (turn : Turn) (file
   pub client : new ≡ record old { end = turn.end; files = files }
 
 -- a client took a datagram
-pub record ClientHears (port : ℕ) (from : Endpoint) (bytes : List ℕ) (old new : PlayedClient) (effect : Effect) (r : Record) : Type 0 where
+pub record ClientDatagramStep (port : ℕ) (from : Endpoint) (bytes : List ℕ) (old new : PlayedClient) (effect : Effect) (r : Record) : Type 0 where
   pub turn : Turn
-  pub hears : Hears (λ (s : List ℕ). Some s) never_fails (λ (h : Holding). Some h) may_refuse_append (may_refuse_commit true None) from bytes old.end old.files turn new.files
+  pub steps : DatagramStep (λ (s : List ℕ). Some s) never_fails (λ (h : Holding). Some h) may_refuse_append (may_refuse_commit true None) from bytes old.end old.files turn new.files
   pub kind : AreSame (λ (a b : List ℕ). ⊤) (λ (a b : Holding). ⊤) old.files new.files
   pub turns : ClientTurns port old new turn new.files effect r
 

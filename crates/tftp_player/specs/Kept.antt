@@ -4,7 +4,7 @@ use Rattle.tftp_player.specs.Machine.{Message, nobody}
 use Rattle.tftp_player.specs.Rules.{Rule, actor, MayAct, packets, party_after}
 use Rattle.tftp_player.specs.Shows.{EndView, party_of, Matches, IsShown, ActInTurn, party_then, sent_by, Opens, Speaks}
 
--- what one end makes of a datagram or a timeout is shown again, if rules of that end give it that
+-- how one end handles a datagram or a timeout is shown again, if rules of that end give it that
 -- may act one after another by what is told of it and by what was sent
 abbrev pub EndsGoOn : Type 0
 EndsGoOn =

@@ -19,7 +19,7 @@ pub mod PlayedClient
 pub mod Effect
 pub mod Clients
 pub mod Serving
-pub mod Wanting
+pub mod Requested
 pub mod Played
 pub mod Stage
 pub mod Today

@@ -16,7 +16,7 @@ use Rattle.tftp_ends.specs.declared.phase.Phase.TheVariants.{Waiting, Sending, R
 use Rattle.tftp_ends.specs.declared.side.Side.{Side}
 use Rattle.tftp_ends.specs.declared.side.Side.TheVariants.{ClientRead, ClientWrite, ServerRead, ServerWrite}
 pub use Rattle.tftp_ends.specs.Opening.{request_of}
-use Rattle.tftp_ends.specs.Waiting.{plain_terms, agreed_terms}
+use Rattle.tftp_ends.specs.Waiting.{default_terms, agreed_terms}
 use Rattle.tftp_player.specs.Machine.{Endpoint, request_port}
 use Rattle.tftp_player.specs.World.{WorldState, OpenedEnd, next_port, ip_of}
 
@@ -36,8 +36,8 @@ opening w side mode length phase to bytes path file left =
         length = length;
         retries = w.retries;
         retries_left = w.retries;
-        newest = bytes;
-        newest_to = to;
+        last_sent = bytes;
+        last_sent_to = to;
         held = [];
         phase = phase;
       };
@@ -76,13 +76,13 @@ pub record MayWrite (name : List ℕ) (mode : Mode) (asked : Asked) (file : List
 -- the server sends a file: DATA 1, or an OACK of the options that it took
 abbrev pub sending_end : WorldState → Endpoint → Mode → List ℕ → List ℕ → List Known → OpenedEnd
 sending_end w peer mode path file [] =
-    opening w ServerRead mode (length (wire_text mode file)) (Sending (plain_terms peer) 1) peer (canonical (Data 1 (block (wire_text mode file) 512 1))) path file (drop 512 (wire_text mode file))
+    opening w ServerRead mode (length (wire_text mode file)) (Sending (default_terms peer) 1) peer (canonical (Data 1 (block (wire_text mode file) 512 1))) path file (drop 512 (wire_text mode file))
 sending_end w peer mode path file (known ∷ agreed) =
     opening w ServerRead mode (length (wire_text mode file)) (Sending (agreed_terms peer (known ∷ agreed)) 0) peer (canonical (Oack (agreed_options (known ∷ agreed)))) path file (wire_text mode file)
 
 -- the server takes a file: ACK 0, or an OACK of the options that it took
 abbrev pub receiving_end : WorldState → Endpoint → Mode → List ℕ → List Known → OpenedEnd
 receiving_end w peer mode path [] =
-    opening w ServerWrite mode 0 (Receiving (plain_terms peer) 0) peer (canonical (Ack 0)) path [] []
+    opening w ServerWrite mode 0 (Receiving (default_terms peer) 0) peer (canonical (Ack 0)) path [] []
 receiving_end w peer mode path (known ∷ agreed) =
     opening w ServerWrite mode 0 (Receiving (agreed_terms peer (known ∷ agreed)) 0) peer (canonical (Oack (agreed_options (known ∷ agreed)))) path [] []

@@ -9,9 +9,9 @@ use Rattle.tftp_ends.specs.Files.{AreFilesOf}
 use Rattle.tftp_ends.specs.Step.{timeout_turn}
 use Rattle.tftp_server.specs.State.{at}
 use Rattle.tftp_player.specs.Machine.{Endpoint}
-use Rattle.tftp_player.specs.Clients.{client_at, server_at, left_in, holding_in, ClientTurns, ClientHears, stored_by, told_client}
+use Rattle.tftp_player.specs.Clients.{client_at, server_at, left_in, holding_in, ClientTurns, ClientDatagramStep, stored_by, told_client}
 use Rattle.tftp_player.specs.PlayedClient.{PlayedClient}
-use Rattle.tftp_player.specs.Serving.{PlayedServer, Transfer, ServedKept, ServedTimesOut, ServedHears}
+use Rattle.tftp_player.specs.Serving.{PlayedServer, Transfer, ServedKept, ServedTimeoutStep, ServedDatagramStep}
 use Rattle.tftp_player.specs.World.{OpenedEnd, at_rest, closed_state}
 use Rattle.tftp_player.specs.declared.effect.Effect.{Effect}
 use Rattle.tftp_player.specs.declared.player.Player.{Player}
@@ -92,16 +92,16 @@ AllKept port held [] = Unit {0}
 AllKept port held (p ∷ players) = PlayerKept port held p × AllKept (port + 1) held players
 
 -- a timeout did that
-abbrev pub PlayerTimesOut : ℕ → Player → Player → PlayedServer → PlayedServer → Effect → Record → Type 0
-PlayerTimesOut port (Client c) (Client c') before after effect r = ClientTurns port c c' (timeout_turn c.end) c.files effect r × (after ≡ before)
-PlayerTimesOut port (Server s) (Server s') before after effect r = ServedTimesOut port s s' before after effect r
-PlayerTimesOut port _ _ before after effect r = ⊥
+abbrev pub PlayerTimeoutStep : ℕ → Player → Player → PlayedServer → PlayedServer → Effect → Record → Type 0
+PlayerTimeoutStep port (Client c) (Client c') before after effect r = ClientTurns port c c' (timeout_turn c.end) c.files effect r × (after ≡ before)
+PlayerTimeoutStep port (Server s) (Server s') before after effect r = ServedTimeoutStep port s s' before after effect r
+PlayerTimeoutStep port _ _ before after effect r = ⊥
 
 -- a datagram did
-abbrev pub PlayerHears : ℕ → Endpoint → List ℕ → Player → Player → PlayedServer → PlayedServer → Effect → Record → Type 0
-PlayerHears port from bytes (Client c) (Client c') before after effect r = ClientHears port from bytes c c' effect r × (after ≡ before)
-PlayerHears port from bytes (Server s) (Server s') before after effect r = ServedHears port from bytes s s' before after effect r
-PlayerHears port from bytes _ _ before after effect r = ⊥
+abbrev pub PlayerDatagramStep : ℕ → Endpoint → List ℕ → Player → Player → PlayedServer → PlayedServer → Effect → Record → Type 0
+PlayerDatagramStep port from bytes (Client c) (Client c') before after effect r = ClientDatagramStep port from bytes c c' effect r × (after ≡ before)
+PlayerDatagramStep port from bytes (Server s) (Server s') before after effect r = ServedDatagramStep port from bytes s s' before after effect r
+PlayerDatagramStep port from bytes _ _ before after effect r = ⊥
 
 -- an end takes events no more
 abbrev pub has_ended : Player → Bool

@@ -1,4 +1,4 @@
--- What the server makes of a datagram at its request port (RFC 1350, section 4; RFC 2347, "Negotiation Protocol").
+-- How the server handles a datagram at its request port (RFC 1350, section 4; RFC 2347, "Negotiation Protocol").
 use Rattle.std.specs.Prelude.{ℕ, ◌*◌, ◌&&◌, not, nat_lt, nat_le, Bool, true, false, if◌then◌else◌, List, count_by, Option, Some, None, Result, Ok, Err}
 use Rattle.tftp_wire.specs.declared.mode.Mode.{Mode}
 use Rattle.tftp_wire.specs.declared.packet.Packet.{Packet}
@@ -15,7 +15,7 @@ use Rattle.tftp_file.specs.Path.{path_of_name}
 use Rattle.tftp_ends.specs.declared.error_reply.ErrorReply.{ErrorReply}
 use Rattle.tftp_ends.specs.declared.error_reply.ErrorReply.TheVariants.{FileTooLarge, ServerBusy, FileNotFound, AccessViolation, DiskFull, IllegalOperation, FileExists, OptionRefused}
 use Rattle.tftp_ends.specs.End.{is_client}
-use Rattle.tftp_ends.specs.Row.{begins_error}
+use Rattle.tftp_ends.specs.Action.{has_error_opcode}
 use Rattle.tftp_server.specs.Store.{measured}
 use Rattle.tftp_player.specs.World.{WorldState, OpenedEnd, file_at, is_closed}
 
@@ -79,4 +79,4 @@ packet_service w _ = Refuses IllegalOperation
 
 -- what comes of a datagram: what begins as an ERROR is never answered
 abbrev pub service : WorldState → List ℕ → Option Packet → Service
-service w bytes heard = if begins_error bytes then Ignores else packet_service w heard
+service w bytes decoded = if has_error_opcode bytes then Ignores else packet_service w decoded

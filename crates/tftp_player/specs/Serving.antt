@@ -7,7 +7,7 @@ use Rattle.tftp_ends.specs.End.{is_sender, is_client, outcome_of, record_of}
 use Rattle.tftp_ends.specs.Step.{Turn, timeout_turn}
 use Rattle.tftp_server.specs.State.{Held, ServerState, at, with_next, without}
 use Rattle.tftp_server.specs.State as server
-use Rattle.tftp_server.specs.Steps.{HearsRead}
+use Rattle.tftp_server.specs.Steps.{ReadDatagramStep}
 use Rattle.tftp_server.specs.Store.{Stored}
 use Rattle.tftp_player.specs.Machine.{Endpoint}
 use Rattle.tftp_player.specs.Clients.{server_at}
@@ -53,16 +53,16 @@ pub record ServedTurns (port : ℕ) (old new : Served) (before after : PlayedSer
   pub server : after ≡ record before { held = rested_held (is_some (outcome_of turn.end.phase)) port (with_next port (record { end = turn.end; files = Source left; path = path }) before.held) }
 
 -- a timeout did
-abbrev pub ServedTimesOut : ℕ → Served → Served → PlayedServer → PlayedServer → Effect → Record → Type 0
-ServedTimesOut port old new before after effect r =
+abbrev pub ServedTimeoutStep : ℕ → Served → Served → PlayedServer → PlayedServer → Effect → Record → Type 0
+ServedTimeoutStep port old new before after effect r =
     (h : Transfer) × (left : List ℕ) × (at port before.held ≡ Some h) × (h.files ≡ Source left)
     × ServedTurns port old new before after (timeout_turn h.end) left effect r
 
 -- a datagram did
-abbrev pub ServedHears : ℕ → Endpoint → List ℕ → Served → Served → PlayedServer → PlayedServer → Effect → Record → Type 0
-ServedHears port from bytes old new before after effect r =
+abbrev pub ServedDatagramStep : ℕ → Endpoint → List ℕ → Served → Served → PlayedServer → PlayedServer → Effect → Record → Type 0
+ServedDatagramStep port from bytes old new before after effect r =
     (h : Transfer) × (left : List ℕ) × (turn : Turn) × (left' : List ℕ) × (at port before.held ≡ Some h) × (h.files ≡ Source left)
-    × HearsRead (λ (s : List ℕ). Some s) never_fails from bytes h.end left turn left'
+    × ReadDatagramStep (λ (s : List ℕ). Some s) never_fails from bytes h.end left turn left'
     × ServedTurns port old new before after turn left' effect r
 
 -- a transfer is held

@@ -5,7 +5,7 @@ use Rattle.tftp_file.specs.declared.files.Files.{Files}
 use Rattle.tftp_file.specs.Sink.{Holding}
 use Rattle.tftp_ends.specs.declared.record.Record.{Record}
 use Rattle.tftp_ends.specs.End.{is_sender, is_client}
-use Rattle.tftp_ends.specs.Step.{Turn, Hears, timeout_turn}
+use Rattle.tftp_ends.specs.Step.{Turn, DatagramStep, timeout_turn}
 use Rattle.tftp_player.specs.Effect.{effect_of, no_effect}
 use Rattle.tftp_player.specs.Played.{ends_from, records_from, AllKept}
 use Rattle.tftp_player.specs.Serving.{PlayedServer, Transfer}
@@ -51,7 +51,7 @@ pub record SameStore (before after : PlayedServer) : Type 0 where
   pub store : after.store ≡ before.store
 
 -- of all ends and the server, that came of a timeout of the end at this place
-pub record StageTimesOut (place : ℕ) (before after : PlayedServer) (players players' : List Player) (effect : Effect) : Type 0 where
+pub record StageTimeoutStep (place : ℕ) (before after : PlayedServer) (players players' : List Player) (effect : Effect) : Type 0 where
   pub end : OpenedEnd
   pub found : slice_get (ends_of before players) place ≡ Some end
   pub times_out : EndTimesOut (is_closed end) place end (ends_of before players) (ends_of after players') effect
@@ -90,11 +90,11 @@ world_of config sent server players =
     }
 
 -- a datagram came to an end of this place and was taken; the server's files stay
-pub record HeardAt (place : ℕ) (x : OpenedEnd) (from : Endpoint) (bytes : List ℕ) (files : List StoredFile) (ends ends' : List OpenedEnd) (effect : Effect) : Type 0 where
+pub record DatagramAt (place : ℕ) (x : OpenedEnd) (from : Endpoint) (bytes : List ℕ) (files : List StoredFile) (ends ends' : List OpenedEnd) (effect : Effect) : Type 0 where
   pub open_now : is_closed x ≡ false
   pub turn : Turn
   pub held : Files (List ℕ) Holding
-  pub hears : Hears (λ (s : List ℕ). Some s) never_fails (λ (h : Holding). Some h) may_refuse_append (may_refuse_commit (is_client x.state.side) (file_at files x.path)) from bytes x.state (files_of x) turn held
+  pub steps : DatagramStep (λ (s : List ℕ). Some s) never_fails (λ (h : Holding). Some h) may_refuse_append (may_refuse_commit (is_client x.state.side) (file_at files x.path)) from bytes x.state (files_of x) turn held
   pub commits : FilesAfter (not (is_client x.state.side) && has_committed x (end_after x turn held)) x.path (end_after x turn held).stored files files
   pub turns : EndTurns place x turn held ends ends' effect
 
@@ -104,11 +104,11 @@ pub record LostAt (to : Endpoint) (ends ends' : List OpenedEnd) (effect : Effect
   pub next : ends' ≡ ends
 
 -- of all ends and the server, that came of a datagram for the end at this place
-pub record StageHears (place : ℕ) (from to : Endpoint) (bytes : List ℕ) (before after : PlayedServer) (players players' : List Player) (effect : Effect) : Type 0 where
+pub record StageDatagramStep (place : ℕ) (from to : Endpoint) (bytes : List ℕ) (before after : PlayedServer) (players players' : List Player) (effect : Effect) : Type 0 where
   pub end : OpenedEnd
   pub found : slice_get (ends_of before players) place ≡ Some end
   pub comes : ((end.address ≢ to) × LostAt to (ends_of before players) (ends_of after players') effect)
       ⊎ ((end.address ≡ to)
       × (((is_closed end ≡ true) × LostAt to (ends_of before players) (ends_of after players') effect)
-      ⊎ HeardAt place end from bytes before.store.files (ends_of before players) (ends_of after players') effect))
+      ⊎ DatagramAt place end from bytes before.store.files (ends_of before players) (ends_of after players') effect))
   pub same : SameStore before after

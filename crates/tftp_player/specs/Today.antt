@@ -1,9 +1,9 @@
--- What is carried so far of what may happen in a world, and how its calls are refused today.
+-- What is supported so far of what may happen in a world, and how its calls are refused today.
 use Rattle.std.specs.Prelude.{ℕ, ◌≡◌, ◌≢◌, ◌+◌, ◌<◌, ⊤, List, ◌++◌, length, slice_get, Option, Some}
 use Rattle.tftp_wire.specs.declared.packet.Packet.{Packet}
 use Rattle.tftp_ends.specs.Opening.{CanGet}
-use Rattle.tftp_ends.specs.Row.{Says}
-use Rattle.tftp_server.specs.Request.{carried}
+use Rattle.tftp_ends.specs.Action.{Decodes}
+use Rattle.tftp_server.specs.Request.{supported}
 use Rattle.tftp_player.specs.Effect.{said_by, report_by}
 use Rattle.tftp_player.specs.Machine.{Endpoint, host_of, request_port}
 use Rattle.tftp_player.specs.Machine.{Elsewhere as Far}
@@ -33,15 +33,15 @@ RefusesToday w (Get name mode asked) BadRequest = HasPort w × (CanGet name mode
 RefusesToday w (Put name mode asked bytes) BadRequest = HasPort w
 RefusesToday w event fault = WorldRefuses w event fault
 
--- what arrived where, as far as the request port carries it, and then closed ends at rest
+-- what arrived where, as far as the request port supports it, and then closed ends at rest
 pub data ArrivesToday (old : WorldState) (from to : Endpoint) (bytes : List ℕ) (report : Report) (new : WorldState) : Type 0 where
-  -- at the request port, which serves today what is carried of a packet
-  At_port : (to ≡ request_port) → HasPort old → (heard : Option Packet) → Says bytes heard → (mid : WorldState) →
-      Serves (service old bytes (carried heard)) old from report mid → (new ≡ resting mid) → ArrivesToday old from to bytes report new
+  -- at the request port, which serves today what is supported of a packet
+  At_port : (to ≡ request_port) → HasPort old → (decoded : Option Packet) → Decodes bytes decoded → (mid : WorldState) →
+      Serves (service old bytes (supported decoded)) old from report mid → (new ≡ resting mid) → ArrivesToday old from to bytes report new
   -- anywhere else
   Elsewhere : (to ≢ request_port) → (mid : WorldState) → Arrives old from to bytes report mid → (new ≡ resting mid) → ArrivesToday old from to bytes report new
 
--- what an event makes of a world today: the request port answers what is carried of a request
+-- how an event handles a world today: the request port answers what is supported of a request
 abbrev pub StepToday : WorldState → Event → Report → WorldState → Type 0
 StepToday old (Deliver i) report new = (d : Datagram) × (slice_get old.sent i ≡ Some d) × ArrivesToday old d.from d.to d.bytes report new
 StepToday old (Stray from to bytes) report new = (host_of from ≡ Far) × ArrivesToday old from to bytes report new

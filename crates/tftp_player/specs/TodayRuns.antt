@@ -1,4 +1,4 @@
--- What an event makes of a world today keeps it safe.
+-- How an event handles a world today keeps it safe.
 use Rattle.std.specs.Prelude.{ℕ, ◌≡◌, ◌+◌, ◌<◌, ◌≤◌, ◌⊎◌, Bool, List, [], ◌∷◌, length}
 use Rattle.tftp_player.specs.Today.{StepToday, RefusesToday}
 use Rattle.tftp_player.specs.World.{WorldState}

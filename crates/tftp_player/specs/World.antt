@@ -142,7 +142,7 @@ no_report = record { added = None; closed = None }
 -- the world, after an end opened and sent its first datagram
 abbrev pub opened_in : WorldState → OpenedEnd → WorldState
 opened_in w x =
-    record w { sent = w.sent ++ datagram x.address x.state.newest_to x.state.newest ∷ []; ends = w.ends ++ x ∷ [] }
+    record w { sent = w.sent ++ datagram x.address x.state.last_sent_to x.state.last_sent ∷ []; ends = w.ends ++ x ∷ [] }
 
 -- a datagram was sent, and no end changed
 abbrev pub said_in : WorldState → Datagram → WorldState
@@ -214,8 +214,8 @@ rest_state (Closed terms number complete outcome) e =
       length = 0;
       retries = 0;
       retries_left = 0;
-      newest = [];
-      newest_to = request_port;
+      last_sent = [];
+      last_sent_to = request_port;
       held = [];
       phase = Closed (option_map rest_terms terms) number complete outcome;
     }
@@ -246,8 +246,8 @@ closed_state mode r outcome =
       length = 0;
       retries = 0;
       retries_left = 0;
-      newest = [];
-      newest_to = request_port;
+      last_sent = [];
+      last_sent_to = request_port;
       held = [];
       phase = Closed (recorded_terms r r.peer) r.number r.complete outcome;
     }

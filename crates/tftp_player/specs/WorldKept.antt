@@ -32,19 +32,19 @@ pub record IsUnderWay (x : OpenedEnd) (terms : Terms) (number : ℕ) : Type 0 wh
   pub fits : Fits (sent_text x) terms.size
   pub so_far : number ≤ block_count (sent_text x) terms.size
   pub left : x.left ≡ drop (number * terms.size) (sent_text x)
-  pub newest_to : x.state.newest_to ≡ terms.peer
+  pub last_sent_to : x.state.last_sent_to ≡ terms.peer
   -- its file is as long as it was measured
   pub measured : x.state.length ≡ length (sent_text x)
 
 -- what holds of an end in this phase
 abbrev pub PhaseKept : OpenedEnd → Phase → Type 0
 PhaseKept x (Waiting asked limit) =
-    (is_client x.state.side ≡ true) × IsAskable asked × (x.state.newest_to ≡ request_port) × (x.left ≡ sent_text x)
+    (is_client x.state.side ≡ true) × IsAskable asked × (x.state.last_sent_to ≡ request_port) × (x.left ≡ sent_text x)
     × (is_sender x.state.side ≡ false → x.state.held ≡ [])
     × (is_sender x.state.side ≡ true → x.state.length ≡ length (sent_text x))
 PhaseKept x (Sending terms number) = IsUnderWay x terms number
-PhaseKept x (Receiving terms number) = (is_sender x.state.side ≡ false) × (x.state.newest_to ≡ terms.peer)
-PhaseKept x (Dallying terms number dally) = (is_sender x.state.side ≡ false) × (x.state.newest_to ≡ terms.peer)
+PhaseKept x (Receiving terms number) = (is_sender x.state.side ≡ false) × (x.state.last_sent_to ≡ terms.peer)
+PhaseKept x (Dallying terms number dally) = (is_sender x.state.side ≡ false) × (x.state.last_sent_to ≡ terms.peer)
 PhaseKept x (Closed terms number complete outcome) = Unit {0}
 
 -- in octet no text is held back
@@ -62,8 +62,8 @@ pub record EndKept (x : OpenedEnd) : Type 0 where
 -- what holds of an end in its world
 pub record IsKeptIn (w : WorldState) (x : OpenedEnd) : Type 0 where
   pub kept : EndKept x
-  -- the newest datagram of an open end was sent
-  pub newest : is_closed x ≡ false → Contains w.sent (datagram x.address x.state.newest_to x.state.newest)
+  -- the last datagram sent of an open end was sent
+  pub last_sent : is_closed x ≡ false → Contains w.sent (datagram x.address x.state.last_sent_to x.state.last_sent)
   -- what a complete receiver stored stands under its path at the server
   pub stored : is_client x.state.side ≡ false → is_sender x.state.side ≡ false → is_complete x.state.phase ≡ true →
       file_at w.files x.path ≡ Some x.stored

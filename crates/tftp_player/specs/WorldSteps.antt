@@ -1,4 +1,4 @@
--- What an event makes of a world, and when it is refused.
+-- How an event handles a world, and when it is refused.
 use Rattle.std.specs.Prelude.{ℕ, ◌≡◌, ◌≢◌, ◌+◌, ◌<◌, ◌≤◌, Bool, true, false, not, if◌then◌else◌, List, [], ◌∷◌, length, slice_get, slice_set, Option, Some, None, ⊤, ◌⊎◌, ◌&&◌}
 use Rattle.tftp_wire.specs.declared.packet.Packet.{Packet}
 use Rattle.tftp_file.specs.declared.fault.StoreFault.{StoreFault}
@@ -6,8 +6,8 @@ use Rattle.tftp_file.specs.declared.fault.StoreFault.TheVariants as faults
 use Rattle.tftp_file.specs.declared.files.Files.{Files}
 use Rattle.tftp_file.specs.Sink.{Holding}
 use Rattle.tftp_ends.specs.End.{is_sender, is_client}
-use Rattle.tftp_ends.specs.Row.{Says}
-use Rattle.tftp_ends.specs.Step.{Turn, Hears, timeout_turn, error_bytes}
+use Rattle.tftp_ends.specs.Action.{Decodes}
+use Rattle.tftp_ends.specs.Step.{Turn, DatagramStep, timeout_turn, error_bytes}
 use Rattle.tftp_player.specs.Machine.{Endpoint, Elsewhere, host_of, request_port}
 use Rattle.tftp_player.specs.World.{StoredFile, file_at, OpenedEnd, WorldState, next_port, is_closed, datagram, resting, files_of, end_after, has_committed, world_after, report_of, no_report, opened_in, said_in, sent_report}
 use Rattle.tftp_player.specs.Openings.{reading_client, writing_client, MayRead, MayWrite, sending_end, receiving_end}
@@ -23,7 +23,7 @@ use Rattle.tftp_player.specs.declared.fault.WorldFault.TheVariants.{NoSuchDatagr
 abbrev pub never_fails : List ℕ → ℕ → Type 0
 never_fails left want = ⊥
 
--- an append is refused only as it was told, or for want of memory
+-- an append is refused only as it was told, or when out of memory
 abbrev pub may_refuse_append : Holding → List ℕ → StoreFault → Type 0
 may_refuse_append holding bytes faults.Full = holding.refuses ≡ true
 may_refuse_append holding bytes faults.Memory = ⊤
@@ -77,20 +77,20 @@ Serves (Sends_file path file mode agreed) old from report new = Opens old (sendi
 Serves (Takes_file path mode agreed) old from report new = Opens old (receiving_end old from mode path agreed) report new
 
 -- a datagram came to an open end
-pub record Hearing (old : WorldState) (k : ℕ) (x : OpenedEnd) (from : Endpoint) (bytes : List ℕ) (report : Report) (new : WorldState) : Type 0 where
+pub record OnDatagram (old : WorldState) (k : ℕ) (x : OpenedEnd) (from : Endpoint) (bytes : List ℕ) (report : Report) (new : WorldState) : Type 0 where
   pub turn : Turn
   pub held : Files (List ℕ) Holding
-  pub hears : Hears (λ (s : List ℕ). Some s) never_fails (λ (h : Holding). Some h) may_refuse_append (may_refuse_commit (is_client x.state.side) (file_at old.files x.path)) from bytes x.state (files_of x) turn held
+  pub steps : DatagramStep (λ (s : List ℕ). Some s) never_fails (λ (h : Holding). Some h) may_refuse_append (may_refuse_commit (is_client x.state.side) (file_at old.files x.path)) from bytes x.state (files_of x) turn held
   pub turns : Turns old k x turn held report new
 
 -- what a datagram did where it came to
 pub data Arrives (old : WorldState) (from to : Endpoint) (bytes : List ℕ) (report : Report) (new : WorldState) : Type 0 where
   -- at the request port
-  At_request_port : (to ≡ request_port) → HasPort old → (heard : Option Packet) → Says bytes heard →
-      Serves (service old bytes heard) old from report new → Arrives old from to bytes report new
+  At_request_port : (to ≡ request_port) → HasPort old → (decoded : Option Packet) → Decodes bytes decoded →
+      Serves (service old bytes decoded) old from report new → Arrives old from to bytes report new
   -- at an open end
   At_open_end : (k : ℕ) (x : OpenedEnd) → slice_get old.ends k ≡ Some x → x.address ≡ to → is_closed x ≡ false →
-      Hearing old k x from bytes report new → Arrives old from to bytes report new
+      OnDatagram old k x from bytes report new → Arrives old from to bytes report new
   -- at a closed end
   At_closed_end : (k : ℕ) (x : OpenedEnd) → slice_get old.ends k ≡ Some x → x.address ≡ to → is_closed x ≡ true →
       Stays old report new → Arrives old from to bytes report new
@@ -112,7 +112,7 @@ pub record IsAtPort (w : WorldState) (port k : ℕ) (x : OpenedEnd) : Type 0 whe
   pub is : port ≡ 1024 + k
   pub there : slice_get w.ends k ≡ Some x
 
--- what an event that is not refused makes of a world, closed ends as they were when they closed
+-- how an event that is not refused handles a world, closed ends as they were when they closed
 abbrev pub EventStep : WorldState → Event → Report → WorldState → Type 0
 EventStep old (Get name mode asked) report new =
     HasPort old × MayRead name mode asked × Opens old (reading_client old name mode asked) report new
@@ -127,7 +127,7 @@ EventStep old (RefuseStore port) report new =
     × (report ≡ no_report) × (new ≡ record old { ends = slice_set old.ends k (told_to_refuse x) })
 EventStep old (Stray from to bytes) report new = (host_of from ≡ Elsewhere) × Arrives old from to bytes report new
 
--- what an event makes of a world: of an end that is closed no more is kept than its record
+-- how an event handles a world: of an end that is closed no more is kept than its record
 abbrev pub WorldStep : WorldState → Event → Report → WorldState → Type 0
 WorldStep old event report new = (mid : WorldState) × EventStep old event report mid × (new ≡ resting mid)
 

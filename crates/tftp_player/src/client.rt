@@ -5,7 +5,7 @@ ghost use Rattle.tftp_ends.specs.End.{record_of, outcome_of};
 ghost use Rattle.tftp_ends.specs.Opening.{CanGet, getting};
 ghost use Rattle.tftp_ends.specs.Step.{timeout_turn};
 ghost use Rattle.tftp_player.specs.Machine.{request_port};
-ghost use Rattle.tftp_player.specs.Clients.{ClientTurns, ClientHears, asking_client, stored_by, told_client, client_at, holding_in, asking_effect, open_fault, BadOrMemory};
+ghost use Rattle.tftp_player.specs.Clients.{ClientTurns, ClientDatagramStep, asking_client, stored_by, told_client, client_at, holding_in, asking_effect, open_fault, BadOrMemory};
 
 use crate::effect::{Effect, effect_of};
 use crate::fault::WorldFault;
@@ -76,7 +76,7 @@ impl Client {
     }
 
     /// It takes a datagram from there, while it is open.
-    pub(crate) fn hear(
+    pub(crate) fn on_datagram(
         &mut self,
         alloc: Global,
         port: u16,
@@ -84,7 +84,7 @@ impl Client {
         bytes: &[u8],
     ) -> Result<(Effect, Record), WorldFault>
         requires { is_some (outcome_of self.old.end.phase) ≡ false }
-        ensures hears { IfOk result (λ r. ClientHears port from bytes.now self.old self.new r.0 r.1) }
+        ensures steps { IfOk result (λ r. ClientDatagramStep port from bytes.now self.old self.new r.0 r.1) }
         ensures memory { IfErr result (λ fault. fault ≡ WorldFault.Memory) }
         ensures err { OnErr result (self.new ≡ self.old) }
     {
@@ -97,7 +97,7 @@ impl Client {
     }
 
     /// It takes a timeout, while it is open.
-    pub(crate) fn time_out(
+    pub(crate) fn on_timeout(
         &mut self,
         alloc: Global,
         port: u16,

@@ -21,7 +21,7 @@ pub enum WorldFault {
     /// The client refuses to ask this.
     #[error("bad request")]
     BadRequest = 4,
-    /// Memory was wanting.
+    /// Out of memory.
     #[error("out of memory")]
     Memory = 5,
 }

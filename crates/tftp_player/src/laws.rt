@@ -36,7 +36,7 @@ pub fn what_is_shown_is_safe()
     ensures home { (views : List EndView) (messages : List Message) → IsShown views messages → PeersAtHome views messages }
 {}
 
-/// What one end makes of a datagram or a timeout is shown again.
+/// How one end handles a datagram or a timeout is shown again.
 pub fn an_end_goes_on()
     ensures { EndsGoOn }
 {}

@@ -1,7 +1,7 @@
 //! An end of a world, by whoever plays it.
 
 ghost use Rattle.std.specs.Prelude.{◌≡◌, false, option_map, IfOk, IfErr, OnErr};
-ghost use Rattle.tftp_player.specs.Played.{PlayerKept, PlayerTimesOut, PlayerHears, has_ended, address_of, told_player, stored_of, committed_of};
+ghost use Rattle.tftp_player.specs.Played.{PlayerKept, PlayerTimeoutStep, PlayerDatagramStep, has_ended, address_of, told_player, stored_of, committed_of};
 
 use crate::client::Client;
 use crate::effect::Effect;
@@ -33,7 +33,7 @@ impl Player {
     }
 
     /// It takes a timeout, while it is open.
-    pub(crate) fn time_out(
+    pub(crate) fn on_timeout(
         &mut self,
         alloc: Global,
         server: &mut Server<MemStore>,
@@ -41,18 +41,18 @@ impl Player {
     ) -> Result<(Effect, Record), WorldFault>
         requires kept { PlayerKept port server.old.held self.old }
         requires open { has_ended self.old ≡ false }
-        ensures turns { IfOk result (λ r. PlayerTimesOut port self.old self.new server.old server.new r.0 r.1) }
+        ensures turns { IfOk result (λ r. PlayerTimeoutStep port self.old self.new server.old server.new r.0 r.1) }
         ensures memory { IfErr result (λ fault. fault ≡ WorldFault.Memory) }
         ensures err { OnErr result ((self.new ≡ self.old) × (server.new ≡ server.old)) }
     {
         match self {
-            Player::Client(client) => client.time_out(alloc, port),
-            Player::Server(served) => served.time_out(alloc, server, port),
+            Player::Client(client) => client.on_timeout(alloc, port),
+            Player::Server(served) => served.on_timeout(alloc, server, port),
         }
     }
 
     /// It takes a datagram from there, while it is open.
-    pub(crate) fn hear(
+    pub(crate) fn on_datagram(
         &mut self,
         alloc: Global,
         server: &mut Server<MemStore>,
@@ -62,13 +62,13 @@ impl Player {
     ) -> Result<(Effect, Record), WorldFault>
         requires kept { PlayerKept port server.old.held self.old }
         requires open { has_ended self.old ≡ false }
-        ensures hears { IfOk result (λ r. PlayerHears port from bytes.now self.old self.new server.old server.new r.0 r.1) }
+        ensures steps { IfOk result (λ r. PlayerDatagramStep port from bytes.now self.old self.new server.old server.new r.0 r.1) }
         ensures memory { IfErr result (λ fault. fault ≡ WorldFault.Memory) }
         ensures err { OnErr result ((self.new ≡ self.old) × (server.new ≡ server.old)) }
     {
         match self {
-            Player::Client(client) => client.hear(alloc, port, from, bytes),
-            Player::Server(served) => served.hear(alloc, server, port, from, bytes),
+            Player::Client(client) => client.on_datagram(alloc, port, from, bytes),
+            Player::Server(served) => served.on_datagram(alloc, server, port, from, bytes),
         }
     }
 

@@ -3,10 +3,10 @@
 ghost use Rattle.std.specs.Prelude.{◌≡◌, false, Some, Ok, IfOk, IfErr, OnErr};
 ghost use Rattle.tftp_wire.specs.Borrowed.{owned};
 ghost use Rattle.tftp_file.specs.Path.{path_of_name};
-ghost use Rattle.tftp_player.specs.Wanting.{Wants, wanted_by, wanted_at};
+ghost use Rattle.tftp_player.specs.Requested.{IsRequested, requested_by, requested_at};
 ghost use Rattle.tftp_ends.specs.Step.{timeout_turn};
 ghost use Rattle.tftp_server.specs.State.{at};
-ghost use Rattle.tftp_player.specs.Serving.{ServedKept, ServedTimesOut, ServedHears, Concludes, IsHeld, SameServer};
+ghost use Rattle.tftp_player.specs.Serving.{ServedKept, ServedTimeoutStep, ServedDatagramStep, Concludes, IsHeld, SameServer};
 
 use crate::effect::{Effect, effect_of};
 use crate::fault::WorldFault;
@@ -30,14 +30,14 @@ pub(crate) struct Served {
 
 impl Served {
     /// It takes a timeout, while it is open.
-    pub(crate) fn time_out(
+    pub(crate) fn on_timeout(
         &mut self,
         alloc: Global,
         server: &mut Server<MemStore>,
         port: u16,
     ) -> Result<(Effect, Record), WorldFault>
         requires { ServedKept port self.old server.old.held }
-        ensures turns { IfOk result (λ r. ServedTimesOut port self.old self.new server.old server.new r.0 r.1) }
+        ensures turns { IfOk result (λ r. ServedTimeoutStep port self.old self.new server.old server.new r.0 r.1) }
         ensures memory { IfErr result (λ fault. fault ≡ WorldFault.Memory) }
         ensures err { OnErr result ((self.new ≡ self.old) × (server.new ≡ server.old)) }
     {
@@ -53,7 +53,7 @@ impl Served {
     }
 
     /// It takes a datagram from there, while it is open.
-    pub(crate) fn hear(
+    pub(crate) fn on_datagram(
         &mut self,
         alloc: Global,
         server: &mut Server<MemStore>,
@@ -62,7 +62,7 @@ impl Served {
         bytes: &[u8],
     ) -> Result<(Effect, Record), WorldFault>
         requires { ServedKept port self.old server.old.held }
-        ensures hears { IfOk result (λ r. ServedHears port from bytes.now self.old self.new server.old server.new r.0 r.1) }
+        ensures steps { IfOk result (λ r. ServedDatagramStep port from bytes.now self.old self.new server.old server.new r.0 r.1) }
         ensures memory { IfErr result (λ fault. fault ≡ WorldFault.Memory) }
         ensures err { OnErr result ((self.new ≡ self.old) × SameServer server.old server.new) }
     {
@@ -95,28 +95,28 @@ impl Served {
 
 /// What a datagram to the request port asks for: the end that may open, with its own copy of the
 /// file that is there. Only reads are served today.
-pub(crate) fn wanted(
+pub(crate) fn requested_end(
     alloc: Global,
     store: &MemStore,
     bytes: &[u8],
 ) -> Result<Option<Served>, WorldFault>
-    ensures { IfOk result (Wants store.now.files bytes.now) }
+    ensures { IfOk result (IsRequested store.now.files bytes.now) }
 {
     match decode_ref(bytes) {
-        Ok(packet) => wanted_by(alloc, store, &packet),
+        Ok(packet) => requested_by(alloc, store, &packet),
         Err(_) => Ok(None),
     }
 }
 
-fn wanted_by(
+fn requested_by(
     alloc: Global,
     store: &MemStore,
     packet: &PacketRef<'_>,
 ) -> Result<Option<Served>, WorldFault>
-    ensures { IfOk result (λ o. o ≡ wanted_by store.now.files (Some (owned packet.now))) }
+    ensures { IfOk result (λ o. o ≡ requested_by store.now.files (Some (owned packet.now))) }
 {
     match packet {
-        PacketRef::Read(request) => wanted_at(alloc, store, request.mode, request.name),
+        PacketRef::Read(request) => requested_at(alloc, store, request.mode, request.name),
         PacketRef::Write(_) => Ok(None),
         PacketRef::Data { .. } => Ok(None),
         PacketRef::Ack { .. } => Ok(None),
@@ -126,16 +126,16 @@ fn wanted_by(
 }
 
 /// The end that sends the file of this name, if there is one.
-fn wanted_at(
+fn requested_at(
     alloc: Global,
     store: &MemStore,
     mode: Mode,
     name: &[u8],
 ) -> Result<Option<Served>, WorldFault>
-    ensures { IfOk result (λ o. o ≡ wanted_at store.now.files mode (path_of_name name.now)) }
+    ensures { IfOk result (λ o. o ≡ requested_at store.now.files mode (path_of_name name.now)) }
 {
     match path_of(alloc, name) {
-        Ok(path) => wanted_file(alloc, store, mode, path),
+        Ok(path) => requested_file(alloc, store, mode, path),
         Err(PathFault::Memory) => Err(WorldFault::Memory),
         Err(PathFault::Empty) => Ok(None),
         Err(PathFault::Segment) => Ok(None),
@@ -144,13 +144,13 @@ fn wanted_at(
     }
 }
 
-fn wanted_file(
+fn requested_file(
     alloc: Global,
     store: &MemStore,
     mode: Mode,
     path: Path,
 ) -> Result<Option<Served>, WorldFault>
-    ensures { IfOk result (λ o. o ≡ wanted_at store.now.files mode (Ok path)) }
+    ensures { IfOk result (λ o. o ≡ requested_at store.now.files mode (Ok path)) }
 {
     match store.file(&path) {
         None => Ok(None),

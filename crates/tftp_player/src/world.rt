@@ -12,7 +12,7 @@ ghost use Rattle.tftp_player.specs.WorldSteps.{WorldStep, WorldRefuses};
 ghost use Rattle.tftp_player.specs.TodayRuns.{BeginsSafe, StaysSafe, SettlesSafe, Settled, StopsAt};
 ghost use Rattle.tftp_player.specs.declared.event.Event.TheVariants.{Timeout, RefuseStore};
 ghost use Rattle.tftp_player.specs.Played.{records_from};
-ghost use Rattle.tftp_player.specs.Stage.{IsStaged, StageTimesOut, record_closed, stored_at, committed_at};
+ghost use Rattle.tftp_player.specs.Stage.{IsStaged, StageTimeoutStep, record_closed, stored_at, committed_at};
 
 use crate::datagram::Datagram;
 use crate::effect::{Effect, no_effect, write_down};
@@ -134,7 +134,7 @@ impl World {
     /// where an end could open and no port is left; `BadRequest` where the client refuses to ask
     /// this, and today for every `Put`. A stray comes from an address of neither host.
     ///
-    /// It copies a datagram's bytes once, since an end keeps its newest; its look-ups take a time that
+    /// It copies a datagram's bytes once, since an end keeps the last one that it sent; its look-ups take a time that
     /// grows with the logarithm of the open transfers, and a request that is served copies the file.
     pub fn apply(&mut self, event: Event) -> Result<Report, WorldFault>
         requires { IsPlayable event }
@@ -195,7 +195,7 @@ impl World {
         let Ok(()) = self.sent.reserve(1) else {
             return Err(WorldFault::Memory);
         };
-        let effect = time_out(
+        let effect = on_timeout(
             self.alloc,
             &mut self.server,
             &mut self.players,
@@ -228,7 +228,7 @@ impl World {
 }
 
 /// The end at this place takes a timeout, unless it is closed.
-fn time_out(
+fn on_timeout(
     alloc: Global,
     server: &mut Server<MemStore>,
     players: &mut Vec<Player>,
@@ -238,7 +238,7 @@ fn time_out(
 ) -> Result<Effect, WorldFault>
     requires staged { IsStaged server.old players.old.items records.old.items }
     requires place { (place < length players.old.items) × (port ≡ 1024 + place) }
-    ensures times_out { IfOk result (λ effect. StageTimesOut place server.old server.new players.old.items players.new.items effect) }
+    ensures times_out { IfOk result (λ effect. StageTimeoutStep place server.old server.new players.old.items players.new.items effect) }
     ensures staged { IsStaged server.new players.new.items records.new.items }
     ensures memory { IfErr result (λ fault. fault ≡ WorldFault.Memory) }
     ensures err { OnErr result ((server.new ≡ server.old) × (players.new.items ≡ players.old.items)) }
@@ -247,7 +247,7 @@ fn time_out(
     if is_recorded_closed(records, place) {
         return Ok(no_effect(alloc, player.address(port)));
     }
-    match player.time_out(alloc, server, port) {
+    match player.on_timeout(alloc, server, port) {
         Ok((effect, record)) => {
             records[place] = (port, record);
             Ok(effect)

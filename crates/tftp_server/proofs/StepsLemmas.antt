@@ -1,4 +1,4 @@
--- What an end that sends a file makes of a datagram, whatever holds its source, and why an event was not taken.
+-- How an end that sends a file handles a datagram, whatever holds its source, and why an event was not taken.
 use Rattle.std.proofs.Common.{◌≡◌, ◌↔◌, ℕ, Bool, true, false, List, cond, Option, Some, None, Result, Ok, Err, IfOk, OnErr, refl, sym, ap, subst, ◌∙◌}
 use Rattle.std.specs.Prelude.{not, IsErrOf}
 use Rattle.std.proofs.lemmas.Map.Steps.{set_value_same}
@@ -12,32 +12,32 @@ use Rattle.tftp_ends.specs.declared.endpoint.Endpoint.{Endpoint}
 use Rattle.tftp_ends.specs.declared.fault.EndFault.{EndFault}
 use Rattle.tftp_ends.specs.declared.fault.EndFault.TheVariants as ends
 use Rattle.tftp_ends.specs.declared.record.Step.{Step}
-use Rattle.tftp_ends.specs.declared.row.Row.{Row}
-use Rattle.tftp_ends.specs.declared.row.Row.TheVariants.{Ignore, Stranger, Again, Retry, Wait, Close, Refuse, Accept, Send, Store, Complete}
+use Rattle.tftp_ends.specs.declared.action.Action.{Action}
+use Rattle.tftp_ends.specs.declared.action.Action.TheVariants.{Ignore, Stranger, ResendReply, Retransmit, Wait, Close, Refuse, Accept, Send, Store, Complete}
 use Rattle.tftp_ends.specs.End.{EndState, is_sender}
 use Rattle.tftp_ends.specs.Files.{AreFilesOf, AreSame, KeepsFiles}
-use Rattle.tftp_ends.specs.Row.{Says, datagram_row}
-use Rattle.tftp_ends.specs.Step.{Turn, Acts, Hears, row_turn, block_length, result_count_is, IsAnswered, Carries, told, timeout_turn}
-use Rattle.tftp_ends.specs.Row.{timeout_row}
+use Rattle.tftp_ends.specs.Action.{Decodes, datagram_action}
+use Rattle.tftp_ends.specs.Step.{Turn, Acts, DatagramStep, action_turn, block_length, result_count_is, IsAnswered, Carries, told, timeout_turn}
+use Rattle.tftp_ends.specs.Action.{timeout_action}
 use Rattle.tftp_wire.specs.declared.packet.Packet.{Packet}
 use Rattle.tftp_server.specs.declared.fault.ServerFault.{ServerFault}
 use Rattle.tftp_server.specs.Fault.{of_end}
 use Rattle.tftp_server.specs.State.{Held, IsRead, is_closed, at, with_next}
 use Rattle.tftp_server.specs.Steps.{TakesIn, TakesDatagram, TimesOut, StaysAs, KeepsHeld, TimeoutFault, DatagramFault, with_end}
 
--- an end's side stays over a row that touches no file, and over a fill
-row_side : (row : Row) (from : Endpoint) (e : EndState) → (row_turn row from e).end.side ≡ e.side
-row_side Ignore from e = refl
-row_side Stranger from e = refl
-row_side Again from e = refl
-row_side Retry from e = refl
-row_side Wait from e = refl
-row_side (Close outcome) from e = refl
-row_side (Refuse terms reply outcome) from e = refl
-row_side (Accept terms) from e = refl
-row_side (Send terms number) from e = refl
-row_side (Store terms number) from e = refl
-row_side Complete from e = refl
+-- an end's side stays over an action that touches no file, and over a fill
+action_side : (action : Action) (from : Endpoint) (e : EndState) → (action_turn action from e).end.side ≡ e.side
+action_side Ignore from e = refl
+action_side Stranger from e = refl
+action_side ResendReply from e = refl
+action_side Retransmit from e = refl
+action_side Wait from e = refl
+action_side (Close outcome) from e = refl
+action_side (Refuse terms reply outcome) from e = refl
+action_side (Accept terms) from e = refl
+action_side (Send terms number) from e = refl
+action_side (Store terms number) from e = refl
+action_side Complete from e = refl
 
 cond_side : (b : Bool) (t u : Turn) (e : EndState) → t.end.side ≡ e.side → u.end.side ≡ e.side → (cond b t u).end.side ≡ e.side
 cond_side true t u e p q = p
@@ -49,15 +49,15 @@ module _ {F K : Type 0} (left : F → Option (List ℕ)) (may_fail : F → ℕ �
   source_of other (Source source) = Source source
   source_of other (Sink sink) = Source other
 
-  abbrev HeardAs : Row → Endpoint → List ℕ → EndState → F → Turn → F → Type 0
-  HeardAs row from bytes e source turn source' =
-      Acts left may_fail (λ (sink : Unit {0}). None) (λ sink piece fault. Unit {0}) (λ sink fault. Unit {0}) row from bytes e (Source source) turn (Source source')
+  abbrev DecodedAs : Action → Endpoint → List ℕ → EndState → F → Turn → F → Type 0
+  DecodedAs action from bytes e source turn source' =
+      Acts left may_fail (λ (sink : Unit {0}). None) (λ sink piece fault. Unit {0}) (λ sink fault. Unit {0}) action from bytes e (Source source) turn (Source source')
 
-  acts_read : (row : Row) (from : Endpoint) (bytes : List ℕ) (e : EndState) (source source' : F) (turn : Turn) → Acts left may_fail held may_refuse_append may_refuse_commit row from bytes e (Source source) turn (Source source') → HeardAs row from bytes e source turn source'
+  acts_read : (action : Action) (from : Endpoint) (bytes : List ℕ) (e : EndState) (source source' : F) (turn : Turn) → Acts left may_fail held may_refuse_append may_refuse_commit action from bytes e (Source source) turn (Source source') → DecodedAs action from bytes e source turn source'
   acts_read Ignore from bytes e source source' turn h = (h.0, ap (source_of source) h.1)
   acts_read Stranger from bytes e source source' turn h = (h.0, ap (source_of source) h.1)
-  acts_read Again from bytes e source source' turn h = (h.0, ap (source_of source) h.1)
-  acts_read Retry from bytes e source source' turn h = (h.0, ap (source_of source) h.1)
+  acts_read ResendReply from bytes e source source' turn h = (h.0, ap (source_of source) h.1)
+  acts_read Retransmit from bytes e source source' turn h = (h.0, ap (source_of source) h.1)
   acts_read Wait from bytes e source source' turn h = (h.0, ap (source_of source) h.1)
   acts_read (Close outcome) from bytes e source source' turn h = (h.0, ap (source_of source) h.1)
   acts_read (Refuse terms reply outcome) from bytes e source source' turn h = (h.0, ap (source_of source) h.1)
@@ -66,11 +66,11 @@ module _ {F K : Type 0} (left : F → Option (List ℕ)) (may_fail : F → ℕ �
   acts_read (Store terms number) from bytes e source source' turn h = absurd h
   acts_read Complete from bytes e source source' turn h = (h.0, ap (source_of source) h.1)
 
-  acts_side : (row : Row) (from : Endpoint) (bytes : List ℕ) (e : EndState) (source source' : F) (turn : Turn) → Acts left may_fail held may_refuse_append may_refuse_commit row from bytes e (Source source) turn (Source source') → turn.end.side ≡ e.side
+  acts_side : (action : Action) (from : Endpoint) (bytes : List ℕ) (e : EndState) (source source' : F) (turn : Turn) → Acts left may_fail held may_refuse_append may_refuse_commit action from bytes e (Source source) turn (Source source') → turn.end.side ≡ e.side
   acts_side Ignore from bytes e source source' turn h = ap (λ (t : Turn). t.end.side) h.0
   acts_side Stranger from bytes e source source' turn h = ap (λ (t : Turn). t.end.side) h.0
-  acts_side Again from bytes e source source' turn h = ap (λ (t : Turn). t.end.side) h.0
-  acts_side Retry from bytes e source source' turn h = ap (λ (t : Turn). t.end.side) h.0
+  acts_side ResendReply from bytes e source source' turn h = ap (λ (t : Turn). t.end.side) h.0
+  acts_side Retransmit from bytes e source source' turn h = ap (λ (t : Turn). t.end.side) h.0
   acts_side Wait from bytes e source source' turn h = ap (λ (t : Turn). t.end.side) h.0
   acts_side (Close outcome) from bytes e source source' turn h = ap (λ (t : Turn). t.end.side) h.0
   acts_side (Refuse terms reply outcome) from bytes e source source' turn h = ap (λ (t : Turn). t.end.side) h.0
@@ -82,17 +82,17 @@ module _ {F K : Type 0} (left : F → Option (List ℕ)) (may_fail : F → ℕ �
   acts_side Complete from bytes e source source' turn h = ap (λ (t : Turn). t.end.side) h.0
 
   -- what a call of an end at a datagram ensures where it has taken it
-  abbrev pub HasHeard : Endpoint → List ℕ → EndState → EndState → Files F K → Files F K → List ℕ → List ℕ → Step → Type 0
-  HasHeard from bytes e e' files files' before after step =
-      (turn : Turn) × Hears left may_fail held may_refuse_append may_refuse_commit from bytes e files turn files'
+  abbrev pub HasDecoded : Endpoint → List ℕ → EndState → EndState → Files F K → Files F K → List ℕ → List ℕ → Step → Type 0
+  HasDecoded from bytes e e' files files' before after step =
+      (turn : Turn) × DatagramStep left may_fail held may_refuse_append may_refuse_commit from bytes e files turn files'
       × Carries turn e' step.to before after × (step ≡ told e turn)
 
   -- a transfer that reads makes this step
-  pub takes_in : (from : Endpoint) (bytes : List ℕ) (e e' : EndState) (files files' : Files F K) (path before after : List ℕ) (same_source : F → F → Type 0) (same_sink : K → K → Type 0) (result : Result Step EndFault) → IsRead files → AreSame same_source same_sink files files' → IfOk result (HasHeard from bytes e e' files files' before after) → IfOk result (λ step. TakesIn left may_fail from bytes (record { end = e; files = files; path = path }) (record { end = e'; files = files'; path = path }) step before after)
+  pub takes_in : (from : Endpoint) (bytes : List ℕ) (e e' : EndState) (files files' : Files F K) (path before after : List ℕ) (same_source : F → F → Type 0) (same_sink : K → K → Type 0) (result : Result Step EndFault) → IsRead files → AreSame same_source same_sink files files' → IfOk result (HasDecoded from bytes e e' files files' before after) → IfOk result (λ step. TakesIn left may_fail from bytes (record { end = e; files = files; path = path }) (record { end = e'; files = files'; path = path }) step before after)
   takes_in from bytes e e' (Source s) (Source s') path before after ss sk (Ok step) read same h =
       record {
         turn = h.0;
-        hears = record { heard = h.1.heard; says = h.1.says; acts = acts_read (datagram_row e from bytes h.1.heard) from bytes e s s' h.0 h.1.acts };
+        steps = record { decoded = h.1.decoded; says = h.1.says; acts = acts_read (datagram_action e from bytes h.1.decoded) from bytes e s s' h.0 h.1.acts };
         carries = h.2;
         tells = h.3;
         path = refl;
@@ -101,15 +101,15 @@ module _ {F K : Type 0} (left : F → Option (List ℕ)) (may_fail : F → ℕ �
   takes_in from bytes e e' (Sink k) files' path before after ss sk result read same h = absurd read
   takes_in from bytes e e' (Source s) (Source s') path before after ss sk (Err fault) read same h = tt
 
-  heard_side : (from : Endpoint) (bytes : List ℕ) (e e' : EndState) (s s' : F) (before after : List ℕ) (A B : Type 0) (result : Result Step EndFault) → IfOk result (HasHeard from bytes e e' (Source s) (Source s') before after) → OnErr result ((e' ≡ e) × A × B) → e'.side ≡ e.side
-  heard_side from bytes e e' s s' before after A B (Ok step) h kept =
-      ap (λ (x : EndState). x.side) h.2.state ∙ acts_side (datagram_row e from bytes h.1.heard) from bytes e s s' h.0 h.1.acts
-  heard_side from bytes e e' s s' before after A B (Err fault) h kept = ap (λ (x : EndState). x.side) kept.0
+  decoded_side : (from : Endpoint) (bytes : List ℕ) (e e' : EndState) (s s' : F) (before after : List ℕ) (A B : Type 0) (result : Result Step EndFault) → IfOk result (HasDecoded from bytes e e' (Source s) (Source s') before after) → OnErr result ((e' ≡ e) × A × B) → e'.side ≡ e.side
+  decoded_side from bytes e e' s s' before after A B (Ok step) h kept =
+      ap (λ (x : EndState). x.side) h.2.state ∙ acts_side (datagram_action e from bytes h.1.decoded) from bytes e s s' h.0 h.1.acts
+  decoded_side from bytes e e' s s' before after A B (Err fault) h kept = ap (λ (x : EndState). x.side) kept.0
 
   -- and its end still has the file that it wants
-  pub still_reads : (from : Endpoint) (bytes : List ℕ) (e e' : EndState) (files files' : Files F K) (before after : List ℕ) (A B : Type 0) (same_source : F → F → Type 0) (same_sink : K → K → Type 0) (result : Result Step EndFault) → AreFilesOf e.side files × IsRead files → AreSame same_source same_sink files files' → IfOk result (HasHeard from bytes e e' files files' before after) → OnErr result ((e' ≡ e) × A × B) → AreFilesOf e'.side files' × IsRead files'
+  pub still_reads : (from : Endpoint) (bytes : List ℕ) (e e' : EndState) (files files' : Files F K) (before after : List ℕ) (A B : Type 0) (same_source : F → F → Type 0) (same_sink : K → K → Type 0) (result : Result Step EndFault) → AreFilesOf e.side files × IsRead files → AreSame same_source same_sink files files' → IfOk result (HasDecoded from bytes e e' files files' before after) → OnErr result ((e' ≡ e) × A × B) → AreFilesOf e'.side files' × IsRead files'
   still_reads from bytes e e' (Source s) (Source s') before after A B ss sk result fits same h kept =
-      (ap is_sender (heard_side from bytes e e' s s' before after A B result h kept) ∙ fits.0, tt)
+      (ap is_sender (decoded_side from bytes e e' s s' before after A B result h kept) ∙ fits.0, tt)
   still_reads from bytes e e' (Source s) (Sink k) before after A B ss sk result fits same h kept = absurd same
   still_reads from bytes e e' (Sink k) files' before after A B ss sk result fits same h kept = absurd fits.1
 
@@ -135,19 +135,19 @@ module _ {F D : Type 0} where
       by true h = absurd (different fault memory (closed.1 h))
       by false h = refl
 
-  pub timeout_fault : (transfer : Option (Held F D)) (held : Held F D) (fault : EndFault) (server : ServerFault) → transfer ≡ Some held → server ≡ of_end fault → (IsErrOf {T = Step} (Err fault) ends.Closed ↔ (is_closed held ≡ true)) → (IsErrOf {T = Step} (Err fault) ends.Memory → IsAnswered (timeout_row held.end.retries_left held.end.phase)) → TimeoutFault transfer server
+  pub timeout_fault : (transfer : Option (Held F D)) (held : Held F D) (fault : EndFault) (server : ServerFault) → transfer ≡ Some held → server ≡ of_end fault → (IsErrOf {T = Step} (Err fault) ends.Closed ↔ (is_closed held ≡ true)) → (IsErrOf {T = Step} (Err fault) ends.Memory → IsAnswered (timeout_action held.end.retries_left held.end.phase)) → TimeoutFault transfer server
   timeout_fault transfer held fault server there same closed memory =
       subst (λ (t : Option (Held F D)). TimeoutFault t server) (sym there) (subst (λ (f : ServerFault). TimeoutFault (Some held) f) (sym same) (by fault closed memory))
     where
-      by : (f : EndFault) → (IsErrOf {T = Step} (Err f) ends.Closed ↔ (is_closed held ≡ true)) → (IsErrOf {T = Step} (Err f) ends.Memory → IsAnswered (timeout_row held.end.retries_left held.end.phase)) → TimeoutFault (Some held) (of_end f)
+      by : (f : EndFault) → (IsErrOf {T = Step} (Err f) ends.Closed ↔ (is_closed held ≡ true)) → (IsErrOf {T = Step} (Err f) ends.Memory → IsAnswered (timeout_action held.end.retries_left held.end.phase)) → TimeoutFault (Some held) (of_end f)
       by ends.Closed c m = ap not (c.0 refl)
       by ends.Memory c m = (open_unless_closed held ends.Memory c refl, m refl)
 
-  pub datagram_fault : (from : Endpoint) (bytes : List ℕ) (transfer : Option (Held F D)) (held : Held F D) (fault : EndFault) (server : ServerFault) → transfer ≡ Some held → server ≡ of_end fault → (IsErrOf {T = Step} (Err fault) ends.Closed ↔ (is_closed held ≡ true)) → (IsErrOf {T = Step} (Err fault) ends.Memory → (heard : Option Packet) × Says bytes heard × IsAnswered (datagram_row held.end from bytes heard)) → DatagramFault from bytes transfer server
+  pub datagram_fault : (from : Endpoint) (bytes : List ℕ) (transfer : Option (Held F D)) (held : Held F D) (fault : EndFault) (server : ServerFault) → transfer ≡ Some held → server ≡ of_end fault → (IsErrOf {T = Step} (Err fault) ends.Closed ↔ (is_closed held ≡ true)) → (IsErrOf {T = Step} (Err fault) ends.Memory → (decoded : Option Packet) × Decodes bytes decoded × IsAnswered (datagram_action held.end from bytes decoded)) → DatagramFault from bytes transfer server
   datagram_fault from bytes transfer held fault server there same closed memory =
       subst (λ (t : Option (Held F D)). DatagramFault from bytes t server) (sym there) (subst (λ (f : ServerFault). DatagramFault from bytes (Some held) f) (sym same) (by fault closed memory))
     where
-      by : (f : EndFault) → (IsErrOf {T = Step} (Err f) ends.Closed ↔ (is_closed held ≡ true)) → (IsErrOf {T = Step} (Err f) ends.Memory → (heard : Option Packet) × Says bytes heard × IsAnswered (datagram_row held.end from bytes heard)) → DatagramFault from bytes (Some held) (of_end f)
+      by : (f : EndFault) → (IsErrOf {T = Step} (Err f) ends.Closed ↔ (is_closed held ≡ true)) → (IsErrOf {T = Step} (Err f) ends.Memory → (decoded : Option Packet) × Decodes bytes decoded × IsAnswered (datagram_action held.end from bytes decoded)) → DatagramFault from bytes (Some held) (of_end f)
       by ends.Closed c m = ap not (c.0 refl)
       by ends.Memory c m = let said = m refl in (open_unless_closed held ends.Memory c refl, said.0, said.1, said.2)
 

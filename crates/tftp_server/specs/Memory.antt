@@ -27,7 +27,7 @@ has_distinct_paths (e ∷ files) = not (is_some (file_at e.0 files)) && has_dist
 abbrev pub with_told : Stored → Bool → Stored
 with_told stored told = record stored { refuses = told }
 
--- an opening fails where there is no such file, or for want of memory
+-- an opening fails where there is no such file, or when out of memory
 abbrev pub MayRefuseOpen : Stored → List ℕ → StoreFault → Type 0
 MayRefuseOpen stored path Missing = file_at path stored.files ≡ None
 MayRefuseOpen stored path Memory = ⊤
@@ -38,13 +38,13 @@ abbrev pub MayRefuseBegin : Stored → List ℕ → StoreFault → Type 0
 MayRefuseBegin stored path Exists = IsSome (file_at path stored.files)
 MayRefuseBegin stored path _ = ⊥
 
--- an append fails as it was told, or for want of memory
+-- an append fails as it was told, or when out of memory
 abbrev pub MayRefuseAppend : Stored → Drafted → List ℕ → StoreFault → Type 0
 MayRefuseAppend stored draft bytes Full = stored.refuses ≡ true
 MayRefuseAppend stored draft bytes Memory = stored.refuses ≡ false
 MayRefuseAppend stored draft bytes _ = ⊥
 
--- a commit fails as it was told, where there is such a file, or with Full for want of memory
+-- a commit fails as it was told, where there is such a file, or with Full when out of memory
 abbrev pub MayRefuseCommit : Stored → List ℕ → Drafted → StoreFault → Type 0
 MayRefuseCommit stored path draft Exists = (stored.refuses ≡ false) × IsSome (file_at path stored.files)
 MayRefuseCommit stored path draft Full = (stored.refuses ≡ true) ⊎ (file_at path stored.files ≡ None)

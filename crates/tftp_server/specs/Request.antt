@@ -1,4 +1,4 @@
--- What the request port makes of a datagram (RFC 1350, sections 2 and 4; RFC 2347, "Negotiation Protocol").
+-- How the request port handles a datagram (RFC 1350, sections 2 and 4; RFC 2347, "Negotiation Protocol").
 use Rattle.std.specs.Prelude.{ℕ, ◌≡◌, ◌*◌, nat_lt, nat_le, Bool, true, false, List, [], ◌∷◌, ◌⊎◌, length, Option, Some, None, Result, Ok, Err}
 use Rattle.std.specs.Bool.{MatchBool}
 use Rattle.tftp_wire.specs.Spelling.{canonical}
@@ -26,9 +26,9 @@ use Rattle.tftp_ends.specs.declared.phase.Terms.{Terms}
 use Rattle.tftp_ends.specs.declared.side.Side.TheVariants.{ServerWrite}
 use Rattle.tftp_ends.specs.End.{EndState}
 use Rattle.tftp_ends.specs.Opening.{ServesRead, CannotStart}
-use Rattle.tftp_ends.specs.Row.{Says, begins_error}
+use Rattle.tftp_ends.specs.Action.{Decodes, has_error_opcode}
 use Rattle.tftp_ends.specs.Step.{ack_bytes, error_bytes}
-use Rattle.tftp_ends.specs.Waiting.{plain_terms, agreed_terms}
+use Rattle.tftp_ends.specs.Waiting.{default_terms, agreed_terms}
 use Rattle.tftp_file.specs.Memory.{MemSinkState}
 use Rattle.tftp_server.specs.declared.opened.Opened.{Opened}
 use Rattle.tftp_server.specs.declared.server.request.Decision.{Decision}
@@ -62,35 +62,35 @@ receiving mode retries terms sent =
       length = 0;
       retries = retries;
       retries_left = retries;
-      newest = sent;
-      newest_to = terms.peer;
+      last_sent = sent;
+      last_sent_to = terms.peer;
       held = [];
       phase = Receiving terms 0;
     }
 
 -- a write is served: ACK 0 goes out, or where options are agreed their OACK
 abbrev pub write_end : List Known → Endpoint → Mode → ℕ → EndState
-write_end [] peer mode retries = receiving mode retries (plain_terms peer) (ack_bytes 0)
+write_end [] peer mode retries = receiving mode retries (default_terms peer) (ack_bytes 0)
 write_end (known ∷ others) peer mode retries =
     receiving mode retries (agreed_terms peer (known ∷ others)) (canonical (Oack (agreed_options (known ∷ others))))
 
 -- a request to read in octet, without options
-abbrev pub plain_read : List ℕ → Request
-plain_read name = record { name = name; mode = Octet; options = [] }
+abbrev pub default_read : List ℕ → Request
+default_read name = record { name = name; mode = Octet; options = [] }
 
--- what is carried of a request to read so far: in octet it is answered without its options, as RFC 2347 allows
-abbrev pub carried_read : List ℕ → Mode → Option Packet
-carried_read name Octet = Some (Read (plain_read name))
-carried_read name Netascii = None
+-- what is supported of a request to read so far: in octet it is answered without its options, as RFC 2347 allows
+abbrev pub supported_read : List ℕ → Mode → Option Packet
+supported_read name Octet = Some (Read (default_read name))
+supported_read name Netascii = None
 
--- what is carried of a packet so far; a request to write has no place yet
-abbrev pub carried : Option Packet → Option Packet
-carried (Some (Read request)) = carried_read request.name request.mode
-carried _ = None
+-- what is supported of a packet so far; a request to write has no place yet
+abbrev pub supported : Option Packet → Option Packet
+supported (Some (Read request)) = supported_read request.name request.mode
+supported _ = None
 
--- the name in what is carried
+-- the name in what is supported
 abbrev pub NamesFile : Option Packet → Option (List ℕ) → Type 0
-NamesFile (Some (Read request)) (Some name) = request ≡ plain_read name
+NamesFile (Some (Read request)) (Some name) = request ≡ default_read name
 NamesFile None None = Unit {0}
 NamesFile _ _ = ⊥
 
@@ -130,7 +130,7 @@ module _ {S F D : Type 0} where
       record {
         new = record asking.old { store = store; held = with_new asking.tid held asking.old.held };
         opened = record { tid = Some asking.tid; to = Some asking.from };
-        sent = held.end.newest;
+        sent = held.end.last_sent;
       }
 
 module _ {S F D : Type 0} (left : F → Option (List ℕ)) (may_fail : F → ℕ → Type 0) (stored : S → Option Stored) (drafted : D → Option Drafted) where
@@ -197,21 +197,21 @@ module _ {S F D : Type 0} (left : F → Option (List ℕ)) (may_fail : F → ℕ
   Names writes request (Ok path) asking result =
       MatchBool (nat_le asking.old.config.cap (length asking.old.held)) (result ≡ refusing ServerBusy asking.old.store asking) (Requests writes path request asking result)
 
-  -- what the request port makes of what a datagram says: only a request has a place there
+  -- how the request port handles what a datagram says: only a request has a place there
   abbrev pub PortStep : Option Packet → Asking S F D → Left S F D → Type 0
   PortStep (Some (Read request)) asking result = Names false request (path_of_name request.name) asking result
   PortStep (Some (Write request)) asking result = Names true request (path_of_name request.name) asking result
   PortStep _ asking result = result ≡ refusing IllegalOperation asking.old.store asking
 
-  -- what the request port makes of a datagram: what begins as an ERROR is never answered
+  -- how the request port handles a datagram: what begins as an ERROR is never answered
   abbrev pub RequestStep : List ℕ → Asking S F D → Left S F D → Type 0
   RequestStep bytes asking result =
-      MatchBool (begins_error bytes) (result ≡ silent asking) ((heard : Option Packet) × Says bytes heard × PortStep heard asking result)
+      MatchBool (has_error_opcode bytes) (result ≡ silent asking) ((decoded : Option Packet) × Decodes bytes decoded × PortStep decoded asking result)
 
-  -- the same, where only what is carried so far has a place
-  abbrev pub CarriedStep : List ℕ → Asking S F D → Left S F D → Type 0
-  CarriedStep bytes asking result =
-      MatchBool (begins_error bytes) (result ≡ silent asking) ((heard : Option Packet) × Says bytes heard × PortStep (carried heard) asking result)
+  -- the same, where only what is supported so far has a place
+  abbrev pub SupportedStep : List ℕ → Asking S F D → Left S F D → Type 0
+  SupportedStep bytes asking result =
+      MatchBool (has_error_opcode bytes) (result ≡ silent asking) ((decoded : Option Packet) × Decodes bytes decoded × PortStep (supported decoded) asking result)
 
 -- what a decision comes to
 abbrev pub came_to : {S F : Type 0} → Decision F → Asking S F MemSinkState → Left S F MemSinkState
@@ -221,4 +221,4 @@ came_to (Open held) asking = opening held asking.old.store asking
 -- what a decision has sent so far
 abbrev pub decided_bytes : {F : Type 0} → Decision F → List ℕ
 decided_bytes (Refuse reply) = []
-decided_bytes (Open held) = held.end.newest
+decided_bytes (Open held) = held.end.last_sent

@@ -1,4 +1,4 @@
--- What an event makes of the transfer that it is for.
+-- How an event handles the transfer that it is for.
 use Rattle.std.specs.Prelude.{ℕ, ◌≡◌, false, List, Option, Some, None}
 use Rattle.tftp_wire.specs.declared.packet.Packet.{Packet}
 use Rattle.tftp_file.specs.declared.files.Files.{Files}
@@ -7,16 +7,16 @@ use Rattle.tftp_ends.specs.declared.endpoint.Endpoint.{Endpoint}
 use Rattle.tftp_ends.specs.declared.record.Step.{Step}
 use Rattle.tftp_ends.specs.End.{EndState}
 use Rattle.tftp_ends.specs.Files.{KeepsFiles}
-use Rattle.tftp_ends.specs.Row.{Says, datagram_row, timeout_row}
-use Rattle.tftp_ends.specs.Step.{Turn, Hears, Carries, IsAnswered, timeout_turn, told}
+use Rattle.tftp_ends.specs.Action.{Decodes, datagram_action, timeout_action}
+use Rattle.tftp_ends.specs.Step.{Turn, DatagramStep, Carries, IsAnswered, timeout_turn, told}
 use Rattle.tftp_server.specs.declared.fault.ServerFault.{ServerFault}
 use Rattle.tftp_server.specs.declared.fault.ServerFault.TheVariants.{NoSuchTid, Memory}
 use Rattle.tftp_server.specs.State.{Held, at, is_open, is_closed, with_next}
 
 -- an end that sends a file does this at a datagram
-abbrev pub HearsRead : {F : Type 0} → (F → Option (List ℕ)) → (F → ℕ → Type 0) → Endpoint → List ℕ → EndState → F → Turn → F → Type 0
-HearsRead left may_fail from bytes e source turn source' =
-    Hears left may_fail (λ (sink : Unit {0}). None) (λ sink piece fault. Unit {0}) (λ sink fault. Unit {0}) from bytes e (Source source) turn (Source source')
+abbrev pub ReadDatagramStep : {F : Type 0} → (F → Option (List ℕ)) → (F → ℕ → Type 0) → Endpoint → List ℕ → EndState → F → Turn → F → Type 0
+ReadDatagramStep left may_fail from bytes e source turn source' =
+    DatagramStep left may_fail (λ (sink : Unit {0}). None) (λ sink piece fault. Unit {0}) (λ sink fault. Unit {0}) from bytes e (Source source) turn (Source source')
 
 module _ {F D : Type 0} where
   -- the transfer with another state of its end
@@ -32,29 +32,29 @@ module _ {F D : Type 0} where
     pub tells : step ≡ told transfer.end (timeout_turn transfer.end)
     pub held : new ≡ with_next tid (with_end end transfer) old
 
-  -- why a timeout was not taken: there is no open transfer, or memory was wanting for its datagram
+  -- why a timeout was not taken: there is no open transfer, or there is no memory for its datagram
   abbrev pub TimeoutFault : Option (Held F D) → ServerFault → Type 0
   TimeoutFault transfer NoSuchTid = is_open transfer ≡ false
-  TimeoutFault (Some held) Memory = (is_closed held ≡ false) × IsAnswered (timeout_row held.end.retries_left held.end.phase)
+  TimeoutFault (Some held) Memory = (is_closed held ≡ false) × IsAnswered (timeout_action held.end.retries_left held.end.phase)
   TimeoutFault transfer _ = ⊥
 
-  -- why a datagram was not taken: there is no open transfer, or memory was wanting for the answer
+  -- why a datagram was not taken: there is no open transfer, or there is no memory for the answer
   abbrev pub DatagramFault : Endpoint → List ℕ → Option (Held F D) → ServerFault → Type 0
   DatagramFault from bytes transfer NoSuchTid = is_open transfer ≡ false
   DatagramFault from bytes (Some held) Memory =
-      (is_closed held ≡ false) × (heard : Option Packet) × Says bytes heard × IsAnswered (datagram_row held.end from bytes heard)
+      (is_closed held ≡ false) × (decoded : Option Packet) × Decodes bytes decoded × IsAnswered (datagram_action held.end from bytes decoded)
   DatagramFault from bytes transfer _ = ⊥
 
 module _ {F D : Type 0} (left : F → Option (List ℕ)) (may_fail : F → ℕ → Type 0) where
   -- what an end does at a datagram with the file of its transfer
-  abbrev pub HearsIn : Endpoint → List ℕ → EndState → Files F D → Turn → Files F D → Type 0
-  HearsIn from bytes e (Source source) turn (Source source') = HearsRead left may_fail from bytes e source turn source'
-  HearsIn from bytes e _ turn _ = ⊥
+  abbrev pub DatagramStepIn : Endpoint → List ℕ → EndState → Files F D → Turn → Files F D → Type 0
+  DatagramStepIn from bytes e (Source source) turn (Source source') = ReadDatagramStep left may_fail from bytes e source turn source'
+  DatagramStepIn from bytes e _ turn _ = ⊥
 
   -- the transfer made the step of a datagram
   pub record TakesIn (from : Endpoint) (bytes : List ℕ) (transfer next : Held F D) (step : Step) (before after : List ℕ) : Type 0 where
     pub turn : Turn
-    pub hears : HearsIn from bytes transfer.end transfer.files turn next.files
+    pub steps : DatagramStepIn from bytes transfer.end transfer.files turn next.files
     pub carries : Carries turn next.end step.to before after
     pub tells : step ≡ told transfer.end turn
     pub path : next.path ≡ transfer.path

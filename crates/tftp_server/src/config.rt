@@ -16,7 +16,7 @@ const MAX_CAP: u8 = 64;
 pub struct Config {
     /// The largest block size that it answers and the longest file that it takes.
     pub limits: Limits,
-    /// How often an end sends its newest datagram again without progress, 0 to 10.
+    /// How often an end sends its last datagram sent again without progress, 0 to 10.
     pub retries: u8,
     /// How many transfers it holds at once, 1 to 64; closed ones count until they are taken.
     pub cap: u8,

@@ -15,7 +15,7 @@ pub enum ServerFault {
     /// No open transfer with this identifier is held.
     #[error("no open transfer has this identifier")]
     NoSuchTid = 2,
-    /// Memory was wanting.
+    /// Out of memory.
     #[error("out of memory")]
     Memory = 3,
 }

@@ -29,7 +29,7 @@ impl Model for MemStore {
 }
 
 impl MemStore {
-    /// A store of these files, whose paths are distinct. It fails for want of memory alone, with
+    /// A store of these files, whose paths are distinct. It fails only when out of memory, with
     /// `Memory`.
     pub fn new(alloc: Global, files: Vec<(Path, Vec<u8>)>) -> Result<MemStore, StoreFault>
         requires { has_distinct_paths (contents files.items) ≡ true }

@@ -28,7 +28,7 @@ fn server(alloc: Global, config: Config) -> Result<Server<MemStore>, Fail>
 
 #[test]
 fn port_rows(rt: HostRuntime) -> Result<(), Fail> {
-    let rows: [(&str, &[u8], &[u8]); 9] = [
+    let actions: [(&str, &[u8], &[u8]); 9] = [
         ("begins as an ERROR", b"\x00\x05", b""),
         ("an ERROR", b"\x00\x05\x00\x01no\x00", b""),
         (
@@ -68,7 +68,7 @@ fn port_rows(rt: HostRuntime) -> Result<(), Fail> {
         ),
     ];
     let mut server = server(rt.alloc(), Config::default())?;
-    for (what, request, answer) in rows {
+    for (what, request, answer) in actions {
         let mut out = Vec::new(rt.alloc());
         let opened = server.on_request(client(2000), 1025, request, &mut out)?;
         assert_eq!(rt; out.as_slice(), answer, "{what}");

@@ -7,7 +7,7 @@ ghost use Rattle.std.specs.Map.{keys_of};
 ghost use Rattle.tftp_ends.specs.End.{record_of};
 ghost use Rattle.tftp_file.specs.Memory.{MemSinkState};
 ghost use Rattle.tftp_server.specs.Config.{IsConfig};
-ghost use Rattle.tftp_server.specs.Request.{CarriedStep, asked_of};
+ghost use Rattle.tftp_server.specs.Request.{SupportedStep, asked_of};
 ghost use Rattle.tftp_server.specs.State.{at, taken_of, without};
 ghost use Rattle.tftp_server.specs.Steps.{TimesOut, TimeoutFault, TakesDatagram, DatagramFault, KeepsHeld};
 ghost use Rattle.std.specs.Borrow.{Lends, sem};
@@ -21,7 +21,7 @@ use crate::table::Table;
 use crate::transfer::Transfer;
 use std::alloc::Global;
 use std::marker::Model;
-use tftp_ends::{Endpoint, Record, Step, begins_error};
+use tftp_ends::{Endpoint, Record, Step, has_error_opcode};
 
 /// A server: what it is set to, its store and the transfers that it holds.
 ///
@@ -49,7 +49,7 @@ impl<S: Store> Model for Server<S> {
 impl<S: Store> Server<S> {
     ghost use Rattle.tftp_server.specs.contracts.server.Server.{the_row};
 
-    /// A server without transfers. It fails for want of memory alone.
+    /// A server without transfers. It fails only when out of memory.
     pub fn new(alloc: Global, config: Config, store: S) -> Result<Server<S>, ServerFault>
         requires { IsConfig config }
         ensures config { IfOk result (λ server. server.config ≡ config) }
@@ -136,7 +136,7 @@ impl<S: Store> Server<S> {
         out: &mut Vec<u8>,
     ) -> Result<Opened, ServerFault>
         ensures steps { IfOk result (λ opened. (sent : List ℕ) × (out.new.items ≡ out.old.items ++ sent)
-            × CarriedStep S.Source.left S.Source.may_fail S.stored (λ (draft : MemSinkState). None) bytes.now (asked_of self.old from tid) (record { new = self.new; opened = opened; sent = sent })) }
+            × SupportedStep S.Source.left S.Source.may_fail S.stored (λ (draft : MemSinkState). None) bytes.now (asked_of self.old from tid) (record { new = self.new; opened = opened; sent = sent })) }
         ensures in_use { IsErrOf result ServerFault.TidInUse ↔ IsSome (at tid self.old.held) }
         ensures fault { IfErr result (λ fault. (fault ≡ ServerFault.TidInUse) ⊎ (fault ≡ ServerFault.Memory)) }
         ensures err { OnErr result ((self.new ≡ self.old) × (out.new.items ≡ out.old.items)) }
@@ -144,7 +144,7 @@ impl<S: Store> Server<S> {
         if self.table.contains(tid) {
             return Err(ServerFault::TidInUse);
         }
-        if begins_error(bytes) {
+        if has_error_opcode(bytes) {
             return Ok(Opened {
                 tid: None,
                 to: None,
@@ -176,7 +176,7 @@ impl<S: Store> Server<S> {
     }
 
     /// Appends the identifiers of all transfers that are held, in rising order, closed ones among
-    /// them. It fails for want of memory alone, and then appends none.
+    /// them. It fails only when out of memory, and then appends none.
     pub fn tids(&self, out: &mut Vec<u16>) -> Result<(), ServerFault>
         ensures ok { OnOk result (out.new.items ≡ out.old.items ++ keys_of self.now.held) }
         ensures err { OnErr result (out.new.items ≡ out.old.items) }

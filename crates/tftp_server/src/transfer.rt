@@ -5,7 +5,7 @@ ghost use Rattle.tftp_ends.specs.End.{record_of};
 ghost use Rattle.tftp_server.specs.State.{is_closed, IsRead};
 ghost use Rattle.tftp_ends.specs.Files.{AreFilesOf};
 ghost use Rattle.tftp_server.specs.Steps.{with_end, TakesIn, StaysAs};
-ghost use Rattle.tftp_ends.specs.Row.{Says, datagram_row, timeout_row};
+ghost use Rattle.tftp_ends.specs.Action.{Decodes, datagram_action, timeout_action};
 ghost use Rattle.tftp_ends.specs.Step.{Carries, IsAnswered, timeout_turn, told};
 ghost use Rattle.tftp_wire.specs.declared.packet.Packet.{Packet};
 
@@ -65,7 +65,7 @@ impl<F> Transfer<F> {
         ensures steps { IfOk result (λ step. Carries (timeout_turn self.old.end) self.new.end step.to out.old.items out.new.items
             × (step ≡ told self.old.end (timeout_turn self.old.end)) × (self.new ≡ with_end self.new.end self.old)) }
         ensures closed { IsErrOf result EndFault.Closed ↔ (is_closed self.old ≡ true) }
-        ensures memory { IsErrOf result EndFault.Memory → IsAnswered (timeout_row self.old.end.retries_left self.old.end.phase) }
+        ensures memory { IsErrOf result EndFault.Memory → IsAnswered (timeout_action self.old.end.retries_left self.old.end.phase) }
         ensures err { OnErr result ((self.new ≡ self.old) × (out.new.items ≡ out.old.items)) }
     {
         self.end.on_timeout(out)
@@ -82,7 +82,7 @@ impl<F: Source> Transfer<F> {
     ) -> Result<Step, EndFault>
         ensures takes { IfOk result (λ step. TakesIn F.left F.may_fail from bytes.now self.old self.new step out.old.items out.new.items) }
         ensures closed { IsErrOf result EndFault.Closed ↔ (is_closed self.old ≡ true) }
-        ensures memory { IsErrOf result EndFault.Memory → (heard : Option Packet) × Says bytes.now heard × IsAnswered (datagram_row self.old.end from bytes.now heard) }
+        ensures memory { IsErrOf result EndFault.Memory → (decoded : Option Packet) × Decodes bytes.now decoded × IsAnswered (datagram_action self.old.end from bytes.now decoded) }
         ensures err { OnErr result (StaysAs F.left F.may_fail self.old self.new × (out.new.items ≡ out.old.items)) }
     {
         self.end.on_datagram(&mut self.files, from, bytes, out)

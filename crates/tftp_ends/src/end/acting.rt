@@ -1,20 +1,20 @@
-//! What an end does at a row: its next phase, its answer, and the one block that a file gives or takes.
+//! What an end does at an action: its next phase, its answer, and the one block that a file gives or takes.
 
 ghost use Rattle.std.specs.Prelude.{◌≡◌, ◌≤◌, ◌+◌, ◌++◌, false, length, OnOk, OnErr, IfOk, Some, vec_len, vec_capacity};
 ghost use Rattle.tftp_ends.specs.Files.{AreFilesOf, KeepsFiles, AreSame};
-ghost use Rattle.tftp_ends.specs.Filling.{is_whole};
-ghost use Rattle.tftp_ends.specs.Taking.{Takes, TakesAll, KeepsHolding};
-ghost use Rattle.tftp_ends.specs.Step.{Turn, Acts, Carries, Sends, Stores, Appended, commit_reply, Fetches, Offers, IsAnswered, ack_bytes, block_length, having_sent, in_phase, row_turn};
+ghost use Rattle.tftp_ends.specs.BlockRead.{is_whole};
+ghost use Rattle.tftp_ends.specs.BlockStored.{StoresBlock, StoresLast, KeepsHolding};
+ghost use Rattle.tftp_ends.specs.Step.{Turn, Acts, Carries, Sends, Stores, Appended, commit_reply, ReadsBlock, AppendsDataOrError, IsAnswered, ack_bytes, block_length, having_sent, in_phase, action_turn};
 ghost use Rattle.tftp_ends.specs.End.{is_sender};
-ghost use Rattle.tftp_ends.specs.Sound.{PhaseFits, IsSending, RowFits};
+ghost use Rattle.tftp_ends.specs.Sound.{PhaseFits, IsSending, ActionFits};
 
+use crate::action::Action;
 use crate::end::End;
 use crate::endpoint::Endpoint;
 use crate::error_reply::ErrorReply;
 use crate::outcome::Outcome;
 use crate::phase::{Dally, Phase, Terms};
 use crate::reply::{HEADER, MAX_ERROR, append_ack, append_data_header, append_error};
-use crate::row::Row;
 use std::alloc::AllocError;
 use tftp_file::{FileFault, Files, Sink, Source, StoreFault};
 use tftp_wire::Mode;
@@ -27,21 +27,21 @@ pub(crate) fn block_length(length: u64, size: u16, number: u16) -> usize
     length.saturating_sub(before).min(u64::from(size)) as usize
 }
 
-/// Keeps what was sent as the newest datagram, in room that was made for it.
-pub(crate) fn keep(newest: &mut Vec<u8>, sent: &[u8])
-    requires { length sent.now ≤ vec_capacity newest.old }
-    ensures kept { newest.new.items ≡ sent.now }
-    ensures capacity { vec_capacity newest.old ≤ vec_capacity newest.new }
+/// Saves a datagram that was sent for its retransmission, in room that was made for it.
+pub(crate) fn save_for_retransmission(last_sent: &mut Vec<u8>, sent: &[u8])
+    requires { length sent.now ≤ vec_capacity last_sent.old }
+    ensures kept { last_sent.new.items ≡ sent.now }
+    ensures capacity { vec_capacity last_sent.old ≤ vec_capacity last_sent.new }
 {
-    newest.clear();
-    let Ok(()) = newest.extend_from_slice(sent) else {
+    last_sent.clear();
+    let Ok(()) = last_sent.extend_from_slice(sent) else {
         unreachable!()
     };
 }
 
 /// What came of the wish for a block.
 #[derive(Clone, Copy)]
-pub(crate) enum Filling {
+pub(crate) enum BlockRead {
     /// The block, which went out as DATA.
     Whole,
     /// Less than the block, or nothing: an ERROR went out.
@@ -49,12 +49,12 @@ pub(crate) enum Filling {
 }
 
 /// Appends the next block of the source, all of it, or nothing.
-pub(crate) fn fetch<S: Source>(
+pub(crate) fn read_block<S: Source>(
     source: &mut S,
     want: usize,
     out: &mut Vec<u8>,
-) -> Result<Filling, AllocError>
-    ensures fetches { IfOk result (λ filling. Fetches (S.left source.old) (S.left source.new)
+) -> Result<BlockRead, AllocError>
+    ensures reads { IfOk result (λ filling. ReadsBlock (S.left source.old) (S.left source.new)
         (S.may_fail source.old want) want out.old.items out.new.items (is_whole filling)) }
     ensures err { OnErr result ((S.left source.new ≡ S.left source.old) × (out.new.items ≡ out.old.items)) }
     ensures capacity { vec_capacity out.old ≤ vec_capacity out.new }
@@ -64,26 +64,26 @@ pub(crate) fn fetch<S: Source>(
     match source.fill(want, out) {
         Ok(count) => {
             if count == want {
-                return Ok(Filling::Whole);
+                return Ok(BlockRead::Whole);
             }
             out.truncate(start);
-            Ok(Filling::Changed)
+            Ok(BlockRead::Changed)
         }
-        Err(FileFault::Read) => Ok(Filling::Changed),
+        Err(FileFault::Read) => Ok(BlockRead::Changed),
         Err(FileFault::Memory) => Err(AllocError),
     }
 }
 
 /// Appends DATA of that number if the source gives the block, and else the ERROR that says that the
 /// file has changed.
-fn offer<S: Source>(
+fn append_data_or_error<S: Source>(
     source: &mut S,
     number: u16,
     want: usize,
     out: &mut Vec<u8>,
-) -> Result<Filling, AllocError>
+) -> Result<BlockRead, AllocError>
     requires { want ≤ 65535 }
-    ensures offers { IfOk result (λ filling. Offers (S.left source.old) (S.left source.new)
+    ensures appends { IfOk result (λ filling. AppendsDataOrError (S.left source.old) (S.left source.new)
         (S.may_fail source.old want) number want out.old.items out.new.items (is_whole filling)) }
     ensures err { OnErr result ((S.left source.new ≡ S.left source.old) × (out.new.items ≡ out.old.items)) }
     ensures same { S.is_same source.old source.new }
@@ -93,14 +93,14 @@ fn offer<S: Source>(
     let Ok(()) = append_data_header(out, number) else {
         unreachable!()
     };
-    match fetch(source, want, out) {
-        Ok(Filling::Whole) => Ok(Filling::Whole),
-        Ok(Filling::Changed) => {
+    match read_block(source, want, out) {
+        Ok(BlockRead::Whole) => Ok(BlockRead::Whole),
+        Ok(BlockRead::Changed) => {
             out.truncate(start);
             let Ok(()) = append_error(out, ErrorReply::FileChanged) else {
                 unreachable!()
             };
-            Ok(Filling::Changed)
+            Ok(BlockRead::Changed)
         }
         Err(error) => {
             out.truncate(start);
@@ -111,7 +111,7 @@ fn offer<S: Source>(
 
 /// What a sink made of a block.
 #[derive(Clone, Copy)]
-enum Taking {
+enum BlockStored {
     /// It holds the block, and more is to come.
     More,
     /// It holds and has committed the whole.
@@ -121,7 +121,7 @@ enum Taking {
 }
 
 /// Hands a block's bytes to the sink, if there are any.
-fn hand_over<K: Sink>(sink: &mut K, piece: &[u8]) -> Result<(), StoreFault>
+fn append_block<K: Sink>(sink: &mut K, piece: &[u8]) -> Result<(), StoreFault>
     ensures appended { Appended K.held K.may_refuse_append K.may_refuse_commit piece.now sink.old sink.new result }
     ensures same { K.is_same sink.old sink.new }
 {
@@ -144,33 +144,37 @@ fn commit_reply(fault: StoreFault) -> ErrorReply
 }
 
 /// Has the whole committed.
-fn commit<K: Sink>(sink: &mut K) -> Taking
-    ensures takes { TakesAll K.held K.may_refuse_append K.may_refuse_commit sink.old sink.new result }
+fn commit<K: Sink>(sink: &mut K) -> BlockStored
+    ensures takes { StoresLast K.held K.may_refuse_append K.may_refuse_commit sink.old sink.new result }
     ensures same { K.is_same sink.old sink.new }
 {
     match sink.commit() {
-        Ok(()) => Taking::All,
-        Err(fault) => Taking::Refused(commit_reply(fault)),
+        Ok(()) => BlockStored::All,
+        Err(fault) => BlockStored::Refused(commit_reply(fault)),
     }
 }
 
 /// Hands a block's bytes to the sink, and has the whole committed behind the last one.
-fn take_in<K: Sink>(sink: &mut K, piece: &[u8], is_last: bool) -> Result<Taking, AllocError>
-    ensures takes { IfOk result (λ taking. Takes K.held K.may_refuse_append K.may_refuse_commit piece.now is_last sink.old sink.new taking) }
+fn store_block<K: Sink>(
+    sink: &mut K,
+    piece: &[u8],
+    is_last: bool,
+) -> Result<BlockStored, AllocError>
+    ensures takes { IfOk result (λ block_stored. StoresBlock K.held K.may_refuse_append K.may_refuse_commit piece.now is_last sink.old sink.new block_stored) }
     ensures err { OnErr result (KeepsHolding (K.held sink.old) (K.held sink.new)) }
     ensures same { K.is_same sink.old sink.new }
 {
-    match hand_over(sink, piece) {
+    match append_block(sink, piece) {
         Ok(()) => {
             if is_last {
                 Ok(commit(sink))
             } else {
-                Ok(Taking::More)
+                Ok(BlockStored::More)
             }
         }
         Err(StoreFault::Memory) => Err(AllocError),
         Err(StoreFault::Missing | StoreFault::Exists | StoreFault::Full | StoreFault::Io) => {
-            Ok(Taking::Refused(ErrorReply::DiskFull))
+            Ok(BlockStored::Refused(ErrorReply::DiskFull))
         }
     }
 }
@@ -198,48 +202,48 @@ impl End {
         let Ok(()) = append_ack(out, number) else {
             unreachable!()
         };
-        keep(&mut self.newest, &out[start..]);
-        self.newest_to = from;
+        save_for_retransmission(&mut self.last_sent, &out[start..]);
+        self.last_sent_to = from;
         self.go_into(phase);
     }
 
-    /// Does what a row says that touches no file, and tells where the answer goes.
+    /// Does what an action says that touches no file, and tells where the answer goes.
     pub(crate) fn answer(
         &mut self,
-        row: Row,
+        action: Action,
         from: Endpoint,
         out: &mut Vec<u8>,
     ) -> Result<Option<Endpoint>, AllocError>
-        requires { RowFits self.old row }
-        ensures carries { IfOk result (λ to. Carries (row_turn row from self.old) self.new to out.old.items out.new.items) }
+        requires { ActionFits self.old action }
+        ensures carries { IfOk result (λ to. Carries (action_turn action from self.old) self.new to out.old.items out.new.items) }
         ensures err { OnErr result ((self.new ≡ self.old) × (out.new.items ≡ out.old.items)) }
-        ensures answered { OnErr result (IsAnswered row) }
+        ensures answered { OnErr result (IsAnswered action) }
         ensures side { self.new.side ≡ self.old.side }
     {
-        match row {
-            Row::Ignore | Row::Send { .. } | Row::Store { .. } => Ok(None),
-            Row::Stranger => {
+        match action {
+            Action::Ignore | Action::Send { .. } | Action::Store { .. } => Ok(None),
+            Action::Stranger => {
                 append_error(out, ErrorReply::UnknownTransferId)?;
                 Ok(Some(from))
             }
-            Row::Again => {
-                out.extend_from_slice(&self.newest)?;
+            Action::ResendReply => {
+                out.extend_from_slice(&self.last_sent)?;
                 Ok(Some(from))
             }
-            Row::Retry => {
-                out.extend_from_slice(&self.newest)?;
+            Action::Retransmit => {
+                out.extend_from_slice(&self.last_sent)?;
                 self.retries_left -= 1;
-                Ok(Some(self.newest_to))
+                Ok(Some(self.last_sent_to))
             }
-            Row::Wait => {
+            Action::Wait => {
                 self.go_into(self.phase.waited());
                 Ok(None)
             }
-            Row::Close { outcome } => {
+            Action::Close { outcome } => {
                 self.go_into(self.phase.closed(outcome));
                 Ok(None)
             }
-            Row::Refuse {
+            Action::Refuse {
                 terms,
                 reply,
                 outcome,
@@ -248,12 +252,12 @@ impl End {
                 self.go_into(self.phase.refused(terms, outcome));
                 Ok(Some(from))
             }
-            Row::Accept { terms } => {
+            Action::Accept { terms } => {
                 out.reserve(HEADER)?;
                 self.acknowledge(Phase::Receiving { terms, number: 0 }, 0, from, out);
                 Ok(Some(from))
             }
-            Row::Complete => {
+            Action::Complete => {
                 self.go_into(self.phase.completed());
                 Ok(None)
             }
@@ -277,16 +281,16 @@ impl End {
         ensures side { self.new.side ≡ self.old.side }
     {
         let want = block_length(self.length, terms.size, number);
-        self.newest
-            .reserve((HEADER + want).saturating_sub(self.newest.len()))?;
+        self.last_sent
+            .reserve((HEADER + want).saturating_sub(self.last_sent.len()))?;
         let start = out.len();
-        match offer(source, number, want, out)? {
-            Filling::Whole => {
-                keep(&mut self.newest, &out[start..]);
-                self.newest_to = from;
+        match append_data_or_error(source, number, want, out)? {
+            BlockRead::Whole => {
+                save_for_retransmission(&mut self.last_sent, &out[start..]);
+                self.last_sent_to = from;
                 self.go_into(Phase::Sending { terms, number });
             }
-            Filling::Changed => {
+            BlockRead::Changed => {
                 self.go_into(self.phase.refused(Some(terms), Outcome::SourceFault));
             }
         }
@@ -315,11 +319,11 @@ impl End {
     {
         out.reserve(MAX_ERROR)?;
         let is_last = piece.len() < usize::from(terms.size);
-        match take_in(sink, piece, is_last)? {
-            Taking::More => {
+        match store_block(sink, piece, is_last)? {
+            BlockStored::More => {
                 self.acknowledge(Phase::Receiving { terms, number }, number, from, out);
             }
-            Taking::All => {
+            BlockStored::All => {
                 let phase = Phase::Dallying {
                     terms,
                     number,
@@ -327,7 +331,7 @@ impl End {
                 };
                 self.acknowledge(phase, number, from, out);
             }
-            Taking::Refused(reply) => {
+            BlockStored::Refused(reply) => {
                 let Ok(()) = append_error(out, reply) else {
                     unreachable!()
                 };
@@ -337,35 +341,35 @@ impl End {
         Ok(())
     }
 
-    /// Does what a row says, with the end's file where the row sends or stores, and tells where the
+    /// Does what an action says, with the end's file where the action sends or stores, and tells where the
     /// answer goes.
     pub(crate) fn act<S: Source, K: Sink>(
         &mut self,
-        row: Row,
+        action: Action,
         files: &mut Files<S, K>,
         from: Endpoint,
         bytes: &[u8],
         out: &mut Vec<u8>,
     ) -> Result<Option<Endpoint>, AllocError>
-        requires row { RowFits self.old row }
+        requires action { ActionFits self.old action }
         requires files { AreFilesOf self.old.side files.old }
         ensures acts { IfOk result (λ to. (turn : Turn)
-            × Acts S.left S.may_fail K.held K.may_refuse_append K.may_refuse_commit row from bytes.now self.old files.old turn files.new
+            × Acts S.left S.may_fail K.held K.may_refuse_append K.may_refuse_commit action from bytes.now self.old files.old turn files.new
             × Carries turn self.new to out.old.items out.new.items) }
-        ensures answered { OnErr result (IsAnswered row) }
+        ensures answered { OnErr result (IsAnswered action) }
         ensures err { OnErr result ((self.new ≡ self.old) × (out.new.items ≡ out.old.items) × KeepsFiles S.left K.held files.old files.new) }
         ensures same { AreSame S.is_same K.is_same files.old files.new }
         ensures files { AreFilesOf self.new.side files.new }
     {
-        match row {
-            Row::Send { terms, number } => {
+        match action {
+            Action::Send { terms, number } => {
                 let Files::Source(source) = files else {
                     unreachable!()
                 };
                 self.send(terms, number, source, from, out)?;
                 Ok(Some(from))
             }
-            Row::Store { terms, number } => {
+            Action::Store { terms, number } => {
                 let Files::Sink(sink) = files else {
                     unreachable!()
                 };
@@ -373,7 +377,7 @@ impl End {
                 self.store(terms, number, piece, sink, from, out)?;
                 Ok(Some(from))
             }
-            row => self.answer(row, from, out),
+            action => self.answer(action, from, out),
         }
     }
 }

@@ -5,22 +5,22 @@ ghost use Rattle.tftp_wire.specs.Spelling.{canonical};
 ghost use Rattle.tftp_wire.specs.Texts.{IsText};
 ghost use Rattle.tftp_wire.specs.declared.mode.Mode.TheVariants.{Octet};
 ghost use Rattle.tftp_wire.specs.declared.packet.Packet.TheVariants.{Read};
-ghost use Rattle.tftp_ends.specs.Filling.{is_whole};
+ghost use Rattle.tftp_ends.specs.BlockRead.{is_whole};
 ghost use Rattle.tftp_ends.specs.Files.{AreFilesOf, KeepsFiles, AreSame};
-ghost use Rattle.tftp_ends.specs.Opening.{CanGet, CanServe, IsCarried, ServesFiles, StartsWith, FilesCannotStart, getting, opening_step, request_of, nothing_asked};
+ghost use Rattle.tftp_ends.specs.Opening.{CanGet, CanServe, IsSupported, ServesFiles, StartsWith, FilesCannotStart, getting, opening_step, request_of, nothing_asked};
 ghost use Rattle.tftp_ends.specs.Step.{block_length};
 ghost use Rattle.tftp_negotiate.specs.Agreed.{size};
 
 use crate::config::EndConfig;
 use crate::end::End;
-use crate::end::acting::{Filling, block_length, fetch, keep};
+use crate::end::acting::{BlockRead, block_length, read_block, save_for_retransmission};
 use crate::endpoint::Endpoint;
 use crate::fault::OpenFault;
 use crate::phase::Phase;
 use crate::record::Step;
 use crate::reply::{HEADER, append_data_header};
 use crate::side::Side;
-use crate::waiting::{PLAIN_SIZE, plain_terms};
+use crate::waiting::{DEFAULT_BLOCK_SIZE, default_terms};
 use std::alloc::{AllocError, Global};
 use tftp_file::{Files, Sink, Source};
 use tftp_negotiate::{Agreed, Asked};
@@ -88,29 +88,29 @@ fn request_bytes(alloc: Global, name: &[u8]) -> Result<Vec<u8>, OpenFault>
 fn start_with<S: Source>(
     source: &mut S,
     length: u64,
-    newest: &mut Vec<u8>,
+    last_sent: &mut Vec<u8>,
     out: &mut Vec<u8>,
-) -> Result<Filling, AllocError>
-    ensures starts { IfOk result (λ filling. StartsWith (S.left source.old) (S.left source.new) (S.may_fail source.old (block_length length 512 1)) length newest.new.items out.old.items out.new.items (is_whole filling)) }
-    ensures room { OnOk result (4 ≤ vec_capacity newest.new) }
+) -> Result<BlockRead, AllocError>
+    ensures starts { IfOk result (λ filling. StartsWith (S.left source.old) (S.left source.new) (S.may_fail source.old (block_length length 512 1)) length last_sent.new.items out.old.items out.new.items (is_whole filling)) }
+    ensures room { OnOk result (4 ≤ vec_capacity last_sent.new) }
     ensures err { OnErr result ((S.left source.new ≡ S.left source.old) × (out.new.items ≡ out.old.items)) }
     ensures same { S.is_same source.old source.new }
 {
-    let want = block_length(length, PLAIN_SIZE, 1);
-    newest.reserve(HEADER + want)?;
+    let want = block_length(length, DEFAULT_BLOCK_SIZE, 1);
+    last_sent.reserve(HEADER + want)?;
     out.reserve(HEADER + want)?;
     let start = out.len();
     let Ok(()) = append_data_header(out, 1) else {
         unreachable!()
     };
-    match fetch(source, want, out) {
-        Ok(Filling::Whole) => {
-            keep(newest, &out[start..]);
-            Ok(Filling::Whole)
+    match read_block(source, want, out) {
+        Ok(BlockRead::Whole) => {
+            save_for_retransmission(last_sent, &out[start..]);
+            Ok(BlockRead::Whole)
         }
-        Ok(Filling::Changed) => {
+        Ok(BlockRead::Changed) => {
             out.truncate(start);
-            Ok(Filling::Changed)
+            Ok(BlockRead::Changed)
         }
         Err(error) => {
             out.truncate(start);
@@ -146,16 +146,16 @@ impl End {
         if !can_get(name, mode, asked) {
             return Err(OpenFault::BadRequest);
         }
-        let newest = request_bytes(alloc, name)?;
-        out.extend_from_slice(&newest)?;
+        let last_sent = request_bytes(alloc, name)?;
+        out.extend_from_slice(&last_sent)?;
         let end = End {
             side: Side::ClientRead,
             mode,
             length: 0,
             retries: config.retries,
             retries_left: config.retries,
-            newest,
-            newest_to: to,
+            last_sent,
+            last_sent_to: to,
             phase: Phase::Waiting {
                 asked: *asked,
                 limit: config.limits.max_file,
@@ -182,11 +182,11 @@ impl End {
     ) -> Result<(End, Step), OpenFault>
         requires { AreFilesOf Side.ServerRead files.old }
         ensures serves { IfOk result (λ opened. ServesFiles S.left agreed.now peer mode length retries files.old files.new opened.0
-            × (out.new.items ≡ out.old.items ++ opened.0.newest)) }
+            × (out.new.items ≡ out.old.items ++ opened.0.last_sent)) }
         ensures step { IfOk result (λ opened. opened.1 ≡ opening_step peer) }
         ensures ok { OnOk result (CanServe mode agreed.now length) }
-        ensures bad_request { IsErrOf result OpenFault.BadRequest → IsCarried mode agreed.now → ⊥ }
-        ensures too_large { IsErrOf result OpenFault.TooLarge → IsCarried mode agreed.now × (65535 * size agreed.now ≤ length) }
+        ensures bad_request { IsErrOf result OpenFault.BadRequest → IsSupported mode agreed.now → ⊥ }
+        ensures too_large { IsErrOf result OpenFault.TooLarge → IsSupported mode agreed.now × (65535 * size agreed.now ≤ length) }
         ensures source { IsErrOf result OpenFault.SourceFault → CanServe mode agreed.now length × FilesCannotStart S.left S.may_fail length files.old }
         ensures memory { IsErrOf result OpenFault.Memory → CanServe mode agreed.now length × KeepsFiles S.left K.held files.old files.new }
         ensures err { OnErr result (out.new.items ≡ out.old.items) }
@@ -196,26 +196,26 @@ impl End {
         if mode != Mode::Octet || !agreed.is_empty() {
             return Err(OpenFault::BadRequest);
         }
-        if length >= 65_535 * u64::from(PLAIN_SIZE) {
+        if length >= 65_535 * u64::from(DEFAULT_BLOCK_SIZE) {
             return Err(OpenFault::TooLarge);
         }
         let Files::Source(source) = files else {
             unreachable!()
         };
-        let mut newest = Vec::new(alloc);
-        match start_with(source, length, &mut newest, out)? {
-            Filling::Changed => Err(OpenFault::SourceFault),
-            Filling::Whole => {
+        let mut last_sent = Vec::new(alloc);
+        match start_with(source, length, &mut last_sent, out)? {
+            BlockRead::Changed => Err(OpenFault::SourceFault),
+            BlockRead::Whole => {
                 let end = End {
                     side: Side::ServerRead,
                     mode,
                     length,
                     retries,
                     retries_left: retries,
-                    newest,
-                    newest_to: peer,
+                    last_sent,
+                    last_sent_to: peer,
                     phase: Phase::Sending {
-                        terms: plain_terms(peer),
+                        terms: default_terms(peer),
                         number: 1,
                     },
                 };

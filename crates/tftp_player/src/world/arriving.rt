@@ -3,7 +3,7 @@
 ghost use Rattle.std.specs.Prelude.{◌≡◌, ◌≢◌, true, false, ◌<◌, ◌+◌, length, IfOk, IfErr, OnErr};
 ghost use Rattle.tftp_negotiate.specs.Ranges.{IsBlockSize};
 ghost use Rattle.tftp_player.specs.Machine.{request_port, host_of, Elsewhere};
-ghost use Rattle.tftp_player.specs.Stage.{IsStaged, StageHears};
+ghost use Rattle.tftp_player.specs.Stage.{IsStaged, StageDatagramStep};
 ghost use Rattle.tftp_player.specs.Today.{StepToday, ArrivesToday, ArrivalRefuses, StageAsks, StageArrives, StageRefuses};
 ghost use Rattle.tftp_player.specs.WorldSteps.{WorldRefuses};
 ghost use Rattle.tftp_player.specs.declared.event.Event.TheVariants.{Deliver, Stray};
@@ -11,7 +11,7 @@ ghost use Rattle.tftp_player.specs.declared.event.Event.TheVariants.{Deliver, St
 use crate::effect::{Effect, no_effect, write_down};
 use crate::hosts::{REQUEST_PORT, place_of, port_of, server_at};
 use crate::player::Player;
-use crate::served::wanted;
+use crate::served::requested_end;
 use crate::world::{World, is_recorded_closed};
 use crate::{Report, WorldFault};
 use std::alloc::Global;
@@ -115,13 +115,13 @@ fn take(
         return ask(alloc, server, players, records, from, bytes);
     }
     match place_of(to.port, players.len()) {
-        Some(place) => hear(alloc, server, players, records, place, from, to, bytes),
+        Some(place) => on_datagram(alloc, server, players, records, place, from, to, bytes),
         None => Ok(no_effect(alloc, to)),
     }
 }
 
 /// The end at this place takes a datagram, unless it is closed or on the other host.
-fn hear(
+fn on_datagram(
     alloc: Global,
     server: &mut Server<MemStore>,
     players: &mut Vec<Player>,
@@ -133,7 +133,7 @@ fn hear(
 ) -> Result<Effect, WorldFault>
     requires staged { IsStaged server.old players.old.items records.old.items }
     requires place { (place < length players.old.items) × (to.port ≡ 1024 + place) }
-    ensures hears { IfOk result (λ effect. StageHears place from to bytes.now server.old server.new players.old.items players.new.items effect) }
+    ensures steps { IfOk result (λ effect. StageDatagramStep place from to bytes.now server.old server.new players.old.items players.new.items effect) }
     ensures staged { IsStaged server.new players.new.items records.new.items }
     ensures memory { IfErr result (λ fault. fault ≡ WorldFault.Memory) }
     ensures err { OnErr result ((server.new ≡ server.old) × (players.new.items ≡ players.old.items)) }
@@ -146,7 +146,7 @@ fn hear(
     if is_recorded_closed(records, place) {
         return Ok(no_effect(alloc, to));
     }
-    match player.hear(alloc, server, to.port, from, bytes) {
+    match player.on_datagram(alloc, server, to.port, from, bytes) {
         Ok((effect, record)) => {
             records[place] = (to.port, record);
             Ok(effect)
@@ -189,7 +189,7 @@ fn ask(
     let Ok(()) = records.reserve(1) else {
         return Err(WorldFault::Memory);
     };
-    let Ok(wanted) = wanted(alloc, server.store(), bytes) else {
+    let Ok(requested_end) = requested_end(alloc, server.store(), bytes) else {
         return Err(WorldFault::Memory);
     };
     let mut out = Vec::new(alloc);
@@ -204,7 +204,9 @@ fn ask(
             closed: None,
         });
     };
-    let Some(served) = wanted else { unreachable!() };
+    let Some(served) = requested_end else {
+        unreachable!()
+    };
     let Some(record) = server.record(port) else {
         unreachable!()
     };

@@ -1,4 +1,4 @@
-//! What the request port makes of a request to read.
+//! How the request port handles a request to read.
 
 ghost use Rattle.std.specs.Prelude.{◌≡◌, ◌++◌, [], ◌<◌, List, ℕ, Option, Some, None, Ok, false, length, option_map, IfOk, IfErr, OnErr};
 ghost use Rattle.tftp_wire.specs.declared.mode.Mode.TheVariants.{Octet};
@@ -6,14 +6,14 @@ ghost use Rattle.tftp_wire.specs.Borrowed.{owned};
 ghost use Rattle.tftp_wire.specs.declared.packet.Packet.{Packet};
 ghost use Rattle.tftp_file.specs.Memory.{MemSinkState};
 ghost use Rattle.tftp_file.specs.Path.{path_of_name};
-ghost use Rattle.tftp_ends.specs.Row.{Says};
-ghost use Rattle.tftp_server.specs.Request.{Asking, Left, NamesFile, PortStep, Names, AsksToRead, AnswersRead, asked_of, came_to, carried, decided_bytes, plain_read};
+ghost use Rattle.tftp_ends.specs.Action.{Decodes};
+ghost use Rattle.tftp_server.specs.Request.{Asking, Left, NamesFile, PortStep, Names, AsksToRead, AnswersRead, asked_of, came_to, supported, decided_bytes, default_read};
 
 use crate::fault::ServerFault;
 use crate::server::Server;
 use crate::store::{Opening, Store};
 use crate::transfer::Transfer;
-use tftp_ends::{End, Endpoint, ErrorReply, OpenFault, hear};
+use tftp_ends::{End, Endpoint, ErrorReply, OpenFault, decode_packet};
 use tftp_file::{Files, Path, PathFault, StoreFault, path_of};
 use tftp_negotiate::Agreed;
 use tftp_wire::{Mode, PacketRef};
@@ -28,10 +28,10 @@ pub(crate) enum Decision<F> {
 }
 
 /// The name in a request to read in octet.
-fn file_name<'a>(heard: &Option<PacketRef<'a>>) -> Option<&'a [u8]>
-    ensures { NamesFile (carried (option_map owned heard.now)) (option_map (λ name. name.now) result) }
+fn file_name<'a>(decoded: &Option<PacketRef<'a>>) -> Option<&'a [u8]>
+    ensures { NamesFile (supported (option_map owned decoded.now)) (option_map (λ name. name.now) result) }
 {
-    match heard {
+    match decoded {
         Some(PacketRef::Read(request)) => match request.mode {
             Mode::Octet => Some(request.name),
             Mode::Netascii => None,
@@ -86,7 +86,7 @@ impl<S: Store> Server<S> {
         path: Path,
         out: &mut Vec<u8>,
     ) -> Result<Decision<S::Source>, ServerFault>
-        ensures asks { IfOk result (λ decision. (name : List ℕ) → AsksToRead S.Source.left S.Source.may_fail S.stored (λ (draft : MemSinkState). None) path (plain_read name)
+        ensures asks { IfOk result (λ decision. (name : List ℕ) → AsksToRead S.Source.left S.Source.may_fail S.stored (λ (draft : MemSinkState). None) path (default_read name)
             (asked_of self.now from tid) (came_to decision (asked_of self.now from tid))) }
         ensures sent { IfOk result (λ decision. out.new.items ≡ out.old.items ++ decided_bytes decision) }
         ensures memory { IfErr result (λ fault. fault ≡ ServerFault.Memory) }
@@ -110,7 +110,7 @@ impl<S: Store> Server<S> {
         name: &[u8],
         out: &mut Vec<u8>,
     ) -> Result<Decision<S::Source>, ServerFault>
-        ensures names { IfOk result (λ decision. Names S.Source.left S.Source.may_fail S.stored (λ (draft : MemSinkState). None) false (plain_read name.now) (path_of_name name.now)
+        ensures names { IfOk result (λ decision. Names S.Source.left S.Source.may_fail S.stored (λ (draft : MemSinkState). None) false (default_read name.now) (path_of_name name.now)
             (asked_of self.now from tid) (came_to decision (asked_of self.now from tid))) }
         ensures sent { IfOk result (λ decision. out.new.items ≡ out.old.items ++ decided_bytes decision) }
         ensures memory { IfErr result (λ fault. fault ≡ ServerFault.Memory) }
@@ -137,13 +137,13 @@ impl<S: Store> Server<S> {
         bytes: &[u8],
         out: &mut Vec<u8>,
     ) -> Result<Decision<S::Source>, ServerFault>
-        ensures steps { IfOk result (λ decision. (heard : Option Packet) × Says bytes.now heard
-            × PortStep S.Source.left S.Source.may_fail S.stored (λ (draft : MemSinkState). None) (carried heard) (asked_of self.now from tid) (came_to decision (asked_of self.now from tid))) }
+        ensures steps { IfOk result (λ decision. (decoded : Option Packet) × Decodes bytes.now decoded
+            × PortStep S.Source.left S.Source.may_fail S.stored (λ (draft : MemSinkState). None) (supported decoded) (asked_of self.now from tid) (came_to decision (asked_of self.now from tid))) }
         ensures sent { IfOk result (λ decision. out.new.items ≡ out.old.items ++ decided_bytes decision) }
         ensures memory { IfErr result (λ fault. fault ≡ ServerFault.Memory) }
         ensures err { OnErr result (out.new.items ≡ out.old.items) }
     {
-        match file_name(&hear(bytes)) {
+        match file_name(&decode_packet(bytes)) {
             Some(name) => self.read_name(from, tid, name, out),
             None => Ok(Decision::Refuse(ErrorReply::IllegalOperation)),
         }

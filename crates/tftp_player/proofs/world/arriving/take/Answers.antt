@@ -1,6 +1,6 @@
 use Rattle.std.proofs.Common.{◌≡◌, length, refl, rules}
 use Rattle.std.proofs.lemmas.Result.{IfOk-weaker}
-use Rattle.tftp_player.proofs.ArrivalLemmas.{hears_arrives, nobody_arrives, asks_arrive}
+use Rattle.tftp_player.proofs.ArrivalLemmas.{step_arrives, nobody_arrives, asks_arrive}
 use Rattle.tftp_player.proofs.world.arriving.take.Goals as goal
 
 pub returns-then-not-differs-clause-arrives : goal.returns-then-not-differs-clause-arrives
@@ -11,10 +11,10 @@ returns-then-not-differs-clause-arrives c =
 
 pub returns-in-Some-clause-arrives : goal.returns-in-Some-clause-arrives
 returns-in-Some-clause-arrives c =
-    IfOk-weaker c.hear.result _ _
-    (λ effect h. hears_arrives c.args.from c.args.to c.args.bytes.now c.args.server.now c.hear.new.server c.args.players.now.items c.hear.new.players.items effect (c.differs.ensures.differs c.if-not-differs.false) c.requires.staged.kept
+    IfOk-weaker c.on_datagram.result _ _
+    (λ effect h. step_arrives c.args.from c.args.to c.args.bytes.now c.args.server.now c.on_datagram.new.server c.args.players.now.items c.on_datagram.new.players.items effect (c.differs.ensures.differs c.if-not-differs.false) c.requires.staged.kept
     c.in-Some.place c.in-Some.ensures.some.0 h)
-    c.hear.ensures.hears
+    c.on_datagram.ensures.steps
 
 pub returns-in-None-clause-arrives : goal.returns-in-None-clause-arrives
 returns-in-None-clause-arrives c =

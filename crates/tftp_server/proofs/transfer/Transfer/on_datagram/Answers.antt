@@ -13,7 +13,7 @@ invariant_of-self g c =
     (c.on_datagram.new.out.items ≡ c.args.out.now.items)
     (KeepsFiles g.F.Source.left (λ (s : MemSinkState). Some s.holding) c.self.inside.files c.on_datagram.new.files)
     g.F.Source.is_same (λ (s t : MemSinkState). (t.room ≡ s.room) × (t.refuses_commit ≡ s.refuses_commit))
-    c.on_datagram.result c.self.invariant c.on_datagram.ensures.same c.on_datagram.ensures.hears c.on_datagram.ensures.err
+    c.on_datagram.result c.self.invariant c.on_datagram.ensures.same c.on_datagram.ensures.steps c.on_datagram.ensures.err
 
 pub returns-clause-takes : goal.returns-clause-takes
 returns-clause-takes g c =
@@ -23,4 +23,4 @@ returns-clause-takes g c =
     c.args.from c.args.bytes.now c.self.inside.end c.on_datagram.new.self c.self.inside.files c.on_datagram.new.files c.self.inside.path
     c.args.out.now.items c.on_datagram.new.out.items
     g.F.Source.is_same (λ (s t : MemSinkState). (t.room ≡ s.room) × (t.refuses_commit ≡ s.refuses_commit))
-    c.on_datagram.result c.self.invariant.1 c.on_datagram.ensures.same c.on_datagram.ensures.hears)
+    c.on_datagram.result c.self.invariant.1 c.on_datagram.ensures.same c.on_datagram.ensures.steps)

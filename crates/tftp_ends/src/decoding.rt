@@ -2,13 +2,13 @@
 
 ghost use Rattle.std.specs.Prelude.{◌≡◌, ◌↔◌, option_map};
 ghost use Rattle.tftp_wire.specs.Borrowed.{owned};
-ghost use Rattle.tftp_ends.specs.Row.{Says, begins_error};
+ghost use Rattle.tftp_ends.specs.Action.{Decodes, has_error_opcode};
 
 use tftp_wire::{PacketRef, decode_ref};
 
 /// The packet that the bytes spell, if they spell one.
-pub fn hear(bytes: &[u8]) -> Option<PacketRef<'_>>
-    ensures { Says bytes.now (option_map owned result) }
+pub fn decode_packet(bytes: &[u8]) -> Option<PacketRef<'_>>
+    ensures { Decodes bytes.now (option_map owned result) }
 {
     match decode_ref(bytes) {
         Ok(packet) => Some(packet),
@@ -17,8 +17,8 @@ pub fn hear(bytes: &[u8]) -> Option<PacketRef<'_>>
 }
 
 /// Whether a datagram begins as an ERROR does. Such a datagram is never answered.
-pub fn begins_error(bytes: &[u8]) -> bool
-    ensures { result ≡ begins_error bytes.now }
+pub fn has_error_opcode(bytes: &[u8]) -> bool
+    ensures { result ≡ has_error_opcode bytes.now }
 {
     matches!(bytes, [0, 5, ..])
 }

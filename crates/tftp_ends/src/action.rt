@@ -1,4 +1,4 @@
-//! What an end makes of an event, before a file is touched.
+//! How an end handles an event, before a file is touched.
 
 use crate::error_reply::ErrorReply;
 use crate::outcome::Outcome;
@@ -6,15 +6,15 @@ use crate::phase::Terms;
 
 /// What is to be done at an event.
 #[derive(Clone, Copy, Debug, PartialEq, Eq)]
-pub enum Row {
+pub enum Action {
     /// No datagram and no change.
     Ignore,
     /// ERROR 5 to the sender of the datagram, and no change.
     Stranger,
-    /// The newest datagram once more, and no change.
-    Again,
-    /// A timeout with a retry left: the newest datagram once more, for one retry.
-    Retry,
+    /// The last datagram sent once more, and no change.
+    ResendReply,
+    /// A timeout with a retry left: the last datagram sent once more, for one retry.
+    Retransmit,
     /// The first timeout of a dally: it is counted.
     Wait,
     /// Closed in silence.

@@ -3,8 +3,8 @@ use Rattle.std.specs.Prelude.{◌≡◌, ◌≢◌, Bool, true, false, List, ℕ
 use Rattle.tftp_file.specs.Sink.{Holding, Commits}
 use Rattle.tftp_file.specs.declared.fault.StoreFault.{StoreFault}
 use Rattle.tftp_file.specs.declared.fault.StoreFault.TheVariants.{Memory}
-use Rattle.tftp_ends.specs.declared.end.acting.Taking.{Taking}
-use Rattle.tftp_ends.specs.declared.end.acting.Taking.TheVariants.{More, All, Refused}
+use Rattle.tftp_ends.specs.declared.end.acting.BlockStored.{BlockStored}
+use Rattle.tftp_ends.specs.declared.end.acting.BlockStored.TheVariants.{More, All, Refused}
 use Rattle.tftp_ends.specs.declared.error_reply.ErrorReply.TheVariants.{DiskFull}
 use Rattle.tftp_ends.specs.Step.{Done, Appended, commit_reply}
 
@@ -15,27 +15,27 @@ KeepsHolding (Some before) after = after ≡ Some before
 
 module _ {K : Type 0} (held : K → Option Holding) (may_refuse_append : K → List ℕ → StoreFault → Type 0) (may_refuse_commit : K → StoreFault → Type 0) where
   -- what a commit came to
-  abbrev pub committed_as : Result Done StoreFault → Taking
+  abbrev pub committed_as : Result Done StoreFault → BlockStored
   committed_as (Ok done) = All
   committed_as (Err fault) = Refused (commit_reply fault)
 
   -- a sink was asked to commit the whole, and this came of it
-  pub record TakesAll (sink sink' : K) (taking : Taking) : Type 0 where
+  pub record StoresLast (sink sink' : K) (block_stored : BlockStored) : Type 0 where
     pub answer : Result Done StoreFault
     pub commits : Commits (held sink) (held sink') answer
     pub refused : IfErr answer (may_refuse_commit sink)
-    pub comes_to : taking ≡ committed_as answer
+    pub comes_to : block_stored ≡ committed_as answer
 
   -- what follows an append
-  abbrev pub TakesOn : Bool → K → K → Taking → Result Done StoreFault → Type 0
-  TakesOn is_last sink sink' taking (Err fault) = (taking ≡ Refused DiskFull) × (sink' ≡ sink)
-  TakesOn true sink sink' taking (Ok done) = TakesAll sink sink' taking
-  TakesOn false sink sink' taking (Ok done) = (taking ≡ More) × (sink' ≡ sink)
+  abbrev pub StoresOn : Bool → K → K → BlockStored → Result Done StoreFault → Type 0
+  StoresOn is_last sink sink' block_stored (Err fault) = (block_stored ≡ Refused DiskFull) × (sink' ≡ sink)
+  StoresOn true sink sink' block_stored (Ok done) = StoresLast sink sink' block_stored
+  StoresOn false sink sink' block_stored (Ok done) = (block_stored ≡ More) × (sink' ≡ sink)
 
   -- the bytes were appended, and behind the last ones the whole was committed
-  pub record Takes (bytes : List ℕ) (is_last : Bool) (sink sink' : K) (taking : Taking) : Type 0 where
+  pub record StoresBlock (bytes : List ℕ) (is_last : Bool) (sink sink' : K) (block_stored : BlockStored) : Type 0 where
     pub answer : Result Done StoreFault
     pub mid : K
     pub appended : Appended held may_refuse_append may_refuse_commit bytes sink mid answer
     pub memory : answer ≢ Err Memory
-    pub rest : TakesOn is_last mid sink' taking answer
+    pub rest : StoresOn is_last mid sink' block_stored answer

@@ -5,7 +5,7 @@ use Rattle.std.proofs.lemmas.List.{append-nil}
 use Rattle.std.proofs.Math.Seq.{take-append_seam}
 use Rattle.tftp_file.specs.declared.fault.FileFault.TheVariants.{Read}
 use Rattle.tftp_file.specs.Source.{Fills}
-use Rattle.tftp_ends.specs.Step.{Fetches, Offers, data_bytes, error_bytes}
+use Rattle.tftp_ends.specs.Step.{ReadsBlock, AppendsDataOrError, data_bytes, error_bytes}
 use Rattle.tftp_ends.specs.declared.error_reply.ErrorReply.TheVariants.{FileChanged}
 
 -- the bytes that a fill put behind others
@@ -14,14 +14,14 @@ fills_behind (Some left) after want k old new f = (take k left, f.given, record 
 fills_behind None after want k old new f = (f.piece, f.given, record { piece = f.piece; given = refl; count = f.count; bound = f.bound })
 
 -- a whole block came
-pub fetches_whole : (before after : Option (List ℕ)) (may_fail : Type 0) (want k : ℕ) (old new : List ℕ) → k ≡ want → Fills before after want old new (Ok k) → Fetches before after may_fail want old new true
-fetches_whole before after may_fail want k old new e f =
+pub reads_whole : (before after : Option (List ℕ)) (may_fail : Type 0) (want k : ℕ) (old new : List ℕ) → k ≡ want → Fills before after want old new (Ok k) → ReadsBlock before after may_fail want old new true
+reads_whole before after may_fail want k old new e f =
     let p = fills_behind before after want k old new f in
     record { answer = Ok k; piece = p.0; fills = p.2; read = λ h. absurd cc; memory = λ h. cc; whole = sym (eq-eqb k want e); appended = p.1 }
 
 -- less than a block came, and was taken away again
-pub fetches_short : (before after : Option (List ℕ)) (may_fail : Type 0) (want k : ℕ) (old mid new : List ℕ) → k ≢ want → Fills before after want old mid (Ok k) → new ≡ take (length old) mid → Fetches before after may_fail want old new false
-fetches_short before after may_fail want k old mid new ne f e =
+pub reads_short : (before after : Option (List ℕ)) (may_fail : Type 0) (want k : ℕ) (old mid new : List ℕ) → k ≢ want → Fills before after want old mid (Ok k) → new ≡ take (length old) mid → ReadsBlock before after may_fail want old new false
+reads_short before after may_fail want k old mid new ne f e =
     let p = fills_behind before after want k old mid f in
     record {
       answer = Ok k;
@@ -34,8 +34,8 @@ fetches_short before after may_fail want k old mid new ne f e =
     }
 
 -- the source could not be read
-pub fetches_nothing : (before after : Option (List ℕ)) (may_fail : Type 0) (want : ℕ) (old new : List ℕ) → may_fail → new ≡ old → Fetches before after may_fail want old new false
-fetches_nothing before after may_fail want old new m e =
+pub reads_nothing : (before after : Option (List ℕ)) (may_fail : Type 0) (want : ℕ) (old new : List ℕ) → may_fail → new ≡ old → ReadsBlock before after may_fail want old new false
+reads_nothing before after may_fail want old new m e =
     record { answer = Err Read; piece = []; fills = fills_nothing before; read = λ h. m; memory = λ h. cc; whole = refl; appended = e ∙ sym (append-nil old) }
   where
     fills_nothing : (b : Option (List ℕ)) → Fills b after want [] [] (Err Read)
@@ -47,8 +47,8 @@ pub header-then : (number : ℕ) (old piece : List ℕ) → (old ++ data_bytes n
 header-then number old piece = append_assoc old (data_bytes number []) piece
 
 -- a whole block behind a DATA's header
-pub offers_whole : (before after : Option (List ℕ)) (may_fail : Type 0) (number want : ℕ) (old mid new : List ℕ) → mid ≡ old ++ data_bytes number [] → Fetches before after may_fail want mid new true → Offers before after may_fail number want old new true
-offers_whole before after may_fail number want old mid new e f =
+pub appends_whole : (before after : Option (List ℕ)) (may_fail : Type 0) (number want : ℕ) (old mid new : List ℕ) → mid ≡ old ++ data_bytes number [] → ReadsBlock before after may_fail want mid new true → AppendsDataOrError before after may_fail number want old new true
+appends_whole before after may_fail number want old mid new e f =
     record {
       answer = f.answer;
       piece = f.piece;
@@ -60,6 +60,6 @@ offers_whole before after may_fail number want old mid new e f =
     }
 
 -- no block, and the header taken away again
-pub offers_none : (before after : Option (List ℕ)) (may_fail : Type 0) (number want : ℕ) (old mid left new : List ℕ) → Fetches before after may_fail want mid left false → new ≡ old ++ error_bytes FileChanged → Offers before after may_fail number want old new false
-offers_none before after may_fail number want old mid left new f e =
+pub appends_none : (before after : Option (List ℕ)) (may_fail : Type 0) (number want : ℕ) (old mid left new : List ℕ) → ReadsBlock before after may_fail want mid left false → new ≡ old ++ error_bytes FileChanged → AppendsDataOrError before after may_fail number want old new false
+appends_none before after may_fail number want old mid left new f e =
     record { answer = f.answer; piece = f.piece; fills = f.fills; read = f.read; memory = f.memory; whole = f.whole; appended = e }

@@ -1,5 +1,5 @@
 use Rattle.tftp_player.proofs.ServingLemmas.{times_out_held, served_times_out}
-use Rattle.tftp_player.proofs.served.Served.time_out.Goals as goal
+use Rattle.tftp_player.proofs.served.Served.on_timeout.Goals as goal
 
 pub conclude-record-requires : goal.conclude-record-requires
 conclude-record-requires c = times_out_held _ _ _ _ _ _ c.in-Ok.ensures.steps

@@ -1,0 +1,78 @@
+-- How an end handles an event, whoever and wherever it is.
+use Rattle.std.specs.Prelude.{ℕ, ◌≡◌, ◌==◌, ◌&&◌, not, Bool, false, nat_eq, if◌then◌else◌, List, [], ◌∷◌, Option, Some, None, is_none}
+use Rattle.std.specs.Cmp.Lexicographic.{pointwise}
+use Rattle.tftp_wire.specs.declared.packet.Packet.{Packet}
+use Rattle.tftp_wire.specs.declared.fault.PacketFault.{PacketFault}
+use Rattle.tftp_wire.specs.Spelling.{Spells}
+use Rattle.tftp_wire.specs.Reading.{first_fault}
+use Rattle.tftp_ends.specs.declared.endpoint.Endpoint.{Endpoint}
+use Rattle.tftp_ends.specs.declared.outcome.Outcome.TheVariants as outcomes
+use Rattle.tftp_ends.specs.declared.phase.Dally.TheVariants.{Fresh, Waited}
+use Rattle.tftp_ends.specs.declared.phase.Phase.{Phase}
+use Rattle.tftp_ends.specs.declared.phase.Phase.TheVariants.{Waiting, Sending, Receiving, Dallying, Closed}
+use Rattle.tftp_ends.specs.declared.phase.Terms.{Terms}
+use Rattle.tftp_ends.specs.declared.action.Action.{Action}
+use Rattle.tftp_ends.specs.declared.action.Action.TheVariants.{Ignore, Stranger, Retransmit, Wait, Close}
+use Rattle.tftp_ends.specs.End.{EndState, is_sender, is_client, terms_of}
+use Rattle.tftp_ends.specs.Waiting.{reader_action, writer_action}
+use Rattle.tftp_ends.specs.Sender.{sender_action}
+use Rattle.tftp_ends.specs.Receiver.{receiver_action, dally_action}
+
+-- what a datagram's bytes say: the packet that they spell, or that they spell none
+abbrev pub Decodes : List ℕ → Option Packet → Type 0
+Decodes bytes (Some packet) = Spells packet bytes
+Decodes bytes None = (fault : PacketFault) × (first_fault bytes ≡ Some fault)
+
+-- the datagram begins as an ERROR does: it is never answered
+abbrev pub has_error_opcode : List ℕ → Bool
+has_error_opcode (high ∷ low ∷ rest) = high == 0 && (low == 5)
+has_error_opcode (high ∷ []) = false
+has_error_opcode [] = false
+
+-- the same address
+abbrev pub same_address : Endpoint → Endpoint → Bool
+same_address a b = pointwise nat_eq a.ip b.ip
+
+-- the same address and the same port
+abbrev pub same_endpoint : Endpoint → Endpoint → Bool
+same_endpoint a b = same_address a b && (a.port == b.port)
+
+-- the datagram isn't from the other end; before there is one, it isn't from the server's address
+abbrev pub is_stranger : Option Terms → Endpoint → Endpoint → Bool
+is_stranger None to from = not (same_address to from)
+is_stranger (Some terms) to from = not (same_endpoint terms.peer from)
+
+-- what begins as an ERROR and is none ends the transfer in silence, but not a dally
+abbrev pub garbled_action : Phase → Action
+garbled_action (Waiting asked limit) = Close outcomes.Illegal
+garbled_action (Sending terms number) = Close outcomes.Illegal
+garbled_action (Receiving terms number) = Close outcomes.Illegal
+garbled_action (Dallying terms number dally) = Ignore
+garbled_action (Closed terms number complete outcome) = Ignore
+
+-- how a client that waits handles a packet
+abbrev pub waiting_action : EndState → Endpoint → Option Packet → Phase → Action
+waiting_action e from decoded (Waiting asked limit) =
+    if is_sender e.side then writer_action e.mode asked limit e.length from decoded else reader_action e.mode asked limit from decoded
+waiting_action e from decoded _ = Ignore
+
+-- how an open end handles a packet from its peer, or from the server while it has none
+abbrev pub packet_action : EndState → Endpoint → Option Packet → Phase → Action
+packet_action e from decoded (Waiting asked limit) = waiting_action e from decoded (Waiting asked limit)
+packet_action e from decoded (Sending terms number) = sender_action (is_client e.side) e.length terms number decoded
+packet_action e from decoded (Receiving terms number) = receiver_action (is_client e.side) e.mode e.held terms number decoded
+packet_action e from decoded (Dallying terms number dally) = dally_action number decoded
+packet_action e from decoded (Closed terms number complete outcome) = Ignore
+
+-- how an open end handles a datagram: first from whom it is, then whether it can be answered at all
+abbrev pub datagram_action : EndState → Endpoint → List ℕ → Option Packet → Action
+datagram_action e from bytes decoded =
+    if is_stranger (terms_of e.phase) e.last_sent_to from then (if has_error_opcode bytes then Ignore else Stranger)
+    else if has_error_opcode bytes && is_none decoded then garbled_action e.phase
+    else packet_action e from decoded e.phase
+
+-- how an open end handles a timeout (RFC 1350, sections 2 and 6)
+abbrev pub timeout_action : ℕ → Phase → Action
+timeout_action retries_left (Dallying terms number Fresh) = Wait
+timeout_action retries_left (Dallying terms number Waited) = Close outcomes.Complete
+timeout_action retries_left _ = if retries_left == 0 then Close outcomes.TimedOut else Retransmit

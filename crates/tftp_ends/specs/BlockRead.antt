@@ -1,0 +1,9 @@
+-- What came of the wish for a block.
+use Rattle.std.specs.Prelude.{Bool, true, false}
+use Rattle.tftp_ends.specs.declared.end.acting.BlockRead.{BlockRead}
+use Rattle.tftp_ends.specs.declared.end.acting.BlockRead.TheVariants.{Whole, Changed}
+
+-- the block came
+abbrev pub is_whole : BlockRead → Bool
+is_whole Whole = true
+is_whole Changed = false

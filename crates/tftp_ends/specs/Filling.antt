@@ -1,9 +1,0 @@
--- What came of the wish for a block.
-use Rattle.std.specs.Prelude.{Bool, true, false}
-use Rattle.tftp_ends.specs.declared.end.acting.Filling.{Filling}
-use Rattle.tftp_ends.specs.declared.end.acting.Filling.TheVariants.{Whole, Changed}
-
--- the block came
-abbrev pub is_whole : Filling → Bool
-is_whole Whole = true
-is_whole Changed = false
