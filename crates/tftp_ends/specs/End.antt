@@ -82,6 +82,15 @@ abbrev pub timeout_of : Option Terms → Option ℕ
 timeout_of None = None
 timeout_of (Some terms) = terms.timeout
 
+-- a number, or 1
+abbrev pub or_one : Option ℕ → ℕ
+or_one None = 1
+or_one (Some number) = number
+
+-- the seconds of silence before a timeout: the agreed ones, or 1
+abbrev pub interval_of : Option Terms → ℕ
+interval_of terms = or_one (timeout_of terms)
+
 -- what an end tells of itself
 abbrev pub record_of : EndState → Record
 record_of e =

@@ -54,7 +54,7 @@ impl Model for End {
 }
 
 impl End {
-    ghost use Rattle.tftp_ends.specs.End.{record_of, outcome_of, terms_of};
+    ghost use Rattle.tftp_ends.specs.End.{record_of, outcome_of, terms_of, interval_of};
     ghost use Rattle.tftp_ends.specs.Action.{Decodes, datagram_action, packet_action, garbled_action, is_stranger, timeout_action};
     ghost use Rattle.tftp_ends.specs.Sound.{ActionFits};
     ghost use Rattle.tftp_ends.specs.Files.{AreFilesOf, KeepsFiles, AreSame};
@@ -74,6 +74,22 @@ impl End {
             complete: self.phase.is_complete(),
             outcome: self.phase.outcome(),
         }
+    }
+
+    /// How the end closed, once it is closed.
+    pub fn outcome(&self) -> Option<Outcome>
+        ensures { result ≡ outcome_of self.now.phase }
+    {
+        self.phase.outcome()
+    }
+
+    /// The seconds that the caller lets pass in silence before a timeout: the agreed ones (RFC 2349,
+    /// "Timeout Interval Option Specification"), or 1.
+    pub fn interval(&self) -> u8
+        ensures { result ≡ interval_of (terms_of self.now.phase) }
+    {
+        let agreed = self.phase.terms().and_then(|terms| terms.timeout);
+        agreed.unwrap_or(1)
     }
 
     /// Whether a datagram from there is not from the other end, or, before there is one, not from
@@ -171,7 +187,7 @@ impl End {
     fn is_closed(&self) -> bool
         ensures { result ≡ is_some (outcome_of self.now.phase) }
     {
-        self.phase.outcome().is_some()
+        self.outcome().is_some()
     }
 
     /// Where the end stands.

@@ -1,6 +1,7 @@
 //! Where a datagram comes from or goes to.
 
 use std::fmt;
+use std::net::{Ipv4Addr, SocketAddrV4};
 
 /// An IPv4 address and a UDP port: with the port of its other end, the transfer identifiers of a
 /// transfer (RFC 1350, section 4).
@@ -22,5 +23,28 @@ impl fmt::Display for Endpoint {
         let [a, b, c, d] = self.ip;
         let port = self.port;
         write!(f, "{a}.{b}.{c}.{d}:{port}")
+    }
+}
+
+impl From<SocketAddrV4> for Endpoint {
+    ghost use Rattle.tftp_ends.specs.Endpoint.{IsSameAddress};
+
+    ghost from_gives = { λ address endpoint. IsSameAddress endpoint address };
+
+    fn from(address: SocketAddrV4) -> Endpoint {
+        Endpoint {
+            ip: address.ip().octets(),
+            port: address.port(),
+        }
+    }
+}
+
+impl From<Endpoint> for SocketAddrV4 {
+    ghost use Rattle.tftp_ends.specs.Endpoint.{IsSameAddress};
+
+    ghost from_gives = { λ endpoint address. IsSameAddress endpoint address };
+
+    fn from(endpoint: Endpoint) -> SocketAddrV4 {
+        SocketAddrV4::new(Ipv4Addr::from_octets(endpoint.ip), endpoint.port)
     }
 }

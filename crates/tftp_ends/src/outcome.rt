@@ -1,11 +1,12 @@
 //! How a transfer ended, and whose fault it was.
 
 ghost use Rattle.std.specs.Prelude.{◌≡◌};
-ghost use Rattle.tftp_ends.specs.Outcome.{number_of};
+ghost use Rattle.tftp_ends.specs.Outcome.{number_of, refusal_word};
 
+use std::fmt;
 use tftp_negotiate::Refusal;
 
-/// How an end closed. `{:?}` writes the words that the programs print.
+/// How an end closed. `{}` writes the words that the programs print.
 #[derive(Clone, Copy, Debug, PartialEq, Eq)]
 pub enum Outcome {
     /// All was sent and acknowledged, or stored, committed and acknowledged.
@@ -43,6 +44,42 @@ impl Outcome {
             Outcome::StoreFault => 7,
             Outcome::SourceFault => 8,
             Outcome::NotNetascii => 9,
+        }
+    }
+}
+
+/// The word for a refused OACK.
+fn refusal_word(refusal: Refusal) -> &'static str
+    ensures { result.now ≡ refusal_word refusal }
+{
+    match refusal {
+        Refusal::Repeated => "Repeated",
+        Refusal::TooLarge => "TooLarge",
+        Refusal::NotAsked => "NotAsked",
+        Refusal::BadValue => "BadValue",
+    }
+}
+
+impl fmt::Display for Outcome {
+    ghost use Rattle.std.specs.Prelude.{Some};
+    ghost use Rattle.tftp_ends.specs.Outcome.{outcome_text};
+
+    ghost output = { λ outcome. Some (outcome_text outcome) };
+
+    fn fmt<W: fmt::Write>(&self, f: &mut fmt::Formatter<W>) -> fmt::Result {
+        match *self {
+            Outcome::Complete => f.write_str("Complete"),
+            Outcome::TimedOut => f.write_str("TimedOut"),
+            Outcome::PeerError(code) => write!(f, "PeerError({code})"),
+            Outcome::Illegal => f.write_str("Illegal"),
+            Outcome::Refused(refusal) => {
+                let word = refusal_word(refusal);
+                write!(f, "Refused({word})")
+            }
+            Outcome::TooLarge => f.write_str("TooLarge"),
+            Outcome::StoreFault => f.write_str("StoreFault"),
+            Outcome::SourceFault => f.write_str("SourceFault"),
+            Outcome::NotNetascii => f.write_str("NotNetascii"),
         }
     }
 }

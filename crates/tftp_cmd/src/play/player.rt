@@ -96,7 +96,7 @@ impl<W: Write + Drop> Player<W> {
             self.write_datagram(place)?;
         }
         if let Some((port, outcome)) = report.closed {
-            writeln!(self.output, "closed {port} {outcome:?}")?;
+            writeln!(self.output, "closed {port} {outcome}")?;
         }
         if report.added.is_none() && report.closed.is_none() {
             writeln!(self.output, "-")?;
@@ -130,7 +130,7 @@ fn write_end<W: Write>(output: &mut W, port: u16, record: &Record) -> Result<(),
     let complete = if record.complete { "yes" } else { "no" };
     write!(output, " size={size} number={number} complete={complete} ")?;
     match record.outcome {
-        Some(outcome) => writeln!(output, "{outcome:?}")?,
+        Some(outcome) => writeln!(output, "{outcome}")?,
         None => writeln!(output, "open")?,
     }
     Ok(())
