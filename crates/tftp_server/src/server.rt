@@ -2,13 +2,13 @@
 
 mod request;
 
-ghost use Rattle.std.specs.Prelude.{◌≡◌, ◌↔◌, ◌⊎◌, ◌++◌, List, ℕ, [], None, option_map, is_some, IsSome, if◌then◌else◌, IfOk, IfErr, IsErrOf, OnOk, OnErr};
+ghost use Rattle.std.specs.Prelude.{◌≡◌, ◌↔◌, ◌⊎◌, ◌++◌, List, ℕ, [], None, option_map, is_some, IsSome, if◌then◌else◌, false, IfOk, IfErr, IsErrOf, OnOk, OnErr};
 ghost use Rattle.std.specs.Map.{keys_of};
 ghost use Rattle.tftp_ends.specs.End.{record_of};
 ghost use Rattle.tftp_file.specs.Memory.{MemSinkState};
 ghost use Rattle.tftp_server.specs.Config.{IsConfig};
 ghost use Rattle.tftp_server.specs.Request.{SupportedStep, asked_of};
-ghost use Rattle.tftp_server.specs.State.{at, taken_of, without};
+ghost use Rattle.tftp_server.specs.State.{at, is_open, taken_of, without};
 ghost use Rattle.tftp_server.specs.Steps.{TimesOut, TimeoutFault, TakesDatagram, DatagramFault, KeepsHeld};
 ghost use Rattle.std.specs.Borrow.{Lends, sem};
 
@@ -83,6 +83,7 @@ impl<S: Store> Server<S> {
     pub fn on_timeout(&mut self, tid: u16, out: &mut Vec<u8>) -> Result<Step, ServerFault>
         ensures steps { IfOk result (λ step. TimesOut tid self.old.held self.new.held step out.old.items out.new.items) }
         ensures rest { self.new ≡ record self.old { held = self.new.held } }
+        ensures no_such_tid { IsErrOf result ServerFault.NoSuchTid ↔ (is_open (at tid self.old.held) ≡ false) }
         ensures fault { IfErr result (TimeoutFault (at tid self.old.held)) }
         ensures err { OnErr result ((self.new ≡ self.old) × (out.new.items ≡ out.old.items)) }
     {
@@ -109,6 +110,7 @@ impl<S: Store> Server<S> {
     ) -> Result<Step, ServerFault>
         ensures takes { IfOk result (λ step. TakesDatagram S.Source.left S.Source.may_fail tid from bytes.now self.old.held self.new.held step out.old.items out.new.items) }
         ensures rest { self.new ≡ record self.old { held = self.new.held } }
+        ensures no_such_tid { IsErrOf result ServerFault.NoSuchTid ↔ (is_open (at tid self.old.held) ≡ false) }
         ensures fault { IfErr result (DatagramFault from bytes.now (at tid self.old.held)) }
         ensures err { OnErr result (KeepsHeld S.Source.left S.Source.may_fail tid (at tid self.old.held) self.old.held self.new.held × (out.new.items ≡ out.old.items)) }
     {
