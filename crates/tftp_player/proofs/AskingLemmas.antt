@@ -15,6 +15,7 @@ use Rattle.tftp_ends.specs.declared.record.Record.{Record}
 use Rattle.tftp_ends.specs.Action.{Decodes}
 use Rattle.tftp_server.specs.declared.opened.Opened.{Opened}
 use Rattle.tftp_server.specs.Request.{SupportedStep, supported, supported_read, default_read, asked_of}
+use Rattle.tftp_server.specs.Memory.{memory_meaning}
 use Rattle.tftp_server.specs.Store.{Stored, Drafted, FileList}
 use Rattle.tftp_player.specs.Machine.{Endpoint, request_port}
 use Rattle.tftp_player.specs.Effect.{said_by, report_by}
@@ -95,12 +96,12 @@ module _ (from : Endpoint) (bytes : List ℕ) (before : PlayedServer) (ps : List
   said = says_something bytes range
 
   did : (sent : List Datagram) (after : PlayedServer) (opened : Opened) (out : List ℕ) →
-      SupportedStep (λ (s : List ℕ). Some s) never_fails (λ (s : Stored). Some s) untold bytes (asked_of before from port) (record { new = after; opened = opened; sent = out }) →
+      SupportedStep (memory_meaning untold) bytes (asked_of before from port) (record { new = after; opened = opened; sent = out }) →
       PortDid untold (w sent) (service (w sent) bytes (supported said.0)) (asked_of before from port) (record { new = after; opened = opened; sent = out })
   did sent after opened out h = supported_did untold (w sent) (asked_of before from port) (record { new = after; opened = opened; sent = out }) (is_server sent) max bytes said.0 said.1 h
 
   module _ (after : PlayedServer) (opened : Opened) (out : List ℕ)
-      (h : SupportedStep (λ (s : List ℕ). Some s) never_fails (λ (s : Stored). Some s) untold bytes (asked_of before from port) (record { new = after; opened = opened; sent = out }))
+      (h : SupportedStep (memory_meaning untold) bytes (asked_of before from port) (record { new = after; opened = opened; sent = out }))
       (none : opened.tid ≡ None) where
     abbrev result : PortLeft untold
     result = record { new = after; opened = opened; sent = out }
@@ -150,7 +151,7 @@ module _ (from : Endpoint) (bytes : List ℕ) (before : PlayedServer) (ps : List
         (subst (λ (qs : List Player). IsStaged before qs records0) (sym a) (subst (λ (rs : List (ℕ × Record)). IsStaged before ps rs) (sym b) staged))
 
   module _ (after : PlayedServer) (opened : Opened) (out : List ℕ)
-      (h : SupportedStep (λ (s : List ℕ). Some s) never_fails (λ (s : Stored). Some s) untold bytes (asked_of before from port) (record { new = after; opened = opened; sent = out }))
+      (h : SupportedStep (memory_meaning untold) bytes (asked_of before from port) (record { new = after; opened = opened; sent = out }))
       (t : ℕ) (told : opened.tid ≡ Some t) (o : Option Served) (requests : IsRequested before.store.files bytes o) where
     abbrev result' : PortLeft untold
     result' = record { new = after; opened = opened; sent = out }

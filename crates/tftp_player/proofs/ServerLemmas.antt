@@ -1,6 +1,6 @@
 -- What the server's request port did is what the world says of it, for a store and for sources that tell what they hold.
 use Rattle.std.proofs.Common.{◌≡◌, ◌≢◌, ℕ, ◌*◌, ◌<◌, Bool, true, false, List, [], ◌∷◌, length, get_or, take, drop, min, Option, Some, None, Result, Ok, Err, refl, sym, ap, ◌∙◌, subst, arith, inl, inr}
-use Rattle.std.specs.Prelude.{if◌then◌else◌, nat_lt, nat_le}
+use Rattle.std.specs.Prelude.{IfErr, if◌then◌else◌, nat_lt, nat_le}
 use Rattle.std.specs.Bool.{MatchBool}
 use Rattle.std.proofs.lemmas.Bool.{true≢false, ltb-true, eq-eqb}
 use Rattle.std.proofs.lemmas.List.{take_min, drop_min}
@@ -42,6 +42,7 @@ use Rattle.tftp_ends.specs.Step.{block_length, data_bytes, result_count_is}
 use Rattle.tftp_ends.specs.Waiting.{default_terms, agreed_terms}
 use Rattle.tftp_server.specs.Request.{Asking, Left, refusing, silent, opening, accept_reply, AnswersRead, ReadsFrom, Names, PortStep, RequestStep, SupportedStep, supported, supported_read}
 use Rattle.tftp_server.specs.State.{Held, ServerState}
+use Rattle.tftp_server.specs.Memory.{MayRefuseOpen, memory_meaning}
 use Rattle.tftp_server.specs.Store.{Stored, Drafted, Opens, measured, file_at as file_under}
 use Rattle.tftp_server.specs.declared.store.Opening.{Opening}
 use Rattle.tftp_player.specs.Machine.{Endpoint}
@@ -197,7 +198,7 @@ module _ {D : Type 0} (drafted : D → Option Drafted) where
 
     -- the answer to the options of a read
     by_answer : (request : Request) (path file : List ℕ) (a : Result (List Known) Refusal) → answer request.options kinds.Read request.mode (measured request.mode file) w.limits ≡ a →
-        AnswersRead (λ (s : List ℕ). Some s) never_fails (λ (s : Stored). Some s) drafted path request.mode (measured request.mode file) (wire_text request.mode file) a asking result →
+        AnswersRead (memory_meaning drafted) path request.mode (measured request.mode file) (wire_text request.mode file) a asking result →
         Did (sending path file request.mode a)
     by_answer request path file (Err refusal) e h = h ∙ ap (λ (reply : ErrorReply). port_refusing reply asking) (same_reply refusal)
     by_answer request path file (Ok agreed) e h =
@@ -222,40 +223,40 @@ module _ {D : Type 0} (drafted : D → Option Drafted) where
 
     -- the file was opened, or is not there
     by_file : (request : Request) (path : List ℕ) (file : Result (Opening (List ℕ)) StoreFault) (there : Option (List ℕ)) → file_at w.files path ≡ there →
-        Opens (λ (s : List ℕ). Some s) (Some asking.old.store) path request.mode file →
-        ReadsFrom (λ (s : List ℕ). Some s) never_fails (λ (s : Stored). Some s) drafted path request file asking result → Did (read_service w request path there)
-    by_file request path (Ok opened) None e opens h =
+        Opens (λ (s : List ℕ). Some s) (Some asking.old.store) path request.mode file → IfErr file (MayRefuseOpen asking.old.store path) →
+        ReadsFrom (memory_meaning drafted) path request file asking result → Did (read_service w request path there)
+    by_file request path (Ok opened) None e opens refused h =
         absurd (let f : None ≡ Some opens.0 = sym e ∙ (ap (λ (files : List StoredFile). file_at files path) (sym s.files) ∙ opens.1) in cc)
-    by_file request path (Ok opened) (Some file) e opens h =
+    by_file request path (Ok opened) (Some file) e opens refused h =
         let mode = request.mode in
         let same : opens.0 ≡ file = same_Some opens.0 file (sym opens.1 ∙ (ap (λ (files : List StoredFile). file_at files path) s.files ∙ e)) in
         let source : opened.source ≡ wire_text mode file = same_Some opened.source (wire_text mode file) (opens.2.source ∙ ap (λ (f : List ℕ). Some (wire_text mode f)) same) in
         let count : opened.length ≡ measured mode file = opens.2.length ∙ ap (measured mode) same in
         by_answer request path file (answer request.options kinds.Read mode (measured mode file) w.limits) refl
-        (subst (λ (l : Limits). AnswersRead (λ (s : List ℕ). Some s) never_fails (λ (s : Stored). Some s) drafted path mode (measured mode file) (wire_text mode file) (answer request.options kinds.Read mode (measured mode file) l) asking result) s.limits
-        (subst (λ (t : List ℕ). AnswersRead (λ (s : List ℕ). Some s) never_fails (λ (s : Stored). Some s) drafted path mode (measured mode file) t (answer request.options kinds.Read mode (measured mode file) asking.old.config.limits) asking result) source
-        (subst (λ (n : ℕ). AnswersRead (λ (s : List ℕ). Some s) never_fails (λ (s : Stored). Some s) drafted path mode n opened.source (answer request.options kinds.Read mode n asking.old.config.limits) asking result) count h)))
-    by_file request path (Err store_faults.Missing) None e opens h = h
-    by_file request path (Err store_faults.Missing) (Some file) e opens h =
+        (subst (λ (l : Limits). AnswersRead (memory_meaning drafted) path mode (measured mode file) (wire_text mode file) (answer request.options kinds.Read mode (measured mode file) l) asking result) s.limits
+        (subst (λ (t : List ℕ). AnswersRead (memory_meaning drafted) path mode (measured mode file) t (answer request.options kinds.Read mode (measured mode file) asking.old.config.limits) asking result) source
+        (subst (λ (n : ℕ). AnswersRead (memory_meaning drafted) path mode n opened.source (answer request.options kinds.Read mode n asking.old.config.limits) asking result) count h)))
+    by_file request path (Err store_faults.Missing) None e opens refused h = h
+    by_file request path (Err store_faults.Missing) (Some file) e opens refused h =
         absurd (let f : None ≡ Some file = sym opens ∙ (ap (λ (files : List StoredFile). file_at files path) s.files ∙ e) in cc)
-    by_file request path (Err store_faults.Memory) there e opens h = absurd h
-    by_file request path (Err store_faults.Exists) there e opens h = absurd opens
-    by_file request path (Err store_faults.Full) there e opens h = absurd opens
-    by_file request path (Err store_faults.Io) there e opens h = absurd opens
+    by_file request path (Err store_faults.Memory) there e opens refused h = absurd h
+    by_file request path (Err store_faults.Exists) there e opens refused h = absurd refused
+    by_file request path (Err store_faults.Full) there e opens refused h = absurd refused
+    by_file request path (Err store_faults.Io) there e opens refused h = absurd refused
 
     -- the name is a path, or not
     by_name : (request : Request) (path : Result (List ℕ) PathFault) →
-        Names (λ (s : List ℕ). Some s) never_fails (λ (s : Stored). Some s) drafted false request path asking result → Did (path_service w false request path)
+        Names (memory_meaning drafted) false request path asking result → Did (path_service w false request path)
     by_name request (Err fault) h = h
     by_name request (Ok path) h =
         subst (λ (b : Bool). Did (if b then Refuses ServerBusy else read_service w request path (file_at w.files path)))
         (ap (λ (n : ℕ). nat_le n (length asking.old.held)) s.cap ∙ ap (λ (n : ℕ). nat_le w.cap n) s.count)
         (if_did (nat_le asking.old.config.cap (length asking.old.held)) (Refuses ServerBusy) (read_service w request path (file_at w.files path)) _ _
         (λ b busy. busy)
-        (λ b asks. by_file request path asks.file (file_at w.files path) refl asks.opens asks.goes_on) h)
+        (λ b asks. by_file request path asks.file (file_at w.files path) refl asks.opens asks.refused asks.goes_on) h)
 
     -- the port did at what a datagram says as the world's server does
-    pub port_did : (decoded : Option Packet) → IsNoWrite decoded → PortStep (λ (s : List ℕ). Some s) never_fails (λ (s : Stored). Some s) drafted decoded asking result → Did (packet_service w decoded)
+    pub port_did : (decoded : Option Packet) → IsNoWrite decoded → PortStep (memory_meaning drafted) decoded asking result → Did (packet_service w decoded)
     port_did None no_write h = h
     port_did (Some (Read request)) no_write h = by_name request (path_of_name request.name) h
     port_did (Some (Write request)) no_write h = absurd no_write
@@ -266,19 +267,19 @@ module _ {D : Type 0} (drafted : D → Option Drafted) where
 
     -- and at a datagram
     pub request_did : (bytes : List ℕ) (decoded : Option Packet) → Decodes bytes decoded → IsNoWrite decoded →
-        RequestStep (λ (s : List ℕ). Some s) never_fails (λ (s : Stored). Some s) drafted bytes asking result → Did (service w bytes decoded)
+        RequestStep (memory_meaning drafted) bytes asking result → Did (service w bytes decoded)
     request_did bytes decoded says no_write h =
         if_did (has_error_opcode bytes) Ignores (packet_service w decoded) _ _
         (λ b quiet. quiet)
         (λ b port. let same = says_one bytes port.0 decoded port.1 says in
-        port_did decoded no_write (subst (λ (p : Option Packet). PortStep (λ (s : List ℕ). Some s) never_fails (λ (s : Stored). Some s) drafted p asking result) same port.2)) h
+        port_did decoded no_write (subst (λ (p : Option Packet). PortStep (memory_meaning drafted) p asking result) same port.2)) h
 
     -- and where only what is supported so far has a place
     pub supported_did : (bytes : List ℕ) (decoded : Option Packet) → Decodes bytes decoded →
-        SupportedStep (λ (s : List ℕ). Some s) never_fails (λ (s : Stored). Some s) drafted bytes asking result → Did (service w bytes (supported decoded))
+        SupportedStep (memory_meaning drafted) bytes asking result → Did (service w bytes (supported decoded))
     supported_did bytes decoded says h =
         if_did (has_error_opcode bytes) Ignores (packet_service w (supported decoded)) _ _
         (λ b quiet. quiet)
         (λ b port. let same = says_one bytes port.0 decoded port.1 says in
         port_did (supported decoded) (carries_no_write decoded)
-        (subst (λ (p : Option Packet). PortStep (λ (s : List ℕ). Some s) never_fails (λ (s : Stored). Some s) drafted (supported p) asking result) same port.2)) h
+        (subst (λ (p : Option Packet). PortStep (memory_meaning drafted) (supported p) asking result) same port.2)) h

@@ -1,9 +1,9 @@
 -- A store in memory: how it is made, and when it refuses.
-use Rattle.std.specs.Prelude.{ℕ, ◌≡◌, Bool, true, false, not, ◌&&◌, ◌⊎◌, List, [], ◌∷◌, map, None, IsSome, is_some, ⊤}
+use Rattle.std.specs.Prelude.{ℕ, ◌≡◌, Bool, true, false, not, ◌&&◌, ◌⊎◌, List, [], ◌∷◌, map, Option, Some, None, IsSome, is_some, ⊤}
 use Rattle.std.specs.declared.vec.Vec.{Vec}
 use Rattle.tftp_file.specs.declared.fault.StoreFault.{StoreFault}
 use Rattle.tftp_file.specs.declared.fault.StoreFault.TheVariants.{Missing, Exists, Full, Memory}
-use Rattle.tftp_server.specs.Store.{FileList, Stored, Drafted, file_at, with_file}
+use Rattle.tftp_server.specs.Store.{FileList, Stored, Drafted, StoreMeaning, file_at, with_file}
 
 -- the files of a list, each with its bytes
 abbrev pub contents : {A : Type 0} → List (List ℕ × Vec ℕ A) → FileList
@@ -49,3 +49,15 @@ abbrev pub MayRefuseCommit : Stored → List ℕ → Drafted → StoreFault → 
 MayRefuseCommit stored path draft Exists = (stored.refuses ≡ false) × IsSome (file_at path stored.files)
 MayRefuseCommit stored path draft Full = (stored.refuses ≡ true) ⊎ (file_at path stored.files ≡ None)
 MayRefuseCommit stored path draft _ = ⊥
+
+-- what a store in memory tells of itself, with drafts that tell this
+abbrev pub memory_meaning : {D : Type 0} → (D → Option Drafted) → StoreMeaning Stored (List ℕ) D
+memory_meaning drafted =
+    record {
+      stored = λ s. Some s;
+      left = λ source. Some source;
+      drafted = drafted;
+      may_fail = λ source want. ⊥;
+      may_refuse_open = MayRefuseOpen;
+      may_refuse_begin = MayRefuseBegin;
+    }

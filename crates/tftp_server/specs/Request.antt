@@ -1,5 +1,5 @@
 -- How the request port handles a datagram (RFC 1350, sections 2 and 4; RFC 2347, "Negotiation Protocol").
-use Rattle.std.specs.Prelude.{ℕ, ◌≡◌, ◌*◌, nat_lt, nat_le, Bool, true, false, List, [], ◌∷◌, ◌⊎◌, length, Option, Some, None, Result, Ok, Err}
+use Rattle.std.specs.Prelude.{ℕ, ◌≡◌, ◌*◌, nat_lt, nat_le, Bool, true, false, List, [], ◌∷◌, ◌⊎◌, length, Option, Some, None, Result, Ok, Err, IfErr}
 use Rattle.std.specs.Bool.{MatchBool}
 use Rattle.tftp_wire.specs.Spelling.{canonical}
 use Rattle.tftp_wire.specs.declared.mode.Mode.{Mode}
@@ -35,7 +35,7 @@ use Rattle.tftp_server.specs.declared.server.request.Decision.{Decision}
 use Rattle.tftp_server.specs.declared.server.request.Decision.TheVariants.{Refuse, Open}
 use Rattle.tftp_server.specs.declared.store.Opening.{Opening}
 use Rattle.tftp_server.specs.State.{Held, ServerState, with_new}
-use Rattle.tftp_server.specs.Store.{Stored, Drafted, Opens, Begins}
+use Rattle.tftp_server.specs.Store.{StoreMeaning, Opens, Begins}
 
 -- why no file is opened
 abbrev pub open_reply : StoreFault → ErrorReply
@@ -133,19 +133,19 @@ module _ {S F D : Type 0} where
         sent = held.end.last_sent;
       }
 
-module _ {S F D : Type 0} (left : F → Option (List ℕ)) (may_fail : F → ℕ → Type 0) (stored : S → Option Stored) (drafted : D → Option Drafted) where
+module _ {S F D : Type 0} (meaning : StoreMeaning S F D) where
   -- the end of a read opens with DATA 1 or the OACK
   pub record Serves (path : List ℕ) (mode : Mode) (length : ℕ) (agreed : List Known) (source : F) (asking : Asking S F D) (result : Left S F D) : Type 0 where
     pub rest : F
     pub end : EndState
-    pub serves : ServesRead left agreed asking.from mode length asking.old.config.retries source rest end
+    pub serves : ServesRead meaning.left agreed asking.from mode length asking.old.config.retries source rest end
     pub opens : result ≡ opening (record { end = end; files = Source rest; path = path }) asking.old.store asking
 
   -- or, where no option is agreed and DATA 1 can't be had, the file has changed
   abbrev pub Starts : List ℕ → Mode → ℕ → List Known → F → Asking S F D → Left S F D → Type 0
   Starts path mode length agreed source asking result =
       Serves path mode length agreed source asking result
-      ⊎ ((agreed ≡ []) × CannotStart left may_fail length source × (result ≡ refusing FileChanged asking.old.store asking))
+      ⊎ ((agreed ≡ []) × CannotStart meaning.left meaning.may_fail length source × (result ≡ refusing FileChanged asking.old.store asking))
 
   -- a read whose options are answered: its blocks must be such that they can be numbered
   abbrev pub AnswersRead : List ℕ → Mode → ℕ → F → Result (List Known) Refusal → Asking S F D → Left S F D → Type 0
@@ -163,7 +163,8 @@ module _ {S F D : Type 0} (left : F → Option (List ℕ)) (may_fail : F → ℕ
   -- a read: the store is asked for the file
   pub record AsksToRead (path : List ℕ) (request : Request) (asking : Asking S F D) (result : Left S F D) : Type 0 where
     pub file : Result (Opening F) StoreFault
-    pub opens : Opens left (stored asking.old.store) path request.mode file
+    pub opens : Opens meaning.left (meaning.stored asking.old.store) path request.mode file
+    pub refused : IfErr file (meaning.may_refuse_open asking.old.store path)
     pub goes_on : ReadsFrom path request file asking result
 
   -- a write whose draft was begun, or could not be
@@ -177,7 +178,8 @@ module _ {S F D : Type 0} (left : F → Option (List ℕ)) (may_fail : F → ℕ
   pub record BeginsWrite (path : List ℕ) (mode : Mode) (agreed : List Known) (asking : Asking S F D) (result : Left S F D) : Type 0 where
     pub store : S
     pub draft : Result D StoreFault
-    pub begins : Begins drafted (stored asking.old.store) (stored store) path draft
+    pub begins : Begins meaning.drafted (meaning.stored asking.old.store) (meaning.stored store) path draft
+    pub refused : IfErr draft (meaning.may_refuse_begin asking.old.store path)
     pub goes_on : WritesTo path mode agreed store draft asking result
 
   -- a write: its options are answered before the store is asked

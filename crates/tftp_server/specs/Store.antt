@@ -26,6 +26,15 @@ pub record Drafted : Type 0 where
   pub bytes : List ℕ
   pub committed : Bool
 
+-- what a store, its sources and its drafts tell of themselves, and which faults they may answer
+pub record StoreMeaning (S F D : Type 0) : Type 1 where
+  pub stored : S → Option Stored
+  pub left : F → Option (List ℕ)
+  pub drafted : D → Option Drafted
+  pub may_fail : F → ℕ → Type 0
+  pub may_refuse_open : S → List ℕ → StoreFault → Type 0
+  pub may_refuse_begin : S → List ℕ → StoreFault → Type 0
+
 -- a draft as it begins
 abbrev pub new_draft : Drafted
 new_draft = record { bytes = []; committed = false }
@@ -62,13 +71,13 @@ module _ {S : Type 0} (left : S → Option (List ℕ)) where
     pub source : left opening.source ≡ Some (wire_text mode bytes)
     pub length : opening.length ≡ measured mode bytes
 
-  -- what an opening answers, by what the store holds
+  -- what an opening answers, by what the store holds; out of memory is the last refusal
   abbrev pub Opens : Option Stored → List ℕ → Mode → Result (Opening S) StoreFault → Type 0
   Opens None path mode result = ⊤
   Opens (Some stored) path mode (Ok opening) = (bytes : List ℕ) × (file_at path stored.files ≡ Some bytes) × IsOpening mode bytes opening
   Opens (Some stored) path mode (Err Missing) = file_at path stored.files ≡ None
   Opens (Some stored) path mode (Err Memory) = IsSome (file_at path stored.files)
-  Opens (Some stored) path mode (Err _) = ⊥
+  Opens (Some stored) path mode (Err _) = ⊤
 
 module _ {K : Type 0} (drafted : K → Option Drafted) where
   -- what the beginning of a draft answers, by what the store holds

@@ -138,7 +138,7 @@ impl<S: Store> Server<S> {
         out: &mut Vec<u8>,
     ) -> Result<Opened, ServerFault>
         ensures steps { IfOk result (λ opened. (sent : List ℕ) × (out.new.items ≡ out.old.items ++ sent)
-            × SupportedStep S.Source.left S.Source.may_fail S.stored (λ (draft : MemSinkState). None) bytes.now (asked_of self.old from tid) (record { new = self.new; opened = opened; sent = sent })) }
+            × SupportedStep (record { stored = S.stored; left = S.Source.left; drafted = λ (draft : MemSinkState). None; may_fail = S.Source.may_fail; may_refuse_open = S.may_refuse_open; may_refuse_begin = S.may_refuse_begin }) bytes.now (asked_of self.old from tid) (record { new = self.new; opened = opened; sent = sent })) }
         ensures in_use { IsErrOf result ServerFault.TidInUse ↔ IsSome (at tid self.old.held) }
         ensures fault { IfErr result (λ fault. (fault ≡ ServerFault.TidInUse) ⊎ (fault ≡ ServerFault.Memory)) }
         ensures err { OnErr result ((self.new ≡ self.old) × (out.new.items ≡ out.old.items)) }

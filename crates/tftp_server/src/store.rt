@@ -51,8 +51,8 @@ pub trait Store {
 
     /// Opens the file to be read in the mode.
     ///
-    /// `Missing` if there is no such file; `Memory` only where there is one. A store that tells its files
-    /// answers no other fault.
+    /// `Missing` if there is no such file; `Memory` only where there is one. Any other fault is one of
+    /// the store's own.
     fn open(
         &self,
         alloc: Global,

@@ -50,7 +50,7 @@ impl<S: Store> Server<S> {
         file: Opening<S::Source>,
         out: &mut Vec<u8>,
     ) -> Result<Decision<S::Source>, ServerFault>
-        ensures answers { IfOk result (λ decision. AnswersRead S.Source.left S.Source.may_fail S.stored (λ (draft : MemSinkState). None) path Octet file.length file.source (Ok [])
+        ensures answers { IfOk result (λ decision. AnswersRead (record { stored = S.stored; left = S.Source.left; drafted = λ (draft : MemSinkState). None; may_fail = S.Source.may_fail; may_refuse_open = S.may_refuse_open; may_refuse_begin = S.may_refuse_begin }) path Octet file.length file.source (Ok [])
             (asked_of self.now from tid) (came_to decision (asked_of self.now from tid))) }
         ensures sent { IfOk result (λ decision. out.new.items ≡ out.old.items ++ decided_bytes decision) }
         ensures memory { IfErr result (λ fault. fault ≡ ServerFault.Memory) }
@@ -86,7 +86,7 @@ impl<S: Store> Server<S> {
         path: Path,
         out: &mut Vec<u8>,
     ) -> Result<Decision<S::Source>, ServerFault>
-        ensures asks { IfOk result (λ decision. (name : List ℕ) → AsksToRead S.Source.left S.Source.may_fail S.stored (λ (draft : MemSinkState). None) path (default_read name)
+        ensures asks { IfOk result (λ decision. (name : List ℕ) → AsksToRead (record { stored = S.stored; left = S.Source.left; drafted = λ (draft : MemSinkState). None; may_fail = S.Source.may_fail; may_refuse_open = S.may_refuse_open; may_refuse_begin = S.may_refuse_begin }) path (default_read name)
             (asked_of self.now from tid) (came_to decision (asked_of self.now from tid))) }
         ensures sent { IfOk result (λ decision. out.new.items ≡ out.old.items ++ decided_bytes decision) }
         ensures memory { IfErr result (λ fault. fault ≡ ServerFault.Memory) }
@@ -110,7 +110,7 @@ impl<S: Store> Server<S> {
         name: &[u8],
         out: &mut Vec<u8>,
     ) -> Result<Decision<S::Source>, ServerFault>
-        ensures names { IfOk result (λ decision. Names S.Source.left S.Source.may_fail S.stored (λ (draft : MemSinkState). None) false (default_read name.now) (path_of_name name.now)
+        ensures names { IfOk result (λ decision. Names (record { stored = S.stored; left = S.Source.left; drafted = λ (draft : MemSinkState). None; may_fail = S.Source.may_fail; may_refuse_open = S.may_refuse_open; may_refuse_begin = S.may_refuse_begin }) false (default_read name.now) (path_of_name name.now)
             (asked_of self.now from tid) (came_to decision (asked_of self.now from tid))) }
         ensures sent { IfOk result (λ decision. out.new.items ≡ out.old.items ++ decided_bytes decision) }
         ensures memory { IfErr result (λ fault. fault ≡ ServerFault.Memory) }
@@ -138,7 +138,7 @@ impl<S: Store> Server<S> {
         out: &mut Vec<u8>,
     ) -> Result<Decision<S::Source>, ServerFault>
         ensures steps { IfOk result (λ decision. (decoded : Option Packet) × Decodes bytes.now decoded
-            × PortStep S.Source.left S.Source.may_fail S.stored (λ (draft : MemSinkState). None) (supported decoded) (asked_of self.now from tid) (came_to decision (asked_of self.now from tid))) }
+            × PortStep (record { stored = S.stored; left = S.Source.left; drafted = λ (draft : MemSinkState). None; may_fail = S.Source.may_fail; may_refuse_open = S.may_refuse_open; may_refuse_begin = S.may_refuse_begin }) (supported decoded) (asked_of self.now from tid) (came_to decision (asked_of self.now from tid))) }
         ensures sent { IfOk result (λ decision. out.new.items ≡ out.old.items ++ decided_bytes decision) }
         ensures memory { IfErr result (λ fault. fault ≡ ServerFault.Memory) }
         ensures err { OnErr result (out.new.items ≡ out.old.items) }
