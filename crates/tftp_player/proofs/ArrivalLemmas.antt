@@ -2,7 +2,7 @@
 use Rattle.std.proofs.Common.{◌≡◌, ◌≢◌, ℕ, suc, zero, ◌+◌, ◌<◌, ◌≤◌, true, List, [], ◌∷◌, ◌++◌, length, Some, None, refl, sym, ap, ◌∙◌, subst, arith, inl, inr}
 use Rattle.std.specs.Prelude.{◌⊎◌, slice_get, slice_index_or}
 use Rattle.std.proofs.lemmas.List.{append-nil}
-use Rattle.std.proofs.lemmas.Option.{same_Some}
+use Rattle.std.proofs.lemmas.Option.{same_Some, slice_get_within}
 use Rattle.tftp_server.specs.declared.config.Config.{Config}
 use Rattle.tftp_server.specs.Store.{Stored}
 use Rattle.tftp_player.specs.Machine.{Endpoint, request_port}
@@ -13,7 +13,7 @@ use Rattle.tftp_player.specs.Stage.{ends_of, world_of, StageDatagramStep, Datagr
 use Rattle.tftp_player.specs.Today.{ArrivesToday, Elsewhere, StepToday, ArrivalRefuses, StageAsks, StageArrives, StageRefuses}
 use Rattle.tftp_player.specs.World.{WorldState, OpenedEnd, is_closed, replied, report_of, no_report}
 use Rattle.tftp_player.specs.declared.datagram.Datagram.{Datagram}
-use Rattle.tftp_player.specs.WorldSteps.{WorldRefuses}
+use Rattle.tftp_player.specs.WorldSteps.{LacksPort, EventRefuses, WorldRefuses}
 use Rattle.tftp_player.specs.declared.event.Event.TheVariants.{Deliver, Stray}
 use Rattle.tftp_player.specs.declared.fault.WorldFault.{WorldFault}
 use Rattle.tftp_player.specs.declared.fault.WorldFault.TheVariants.{NoSuchDatagram, NoSuchEnd, NoPort, BadRequest, Memory}
@@ -125,21 +125,36 @@ pub arrival_refused : (config : Config) (sent : List Datagram) (to : Endpoint) (
 arrival_refused config sent to before ps old fault view r = subst (λ (w : WorldState). ArrivalRefuses w to fault) view (by_fault fault r) where
   by_fault : (f : WorldFault) → StageRefuses to ps f → ArrivalRefuses (world_of config sent before ps) to f
   by_fault NoPort h = let n = ends_length before.held ps in let m = h.1 in (h.0, (let l : 65535 < 1024 + length (ends_of before ps) = omega (arith, n, m) in l))
-  by_fault Memory h = tt
+  by_fault Memory h = λ lacks. let n = ends_length before.held ps in let m = lacks.1 in h (lacks.0, (let l : 65535 < 1024 + length ps = omega (arith, n, m) in l))
   by_fault NoSuchDatagram h = absurd h
   by_fault NoSuchEnd h = absurd h
   by_fault BadRequest h = absurd h
 
 pub delivery_refused : (old : WorldState) (i : ℕ) (d : Datagram) (fault : WorldFault) → slice_get old.sent i ≡ Some d → ArrivalRefuses old d.to fault → WorldRefuses old (Deliver i) fault
 delivery_refused old i d NoPort e h = (d, e, h)
-delivery_refused old i d Memory e h = tt
+delivery_refused old i d Memory e h = none where
+  none : (f : WorldFault) → EventRefuses old (Deliver i) f → ⊥
+  none NoSuchDatagram none_there = let there = slice_get_within old.sent i d e in omega (arith, there, none_there)
+  none NoPort lacks =
+      let same : Some lacks.0 ≡ Some d = sym lacks.1 ∙ e in
+      let is : lacks.0 ≡ d = cc in
+      h (subst (λ (q : Datagram). LacksPort old q.to) is lacks.2)
+  none BadRequest f = f
+  none NoSuchEnd f = f
+  none Memory f = f
 delivery_refused old i d NoSuchDatagram e h = absurd h
 delivery_refused old i d NoSuchEnd e h = absurd h
 delivery_refused old i d BadRequest e h = absurd h
 
 pub stray_refused : (old : WorldState) (from to : Endpoint) (bytes : List ℕ) (fault : WorldFault) → ArrivalRefuses old to fault → WorldRefuses old (Stray from to bytes) fault
 stray_refused old from to bytes NoPort h = h
-stray_refused old from to bytes Memory h = tt
+stray_refused old from to bytes Memory h = none where
+  none : (f : WorldFault) → EventRefuses old (Stray from to bytes) f → ⊥
+  none NoPort lacks = h lacks
+  none BadRequest f = f
+  none NoSuchEnd f = f
+  none NoSuchDatagram f = f
+  none Memory f = f
 stray_refused old from to bytes NoSuchDatagram h = absurd h
 stray_refused old from to bytes NoSuchEnd h = absurd h
 stray_refused old from to bytes BadRequest h = absurd h

@@ -1,7 +1,7 @@
 -- A client that opens, and an end that is told to refuse.
 use Rattle.std.proofs.Common.{◌≡◌, ℕ, suc, zero, ◌+◌, ◌<◌, ◌≤◌, true, false, List, [], ◌∷◌, ◌++◌, length, Some, refl, sym, ap, ◌∙◌, subst, arith, length-append}
-use Rattle.tftp_player.specs.Clients.{BadOrMemory}
-use Rattle.tftp_player.specs.Today.{RefusesToday}
+use Rattle.tftp_player.specs.Clients.{AskRefuses}
+use Rattle.tftp_player.specs.Today.{RefusesToday, EventRefusesToday}
 use Rattle.tftp_player.specs.declared.fault.WorldFault.{WorldFault}
 use Rattle.tftp_player.specs.declared.fault.WorldFault.TheVariants.{NoSuchDatagram, NoSuchEnd, NoPort, BadRequest, Memory}
 use Rattle.tftp_wire.specs.declared.mode.Mode.{Mode}
@@ -129,9 +129,16 @@ has_port config sent server ps old count port view e is fits =
     let l : 1024 + length (ends_of server ps) ≤ 65535 = omega (arith, n, e, is, fits) in
     subst HasPort view l
 
-pub get_refused : (old : WorldState) (name : List ℕ) (mode : Mode) (asked : Asked) (fault : WorldFault) → HasPort old → BadOrMemory fault → (fault ≡ BadRequest → CanGet name mode asked → ⊥) → RefusesToday old (Get name mode asked) fault
-get_refused old name mode asked BadRequest has only bad = (has, bad refl)
-get_refused old name mode asked Memory has only bad = tt
-get_refused old name mode asked NoSuchDatagram has only bad = absurd only
-get_refused old name mode asked NoSuchEnd has only bad = absurd only
-get_refused old name mode asked NoPort has only bad = absurd only
+-- why a client did not open
+pub get_refused : (old : WorldState) (name : List ℕ) (mode : Mode) (asked : Asked) (fault : WorldFault) → HasPort old → AskRefuses (CanGet name mode asked) fault → RefusesToday old (Get name mode asked) fault
+get_refused old name mode asked BadRequest has cannot = (has, cannot)
+get_refused old name mode asked Memory has can = none where
+  none : (f : WorldFault) → EventRefusesToday old (Get name mode asked) f → ⊥
+  none NoPort h = absurd (omega (arith, h, has))
+  none BadRequest h = h.1 can
+  none Memory h = h
+  none NoSuchDatagram h = h
+  none NoSuchEnd h = h
+get_refused old name mode asked NoSuchDatagram has h = absurd h
+get_refused old name mode asked NoSuchEnd has h = absurd h
+get_refused old name mode asked NoPort has h = absurd h

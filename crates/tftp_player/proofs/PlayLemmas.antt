@@ -24,7 +24,9 @@ use Rattle.tftp_player.specs.Played.{sending_served, served_end, ended_as, end_a
 use Rattle.tftp_player.specs.Serving.{PlayedServer, Transfer, ServedKept}
 use Rattle.tftp_player.specs.Stage.{ends_of, IsStaged, EndTimesOut, StageTimeoutStep, record_closed, world_of}
 use Rattle.tftp_player.specs.World.{WorldState, OpenedEnd, is_closed, files_of, end_after, at_rest, rest_terms, recorded_terms, closed_state, replied, added_at, closed_at, report_of, no_report}
-use Rattle.tftp_player.specs.WorldSteps.{WorldStep, IsAtPort}
+use Rattle.tftp_player.specs.WorldSteps.{WorldStep, IsAtPort, NoneAt, EventRefuses, WorldRefuses}
+use Rattle.tftp_player.specs.declared.fault.WorldFault.{WorldFault}
+use Rattle.tftp_player.specs.declared.fault.WorldFault.TheVariants.{NoSuchDatagram, NoSuchEnd, NoPort, BadRequest, Memory}
 use Rattle.tftp_player.specs.declared.datagram.Datagram.{Datagram}
 use Rattle.tftp_player.specs.declared.effect.Effect.{Effect}
 use Rattle.tftp_player.specs.declared.event.Event.TheVariants.{Timeout}
@@ -321,3 +323,19 @@ timeout_result config sent place before after ps ps' effect port old sent0 sent1
 pub none_here : (server : PlayedServer) (ps : List Player) (count port : ℕ) → count ≡ length ps → (port < 1024) ⊎ (1024 + count ≤ port) → (port < 1024) ⊎ (1024 + length (ends_of server ps) ≤ port)
 none_here server ps count port e (inl low) = inl low
 none_here server ps count port e (inr high) = let n = ends_length server.held ps in let h : 1024 + length (ends_of server ps) ≤ port = omega (arith, n, e, high) in inr h
+
+-- an end at this port is there, so that want of memory alone can refuse its timeout
+pub timeout_refused : (config : Config) (sent : List Datagram) (server : PlayedServer) (ps : List Player) (old : WorldState) (port place : ℕ) → world_of config sent server ps ≡ old → port ≡ 1024 + place → place < length ps →
+    (fault : WorldFault) → fault ≡ Memory → WorldRefuses old (Timeout port) fault
+timeout_refused config sent server ps old port place view is within fault e =
+    subst (λ (f : WorldFault). WorldRefuses old (Timeout port) f) (sym e) (subst (λ (w : WorldState). WorldRefuses w (Timeout port) Memory) view none) where
+      at_none : NoneAt (world_of config sent server ps) port → ⊥
+      at_none (inl low) = omega (arith, is, low)
+      at_none (inr high) = let n = ends_length server.held ps in omega (arith, is, within, high, n)
+
+      none : (f : WorldFault) → EventRefuses (world_of config sent server ps) (Timeout port) f → ⊥
+      none NoSuchEnd h = at_none h
+      none NoSuchDatagram h = h
+      none NoPort h = h
+      none BadRequest h = h
+      none Memory h = h

@@ -86,8 +86,8 @@ open_fault opening.TooLarge = BadRequest
 open_fault opening.SourceFault = BadRequest
 open_fault opening.Memory = Memory
 
--- a fault of an opening
-abbrev pub BadOrMemory : WorldFault → Type 0
-BadOrMemory BadRequest = ⊤
-BadOrMemory Memory = ⊤
-BadOrMemory _ = ⊥
+-- why a client does not ask: it cannot, or else for want of memory
+abbrev pub AskRefuses : Type 0 → WorldFault → Type 0
+AskRefuses can BadRequest = can → ⊥
+AskRefuses can Memory = can
+AskRefuses can fault = ⊥

@@ -11,7 +11,7 @@ use Rattle.tftp_player.specs.Requests.{service}
 use Rattle.tftp_player.specs.Serving.{PlayedServer}
 use Rattle.tftp_player.specs.Stage.{world_of}
 use Rattle.tftp_player.specs.World.{WorldState, next_port, resting}
-use Rattle.tftp_player.specs.WorldSteps.{HasPort, LacksPort, WorldRefuses, WorldStep, Serves, Arrives}
+use Rattle.tftp_player.specs.WorldSteps.{HasPort, LacksPort, EventRefuses, MemoryLast, WorldStep, Serves, Arrives}
 use Rattle.tftp_player.specs.declared.datagram.Datagram.{Datagram}
 use Rattle.tftp_player.specs.declared.effect.Effect.{Effect}
 use Rattle.tftp_player.specs.declared.player.Player.{Player}
@@ -21,17 +21,15 @@ use Rattle.tftp_player.specs.declared.event.Event.TheVariants.{Get, Put, Deliver
 use Rattle.tftp_player.specs.declared.fault.WorldFault.{WorldFault}
 use Rattle.tftp_player.specs.declared.fault.WorldFault.TheVariants.{NoPort, BadRequest, Memory}
 
--- why a client that would write is refused
-abbrev pub PutRefuses : WorldState → WorldFault → Type 0
-PutRefuses w NoPort = 65535 < next_port w
-PutRefuses w BadRequest = HasPort w
-PutRefuses w fault = ⊥
+-- why an event is refused today, memory aside: a client reads in octet without options alone, and writes nothing
+abbrev pub EventRefusesToday : WorldState → Event → WorldFault → Type 0
+EventRefusesToday w (Get name mode asked) BadRequest = HasPort w × (CanGet name mode asked → ⊥)
+EventRefusesToday w (Put name mode asked bytes) BadRequest = HasPort w
+EventRefusesToday w event fault = EventRefuses w event fault
 
--- a client takes today octet without options alone, and asks to write nothing
+-- why an event is refused today
 abbrev pub RefusesToday : WorldState → Event → WorldFault → Type 0
-RefusesToday w (Get name mode asked) BadRequest = HasPort w × (CanGet name mode asked → ⊥)
-RefusesToday w (Put name mode asked bytes) BadRequest = HasPort w
-RefusesToday w event fault = WorldRefuses w event fault
+RefusesToday w event fault = MemoryLast (EventRefusesToday w event) fault
 
 -- what arrived where, as far as the request port supports it, and then closed ends at rest
 pub data ArrivesToday (old : WorldState) (from to : Endpoint) (bytes : List ℕ) (report : Report) (new : WorldState) : Type 0 where
@@ -50,7 +48,7 @@ StepToday old event report new = WorldStep old event report new
 -- why an arrival is refused
 abbrev pub ArrivalRefuses : WorldState → Endpoint → WorldFault → Type 0
 ArrivalRefuses w to NoPort = LacksPort w to
-ArrivalRefuses w to Memory = ⊤
+ArrivalRefuses w to Memory = LacksPort w to → ⊥
 ArrivalRefuses w to fault = ⊥
 
 -- what came of a datagram for the request port, whatever was sent before
@@ -66,9 +64,13 @@ StageArrives from to bytes before after players players' effect =
     (world_of before.config (sent ++ said_by effect.from effect.to effect.bytes) after players')
 
 -- no port is left for an end that the datagram could open
+abbrev pub StageLacksPort : Endpoint → List Player → Type 0
+StageLacksPort to players = (to ≡ request_port) × (65535 < 1024 + length players)
+
+-- why it is refused
 abbrev pub StageRefuses : Endpoint → List Player → WorldFault → Type 0
-StageRefuses to players NoPort = (to ≡ request_port) × (65535 < 1024 + length players)
-StageRefuses to players Memory = ⊤
+StageRefuses to players NoPort = StageLacksPort to players
+StageRefuses to players Memory = StageLacksPort to players → ⊥
 StageRefuses to players fault = ⊥
 
 -- what can be played: a stray comes from neither host

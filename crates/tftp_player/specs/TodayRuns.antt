@@ -42,9 +42,10 @@ pub record Settled (old : WorldState) (from most count : ℕ) (new : WorldState)
   pub bounded : count ≤ most
   pub all : (count ≡ most) ⊎ (length new.sent ≤ from + count)
 
--- some were delivered, fewer than were wanted, and the next was refused
+-- some were delivered, fewer than were wanted, and the next one, which was left, was refused
 pub record StopsAt (old : WorldState) (from most : ℕ) (fault : WorldFault) (new : WorldState) : Type 0 where
   pub reports : List Report
   pub delivered : Delivered old from reports new
   pub fewer : length reports < most
+  pub left : from + length reports < length new.sent
   pub refused : RefusesToday new (Deliver (from + length reports)) fault

@@ -143,19 +143,27 @@ LacksPort w to = (to ≡ request_port) × (65535 < next_port w)
 abbrev pub NoneAt : WorldState → ℕ → Type 0
 NoneAt w port = (port < 1024) ⊎ (next_port w ≤ port)
 
--- why an event is refused: the first reason that holds, in the order of their numbers
+-- why an event is refused, memory aside: the first reason that holds, in the order of their numbers
+abbrev pub EventRefuses : WorldState → Event → WorldFault → Type 0
+EventRefuses w (Deliver i) NoSuchDatagram = FindsNone w.sent i
+EventRefuses w (Timeout port) NoSuchEnd = NoneAt w port
+EventRefuses w (RefuseStore port) NoSuchEnd = NoneAt w port
+EventRefuses w (Get name mode asked) NoPort = 65535 < next_port w
+EventRefuses w (Put name mode asked bytes) NoPort = 65535 < next_port w
+EventRefuses w (Deliver i) NoPort = (d : Datagram) × (slice_get w.sent i ≡ Some d) × LacksPort w d.to
+EventRefuses w (Stray from to bytes) NoPort = LacksPort w to
+EventRefuses w (Get name mode asked) BadRequest = HasPort w × (MayRead name mode asked → ⊥)
+EventRefuses w (Put name mode asked bytes) BadRequest = HasPort w × (MayWrite name mode asked bytes → ⊥)
+EventRefuses w event fault = ⊥
+
+-- want of memory is the last reason: it refuses where no other does
+abbrev pub MemoryLast : (WorldFault → Type 0) → WorldFault → Type 0
+MemoryLast reason Memory = (fault : WorldFault) → reason fault → ⊥
+MemoryLast reason fault = reason fault
+
+-- why an event is refused
 abbrev pub WorldRefuses : WorldState → Event → WorldFault → Type 0
-WorldRefuses w (Deliver i) NoSuchDatagram = FindsNone w.sent i
-WorldRefuses w (Timeout port) NoSuchEnd = NoneAt w port
-WorldRefuses w (RefuseStore port) NoSuchEnd = NoneAt w port
-WorldRefuses w (Get name mode asked) NoPort = 65535 < next_port w
-WorldRefuses w (Put name mode asked bytes) NoPort = 65535 < next_port w
-WorldRefuses w (Deliver i) NoPort = (d : Datagram) × (slice_get w.sent i ≡ Some d) × LacksPort w d.to
-WorldRefuses w (Stray from to bytes) NoPort = LacksPort w to
-WorldRefuses w (Get name mode asked) BadRequest = HasPort w × (MayRead name mode asked → ⊥)
-WorldRefuses w (Put name mode asked bytes) BadRequest = HasPort w × (MayWrite name mode asked bytes → ⊥)
-WorldRefuses w event Memory = ⊤
-WorldRefuses w event fault = ⊥
+WorldRefuses w event fault = MemoryLast (EventRefuses w event) fault
 
 -- the datagrams from this place on were delivered one after another, so many of them
 abbrev pub Settles : WorldState → ℕ → List Report → WorldState → Type 0

@@ -5,7 +5,7 @@ ghost use Rattle.tftp_ends.specs.End.{record_of, outcome_of};
 ghost use Rattle.tftp_ends.specs.Opening.{CanGet, getting};
 ghost use Rattle.tftp_ends.specs.Step.{timeout_turn};
 ghost use Rattle.tftp_player.specs.Machine.{request_port};
-ghost use Rattle.tftp_player.specs.Clients.{ClientTurns, ClientDatagramStep, asking_client, stored_by, told_client, client_at, holding_in, asking_effect, open_fault, BadOrMemory};
+ghost use Rattle.tftp_player.specs.Clients.{ClientTurns, ClientDatagramStep, asking_client, stored_by, told_client, client_at, holding_in, asking_effect, open_fault, AskRefuses};
 
 use crate::effect::{Effect, effect_of};
 use crate::fault::WorldFault;
@@ -51,8 +51,7 @@ impl Client {
         ensures client { IfOk result (λ opened. opened.0 ≡ asking_client (getting request_port name.now mode asked.now config.now.limits.max_file config.now.retries)) }
         ensures effect { IfOk result (λ opened. opened.1 ≡ asking_effect port name.now mode asked.now) }
         ensures ok { OnOk result (CanGet name.now mode asked.now) }
-        ensures bad_request { IfErr result (λ fault. fault ≡ WorldFault.BadRequest → CanGet name.now mode asked.now → ⊥) }
-        ensures only { IfErr result (BadOrMemory) }
+        ensures refused { IfErr result (AskRefuses (CanGet name.now mode asked.now)) }
     {
         let mut out = Vec::new(alloc);
         match End::get(alloc, REQUEST_PORT, name, mode, asked, config, &mut out) {

@@ -4,7 +4,7 @@ ghost use Rattle.std.specs.Prelude.{◌≡◌, ◌≢◌, true, false, ◌<◌, 
 ghost use Rattle.tftp_negotiate.specs.Ranges.{IsBlockSize};
 ghost use Rattle.tftp_player.specs.Machine.{request_port, host_of, Elsewhere};
 ghost use Rattle.tftp_player.specs.Stage.{IsStaged, StageDatagramStep};
-ghost use Rattle.tftp_player.specs.Today.{StepToday, ArrivesToday, ArrivalRefuses, StageAsks, StageArrives, StageRefuses};
+ghost use Rattle.tftp_player.specs.Today.{StepToday, ArrivesToday, ArrivalRefuses, StageAsks, StageArrives, StageLacksPort, StageRefuses};
 ghost use Rattle.tftp_player.specs.WorldSteps.{WorldRefuses};
 ghost use Rattle.tftp_player.specs.declared.event.Event.TheVariants.{Deliver, Stray};
 
@@ -28,6 +28,10 @@ impl World {
     {
         if place >= self.sent.len() {
             return Err(WorldFault::NoSuchDatagram);
+        }
+        let to = self.sent[place].to;
+        if lacks_port(to, &self.players) {
+            return Err(WorldFault::NoPort);
         }
         let Ok(()) = self.sent.reserve(1) else {
             return Err(WorldFault::Memory);
@@ -74,6 +78,9 @@ impl World {
         ensures refused { IfErr result (ArrivalRefuses self.old to) }
         ensures err { OnErr result (self.new ≡ self.old) }
     {
+        if lacks_port(to, &self.players) {
+            return Err(WorldFault::NoPort);
+        }
         let Ok(()) = self.sent.reserve(1) else {
             return Err(WorldFault::Memory);
         };
@@ -90,6 +97,20 @@ impl World {
             Ok(effect) => Ok(write_down(&mut self.sent, effect)),
             Err(fault) => Err(fault),
         }
+    }
+}
+
+/// Whether a datagram to there could open an end, and no port is left for it.
+fn lacks_port(to: Endpoint, players: &Vec<Player>) -> bool
+    ensures lacks { result ≡ true → StageLacksPort to players.now.items }
+    ensures has { result ≡ false → StageLacksPort to players.now.items → ⊥ }
+{
+    if differs(to, REQUEST_PORT) {
+        return false;
+    }
+    match port_of(players.len()) {
+        Some(_) => false,
+        None => true,
     }
 }
 

@@ -1,4 +1,5 @@
-use Rattle.std.proofs.Common.{◌<◌, length, rules}
+use Rattle.std.proofs.Common.{◌<◌, length, refl, rules}
+use Rattle.tftp_player.specs.declared.fault.WorldFault.TheVariants.{NoPort, Memory}
 use Rattle.tftp_player.proofs.ArrivalLemmas.{delivers_told, delivery_fault}
 use Rattle.tftp_player.proofs.world.World.deliver.Goals as goal
 
@@ -12,3 +13,15 @@ pub returns-in-Err-clause-refused : goal.returns-in-Err-clause-refused
 returns-in-Err-clause-refused c =
     let within : c.args.place < length c.reserve.new.self.items = search rules in
     delivery_fault c.self.inside.config c.self.inside.sent.items c.reserve.new.self.items c.args.place c.index-datagram.result.now c.self.inside.server c.self.inside.players.items c.args.self.now c.in-Err.fault within c.index-datagram.ensures c.in-Ok.ensures.items c.self.view_is c.in-Err.ensures.refused
+
+pub returns-then-lacks_port-clause-refused : goal.returns-then-lacks_port-clause-refused
+returns-then-lacks_port-clause-refused c =
+    let within : c.args.place < length c.self.inside.sent.items = search rules in
+    delivery_fault c.self.inside.config c.self.inside.sent.items c.self.inside.sent.items c.args.place c.index.result.now c.self.inside.server c.self.inside.players.items c.args.self.now NoPort within c.index.ensures refl c.self.view_is
+    (c.lacks_port.ensures.lacks c.if-lacks_port.true)
+
+pub returns-in_default-clause-refused : goal.returns-in_default-clause-refused
+returns-in_default-clause-refused c =
+    let within : c.args.place < length c.self.inside.sent.items = search rules in
+    delivery_fault c.self.inside.config c.self.inside.sent.items c.self.inside.sent.items c.args.place c.index.result.now c.self.inside.server c.self.inside.players.items c.args.self.now Memory within c.index.ensures refl c.self.view_is
+    (c.lacks_port.ensures.has c.if-lacks_port.false)
