@@ -13,21 +13,21 @@ use Rattle.tftp_negotiate.specs.declared.known.Known.TheVariants.{Blksize, Timeo
 use Rattle.tftp_negotiate.specs.declared.limits.Limits.{Limits}
 use Rattle.tftp_negotiate.specs.declared.name.Name.{Name}
 use Rattle.tftp_negotiate.specs.declared.name.Name.TheVariants as name
-use Rattle.tftp_negotiate.specs.declared.terms.Terms.{Terms}
-use Rattle.tftp_negotiate.specs.declared.terms.Terms.TheVariants.{Server, Client}
-use Rattle.tftp_negotiate.specs.Ranges.{IsBlockSize, is_block_size, IsTimeout, is_timeout}
+use Rattle.tftp_negotiate.specs.declared.policy.Policy.{Policy}
+use Rattle.tftp_negotiate.specs.declared.policy.Policy.TheVariants.{Server, Client}
+use Rattle.tftp_negotiate.specs.Ranges.{IsBlockSize, IsTimeout, is_in, block_sizes, timeouts}
 use Rattle.tftp_negotiate.specs.Options.{name_of, number_of}
 use Rattle.tftp_negotiate.specs.Agreed.{name_of_known, IsAgreeable}
 use Rattle.tftp_negotiate.specs.Asked.{IsAskable, asked_tsize}
 use Rattle.tftp_negotiate.specs.Answer.{answered, answered_option, answered_blksize, answered_timeout, answered_tsize}
 use Rattle.tftp_negotiate.specs.Agreement.{taken, taken_option, taken_blksize, taken_timeout, taken_tsize}
-use Rattle.tftp_negotiate.specs.Terms.{judged, AreTerms}
+use Rattle.tftp_negotiate.specs.Policy.{judged, IsSound}
 use Rattle.tftp_negotiate.proofs.NegotiationLemmas.{Keeps}
 
-pub block_size_from_test : (n : ℕ) → is_block_size n ≡ true → IsBlockSize n
+pub block_size_from_test : (n : ℕ) → is_in block_sizes n ≡ true → IsBlockSize n
 block_size_from_test n h = (grind (arith, nat_tests), grind (arith, nat_tests))
 
-pub timeout_from_test : (n : ℕ) → is_timeout n ≡ true → IsTimeout n
+pub timeout_from_test : (n : ℕ) → is_in timeouts n ≡ true → IsTimeout n
 timeout_from_test n h = (grind (arith, nat_tests), grind (arith, nat_tests))
 
 -- which way a test went that gave an `Ok`
@@ -123,6 +123,6 @@ taken_option-Keeps asked kind mode limit ok = record {
 }
 
 -- either side keeps options under their names, with values that may be agreed
-pub judged-Keeps : (terms : Terms) → AreTerms terms → Keeps (judged terms)
+pub judged-Keeps : (policy : Policy) → IsSound policy → Keeps (judged policy)
 judged-Keeps (Server kind mode length limits) ok = answered_option-Keeps kind mode length limits ok
 judged-Keeps (Client asked kind mode limit) ok = taken_option-Keeps asked kind mode limit ok
