@@ -108,7 +108,7 @@ stop_held held h = elim h [
   | inr e ↦ subst (λ (t : List ℕ). Stop t) (sym e) stop_cr
 ]
 
--- the next byte can be told from the wire text
+-- the wire text has one next byte
 pub next_byte : (x y : ℕ) (xs ys : List ℕ) → ByteForm x → ByteForm y → wire_byte x ++ xs ≡ wire_byte y ++ ys → (x ≡ y) × (xs ≡ ys)
 next_byte x y xs ys (Line a b _) (Line c d _) e =
     let f : 13 ∷ 10 ∷ xs ≡ 13 ∷ 10 ∷ ys = rw (b, d) at e in (a ∙ sym c, cc)
@@ -182,19 +182,19 @@ read_on (x ∷ xs) =
 pub read : (text : List ℕ) → Reading text
 read text = (read_on text).0
 
--- a run of plain bytes and a pair further on
+-- a run of unescaped bytes and a pair further on
 pub pair_taken : (text left run rest behind bytes : List ℕ) (byte : ℕ) → text ≡ netascii_text bytes ++ left → left ≡ run ++ rest → netascii_text run ≡ run → rest ≡ wire_byte byte ++ behind → text ≡ netascii_text (bytes ++ (run ++ byte ∷ [])) ++ behind
 pair_taken text left run rest behind bytes byte e p n r =
     let pair : netascii_text (byte ∷ []) ++ behind ≡ rest = ap (λ (t : List ℕ). t ++ behind) (append-nil (wire_byte byte)) ∙ sym r in
     let line : netascii_text (run ++ byte ∷ []) ++ behind ≡ left = sym (front_joins run (byte ∷ []) behind) ∙ (ap (λ (t : List ℕ). netascii_text run ++ t) pair ∙ (ap (λ (t : List ℕ). t ++ rest) n ∙ sym p)) in
     e ∙ (ap (λ (t : List ℕ). netascii_text bytes ++ t) (sym line) ∙ front_joins bytes (run ++ byte ∷ []) behind)
 
--- a run of plain bytes further on
+-- a run of unescaped bytes further on
 pub run_taken : (text left run rest bytes : List ℕ) → text ≡ netascii_text bytes ++ left → left ≡ run ++ rest → netascii_text run ≡ run → text ≡ netascii_text (bytes ++ run) ++ rest
 run_taken text left run rest bytes e p n =
     e ∙ (ap (λ (t : List ℕ). netascii_text bytes ++ t) (p ∙ ap (λ (t : List ℕ). t ++ rest) (sym n)) ∙ front_joins bytes run rest)
 
--- a wrong byte behind a run of plain bytes
+-- a wrong byte behind a run of unescaped bytes
 pub wrong_taken : (text left run rest bytes : List ℕ) (fault : NetFault) → text ≡ netascii_text bytes ++ left → left ≡ run ++ rest → netascii_text run ≡ run → IsWrong rest fault → IsWrong text fault
 wrong_taken text left run rest bytes fault e p n w =
     subst (λ (t : List ℕ). IsWrong t fault) (sym (run_taken text left run rest bytes e p n)) (wrong_behind (bytes ++ run) rest fault w)

@@ -48,12 +48,12 @@ module _ (path : List ℕ) (some : (length path == 0) ≡ false) (short : length
       let a : nat_lt 255 (length path) ≡ false = le-ltb 255 (length path) short in
       let b : nat_lt 8 (length (slice_split (λ byte. byte == 47) path)) ≡ false = le-ltb 8 (length (slice_split (λ byte. byte == 47) path)) (omega (arith, few, length-slice_split (λ byte. byte == 47) path)) in (
         rw (some, a, b, all),
-        (
-          slice_split (λ byte. byte == 47) path,
-          sym (join_with_byte-slice_split 47 path),
-          AllPass-from_list_all is_segment (slice_split (λ byte. byte == 47) path) all,
-          omega (arith, length-slice_split (λ byte. byte == 47) path),
-          omega (arith, few, length-slice_split (λ byte. byte == 47) path),
-          short,
-        ),
+        record {
+          segments = slice_split (λ byte. byte == 47) path;
+          joined = sym (join_with_byte-slice_split 47 path);
+          allowed = AllPass-from_list_all is_segment (slice_split (λ byte. byte == 47) path) all;
+          some = omega (arith, length-slice_split (λ byte. byte == 47) path);
+          few = omega (arith, few, length-slice_split (λ byte. byte == 47) path);
+          short = short;
+        },
       )

@@ -43,7 +43,7 @@ FirstWrong text at Memory = ⊥
 abbrev pub IsWrong : List ℕ → NetFault → Type 0
 IsWrong text fault = (at : ℕ) × FirstWrong text at fault
 
--- why a push refuses a text: its first wrong byte, or want of memory for a text without one
+-- why a push refuses a text: its first wrong byte, or out of memory for a text without one
 abbrev pub Refuses : List ℕ → NetFault → Type 0
 Refuses text LoneCr = IsWrong text LoneCr
 Refuses text LoneLf = IsWrong text LoneLf
@@ -56,5 +56,14 @@ TakesAll held [] bytes after = (bytes ≡ []) × (after ≡ held)
 TakesAll held (piece ∷ pieces) bytes after = (first : List ℕ) × (between : List ℕ) × (rest : List ℕ) × Decodes held piece first between × TakesAll between pieces rest after × (bytes ≡ first ++ rest)
 
 -- the pieces before one are taken, and that one, which holds this place of the whole, is refused
-abbrev pub RefusesAt : List ℕ → List (List ℕ) → ℕ → NetFault → Type 0
-RefusesAt held pieces at fault = (before : List (List ℕ)) × (piece : List ℕ) × (behind : List (List ℕ)) × (given : List ℕ) × (between : List ℕ) × (pieces ≡ before ++ piece ∷ behind) × TakesAll held before given between × IsWrong (between ++ piece) fault × (length held + length (concat before) ≤ at) × (at < length held + length (concat before) + length piece)
+pub record RefusesAt (held : List ℕ) (pieces : List (List ℕ)) (at : ℕ) (fault : NetFault) : Type 0 where
+  pub before : List (List ℕ)
+  pub piece : List ℕ
+  pub behind : List (List ℕ)
+  pub given : List ℕ
+  pub between : List ℕ
+  pub cut : pieces ≡ before ++ piece ∷ behind
+  pub taken : TakesAll held before given between
+  pub wrong : IsWrong (between ++ piece) fault
+  pub begins : length held + length (concat before) ≤ at
+  pub ends : at < length held + length (concat before) + length piece

@@ -1,4 +1,4 @@
--- What an append and a commit leave of a sink.
+-- What an append and a commit leave of a sink. A sink is told to refuse a call, and is told so no more.
 use Rattle.std.specs.Prelude.{ℕ, ◌≡◌, Bool, true, false, List, ◌++◌, Option, Some, None, Result, Ok, Err, ⊤}
 use Rattle.tftp_file.specs.declared.fault.StoreFault.{StoreFault}
 use Rattle.tftp_file.specs.declared.fault.StoreFault.TheVariants.{Full, Memory}
@@ -25,12 +25,12 @@ as_committed holding = record holding { committed = true }
 -- a call was refused as it was told to be: it answers Full, and is told no more
 pub record RefusedAsTold {A : Type 0} (before : Holding) (after : Option Holding) (result : Result A StoreFault) : Type 0 where
   pub answer : result ≡ Err Full
-  pub told : after ≡ Some (told_no_more before)
+  pub leaves : after ≡ Some (told_no_more before)
 
 -- a beginning of the piece was kept, or the sink is as it was
 pub record KeptBeginning (before : Holding) (after : Option Holding) (piece : List ℕ) : Type 0 where
   pub holding : Holding
-  pub told : after ≡ Some holding
+  pub leaves : after ≡ Some holding
   pub kept : List ℕ
   pub beginning : IsBeginningOf kept piece
   pub bytes : holding.bytes ≡ before.bytes ++ kept

@@ -20,10 +20,10 @@ pub fn any_cut()
         → IsHeld held → FirstWrong (held ++ concat pieces) at fault → RefusesAt held pieces at fault }
 {}
 
-/// A text begins a wire text, or it has a first wrong byte, and never both; what it gives, and what
-/// is wrong with it, can be told in one way (RFC 764).
+/// A text begins a wire text, or it has a first wrong byte, and never both; it gives one list of
+/// bytes, and it is wrong at one place and in one way (RFC 764).
 pub fn one_reading()
-    ensures told { (text : List ℕ) → BeginsWireText text
+    ensures either { (text : List ℕ) → BeginsWireText text
         ⊎ ((at : ℕ) × (fault : NetFault) × FirstWrong text at fault) }
     ensures apart { (text : List ℕ) (at : ℕ) (fault : NetFault) → BeginsWireText text
         → FirstWrong text at fault → ⊥ }
