@@ -144,7 +144,7 @@ impl Sink for MemSink {
     ghost use Rattle.std.specs.Prelude.{◌≡◌, ◌≢◌, ◌≤◌, ◌<◌, ◌+◌, ◌++◌, true, false, length, take, Err, IfErr, IsErr, refl};
     ghost use Rattle.std.proofs.Common.{◌∙◌};
     ghost use Rattle.tftp_file.specs.Sink.{Appends, Commits};
-    ghost use Rattle.tftp_file.specs.Memory.{MayRefuseAppend, MayRefuseCommit};
+    ghost use Rattle.tftp_file.specs.Memory.{IsFull, MayRefuseAppend, MayRefuseCommit};
 
     ghost held = { λ s. Some s.holding };
 
@@ -158,7 +158,8 @@ impl Sink for MemSink {
 
     ghost joins = { λ _ _ _ p q. (q.0 ∙ p.0, q.1 ∙ p.1) };
 
-    /// What has room of the bytes is kept, and where that is not all of them the answer is `Full`.
+    /// What has room of the bytes is held, and where that is not all of them the answer is `Full`.
+    /// Where none of them has room, it takes no memory.
     fn append(&mut self, bytes: &[u8]) -> Result<(), StoreFault>
         ensures appends { Appends (Some self.old.holding) (Some self.new.holding) bytes.now result }
         ensures refused { IfErr result (MayRefuseAppend self.old bytes.now) }
@@ -168,6 +169,7 @@ impl Sink for MemSink {
             → IsErr result }
         ensures filled { result ≡ Err StoreFault.Full → self.old.holding.refuses ≡ false
             → self.new.holding.bytes ≡ take self.old.room (self.old.holding.bytes ++ bytes.now) }
+        ensures full { IsFull self.old → 0 < length bytes.now → result ≡ Err StoreFault.Full }
     {
         if self.refuses_next {
             self.refuses_next = false;
@@ -189,7 +191,7 @@ impl Sink for MemSink {
         ensures not_memory { result ≢ Err StoreFault.Memory }
         ensures same { (self.new.room ≡ self.old.room)
             × (self.new.refuses_commit ≡ self.old.refuses_commit) }
-        ensures told { self.old.refuses_commit ≡ true → result ≡ Err StoreFault.Full }
+        ensures refuses { self.old.refuses_commit ≡ true → result ≡ Err StoreFault.Full }
     {
         if self.refuses_next {
             self.refuses_next = false;
