@@ -1,3 +1,4 @@
+-- The lemmas that are the law.
 use Rattle.tftp_file.proofs.DecodingLemmas.{begins_or_wrong}
 use Rattle.tftp_file.proofs.CutLemmas.{either, once, wrong_once}
 use Rattle.tftp_file.proofs.laws.one_reading.Goals as goal

@@ -1,3 +1,4 @@
+-- A text that begins a wire text has no wrong byte.
 use Rattle.tftp_file.proofs.DecodingLemmas.{begins_or_wrong, wrong_taken}
 use Rattle.tftp_file.proofs.netascii.append_host.Goals as goal
 

@@ -1,3 +1,4 @@
+-- The lemmas that are the law.
 use Rattle.tftp_negotiate.proofs.LawsLemmas.{answers_may_be_agreed, taken_may_be_agreed, agreements_are_short}
 use Rattle.tftp_negotiate.proofs.laws.agreements.Goals as goal
 

@@ -1,3 +1,4 @@
+-- The names seen and the outcome are those of the options so far.
 use Rattle.std.proofs.Common.{map}
 use Rattle.tftp_wire.specs.Borrowed.{owned_option}
 use Rattle.tftp_negotiate.specs.Policy.{judged}

@@ -1,3 +1,4 @@
+-- A slice of owned options yields them one by one.
 use Rattle.std.proofs.Common.{◌∙◌, List, Option, map, ap, rules, tests}
 use Rattle.std.specs.Iterator.{AlwaysYields}
 use Rattle.std.proofs.lemmas.List.{map-id}
