@@ -59,8 +59,8 @@ whole_taken held (piece ∷ pieces) bytes after h d = elim (read (held ++ piece)
 
 -- where the first wrong byte stands
 pub wrong_within : (text : List ℕ) (at : ℕ) (fault : NetFault) → FirstWrong text at fault → at < length text
-wrong_within text at LoneCr h = omega (arith, h.6, ap length h.5, length-append (netascii_text h.0) (13 ∷ h.1 ∷ h.2))
-wrong_within text at LoneLf h = omega (arith, h.3, ap length h.2, length-append (netascii_text h.0) (10 ∷ h.1))
+wrong_within text at LoneCr h = omega (arith, h.place, ap length h.split, length-append (netascii_text h.bytes) (13 ∷ h.byte ∷ h.rest))
+wrong_within text at LoneLf h = omega (arith, h.place, ap length h.split, length-append (netascii_text h.bytes) (10 ∷ h.rest))
 wrong_within text at EndsInCr h = absurd h
 wrong_within text at Memory h = absurd h
 
@@ -77,10 +77,10 @@ lf_behind (x ∷ xs) piece rest e = some_wire x xs
 
 -- and that it is not what was held back
 wrong_behind_held : (held piece : List ℕ) (at : ℕ) (fault : NetFault) → IsHeld held → FirstWrong (held ++ piece) at fault → length held ≤ at
-wrong_behind_held held piece at LoneCr h w = elim h [ inl e ↦ omega (arith, ap length e) | inr e ↦ omega (arith, ap length e, w.6) ]
+wrong_behind_held held piece at LoneCr h w = elim h [ inl e ↦ omega (arith, ap length e) | inr e ↦ omega (arith, ap length e, w.place) ]
 wrong_behind_held held piece at LoneLf h w = elim h [
   | inl e ↦ omega (arith, ap length e)
-  | inr e ↦ omega (arith, ap length e, w.3, lf_behind w.0 piece w.1 (ap (λ (t : List ℕ). t ++ piece) (sym e) ∙ w.2))
+  | inr e ↦ omega (arith, ap length e, w.place, lf_behind w.bytes piece w.rest (ap (λ (t : List ℕ). t ++ piece) (sym e) ∙ w.split))
 ]
 wrong_behind_held held piece at EndsInCr h w = absurd w
 wrong_behind_held held piece at Memory h w = absurd w
@@ -88,17 +88,17 @@ wrong_behind_held held piece at Memory h w = absurd w
 -- a text has one first wrong byte, and it is wrong in one way
 pub wrong_once : (text : List ℕ) (at other : ℕ) (fault wrong : NetFault) → FirstWrong text at fault → FirstWrong text other wrong → (at ≡ other) × (fault ≡ wrong)
 wrong_once text at other LoneCr LoneCr h k =
-    let o = one_way h.0 k.0 (13 ∷ h.1 ∷ h.2) (13 ∷ k.1 ∷ k.2) (stop_lone_cr h.1 h.2 h.3 h.4) (stop_lone_cr k.1 k.2 k.3 k.4) (sym h.5 ∙ k.5) in
-    (omega (arith, h.6, k.6, ap (λ (t : List ℕ). length (netascii_text t)) o.0), refl)
+    let o = one_way h.bytes k.bytes (13 ∷ h.byte ∷ h.rest) (13 ∷ k.byte ∷ k.rest) (stop_lone_cr h.byte h.rest h.no_lf h.no_nul) (stop_lone_cr k.byte k.rest k.no_lf k.no_nul) (sym h.split ∙ k.split) in
+    (omega (arith, h.place, k.place, ap (λ (t : List ℕ). length (netascii_text t)) o.0), refl)
 wrong_once text at other LoneLf LoneLf h k =
-    let o = one_way h.0 k.0 (10 ∷ h.1) (10 ∷ k.1) (stop_lf h.1) (stop_lf k.1) (sym h.2 ∙ k.2) in
-    (omega (arith, h.3, k.3, ap (λ (t : List ℕ). length (netascii_text t)) o.0), refl)
+    let o = one_way h.bytes k.bytes (10 ∷ h.rest) (10 ∷ k.rest) (stop_lf h.rest) (stop_lf k.rest) (sym h.split ∙ k.split) in
+    (omega (arith, h.place, k.place, ap (λ (t : List ℕ). length (netascii_text t)) o.0), refl)
 wrong_once text at other LoneCr LoneLf h k =
-    let o = one_way h.0 k.0 (13 ∷ h.1 ∷ h.2) (10 ∷ k.1) (stop_lone_cr h.1 h.2 h.3 h.4) (stop_lf k.1) (sym h.5 ∙ k.2) in
-    absurd (let e : 13 ∷ h.1 ∷ h.2 ≡ 10 ∷ k.1 = o.1 in let g : ◌≡◌ {A = ℕ} 13 10 = cc in omega arith)
+    let o = one_way h.bytes k.bytes (13 ∷ h.byte ∷ h.rest) (10 ∷ k.rest) (stop_lone_cr h.byte h.rest h.no_lf h.no_nul) (stop_lf k.rest) (sym h.split ∙ k.split) in
+    absurd (let e : 13 ∷ h.byte ∷ h.rest ≡ 10 ∷ k.rest = o.1 in let g : ◌≡◌ {A = ℕ} 13 10 = cc in omega arith)
 wrong_once text at other LoneLf LoneCr h k =
-    let o = one_way h.0 k.0 (10 ∷ h.1) (13 ∷ k.1 ∷ k.2) (stop_lf h.1) (stop_lone_cr k.1 k.2 k.3 k.4) (sym h.2 ∙ k.5) in
-    absurd (let e : 10 ∷ h.1 ≡ 13 ∷ k.1 ∷ k.2 = o.1 in let g : ◌≡◌ {A = ℕ} 10 13 = cc in omega arith)
+    let o = one_way h.bytes k.bytes (10 ∷ h.rest) (13 ∷ k.byte ∷ k.rest) (stop_lf h.rest) (stop_lone_cr k.byte k.rest k.no_lf k.no_nul) (sym h.split ∙ k.split) in
+    absurd (let e : 10 ∷ h.rest ≡ 13 ∷ k.byte ∷ k.rest = o.1 in let g : ◌≡◌ {A = ℕ} 10 13 = cc in omega arith)
 wrong_once text at other EndsInCr wrong h k = absurd h
 wrong_once text at other Memory wrong h k = absurd h
 wrong_once text at other LoneCr EndsInCr h k = absurd k

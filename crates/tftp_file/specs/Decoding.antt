@@ -31,11 +31,27 @@ Decodes held piece bytes after = IsHeld after × (held ++ piece ≡ netascii_tex
 abbrev pub BeginsWireText : List ℕ → Type 0
 BeginsWireText text = (bytes : List ℕ) × (after : List ℕ) × Decodes [] text bytes after
 
--- the byte at this place is the first that no wire text has there: a byte other than LF and NUL
--- behind a CR, or an LF without a CR before it
+-- behind some host's bytes as they travel stands a CR, and behind it, at this place, a byte other than LF and NUL
+pub record LoneCrAt (text : List ℕ) (at : ℕ) : Type 0 where
+  pub bytes : List ℕ
+  pub byte : ℕ
+  pub rest : List ℕ
+  pub no_lf : byte ≢ 10
+  pub no_nul : byte ≢ 0
+  pub split : text ≡ netascii_text bytes ++ (13 ∷ byte ∷ rest)
+  pub place : at ≡ length (netascii_text bytes) + 1
+
+-- behind some host's bytes as they travel stands, at this place, an LF
+pub record LoneLfAt (text : List ℕ) (at : ℕ) : Type 0 where
+  pub bytes : List ℕ
+  pub rest : List ℕ
+  pub split : text ≡ netascii_text bytes ++ (10 ∷ rest)
+  pub place : at ≡ length (netascii_text bytes)
+
+-- the byte at this place is the first that no wire text has there
 abbrev pub FirstWrong : List ℕ → ℕ → NetFault → Type 0
-FirstWrong text at LoneCr = (bytes : List ℕ) × (byte : ℕ) × (rest : List ℕ) × (byte ≢ 10) × (byte ≢ 0) × (text ≡ netascii_text bytes ++ (13 ∷ byte ∷ rest)) × (at ≡ length (netascii_text bytes) + 1)
-FirstWrong text at LoneLf = (bytes : List ℕ) × (rest : List ℕ) × (text ≡ netascii_text bytes ++ (10 ∷ rest)) × (at ≡ length (netascii_text bytes))
+FirstWrong text at LoneCr = LoneCrAt text at
+FirstWrong text at LoneLf = LoneLfAt text at
 FirstWrong text at EndsInCr = ⊥
 FirstWrong text at Memory = ⊥
 

@@ -64,6 +64,7 @@ impl Source for FaultSource {
 
     ghost may_fail = { FailsAt };
 
+    /// It holds no borrow: this says nothing.
     ghost is_same = { λ _ _. ⊤ };
 
     ghost stays = { λ _. tt };

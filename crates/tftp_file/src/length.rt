@@ -1,4 +1,4 @@
-//! How long a file is on the wire, told by reading it once.
+//! How long a file is on the wire.
 
 ghost use Rattle.std.specs.Prelude.{◌≡◌, ◌≤◌, ◌+◌, length, min, IfOk, IfErr, IfSome};
 ghost use Rattle.tftp_file.specs.Netascii.{wire_text};
