@@ -31,7 +31,8 @@ Decodes held piece bytes after = IsHeld after × (held ++ piece ≡ netascii_tex
 abbrev pub BeginsWireText : List ℕ → Type 0
 BeginsWireText text = (bytes : List ℕ) × (after : List ℕ) × Decodes [] text bytes after
 
--- behind some host's bytes as they travel stands a CR, and behind it, at this place, a byte other than LF and NUL
+-- behind some host's bytes as they travel stands a CR, and behind it, at this place, a byte that is
+-- neither LF nor NUL
 pub record LoneCrAt (text : List ℕ) (at : ℕ) : Type 0 where
   pub bytes : List ℕ
   pub byte : ℕ
@@ -69,7 +70,8 @@ Refuses text Memory = BeginsWireText text
 -- the pieces are taken one after another: the host's bytes that they give, and what is held back behind them
 abbrev pub TakesAll : List ℕ → List (List ℕ) → List ℕ → List ℕ → Type 0
 TakesAll held [] bytes after = (bytes ≡ []) × (after ≡ held)
-TakesAll held (piece ∷ pieces) bytes after = (first : List ℕ) × (between : List ℕ) × (rest : List ℕ) × Decodes held piece first between × TakesAll between pieces rest after × (bytes ≡ first ++ rest)
+TakesAll held (piece ∷ pieces) bytes after = (first : List ℕ) × (between : List ℕ) × (rest : List ℕ)
+    × Decodes held piece first between × TakesAll between pieces rest after × (bytes ≡ first ++ rest)
 
 -- the pieces before one are taken, and that one, which holds this place of the whole, is refused
 pub record RefusesAt (held : List ℕ) (pieces : List (List ℕ)) (at : ℕ) (fault : NetFault) : Type 0 where

@@ -28,7 +28,8 @@ IsFull sink = length sink.holding.bytes ≡ sink.room
 
 -- an append answers Full as it was told or past the room, and else fails with Memory alone
 abbrev pub MayRefuseAppend : MemSinkState → List ℕ → StoreFault → Type 0
-MayRefuseAppend sink piece Full = (sink.holding.refuses ≡ true) ⊎ (sink.room < length sink.holding.bytes + length piece)
+MayRefuseAppend sink piece Full =
+    (sink.holding.refuses ≡ true) ⊎ (sink.room < length sink.holding.bytes + length piece)
 MayRefuseAppend sink piece Memory = ⊤
 MayRefuseAppend sink piece fault = ⊥
 

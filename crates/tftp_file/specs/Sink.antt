@@ -4,7 +4,8 @@ use Rattle.tftp_file.specs.declared.fault.StoreFault.{StoreFault}
 use Rattle.tftp_file.specs.declared.fault.StoreFault.TheVariants.{Full, Memory}
 use Rattle.tftp_file.specs.Block.{IsBeginningOf}
 
--- the meaning of a sink: its bytes, whether they are committed, and whether it was told to refuse its next call
+-- the meaning of a sink: its bytes, whether they are committed, and whether it was told to refuse
+-- its next call
 pub record Holding : Type 0 where
   pub bytes : List ℕ
   pub committed : Bool
@@ -56,9 +57,11 @@ UnlessTold false before after result freely = freely
 -- what an append left of a sink, by its meaning before and after it
 abbrev pub Appends : {A : Type 0} → Option Holding → Option Holding → List ℕ → Result A StoreFault → Type 0
 Appends None after piece result = ⊤
-Appends (Some before) after piece result = UnlessTold before.refuses before after result (AppendsFreely before after piece result)
+Appends (Some before) after piece result =
+    UnlessTold before.refuses before after result (AppendsFreely before after piece result)
 
 -- what a commit left of a sink, by its meaning before and after it
 abbrev pub Commits : {A : Type 0} → Option Holding → Option Holding → Result A StoreFault → Type 0
 Commits None after result = ⊤
-Commits (Some before) after result = UnlessTold before.refuses before after result (CommitsFreely before after result)
+Commits (Some before) after result =
+    UnlessTold before.refuses before after result (CommitsFreely before after result)

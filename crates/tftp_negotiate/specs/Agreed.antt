@@ -32,7 +32,8 @@ pub record IsAgreement (known : List Known) : Type 0 where
   pub values : AllByRecursion IsAgreeable known
   pub once : stands_twice (λ name. count_of name known) ≡ false
 
--- the block size of a transfer, in data bytes: the default where none is agreed (RFC 1350, section 2; RFC 2348)
+-- the block size of a transfer, in data bytes: the default where none is agreed
+-- (RFC 1350, section 2; RFC 2348)
 abbrev pub size : List Known → ℕ
 size [] = DEFAULT_BLOCK
 size (Blksize n ∷ others) = n

@@ -20,7 +20,8 @@ use Rattle.tftp_negotiate.specs.Negotiation.{negotiated}
 abbrev pub taken_blksize : Option ℕ → Option ℕ → Result (Option Known) Refusal
 taken_blksize None value = Err NotAsked
 taken_blksize (Some most) None = Err BadValue
-taken_blksize (Some most) (Some n) = if is_in (block_sizes_to most) n then Ok (Some (Blksize n)) else Err BadValue
+taken_blksize (Some most) (Some n) =
+    if is_in (block_sizes_to most) n then Ok (Some (Blksize n)) else Err BadValue
 
 -- the seconds that were asked
 abbrev pub taken_timeout : Option ℕ → Option ℕ → Result (Option Known) Refusal

@@ -24,7 +24,8 @@ answered_blksize n max_block = if is_in block_sizes n then Some (Blksize (min n 
 abbrev pub answered_timeout : ℕ → Option Known
 answered_timeout n = if is_in timeouts n then Some (Timeout n) else None
 
--- a read asks 0, and the answer is the length of the wire text; a write asks its own length, which the server may refuse
+-- a read asks 0, and the answer is the length of the wire text; a write asks its own length, which
+-- the server may refuse
 abbrev pub answered_tsize : Mode → Kind → ℕ → ℕ → ℕ → Result (Option Known) Refusal
 answered_tsize Netascii kind length max_file n = Ok None
 answered_tsize Octet Read length max_file n = Ok (if n == 0 then Some (Tsize length) else None)
