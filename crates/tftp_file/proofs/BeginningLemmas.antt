@@ -26,8 +26,3 @@ host_begins Netascii xs ys h = netascii_begins xs ys h.0 h.1
 -- and travels as one
 pub wire_begins : (mode : Mode) (xs ys : List ℕ) → IsBeginningOf xs ys → IsBeginningOf (wire_text mode xs) (wire_text mode ys)
 wire_begins mode xs ys h = (wire_text mode h.0, sym (wire-append mode xs h.0) ∙ ap (λ (t : List ℕ). wire_text mode t) h.1)
-
--- two host's texts travel alike only if they are the same
-pub same_wire : (mode : Mode) (xs ys : List ℕ) → wire_text mode xs ≡ wire_text mode ys → xs ≡ ys
-same_wire mode xs ys e =
-    both_begin xs ys (host_begins mode xs ys ([], append-nil (wire_text mode xs) ∙ e)) (host_begins mode ys xs ([], append-nil (wire_text mode ys) ∙ sym e))

@@ -50,10 +50,6 @@ module _ (text : List ℕ) (size : ℕ) (some : 0 < size) where
   pub last_empty : (n : ℕ) → length text ≡ n * size → block text size (block_count text size) ≡ []
   last_empty n e = nil_from_length (block text size (block_count text size)) (length-last ∙ (ap (λ (k : ℕ). k % size) (let f : length text ≡ n * size + 0 = omega (arith, e) in f) ∙ mod-mul-add n size 0 some))
 
--- two beginnings of one text: the shorter begins the longer
-pub beginning_begins : (xs ys zs : List ℕ) → IsBeginningOf xs ys → IsBeginningOf ys zs → IsBeginningOf xs zs
-beginning_begins xs ys zs a b = (a.0 ++ b.0, sym (append_assoc xs a.0 b.0) ∙ (ap (λ (t : List ℕ). t ++ b.0) a.1 ∙ b.1))
-
 -- each of two is a beginning of the other only if they are the same
 pub both_begin : (xs ys : List ℕ) → IsBeginningOf xs ys → IsBeginningOf ys xs → xs ≡ ys
 both_begin xs ys a b =

@@ -18,7 +18,7 @@ decodes_joined : (held piece between next after first rest : List ℕ) → Decod
 decodes_joined held piece between next after first rest d k =
     (k.0, joins held piece between first next d.1 ∙ (ap (λ (t : List ℕ). netascii_text first ++ t) k.1 ∙ front_joins first rest after))
 
--- the bytes and the rest of a text can be told from it
+-- a text has one list of bytes, and one rest
 pub once : (held text bytes after others left : List ℕ) → Decodes held text bytes after → Decodes held text others left → (bytes ≡ others) × (after ≡ left)
 once held text bytes after others left d k = one_way bytes others after left (stop_held after d.0) (stop_held left k.0) (sym d.1 ∙ k.1)
 
@@ -59,8 +59,8 @@ whole_taken held (piece ∷ pieces) bytes after h d = elim (read (held ++ piece)
 
 -- where the first wrong byte stands
 pub wrong_within : (text : List ℕ) (at : ℕ) (fault : NetFault) → FirstWrong text at fault → at < length text
-wrong_within text at LoneCr h = omega (arith, h.6, ap length h.5, length-append (netascii_text h.0) (13 ∷ h.1 ∷ h.2))
-wrong_within text at LoneLf h = omega (arith, h.3, ap length h.2, length-append (netascii_text h.0) (10 ∷ h.1))
+wrong_within text at LoneCr h = omega (arith, h.place, ap length h.split, length-append (netascii_text h.bytes) (13 ∷ h.byte ∷ h.rest))
+wrong_within text at LoneLf h = omega (arith, h.place, ap length h.split, length-append (netascii_text h.bytes) (10 ∷ h.rest))
 wrong_within text at EndsInCr h = absurd h
 wrong_within text at Memory h = absurd h
 
@@ -77,10 +77,10 @@ lf_behind (x ∷ xs) piece rest e = some_wire x xs
 
 -- and that it is not what was held back
 wrong_behind_held : (held piece : List ℕ) (at : ℕ) (fault : NetFault) → IsHeld held → FirstWrong (held ++ piece) at fault → length held ≤ at
-wrong_behind_held held piece at LoneCr h w = elim h [ inl e ↦ omega (arith, ap length e) | inr e ↦ omega (arith, ap length e, w.6) ]
+wrong_behind_held held piece at LoneCr h w = elim h [ inl e ↦ omega (arith, ap length e) | inr e ↦ omega (arith, ap length e, w.place) ]
 wrong_behind_held held piece at LoneLf h w = elim h [
   | inl e ↦ omega (arith, ap length e)
-  | inr e ↦ omega (arith, ap length e, w.3, lf_behind w.0 piece w.1 (ap (λ (t : List ℕ). t ++ piece) (sym e) ∙ w.2))
+  | inr e ↦ omega (arith, ap length e, w.place, lf_behind w.bytes piece w.rest (ap (λ (t : List ℕ). t ++ piece) (sym e) ∙ w.split))
 ]
 wrong_behind_held held piece at EndsInCr h w = absurd w
 wrong_behind_held held piece at Memory h w = absurd w
@@ -88,17 +88,17 @@ wrong_behind_held held piece at Memory h w = absurd w
 -- a text has one first wrong byte, and it is wrong in one way
 pub wrong_once : (text : List ℕ) (at other : ℕ) (fault wrong : NetFault) → FirstWrong text at fault → FirstWrong text other wrong → (at ≡ other) × (fault ≡ wrong)
 wrong_once text at other LoneCr LoneCr h k =
-    let o = one_way h.0 k.0 (13 ∷ h.1 ∷ h.2) (13 ∷ k.1 ∷ k.2) (stop_lone_cr h.1 h.2 h.3 h.4) (stop_lone_cr k.1 k.2 k.3 k.4) (sym h.5 ∙ k.5) in
-    (omega (arith, h.6, k.6, ap (λ (t : List ℕ). length (netascii_text t)) o.0), refl)
+    let o = one_way h.bytes k.bytes (13 ∷ h.byte ∷ h.rest) (13 ∷ k.byte ∷ k.rest) (stop_lone_cr h.byte h.rest h.no_lf h.no_nul) (stop_lone_cr k.byte k.rest k.no_lf k.no_nul) (sym h.split ∙ k.split) in
+    (omega (arith, h.place, k.place, ap (λ (t : List ℕ). length (netascii_text t)) o.0), refl)
 wrong_once text at other LoneLf LoneLf h k =
-    let o = one_way h.0 k.0 (10 ∷ h.1) (10 ∷ k.1) (stop_lf h.1) (stop_lf k.1) (sym h.2 ∙ k.2) in
-    (omega (arith, h.3, k.3, ap (λ (t : List ℕ). length (netascii_text t)) o.0), refl)
+    let o = one_way h.bytes k.bytes (10 ∷ h.rest) (10 ∷ k.rest) (stop_lf h.rest) (stop_lf k.rest) (sym h.split ∙ k.split) in
+    (omega (arith, h.place, k.place, ap (λ (t : List ℕ). length (netascii_text t)) o.0), refl)
 wrong_once text at other LoneCr LoneLf h k =
-    let o = one_way h.0 k.0 (13 ∷ h.1 ∷ h.2) (10 ∷ k.1) (stop_lone_cr h.1 h.2 h.3 h.4) (stop_lf k.1) (sym h.5 ∙ k.2) in
-    absurd (let e : 13 ∷ h.1 ∷ h.2 ≡ 10 ∷ k.1 = o.1 in let g : ◌≡◌ {A = ℕ} 13 10 = cc in omega arith)
+    let o = one_way h.bytes k.bytes (13 ∷ h.byte ∷ h.rest) (10 ∷ k.rest) (stop_lone_cr h.byte h.rest h.no_lf h.no_nul) (stop_lf k.rest) (sym h.split ∙ k.split) in
+    absurd (let e : 13 ∷ h.byte ∷ h.rest ≡ 10 ∷ k.rest = o.1 in let g : ◌≡◌ {A = ℕ} 13 10 = cc in omega arith)
 wrong_once text at other LoneLf LoneCr h k =
-    let o = one_way h.0 k.0 (10 ∷ h.1) (13 ∷ k.1 ∷ k.2) (stop_lf h.1) (stop_lone_cr k.1 k.2 k.3 k.4) (sym h.2 ∙ k.5) in
-    absurd (let e : 10 ∷ h.1 ≡ 13 ∷ k.1 ∷ k.2 = o.1 in let g : ◌≡◌ {A = ℕ} 10 13 = cc in omega arith)
+    let o = one_way h.bytes k.bytes (10 ∷ h.rest) (13 ∷ k.byte ∷ k.rest) (stop_lf h.rest) (stop_lone_cr k.byte k.rest k.no_lf k.no_nul) (sym h.split ∙ k.split) in
+    absurd (let e : 10 ∷ h.rest ≡ 13 ∷ k.byte ∷ k.rest = o.1 in let g : ◌≡◌ {A = ℕ} 10 13 = cc in omega arith)
 wrong_once text at other EndsInCr wrong h k = absurd h
 wrong_once text at other Memory wrong h k = absurd h
 wrong_once text at other LoneCr EndsInCr h k = absurd k
@@ -107,25 +107,26 @@ wrong_once text at other LoneLf EndsInCr h k = absurd k
 wrong_once text at other LoneLf Memory h k = absurd k
 
 -- where the text begins a wire text, nothing is wrong, and else its first wrong byte is
-pub told : (text : List ℕ) → BeginsWireText text ⊎ ((at : ℕ) × (fault : NetFault) × FirstWrong text at fault)
-told text = elim (read text) [ Begins b ↦ inl b | Wrong fault w ↦ inr (w.0, fault, w.1) ]
+pub either : (text : List ℕ) → BeginsWireText text ⊎ ((at : ℕ) × (fault : NetFault) × FirstWrong text at fault)
+either text = elim (read text) [ Begins b ↦ inl b | Wrong fault w ↦ inr (w.0, fault, w.1) ]
 
 pub refused_at : (held : List ℕ) (pieces : List (List ℕ)) (at : ℕ) (fault : NetFault) → IsHeld held → FirstWrong (held ++ concat pieces) at fault → RefusesAt held pieces at fault
 refused_at held [] at fault h w = absurd (begins_or_wrong (held ++ []) fault ([], held, (h, append-nil held)) (at, w))
 refused_at held (piece ∷ pieces) at fault h w = elim (read (held ++ piece)) [
   | Wrong wrong v ↦
-      let o = wrong_once (held ++ (piece ++ concat pieces)) at v.0 fault wrong w (subst (λ (t : List ℕ). FirstWrong t v.0 wrong) (append_assoc held piece (concat pieces)) (first_wrong_before (held ++ piece) (concat pieces) v.0 wrong v.1)) in (
-        [],
-        piece,
-        pieces,
-        [],
-        held,
-        refl,
-        (refl, refl),
-        subst (λ (f : NetFault). IsWrong (held ++ piece) f) (sym o.1) v,
-        omega (arith, o.0, wrong_behind_held held piece v.0 wrong h v.1),
-        omega (arith, o.0, wrong_within (held ++ piece) v.0 wrong v.1, length-append held piece),
-      )
+      let o = wrong_once (held ++ (piece ++ concat pieces)) at v.0 fault wrong w (subst (λ (t : List ℕ). FirstWrong t v.0 wrong) (append_assoc held piece (concat pieces)) (first_wrong_before (held ++ piece) (concat pieces) v.0 wrong v.1)) in
+      record {
+        before = [];
+        piece = piece;
+        behind = pieces;
+        given = [];
+        between = held;
+        cut = refl;
+        taken = (refl, refl);
+        wrong = subst (λ (f : NetFault). IsWrong (held ++ piece) f) (sym o.1) v;
+        begins = omega (arith, o.0, wrong_behind_held held piece v.0 wrong h v.1);
+        ends = omega (arith, o.0, wrong_within (held ++ piece) v.0 wrong v.1, length-append held piece);
+      }
   | Begins b ↦ elim (read (b.1 ++ concat pieces)) [
     | Begins r ↦ absurd (begins_or_wrong (held ++ (piece ++ concat pieces)) fault
         (begins_cut held (piece ++ concat pieces) (b.0 ++ r.0) r.1 (decodes_joined held piece b.1 (concat pieces) r.1 b.0 r.0 b.2 r.2)) (at, w))
@@ -133,17 +134,18 @@ refused_at held (piece ∷ pieces) at fault h w = elim (read (held ++ piece)) [
         let o = wrong_once (held ++ (piece ++ concat pieces)) at (length (netascii_text b.0) + v.0) fault wrong w
         (subst (λ (t : List ℕ). FirstWrong t (length (netascii_text b.0) + v.0) wrong) (sym (joins held piece b.1 b.0 (concat pieces) b.2.1)) (first_wrong_behind b.0 (b.1 ++ concat pieces) v.0 wrong v.1)) in
         let i = refused_at b.1 pieces v.0 fault b.2.0 (subst (λ (f : NetFault). FirstWrong (b.1 ++ concat pieces) v.0 f) (sym o.1) v.1) in
-        let l : length held + length piece ≡ length (netascii_text b.0) + length b.1 = sym (length-append held piece) ∙ (ap length b.2.1 ∙ length-append (netascii_text b.0) b.1) in (
-          piece ∷ i.0,
-          i.1,
-          i.2,
-          b.0 ++ i.3,
-          i.4,
-          ap (λ (ps : List (List ℕ)). piece ∷ ps) i.5,
-          (b.0, b.1, i.3, b.2, i.6, refl),
-          i.7,
-          omega (arith, o.0, l, i.8, length-append piece (concat i.0)),
-          omega (arith, o.0, l, i.9, length-append piece (concat i.0)),
-        )
+        let l : length held + length piece ≡ length (netascii_text b.0) + length b.1 = sym (length-append held piece) ∙ (ap length b.2.1 ∙ length-append (netascii_text b.0) b.1) in
+        record {
+          before = piece ∷ i.before;
+          piece = i.piece;
+          behind = i.behind;
+          given = b.0 ++ i.given;
+          between = i.between;
+          cut = ap (λ (ps : List (List ℕ)). piece ∷ ps) i.cut;
+          taken = (b.0, b.1, i.given, b.2, i.taken, refl);
+          wrong = i.wrong;
+          begins = omega (arith, o.0, l, i.begins, length-append piece (concat i.before));
+          ends = omega (arith, o.0, l, i.ends, length-append piece (concat i.before));
+        }
   ]
 ]

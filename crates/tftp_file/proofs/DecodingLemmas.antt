@@ -11,20 +11,30 @@ use Rattle.tftp_file.specs.declared.netascii.NetFault.{NetFault}
 use Rattle.tftp_file.specs.declared.netascii.NetFault.TheVariants.{LoneCr, LoneLf, EndsInCr, Memory}
 use Rattle.tftp_file.proofs.NetasciiLemmas.{ByteForm, Line, Return, Itself, byte_form, netascii-append}
 
+-- a CR before a byte that makes no pair with it
+lone_cr : (byte : ℕ) (rest : List ℕ) → byte ≢ 10 → byte ≢ 0 → IsWrong (13 ∷ byte ∷ rest) LoneCr
+lone_cr byte rest a b =
+    (1, record { bytes = []; byte = byte; rest = rest; no_lf = a; no_nul = b; split = refl; place = refl })
+
+-- an LF at the front
+lone_lf : (byte : ℕ) (rest : List ℕ) → byte ≡ 10 → IsWrong (byte ∷ rest) LoneLf
+lone_lf byte rest e =
+    (0, record { bytes = []; rest = rest; split = ap (λ (n : ℕ). n ∷ rest) e; place = refl })
+
 -- the byte behind a held CR makes no pair
 pub wrong_pair : (piece : List ℕ) → 1 ≤ length piece → get_or piece 0 0 ≢ 10 → get_or piece 0 0 ≢ 0 → IsWrong (13 ∷ piece) LoneCr
 wrong_pair [] l a b = absurd (omega arith)
-wrong_pair (x ∷ xs) l a b = (1, ([], x, xs, a, b, refl, refl))
+wrong_pair (x ∷ xs) l a b = lone_cr x xs a b
 
 -- a line byte that begins no pair
 pub wrong_front : (text : List ℕ) → EndsAtLine text
     → (1 ≤ length text → get_or text 0 0 ≡ 10 → IsWrong text LoneLf)
     × (2 ≤ length text → get_or text 0 0 ≢ 10 → get_or text 1 0 ≢ 10 → get_or text 1 0 ≢ 0 → IsWrong text LoneCr)
 wrong_front [] h = (λ l e. absurd (omega arith), λ l e a b. absurd (omega arith))
-wrong_front (x ∷ []) h = (λ l e. (0, ([], [], ap (λ (n : ℕ). n ∷ []) e, refl)), λ l e a b. absurd (omega arith))
+wrong_front (x ∷ []) h = (λ l e. lone_lf x [] e, λ l e a b. absurd (omega arith))
 wrong_front (x ∷ y ∷ rest) h = (
-  λ l e. (0, ([], y ∷ rest, ap (λ (n : ℕ). n ∷ y ∷ rest) e, refl)),
-  λ l e a b. elim h [ inl p ↦ absurd (e p) | inr p ↦ (1, ([], y, rest, a, b, ap (λ (n : ℕ). n ∷ y ∷ rest) p, refl)) ],
+  λ l e. lone_lf x (y ∷ rest) e,
+  λ l e a b. elim h [ inl p ↦ absurd (e p) | inr p ↦ subst (λ (n : ℕ). IsWrong (n ∷ y ∷ rest) LoneCr) (sym p) (lone_cr y rest a b) ],
 )
 
 -- host's bytes in front of a text
@@ -36,21 +46,21 @@ length_joins front bytes = ap length (netascii-append front bytes) ∙ length-ap
 
 -- move a wrong byte behind host's bytes
 pub first_wrong_behind : (front text : List ℕ) (at : ℕ) (fault : NetFault) → FirstWrong text at fault → FirstWrong (netascii_text front ++ text) (length (netascii_text front) + at) fault
-first_wrong_behind front text at LoneCr h = (
-  front ++ h.0,
-  h.1,
-  h.2,
-  h.3,
-  h.4,
-  ap (λ (t : List ℕ). netascii_text front ++ t) h.5 ∙ front_joins front h.0 (13 ∷ h.1 ∷ h.2),
-  omega (arith, h.6, length_joins front h.0),
-)
-first_wrong_behind front text at LoneLf h = (
-  front ++ h.0,
-  h.1,
-  ap (λ (t : List ℕ). netascii_text front ++ t) h.2 ∙ front_joins front h.0 (10 ∷ h.1),
-  omega (arith, h.3, length_joins front h.0),
-)
+first_wrong_behind front text at LoneCr h = record {
+  bytes = front ++ h.bytes;
+  byte = h.byte;
+  rest = h.rest;
+  no_lf = h.no_lf;
+  no_nul = h.no_nul;
+  split = ap (λ (t : List ℕ). netascii_text front ++ t) h.split ∙ front_joins front h.bytes (13 ∷ h.byte ∷ h.rest);
+  place = omega (arith, h.place, length_joins front h.bytes);
+}
+first_wrong_behind front text at LoneLf h = record {
+  bytes = front ++ h.bytes;
+  rest = h.rest;
+  split = ap (λ (t : List ℕ). netascii_text front ++ t) h.split ∙ front_joins front h.bytes (10 ∷ h.rest);
+  place = omega (arith, h.place, length_joins front h.bytes);
+}
 first_wrong_behind front text at EndsInCr h = h
 first_wrong_behind front text at Memory h = h
 
@@ -62,8 +72,21 @@ append_tail : (text front rest behind : List ℕ) → text ≡ front ++ rest →
 append_tail text front rest behind e = ap (λ (t : List ℕ). t ++ behind) e ∙ append_assoc front rest behind
 
 pub first_wrong_before : (text behind : List ℕ) (at : ℕ) (fault : NetFault) → FirstWrong text at fault → FirstWrong (text ++ behind) at fault
-first_wrong_before text behind at LoneCr h = (h.0, h.1, h.2 ++ behind, h.3, h.4, append_tail text (netascii_text h.0) (13 ∷ h.1 ∷ h.2) behind h.5, h.6)
-first_wrong_before text behind at LoneLf h = (h.0, h.1 ++ behind, append_tail text (netascii_text h.0) (10 ∷ h.1) behind h.2, h.3)
+first_wrong_before text behind at LoneCr h = record {
+  bytes = h.bytes;
+  byte = h.byte;
+  rest = h.rest ++ behind;
+  no_lf = h.no_lf;
+  no_nul = h.no_nul;
+  split = append_tail text (netascii_text h.bytes) (13 ∷ h.byte ∷ h.rest) behind h.split;
+  place = h.place;
+}
+first_wrong_before text behind at LoneLf h = record {
+  bytes = h.bytes;
+  rest = h.rest ++ behind;
+  split = append_tail text (netascii_text h.bytes) (10 ∷ h.rest) behind h.split;
+  place = h.place;
+}
 first_wrong_before text behind at EndsInCr h = h
 first_wrong_before text behind at Memory h = h
 
@@ -108,7 +131,7 @@ stop_held held h = elim h [
   | inr e ↦ subst (λ (t : List ℕ). Stop t) (sym e) stop_cr
 ]
 
--- the next byte can be told from the wire text
+-- the wire text has one next byte
 pub next_byte : (x y : ℕ) (xs ys : List ℕ) → ByteForm x → ByteForm y → wire_byte x ++ xs ≡ wire_byte y ++ ys → (x ≡ y) × (xs ≡ ys)
 next_byte x y xs ys (Line a b _) (Line c d _) e =
     let f : 13 ∷ 10 ∷ xs ≡ 13 ∷ 10 ∷ ys = rw (b, d) at e in (a ∙ sym c, cc)
@@ -142,13 +165,13 @@ one_way (x ∷ xs) (y ∷ ys) a b p q e =
 -- a text that begins a wire text has no first wrong byte
 pub begins_or_wrong : (text : List ℕ) (fault : NetFault) → BeginsWireText text → IsWrong text fault → ⊥
 begins_or_wrong text LoneCr h w =
-    let o = one_way h.0 w.1.0 h.1 (13 ∷ w.1.1 ∷ w.1.2) (stop_held h.1 h.2.0) (stop_lone_cr w.1.1 w.1.2 w.1.3 w.1.4) (sym h.2.1 ∙ w.1.5) in
-    let e : h.1 ≡ 13 ∷ w.1.1 ∷ w.1.2 = o.1 in
-    elim h.2.0 [ inl n ↦ (let f : [] ≡ 13 ∷ w.1.1 ∷ w.1.2 = sym n ∙ e in cc) | inr n ↦ (let f : 13 ∷ [] ≡ 13 ∷ w.1.1 ∷ w.1.2 = sym n ∙ e in cc) ]
+    let o = one_way h.0 w.1.bytes h.1 (13 ∷ w.1.byte ∷ w.1.rest) (stop_held h.1 h.2.0) (stop_lone_cr w.1.byte w.1.rest w.1.no_lf w.1.no_nul) (sym h.2.1 ∙ w.1.split) in
+    let e : h.1 ≡ 13 ∷ w.1.byte ∷ w.1.rest = o.1 in
+    elim h.2.0 [ inl n ↦ (let f : [] ≡ 13 ∷ w.1.byte ∷ w.1.rest = sym n ∙ e in cc) | inr n ↦ (let f : 13 ∷ [] ≡ 13 ∷ w.1.byte ∷ w.1.rest = sym n ∙ e in cc) ]
 begins_or_wrong text LoneLf h w =
-    let o = one_way h.0 w.1.0 h.1 (10 ∷ w.1.1) (stop_held h.1 h.2.0) (stop_lf w.1.1) (sym h.2.1 ∙ w.1.2) in
-    let e : h.1 ≡ 10 ∷ w.1.1 = o.1 in
-    elim h.2.0 [ inl n ↦ (let f : [] ≡ 10 ∷ w.1.1 = sym n ∙ e in cc) | inr n ↦ (let f : 13 ∷ [] ≡ 10 ∷ w.1.1 = sym n ∙ e in let g : ◌≡◌ {A = ℕ} 13 10 = cc in absurd (omega arith)) ]
+    let o = one_way h.0 w.1.bytes h.1 (10 ∷ w.1.rest) (stop_held h.1 h.2.0) (stop_lf w.1.rest) (sym h.2.1 ∙ w.1.split) in
+    let e : h.1 ≡ 10 ∷ w.1.rest = o.1 in
+    elim h.2.0 [ inl n ↦ (let f : [] ≡ 10 ∷ w.1.rest = sym n ∙ e in cc) | inr n ↦ (let f : 13 ∷ [] ≡ 10 ∷ w.1.rest = sym n ∙ e in let g : ◌≡◌ {A = ℕ} 13 10 = cc in absurd (omega arith)) ]
 begins_or_wrong text EndsInCr h w = w.1
 begins_or_wrong text Memory h w = w.1
 
@@ -166,7 +189,7 @@ read_on [] = (Begins ([], [], (inl refl, refl)), Begins ([], 13 ∷ [], (inr ref
 read_on (x ∷ xs) =
     let h = read_on xs in (
       elim (byte_form x) [
-        | Line e _ _ ↦ Wrong LoneLf (0, ([], xs, ap (λ (n : ℕ). n ∷ xs) e, refl))
+        | Line e _ _ ↦ Wrong LoneLf (lone_lf x xs e)
         | Return e _ _ ↦ subst (λ (n : ℕ). Reading (n ∷ xs)) (sym e) h.1
         | Itself _ _ w _ ↦ subst (λ (t : List ℕ). Reading (t ++ xs)) w (read_byte x xs h.0)
       ],
@@ -174,7 +197,7 @@ read_on (x ∷ xs) =
         | inl e ↦ subst (λ (n : ℕ). Reading (13 ∷ n ∷ xs)) (sym e) (read_byte 10 xs h.0)
         | inr a ↦ elim (cases_eq x 0) [
           | inl e ↦ subst (λ (n : ℕ). Reading (13 ∷ n ∷ xs)) (sym e) (read_byte 13 xs h.0)
-          | inr b ↦ Wrong LoneCr (1, ([], x, xs, a, b, refl, refl))
+          | inr b ↦ Wrong LoneCr (lone_cr x xs a b)
         ]
       ],
     )
@@ -182,19 +205,19 @@ read_on (x ∷ xs) =
 pub read : (text : List ℕ) → Reading text
 read text = (read_on text).0
 
--- a run of plain bytes and a pair further on
+-- a run of unescaped bytes and a pair further on
 pub pair_taken : (text left run rest behind bytes : List ℕ) (byte : ℕ) → text ≡ netascii_text bytes ++ left → left ≡ run ++ rest → netascii_text run ≡ run → rest ≡ wire_byte byte ++ behind → text ≡ netascii_text (bytes ++ (run ++ byte ∷ [])) ++ behind
 pair_taken text left run rest behind bytes byte e p n r =
     let pair : netascii_text (byte ∷ []) ++ behind ≡ rest = ap (λ (t : List ℕ). t ++ behind) (append-nil (wire_byte byte)) ∙ sym r in
     let line : netascii_text (run ++ byte ∷ []) ++ behind ≡ left = sym (front_joins run (byte ∷ []) behind) ∙ (ap (λ (t : List ℕ). netascii_text run ++ t) pair ∙ (ap (λ (t : List ℕ). t ++ rest) n ∙ sym p)) in
     e ∙ (ap (λ (t : List ℕ). netascii_text bytes ++ t) (sym line) ∙ front_joins bytes (run ++ byte ∷ []) behind)
 
--- a run of plain bytes further on
+-- a run of unescaped bytes further on
 pub run_taken : (text left run rest bytes : List ℕ) → text ≡ netascii_text bytes ++ left → left ≡ run ++ rest → netascii_text run ≡ run → text ≡ netascii_text (bytes ++ run) ++ rest
 run_taken text left run rest bytes e p n =
     e ∙ (ap (λ (t : List ℕ). netascii_text bytes ++ t) (p ∙ ap (λ (t : List ℕ). t ++ rest) (sym n)) ∙ front_joins bytes run rest)
 
--- a wrong byte behind a run of plain bytes
+-- a wrong byte behind a run of unescaped bytes
 pub wrong_taken : (text left run rest bytes : List ℕ) (fault : NetFault) → text ≡ netascii_text bytes ++ left → left ≡ run ++ rest → netascii_text run ≡ run → IsWrong rest fault → IsWrong text fault
 wrong_taken text left run rest bytes fault e p n w =
     subst (λ (t : List ℕ). IsWrong t fault) (sym (run_taken text left run rest bytes e p n)) (wrong_behind (bytes ++ run) rest fault w)

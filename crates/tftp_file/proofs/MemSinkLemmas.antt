@@ -10,7 +10,7 @@ pub kept_first : (bytes piece : List ℕ) (n : ℕ) (committed refuses : Bool)
     (Some (record { bytes = bytes ++ take n piece; committed = false; refuses = refuses })) piece
 kept_first bytes piece n committed refuses = record {
   holding = record { bytes = bytes ++ take n piece; committed = false; refuses = refuses };
-  told = refl;
+  leaves = refl;
   kept = take n piece;
   beginning = (drop n piece, take-append-drop n piece);
   bytes = refl;

@@ -27,19 +27,16 @@ byte_form x = elim (cases_eq x 10) [
       ]
 ]
 
-netascii_cons : (x : ℕ) (xs : List ℕ) → netascii_text (x ∷ xs) ≡ wire_byte x ++ netascii_text xs
-netascii_cons x xs = refl
-
 pub netascii-append : (xs ys : List ℕ) → netascii_text (xs ++ ys) ≡ netascii_text xs ++ netascii_text ys
 netascii-append xs ys = flat_map-append wire_byte xs ys
 
 -- the bytes before the first CR or LF travel as themselves
-pub plain_front : (xs : List ℕ) → netascii_text (take (position_or_len is_line_byte xs) xs) ≡ take (position_or_len is_line_byte xs) xs
-plain_front [] = refl
-plain_front (x ∷ xs) = elim (byte_form x) [
+pub unescaped_front : (xs : List ℕ) → netascii_text (take (position_or_len is_line_byte xs) xs) ≡ take (position_or_len is_line_byte xs) xs
+unescaped_front [] = refl
+unescaped_front (x ∷ xs) = elim (byte_form x) [
   | Line _ _ t ↦ rw t
   | Return _ _ t ↦ rw t
-  | Itself _ _ w t ↦ rw (t, one-add) (rw w (ap (λ (zs : List ℕ). x ∷ zs) (plain_front xs)))
+  | Itself _ _ w t ↦ rw (t, one-add) (rw w (ap (λ (zs : List ℕ). x ∷ zs) (unescaped_front xs)))
 ]
 
 -- and behind them is the end, a CR or an LF

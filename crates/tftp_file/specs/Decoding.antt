@@ -31,11 +31,28 @@ Decodes held piece bytes after = IsHeld after × (held ++ piece ≡ netascii_tex
 abbrev pub BeginsWireText : List ℕ → Type 0
 BeginsWireText text = (bytes : List ℕ) × (after : List ℕ) × Decodes [] text bytes after
 
--- the byte at this place is the first that no wire text has there: a byte other than LF and NUL
--- behind a CR, or an LF without a CR before it
+-- behind some host's bytes as they travel stands a CR, and behind it, at this place, a byte that is
+-- neither LF nor NUL
+pub record LoneCrAt (text : List ℕ) (at : ℕ) : Type 0 where
+  pub bytes : List ℕ
+  pub byte : ℕ
+  pub rest : List ℕ
+  pub no_lf : byte ≢ 10
+  pub no_nul : byte ≢ 0
+  pub split : text ≡ netascii_text bytes ++ (13 ∷ byte ∷ rest)
+  pub place : at ≡ length (netascii_text bytes) + 1
+
+-- behind some host's bytes as they travel stands, at this place, an LF
+pub record LoneLfAt (text : List ℕ) (at : ℕ) : Type 0 where
+  pub bytes : List ℕ
+  pub rest : List ℕ
+  pub split : text ≡ netascii_text bytes ++ (10 ∷ rest)
+  pub place : at ≡ length (netascii_text bytes)
+
+-- the byte at this place is the first that no wire text has there
 abbrev pub FirstWrong : List ℕ → ℕ → NetFault → Type 0
-FirstWrong text at LoneCr = (bytes : List ℕ) × (byte : ℕ) × (rest : List ℕ) × (byte ≢ 10) × (byte ≢ 0) × (text ≡ netascii_text bytes ++ (13 ∷ byte ∷ rest)) × (at ≡ length (netascii_text bytes) + 1)
-FirstWrong text at LoneLf = (bytes : List ℕ) × (rest : List ℕ) × (text ≡ netascii_text bytes ++ (10 ∷ rest)) × (at ≡ length (netascii_text bytes))
+FirstWrong text at LoneCr = LoneCrAt text at
+FirstWrong text at LoneLf = LoneLfAt text at
 FirstWrong text at EndsInCr = ⊥
 FirstWrong text at Memory = ⊥
 
@@ -43,7 +60,7 @@ FirstWrong text at Memory = ⊥
 abbrev pub IsWrong : List ℕ → NetFault → Type 0
 IsWrong text fault = (at : ℕ) × FirstWrong text at fault
 
--- why a push refuses a text: its first wrong byte, or want of memory for a text without one
+-- why a push refuses a text: its first wrong byte, or out of memory for a text without one
 abbrev pub Refuses : List ℕ → NetFault → Type 0
 Refuses text LoneCr = IsWrong text LoneCr
 Refuses text LoneLf = IsWrong text LoneLf
@@ -53,8 +70,18 @@ Refuses text Memory = BeginsWireText text
 -- the pieces are taken one after another: the host's bytes that they give, and what is held back behind them
 abbrev pub TakesAll : List ℕ → List (List ℕ) → List ℕ → List ℕ → Type 0
 TakesAll held [] bytes after = (bytes ≡ []) × (after ≡ held)
-TakesAll held (piece ∷ pieces) bytes after = (first : List ℕ) × (between : List ℕ) × (rest : List ℕ) × Decodes held piece first between × TakesAll between pieces rest after × (bytes ≡ first ++ rest)
+TakesAll held (piece ∷ pieces) bytes after = (first : List ℕ) × (between : List ℕ) × (rest : List ℕ)
+    × Decodes held piece first between × TakesAll between pieces rest after × (bytes ≡ first ++ rest)
 
 -- the pieces before one are taken, and that one, which holds this place of the whole, is refused
-abbrev pub RefusesAt : List ℕ → List (List ℕ) → ℕ → NetFault → Type 0
-RefusesAt held pieces at fault = (before : List (List ℕ)) × (piece : List ℕ) × (behind : List (List ℕ)) × (given : List ℕ) × (between : List ℕ) × (pieces ≡ before ++ piece ∷ behind) × TakesAll held before given between × IsWrong (between ++ piece) fault × (length held + length (concat before) ≤ at) × (at < length held + length (concat before) + length piece)
+pub record RefusesAt (held : List ℕ) (pieces : List (List ℕ)) (at : ℕ) (fault : NetFault) : Type 0 where
+  pub before : List (List ℕ)
+  pub piece : List ℕ
+  pub behind : List (List ℕ)
+  pub given : List ℕ
+  pub between : List ℕ
+  pub cut : pieces ≡ before ++ piece ∷ behind
+  pub taken : TakesAll held before given between
+  pub wrong : IsWrong (between ++ piece) fault
+  pub begins : length held + length (concat before) ≤ at
+  pub ends : at < length held + length (concat before) + length piece

@@ -5,6 +5,7 @@ pub mod Source
 pub mod Sink
 pub mod Encoding
 pub mod Memory
+pub mod FaultSource
 pub mod Stream
 pub mod Decoding
 pub mod Lines

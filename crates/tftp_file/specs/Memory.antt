@@ -22,9 +22,14 @@ new_mem_sink room refuses_commit = record {
 abbrev pub with_told : MemSinkState → Bool → MemSinkState
 with_told sink told = record sink { holding = record sink.holding { refuses = told } }
 
--- an append answers Full as it was told or past the room, and else fails for memory alone
+-- the room is all held
+abbrev pub IsFull : MemSinkState → Type 0
+IsFull sink = length sink.holding.bytes ≡ sink.room
+
+-- an append answers Full as it was told or past the room, and else fails with Memory alone
 abbrev pub MayRefuseAppend : MemSinkState → List ℕ → StoreFault → Type 0
-MayRefuseAppend sink piece Full = (sink.holding.refuses ≡ true) ⊎ (sink.room < length sink.holding.bytes + length piece)
+MayRefuseAppend sink piece Full =
+    (sink.holding.refuses ≡ true) ⊎ (sink.room < length sink.holding.bytes + length piece)
 MayRefuseAppend sink piece Memory = ⊤
 MayRefuseAppend sink piece fault = ⊥
 

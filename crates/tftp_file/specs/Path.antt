@@ -14,16 +14,23 @@ path_fault_number Memory = 5
 
 -- a letter, a digit, a dot, an underscore or a dash
 abbrev pub is_name_byte : ℕ → Bool
-is_name_byte byte = (nat_le 65 byte && nat_le byte 90) || (nat_le 97 byte && nat_le byte 122) || (nat_le 48 byte && nat_le byte 57) || byte == 46 || byte == 95 || byte == 45
+is_name_byte byte = (nat_le 65 byte && nat_le byte 90) || (nat_le 97 byte && nat_le byte 122)
+    || (nat_le 48 byte && nat_le byte 57) || byte == 46 || byte == 95 || byte == 45
 
 -- 1 to 64 name bytes, the first of which is no dot
 abbrev pub is_segment : List ℕ → Bool
 is_segment [] = false
-is_segment (first ∷ rest) = not (first == 46) && nat_le (length (first ∷ rest)) 64 && list_all is_name_byte (first ∷ rest)
+is_segment (first ∷ rest) = not (first == 46) && nat_le (length (first ∷ rest)) 64
+    && list_all is_name_byte (first ∷ rest)
 
 -- 1 to 8 segments, joined by slashes, of 255 bytes at most
-abbrev pub IsPath : List ℕ → Type 0
-IsPath path = (segments : List (List ℕ)) × (path ≡ join_with_byte 47 segments) × All (λ segment. IsTrue (is_segment segment)) segments × (1 ≤ length segments) × (length segments ≤ 8) × (length path ≤ 255)
+pub record IsPath (path : List ℕ) : Type 0 where
+  pub segments : List (List ℕ)
+  pub joined : path ≡ join_with_byte 47 segments
+  pub allowed : All (λ segment. IsTrue (is_segment segment)) segments
+  pub some : 1 ≤ length segments
+  pub few : length segments ≤ 8
+  pub short : length path ≤ 255
 
 -- the name without one leading slash
 abbrev pub without_slash : List ℕ → List ℕ
@@ -43,11 +50,11 @@ checked_path path =
 abbrev pub path_of_name : List ℕ → Result (List ℕ) PathFault
 path_of_name name = checked_path (without_slash name)
 
--- the answer is the definition's; memory may be wanting where that is a path
+-- the answer is the definition's, or out of memory where that is a path
 abbrev pub AnswersPath : Result (List ℕ) PathFault → Result (List ℕ) PathFault → Type 0
-AnswersPath wanted (Ok path) = wanted ≡ Ok path
-AnswersPath wanted (Err Empty) = wanted ≡ Err Empty
-AnswersPath wanted (Err Segment) = wanted ≡ Err Segment
-AnswersPath wanted (Err Depth) = wanted ≡ Err Depth
-AnswersPath wanted (Err Length) = wanted ≡ Err Length
-AnswersPath wanted (Err Memory) = IsOk wanted
+AnswersPath expected (Ok path) = expected ≡ Ok path
+AnswersPath expected (Err Empty) = expected ≡ Err Empty
+AnswersPath expected (Err Segment) = expected ≡ Err Segment
+AnswersPath expected (Err Depth) = expected ≡ Err Depth
+AnswersPath expected (Err Length) = expected ≡ Err Length
+AnswersPath expected (Err Memory) = IsOk expected

@@ -1,10 +1,11 @@
--- What an append and a commit leave of a sink.
+-- What an append and a commit leave of a sink. A sink is told to refuse a call, and is told so no more.
 use Rattle.std.specs.Prelude.{ℕ, ◌≡◌, Bool, true, false, List, ◌++◌, Option, Some, None, Result, Ok, Err, ⊤}
 use Rattle.tftp_file.specs.declared.fault.StoreFault.{StoreFault}
 use Rattle.tftp_file.specs.declared.fault.StoreFault.TheVariants.{Full, Memory}
 use Rattle.tftp_file.specs.Block.{IsBeginningOf}
 
--- the meaning of a sink: its bytes, whether they are committed, and whether it was told to refuse its next call
+-- the meaning of a sink: its bytes, whether they are committed, and whether it was told to refuse
+-- its next call
 pub record Holding : Type 0 where
   pub bytes : List ℕ
   pub committed : Bool
@@ -25,12 +26,12 @@ as_committed holding = record holding { committed = true }
 -- a call was refused as it was told to be: it answers Full, and is told no more
 pub record RefusedAsTold {A : Type 0} (before : Holding) (after : Option Holding) (result : Result A StoreFault) : Type 0 where
   pub answer : result ≡ Err Full
-  pub told : after ≡ Some (told_no_more before)
+  pub leaves : after ≡ Some (told_no_more before)
 
 -- a beginning of the piece was kept, or the sink is as it was
 pub record KeptBeginning (before : Holding) (after : Option Holding) (piece : List ℕ) : Type 0 where
   pub holding : Holding
-  pub told : after ≡ Some holding
+  pub leaves : after ≡ Some holding
   pub kept : List ℕ
   pub beginning : IsBeginningOf kept piece
   pub bytes : holding.bytes ≡ before.bytes ++ kept
@@ -56,9 +57,11 @@ UnlessTold false before after result freely = freely
 -- what an append left of a sink, by its meaning before and after it
 abbrev pub Appends : {A : Type 0} → Option Holding → Option Holding → List ℕ → Result A StoreFault → Type 0
 Appends None after piece result = ⊤
-Appends (Some before) after piece result = UnlessTold before.refuses before after result (AppendsFreely before after piece result)
+Appends (Some before) after piece result =
+    UnlessTold before.refuses before after result (AppendsFreely before after piece result)
 
 -- what a commit left of a sink, by its meaning before and after it
 abbrev pub Commits : {A : Type 0} → Option Holding → Option Holding → Result A StoreFault → Type 0
 Commits None after result = ⊤
-Commits (Some before) after result = UnlessTold before.refuses before after result (CommitsFreely before after result)
+Commits (Some before) after result =
+    UnlessTold before.refuses before after result (CommitsFreely before after result)

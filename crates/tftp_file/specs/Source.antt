@@ -9,8 +9,8 @@ pub record Moved (left : List ℕ) (after : Option (List ℕ)) (want : ℕ) (old
   pub given : new ≡ old ++ take k left
   pub rest : after ≡ Some (drop k left)
 
--- some k bytes came to the end of the buffer
-pub record MovedUntold (want : ℕ) (old new : List ℕ) (k : ℕ) : Type 0 where
+-- some k bytes came to the end of the buffer, of a source whose text is not known
+pub record MovedUnknown (want : ℕ) (old new : List ℕ) (k : ℕ) : Type 0 where
   pub piece : List ℕ
   pub given : new ≡ old ++ piece
   pub count : length piece ≡ k
@@ -24,6 +24,6 @@ pub record Unmoved (before after : Option (List ℕ)) (old new : List ℕ) : Typ
 -- what a fill of so many bytes did, by what the source had left before and after it
 abbrev pub Fills : Option (List ℕ) → Option (List ℕ) → ℕ → List ℕ → List ℕ → Result ℕ FileFault → Type 0
 Fills (Some left) after want old new (Ok k) = Moved left after want old new k
-Fills None after want old new (Ok k) = MovedUntold want old new k
+Fills None after want old new (Ok k) = MovedUnknown want old new k
 Fills before after want old new (Err Read) = new ≡ old
 Fills before after want old new (Err Memory) = Unmoved before after old new

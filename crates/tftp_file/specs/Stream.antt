@@ -1,4 +1,4 @@
--- What a source over a reader and a sink over a writer stand for, where the reader and the writer tell their bytes.
+-- What a source over a reader and a sink over a writer stand for, where the bytes of those are known.
 use Rattle.std.specs.Prelude.{ℕ, ◌≡◌, Bool, false, List, [], ◌++◌, length, Option, option_to_list, option_map, Result, Ok, Err}
 use Rattle.std.specs.Io.KnownBytes.{Consumes, Appends as Grows}
 use Rattle.tftp_file.specs.declared.fault.StoreFault.{StoreFault}
@@ -23,7 +23,7 @@ abbrev pub text_held : Encoding → List ℕ
 text_held Octet = []
 text_held (Netascii held) = option_to_list held
 
--- the wire text that a source has left, where its reader tells its bytes
+-- the wire text that a source has left, where its reader's bytes are known
 abbrev pub source_left : {R : Type 0} → (R → Option (List ℕ)) → ReadSource R → Option (List ℕ)
 source_left remaining source = option_map (text_left (source_encoding source)) (remaining (source_reader source))
 
@@ -35,9 +35,11 @@ sink_writer sink = sink.writer
 abbrev pub sink_committed : {W : Type 0} → WriteSink W → Bool
 sink_committed sink = sink.is_committed
 
--- what a sink holds, where its writer tells its bytes
+-- what a sink holds, where its writer's bytes are known
 abbrev pub sink_holding : {W : Type 0} → (W → Option (List ℕ)) → WriteSink W → Option Holding
-sink_holding contents sink = option_map (λ bytes. record { bytes = bytes; committed = sink_committed sink; refuses = false }) (contents (sink_writer sink))
+sink_holding contents sink =
+    option_map (λ bytes. record { bytes = bytes; committed = sink_committed sink; refuses = false })
+    (contents (sink_writer sink))
 
 -- n bytes came to the end of the buffer, and they are those that are gone from the front of what was left
 pub record Gives (before after : Option (List ℕ)) (old new : List ℕ) (n : ℕ) : Type 0 where

@@ -9,10 +9,10 @@ use thiserror::Error;
 /// Why a file could not be read.
 #[derive(Clone, Copy, Debug, PartialEq, Eq, Error)]
 pub enum FileFault {
-    /// Reading failed.
+    /// A read failed.
     #[error("the file could not be read")]
     Read = 1,
-    /// Memory was wanting.
+    /// Out of memory.
     #[error("out of memory")]
     Memory = 2,
 }
@@ -57,13 +57,13 @@ pub enum StoreFault {
     /// There is a file of that name.
     #[error("the file exists")]
     Exists = 2,
-    /// There is no room left.
+    /// No room is left.
     #[error("no room is left")]
     Full = 3,
-    /// Reading or writing failed.
+    /// A read, a write or a flush failed.
     #[error("the store failed")]
     Io = 4,
-    /// Memory was wanting.
+    /// Out of memory.
     #[error("out of memory")]
     Memory = 5,
 }

@@ -1,11 +1,12 @@
-//! What holds of the definitions alone: text that is cut anywhere, blocks, and beginnings.
+//! What holds of the definitions alone: text that is cut anywhere, blocks, beginnings and names.
 
-ghost use Rattle.std.specs.Prelude.{◌≡◌, ◌+◌, ◌*◌, ◌<◌, ◌≤◌, ◌↔◌, ◌⊎◌, ◌++◌, ℕ, List, [], length};
+ghost use Rattle.std.specs.Prelude.{◌≡◌, ◌+◌, ◌*◌, ◌<◌, ◌≤◌, ◌↔◌, ◌⊎◌, ◌++◌, ℕ, List, [], Ok, length};
 ghost use Rattle.std.specs.List.{concat};
 ghost use Rattle.tftp_wire.specs.declared.mode.Mode.{Mode};
 ghost use Rattle.tftp_file.specs.declared.netascii.NetFault.{NetFault};
 ghost use Rattle.tftp_file.specs.Netascii.{wire_text};
 ghost use Rattle.tftp_file.specs.Block.{block, block_count, first_blocks, IsBeginningOf};
+ghost use Rattle.tftp_file.specs.Path.{IsPath, path_of_name, without_slash};
 ghost use Rattle.tftp_file.specs.Decoding.{IsHeld, Decodes, BeginsWireText, FirstWrong, TakesAll, RefusesAt};
 
 /// Netascii is decoded in the same way wherever it is cut (RFC 764).
@@ -20,10 +21,10 @@ pub fn any_cut()
         → IsHeld held → FirstWrong (held ++ concat pieces) at fault → RefusesAt held pieces at fault }
 {}
 
-/// A text begins a wire text, or it has a first wrong byte, and never both; what it gives, and what
-/// is wrong with it, can be told in one way (RFC 764).
+/// A text begins a wire text, or it has a first wrong byte, and never both; it gives one list of
+/// bytes, and it is wrong at one place and in one way (RFC 764).
 pub fn one_reading()
-    ensures told { (text : List ℕ) → BeginsWireText text
+    ensures either { (text : List ℕ) → BeginsWireText text
         ⊎ ((at : ℕ) × (fault : NetFault) × FirstWrong text at fault) }
     ensures apart { (text : List ℕ) (at : ℕ) (fault : NetFault) → BeginsWireText text
         → FirstWrong text at fault → ⊥ }
@@ -52,4 +53,11 @@ pub fn blocks()
 pub fn beginnings()
     ensures { (mode : Mode) (xs ys : List ℕ)
         → IsBeginningOf xs ys ↔ IsBeginningOf (wire_text mode xs) (wire_text mode ys) }
+{}
+
+/// A name spells a path exactly if what stands behind its one leading slash, where it has one, is a
+/// path, and it spells that path. It is this project's rule: RFC 1350 leaves the names of files open.
+pub fn names()
+    ensures { (name path : List ℕ)
+        → ((path_of_name name ≡ Ok path) ↔ (IsPath path × (without_slash name ≡ path))) }
 {}

@@ -1,4 +1,4 @@
-//! How long a file is on the wire, told by reading it once.
+//! How long a file is on the wire.
 
 ghost use Rattle.std.specs.Prelude.{◌≡◌, ◌≤◌, ◌+◌, length, min, IfOk, IfErr, IfSome};
 ghost use Rattle.tftp_file.specs.Netascii.{wire_text};
@@ -37,7 +37,21 @@ pub fn wire_length<R: Read + Drop>(mut reader: R, mode: Mode) -> Result<u64, Fil
     Ok(MAX_WIRE + 1)
 }
 
-/// The length of the bytes on the wire; there are few enough for it to fit.
+/// The length of the bytes' wire text in the mode, in bytes, or `most` where it is greater. It takes
+/// time in the bytes, and no memory.
+pub fn wire_length_within(bytes: &[u8], mode: Mode, most: u64) -> u64
+    ensures { result ≡ min (length (wire_text mode bytes.now)) most }
+{
+    let length = bytes.len() as u64;
+    match mode {
+        Mode::Octet => length.min(most),
+        Mode::Netascii => length
+            .saturating_add(line_byte_count(bytes) as u64)
+            .min(most),
+    }
+}
+
+/// The length of the bytes' wire text; there are few enough for it to fit.
 fn wire_count(bytes: &[u8], mode: Mode) -> usize
     requires { length bytes.now ≤ 8192 }
     ensures value { result ≡ length (wire_text mode bytes.now) }

@@ -10,6 +10,7 @@
 
 mod encoding;
 mod fault;
+mod fault_source;
 mod files;
 pub mod laws;
 mod length;
@@ -28,8 +29,9 @@ mod stream_tests;
 mod text_tests;
 
 pub use fault::{FileFault, StoreFault};
+pub use fault_source::FaultSource;
 pub use files::Files;
-pub use length::{MAX_WIRE, wire_length};
+pub use length::{MAX_WIRE, wire_length, wire_length_within};
 pub use memory::{MemSink, MemSource};
 pub use netascii::{NetDecoder, NetEncoder, NetFault};
 pub use path::{Path, PathFault, path_of};

@@ -37,11 +37,11 @@ fn run_length(text: &[u8]) -> usize
     end.unwrap_or(text.len())
 }
 
-/// The front of the text without CR and LF, and the rest.
-#[tactic(auto, using(crate::proofs::NetasciiLemmas::plain_front, crate::proofs::NetasciiLemmas::run_ends))]
+/// The front of the text up to its first CR or LF, which travels as itself, and the rest.
+#[tactic(auto, using(crate::proofs::NetasciiLemmas::unescaped_front, crate::proofs::NetasciiLemmas::run_ends))]
 pub(crate) fn split_run(text: &[u8]) -> (&[u8], &[u8])
     ensures parts { text.now ≡ result.0.now ++ result.1.now }
-    ensures plain { netascii_text result.0.now ≡ result.0.now }
+    ensures unescaped { netascii_text result.0.now ≡ result.0.now }
     ensures ends { EndsAtLine result.1.now }
 {
     text.split_at(run_length(text))

@@ -31,8 +31,8 @@ impl Model for MemSource {
 }
 
 impl MemSource {
-    /// A source of the bytes' wire text in the mode. It copies the bytes, and fails for want of
-    /// memory alone, with `Memory`.
+    /// A source of the bytes' wire text in the mode. It copies the bytes, and fails with `Memory`
+    /// alone.
     pub fn new(alloc: Global, bytes: &[u8], mode: Mode) -> Result<MemSource, FileFault>
         ensures ok { IfOk result (λ source. source ≡ wire_text mode bytes.now) }
         ensures memory { IfErr result (λ fault. fault ≡ FileFault.Memory) }
@@ -52,6 +52,7 @@ impl Source for MemSource {
 
     ghost may_fail = { λ _ _. ⊥ };
 
+    /// It holds no borrow: this says nothing.
     ghost is_same = { λ _ _. ⊤ };
 
     ghost stays = { λ _. tt };
@@ -95,8 +96,8 @@ impl Model for MemSink {
 }
 
 impl MemSink {
-    /// An empty sink with room for so many bytes, whose commit is refused if told so. It takes no
-    /// memory.
+    /// An empty sink with room for so many bytes. With `refuse_commit` it is made to refuse each
+    /// commit with `Full`. It takes no memory.
     pub fn new(alloc: Global, room: u64, refuse_commit: bool) -> MemSink
         ensures { result ≡ new_mem_sink room refuse_commit }
     {
@@ -131,7 +132,7 @@ impl MemSink {
         self.refuses_next = told;
     }
 
-    /// Whether the next append or commit was told to be refused.
+    /// Whether the sink was told to refuse its next append or commit.
     pub fn refuses(&self) -> bool
         ensures { result ≡ self.now.holding.refuses }
     {
@@ -144,7 +145,7 @@ impl Sink for MemSink {
     ghost use Rattle.std.specs.Prelude.{◌≡◌, ◌≢◌, ◌≤◌, ◌<◌, ◌+◌, ◌++◌, true, false, length, take, Err, IfErr, IsErr, refl};
     ghost use Rattle.std.proofs.Common.{◌∙◌};
     ghost use Rattle.tftp_file.specs.Sink.{Appends, Commits};
-    ghost use Rattle.tftp_file.specs.Memory.{MayRefuseAppend, MayRefuseCommit};
+    ghost use Rattle.tftp_file.specs.Memory.{IsFull, MayRefuseAppend, MayRefuseCommit};
 
     ghost held = { λ s. Some s.holding };
 
@@ -152,13 +153,15 @@ impl Sink for MemSink {
 
     ghost may_refuse_commit = { MayRefuseCommit };
 
+    /// It holds no borrow: its room stays, and whether it was made to refuse its commit.
     ghost is_same = { λ s t. (t.room ≡ s.room) × (t.refuses_commit ≡ s.refuses_commit) };
 
     ghost stays = { λ _. (refl, refl) };
 
     ghost joins = { λ _ _ _ p q. (q.0 ∙ p.0, q.1 ∙ p.1) };
 
-    /// What has room of the bytes is kept, and where that is not all of them the answer is `Full`.
+    /// What has room of the bytes is held, and where that is not all of them the answer is `Full`.
+    /// Where none of them has room, it takes no memory.
     fn append(&mut self, bytes: &[u8]) -> Result<(), StoreFault>
         ensures appends { Appends (Some self.old.holding) (Some self.new.holding) bytes.now result }
         ensures refused { IfErr result (MayRefuseAppend self.old bytes.now) }
@@ -168,6 +171,7 @@ impl Sink for MemSink {
             → IsErr result }
         ensures filled { result ≡ Err StoreFault.Full → self.old.holding.refuses ≡ false
             → self.new.holding.bytes ≡ take self.old.room (self.old.holding.bytes ++ bytes.now) }
+        ensures full { IsFull self.old → 0 < length bytes.now → result ≡ Err StoreFault.Full }
     {
         if self.refuses_next {
             self.refuses_next = false;
@@ -189,7 +193,7 @@ impl Sink for MemSink {
         ensures not_memory { result ≢ Err StoreFault.Memory }
         ensures same { (self.new.room ≡ self.old.room)
             × (self.new.refuses_commit ≡ self.old.refuses_commit) }
-        ensures told { self.old.refuses_commit ≡ true → result ≡ Err StoreFault.Full }
+        ensures refuses { self.old.refuses_commit ≡ true → result ≡ Err StoreFault.Full }
     {
         if self.refuses_next {
             self.refuses_next = false;

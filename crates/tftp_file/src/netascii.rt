@@ -11,7 +11,7 @@ use std::alloc::AllocError;
 use std::marker::Model;
 use thiserror::Error;
 
-/// Why bytes are no netascii, or that memory was wanting.
+/// Why bytes are no netascii (RFC 764), or that it is out of memory.
 #[derive(Clone, Copy, Debug, PartialEq, Eq, Error)]
 pub enum NetFault {
     /// A CR stands before a byte other than LF and NUL.
@@ -23,7 +23,7 @@ pub enum NetFault {
     /// The text ends in a CR.
     #[error("the text ends in a CR")]
     EndsInCr = 3,
-    /// Memory was wanting; the text is not at fault.
+    /// Out of memory; the text is not at fault.
     #[error("out of memory")]
     Memory = 4,
 }

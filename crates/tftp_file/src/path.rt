@@ -20,7 +20,7 @@ const MAX_DEPTH: usize = 8;
 
 const MAX_SEGMENT: usize = 64;
 
-/// Why a name is no path, or that memory was wanting.
+/// Why a name is no path, or that it is out of memory.
 #[derive(Clone, Copy, Debug, PartialEq, Eq, Error)]
 pub enum PathFault {
     /// Nothing is left of the name behind its leading slash.
@@ -36,7 +36,7 @@ pub enum PathFault {
     /// The name is longer than 255 bytes behind its leading slash.
     #[error("the name is too long")]
     Length = 4,
-    /// Memory was wanting; the name is not at fault.
+    /// Out of memory; the name is not at fault.
     #[error("out of memory")]
     Memory = 5,
 }

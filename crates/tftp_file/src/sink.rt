@@ -8,12 +8,12 @@ use crate::StoreFault;
 
 /// A file that is written from its front, and committed as a whole.
 ///
-/// A sink over memory tells what it holds; one over a file tells nothing, and then its calls
-/// promise only which answers they give. Some sinks can be told to refuse their next call: it
-/// answers `Full`, changes nothing else, and is told no more.
+/// Of a sink over memory a contract knows what it holds; of one over a file it does not, and then
+/// its calls promise only which answers they give. Some sinks can be told to refuse their next call:
+/// it answers `Full`, changes nothing else, and is told no more.
 pub trait Sink {
-    /// The bytes held, whether they are committed and whether the next call was told to be refused,
-    /// where the sink tells them.
+    /// The bytes held, whether they are committed and whether the sink was told to refuse its next
+    /// call, or `None` where that is not known.
     ghost held: { Self → Option Holding };
 
     /// An append of these bytes may answer this fault.
@@ -22,13 +22,14 @@ pub trait Sink {
     /// A commit may answer this fault.
     ghost may_refuse_commit: { Self → StoreFault → Type 0 } = { λ _ _. Unit {0} };
 
-    /// It is the same sink as before, over the same borrows.
+    /// The second is the first at a later time: it holds the same borrows. Of a sink that holds no
+    /// borrow an implementation may say what never changes, or nothing.
     ghost is_same: { Self → Self → Type 0 };
 
     /// Puts the bytes at the end of what is held.
     ///
-    /// After `Memory` nothing has changed. After another fault some first of the bytes may have
-    /// been added, and none before them has gone.
+    /// After `Memory` nothing has changed. After `Full` or `Io` nothing has changed, or some first of
+    /// the bytes have been added, or none, and what is held is not committed.
     fn append(&mut self, bytes: &[u8]) -> Result<(), StoreFault>
         ensures appends { Appends (held self.old) (held self.new) bytes.now result }
         ensures refused { IfErr result (may_refuse_append self.old bytes.now) }
@@ -36,7 +37,8 @@ pub trait Sink {
 
     /// Makes what is held the file's contents for good.
     ///
-    /// After a fault nothing else has changed. Where memory is wanting the fault is `Full`.
+    /// After a fault what is held, and whether it is committed, are as before. It never fails with
+    /// `Memory`: out of memory it answers `Full`.
     fn commit(&mut self) -> Result<(), StoreFault>
         ensures commits { Commits (held self.old) (held self.new) result }
         ensures refused { IfErr result (may_refuse_commit self.old) }

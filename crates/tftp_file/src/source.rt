@@ -7,23 +7,25 @@ use crate::FileFault;
 
 /// Wire text (RFC 1350, section 1), given in pieces from its front.
 ///
-/// A source over memory tells what it has left; one over a file tells nothing, and then `fill`
-/// promises only which answers it gives.
+/// Of a source over memory a contract knows what is left; of one over a file it does not, and then
+/// `fill` promises only which answers it gives.
 pub trait Source {
-    /// The wire text that is left, where the source tells it.
+    /// The wire text that is left, or `None` where that is not known.
     ghost left: { Self → Option (List ℕ) };
 
     /// A fill of so many bytes may answer `Read`.
     ghost may_fail: { Self → ℕ → Type 0 } = { λ _ _. Unit {0} };
 
-    /// It is the same source as before, over the same borrows.
+    /// The second is the first at a later time: it holds the same borrows. Of a source that holds no
+    /// borrow this says nothing.
     ghost is_same: { Self → Self → Type 0 };
 
-    /// Moves the next `want` bytes, or as many as are left, to the end of `out`, and tells how
-    /// many.
+    /// Moves the next `want` bytes of wire text, or as many as are left, to the end of `out`, and
+    /// returns how many.
     ///
-    /// After `Read` the source is used no more. After `Memory` nothing has changed. The capacity of
-    /// `out` never shrinks.
+    /// It fails with `Read` where the file cannot be read; `out` is then unchanged, and the source is
+    /// used no more. It fails with `Memory` where `out` cannot grow, and then nothing has changed. The
+    /// capacity of `out` never shrinks.
     fn fill(&mut self, want: usize, out: &mut Vec<u8>) -> Result<usize, FileFault>
         ensures fills { Fills (left self.old) (left self.new) want
             out.old.items out.new.items result }

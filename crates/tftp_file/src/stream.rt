@@ -73,6 +73,7 @@ impl<R: Read> Source for ReadSource<R> {
 
     ghost left = { source_left R.remaining };
 
+    /// It says nothing of the reader.
     ghost is_same = { λ _ _. ⊤ };
 
     ghost stays = { λ _. tt };
@@ -301,6 +302,7 @@ impl<W: Write> Sink for WriteSink<W> {
 
     ghost may_refuse_commit = { λ _ fault. fault ≡ Io };
 
+    /// It says nothing of the writer.
     ghost is_same = { λ _ _. ⊤ };
 
     ghost stays = { λ _. tt };

@@ -1,5 +1,5 @@
 -- The laws of negotiation, option by option.
-use Rattle.std.proofs.Common.{◌≡◌, ℕ, ◌^◌, ◌<◌, ◌≤◌, Bool, true, false, cond, min, nat_le, nat_lt, ◌==◌, ◌&&◌, ◌||◌, length, List, [], ◌∷◌, ◌++◌, Option, Some, None, Result, Ok, Err, IfSome, IsSome, Contains, decimal, refl, sym, ◌∙◌, ap, subst, arith}
+use Rattle.std.proofs.Common.{◌≡◌, ℕ, ◌+◌, ◌^◌, ◌<◌, ◌≤◌, Bool, true, false, cond, min, nat_le, nat_lt, ◌==◌, ◌&&◌, ◌||◌, length, List, [], ◌∷◌, ◌++◌, Option, Some, None, Result, Ok, Err, IfSome, IsSome, Contains, decimal, refl, sym, ◌∙◌, ap, subst, arith}
 use Rattle.std.specs.List.{AllByRecursion}
 use Rattle.std.proofs.lemmas.Option.{cond_some}
 use Rattle.std.proofs.Common.{eq-eqb}
@@ -22,15 +22,15 @@ use Rattle.tftp_negotiate.specs.declared.refusal.Refusal.{Refusal}
 use Rattle.tftp_negotiate.specs.declared.refusal.Refusal.TheVariants.{Repeated}
 use Rattle.tftp_negotiate.specs.Options.{name_of, number_of, name_text}
 use Rattle.tftp_negotiate.specs.Ranges.{IsBlockSize, IsTimeout}
-use Rattle.tftp_negotiate.specs.Negotiation.{is_name, places_of, repeats, kept_before, each_judged, negotiated}
+use Rattle.tftp_negotiate.specs.Negotiation.{same_name, is_name, places_of, repeats, kept_before, each_judged, negotiated}
 use Rattle.tftp_negotiate.specs.Asked.{IsFor, asked_tsize, asked_value, request_tsize, option_of, option_if, asked_options}
-use Rattle.tftp_negotiate.specs.Agreed.{name_of_known, count_of, IsAgreement, known_option, agreed_options}
+use Rattle.tftp_negotiate.specs.Agreed.{name_of_known, IsAgreeable, count_of, IsAgreement, size, known_option, agreed_options}
 use Rattle.tftp_negotiate.specs.Answer.{answered, answered_option, answered_blksize, answered_timeout, answered_tsize}
 use Rattle.tftp_negotiate.specs.Agreement.{taken, taken_option, taken_blksize, taken_timeout, taken_tsize}
-use Rattle.tftp_negotiate.specs.Laws.{NumbersArePrinted, EndsAgree, IsTold, Requests, IsWithinRequest, AnswersWithinRequest, WasAsked, IsWithinAsked, TakesNothingUnasked}
+use Rattle.tftp_negotiate.specs.Laws.{NumbersArePrinted, EndsAgree, LengthsFit, Requests, IsWithinRequest, AnswersWithinRequest, WasAsked, IsWithinAsked, TakesNothingUnasked, AnswersMayBeAgreed, TakenMayBeAgreed, AgreementsAreShort, AgreementsHaveBlockSizes}
 use Rattle.tftp_negotiate.proofs.OptionsLemmas.{number_of-decimal, decimal-number_of, both_parts}
-use Rattle.tftp_negotiate.proofs.NegotiationLemmas.{AreOnce, places_of-nil, places_of-cons, count_of-cons, repeats_none, IsAgreement-from_judged}
-use Rattle.tftp_negotiate.proofs.TermsLemmas.{answered_option-Keeps, cond_ok, block_size_from_test}
+use Rattle.tftp_negotiate.proofs.NegotiationLemmas.{AreOnce, Keeps, places_of-nil, places_of-cons, count_of-cons, repeats_none, IsAgreement-from_judged}
+use Rattle.tftp_negotiate.proofs.PolicyLemmas.{answered_option-Keeps, taken_option-Keeps, cond_ok, block_size_from_test}
 
 pub numbers_are_printed : NumbersArePrinted
 numbers_are_printed text n =
@@ -221,14 +221,14 @@ taken-reads asked kind mode limit nm n fits =
 abbrev Takes : Asked → Kind → Mode → ℕ → Known → Type 0
 Takes asked kind mode limit k = taken_option asked kind mode limit (known_option k) ≡ Ok (Some k)
 
-takes-tsize : (asked : Asked) (kind : Kind) (mode : Mode) (told length limit n : ℕ) (limits : Limits) (k : Known) → IsTold kind told length limit → n < 2 ^ 64 → asked_value mode asked name.Tsize ≡ Some n → answered_tsize mode kind length limits.max_file n ≡ Ok (Some k) → Takes asked kind mode limit k
-takes-tsize asked kind Netascii told length limit n limits k t fits e h = cc
-takes-tsize asked Read Octet told length limit n limits k t fits e h =
+takes-tsize : (asked : Asked) (kind : Kind) (mode : Mode) (client_length length limit n : ℕ) (limits : Limits) (k : Known) → LengthsFit kind client_length length limit → n < 2 ^ 64 → asked_value mode asked name.Tsize ≡ Some n → answered_tsize mode kind length limits.max_file n ≡ Ok (Some k) → Takes asked kind mode limit k
+takes-tsize asked kind Netascii client_length length limit n limits k t fits e h = cc
+takes-tsize asked Read Octet client_length length limit n limits k t fits e h =
     let some : cond (n == 0) (Some (Tsize length)) None ≡ Some k = cc in
     subst (Takes asked Read Octet limit) (cond_some _ _ _ some).1
     (taken-reads asked Read Octet limit name.Tsize length t.length_fits
-    ∙ (ap (λ a. taken_tsize a Read limit (Some length)) e ∙ cond-true _ _ _ (le-leb length limit (t.taken refl))))
-takes-tsize asked Write Octet told length limit n limits k t fits e h =
+    ∙ (ap (λ a. taken_tsize a Read limit (Some length)) e ∙ cond-true _ _ _ (le-leb length limit (t.within refl))))
+takes-tsize asked Write Octet client_length length limit n limits k t fits e h =
     let test : (nat_le n limits.max_file ≡ true) × (Some (Tsize n) ≡ Some k) = cond_ok _ _ _ _ h in
     let some : Some (Tsize n) ≡ Some k = test.1 in
     let same : Tsize n ≡ k = cc in
@@ -236,8 +236,8 @@ takes-tsize asked Write Octet told length limit n limits k t fits e h =
     (taken-reads asked Write Octet limit name.Tsize n fits
     ∙ (ap (λ a. taken_tsize a Write limit (Some n)) e ∙ cond-true _ _ _ (eq-eqb n n refl)))
 
-takes-one : (asked : Asked) (kind : Kind) (mode : Mode) (told length limit : ℕ) (limits : Limits) (nm : Name) (n : ℕ) (k : Known) → IsTold kind told length limit → IsBlockSize limits.max_block → n < 2 ^ 64 → asked_value mode asked nm ≡ Some n → answered kind mode length limits (Some nm) (Some n) ≡ Ok (Some k) → Takes asked kind mode limit k
-takes-one asked kind mode told length limit limits name.Blksize n k t max fits e h =
+takes-one : (asked : Asked) (kind : Kind) (mode : Mode) (client_length length limit : ℕ) (limits : Limits) (nm : Name) (n : ℕ) (k : Known) → LengthsFit kind client_length length limit → IsBlockSize limits.max_block → n < 2 ^ 64 → asked_value mode asked nm ≡ Some n → answered kind mode length limits (Some nm) (Some n) ≡ Ok (Some k) → Takes asked kind mode limit k
+takes-one asked kind mode client_length length limit limits name.Blksize n k t max fits e h =
     let some : answered_blksize n limits.max_block ≡ Some k = cc in
     let test = cond_some _ _ _ some in
     let size = block_size_from_test n test.0 in
@@ -245,11 +245,11 @@ takes-one asked kind mode told length limit limits name.Blksize n k t max fits e
     subst (Takes asked kind mode limit) test.1
     (taken-reads asked kind mode limit name.Blksize m (omega arith)
     ∙ (ap (λ a. taken_blksize a (Some m)) e ∙ cond-true _ _ _ (both_true (le-leb 8 m (omega arith)) (le-leb m n (omega arith)))))
-takes-one asked kind mode told length limit limits name.Timeout n k t max fits e h =
+takes-one asked kind mode client_length length limit limits name.Timeout n k t max fits e h =
     let some : answered_timeout n ≡ Some k = cc in
     subst (Takes asked kind mode limit) (cond_some _ _ _ some).1
     (taken-reads asked kind mode limit name.Timeout n fits ∙ (ap (λ a. taken_timeout a (Some n)) e ∙ cond-true _ _ _ (eq-eqb n n refl)))
-takes-one asked kind mode told length limit limits name.Tsize n k t max fits e h = takes-tsize asked kind mode told length limit n limits k t fits e h
+takes-one asked kind mode client_length length limit limits name.Tsize n k t max fits e h = takes-tsize asked kind mode client_length length limit n limits k t fits e h
 
 -- an option that a client's request spells
 abbrev IsRequested : Asked → Mode → RawOption → Type 0
@@ -266,18 +266,18 @@ requested asked mode =
     (AllByRecursion-append (IsRequested asked mode) (option_if name.Timeout asked.timeout) (option_if name.Tsize (asked_tsize mode asked))
     (requested-if asked mode name.Timeout asked.timeout refl) (requested-if asked mode name.Tsize (asked_tsize mode asked) refl))
 
-request_fits : (kind : Kind) (told : ℕ) → told < 2 ^ 64 → request_tsize kind told < 2 ^ 64
-request_fits Read told h = omega arith
-request_fits Write told h = h
+request_fits : (kind : Kind) (client_length : ℕ) → client_length < 2 ^ 64 → request_tsize kind client_length < 2 ^ 64
+request_fits Read client_length h = omega arith
+request_fits Write client_length h = h
 
-asked_fits : (asked : Asked) (kind : Kind) (mode : Mode) (told : ℕ) (nm : Name) (n : ℕ) → IsFor asked kind mode told → told < 2 ^ 64 → asked_value mode asked nm ≡ Some n → n < 2 ^ 64
-asked_fits asked kind mode told name.Blksize n ok h e =
+asked_fits : (asked : Asked) (kind : Kind) (mode : Mode) (client_length : ℕ) (nm : Name) (n : ℕ) → IsFor asked kind mode client_length → client_length < 2 ^ 64 → asked_value mode asked nm ≡ Some n → n < 2 ^ 64
+asked_fits asked kind mode client_length name.Blksize n ok h e =
     let size : IsBlockSize n = subst (λ v. IfSome v IsBlockSize) e ok.askable.blksize in omega arith
-asked_fits asked kind mode told name.Timeout n ok h e =
+asked_fits asked kind mode client_length name.Timeout n ok h e =
     let wait : IsTimeout n = subst (λ v. IfSome v IsTimeout) e ok.askable.timeout in omega arith
-asked_fits asked kind mode told name.Tsize n ok h e =
-    let is : n ≡ request_tsize kind told = subst (λ v. IfSome v (λ m. m ≡ request_tsize kind told)) e ok.tsize in
-    subst (λ m. m < 2 ^ 64) (sym is) (request_fits kind told h)
+asked_fits asked kind mode client_length name.Tsize n ok h e =
+    let is : n ≡ request_tsize kind client_length = subst (λ v. IfSome v (λ m. m ≡ request_tsize kind client_length)) e ok.tsize in
+    subst (λ m. m < 2 ^ 64) (sym is) (request_fits kind client_length h)
 
 -- what each option of a list is judged to be is what the list is judged to be
 judged-spelled : (judgement : RawOption → Result (Option Known) Refusal) (ks : List Known) → AllByRecursion (λ k. judgement (known_option k) ≡ Ok (Some k)) ks → each_judged judgement (agreed_options ks) ≡ Ok ks
@@ -301,13 +301,16 @@ places_of-agreed nm (k ∷ ks) =
     let c = count_of-cons nm k ks in
     omega (arith, here, there, p, c)
 
-agreed-once : (ks : List Known) → IsAgreement ks → AreOnce (agreed_options ks)
-agreed-once ks h name.Blksize = subst (λ n. n ≤ 1) (sym (places_of-agreed name.Blksize ks)) h.blksize
-agreed-once ks h name.Timeout = subst (λ n. n ≤ 1) (sym (places_of-agreed name.Timeout ks)) h.timeout
-agreed-once ks h name.Tsize = subst (λ n. n ≤ 1) (sym (places_of-agreed name.Tsize ks)) h.tsize
-
 once_each : (a b c : ℕ) → (nat_lt 1 a || (nat_lt 1 b || nat_lt 1 c)) ≡ false → (a ≤ 1) × (b ≤ 1) × (c ≤ 1)
 once_each a b c h = (grind (arith, nat_tests), grind (arith, nat_tests), grind (arith, nat_tests))
+
+each_once : (ks : List Known) → IsAgreement ks → (nm : Name) → count_of nm ks ≤ 1
+each_once ks h name.Blksize = (once_each _ (count_of name.Timeout ks) (count_of name.Tsize ks) h.once).0
+each_once ks h name.Timeout = (once_each (count_of name.Blksize ks) _ (count_of name.Tsize ks) h.once).1
+each_once ks h name.Tsize = (once_each (count_of name.Blksize ks) (count_of name.Timeout ks) _ h.once).2
+
+agreed-once : (ks : List Known) → IsAgreement ks → AreOnce (agreed_options ks)
+agreed-once ks h nm = subst (λ n. n ≤ 1) (sym (places_of-agreed nm ks)) (each_once ks h nm)
 
 once_from_repeats : (os : List RawOption) → repeats os ≡ false → AreOnce os
 once_from_repeats os h name.Blksize = (once_each (places_of name.Blksize os) (places_of name.Timeout os) (places_of name.Tsize os) h).0
@@ -315,7 +318,7 @@ once_from_repeats os h name.Timeout = (once_each (places_of name.Blksize os) (pl
 once_from_repeats os h name.Tsize = (once_each (places_of name.Blksize os) (places_of name.Timeout os) (places_of name.Tsize os) h).2
 
 pub ends_agree : EndsAgree
-ends_agree asked kind mode told length limit limits known ok t max h =
+ends_agree asked kind mode client_length length limit limits known ok t max h =
     let server = answered_option kind mode length limits in
     let client = taken_option asked kind mode limit in
     let options = asked_options asked mode in
@@ -325,8 +328,54 @@ ends_agree asked kind mode told length limit limits known ok t max h =
     AllByRecursion-weaker (ComesFrom server options) (Takes asked kind mode limit)
     (λ k w.
     let r : IsRequested asked mode w.0 = All-contains (IsRequested asked mode) options w.0 (All-from_recursion (IsRequested asked mode) options (requested asked mode)) w.1 in
-    let fits = asked_fits asked kind mode told r.0 r.1 ok t.told_fits r.2 in
-    takes-one asked kind mode told length limit limits r.0 r.1 k t max fits r.2
+    let fits = asked_fits asked kind mode client_length r.0 r.1 ok t.client_fits r.2 in
+    takes-one asked kind mode client_length length limit limits r.0 r.1 k t max fits r.2
     (sym (answered-reads kind mode length limits r.0 r.1 fits) ∙ (ap server (sym r.3) ∙ w.2)))
     known (comes server options known given.1) in
     cond-false _ _ _ (repeats_none (agreed_options known) (agreed-once known rule)) ∙ judged-spelled client known each
+
+-- a list repeats no name where its negotiation gives something, so what it gives may be agreed
+may_be_agreed : (judgement : RawOption → Result (Option Known) Refusal) → Keeps judgement → (options : List RawOption) (known : List Known) → negotiated judgement options ≡ Ok known → IsAgreement known
+may_be_agreed judgement keeps options known h =
+    let ok = negotiated_ok judgement options known h in
+    IsAgreement-from_judged judgement keeps options (Ok known) (once_from_repeats options ok.0) (sym ok.1)
+
+pub answers_may_be_agreed : AnswersMayBeAgreed
+answers_may_be_agreed options kind mode length limits known max h =
+    may_be_agreed (answered_option kind mode length limits) (answered_option-Keeps kind mode length limits max) options known h
+
+pub taken_may_be_agreed : TakenMayBeAgreed
+taken_may_be_agreed asked kind mode options limit known askable h =
+    may_be_agreed (taken_option asked kind mode limit) (taken_option-Keeps asked kind mode limit askable) options known h
+
+-- each option has one of three names
+by_names : (ks : List Known) → length ks ≡ count_of name.Blksize ks + count_of name.Timeout ks + count_of name.Tsize ks
+by_names [] = refl
+by_names (k ∷ ks) =
+    let e = by_names ks in
+    let a = count_of-cons name.Blksize k ks in
+    let b = count_of-cons name.Timeout k ks in
+    let c = count_of-cons name.Tsize k ks in
+    let one = one_name k in
+    omega (arith, e, a, b, c, one) where
+      one_name : (j : Known) → cond (same_name name.Blksize (name_of_known j)) 1 0 + cond (same_name name.Timeout (name_of_known j)) 1 0 + cond (same_name name.Tsize (name_of_known j)) 1 0 ≡ 1
+      one_name (Blksize n) = refl
+      one_name (Timeout n) = refl
+      one_name (Tsize n) = refl
+
+pub agreements_are_short : AgreementsAreShort
+agreements_are_short known h =
+    let n = by_names known in
+    let a = each_once known h name.Blksize in
+    let b = each_once known h name.Timeout in
+    let c = each_once known h name.Tsize in
+    omega (arith, n, a, b, c)
+
+size_from_values : (ks : List Known) → AllByRecursion IsAgreeable ks → IsBlockSize (size ks)
+size_from_values [] h = (omega arith, omega arith)
+size_from_values (Blksize n ∷ ks) h = h.0
+size_from_values (Timeout n ∷ ks) h = size_from_values ks h.1
+size_from_values (Tsize n ∷ ks) h = size_from_values ks h.1
+
+pub agreements_have_block_sizes : AgreementsHaveBlockSizes
+agreements_have_block_sizes known h = size_from_values known h.values

@@ -1,4 +1,4 @@
 pub mod OptionsLemmas
 pub mod NegotiationLemmas
-pub mod TermsLemmas
+pub mod PolicyLemmas
 pub mod LawsLemmas

@@ -126,7 +126,7 @@ module _ (judgement : RawOption → Result (Option Known) Refusal) (keeps : Keep
   IsAgreement-from_judged os (Err e) once h = tt
   IsAgreement-from_judged os (Ok ks) once h =
       let c : (name : Name) → count_of name ks ≤ 1 = λ name. let k = counts name os ks (sym h) in let o = once name in omega arith in
-      record { values = values os ks (sym h); blksize = c Blksize; timeout = c Timeout; tsize = c Tsize }
+      record { values = values os ks (sym h); once = none_twice _ _ _ (c Blksize) (c Timeout) (c Tsize) }
 
 -- the state of a negotiation after these options: the names that came, none of them twice, and the outcome
 pub record Reads (judgement : RawOption → Result (Option Known) Refusal) (os : List RawOption) (seen : Names) (outcome : Result (List Known) Refusal) : Type 0 where

@@ -1,13 +1,14 @@
 -- The options that both ends hold to.
-use Rattle.std.specs.Prelude.{ℕ, ◌≤◌, List, [], ◌∷◌, Option, Some, None, count_by, map}
+use Rattle.std.specs.Prelude.{ℕ, ◌≡◌, false, List, [], ◌∷◌, Option, Some, None, map}
 use Rattle.std.specs.List.{AllByRecursion}
 use Rattle.tftp_wire.specs.declared.options.RawOption.{RawOption}
 use Rattle.tftp_negotiate.specs.declared.known.Known.{Known}
 use Rattle.tftp_negotiate.specs.declared.known.Known.TheVariants.{Blksize, Timeout, Tsize}
 use Rattle.tftp_negotiate.specs.declared.name.Name.{Name}
 use Rattle.tftp_negotiate.specs.declared.name.Name.TheVariants as name
+use Rattle.tftp_negotiate.specs.declared.limits.TheConstants.{DEFAULT_BLOCK}
 use Rattle.tftp_negotiate.specs.Asked.{option_of}
-use Rattle.tftp_negotiate.specs.Negotiation.{same_name}
+use Rattle.tftp_negotiate.specs.Negotiation.{places, stands_twice}
 use Rattle.tftp_negotiate.specs.Ranges.{IsBlockSize, IsTimeout}
 
 -- the name of a known option
@@ -22,20 +23,19 @@ IsAgreeable (Blksize n) = IsBlockSize n
 IsAgreeable (Timeout n) = IsTimeout n
 IsAgreeable (Tsize n) = Unit {0}
 
--- how many options of the list have the name
+-- in how many places of an agreement a name stands
 abbrev pub count_of : Name → List Known → ℕ
-count_of name known = count_by (λ k. same_name name (name_of_known k)) known
+count_of name known = places (λ k. Some (name_of_known k)) name known
 
 -- each value may be agreed, and no name stands twice
 pub record IsAgreement (known : List Known) : Type 0 where
   pub values : AllByRecursion IsAgreeable known
-  pub blksize : count_of name.Blksize known ≤ 1
-  pub timeout : count_of name.Timeout known ≤ 1
-  pub tsize : count_of name.Tsize known ≤ 1
+  pub once : stands_twice (λ name. count_of name known) ≡ false
 
--- the block size of a transfer, in data bytes: 512 where none is agreed (RFC 1350, section 2; RFC 2348)
+-- the block size of a transfer, in data bytes: the default where none is agreed
+-- (RFC 1350, section 2; RFC 2348)
 abbrev pub size : List Known → ℕ
-size [] = 512
+size [] = DEFAULT_BLOCK
 size (Blksize n ∷ others) = n
 size (Timeout n ∷ others) = size others
 size (Tsize n ∷ others) = size others
@@ -53,6 +53,6 @@ known_option (Blksize n) = option_of name.Blksize n
 known_option (Timeout n) = option_of name.Timeout n
 known_option (Tsize n) = option_of name.Tsize n
 
--- the options of the OACK that tells of the agreement, in its order
+-- the options of the OACK that states the agreement, in its order
 abbrev pub agreed_options : List Known → List RawOption
 agreed_options known = map known_option known

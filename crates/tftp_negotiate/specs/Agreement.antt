@@ -1,5 +1,5 @@
 -- What a client takes of an OACK (RFC 2347, "Negotiation Protocol"; RFC 2348; RFC 2349).
-use Rattle.std.specs.Prelude.{ℕ, List, Option, Some, None, Result, Ok, Err, ◌==◌, ◌&&◌, nat_le, if◌then◌else◌}
+use Rattle.std.specs.Prelude.{ℕ, List, Option, Some, None, Result, Ok, Err, ◌==◌, nat_le, if◌then◌else◌}
 use Rattle.tftp_wire.specs.declared.options.RawOption.{RawOption}
 use Rattle.tftp_wire.specs.declared.mode.Mode.{Mode}
 use Rattle.tftp_negotiate.specs.declared.known.Kind.{Kind}
@@ -12,6 +12,7 @@ use Rattle.tftp_negotiate.specs.declared.name.Name.TheVariants as name
 use Rattle.tftp_negotiate.specs.declared.refusal.Refusal.{Refusal}
 use Rattle.tftp_negotiate.specs.declared.refusal.Refusal.TheVariants.{TooLarge, NotAsked, BadValue}
 use Rattle.tftp_negotiate.specs.Options.{name_of, number_of}
+use Rattle.tftp_negotiate.specs.Ranges.{is_in, block_sizes_to}
 use Rattle.tftp_negotiate.specs.Asked.{asked_tsize}
 use Rattle.tftp_negotiate.specs.Negotiation.{negotiated}
 
@@ -19,7 +20,8 @@ use Rattle.tftp_negotiate.specs.Negotiation.{negotiated}
 abbrev pub taken_blksize : Option ℕ → Option ℕ → Result (Option Known) Refusal
 taken_blksize None value = Err NotAsked
 taken_blksize (Some most) None = Err BadValue
-taken_blksize (Some most) (Some n) = if nat_le 8 n && nat_le n most then Ok (Some (Blksize n)) else Err BadValue
+taken_blksize (Some most) (Some n) =
+    if is_in (block_sizes_to most) n then Ok (Some (Blksize n)) else Err BadValue
 
 -- the seconds that were asked
 abbrev pub taken_timeout : Option ℕ → Option ℕ → Result (Option Known) Refusal
@@ -27,7 +29,7 @@ taken_timeout None value = Err NotAsked
 taken_timeout (Some seconds) None = Err BadValue
 taken_timeout (Some seconds) (Some n) = if n == seconds then Ok (Some (Timeout n)) else Err BadValue
 
--- a read takes any length up to its limit, a write the length that it told
+-- a read takes any length up to its limit, a write the length that it asked
 abbrev pub taken_tsize : Option ℕ → Kind → ℕ → Option ℕ → Result (Option Known) Refusal
 taken_tsize None kind limit value = Err NotAsked
 taken_tsize (Some length) kind limit None = Err BadValue

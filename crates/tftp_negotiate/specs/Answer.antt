@@ -13,18 +13,19 @@ use Rattle.tftp_negotiate.specs.declared.name.Name.TheVariants as name
 use Rattle.tftp_negotiate.specs.declared.refusal.Refusal.{Refusal}
 use Rattle.tftp_negotiate.specs.declared.refusal.Refusal.TheVariants.{TooLarge}
 use Rattle.tftp_negotiate.specs.Options.{name_of, number_of}
-use Rattle.tftp_negotiate.specs.Ranges.{is_block_size, is_timeout}
+use Rattle.tftp_negotiate.specs.Ranges.{is_in, block_sizes, timeouts}
 use Rattle.tftp_negotiate.specs.Negotiation.{negotiated}
 
 -- the block size that was asked, but no more than the server allows
 abbrev pub answered_blksize : ℕ → ℕ → Option Known
-answered_blksize n max_block = if is_block_size n then Some (Blksize (min n max_block)) else None
+answered_blksize n max_block = if is_in block_sizes n then Some (Blksize (min n max_block)) else None
 
 -- the seconds that were asked
 abbrev pub answered_timeout : ℕ → Option Known
-answered_timeout n = if is_timeout n then Some (Timeout n) else None
+answered_timeout n = if is_in timeouts n then Some (Timeout n) else None
 
--- a read asks 0 and is told the length as it travels; a write tells its own, which the server may refuse
+-- a read asks 0, and the answer is the length of the wire text; a write asks its own length, which
+-- the server may refuse
 abbrev pub answered_tsize : Mode → Kind → ℕ → ℕ → ℕ → Result (Option Known) Refusal
 answered_tsize Netascii kind length max_file n = Ok None
 answered_tsize Octet Read length max_file n = Ok (if n == 0 then Some (Tsize length) else None)

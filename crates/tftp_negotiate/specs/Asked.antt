@@ -22,7 +22,8 @@ asked_value mode asked Blksize = asked.blksize
 asked_value mode asked Timeout = asked.timeout
 asked_value mode asked Tsize = asked_tsize mode asked
 
--- the tsize of a request: 0 for a read, the file's length for a write (RFC 2349, "Transfer Size Option Specification")
+-- the tsize of a request: 0 for a read, the file's length for a write
+-- (RFC 2349, "Transfer Size Option Specification")
 abbrev pub request_tsize : Kind → ℕ → ℕ
 request_tsize Read length = 0
 request_tsize Write length = length

@@ -7,5 +7,5 @@ pub mod Asked
 pub mod Agreed
 pub mod Answer
 pub mod Agreement
-pub mod Terms
+pub mod Policy
 pub mod Laws

@@ -20,14 +20,21 @@ abbrev pub is_name : Name → Option Name → Bool
 is_name name None = false
 is_name name (Some other) = same_name name other
 
--- in how many places a known name stands
-unfoldable pub places_of : Name → List RawOption → ℕ
-places_of name options = count_by (λ o. is_name name (name_of o.name)) options
+-- in how many places of a list a name stands, by the name of each element
+abbrev pub places : {A : Type 0} → (A → Option Name) → Name → List A → ℕ
+places named name xs = count_by (λ x. is_name name (named x)) xs
 
--- a known name stands in two places, whatever the values
+-- a known name stands twice, by the number of places of each (RFC 2347, "Negotiation Protocol")
+abbrev pub stands_twice : (Name → ℕ) → Bool
+stands_twice places = nat_lt 1 (places Blksize) || (nat_lt 1 (places Timeout) || nat_lt 1 (places Tsize))
+
+-- in how many places of a request or an OACK a name stands
+unfoldable pub places_of : Name → List RawOption → ℕ
+places_of name options = places (λ o. name_of o.name) name options
+
+-- a known name stands twice in a request or an OACK, whatever its values
 abbrev pub repeats : List RawOption → Bool
-repeats options = nat_lt 1 (places_of Blksize options)
-    || (nat_lt 1 (places_of Timeout options) || nat_lt 1 (places_of Tsize options))
+repeats options = stands_twice (λ name. places_of name options)
 
 -- what is kept of one option stands before what is kept of the others, and its refusal comes first
 abbrev pub kept_before : Result (Option Known) Refusal → Result (List Known) Refusal → Result (List Known) Refusal

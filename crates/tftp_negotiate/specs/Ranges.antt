@@ -1,18 +1,36 @@
 -- The values that an option may have (RFC 2348; RFC 2349).
 use Rattle.std.specs.Prelude.{ℕ, ◌≤◌, Bool, ◌&&◌, nat_le}
+use Rattle.tftp_negotiate.specs.declared.limits.TheConstants.{MIN_BLOCK, MAX_BLOCK, MIN_TIMEOUT, MAX_TIMEOUT}
 
--- a size of a block, in data bytes (RFC 2348, "Blocksize Option Specification"; a datagram holds no more)
+-- the numbers from the one bound to the other, both included
+pub record Range : Type 0 where
+  pub least : ℕ
+  pub most : ℕ
+
+-- the number is in the range
+abbrev pub IsIn : Range → ℕ → Type 0
+IsIn range n = (range.least ≤ n) × (n ≤ range.most)
+
+-- the test for it
+abbrev pub is_in : Range → ℕ → Bool
+is_in range n = nat_le range.least n && nat_le n range.most
+
+-- the block sizes up to one, in data bytes
+abbrev pub block_sizes_to : ℕ → Range
+block_sizes_to most = record { least = MIN_BLOCK; most = most }
+
+-- the block sizes, in data bytes (RFC 2348, "Blocksize Option Specification")
+abbrev pub block_sizes : Range
+block_sizes = block_sizes_to MAX_BLOCK
+
+-- the timeouts, in seconds (RFC 2349, "Timeout Interval Option Specification")
+abbrev pub timeouts : Range
+timeouts = record { least = MIN_TIMEOUT; most = MAX_TIMEOUT }
+
+-- a size of a block
 abbrev pub IsBlockSize : ℕ → Type 0
-IsBlockSize n = (8 ≤ n) × (n ≤ 65464)
+IsBlockSize n = IsIn block_sizes n
 
--- the test for it
-abbrev pub is_block_size : ℕ → Bool
-is_block_size n = nat_le 8 n && nat_le n 65464
-
--- a time to wait, in seconds (RFC 2349, "Timeout Interval Option Specification")
+-- a time to wait
 abbrev pub IsTimeout : ℕ → Type 0
-IsTimeout n = (1 ≤ n) × (n ≤ 255)
-
--- the test for it
-abbrev pub is_timeout : ℕ → Bool
-is_timeout n = nat_le 1 n && nat_le n 255
+IsTimeout n = IsIn timeouts n

@@ -5,12 +5,13 @@ ghost use Rattle.tftp_negotiate.specs.Agreed.{IsAgreement, size, timeout_of};
 ghost use Rattle.tftp_negotiate.specs.Ranges.{IsBlockSize, IsTimeout};
 
 use crate::known::Known;
-use crate::limits::PLAIN_BLOCK;
+use crate::limits::DEFAULT_BLOCK;
 use arrayvec::ArrayVec;
 use std::marker::Model;
 
-/// The options that are agreed, in the order of the request: each at most once, `blksize` 8 to
-/// 65,464, `timeout` at least 1. Without any, the transfer is a plain one.
+/// The options that are agreed, in the order of the request, each at most once and with a value in
+/// its range (RFC 2347, "Negotiation Protocol"). Without any, the transfer has the defaults of RFC
+/// 1350. Contracts see the list.
 #[derive(Debug, Drop)]
 pub struct Agreed {
     list: ArrayVec<Known, 3>,
@@ -61,8 +62,8 @@ impl Agreed {
         self.list.as_slice().is_empty()
     }
 
-    /// The size of a block, in data bytes: `blksize`, or 512 where it is not agreed
-    /// (RFC 1350, section 2; RFC 2348).
+    /// The size of a block, in data bytes: `blksize`, or `DEFAULT_BLOCK` where it is not agreed
+    /// (RFC 2348, "Blocksize Option Specification"; RFC 1350, section 2).
     pub fn block_size(&self) -> u16
         ensures size { result ≡ size self.now }
         ensures range { IsBlockSize result }
@@ -72,10 +73,11 @@ impl Agreed {
                 return *size;
             }
         }
-        PLAIN_BLOCK
+        DEFAULT_BLOCK
     }
 
-    /// The seconds before a datagram is sent again, where they are agreed (RFC 2349).
+    /// The seconds before a datagram is retransmitted, where they are agreed
+    /// (RFC 2349, "Timeout Interval Option Specification").
     pub fn timeout(&self) -> Option<u8>
         ensures timeout { result ≡ timeout_of self.now }
         ensures range { IfSome result IsTimeout }

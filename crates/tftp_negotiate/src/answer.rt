@@ -8,16 +8,16 @@ ghost use Rattle.tftp_negotiate.specs.Ranges.{IsBlockSize};
 
 use crate::agreed::Agreed;
 use crate::known::{Kind, Known};
-use crate::limits::{Limits, MAX_BLOCK, MIN_BLOCK};
+use crate::limits::{Limits, is_block_size, is_timeout};
 use crate::name::Name;
 use crate::negotiation::{negotiate, negotiate_slice};
 use crate::number::number_of;
+use crate::policy::Policy;
 use crate::refusal::Refusal;
-use crate::terms::Terms;
 use tftp_wire::{Mode, OptionRef, OptionsRef, RawOption};
 
 /// What a server answers to the options of a request, in their order (RFC 2347, "Negotiation
-/// Protocol"). `length` is that of the file to be read, in bytes as they travel; a write does not
+/// Protocol"). `length` is that of the file to be read, in bytes of wire text; a write does not
 /// use it.
 ///
 /// It fails with `Repeated` where a known option stands twice, whatever its values, and with
@@ -35,7 +35,7 @@ pub fn accept(
 {
     negotiate_slice(
         options,
-        &Terms::Server {
+        &Policy::Server {
             kind,
             mode,
             length,
@@ -58,7 +58,7 @@ pub fn accept_ref(
 {
     negotiate(
         options.iter(),
-        &Terms::Server {
+        &Policy::Server {
             kind,
             mode,
             length,
@@ -95,7 +95,7 @@ pub(crate) fn answered(
 fn answered_blksize(asked: u64, max_block: u16) -> Option<Known>
     ensures { result ≡ answered_blksize asked max_block }
 {
-    if u64::from(MIN_BLOCK) <= asked && asked <= u64::from(MAX_BLOCK) {
+    if is_block_size(asked) {
         Some(Known::Blksize(max_block.min(asked as u16)))
     } else {
         None
@@ -106,14 +106,15 @@ fn answered_blksize(asked: u64, max_block: u16) -> Option<Known>
 fn answered_timeout(asked: u64) -> Option<Known>
     ensures { result ≡ answered_timeout asked }
 {
-    if 1 <= asked && asked <= 255 {
+    if is_timeout(asked) {
         Some(Known::Timeout(asked as u8))
     } else {
         None
     }
 }
 
-/// The length of the file: told to a read that asks 0, and taken from a write (RFC 2349).
+/// The length of the file: answered to a read that asks 0, and the one that a write asks
+/// (RFC 2349, "Transfer Size Option Specification").
 fn answered_tsize(
     mode: Mode,
     kind: Kind,

@@ -4,24 +4,27 @@ ghost use Rattle.std.specs.Prelude.{◌≡◌, ◌↔◌, IsTrue};
 ghost use Rattle.tftp_negotiate.specs.Asked.{IsAskable, IsFor, asked_tsize};
 
 use crate::known::Kind;
-use crate::limits::{MAX_BLOCK, MIN_BLOCK};
+use crate::limits::{is_block_size, is_timeout};
 use tftp_wire::Mode;
 
 /// The options that a client asks, each with its value. Without any, no option is sent.
 #[derive(Clone, Copy, Debug, Default, PartialEq, Eq)]
 pub struct Asked {
-    /// The largest block size, in data bytes, 8 to 65,464 (RFC 2348).
+    /// The greatest block size, in data bytes, `MIN_BLOCK` to `MAX_BLOCK`
+    /// (RFC 2348, "Blocksize Option Specification").
     pub blksize: Option<u16>,
-    /// The seconds before a datagram is sent again, 1 to 255 (RFC 2349).
+    /// The seconds before a datagram is retransmitted, 1 to 255
+    /// (RFC 2349, "Timeout Interval Option Specification").
     pub timeout: Option<u8>,
-    /// 0 for a read, the file's length as it travels for a write (RFC 2349). In netascii it is not
-    /// sent, since the length is not known before the file has travelled.
+    /// In bytes of wire text: 0 for a read, the file's length for a write
+    /// (RFC 2349, "Transfer Size Option Specification"). In netascii it is not sent, since the length
+    /// is not known before the file has been encoded.
     pub tsize: Option<u64>,
 }
 
 impl Asked {
     /// Whether this can be asked for a transfer of this kind and mode. `length` is the file's, in
-    /// bytes as they travel; a read does not use it.
+    /// bytes of wire text; a read does not use it.
     pub fn is_for(&self, kind: Kind, mode: Mode, length: u64) -> bool
         ensures { IsTrue result ↔ IsFor self.now kind mode length }
     {
@@ -32,13 +35,15 @@ impl Asked {
         self.is_askable() && self.tsize_in(mode).is_none_or(|n| n == tsize)
     }
 
-    /// Whether `blksize` and `timeout`, where they are there, are in their ranges.
+    /// Whether `blksize` and `timeout`, where they are asked, are in their ranges.
     pub fn is_askable(&self) -> bool
         ensures { IsTrue result ↔ IsAskable self.now }
     {
         self.blksize
-            .is_none_or(|size| MIN_BLOCK <= size && size <= MAX_BLOCK)
-            && self.timeout.is_none_or(|seconds| 1 <= seconds)
+            .is_none_or(|size| is_block_size(u64::from(size)))
+            && self
+                .timeout
+                .is_none_or(|seconds| is_timeout(u64::from(seconds)))
     }
 
     /// The `tsize` that is asked in this mode: in netascii there is none.

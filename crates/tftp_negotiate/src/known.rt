@@ -12,11 +12,13 @@ pub enum Kind {
 /// A known option with its value.
 #[derive(Clone, Copy, Debug, PartialEq, Eq)]
 pub enum Known {
-    /// The data bytes of a full block (RFC 2348).
+    /// The data bytes of a full block (RFC 2348, "Blocksize Option Specification").
     Blksize(u16),
-    /// The seconds before a datagram is sent again (RFC 2349).
+    /// The seconds before a datagram is retransmitted
+    /// (RFC 2349, "Timeout Interval Option Specification").
     Timeout(u8),
-    /// The bytes of the file as they travel; 0 in the request of a read (RFC 2349).
+    /// The length of the file in bytes of wire text; 0 in the request of a read
+    /// (RFC 2349, "Transfer Size Option Specification").
     Tsize(u64),
 }
 

@@ -1,6 +1,6 @@
 //! Laws of negotiation: their contracts speak of the definitions alone, and their bodies are empty.
 
-ghost use Rattle.tftp_negotiate.specs.Laws.{NumbersArePrinted, EndsAgree, AnswersWithinRequest, TakesNothingUnasked};
+ghost use Rattle.tftp_negotiate.specs.Laws.{NumbersArePrinted, EndsAgree, AnswersWithinRequest, TakesNothingUnasked, AnswersMayBeAgreed, TakenMayBeAgreed, AgreementsAreShort, AgreementsHaveBlockSizes};
 
 /// A value is a number exactly if it is the number's decimal digits, without a leading zero.
 pub fn numbers_are_printed()
@@ -21,4 +21,14 @@ pub fn answers_within_request()
 /// An OACK that is taken holds no option that was not asked, and no value beyond what was asked.
 pub fn takes_nothing_unasked()
     ensures { TakesNothingUnasked }
+{}
+
+/// What a server answers, and what a client takes of an OACK, is an agreement: its values are in
+/// their ranges, and no name stands twice (RFC 2347, "Negotiation Protocol"), so that it has three
+/// options at most, and a block size in its range.
+pub fn agreements()
+    ensures answered { AnswersMayBeAgreed }
+    ensures taken { TakenMayBeAgreed }
+    ensures short { AgreementsAreShort }
+    ensures sized { AgreementsHaveBlockSizes }
 {}

@@ -18,8 +18,8 @@ mod name;
 mod negotiation;
 mod number;
 mod oack;
+mod policy;
 mod refusal;
-mod terms;
 #[cfg(test)]
 mod tests;
 
@@ -27,7 +27,10 @@ pub use agreed::Agreed;
 pub use answer::{accept, accept_ref};
 pub use asked::Asked;
 pub use known::{Kind, Known};
-pub use limits::{Limits, MAX_BLOCK, MIN_BLOCK, PLAIN_BLOCK};
+pub use limits::{
+    DEFAULT_BLOCK, Limits, MAX_BLOCK, MAX_TIMEOUT, MIN_BLOCK, MIN_TIMEOUT, is_block_size,
+    is_timeout,
+};
 pub use name::Name;
 pub use oack::{check_oack, check_oack_ref};
 pub use refusal::Refusal;

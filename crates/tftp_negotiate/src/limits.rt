@@ -1,4 +1,7 @@
-//! How large blocks may be, and how far a server goes along with a request.
+//! Which block sizes and waiting times the standards allow, and how much a server grants.
+
+ghost use Rattle.std.specs.Prelude.{◌↔◌, IsTrue};
+ghost use Rattle.tftp_negotiate.specs.Ranges.{IsBlockSize, IsTimeout};
 
 /// The least block size, in data bytes (RFC 2348, "Blocksize Option Specification").
 pub const MIN_BLOCK: u16 = 8;
@@ -7,13 +10,35 @@ pub const MIN_BLOCK: u16 = 8;
 pub const MAX_BLOCK: u16 = 65_464;
 
 /// The block size where none is agreed, in data bytes (RFC 1350, section 2).
-pub const PLAIN_BLOCK: u16 = 512;
+pub const DEFAULT_BLOCK: u16 = 512;
 
-/// What a server allows at most.
+/// The least timeout, in seconds (RFC 2349, "Timeout Interval Option Specification").
+pub const MIN_TIMEOUT: u8 = 1;
+
+/// The greatest timeout, in seconds (RFC 2349, "Timeout Interval Option Specification").
+pub const MAX_TIMEOUT: u8 = 255;
+
+/// Whether so many data bytes are a block size: `MIN_BLOCK` to `MAX_BLOCK`
+/// (RFC 2348, "Blocksize Option Specification").
+pub fn is_block_size(bytes: u64) -> bool
+    ensures { IsTrue result ↔ IsBlockSize bytes }
+{
+    u64::from(MIN_BLOCK) <= bytes && bytes <= u64::from(MAX_BLOCK)
+}
+
+/// Whether so many seconds are a timeout: `MIN_TIMEOUT` to `MAX_TIMEOUT`
+/// (RFC 2349, "Timeout Interval Option Specification").
+pub fn is_timeout(seconds: u64) -> bool
+    ensures { IsTrue result ↔ IsTimeout seconds }
+{
+    u64::from(MIN_TIMEOUT) <= seconds && seconds <= u64::from(MAX_TIMEOUT)
+}
+
+/// What a server grants at most.
 #[derive(Clone, Copy, Debug, PartialEq, Eq)]
 pub struct Limits {
-    /// The largest block size that it answers, in data bytes, 8 to 65,464.
+    /// The greatest block size that it answers, in data bytes, `MIN_BLOCK` to `MAX_BLOCK`.
     pub max_block: u16,
-    /// The longest file that it takes, in bytes as they travel.
+    /// The longest file that it receives, in bytes of wire text.
     pub max_file: u64,
 }

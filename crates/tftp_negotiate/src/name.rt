@@ -55,7 +55,7 @@ impl Names {
         }
     }
 
-    /// Adds the name of a known option, and tells whether it was not there before. An option that is
+    /// Adds the name of a known option, and returns whether it was not there before. An option that is
     /// not known is always new.
     pub(crate) fn insert(&mut self, name: Option<Name>) -> bool
         ensures new { result ≡ not (has_name self.old name) }

@@ -6,25 +6,25 @@ ghost use Rattle.tftp_wire.specs.Borrowed.{owned_option};
 ghost use Rattle.tftp_wire.specs.declared.options.RawOption.{RawOption};
 ghost use Rattle.tftp_negotiate.specs.Agreed.{IsAgreement};
 ghost use Rattle.tftp_negotiate.specs.Negotiation.{negotiated, kept_after};
-ghost use Rattle.tftp_negotiate.specs.Terms.{judged, AreTerms};
+ghost use Rattle.tftp_negotiate.specs.Policy.{judged, IsSound};
 
 use crate::agreed::Agreed;
 use crate::known::Known;
 use crate::name::{Name, Names};
+use crate::policy::Policy;
 use crate::refusal::Refusal;
-use crate::terms::Terms;
 use tftp_wire::{OptionRef, RawOption};
 
-/// What is agreed by these terms, over the options that the iterator gives.
+/// What is agreed under the policy, of the options that the iterator yields.
 pub(crate) fn negotiate<'a, I: Iterator<Item = OptionRef<'a>> + Drop>(
     options: I,
-    terms: &Terms,
+    policy: &Policy,
 ) -> Result<Agreed, Refusal>
     requires can { I.can_next options }
     requires ends { IsFinite (I.remaining options) }
-    requires terms { AreTerms terms.now }
+    requires sound { IsSound policy.now }
     ensures agreed { (os : List RawOption) → AlwaysYields I.next_gives owned_option options os
-        → result ≡ negotiated (judged terms.now) os }
+        → result ≡ negotiated (judged policy.now) os }
     ensures rule { IfOk result IsAgreement }
 {
     let mut seen = Names::new();
@@ -33,22 +33,22 @@ pub(crate) fn negotiate<'a, I: Iterator<Item = OptionRef<'a>> + Drop>(
         if !seen.insert(Name::of(option.name)) {
             return Err(Refusal::Repeated);
         }
-        outcome = kept_after(outcome, terms.judge(option));
+        outcome = kept_after(outcome, policy.judge(option));
     }
     outcome
 }
 
-/// The same over options that are owned.
-pub(crate) fn negotiate_slice(options: &[RawOption], terms: &Terms) -> Result<Agreed, Refusal>
-    requires { AreTerms terms.now }
-    ensures agreed { result ≡ negotiated (judged terms.now) options.now }
+/// As [`negotiate`], of options that are owned.
+pub(crate) fn negotiate_slice(options: &[RawOption], policy: &Policy) -> Result<Agreed, Refusal>
+    requires { IsSound policy.now }
+    ensures agreed { result ≡ negotiated (judged policy.now) options.now }
     ensures rule { IfOk result IsAgreement }
 {
     let borrowed = options.iter().map(|option| OptionRef {
         name: option.name.as_slice(),
         value: option.value.as_slice(),
     });
-    negotiate(borrowed, terms)
+    negotiate(borrowed, policy)
 }
 
 /// The outcome so far and the judgement of one more option: the first refusal stays.

@@ -13,12 +13,12 @@ use crate::limits::MIN_BLOCK;
 use crate::name::Name;
 use crate::negotiation::{negotiate, negotiate_slice};
 use crate::number::number_of;
+use crate::policy::Policy;
 use crate::refusal::Refusal;
-use crate::terms::Terms;
 use tftp_wire::{Mode, OptionRef, OptionsRef, RawOption};
 
 /// What a client that asked this agrees to of an OACK (RFC 2347, "Negotiation Protocol"). `limit` is
-/// the longest file that it reads, in bytes as they travel; a write does not use it.
+/// the longest file that it reads, in bytes of wire text; a write does not use it.
 ///
 /// It fails with `Repeated` where a known option stands twice, whatever its values. Else the first
 /// option from the left that is wrong decides: `NotAsked` for one that was not asked, unknown ones
@@ -37,7 +37,7 @@ pub fn check_oack(
 {
     negotiate_slice(
         options,
-        &Terms::Client {
+        &Policy::Client {
             asked: *asked,
             kind,
             mode,
@@ -60,7 +60,7 @@ pub fn check_oack_ref(
 {
     negotiate(
         options.iter(),
-        &Terms::Client {
+        &Policy::Client {
             asked: *asked,
             kind,
             mode,
@@ -113,8 +113,8 @@ fn taken_timeout(asked: Option<u8>, number: Option<u64>) -> Result<Option<Known>
     }
 }
 
-/// The length of the file to be read, up to the limit, or of the file to be written, as it was told
-/// (RFC 2349).
+/// The length of the file to be read, up to the limit, or of the file to be written, as it was asked
+/// (RFC 2349, "Transfer Size Option Specification").
 fn taken_tsize(
     asked: Option<u64>,
     kind: Kind,
@@ -123,12 +123,12 @@ fn taken_tsize(
 ) -> Result<Option<Known>, Refusal>
     ensures { result ≡ taken_tsize asked kind limit number }
 {
-    let told = asked.ok_or(Refusal::NotAsked)?;
+    let length = asked.ok_or(Refusal::NotAsked)?;
     let number = number.ok_or(Refusal::BadValue)?;
     match kind {
         Kind::Read if number <= limit => Ok(Some(Known::Tsize(number))),
         Kind::Read => Err(Refusal::TooLarge),
-        Kind::Write if number == told => Ok(Some(Known::Tsize(number))),
+        Kind::Write if number == length => Ok(Some(Known::Tsize(number))),
         Kind::Write => Err(Refusal::BadValue),
     }
 }

@@ -1,3 +1,4 @@
+-- The lemmas that are the law.
 use Rattle.tftp_file.proofs.CutLemmas.{pieces_join, whole_taken, refused_at}
 use Rattle.tftp_file.proofs.laws.any_cut.Goals as goal
 

@@ -1,3 +1,4 @@
+-- The lemmas that are the law.
 use Rattle.tftp_file.proofs.BeginningLemmas.{host_begins, wire_begins}
 use Rattle.tftp_file.proofs.laws.beginnings.Goals as goal
 

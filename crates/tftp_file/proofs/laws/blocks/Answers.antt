@@ -1,3 +1,4 @@
+-- The lemmas that are the law.
 use Rattle.tftp_file.proofs.BlockLemmas.{blocks_join, others_full, last_short, last_empty}
 use Rattle.tftp_file.proofs.laws.blocks.Goals as goal
 

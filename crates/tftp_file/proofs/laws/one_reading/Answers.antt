@@ -1,9 +1,10 @@
+-- The lemmas that are the law.
 use Rattle.tftp_file.proofs.DecodingLemmas.{begins_or_wrong}
-use Rattle.tftp_file.proofs.CutLemmas.{told, once, wrong_once}
+use Rattle.tftp_file.proofs.CutLemmas.{either, once, wrong_once}
 use Rattle.tftp_file.proofs.laws.one_reading.Goals as goal
 
-pub returns-clause-told : goal.returns-clause-told
-returns-clause-told c = told
+pub returns-clause-either : goal.returns-clause-either
+returns-clause-either c = either
 
 pub returns-clause-apart : goal.returns-clause-apart
 returns-clause-apart c = λ text at fault b w. begins_or_wrong text fault b (at, w)

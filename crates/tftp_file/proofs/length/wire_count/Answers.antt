@@ -1,3 +1,4 @@
+-- Each CR and LF takes one byte more.
 use Rattle.std.proofs.Common.{arith}
 use Rattle.tftp_file.proofs.NetasciiLemmas.{length-netascii}
 use Rattle.tftp_file.proofs.length.wire_count.Goals as goal

@@ -1,13 +1,15 @@
+-- The total is the length of the wire text of what was read.
 use Rattle.std.proofs.Common.{◌+◌, ◌-◌, ◌≤◌, length, ◌≡◌}
+use Rattle.tftp_file.specs.declared.length.TheConstants.{MAX_WIRE, CHUNK}
 use Rattle.tftp_file.proofs.LengthLemmas.{Leaves}
 use Rattle.tftp_file.proofs.length.wire_length.Given as goal
 
 abbrev pub invariant-loop-total : goal.invariant-loop-total
 invariant-loop-total g l = record {
   known : Leaves l.mode (g.R.Read.remaining l.initial.reader) (g.R.Read.remaining l.reader) l.total;
-  small : l.total ≤ 4290183239 + 16384;
-  chunk : length l.chunk ≡ 8192;
+  small : l.total ≤ MAX_WIRE + 16384;
+  chunk : length l.chunk ≡ CHUNK;
 }
 
 abbrev pub decreases-loop-total : goal.decreases-loop-total
-decreases-loop-total g l = 4290183239 + 1 - l.total
+decreases-loop-total g l = MAX_WIRE + 1 - l.total

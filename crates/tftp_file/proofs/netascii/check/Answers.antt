@@ -1,3 +1,4 @@
+-- A run and a pair are taken, or the text ends, or a byte is wrong.
 use Rattle.std.proofs.Common.{rules, ◌≡◌, ◌++◌, ◌∷◌, [], ℕ, List, length, ap, ◌∙◌, inl, inr, refl, true, false}
 use Rattle.std.proofs.lemmas.Result.{err_from_is_err_and}
 use Rattle.std.proofs.lemmas.List.{nil_from_length}
@@ -11,14 +12,14 @@ loop-behind-preserved c =
     let i = c.loop-behind.invariant in
     let pair = rw c.in-Some.is at c.in_ok-behind.ensures.ok in (
       i.0 ++ (c.split_run.result.0.now ++ c.in-Some.field-0-0 ∷ []),
-      pair_taken c.args.text.now c.loop-behind.left.now c.split_run.result.0.now c.split_run.result.1.now c.in-Some.behind.now i.0 c.in-Some.field-0-0 i.1 c.split_run.ensures.parts c.split_run.ensures.plain pair.0,
+      pair_taken c.args.text.now c.loop-behind.left.now c.split_run.result.0.now c.split_run.result.1.now c.in-Some.behind.now i.0 c.in-Some.field-0-0 i.1 c.split_run.ensures.parts c.split_run.ensures.unescaped pair.0,
     )
 
 pub returns-in_err-behind-clause-wrong : goal.returns-in_err-behind-clause-wrong
 returns-in_err-behind-clause-wrong c =
     let i = c.loop-behind.invariant in
     let p = err_from_is_err_and c.from_residual.result c.from_residual.ensures.1 in
-    rw (p.1, p.2) (wrong_taken c.args.text.now c.loop-behind.left.now c.split_run.result.0.now c.split_run.result.1.now i.0 c.in_err-behind.field-0.0 i.1 c.split_run.ensures.parts c.split_run.ensures.plain c.in_err-behind.ensures.wrong)
+    rw (p.1, p.2) (wrong_taken c.args.text.now c.loop-behind.left.now c.split_run.result.0.now c.split_run.result.1.now i.0 c.in_err-behind.field-0.0 i.1 c.split_run.ensures.parts c.split_run.ensures.unescaped c.in_err-behind.ensures.wrong)
 
 pub returns-in-None-clause-ok : goal.returns-in-None-clause-ok
 returns-in-None-clause-ok c =
@@ -27,7 +28,7 @@ returns-in-None-clause-ok c =
       i.0 ++ c.split_run.result.0.now,
       (
         inl refl,
-        run_taken c.args.text.now c.loop-behind.left.now c.split_run.result.0.now c.split_run.result.1.now i.0 i.1 c.split_run.ensures.parts c.split_run.ensures.plain
+        run_taken c.args.text.now c.loop-behind.left.now c.split_run.result.0.now c.split_run.result.1.now i.0 i.1 c.split_run.ensures.parts c.split_run.ensures.unescaped
             ∙ ap (λ (t : List ℕ). netascii_text (i.0 ++ c.split_run.result.0.now) ++ t) (nil_from_length c.split_run.result.1.now z),
       ),
     )
@@ -42,7 +43,7 @@ returns-in-None-2-clause-ok c =
         i.0 ++ c.split_run.result.0.now,
         (
           inr refl,
-          run_taken c.args.text.now c.loop-behind.left.now c.split_run.result.0.now c.split_run.result.1.now i.0 i.1 c.split_run.ensures.parts c.split_run.ensures.plain
+          run_taken c.args.text.now c.loop-behind.left.now c.split_run.result.0.now c.split_run.result.1.now i.0 i.1 c.split_run.ensures.parts c.split_run.ensures.unescaped
               ∙ ap (λ (t : List ℕ). netascii_text (i.0 ++ c.split_run.result.0.now) ++ t) e,
         ),
       )

@@ -1,3 +1,4 @@
+-- The text so far is the wire text of some bytes.
 use Rattle.std.proofs.Common.{◌≡◌, ◌++◌, ℕ, List, length}
 use Rattle.tftp_file.specs.Netascii.{netascii_text}
 use Rattle.tftp_file.proofs.netascii.check.Given as goal

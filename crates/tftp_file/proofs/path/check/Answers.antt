@@ -1,3 +1,4 @@
+-- A name that passes every test is a path.
 use Rattle.std.proofs.Common.{arith, ◌≡◌, ◌<◌, true, sym}
 use Rattle.std.specs.Prelude.{◌==◌, count_by}
 use Rattle.std.specs.List.{list_all, slice_split}

@@ -1,3 +1,4 @@
+-- The lemma that is the law.
 use Rattle.tftp_negotiate.proofs.LawsLemmas.{numbers_are_printed as law}
 use Rattle.tftp_negotiate.proofs.laws.numbers_are_printed.Goals as goal
 

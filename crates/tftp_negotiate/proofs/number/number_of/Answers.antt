@@ -1,3 +1,4 @@
+-- A text is a number exactly if it is what the number prints.
 use Rattle.std.proofs.Common.{◌≡◌, ℕ, ◌^◌, ◌<◌, Ok, decimal, sym, ◌∙◌, ap}
 use Rattle.std.specs.Result.{result_ok}
 use Rattle.std.specs.Str.{IsUtf8}

@@ -1,3 +1,4 @@
+-- The options passed so far are no timeout.
 use Rattle.std.proofs.Common.{◌≡◌, drop}
 use Rattle.tftp_negotiate.specs.Agreed.{timeout_of}
 use Rattle.tftp_negotiate.proofs.agreed.Agreed.timeout.Given as goal

@@ -1,0 +1,16 @@
+-- What a source that ends early has left, and when it fails.
+use Rattle.std.specs.Prelude.{ℕ, ◌≡◌, ◌<◌, Bool, true, List, length, take}
+
+-- the wire text that is left, and whether a fill fails that requests more
+pub record FaultSourceState : Type 0 where
+  pub left : List ℕ
+  pub fails : Bool
+
+-- a source of the first bytes of a wire text
+abbrev pub new_fault_source : List ℕ → ℕ → Bool → FaultSourceState
+new_fault_source text give fails = record { left = take give text; fails = fails }
+
+-- a fill of so many bytes answers Read: it requests more than is left, and the source was made to fail
+pub record FailsAt (source : FaultSourceState) (want : ℕ) : Type 0 where
+  pub made : source.fails ≡ true
+  pub short : length source.left < want

@@ -1,0 +1,92 @@
+//! A source in memory that ends early, or fails there.
+
+ghost use Rattle.std.specs.Prelude.{◌≡◌, IfErr, IfOk};
+ghost use Rattle.tftp_file.specs.Netascii.{wire_text};
+ghost use Rattle.tftp_file.specs.FaultSource.{new_fault_source};
+
+use crate::length::wire_length_within;
+use crate::{FileFault, MemSource, Source};
+use std::alloc::Global;
+use std::marker::Model;
+use tftp_wire::Mode;
+
+/// A source of bytes in memory that ends before their wire text does, or fails there: what a file
+/// does that was cut, or a disk that cannot be read.
+///
+/// Contracts see the wire text that is left, and whether a fill fails that requests more than that.
+#[derive(Debug, Drop)]
+pub struct FaultSource {
+    source: MemSource,
+    left: u64,
+    fails: bool,
+}
+
+impl Model for FaultSource {
+    ghost use Rattle.std.specs.Prelude.{take, length, ◌≤◌};
+    ghost use Rattle.tftp_file.specs.FaultSource.{FaultSourceState};
+
+    ghost Value = { FaultSourceState };
+
+    ghost view = { λ s. record { left = take s.left s.source; fails = s.fails } };
+
+    ghost invariant = { λ s. s.left ≤ length s.source };
+}
+
+impl FaultSource {
+    /// A source of the first `give` bytes of the bytes' wire text in the mode, or of all of it where
+    /// it is shorter. It then ends; made to `fail`, it answers `Read` to a fill that requests more
+    /// bytes than are left. It copies the bytes, and fails with `Memory` alone.
+    pub fn new(
+        alloc: Global,
+        bytes: &[u8],
+        mode: Mode,
+        give: u64,
+        fail: bool,
+    ) -> Result<FaultSource, FileFault>
+        ensures ok { IfOk result (λ source.
+            source ≡ new_fault_source (wire_text mode bytes.now) give fail) }
+        ensures memory { IfErr result (λ fault. fault ≡ FileFault.Memory) }
+    {
+        Ok(FaultSource {
+            source: MemSource::new(alloc, bytes, mode)?,
+            left: wire_length_within(bytes, mode, give),
+            fails: fail,
+        })
+    }
+}
+
+impl Source for FaultSource {
+    ghost use Rattle.std.specs.Prelude.{◌≡◌, ◌≤◌, Some, Err, ⊤, vec_capacity};
+    ghost use Rattle.tftp_file.specs.Source.{Fills};
+    ghost use Rattle.tftp_file.specs.FaultSource.{FailsAt};
+
+    ghost left = { λ s. Some s.left };
+
+    ghost may_fail = { FailsAt };
+
+    /// It holds no borrow: this says nothing.
+    ghost is_same = { λ _ _. ⊤ };
+
+    ghost stays = { λ _. tt };
+
+    ghost joins = { λ _ _ _ _ _. tt };
+
+    /// A fill that requests more than is left of a source that was made to fail answers `Read`, and
+    /// takes no memory.
+    fn fill(&mut self, want: usize, out: &mut Vec<u8>) -> Result<usize, FileFault>
+        ensures fills { Fills (Some self.old.left) (Some self.new.left) want
+            out.old.items out.new.items result }
+        ensures read { result ≡ Err FileFault.Read → FailsAt self.old want }
+        ensures capacity { vec_capacity out.old ≤ vec_capacity out.new }
+        ensures same { ⊤ }
+        ensures fails { FailsAt self.old want → result ≡ Err FileFault.Read }
+    {
+        let count = want.min(self.left as usize);
+        if self.fails && count < want {
+            return Err(FileFault::Read);
+        }
+        let given = self.source.fill(count, out)?;
+        self.left -= given as u64;
+        Ok(given)
+    }
+}
