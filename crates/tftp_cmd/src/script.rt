@@ -50,7 +50,7 @@ pub(crate) enum Statement {
 pub(crate) enum ScriptFault {
     /// The first faulty line, counted from 1.
     Line(usize),
-    /// Memory was wanting; no line is at fault.
+    /// An allocation failed; no line is at fault.
     Memory,
 }
 

@@ -17,7 +17,7 @@ use tftp_wire::Bytes;
 pub(crate) enum LineFault {
     /// It is no line of the language, or does not stand at this place.
     Faulty,
-    /// Memory was wanting; the line is not at fault.
+    /// An allocation failed; the line is not at fault.
     Memory,
 }
 
