@@ -1,4 +1,4 @@
-# make run: builds the programs into bin/ and runs the main job on a small sample
+# make run: proves the programs, builds them into bin/ and runs the main job on a small sample
 # make test: the gate, every proof from nothing
 # make bench: the benchmarks of bench/, which are no tests
 
@@ -6,16 +6,17 @@ PROGRAMS := show play
 SOURCES := $(shell find crates -path '*/out' -prune -o \( -name '*.rt' -o -name '*.antt' \) -print) crates.txt
 
 .PHONY: run test bench clean
+# one after another: each crate is proved by as many processors as there are
+.NOTPARALLEL:
 
 run: $(PROGRAMS:%=bin/tftp-%)
 	bin/tftp-show < examples/packets.hex; test $$? -le 1 # 1: some lines of the sample are faults
 	bin/tftp-play examples/lossy.script
 
-# `rt run` proves and links the program, and leaves it in the crate's out/
-bin/tftp-%: $(SOURCES)
-	cd crates/tftp_$*_main && rt run < /dev/null > /dev/null
+bin/tftp-%: $(SOURCES) tools/build.sh
+	@tools/build.sh tftp_$*_main
 	@mkdir -p bin
-	cp crates/tftp_$*_main/out/tftp_$*_main $@
+	@cp crates/tftp_$*_main/out/tftp_$*_main $@
 
 test:
 	rt ci
@@ -25,4 +26,4 @@ bench: $(PROGRAMS:%=bin/tftp-%)
 	python3 bench/play/settled.py bin/tftp-play
 
 clean:
-	rm -rf bin crates/*/out
+	rm -rf bin out crates/*/out

@@ -24,10 +24,6 @@ not_and : (a b : Bool) → (not a && b) ≡ true → (a ≡ false) × (b ≡ tru
 not_and true b h = absurd (cc)
 not_and false b h = (refl, h)
 
-and_not : (a b : Bool) → a ≡ false → b ≡ true → (not a && b) ≡ true
-and_not true b absent rest = absurd (cc)
-and_not false b absent rest = rest
-
 equal_from_is_eq : (o : Ordering) → is_eq o ≡ true → o ≡ Equal
 equal_from_is_eq Less h = absurd (cc)
 equal_from_is_eq Equal h = refl
@@ -63,7 +59,8 @@ module _ {A : Type 0} where
   has_distinct_paths-push (f ∷ files) e distinct absent =
       let before = not_and _ _ distinct in
       let parts = neither _ _ (some_or (is_at (path_cmp e.0) f.0) f.1.items (file_at e.0 (contents files)) ∙ absent) in
-      and_not _ _ (absent-push f.0 files e before.0 (apart _ e.0 f.0 refl parts.0)) (has_distinct_paths-push files e before.1 parts.1)
+      ap (λ found. not found && has_distinct_paths (contents (files ++ e ∷ []))) (absent-push f.0 files e before.0 (apart _ e.0 f.0 refl parts.0))
+      ∙ has_distinct_paths-push files e before.1 parts.1
 
   -- the files after a push that may have failed
   pub has_distinct_paths-pushed : (ok : Bool) (files after : List (List ℕ × Vec ℕ A)) (e : List ℕ × Vec ℕ A) → after ≡ cond ok (files ++ e ∷ []) files → has_distinct_paths (contents files) ≡ true → is_some (file_at e.0 (contents files)) ≡ false → has_distinct_paths (contents after) ≡ true

@@ -1,40 +1,38 @@
 //! The command lines of the programs.
 
-ghost use Rattle.std.specs.Prelude.{◌≤◌, IfOk, IfSome};
+ghost use Rattle.std.specs.Prelude.{◌≤◌};
 
-use crate::play::play_run;
+use crate::play::{PlayFault, play_run};
 use crate::show::show_run;
 use anyhow::Result;
 use clap::{Arg, Command};
+use std::alloc::{AllocError, Global};
 use std::convert::AsStr;
 use std::io::Write;
 use std::rt::Runtime;
 use std::{env, fs, io};
 
-/// Runs `tftp-show` over standard input and output, and answers its status.
+/// Runs `tftp-show` with the program's own command line, and returns its status.
 ///
-/// `--help` and `--version` print and answer 0. A command line that is not understood is told on
-/// standard error with status 2; a want of memory is status 2 too.
+/// See [`show_words`].
 pub fn show_command<R: Runtime + AllocGlobal>(rt: &R) -> u8
     ensures { result ≤ 2 }
 {
-    match understood(rt) {
-        Ok(None) => show_run(rt.alloc(), rt.reader(), io::writer(rt)),
-        Ok(Some(status)) => status,
+    match own_words(rt) {
+        Ok(words) => show_words(rt, words.as_slice()),
         Err(_) => 2,
     }
 }
 
-/// Runs `tftp-play` over the script that the command line names, or standard input where it names
-/// none, and standard output, and answers its status. `errors` is standard error.
+/// Runs `tftp-play` with the program's own command line, and returns its status. `errors` is standard
+/// error.
 ///
-/// `--help` and `--version` print and answer 0. A command line that is not understood and a script that
-/// cannot be opened are told on standard error with status 2; a want of memory is status 2 too.
+/// See [`play_words`].
 pub fn play_command<R: Runtime + AllocGlobal, E: Write + Drop>(rt: &R, errors: E) -> u8
     ensures { result ≤ 2 }
 {
     match own_words(rt) {
-        Ok(words) => play_words(rt, words.as_slice(), errors).unwrap_or(2),
+        Ok(words) => play_words(rt, words.as_slice(), errors),
         Err(_) => 2,
     }
 }
@@ -48,54 +46,62 @@ fn own_words<R: Runtime + AllocGlobal>(rt: &R) -> Result<Vec<String>> {
     Ok(words)
 }
 
-/// The status of the program's own command line, if it asks for no run.
-fn understood<R: Runtime + AllocGlobal>(rt: &R) -> Result<Option<u8>>
-    ensures { IfOk result (λ told. IfSome told (λ status. status ≤ 2)) }
-{
-    told(rt, own_words(rt)?.as_slice())
-}
-
-/// The status of a command line that asks for no run, once its text is printed. The first word is
-/// the program's name.
-pub(crate) fn told<R: Print + Eprint + AllocGlobal, S: AsStr>(
-    rt: &R,
-    words: &[S],
-) -> Result<Option<u8>>
-    ensures { IfOk result (λ told. IfSome told (λ status. status ≤ 2)) }
+/// Runs `tftp-show` over standard input and output, as a command line says, and returns its status. The
+/// first word is the program's name.
+///
+/// `--help` and `--version` print and return 0. A command line that is not understood is reported on
+/// standard error with status 2. Out of memory is status 2 too.
+pub fn show_words<R: Runtime + AllocGlobal, S: AsStr>(rt: &R, words: &[S]) -> u8
+    ensures { result ≤ 2 }
 {
     let command = Command::new(rt.alloc(), "tftp-show")
         .about("Prints TFTP datagrams, given as lines of hexadecimal digits on standard input")
         .version("0.1.0");
     match command.try_get_matches_from(words) {
-        Ok(_) => Ok(None),
-        Err(error) => Ok(Some(told_status(rt, &error)?)),
+        Ok(_) => show_run(rt.alloc(), rt.reader(), io::writer(rt)),
+        Err(error) => print_usage(rt, &error),
     }
 }
 
-/// Prints what a command line that asks for no run is told, and answers its status.
-fn told_status<R: Print + Eprint>(rt: &R, error: &clap::Error) -> io::Result<u8>
-    ensures { IfOk result (λ status. status ≤ 2) }
-{
-    error.print(rt)?;
-    Ok(if error.use_stderr() { 2 } else { 0 })
-}
-
-/// Runs `tftp-play` as a command line says. The first word is the program's name.
-pub(crate) fn play_words<R: Runtime + AllocGlobal, S: AsStr, E: Write + Drop>(
+/// Runs `tftp-play` over the script that a command line names, or standard input where it names none, and
+/// standard output, and returns its status. The first word is the program's name, `errors` is standard
+/// error.
+///
+/// `--help` and `--version` print and return 0. A command line that is not understood and a script that
+/// cannot be opened or read are reported on standard error with status 2. Out of memory is status 2 too.
+pub fn play_words<R: Runtime + AllocGlobal, S: AsStr, E: Write + Drop>(
     rt: &R,
     words: &[S],
-    errors: E,
-) -> Result<u8>
-    ensures { IfOk result (λ status. status ≤ 2) }
+    mut errors: E,
+) -> u8
+    ensures { result ≤ 2 }
 {
-    let script = Arg::new(rt.alloc(), "SCRIPT").help("The script; standard input if there is none");
-    let command = Command::new(rt.alloc(), "tftp-play")
+    let Ok(command) = play_syntax(rt.alloc()) else {
+        return PlayFault::Memory.report(&mut errors);
+    };
+    match command.try_get_matches_from(words) {
+        Ok(matches) => play_script(rt, matches.get_str("SCRIPT"), errors),
+        Err(error) => print_usage(rt, &error),
+    }
+}
+
+/// The command line of `tftp-play`.
+fn play_syntax<'a>(alloc: Global) -> Result<Command<'a>, AllocError> {
+    let script = Arg::new(alloc, "SCRIPT").help("The script; standard input if there is none");
+    Command::new(alloc, "tftp-play")
         .about("Plays a script of TFTP transfers over a lossy network in memory")
         .version("0.1.0")
-        .arg(script)?;
-    match command.try_get_matches_from(words) {
-        Ok(matches) => Ok(play_script(rt, matches.get_str("SCRIPT"), errors)),
-        Err(error) => Ok(told_status(rt, &error)?),
+        .arg(script)
+}
+
+/// Prints the help, the version or what is wrong with a command line, and returns the status for it.
+fn print_usage<R: Print + Eprint>(rt: &R, error: &clap::Error) -> u8
+    ensures { result ≤ 2 }
+{
+    if error.print(rt).is_err() || error.use_stderr() {
+        2
+    } else {
+        0
     }
 }
 
@@ -112,9 +118,6 @@ fn play_script<R: Runtime + AllocGlobal, E: Write + Drop>(
     };
     match fs::open(rt, path) {
         Ok(script) => play_run(rt.alloc(), script, io::writer(rt), errors),
-        Err(error) => {
-            let _ = writeln!(errors, "{path}: {error}");
-            2
-        }
+        Err(error) => PlayFault::of_reading(&error).report(&mut errors),
     }
 }

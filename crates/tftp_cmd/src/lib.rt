@@ -14,6 +14,6 @@ mod show;
 #[cfg(test)]
 mod tests;
 
-pub use arguments::{play_command, show_command};
+pub use arguments::{play_command, play_words, show_command, show_words};
 pub use play::play_run;
 pub use show::{show_lines, show_run};

@@ -4,6 +4,7 @@ ghost use Rattle.std.specs.Prelude.{◌≡◌, true};
 ghost use Rattle.tftp_server.specs.Config.{IsConfig};
 ghost use Rattle.tftp_server.specs.Memory.{contents, has_distinct_paths};
 
+mod keyword;
 mod line;
 mod word;
 
@@ -49,7 +50,7 @@ pub(crate) enum Statement {
 pub(crate) enum ScriptFault {
     /// The first faulty line, counted from 1.
     Line(usize),
-    /// Memory was wanting; no line is at fault.
+    /// An allocation failed; no line is at fault.
     Memory,
 }
 

@@ -1,7 +1,6 @@
 //! Whole runs of `tftp-show` over memory.
 
-use crate::arguments::{play_words, told};
-use crate::show_run;
+use crate::{play_words, show_run, show_words};
 use std::alloc::Global;
 use std::io::{self, ErrorKind, Read, Write};
 use std::process::Abort;
@@ -119,7 +118,7 @@ fn failures_are_two(rt: HostRuntime) {
 }
 
 #[test]
-fn play_command_lines(rt: HostRuntime) -> Result<(), Fail> {
+fn play_command_lines(rt: HostRuntime) {
     let rows: [(&[&str], u8); 5] = [
         (&["tftp-play", "--help"], 0),
         (&["tftp-play", "--version"], 0),
@@ -129,21 +128,22 @@ fn play_command_lines(rt: HostRuntime) -> Result<(), Fail> {
     ];
     for (words, status) in rows {
         let mut errors = Vec::new(rt.alloc());
-        let answer = play_words(&rt, words, &mut errors)?;
+        let answer = play_words(&rt, words, &mut errors);
         assert_eq!(rt; answer, status, "the status of {words:?}");
     }
-    let mut errors = Vec::new(rt.alloc());
-    play_words(&rt, &["tftp-play", "/missing/a.script"], &mut errors)?;
-    assert!(rt;
-        errors.as_slice().starts_with(b"/missing/a.script: "),
-        "the path is told"
-    );
-    Ok(())
+    for path in ["/missing/a.script", "/"] {
+        let mut errors = Vec::new(rt.alloc());
+        play_words(&rt, &["tftp-play", path], &mut errors);
+        assert_eq!(rt;
+            errors.as_slice(),
+            b"script: unreadable\n".as_slice(),
+            "the script {path}"
+        );
+    }
 }
 
 #[test]
-fn command_lines(rt: HostRuntime) -> Result<(), Fail> {
-    assert_eq!(rt; told(&rt, &["tftp-show"])?, None, "no argument");
+fn command_lines(rt: HostRuntime) {
     let rows = [
         ("--help", 0),
         ("--version", 0),
@@ -152,10 +152,9 @@ fn command_lines(rt: HostRuntime) -> Result<(), Fail> {
     ];
     for (word, status) in rows {
         assert_eq!(rt;
-            told(&rt, &["tftp-show", word])?,
-            Some(status),
+            show_words(&rt, &["tftp-show", word]),
+            status,
             "the argument {word}"
         );
     }
-    Ok(())
 }

@@ -4,9 +4,11 @@ ghost use Rattle.std.specs.Prelude.{◌≡◌, is_some};
 ghost use Rattle.tftp_server.specs.Memory.{contents};
 ghost use Rattle.tftp_server.specs.Store.{file_at};
 
-use crate::script::word::{asked, content, mode, number};
+use crate::script::keyword::Keyword;
+use crate::script::word::{asked, content, mode, number, text};
 use crate::script::{Script, Statement};
 use std::alloc::{AllocError, AllocFailed, Global};
+use std::str::FromStr;
 use tftp_file::{Path, PathFault, path_of};
 use tftp_wire::Bytes;
 
@@ -15,7 +17,7 @@ use tftp_wire::Bytes;
 pub(crate) enum LineFault {
     /// It is no line of the language, or does not stand at this place.
     Faulty,
-    /// Memory was wanting; the line is not at fault.
+    /// An allocation failed; the line is not at fault.
     Memory,
 }
 
@@ -33,33 +35,34 @@ impl Script {
     }
 
     fn take_words(&mut self, alloc: Global, words: &[&[u8]]) -> Result<(), LineFault> {
+        let [first, arguments @ ..] = words else {
+            return Err(LineFault::Faulty);
+        };
         if words.iter().any(|word| word.is_empty()) {
             return Err(LineFault::Faulty);
         }
-        match words {
-            [b"set" | b"file", ..] if !self.statements.is_empty() => Err(LineFault::Faulty),
-            [b"set", name, value] => self.set(name, value),
-            [b"file", name, bytes] => self.add_file(path_of(alloc, name)?, content(alloc, bytes)?),
-            [b"get", name, word, options @ ..] => self.push(Statement::Get {
-                name: Bytes::from_slice(alloc, name)?,
-                mode: mode(word)?,
-                asked: asked(options)?,
-            }),
-            [b"deliver", place] => self.push(Statement::Deliver(number(place)?)),
-            [b"timeout", port] => self.push(Statement::Timeout(number(port)?)),
-            [b"settle", place] => self.push(Statement::Settle(number(place)?)),
-            _ => Err(LineFault::Faulty),
+        match Keyword::of_word(first)? {
+            Keyword::Set | Keyword::File if !self.statements.is_empty() => Err(LineFault::Faulty),
+            Keyword::Set => self.set(arguments),
+            Keyword::File => self.take_file(alloc, arguments),
+            Keyword::Get => self.push(get(alloc, arguments)?),
+            Keyword::Deliver => self.push(Statement::Deliver(only_number(arguments)?)),
+            Keyword::Timeout => self.push(Statement::Timeout(only_number(arguments)?)),
+            Keyword::Settle => self.push(Statement::Settle(only_number(arguments)?)),
         }
     }
 
-    /// Sets a number of the configuration.
-    fn set(&mut self, name: &[u8], value: &[u8]) -> Result<(), LineFault> {
+    /// `set NAME N`: sets a number of the configuration.
+    fn set(&mut self, arguments: &[&[u8]]) -> Result<(), LineFault> {
+        let [name, value] = arguments else {
+            return Err(LineFault::Faulty);
+        };
         let mut config = self.config;
-        match name {
-            b"retries" => config.retries = number(value)?,
-            b"max-block" => config.limits.max_block = number(value)?,
-            b"max-file" => config.limits.max_file = number(value)?,
-            b"cap" => config.cap = number(value)?,
+        match text(name)? {
+            "retries" => config.retries = number(value)?,
+            "max-block" => config.limits.max_block = number(value)?,
+            "max-file" => config.limits.max_file = number(value)?,
+            "cap" => config.cap = number(value)?,
             _ => return Err(LineFault::Faulty),
         }
         if !config.is_valid() {
@@ -67,6 +70,14 @@ impl Script {
         }
         self.config = config;
         Ok(())
+    }
+
+    /// `file NAME CONTENT`: adds a file of the server.
+    fn take_file(&mut self, alloc: Global, arguments: &[&[u8]]) -> Result<(), LineFault> {
+        let [name, bytes] = arguments else {
+            return Err(LineFault::Faulty);
+        };
+        self.add_file(path_of(alloc, name)?, content(alloc, bytes)?)
     }
 
     /// Adds a file of the server, whose path is to be new.
@@ -81,6 +92,28 @@ impl Script {
     fn push(&mut self, statement: Statement) -> Result<(), LineFault> {
         self.statements.push(statement)?;
         Ok(())
+    }
+}
+
+/// `get NAME MODE OPTIONS`: a client asks for a file.
+fn get(alloc: Global, arguments: &[&[u8]]) -> Result<Statement, LineFault> {
+    let [name, word, options @ ..] = arguments else {
+        return Err(LineFault::Faulty);
+    };
+    let mode = mode(word)?;
+    let asked = asked(options)?;
+    let name = Bytes::from_slice(alloc, name)?;
+    Ok(Statement::Get { name, mode, asked })
+}
+
+/// The number that is the only argument.
+fn only_number<N: FromStr>(arguments: &[&[u8]]) -> Result<N, LineFault>
+where
+    N::Err: Drop,
+{
+    match arguments {
+        [word] => number(word),
+        _ => Err(LineFault::Faulty),
     }
 }
 

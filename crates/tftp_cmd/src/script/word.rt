@@ -93,7 +93,7 @@ fn repeated(alloc: Global, digits: &str, count: usize) -> Result<Vec<u8>, LineFa
 }
 
 /// The word as text.
-fn text(word: &[u8]) -> Result<&str, LineFault>
+pub(crate) fn text(word: &[u8]) -> Result<&str, LineFault>
     ensures { IfOk result (λ text. text.now ≡ word.now) }
 {
     str::from_utf8(word).map_err(|_| LineFault::Faulty)

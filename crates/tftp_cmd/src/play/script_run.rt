@@ -1,4 +1,4 @@
-//! A world in play, and what is printed of it.
+//! The run of a script: its statements are events of a world, and what they did is printed.
 
 ghost use Rattle.std.specs.Prelude.{◌≡◌, true};
 ghost use Rattle.tftp_server.specs.Config.{IsConfig};
@@ -17,35 +17,35 @@ use tftp_server::Config;
 /// Most deliveries of one settling.
 const MAX_SETTLED: usize = 1_000_000;
 
-/// A world, and where it is written what happens in it.
+/// A script that runs: its world, and the output that says what happened in it.
 #[derive(Drop)]
-pub(crate) struct Player<W: Write + Drop> {
+pub(crate) struct ScriptRun<W: Write + Drop> {
     alloc: Global,
     world: World,
     output: BufWriter<W>,
 }
 
-impl<W: Write + Drop> Player<W> {
+impl<W: Write + Drop> ScriptRun<W> {
     /// A world in which nothing has happened.
     pub(crate) fn new(
         alloc: Global,
         files: Vec<(Path, Vec<u8>)>,
         config: Config,
         output: W,
-    ) -> Result<Player<W>, PlayFault>
+    ) -> Result<ScriptRun<W>, PlayFault>
         requires distinct { has_distinct_paths (contents files.items) ≡ true }
         requires valid { IsConfig config }
     {
-        Ok(Player {
+        Ok(ScriptRun {
             alloc,
             world: World::new(alloc, files, config).map_err(|_| AllocError)?,
             output: BufWriter::new(alloc, output)?,
         })
     }
 
-    /// Does what a statement says, and writes what came of it.
-    pub(crate) fn play(&mut self, statement: Statement) -> Result<(), PlayFault> {
-        let answer = match statement {
+    /// Executes a statement, and writes what it did.
+    pub(crate) fn execute(&mut self, statement: Statement) -> Result<(), PlayFault> {
+        let effect = match statement {
             Statement::Get { name, mode, asked } => {
                 self.world.apply(Event::Get { name, mode, asked })
             }
@@ -53,7 +53,7 @@ impl<W: Write + Drop> Player<W> {
             Statement::Timeout(port) => self.world.apply(Event::Timeout(port)),
             Statement::Settle(place) => return self.settle(place),
         };
-        self.write_answer(answer)
+        self.write_effect(effect)
     }
 
     /// Writes how far each end came, and answers whether every client is complete.
@@ -78,14 +78,14 @@ impl<W: Write + Drop> Player<W> {
             match self.world.apply(Event::Deliver(place)) {
                 Ok(report) => self.write_report(&report)?,
                 Err(WorldFault::NoSuchDatagram) => return Ok(()),
-                Err(fault) => return self.write_answer(Err(fault)),
+                Err(fault) => return self.write_effect(Err(fault)),
             }
         }
         Ok(())
     }
 
-    fn write_answer(&mut self, answer: Result<Report, WorldFault>) -> Result<(), PlayFault> {
-        match answer {
+    fn write_effect(&mut self, effect: Result<Report, WorldFault>) -> Result<(), PlayFault> {
+        match effect {
             Ok(report) => self.write_report(&report),
             Err(fault) => Ok(writeln!(self.output, "refused {fault:?}")?),
         }

@@ -1,0 +1,12 @@
+-- What `tftp-play` prints on standard error where a script is not played to its end (own).
+use Rattle.std.specs.Prelude.{ℕ, List, ◌++◌, codes}
+use Rattle.std.specs.Fmt.{decimal}
+use Rattle.tftp_cmd.specs.declared.play.fault.PlayFault.{PlayFault}
+use Rattle.tftp_cmd.specs.declared.play.fault.PlayFault.TheVariants.{Unreadable, Line, Unwritable, Memory}
+
+-- the message of a fault, without its line feed
+abbrev pub fault_text : PlayFault → List ℕ
+fault_text Unreadable = codes "script: unreadable"
+fault_text (Line number) = codes "line " ++ (decimal number ++ codes ": fault")
+fault_text Unwritable = codes "output: unwritable"
+fault_text Memory = codes "out of memory"
