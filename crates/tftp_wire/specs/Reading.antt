@@ -1,11 +1,12 @@
 -- The first fault of a datagram from the left, and where it stands (own; the layouts are those of
 -- RFC 1350, section 5, and RFC 2347, "Packet Formats").
-use Rattle.std.specs.Prelude.{ℕ, ◌+◌, ◌==◌, nat_lt, if◌then◌else◌, List, [], ◌∷◌, length, drop, Option, Some, None, is_some, codes}
+use Rattle.std.specs.Prelude.{ℕ, ◌+◌, ◌==◌, ◌&&◌, nat_lt, Bool, false, if◌then◌else◌, List, [], ◌∷◌, length, drop, Option, Some, None, is_some, codes}
 use Rattle.std.specs.Str.{str_eq_ignore_ascii_case}
 use Rattle.byteorder.specs.Endian.{big_number}
 use Rattle.tftp_wire.specs.declared.fault.PacketFault.{PacketFault}
 use Rattle.tftp_wire.specs.declared.fault.PacketFaultKind.{PacketFaultKind}
 use Rattle.tftp_wire.specs.declared.fault.PacketFaultKind.TheVariants as kinds
+use Rattle.tftp_wire.specs.declared.limits.TheConstants.{MAX_DATA, MAX_REQUEST}
 use Rattle.tftp_wire.specs.declared.mode.Mode.{Mode}
 use Rattle.tftp_wire.specs.declared.mode.Mode.TheVariants.{Octet, Netascii}
 use Rattle.tftp_wire.specs.Texts.{texts, unended}
@@ -13,6 +14,29 @@ use Rattle.tftp_wire.specs.Texts.{texts, unended}
 -- a fault of this kind at this place
 abbrev pub fault_at : PacketFaultKind → ℕ → Option PacketFault
 fault_at kind at = Some (record { kind = kind; at = at })
+
+-- a row of a table of faults: where the test holds, this is wrong, at this place
+pub record Row : Type 0 where
+  pub test : Bool
+  pub kind : PacketFaultKind
+  pub at : ℕ
+
+-- the first row whose test holds counts, and where none holds what else is to be found
+abbrev pub first_row : List Row → Option PacketFault → Option PacketFault
+first_row [] others = others
+first_row (row ∷ rows) others = if row.test then fault_at row.kind row.at else first_row rows others
+
+-- a row
+abbrev pub row : Bool → PacketFaultKind → ℕ → Row
+row test kind at = record { test = test; kind = kind; at = at }
+
+-- longer than its kind may be
+abbrev pub too_long : ℕ → List ℕ → Row
+too_long most bytes = row (nat_lt most (length bytes)) kinds.TooLong most
+
+-- no second number
+abbrev pub too_short : List ℕ → Row
+too_short bytes = row (nat_lt (length bytes) 4) kinds.Short 2
 
 -- the mode of a word
 abbrev pub mode_in : List ℕ → Option Mode
@@ -46,27 +70,23 @@ texts_fault ((c ∷ name) ∷ others) rest = mode_fault (2 + (length (c ∷ name
 -- of a request
 abbrev pub request_fault : List ℕ → Option PacketFault
 request_fault bytes =
-    if nat_lt 512 (length bytes) then fault_at kinds.TooLong 512
-    else texts_fault (texts (drop 2 bytes)) (unended (drop 2 bytes))
+    first_row (too_long MAX_REQUEST bytes ∷ []) (texts_fault (texts (drop 2 bytes)) (unended (drop 2 bytes)))
 
 -- of the number after the opcode
 abbrev pub number_fault : List ℕ → Option PacketFault
-number_fault bytes = if nat_lt (length bytes) 4 then fault_at kinds.Short 2 else None
+number_fault bytes = first_row (too_short bytes ∷ []) None
 
 -- of a DATA
 abbrev pub data_fault : List ℕ → Option PacketFault
-data_fault bytes =
-    if nat_lt 65468 (length bytes) then fault_at kinds.TooLong 65468
-    else if nat_lt (length bytes) 4 then fault_at kinds.Short 2
-    else if big_number 2 (drop 2 bytes) == 0 then fault_at kinds.BlockZero 2
-    else None
+data_fault bytes = first_row (
+  too_long MAX_DATA bytes
+  ∷ too_short bytes
+  ∷ row (big_number 2 (drop 2 bytes) == 0) kinds.BlockZero 2
+  ∷ []) None
 
 -- of an ACK
 abbrev pub ack_fault : List ℕ → Option PacketFault
-ack_fault bytes =
-    if nat_lt (length bytes) 4 then fault_at kinds.Short 2
-    else if nat_lt 4 (length bytes) then fault_at kinds.Trailing 4
-    else None
+ack_fault bytes = first_row (too_short bytes ∷ row (nat_lt 4 (length bytes)) kinds.Trailing 4 ∷ []) None
 
 -- of the text of an ERROR
 abbrev pub message_fault : List (List ℕ) → List ℕ → Option PacketFault
@@ -77,17 +97,13 @@ message_fault (text ∷ other ∷ others) rest = fault_at kinds.Trailing (4 + (l
 
 -- of an ERROR
 abbrev pub error_fault : List ℕ → Option PacketFault
-error_fault bytes =
-    if nat_lt 512 (length bytes) then fault_at kinds.TooLong 512
-    else if nat_lt (length bytes) 4 then fault_at kinds.Short 2
-    else message_fault (texts (drop 4 bytes)) (unended (drop 4 bytes))
+error_fault bytes = first_row (too_long MAX_REQUEST bytes ∷ too_short bytes ∷ [])
+    (message_fault (texts (drop 4 bytes)) (unended (drop 4 bytes)))
 
 -- of an OACK
 abbrev pub oack_fault : List ℕ → Option PacketFault
-oack_fault bytes =
-    if nat_lt 512 (length bytes) then fault_at kinds.TooLong 512
-    else if length bytes == 2 then fault_at kinds.EmptyOack 2
-    else options_fault 2 (texts (drop 2 bytes)) (unended (drop 2 bytes))
+oack_fault bytes = first_row (too_long MAX_REQUEST bytes ∷ row (length bytes == 2) kinds.EmptyOack 2 ∷ [])
+    (options_fault 2 (texts (drop 2 bytes)) (unended (drop 2 bytes)))
 
 -- of a datagram with this opcode
 abbrev pub opcode_fault : ℕ → List ℕ → Option PacketFault
@@ -103,4 +119,10 @@ opcode_fault opcode bytes =
 -- of a datagram; none if it spells a packet
 abbrev pub first_fault : List ℕ → Option PacketFault
 first_fault bytes =
-    if nat_lt (length bytes) 2 then fault_at kinds.Short 0 else opcode_fault (big_number 2 bytes) bytes
+    first_row (row (nat_lt (length bytes) 2) kinds.Short 0 ∷ []) (opcode_fault (big_number 2 bytes) bytes)
+
+-- the datagram begins as an ERROR does
+abbrev pub has_error_opcode : List ℕ → Bool
+has_error_opcode (high ∷ low ∷ rest) = high == 0 && (low == 5)
+has_error_opcode (high ∷ []) = false
+has_error_opcode [] = false

@@ -3,6 +3,8 @@ use Rattle.std.specs.Prelude.{ℕ, ◌≡◌, ◌≢◌, ◌<◌, ◌≤◌, ◌
 use Rattle.std.specs.List.{AllByRecursion}
 use Rattle.std.specs.Str.{str_to_ascii_lowercase}
 use Rattle.byteorder.specs.Endian.{big_bytes}
+use Rattle.tftp_wire.specs.declared.limits.TheConstants.{MAX_BLOCK, MAX_REQUEST}
+use Rattle.tftp_wire.specs.declared.mode.Mode.{Mode}
 use Rattle.tftp_wire.specs.declared.packet.Packet.{Packet}
 use Rattle.tftp_wire.specs.declared.packet.Packet.TheVariants.{Read, Write, Data, Ack, Error, Oack}
 use Rattle.tftp_wire.specs.declared.packet.Request.{Request}
@@ -24,6 +26,10 @@ abbrev pub request_bytes : ℕ → List ℕ → Request → List ℕ
 request_bytes opcode word r =
     big_bytes 2 opcode ++ (zero_ended r.name ++ (zero_ended word ++ options_bytes r.options))
 
+-- a request without options
+abbrev pub plain_request : List ℕ → Mode → Request
+plain_request name mode = record { name = name; mode = mode; options = [] }
+
 -- a packet by the word of its mode
 abbrev pub written : List ℕ → Packet → List ℕ
 written word (Read r) = request_bytes 1 word r
@@ -37,9 +43,9 @@ written word (Oack options) = big_bytes 2 6 ++ options_bytes options
 abbrev pub canonical : Packet → List ℕ
 canonical p = written (word_of p) p
 
--- a request or an OACK has at most 512 bytes (RFC 2347), and here an ERROR too
+-- a request has at most 512 bytes (RFC 2347, "Packet Formats"); our own limit of an OACK and of an ERROR is the same
 abbrev pub IsShort : List ℕ → Type 0
-IsShort bytes = length bytes ≤ 512
+IsShort bytes = length bytes ≤ MAX_REQUEST
 
 -- the file name is a text and not empty, and the options are options
 pub record IsRequest (r : Request) : Type 0 where
@@ -51,7 +57,7 @@ pub record IsRequest (r : Request) : Type 0 where
 abbrev pub IsValid : Packet → Type 0
 IsValid (Read r) = IsRequest r × IsShort (canonical (Read r))
 IsValid (Write r) = IsRequest r × IsShort (canonical (Write r))
-IsValid (Data block bytes) = (block ≢ 0) × (block < 2 ^ 16) × (length bytes ≤ 65464)
+IsValid (Data block bytes) = (block ≢ 0) × (block < 2 ^ 16) × (length bytes ≤ MAX_BLOCK)
 IsValid (Ack block) = block < 2 ^ 16
 IsValid (Error code text) = (code < 2 ^ 16) × IsText text × IsShort (canonical (Error code text))
 IsValid (Oack options) = (options ≢ []) × AllByRecursion IsOption options × IsShort (canonical (Oack options))

@@ -1,6 +1,6 @@
 //! What holds of the definitions of the bytes of packets, whatever code reads or writes them.
 
-ghost use Rattle.tftp_wire.specs.Laws.{OneMeaning, FaultWhereNothing, SpelledHasNoFault, CanonicalSpells};
+ghost use Rattle.tftp_wire.specs.Laws.{OneMeaning, FaultWhereNothing, SpelledHasNoFault, SpelledIsFound, CanonicalSpells};
 
 /// Bytes spell at most one packet.
 pub fn one_meaning()
@@ -11,6 +11,12 @@ pub fn one_meaning()
 pub fn fault_or_packet()
     ensures nothing { FaultWhereNothing }
     ensures spelled { SpelledHasNoFault }
+{}
+
+/// What bytes spell is found in them by the definition that computes a packet from bytes, and so
+/// `packet_in` is the packet of bytes without a fault.
+pub fn spelled_is_found()
+    ensures { SpelledIsFound }
 {}
 
 /// The canonical bytes of a valid packet spell it: what is encoded is decoded to the same packet.

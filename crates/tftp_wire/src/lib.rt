@@ -7,11 +7,14 @@
 //! if the bytes spell it, and else the first fault from the left.
 #![tactic(auto)]
 
+mod append;
 mod bytes;
 mod fault;
 pub mod laws;
+mod limits;
 mod line;
 mod mode;
+mod opcode;
 mod options;
 mod owned;
 mod packet;
@@ -21,12 +24,19 @@ mod tests;
 mod text;
 mod writer;
 
+pub use append::{
+    append_ack, append_data, append_data_header, append_error, append_oack_header, append_option,
+    append_read, append_write,
+};
 pub use bytes::Bytes;
 pub use fault::{PacketFault, PacketFaultKind};
+pub use limits::{HEADER, MAX_BLOCK, MAX_REQUEST};
 pub use line::show;
 pub use mode::Mode;
+pub use opcode::has_error_opcode;
 pub use options::{OptionRef, OptionsIter, OptionsRef, RawOption, RawOptions};
 pub use owned::decode;
 pub use packet::{Packet, PacketRef, Request, RequestRef};
 pub use reader::decode_ref;
+pub use text::is_text;
 pub use writer::{encode, is_valid};

@@ -11,17 +11,13 @@ ghost use Rattle.tftp_wire.specs.Texts.{texts};
 ghost use Rattle.tftp_wire.specs.declared.packet.Packet.{Packet};
 
 use crate::fault::{PacketFault, PacketFaultKind};
+use crate::limits::{MAX_DATA, MAX_REQUEST};
 use crate::mode::Mode;
+use crate::opcode::{ACK, DATA, ERROR, OACK, READ, WRITE};
 use crate::options::OptionsRef;
 use crate::packet::{PacketRef, RequestRef};
 use crate::text::split_text;
 use byteorder::{BigEndian, ByteOrder};
-
-/// Most bytes of a request, an OACK or an ERROR.
-const MAX_SHORT: usize = 512;
-
-/// Most bytes of a DATA: its opcode, its number and 65,464 bytes of a file.
-const MAX_DATA: usize = 65_468;
 
 /// The packet that the bytes spell, borrowed from them. It takes no memory.
 ///
@@ -42,12 +38,12 @@ fn read_packet(bytes: &[u8]) -> Result<PacketRef<'_>, PacketFault>
         return Err(fault_at(PacketFaultKind::Short, 0));
     }
     match BigEndian::read_u16(bytes) {
-        1 => Ok(PacketRef::Read(read_request(bytes)?)),
-        2 => Ok(PacketRef::Write(read_request(bytes)?)),
-        3 => read_data(bytes),
-        4 => read_ack(bytes),
-        5 => read_error(bytes),
-        6 => read_oack(bytes),
+        READ => Ok(PacketRef::Read(read_request(bytes)?)),
+        WRITE => Ok(PacketRef::Write(read_request(bytes)?)),
+        DATA => read_data(bytes),
+        ACK => read_ack(bytes),
+        ERROR => read_error(bytes),
+        OACK => read_oack(bytes),
         _ => Err(fault_at(PacketFaultKind::Opcode, 0)),
     }
 }
@@ -57,8 +53,8 @@ fn read_request(bytes: &[u8]) -> Result<RequestRef<'_>, PacketFault>
     requires { 2 ≤ length bytes.now }
     ensures { Reads owned_request (request_of (texts (drop 2 bytes.now))) (request_fault bytes.now) result }
 {
-    if bytes.len() > MAX_SHORT {
-        return Err(fault_at(PacketFaultKind::TooLong, MAX_SHORT));
+    if bytes.len() > MAX_REQUEST {
+        return Err(fault_at(PacketFaultKind::TooLong, MAX_REQUEST));
     }
     let (_, body) = bytes.split_at(2);
     let (name, after) = read_text(body, 2)?;
@@ -111,8 +107,8 @@ fn read_error(bytes: &[u8]) -> Result<PacketRef<'_>, PacketFault>
     requires { 2 ≤ length bytes.now }
     ensures { Reads owned (packet_of 5 bytes.now) (error_fault bytes.now) result }
 {
-    if bytes.len() > MAX_SHORT {
-        return Err(fault_at(PacketFaultKind::TooLong, MAX_SHORT));
+    if bytes.len() > MAX_REQUEST {
+        return Err(fault_at(PacketFaultKind::TooLong, MAX_REQUEST));
     }
     let code = read_number(bytes)?;
     let (_, body) = bytes.split_at(4);
@@ -128,8 +124,8 @@ fn read_oack(bytes: &[u8]) -> Result<PacketRef<'_>, PacketFault>
     requires { 2 ≤ length bytes.now }
     ensures { Reads owned (packet_of 6 bytes.now) (oack_fault bytes.now) result }
 {
-    if bytes.len() > MAX_SHORT {
-        return Err(fault_at(PacketFaultKind::TooLong, MAX_SHORT));
+    if bytes.len() > MAX_REQUEST {
+        return Err(fault_at(PacketFaultKind::TooLong, MAX_REQUEST));
     }
     if bytes.len() == 2 {
         return Err(fault_at(PacketFaultKind::EmptyOack, 2));

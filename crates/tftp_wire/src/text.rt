@@ -1,6 +1,6 @@
-//! Where a text of a datagram ends: at its first zero byte.
+//! Texts of a datagram: they hold no zero byte, and one ends them.
 
-ghost use Rattle.std.specs.Prelude.{◌≡◌, ◌==◌, ◌++◌, MatchOption, position};
+ghost use Rattle.std.specs.Prelude.{◌≡◌, ◌==◌, ◌++◌, ◌↔◌, IsTrue, MatchOption, position};
 ghost use Rattle.tftp_wire.specs.Texts.{IsText, zero_ended};
 
 /// The first text of some bytes, and the bytes after its zero byte; `None` if no byte is zero.
@@ -17,4 +17,12 @@ fn first_zero(bytes: &[u8]) -> Option<usize>
     ensures { result ≡ position (λ b. b == 0) bytes.now }
 {
     bytes.iter().position(|b| *b == 0)
+}
+
+/// Whether the bytes can be a file name, a part of an option or the text of an ERROR: they hold no
+/// zero byte.
+pub fn is_text(bytes: &[u8]) -> bool
+    ensures { IsTrue result ↔ IsText bytes.now }
+{
+    bytes.iter().all(|byte| *byte != 0)
 }
