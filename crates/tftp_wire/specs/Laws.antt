@@ -1,7 +1,11 @@
 -- Laws of the bytes of packets.
-use Rattle.std.specs.Prelude.{ℕ, ◌≡◌, ◌<◌, List, get_or, None}
+use Rattle.std.specs.Prelude.{ℕ, ◌≡◌, ◌<◌, List, [], ◌++◌, get_or, None}
+use Rattle.tftp_wire.specs.declared.options.RawOption.{RawOption}
 use Rattle.tftp_wire.specs.declared.packet.Packet.{Packet}
-use Rattle.tftp_wire.specs.Spelling.{Spells, IsValid, canonical}
+use Rattle.tftp_wire.specs.declared.packet.Packet.TheVariants.{Read, Write, Oack}
+use Rattle.tftp_wire.specs.declared.packet.Request.{Request}
+use Rattle.tftp_wire.specs.Options.{options_bytes}
+use Rattle.tftp_wire.specs.Spelling.{Spells, IsValid, canonical, plain_request}
 use Rattle.tftp_wire.specs.Parts.{packet_in}
 use Rattle.tftp_wire.specs.Reading.{first_fault}
 
@@ -21,6 +25,16 @@ SpelledHasNoFault = (p : Packet) (bytes : List ℕ) → Spells p bytes → first
 -- what bytes spell is what the reader's definition finds in them
 abbrev pub SpelledIsFound : Type 0
 SpelledIsFound = (p : Packet) (bytes : List ℕ) → Spells p bytes → packet_in bytes ≡ p
+
+-- options are appended behind a request without options
+pub record FollowRequest (r : Request) : Type 0 where
+  pub read : canonical (Read r) ≡ canonical (Read (plain_request r.name r.mode)) ++ options_bytes r.options
+  pub write : canonical (Write r) ≡ canonical (Write (plain_request r.name r.mode)) ++ options_bytes r.options
+
+-- options are appended behind a request or an OACK without options
+pub record OptionsFollow : Type 0 where
+  pub request : (r : Request) → FollowRequest r
+  pub oack : (options : List RawOption) → canonical (Oack options) ≡ canonical (Oack []) ++ options_bytes options
 
 -- a valid packet's own bytes spell it
 abbrev pub CanonicalSpells : Type 0

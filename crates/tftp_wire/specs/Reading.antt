@@ -79,10 +79,10 @@ number_fault bytes = first_row (too_short bytes ∷ []) None
 -- of a DATA
 abbrev pub data_fault : List ℕ → Option PacketFault
 data_fault bytes = first_row (
-  too_long MAX_DATA bytes
-  ∷ too_short bytes
-  ∷ row (big_number 2 (drop 2 bytes) == 0) kinds.BlockZero 2
-  ∷ []) None
+    too_long MAX_DATA bytes
+    ∷ too_short bytes
+    ∷ row (big_number 2 (drop 2 bytes) == 0) kinds.BlockZero 2
+    ∷ []) None
 
 -- of an ACK
 abbrev pub ack_fault : List ℕ → Option PacketFault

@@ -1,6 +1,6 @@
 //! What holds of the definitions of the bytes of packets, whatever code reads or writes them.
 
-ghost use Rattle.tftp_wire.specs.Laws.{OneMeaning, FaultWhereNothing, SpelledHasNoFault, SpelledIsFound, CanonicalSpells};
+ghost use Rattle.tftp_wire.specs.Laws.{OneMeaning, FaultWhereNothing, SpelledHasNoFault, SpelledIsFound, CanonicalSpells, OptionsFollow};
 
 /// Bytes spell at most one packet.
 pub fn one_meaning()
@@ -22,4 +22,9 @@ pub fn spelled_is_found()
 /// The canonical bytes of a valid packet spell it: what is encoded is decoded to the same packet.
 pub fn canonical_spells()
     ensures { CanonicalSpells }
+{}
+
+/// A request or an OACK is its beginning and then its options, one after the other.
+pub fn options_follow()
+    ensures { OptionsFollow }
 {}

@@ -31,7 +31,7 @@ pub use append::{
 pub use bytes::Bytes;
 pub use fault::{PacketFault, PacketFaultKind};
 pub use limits::{HEADER, MAX_BLOCK, MAX_REQUEST};
-pub use line::show;
+pub use line::{show, show_ref};
 pub use mode::Mode;
 pub use opcode::has_error_opcode;
 pub use options::{OptionRef, OptionsIter, OptionsRef, RawOption, RawOptions};

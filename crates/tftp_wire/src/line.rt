@@ -1,131 +1,291 @@
 //! A packet as one line of text, for people.
+//!
+//! The room that a line needs at most is reserved first, and then nothing can fail.
 
-ghost use Rattle.std.specs.Prelude.{◌≡◌, ◌++◌, ◌∷◌, [], ◌<◌, OnOk, IfErr};
+ghost use Rattle.std.specs.Prelude.{◌≡◌, ◌≤◌, ◌+◌, ◌-◌, ◌*◌, ◌^◌, ◌++◌, ◌∷◌, [], ◌<◌, length, min, OnOk, IfErr};
+ghost use Rattle.std.specs.Fmt.{decimal};
 ghost use Rattle.std.specs.List.{flat_map};
-ghost use Rattle.std.specs.String.{string_bytes};
+ghost use Rattle.std.specs.String.{string_bytes, string_len, string_capacity};
+ghost use Rattle.tftp_wire.specs.Borrowed.{owned, owned_option};
 ghost use Rattle.tftp_wire.specs.Faults.{out_of_memory};
-ghost use Rattle.tftp_wire.specs.Line.{line, request_words, option_words, shown, shown_byte, shown_message_byte, percent, is_plain, hex_digit as hex};
+ghost use Rattle.tftp_wire.specs.Line.{line, option_words, shown, shown_byte, shown_message_byte, percent, hex_digit as hex};
+ghost use Rattle.tftp_wire.specs.Modes.{mode_word};
+ghost use Rattle.tftp_wire.specs.declared.packet.Packet.TheVariants.{Data, Ack, Error};
 
 use crate::fault::PacketFault;
-use crate::options::RawOption;
-use crate::packet::{Packet, Request};
-use std::alloc::AllocError;
+use crate::mode::Mode;
+use crate::options::{OptionRef, OptionsRef, RawOption};
+use crate::packet::{Packet, PacketRef};
+use crate::writer::{canonical_len, canonical_len_ref};
+use itoa::Buffer;
+
+/// What a line has at most beside three bytes for each byte of the packet.
+const WORDS: usize = 40;
 
 /// Appends the packet as one line, without a line end.
 ///
-/// It fails only for want of memory, and `out` is then as before. A byte that is not visible ASCII,
+/// It fails only when out of memory, and `out` is then as before. A byte that is not visible ASCII,
 /// and `%` and `=`, is shown as `%` and two hexadecimal digits.
 pub fn show(packet: &Packet, out: &mut String) -> Result<(), PacketFault>
     ensures ok { OnOk result (string_bytes out.new ≡ string_bytes out.old ++ line packet.now) }
     ensures err { IfErr result (λ e. (e ≡ out_of_memory) × (string_bytes out.new ≡ string_bytes out.old)) }
 {
-    let mut text = String::new(*out.allocator());
-    push_packet(&mut text, packet)?;
-    out.push_str(text.as_str())?;
+    out.reserve(line_room(packet))?;
+    put_packet(out, packet);
     Ok(())
 }
 
-fn push_packet(out: &mut String, packet: &Packet) -> Result<(), AllocError>
-    ensures { OnOk result (string_bytes out.new ≡ string_bytes out.old ++ line packet.now) }
+/// As [`show`], for a packet that borrows its bytes.
+pub fn show_ref(packet: &PacketRef<'_>, out: &mut String) -> Result<(), PacketFault>
+    ensures ok { OnOk result (string_bytes out.new ≡ string_bytes out.old ++ line (owned packet.now)) }
+    ensures err { IfErr result (λ e. (e ≡ out_of_memory) × (string_bytes out.new ≡ string_bytes out.old)) }
+{
+    out.reserve(line_room_ref(packet))?;
+    put_packet_ref(out, packet);
+    Ok(())
+}
+
+/// Room that is enough for the line of a packet, or the greatest `usize`.
+fn line_room(packet: &Packet) -> usize
+    ensures { min (length (line packet.now)) (2 ^ 64 - 1) ≤ result }
+{
+    match packet {
+        Packet::Read(_) => shown_room(canonical_len(packet)),
+        Packet::Write(_) => shown_room(canonical_len(packet)),
+        Packet::Data { block, bytes } => {
+            let (_block, _len) = (*block, bytes.as_slice().len());
+            WORDS
+        }
+        Packet::Ack { block } => {
+            let _block = *block;
+            WORDS
+        }
+        Packet::Error { code, text: _ } => {
+            let _code = *code;
+            shown_room(canonical_len(packet))
+        }
+        Packet::Oack(_) => shown_room(canonical_len(packet)),
+    }
+}
+
+/// As [`line_room`], for a packet that borrows its bytes.
+fn line_room_ref(packet: &PacketRef<'_>) -> usize
+    ensures { min (length (line (owned packet.now))) (2 ^ 64 - 1) ≤ result }
+{
+    match packet {
+        PacketRef::Read(_) => shown_room(canonical_len_ref(packet)),
+        PacketRef::Write(_) => shown_room(canonical_len_ref(packet)),
+        PacketRef::Data { block, bytes } => {
+            let (_block, _len) = (*block, bytes.len());
+            WORDS
+        }
+        PacketRef::Ack { block } => {
+            let _block = *block;
+            WORDS
+        }
+        PacketRef::Error { code, text: _ } => {
+            let _code = *code;
+            shown_room(canonical_len_ref(packet))
+        }
+        PacketRef::Oack(_) => shown_room(canonical_len_ref(packet)),
+    }
+}
+
+/// Room for the line of a packet of so many bytes.
+fn shown_room(len: usize) -> usize
+    ensures { result ≡ min (3 * len + WORDS) (2 ^ 64 - 1) }
+{
+    len.saturating_mul(3).saturating_add(WORDS)
+}
+
+fn put_packet(out: &mut String, packet: &Packet)
+    requires { string_len out.old + length (line packet.now) ≤ string_capacity out.old }
+    ensures { string_bytes out.new ≡ string_bytes out.old ++ line packet.now }
 {
     match packet {
         Packet::Read(request) => {
-            out.push_str("RRQ ")?;
-            push_request(out, request)
+            put_str(out, "RRQ ");
+            put_name_and_mode(out, request.name.as_slice(), request.mode);
+            put_options(out, request.options.as_slice());
         }
         Packet::Write(request) => {
-            out.push_str("WRQ ")?;
-            push_request(out, request)
+            put_str(out, "WRQ ");
+            put_name_and_mode(out, request.name.as_slice(), request.mode);
+            put_options(out, request.options.as_slice());
         }
-        Packet::Data { block, bytes } => {
-            let count = bytes.as_slice().len();
-            write!(out, "DATA {block} {count}")
-        }
-        Packet::Ack { block } => write!(out, "ACK {block}"),
-        Packet::Error { code, text } => {
-            write!(out, "ERROR {code} (")?;
-            push_message(out, text.as_slice())?;
-            out.push_str(")")
-        }
+        Packet::Data { block, bytes } => put_data(out, *block, bytes.as_slice()),
+        Packet::Ack { block } => put_ack(out, *block),
+        Packet::Error { code, text } => put_error(out, *code, text.as_slice()),
         Packet::Oack(options) => {
-            out.push_str("OACK")?;
-            push_options(out, options.as_slice())
+            put_str(out, "OACK");
+            put_options(out, options.as_slice());
         }
     }
 }
 
-fn push_request(out: &mut String, request: &Request) -> Result<(), AllocError>
-    ensures { OnOk result (string_bytes out.new ≡ string_bytes out.old ++ request_words request.now) }
+fn put_packet_ref(out: &mut String, packet: &PacketRef<'_>)
+    requires { string_len out.old + length (line (owned packet.now)) ≤ string_capacity out.old }
+    ensures { string_bytes out.new ≡ string_bytes out.old ++ line (owned packet.now) }
 {
-    push_shown(out, request.name.as_slice())?;
-    out.push_str(" ")?;
-    out.push_str(request.mode.word())?;
-    push_options(out, request.options.as_slice())
+    match packet {
+        PacketRef::Read(request) => {
+            put_str(out, "RRQ ");
+            put_name_and_mode(out, request.name, request.mode);
+            put_options_ref(out, &request.options);
+        }
+        PacketRef::Write(request) => {
+            put_str(out, "WRQ ");
+            put_name_and_mode(out, request.name, request.mode);
+            put_options_ref(out, &request.options);
+        }
+        PacketRef::Data { block, bytes } => put_data(out, *block, bytes),
+        PacketRef::Ack { block } => put_ack(out, *block),
+        PacketRef::Error { code, text } => put_error(out, *code, text),
+        PacketRef::Oack(options) => {
+            put_str(out, "OACK");
+            put_options_ref(out, options);
+        }
+    }
 }
 
-fn push_options(out: &mut String, options: &[RawOption]) -> Result<(), AllocError>
-    ensures { OnOk result (string_bytes out.new ≡ string_bytes out.old ++ flat_map option_words options.now) }
+fn put_data(out: &mut String, block: u16, bytes: &[u8])
+    requires { string_len out.old + length (line (Data block bytes.now)) ≤ string_capacity out.old }
+    ensures bytes { string_bytes out.new ≡ string_bytes out.old ++ line (Data block bytes.now) }
+    ensures len { string_len out.new ≡ string_len out.old + length (line (Data block bytes.now)) }
+    ensures capacity { string_capacity out.old ≤ string_capacity out.new }
+{
+    put_str(out, "DATA ");
+    put_number(out, usize::from(block));
+    put_str(out, " ");
+    put_number(out, bytes.len());
+}
+
+fn put_ack(out: &mut String, block: u16)
+    requires { string_len out.old + length (line (Ack block)) ≤ string_capacity out.old }
+    ensures bytes { string_bytes out.new ≡ string_bytes out.old ++ line (Ack block) }
+    ensures len { string_len out.new ≡ string_len out.old + length (line (Ack block)) }
+    ensures capacity { string_capacity out.old ≤ string_capacity out.new }
+{
+    put_str(out, "ACK ");
+    put_number(out, usize::from(block));
+}
+
+fn put_error(out: &mut String, code: u16, text: &[u8])
+    requires { string_len out.old + length (line (Error code text.now)) ≤ string_capacity out.old }
+    ensures bytes { string_bytes out.new ≡ string_bytes out.old ++ line (Error code text.now) }
+    ensures len { string_len out.new ≡ string_len out.old + length (line (Error code text.now)) }
+    ensures capacity { string_capacity out.old ≤ string_capacity out.new }
+{
+    put_str(out, "ERROR ");
+    put_number(out, usize::from(code));
+    put_str(out, " (");
+    put_message(out, text);
+    put_str(out, ")");
+}
+
+fn put_name_and_mode(out: &mut String, name: &[u8], mode: Mode)
+    requires { string_len out.old + length (shown name.now ++ (32 ∷ mode_word mode)) ≤ string_capacity out.old }
+    ensures bytes { string_bytes out.new ≡ string_bytes out.old ++ (shown name.now ++ (32 ∷ mode_word mode)) }
+    ensures len { string_len out.new ≡ string_len out.old + length (shown name.now ++ (32 ∷ mode_word mode)) }
+    ensures capacity { string_capacity out.old ≤ string_capacity out.new }
+{
+    put_shown(out, name);
+    put_str(out, " ");
+    put_str(out, mode.word());
+}
+
+fn put_options(out: &mut String, options: &[RawOption])
+    requires { string_len out.old + length (flat_map option_words options.now) ≤ string_capacity out.old }
+    ensures bytes { string_bytes out.new ≡ string_bytes out.old ++ flat_map option_words options.now }
+    ensures len { string_len out.new ≡ string_len out.old + length (flat_map option_words options.now) }
+    ensures capacity { string_capacity out.old ≤ string_capacity out.new }
 {
     for option in options {
-        push_option(out, option)?;
+        put_option(out, option.as_ref());
     }
-    Ok(())
 }
 
-fn push_option(out: &mut String, option: &RawOption) -> Result<(), AllocError>
-    ensures { OnOk result (string_bytes out.new ≡ string_bytes out.old ++ option_words option.now) }
+fn put_options_ref(out: &mut String, options: &OptionsRef<'_>)
+    requires { string_len out.old + length (flat_map option_words options.now) ≤ string_capacity out.old }
+    ensures bytes { string_bytes out.new ≡ string_bytes out.old ++ flat_map option_words options.now }
+    ensures len { string_len out.new ≡ string_len out.old + length (flat_map option_words options.now) }
+    ensures capacity { string_capacity out.old ≤ string_capacity out.new }
 {
-    out.push_str(" ")?;
-    push_shown(out, option.name.as_slice())?;
-    out.push_str("=")?;
-    push_shown(out, option.value.as_slice())
+    for option in options {
+        put_option(out, option);
+    }
+}
+
+fn put_option(out: &mut String, option: OptionRef<'_>)
+    requires { string_len out.old + length (option_words (owned_option option)) ≤ string_capacity out.old }
+    ensures bytes { string_bytes out.new ≡ string_bytes out.old ++ option_words (owned_option option.entry) }
+    ensures len { string_len out.new ≡ string_len out.old + length (option_words (owned_option option.entry)) }
+    ensures capacity { string_capacity out.old ≤ string_capacity out.new }
+{
+    put_str(out, " ");
+    put_shown(out, option.name);
+    put_str(out, "=");
+    put_shown(out, option.value);
 }
 
 /// A name or a value.
-fn push_shown(out: &mut String, bytes: &[u8]) -> Result<(), AllocError>
-    ensures { OnOk result (string_bytes out.new ≡ string_bytes out.old ++ shown bytes.now) }
+fn put_shown(out: &mut String, bytes: &[u8])
+    requires { string_len out.old + length (shown bytes.now) ≤ string_capacity out.old }
+    ensures bytes { string_bytes out.new ≡ string_bytes out.old ++ shown bytes.now }
+    ensures len { string_len out.new ≡ string_len out.old + length (shown bytes.now) }
+    ensures capacity { string_capacity out.old ≤ string_capacity out.new }
 {
     for byte in bytes {
-        push_shown_byte(out, *byte)?;
+        put_shown_byte(out, *byte);
     }
-    Ok(())
 }
 
-fn push_shown_byte(out: &mut String, byte: u8) -> Result<(), AllocError>
-    ensures { OnOk result (string_bytes out.new ≡ string_bytes out.old ++ shown_byte byte) }
+fn put_shown_byte(out: &mut String, byte: u8)
+    requires { string_len out.old + length (shown_byte byte) ≤ string_capacity out.old }
+    ensures bytes { string_bytes out.new ≡ string_bytes out.old ++ shown_byte byte }
+    ensures len { string_len out.new ≡ string_len out.old + length (shown_byte byte) }
+    ensures capacity { string_capacity out.old ≤ string_capacity out.new }
 {
     match byte {
-        b'%' | b'=' => push_percent(out, byte),
-        b'!'..=b'~' => out.push(char::from(byte)),
-        _ => push_percent(out, byte),
+        b'%' | b'=' => put_percent(out, byte),
+        b'!'..=b'~' => put_char(out, char::from(byte)),
+        _ => put_percent(out, byte),
     }
 }
 
 /// The text of an ERROR.
-fn push_message(out: &mut String, text: &[u8]) -> Result<(), AllocError>
-    ensures { OnOk result (string_bytes out.new ≡ string_bytes out.old ++ flat_map shown_message_byte text.now) }
+fn put_message(out: &mut String, text: &[u8])
+    requires { string_len out.old + length (flat_map shown_message_byte text.now) ≤ string_capacity out.old }
+    ensures bytes { string_bytes out.new ≡ string_bytes out.old ++ flat_map shown_message_byte text.now }
+    ensures len { string_len out.new ≡ string_len out.old + length (flat_map shown_message_byte text.now) }
+    ensures capacity { string_capacity out.old ≤ string_capacity out.new }
 {
     for byte in text {
-        push_message_byte(out, *byte)?;
+        put_message_byte(out, *byte);
     }
-    Ok(())
 }
 
-fn push_message_byte(out: &mut String, byte: u8) -> Result<(), AllocError>
-    ensures { OnOk result (string_bytes out.new ≡ string_bytes out.old ++ shown_message_byte byte) }
+fn put_message_byte(out: &mut String, byte: u8)
+    requires { string_len out.old + length (shown_message_byte byte) ≤ string_capacity out.old }
+    ensures bytes { string_bytes out.new ≡ string_bytes out.old ++ shown_message_byte byte }
+    ensures len { string_len out.new ≡ string_len out.old + length (shown_message_byte byte) }
+    ensures capacity { string_capacity out.old ≤ string_capacity out.new }
 {
     match byte {
-        b' ' | b'=' => out.push(char::from(byte)),
-        _ => push_shown_byte(out, byte),
+        b' ' | b'=' => put_char(out, char::from(byte)),
+        _ => put_shown_byte(out, byte),
     }
 }
 
-fn push_percent(out: &mut String, byte: u8) -> Result<(), AllocError>
-    ensures { OnOk result (string_bytes out.new ≡ string_bytes out.old ++ percent byte) }
+fn put_percent(out: &mut String, byte: u8)
+    requires { string_len out.old + length (percent byte) ≤ string_capacity out.old }
+    ensures bytes { string_bytes out.new ≡ string_bytes out.old ++ percent byte }
+    ensures len { string_len out.new ≡ string_len out.old + length (percent byte) }
+    ensures capacity { string_capacity out.old ≤ string_capacity out.new }
 {
-    out.push('%')?;
-    out.push(hex_digit(byte / 16))?;
-    out.push(hex_digit(byte % 16))
+    put_char(out, '%');
+    put_char(out, hex_digit(byte / 16));
+    put_char(out, hex_digit(byte % 16));
 }
 
 /// A digit below 16, in lower case.
@@ -138,4 +298,33 @@ fn hex_digit(digit: u8) -> char
     } else {
         char::from(b'a' + (digit - 10))
     }
+}
+
+fn put_number(out: &mut String, number: usize)
+    requires { string_len out.old + length (decimal number) ≤ string_capacity out.old }
+    ensures bytes { string_bytes out.new ≡ string_bytes out.old ++ decimal number }
+    ensures len { string_len out.new ≡ string_len out.old + length (decimal number) }
+    ensures capacity { string_capacity out.old ≤ string_capacity out.new }
+{
+    put_str(out, Buffer::new().format(number));
+}
+
+fn put_char(out: &mut String, ch: char)
+    requires ascii { ch < 128 }
+    requires room { string_len out.old + 1 ≤ string_capacity out.old }
+    ensures bytes { string_bytes out.new ≡ string_bytes out.old ++ ch ∷ [] }
+    ensures len { string_len out.new ≡ string_len out.old + 1 }
+    ensures capacity { string_capacity out.old ≤ string_capacity out.new }
+{
+    out.push(ch).unwrap();
+}
+
+/// Appends text for which there is room.
+fn put_str(out: &mut String, text: &str)
+    requires { string_len out.old + length text.now ≤ string_capacity out.old }
+    ensures bytes { string_bytes out.new ≡ string_bytes out.old ++ text.now }
+    ensures len { string_len out.new ≡ string_len out.old + length text.now }
+    ensures capacity { string_capacity out.old ≤ string_capacity out.new }
+{
+    out.push_str(text).unwrap();
 }

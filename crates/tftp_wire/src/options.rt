@@ -1,8 +1,8 @@
 //! Options as they stand in a request or an OACK: pairs of a name and a value, in order.
 
-ghost use Rattle.std.specs.Prelude.{◌≡◌, ◌==◌, IfOk};
+ghost use Rattle.std.specs.Prelude.{◌≡◌, ◌==◌, length, IfOk};
 ghost use Rattle.tftp_wire.specs.Borrowed.{owned_option};
-ghost use Rattle.tftp_wire.specs.Options.{options_in, AreOptions};
+ghost use Rattle.tftp_wire.specs.Options.{options_bytes, options_in, AreOptions};
 ghost use Rattle.std.specs.Iterator.{YieldsFirstBy, item_count};
 
 use crate::bytes::Bytes;
@@ -104,6 +104,13 @@ impl<'a> OptionsRef<'a> {
         ensures { result ≡ options_in bytes.now }
     {
         OptionsRef { bytes }
+    }
+
+    /// How many bytes the options take.
+    pub(crate) fn bytes_len(&self) -> usize
+        ensures { result ≡ length (options_bytes self.now) }
+    {
+        self.bytes.len()
     }
 
     /// The options, from the first.

@@ -2,6 +2,7 @@
 
 ghost use Rattle.std.specs.Prelude.{◌≡◌, ◌≤◌, ◌+◌, ◌-◌, ◌^◌, ◌++◌, ◌↔◌, ◌≢◌, List, [], length, min, OnOk, IfErr, IsTrue, vec_len, vec_capacity, ℕ};
 ghost use Rattle.std.specs.List.{AllByRecursion};
+ghost use Rattle.tftp_wire.specs.Borrowed.{owned, owned_request};
 ghost use Rattle.tftp_wire.specs.Faults.{out_of_memory};
 ghost use Rattle.tftp_wire.specs.Modes.{mode_word};
 ghost use Rattle.tftp_wire.specs.Options.{IsOption, options_bytes};
@@ -14,7 +15,7 @@ use crate::append::{
 use crate::fault::PacketFault;
 use crate::limits::{MAX_BLOCK, MAX_REQUEST};
 use crate::options::RawOption;
-use crate::packet::{Packet, Request};
+use crate::packet::{Packet, PacketRef, Request, RequestRef};
 use crate::text::is_text;
 
 /// Whether the packet can be spelled: its texts hold no zero byte, its names are not empty, its
@@ -63,7 +64,7 @@ fn is_option(option: &RawOption) -> bool
 }
 
 /// How many bytes the packet takes, or the greatest `usize` where they are more.
-fn canonical_len(packet: &Packet) -> usize
+pub(crate) fn canonical_len(packet: &Packet) -> usize
     ensures { result ≡ min (length (canonical packet.now)) (2 ^ 64 - 1) }
 {
     match packet {
@@ -74,6 +75,31 @@ fn canonical_len(packet: &Packet) -> usize
         Packet::Error { code: _, text } => text.as_slice().len().saturating_add(5),
         Packet::Oack(options) => options_len(options.as_slice()).saturating_add(2),
     }
+}
+
+/// As [`canonical_len`], for a packet that borrows its bytes.
+pub(crate) fn canonical_len_ref(packet: &PacketRef<'_>) -> usize
+    ensures { result ≡ min (length (canonical (owned packet.now))) (2 ^ 64 - 1) }
+{
+    match packet {
+        PacketRef::Read(request) => request_len_ref(request),
+        PacketRef::Write(request) => request_len_ref(request),
+        PacketRef::Data { block: _, bytes } => bytes.len().saturating_add(4),
+        PacketRef::Ack { block: _ } => 4,
+        PacketRef::Error { code: _, text } => text.len().saturating_add(5),
+        PacketRef::Oack(options) => options.bytes_len().saturating_add(2),
+    }
+}
+
+fn request_len_ref(request: &RequestRef<'_>) -> usize
+    ensures { result ≡ min (length (request_bytes 1 (mode_word request.now.mode) (owned_request request.now))) (2 ^ 64 - 1) }
+{
+    request
+        .options
+        .bytes_len()
+        .saturating_add(request.name.len())
+        .saturating_add(request.mode.word().len())
+        .saturating_add(4)
 }
 
 fn request_len(request: &Request) -> usize

@@ -1,0 +1,36 @@
+use Rattle.std.proofs.Common.{arith, ap, length, ◌≡◌, ◌≤◌, ◌<◌, ◌+◌, ◌*◌, ◌^◌, ℕ}
+use Rattle.tftp_wire.specs.Borrowed.{owned}
+use Rattle.tftp_wire.specs.Line.{line}
+use Rattle.tftp_wire.specs.Spelling.{canonical}
+use Rattle.tftp_wire.proofs.LineLemmas.{read_fits, write_fits, data_fits, ack_fits, error_fits, oack_fits}
+use Rattle.tftp_wire.proofs.line.line_room_ref.Goals as goal
+
+pub returns-in-Read : goal.returns-in-Read
+returns-in-Read c =
+    let p = owned c.args.packet.now in
+    let fits : length (line p) ≤ 3 * length (canonical p) + 40 = rw c.in-Read.is (read_fits _) in
+    omega (arith, fits, c.canonical_len_ref.ensures, c.shown_room.ensures)
+
+pub returns-in-Write : goal.returns-in-Write
+returns-in-Write c =
+    let p = owned c.args.packet.now in
+    let fits : length (line p) ≤ 3 * length (canonical p) + 40 = rw c.in-Write.is (write_fits _) in
+    omega (arith, fits, c.canonical_len_ref-in-Write.ensures, c.shown_room-in-Write.ensures)
+
+pub returns-in-Error : goal.returns-in-Error
+returns-in-Error c =
+    let p = owned c.args.packet.now in
+    let fits : length (line p) ≤ 3 * length (canonical p) + 40 = rw c.in-Error.is (error_fits c.in-Error.code _ (omega arith)) in
+    omega (arith, fits, c.canonical_len_ref-in-Error.ensures, c.shown_room-in-Error.ensures)
+
+pub returns-in-Oack : goal.returns-in-Oack
+returns-in-Oack c =
+    let p = owned c.args.packet.now in
+    let fits : length (line p) ≤ 3 * length (canonical p) + 40 = rw c.in-Oack.is (oack_fits _) in
+    omega (arith, fits, c.canonical_len_ref-in-Oack.ensures, c.shown_room-in-Oack.ensures)
+
+pub returns-in-Data : goal.returns-in-Data
+returns-in-Data c = rw c.in-Data.is (omega (arith, data_fits c.in-Data.block c.in-Data.bytes.now (omega arith) (omega arith)))
+
+pub returns-in-Ack : goal.returns-in-Ack
+returns-in-Ack c = rw c.in-Ack.is (omega (arith, ack_fits c.in-Ack.block (omega arith)))

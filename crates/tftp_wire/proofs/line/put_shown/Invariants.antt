@@ -1,0 +1,13 @@
+use Rattle.std.proofs.Common.{◌≡◌, ◌≤◌, ◌+◌, ◌++◌, length, take, drop}
+use Rattle.std.specs.List.{flat_map}
+use Rattle.std.specs.String.{string_bytes, string_len, string_capacity}
+use Rattle.tftp_wire.specs.Line.{shown_byte}
+use Rattle.tftp_wire.proofs.line.put_shown.Given as goal
+
+abbrev pub invariant-loop-byte : goal.invariant-loop-byte
+invariant-loop-byte l = record {
+  written : string_bytes l.out ≡ string_bytes l.initial.out ++ flat_map shown_byte (take l.byte-index l.bytes);
+  len : string_len l.out + length (flat_map shown_byte (drop l.byte-index l.bytes)) ≡ string_len l.initial.out + length (flat_map shown_byte l.bytes);
+  room : string_len l.out + length (flat_map shown_byte (drop l.byte-index l.bytes)) ≤ string_capacity l.out;
+  grown : string_capacity l.initial.out ≤ string_capacity l.out;
+}
