@@ -8,3 +8,4 @@ pub mod Reading
 pub mod Parts
 pub mod Line
 pub mod Laws
+pub mod Room

@@ -5,11 +5,12 @@
 ghost use Rattle.std.specs.Prelude.{◌≡◌, ◌≤◌, ◌+◌, ◌-◌, ◌*◌, ◌^◌, ◌++◌, ◌∷◌, [], ◌<◌, length, min, OnOk, IfErr};
 ghost use Rattle.std.specs.Fmt.{decimal};
 ghost use Rattle.std.specs.List.{flat_map};
-ghost use Rattle.std.specs.String.{string_bytes, string_len, string_capacity};
+ghost use Rattle.std.specs.String.{string_bytes};
 ghost use Rattle.tftp_wire.specs.Borrowed.{owned, owned_option};
 ghost use Rattle.tftp_wire.specs.Faults.{out_of_memory};
 ghost use Rattle.tftp_wire.specs.Line.{line, option_words, shown, shown_byte, shown_message_byte, percent, hex_digit as hex};
 ghost use Rattle.tftp_wire.specs.Modes.{mode_word};
+ghost use Rattle.tftp_wire.specs.Room.{HasRoom, Puts};
 ghost use Rattle.tftp_wire.specs.declared.packet.Packet.TheVariants.{Data, Ack, Error};
 
 use crate::fault::PacketFault;
@@ -28,7 +29,8 @@ const WORDS: usize = 40;
 /// and `%` and `=`, is shown as `%` and two hexadecimal digits.
 pub fn show(packet: &Packet, out: &mut String) -> Result<(), PacketFault>
     ensures ok { OnOk result (string_bytes out.new ≡ string_bytes out.old ++ line packet.now) }
-    ensures err { IfErr result (λ e. (e ≡ out_of_memory) × (string_bytes out.new ≡ string_bytes out.old)) }
+    ensures err { IfErr result (λ e.
+        (e ≡ out_of_memory) × (string_bytes out.new ≡ string_bytes out.old)) }
 {
     out.reserve(line_room(packet))?;
     put_packet(out, packet);
@@ -37,8 +39,10 @@ pub fn show(packet: &Packet, out: &mut String) -> Result<(), PacketFault>
 
 /// As [`show`], for a packet that borrows its bytes.
 pub fn show_ref(packet: &PacketRef<'_>, out: &mut String) -> Result<(), PacketFault>
-    ensures ok { OnOk result (string_bytes out.new ≡ string_bytes out.old ++ line (owned packet.now)) }
-    ensures err { IfErr result (λ e. (e ≡ out_of_memory) × (string_bytes out.new ≡ string_bytes out.old)) }
+    ensures ok { OnOk result
+        (string_bytes out.new ≡ string_bytes out.old ++ line (owned packet.now)) }
+    ensures err { IfErr result (λ e.
+        (e ≡ out_of_memory) × (string_bytes out.new ≡ string_bytes out.old)) }
 {
     out.reserve(line_room_ref(packet))?;
     put_packet_ref(out, packet);
@@ -99,7 +103,7 @@ fn shown_room(len: usize) -> usize
 }
 
 fn put_packet(out: &mut String, packet: &Packet)
-    requires { string_len out.old + length (line packet.now) ≤ string_capacity out.old }
+    requires { HasRoom (line packet.now) out.old }
     ensures { string_bytes out.new ≡ string_bytes out.old ++ line packet.now }
 {
     match packet {
@@ -124,7 +128,7 @@ fn put_packet(out: &mut String, packet: &Packet)
 }
 
 fn put_packet_ref(out: &mut String, packet: &PacketRef<'_>)
-    requires { string_len out.old + length (line (owned packet.now)) ≤ string_capacity out.old }
+    requires { HasRoom (line (owned packet.now)) out.old }
     ensures { string_bytes out.new ≡ string_bytes out.old ++ line (owned packet.now) }
 {
     match packet {
@@ -149,10 +153,8 @@ fn put_packet_ref(out: &mut String, packet: &PacketRef<'_>)
 }
 
 fn put_data(out: &mut String, block: u16, bytes: &[u8])
-    requires { string_len out.old + length (line (Data block bytes.now)) ≤ string_capacity out.old }
-    ensures bytes { string_bytes out.new ≡ string_bytes out.old ++ line (Data block bytes.now) }
-    ensures len { string_len out.new ≡ string_len out.old + length (line (Data block bytes.now)) }
-    ensures capacity { string_capacity out.old ≤ string_capacity out.new }
+    requires { HasRoom (line (Data block bytes.now)) out.old }
+    ensures { Puts (line (Data block bytes.now)) out.old out.new }
 {
     put_str(out, "DATA ");
     put_number(out, usize::from(block));
@@ -161,20 +163,16 @@ fn put_data(out: &mut String, block: u16, bytes: &[u8])
 }
 
 fn put_ack(out: &mut String, block: u16)
-    requires { string_len out.old + length (line (Ack block)) ≤ string_capacity out.old }
-    ensures bytes { string_bytes out.new ≡ string_bytes out.old ++ line (Ack block) }
-    ensures len { string_len out.new ≡ string_len out.old + length (line (Ack block)) }
-    ensures capacity { string_capacity out.old ≤ string_capacity out.new }
+    requires { HasRoom (line (Ack block)) out.old }
+    ensures { Puts (line (Ack block)) out.old out.new }
 {
     put_str(out, "ACK ");
     put_number(out, usize::from(block));
 }
 
 fn put_error(out: &mut String, code: u16, text: &[u8])
-    requires { string_len out.old + length (line (Error code text.now)) ≤ string_capacity out.old }
-    ensures bytes { string_bytes out.new ≡ string_bytes out.old ++ line (Error code text.now) }
-    ensures len { string_len out.new ≡ string_len out.old + length (line (Error code text.now)) }
-    ensures capacity { string_capacity out.old ≤ string_capacity out.new }
+    requires { HasRoom (line (Error code text.now)) out.old }
+    ensures { Puts (line (Error code text.now)) out.old out.new }
 {
     put_str(out, "ERROR ");
     put_number(out, usize::from(code));
@@ -184,10 +182,8 @@ fn put_error(out: &mut String, code: u16, text: &[u8])
 }
 
 fn put_name_and_mode(out: &mut String, name: &[u8], mode: Mode)
-    requires { string_len out.old + length (shown name.now ++ (32 ∷ mode_word mode)) ≤ string_capacity out.old }
-    ensures bytes { string_bytes out.new ≡ string_bytes out.old ++ (shown name.now ++ (32 ∷ mode_word mode)) }
-    ensures len { string_len out.new ≡ string_len out.old + length (shown name.now ++ (32 ∷ mode_word mode)) }
-    ensures capacity { string_capacity out.old ≤ string_capacity out.new }
+    requires { HasRoom (shown name.now ++ (32 ∷ mode_word mode)) out.old }
+    ensures { Puts (shown name.now ++ (32 ∷ mode_word mode)) out.old out.new }
 {
     put_shown(out, name);
     put_str(out, " ");
@@ -195,10 +191,8 @@ fn put_name_and_mode(out: &mut String, name: &[u8], mode: Mode)
 }
 
 fn put_options(out: &mut String, options: &[RawOption])
-    requires { string_len out.old + length (flat_map option_words options.now) ≤ string_capacity out.old }
-    ensures bytes { string_bytes out.new ≡ string_bytes out.old ++ flat_map option_words options.now }
-    ensures len { string_len out.new ≡ string_len out.old + length (flat_map option_words options.now) }
-    ensures capacity { string_capacity out.old ≤ string_capacity out.new }
+    requires { HasRoom (flat_map option_words options.now) out.old }
+    ensures { Puts (flat_map option_words options.now) out.old out.new }
 {
     for option in options {
         put_option(out, option.as_ref());
@@ -206,10 +200,8 @@ fn put_options(out: &mut String, options: &[RawOption])
 }
 
 fn put_options_ref(out: &mut String, options: &OptionsRef<'_>)
-    requires { string_len out.old + length (flat_map option_words options.now) ≤ string_capacity out.old }
-    ensures bytes { string_bytes out.new ≡ string_bytes out.old ++ flat_map option_words options.now }
-    ensures len { string_len out.new ≡ string_len out.old + length (flat_map option_words options.now) }
-    ensures capacity { string_capacity out.old ≤ string_capacity out.new }
+    requires { HasRoom (flat_map option_words options.now) out.old }
+    ensures { Puts (flat_map option_words options.now) out.old out.new }
 {
     for option in options {
         put_option(out, option);
@@ -217,10 +209,8 @@ fn put_options_ref(out: &mut String, options: &OptionsRef<'_>)
 }
 
 fn put_option(out: &mut String, option: OptionRef<'_>)
-    requires { string_len out.old + length (option_words (owned_option option)) ≤ string_capacity out.old }
-    ensures bytes { string_bytes out.new ≡ string_bytes out.old ++ option_words (owned_option option.entry) }
-    ensures len { string_len out.new ≡ string_len out.old + length (option_words (owned_option option.entry)) }
-    ensures capacity { string_capacity out.old ≤ string_capacity out.new }
+    requires { HasRoom (option_words (owned_option option)) out.old }
+    ensures { Puts (option_words (owned_option option.entry)) out.old out.new }
 {
     put_str(out, " ");
     put_shown(out, option.name);
@@ -230,10 +220,8 @@ fn put_option(out: &mut String, option: OptionRef<'_>)
 
 /// A name or a value.
 fn put_shown(out: &mut String, bytes: &[u8])
-    requires { string_len out.old + length (shown bytes.now) ≤ string_capacity out.old }
-    ensures bytes { string_bytes out.new ≡ string_bytes out.old ++ shown bytes.now }
-    ensures len { string_len out.new ≡ string_len out.old + length (shown bytes.now) }
-    ensures capacity { string_capacity out.old ≤ string_capacity out.new }
+    requires { HasRoom (shown bytes.now) out.old }
+    ensures { Puts (shown bytes.now) out.old out.new }
 {
     for byte in bytes {
         put_shown_byte(out, *byte);
@@ -241,10 +229,8 @@ fn put_shown(out: &mut String, bytes: &[u8])
 }
 
 fn put_shown_byte(out: &mut String, byte: u8)
-    requires { string_len out.old + length (shown_byte byte) ≤ string_capacity out.old }
-    ensures bytes { string_bytes out.new ≡ string_bytes out.old ++ shown_byte byte }
-    ensures len { string_len out.new ≡ string_len out.old + length (shown_byte byte) }
-    ensures capacity { string_capacity out.old ≤ string_capacity out.new }
+    requires { HasRoom (shown_byte byte) out.old }
+    ensures { Puts (shown_byte byte) out.old out.new }
 {
     match byte {
         b'%' | b'=' => put_percent(out, byte),
@@ -255,10 +241,8 @@ fn put_shown_byte(out: &mut String, byte: u8)
 
 /// The text of an ERROR.
 fn put_message(out: &mut String, text: &[u8])
-    requires { string_len out.old + length (flat_map shown_message_byte text.now) ≤ string_capacity out.old }
-    ensures bytes { string_bytes out.new ≡ string_bytes out.old ++ flat_map shown_message_byte text.now }
-    ensures len { string_len out.new ≡ string_len out.old + length (flat_map shown_message_byte text.now) }
-    ensures capacity { string_capacity out.old ≤ string_capacity out.new }
+    requires { HasRoom (flat_map shown_message_byte text.now) out.old }
+    ensures { Puts (flat_map shown_message_byte text.now) out.old out.new }
 {
     for byte in text {
         put_message_byte(out, *byte);
@@ -266,10 +250,8 @@ fn put_message(out: &mut String, text: &[u8])
 }
 
 fn put_message_byte(out: &mut String, byte: u8)
-    requires { string_len out.old + length (shown_message_byte byte) ≤ string_capacity out.old }
-    ensures bytes { string_bytes out.new ≡ string_bytes out.old ++ shown_message_byte byte }
-    ensures len { string_len out.new ≡ string_len out.old + length (shown_message_byte byte) }
-    ensures capacity { string_capacity out.old ≤ string_capacity out.new }
+    requires { HasRoom (shown_message_byte byte) out.old }
+    ensures { Puts (shown_message_byte byte) out.old out.new }
 {
     match byte {
         b' ' | b'=' => put_char(out, char::from(byte)),
@@ -278,10 +260,8 @@ fn put_message_byte(out: &mut String, byte: u8)
 }
 
 fn put_percent(out: &mut String, byte: u8)
-    requires { string_len out.old + length (percent byte) ≤ string_capacity out.old }
-    ensures bytes { string_bytes out.new ≡ string_bytes out.old ++ percent byte }
-    ensures len { string_len out.new ≡ string_len out.old + length (percent byte) }
-    ensures capacity { string_capacity out.old ≤ string_capacity out.new }
+    requires { HasRoom (percent byte) out.old }
+    ensures { Puts (percent byte) out.old out.new }
 {
     put_char(out, '%');
     put_char(out, hex_digit(byte / 16));
@@ -301,30 +281,24 @@ fn hex_digit(digit: u8) -> char
 }
 
 fn put_number(out: &mut String, number: usize)
-    requires { string_len out.old + length (decimal number) ≤ string_capacity out.old }
-    ensures bytes { string_bytes out.new ≡ string_bytes out.old ++ decimal number }
-    ensures len { string_len out.new ≡ string_len out.old + length (decimal number) }
-    ensures capacity { string_capacity out.old ≤ string_capacity out.new }
+    requires { HasRoom (decimal number) out.old }
+    ensures { Puts (decimal number) out.old out.new }
 {
     put_str(out, Buffer::new().format(number));
 }
 
 fn put_char(out: &mut String, ch: char)
     requires ascii { ch < 128 }
-    requires room { string_len out.old + 1 ≤ string_capacity out.old }
-    ensures bytes { string_bytes out.new ≡ string_bytes out.old ++ ch ∷ [] }
-    ensures len { string_len out.new ≡ string_len out.old + 1 }
-    ensures capacity { string_capacity out.old ≤ string_capacity out.new }
+    requires room { HasRoom (ch ∷ []) out.old }
+    ensures { Puts (ch ∷ []) out.old out.new }
 {
     out.push(ch).unwrap();
 }
 
 /// Appends text for which there is room.
 fn put_str(out: &mut String, text: &str)
-    requires { string_len out.old + length text.now ≤ string_capacity out.old }
-    ensures bytes { string_bytes out.new ≡ string_bytes out.old ++ text.now }
-    ensures len { string_len out.new ≡ string_len out.old + length text.now }
-    ensures capacity { string_capacity out.old ≤ string_capacity out.new }
+    requires { HasRoom text.now out.old }
+    ensures { Puts text.now out.old out.new }
 {
     out.push_str(text).unwrap();
 }
