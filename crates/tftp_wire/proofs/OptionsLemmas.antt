@@ -5,10 +5,6 @@ use Rattle.tftp_wire.specs.Texts.{IsText, zero_ended}
 use Rattle.tftp_wire.specs.Options.{options_bytes, options_in, AreOptions}
 use Rattle.tftp_wire.proofs.TextsLemmas.{texts_first, texts_none}
 
--- no text, no option
-pub options_none : (bytes : List ℕ) → IsText bytes → options_in bytes ≡ []
-options_none bytes h = rw (texts_none bytes h) refl
-
 -- a name alone is no option
 pub options_name : (bytes name after : List ℕ) → IsText name × (bytes ≡ zero_ended name ++ after) → IsText after → options_in bytes ≡ []
 options_name bytes name after n h = rw (n.1, texts_first name after n.0, texts_none after h) refl

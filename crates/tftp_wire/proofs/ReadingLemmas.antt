@@ -7,7 +7,7 @@ use Rattle.std.proofs.lemmas.Bool.{le-ltb, ltb-false}
 use Rattle.std.proofs.lemmas.Bool.Decides.{eqb_tells}
 use Rattle.std.proofs.lemmas.List.{append-nil, append_assoc, length-append}
 use Rattle.tftp_wire.specs.declared.fault.PacketFault.{PacketFault}
-use Rattle.tftp_wire.specs.declared.fault.PacketFaultKind.TheVariants.{Unterminated, NoValue, Trailing}
+use Rattle.tftp_wire.specs.declared.fault.PacketFaultKind.TheVariants.{Unterminated, Trailing}
 use Rattle.tftp_wire.specs.declared.options.RawOption.{RawOption}
 use Rattle.tftp_wire.specs.declared.mode.Mode.{Mode}
 use Rattle.tftp_wire.specs.Texts.{IsText, zero_ended, texts, with_first, unended, unended_with}
@@ -29,17 +29,6 @@ text_split at bytes (Some parts) h = (
 pub named_option : (at : ℕ) (name value : List ℕ) (others : List (List ℕ)) (rest : List ℕ) → length name ≢ 0 → options_fault at (name ∷ value ∷ others) rest ≡ options_fault (at + (length name + 1) + (length value + 1)) others rest
 named_option at [] value others rest h = absurd (h refl)
 named_option at (c ∷ name) value others rest h = refl
-
--- a name without a value
-pub named_last : (at : ℕ) (name : List ℕ) → length name ≢ 0 → options_fault at (name ∷ []) [] ≡ Some (record { kind = NoValue; at = at + (length name + 1) })
-named_last at [] h = absurd (h refl)
-named_last at (c ∷ name) h = refl
-
--- a name with a value that doesn't end
-pub named_open : (at : ℕ) (name rest : List ℕ) → length name ≢ 0 → length rest ≢ 0 → options_fault at (name ∷ []) rest ≡ Some (record { kind = Unterminated; at = at + (length name + 1) })
-named_open at [] rest h k = absurd (h refl)
-named_open at (c ∷ name) [] h k = absurd (k refl)
-named_open at (c ∷ name) (b ∷ rest) h k = refl
 
 -- a request with a file name
 pub named_texts : (name : List ℕ) (others : List (List ℕ)) (rest : List ℕ) → length name ≢ 0 → texts_fault (name ∷ others) rest ≡ mode_fault (2 + (length name + 1)) others rest

@@ -1,5 +1,5 @@
 -- What is spelled has no fault and reads back; what has no fault is spelled.
-use Rattle.std.proofs.Common.{ℕ, ◌≡◌, ◌≢◌, ◌+◌, ◌/◌, ◌%◌, ◌<◌, ◌≤◌, ◌^◌, ◌⊎◌, Bool, true, false, cond, eqb, ltb, ⊎_elim, inl, inr, refl, ap, sym, ◌∙◌, arith, List, [], ◌∷◌, ◌++◌, length, get_or, drop, Option, Some, None, is_some, unwrap_or, codes, rules, Result, Ok, Err, IfOk, IfErr, IsOkAnd, MatchResult}
+use Rattle.std.proofs.Common.{ℕ, ◌≡◌, ◌≢◌, ◌+◌, ◌/◌, ◌%◌, ◌<◌, ◌≤◌, ◌^◌, ◌⊎◌, Bool, true, false, cond, eqb, ltb, ⊎_elim, inl, inr, refl, ap, sym, ◌∙◌, arith, List, [], ◌∷◌, ◌++◌, length, get_or, drop, Option, Some, None, is_none, unwrap_or, codes, rules, Result, Ok, Err, IfOk, IfErr, IsOkAnd, MatchResult}
 use Rattle.std.specs.List.{AllByRecursion, flat_map}
 use Rattle.std.specs.Char.{to_ascii_lowercase}
 use Rattle.std.specs.Str.{str_to_ascii_lowercase, str_eq_ignore_ascii_case, bytes_eq}
@@ -48,12 +48,12 @@ mode_of_word Netascii word h = rw h refl
 same_bytes : (xs ys : List ℕ) → bytes_eq xs ys ≡ true → xs ≡ ys
 same_bytes xs ys h = (bytes_eq-Decides xs ys).0 h
 
-is_mode : (b d : Bool) → is_some (cond b (Some Octet) (cond d (Some Netascii) None)) ≡ true → ((b ≡ true) ⊎ ((b ≡ false) × (d ≡ true)))
+is_mode : (b d : Bool) → is_none (cond b (Some Octet) (cond d (Some Netascii) None)) ≡ false → ((b ≡ true) ⊎ ((b ≡ false) × (d ≡ true)))
 is_mode true d h = inl refl
 is_mode false true h = inr (refl, refl)
 is_mode false false h = cc
 
-word_of_mode : (word : List ℕ) → is_some (mode_in word) ≡ true → str_to_ascii_lowercase word ≡ mode_word (unwrap_or (mode_in word) Octet)
+word_of_mode : (word : List ℕ) → is_none (mode_in word) ≡ false → str_to_ascii_lowercase word ≡ mode_word (unwrap_or (mode_in word) Octet)
 word_of_mode word h = ⊎_elim
     (λ q. rw q (same_bytes _ _ q))
     (λ q. rw (q.0, q.1) (same_bytes _ _ q.1))
@@ -178,10 +178,6 @@ number_back (a ∷ b ∷ rest) l h =
     let low : n % 256 ≡ b = omega arith in
     sym (ap (λ x. x ∷ n % 256 ∷ rest) high ∙ ap (λ x. a ∷ x ∷ rest) low)
 
-mode_none : (b : Bool) (e : PacketFault) (y : Option PacketFault) → cond b y (Some e) ≡ None → (b ≡ true) × (y ≡ None)
-mode_none true e y h = (refl, h)
-mode_none false e y h = cc
-
 named : (c : ℕ) (name : List ℕ) → (c ∷ name) ≢ []
 named c name h = cc
 
@@ -197,7 +193,7 @@ texts_whole [] u t h = absurd (cc)
 texts_whole ([] ∷ ts) u t h = absurd (cc)
 texts_whole ((c ∷ name) ∷ []) u t h = absurd (cc)
 texts_whole ((c ∷ name) ∷ word ∷ ts) u t h =
-    let m = mode_none (is_some (mode_in word)) _ _ h in
+    let m = guard_none (is_none (mode_in word)) _ _ h in
     let o = options_whole _ ts u t.1.1 m.1 in
     record {
       word = word;

@@ -1,4 +1,4 @@
--- The numbers and names of the faults, and which of them is want of memory (own).
+-- The numbers and names of the faults, and which of them is out of memory (own).
 use Rattle.std.specs.Prelude.{ℕ, ◌≡◌, List, codes, Option, Some, None}
 use Rattle.tftp_wire.specs.declared.fault.PacketFault.{PacketFault}
 use Rattle.tftp_wire.specs.declared.fault.PacketFaultKind.{PacketFaultKind}
@@ -34,11 +34,11 @@ kind_name BlockZero = codes "BlockZero"
 kind_name EmptyOack = codes "EmptyOack"
 kind_name Memory = codes "Memory"
 
--- memory was wanting
+-- out of memory, which is no fault of the bytes
 abbrev pub out_of_memory : PacketFault
 out_of_memory = record { kind = Memory; at = 0 }
 
--- why a reader that takes memory gives up: the first fault, and want of memory only where there is none
+-- why a reader that takes memory gives up: the first fault, or out of memory where there is none
 abbrev pub IsFailure : Option PacketFault → PacketFault → Type 0
 IsFailure None e = e ≡ out_of_memory
 IsFailure (Some fault) e = e ≡ fault

@@ -16,7 +16,8 @@ OneMeaning = (p q : Packet) (bytes : List ℕ) → Spells p bytes → Spells q b
 -- bytes without a fault spell a packet
 abbrev pub FaultWhereNothing : Type 0
 FaultWhereNothing =
-    (bytes : List ℕ) → ((k : ℕ) → get_or bytes k 0 < 256) → first_fault bytes ≡ None → (p : Packet) × Spells p bytes
+    (bytes : List ℕ) → ((k : ℕ) → get_or bytes k 0 < 256) → first_fault bytes ≡ None
+    → (p : Packet) × Spells p bytes
 
 -- bytes that spell a packet have no fault
 abbrev pub SpelledHasNoFault : Type 0
@@ -26,15 +27,15 @@ SpelledHasNoFault = (p : Packet) (bytes : List ℕ) → Spells p bytes → first
 abbrev pub SpelledIsFound : Type 0
 SpelledIsFound = (p : Packet) (bytes : List ℕ) → Spells p bytes → packet_in bytes ≡ p
 
--- options are appended behind a request without options
-pub record FollowRequest (r : Request) : Type 0 where
-  pub read : canonical (Read r) ≡ canonical (Read (plain_request r.name r.mode)) ++ options_bytes r.options
-  pub write : canonical (Write r) ≡ canonical (Write (plain_request r.name r.mode)) ++ options_bytes r.options
+-- the request without its options
+abbrev pub beginning : Request → Request
+beginning r = plain_request r.name r.mode
 
--- options are appended behind a request or an OACK without options
+-- the options of a packet stand behind the packet without them
 pub record OptionsFollow : Type 0 where
-  pub request : (r : Request) → FollowRequest r
-  pub oack : (options : List RawOption) → canonical (Oack options) ≡ canonical (Oack []) ++ options_bytes options
+  pub read : (r : Request) → canonical (Read r) ≡ canonical (Read (beginning r)) ++ options_bytes r.options
+  pub write : (r : Request) → canonical (Write r) ≡ canonical (Write (beginning r)) ++ options_bytes r.options
+  pub oack : (os : List RawOption) → canonical (Oack os) ≡ canonical (Oack []) ++ options_bytes os
 
 -- a valid packet's own bytes spell it
 abbrev pub CanonicalSpells : Type 0

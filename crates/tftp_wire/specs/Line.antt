@@ -46,5 +46,6 @@ line (Read r) = codes "RRQ " ++ request_words r
 line (Write r) = codes "WRQ " ++ request_words r
 line (Data block bytes) = codes "DATA " ++ decimal block ++ (32 ∷ decimal (length bytes))
 line (Ack block) = codes "ACK " ++ decimal block
-line (Error code text) = codes "ERROR " ++ decimal code ++ codes " (" ++ flat_map shown_message_byte text ++ codes ")"
+line (Error code text) =
+    codes "ERROR " ++ decimal code ++ codes " (" ++ flat_map shown_message_byte text ++ codes ")"
 line (Oack options) = codes "OACK" ++ flat_map option_words options

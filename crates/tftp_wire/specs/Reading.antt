@@ -1,6 +1,6 @@
 -- The first fault of a datagram from the left, and where it stands (own; the layouts are those of
 -- RFC 1350, section 5, and RFC 2347, "Packet Formats").
-use Rattle.std.specs.Prelude.{ℕ, ◌+◌, ◌==◌, ◌&&◌, nat_lt, Bool, false, if◌then◌else◌, List, [], ◌∷◌, length, drop, Option, Some, None, is_some, codes}
+use Rattle.std.specs.Prelude.{ℕ, ◌+◌, ◌==◌, ◌&&◌, nat_lt, Bool, false, if◌then◌else◌, List, [], ◌∷◌, length, drop, Option, Some, None, is_none, codes}
 use Rattle.std.specs.Str.{str_eq_ignore_ascii_case}
 use Rattle.byteorder.specs.Endian.{big_number}
 use Rattle.tftp_wire.specs.declared.fault.PacketFault.{PacketFault}
@@ -51,7 +51,8 @@ options_fault at [] [] = None
 options_fault at [] (b ∷ rest) = fault_at kinds.Unterminated at
 options_fault at ([] ∷ others) rest = fault_at kinds.EmptyOption at
 options_fault at ((c ∷ name) ∷ []) [] = fault_at kinds.NoValue (at + (length (c ∷ name) + 1))
-options_fault at ((c ∷ name) ∷ []) (b ∷ rest) = fault_at kinds.Unterminated (at + (length (c ∷ name) + 1))
+options_fault at ((c ∷ name) ∷ []) (b ∷ rest) =
+    fault_at kinds.Unterminated (at + (length (c ∷ name) + 1))
 options_fault at ((c ∷ name) ∷ value ∷ others) rest =
     options_fault (at + (length (c ∷ name) + 1) + (length value + 1)) others rest
 
@@ -59,7 +60,9 @@ options_fault at ((c ∷ name) ∷ value ∷ others) rest =
 abbrev pub mode_fault : ℕ → List (List ℕ) → List ℕ → Option PacketFault
 mode_fault at [] rest = fault_at kinds.Unterminated at
 mode_fault at (word ∷ others) rest =
-    if is_some (mode_in word) then options_fault (at + (length word + 1)) others rest else fault_at kinds.Mode at
+    first_row (
+    row (is_none (mode_in word)) kinds.Mode at
+    ∷ []) (options_fault (at + (length word + 1)) others rest)
 
 -- of the texts of a request
 abbrev pub texts_fault : List (List ℕ) → List ℕ → Option PacketFault
@@ -69,12 +72,15 @@ texts_fault ((c ∷ name) ∷ others) rest = mode_fault (2 + (length (c ∷ name
 
 -- of a request
 abbrev pub request_fault : List ℕ → Option PacketFault
-request_fault bytes =
-    first_row (too_long MAX_REQUEST bytes ∷ []) (texts_fault (texts (drop 2 bytes)) (unended (drop 2 bytes)))
+request_fault bytes = first_row (
+    too_long MAX_REQUEST bytes
+    ∷ []) (texts_fault (texts (drop 2 bytes)) (unended (drop 2 bytes)))
 
 -- of the number after the opcode
 abbrev pub number_fault : List ℕ → Option PacketFault
-number_fault bytes = first_row (too_short bytes ∷ []) None
+number_fault bytes = first_row (
+    too_short bytes
+    ∷ []) None
 
 -- of a DATA
 abbrev pub data_fault : List ℕ → Option PacketFault
@@ -86,7 +92,10 @@ data_fault bytes = first_row (
 
 -- of an ACK
 abbrev pub ack_fault : List ℕ → Option PacketFault
-ack_fault bytes = first_row (too_short bytes ∷ row (nat_lt 4 (length bytes)) kinds.Trailing 4 ∷ []) None
+ack_fault bytes = first_row (
+    too_short bytes
+    ∷ row (nat_lt 4 (length bytes)) kinds.Trailing 4
+    ∷ []) None
 
 -- of the text of an ERROR
 abbrev pub message_fault : List (List ℕ) → List ℕ → Option PacketFault
@@ -97,13 +106,17 @@ message_fault (text ∷ other ∷ others) rest = fault_at kinds.Trailing (4 + (l
 
 -- of an ERROR
 abbrev pub error_fault : List ℕ → Option PacketFault
-error_fault bytes = first_row (too_long MAX_REQUEST bytes ∷ too_short bytes ∷ [])
-    (message_fault (texts (drop 4 bytes)) (unended (drop 4 bytes)))
+error_fault bytes = first_row (
+    too_long MAX_REQUEST bytes
+    ∷ too_short bytes
+    ∷ []) (message_fault (texts (drop 4 bytes)) (unended (drop 4 bytes)))
 
 -- of an OACK
 abbrev pub oack_fault : List ℕ → Option PacketFault
-oack_fault bytes = first_row (too_long MAX_REQUEST bytes ∷ row (length bytes == 2) kinds.EmptyOack 2 ∷ [])
-    (options_fault 2 (texts (drop 2 bytes)) (unended (drop 2 bytes)))
+oack_fault bytes = first_row (
+    too_long MAX_REQUEST bytes
+    ∷ row (length bytes == 2) kinds.EmptyOack 2
+    ∷ []) (options_fault 2 (texts (drop 2 bytes)) (unended (drop 2 bytes)))
 
 -- of a datagram with this opcode
 abbrev pub opcode_fault : ℕ → List ℕ → Option PacketFault
@@ -118,8 +131,9 @@ opcode_fault opcode bytes =
 
 -- of a datagram; none if it spells a packet
 abbrev pub first_fault : List ℕ → Option PacketFault
-first_fault bytes =
-    first_row (row (nat_lt (length bytes) 2) kinds.Short 0 ∷ []) (opcode_fault (big_number 2 bytes) bytes)
+first_fault bytes = first_row (
+    row (nat_lt (length bytes) 2) kinds.Short 0
+    ∷ []) (opcode_fault (big_number 2 bytes) bytes)
 
 -- the datagram begins as an ERROR does
 abbrev pub has_error_opcode : List ℕ → Bool

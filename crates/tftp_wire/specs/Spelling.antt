@@ -43,7 +43,7 @@ written word (Oack options) = big_bytes 2 6 ++ options_bytes options
 abbrev pub canonical : Packet → List ℕ
 canonical p = written (word_of p) p
 
--- a request has at most 512 bytes (RFC 2347, "Packet Formats"); our own limit of an OACK and of an ERROR is the same
+-- a request has at most 512 bytes (RFC 2347, "Packet Formats"), and by our own choice so have an OACK and an ERROR
 abbrev pub IsShort : List ℕ → Type 0
 IsShort bytes = length bytes ≤ MAX_REQUEST
 
@@ -60,7 +60,8 @@ IsValid (Write r) = IsRequest r × IsShort (canonical (Write r))
 IsValid (Data block bytes) = (block ≢ 0) × (block < 2 ^ 16) × (length bytes ≤ MAX_BLOCK)
 IsValid (Ack block) = block < 2 ^ 16
 IsValid (Error code text) = (code < 2 ^ 16) × IsText text × IsShort (canonical (Error code text))
-IsValid (Oack options) = (options ≢ []) × AllByRecursion IsOption options × IsShort (canonical (Oack options))
+IsValid (Oack options) =
+    (options ≢ []) × AllByRecursion IsOption options × IsShort (canonical (Oack options))
 
 -- the bytes spell the packet: they are its own, but for the case of the mode's letters
 pub record Spells (p : Packet) (bytes : List ℕ) : Type 0 where

@@ -1,8 +1,8 @@
 //! Appends packets from borrowed parts, each in its canonical spelling.
 //!
-//! Each call appends all of its bytes or none. It fails only when out of memory, and never where the
-//! room that it needs was reserved before. A request or an OACK is begun by one call, and each of its
-//! options follows by another.
+//! Each call appends all of its bytes or none. It fails only when out of memory, and never where
+//! the room that it needs was reserved before. A request or an OACK is begun by one call, and each
+//! of its options follows by another.
 
 ghost use Rattle.std.specs.Prelude.{◌≡◌, ◌≤◌, ◌+◌, ◌++◌, [], ◌∷◌, length, IsOk, OnOk, OnErr, vec_len, vec_capacity};
 ghost use Rattle.byteorder.specs.Endian.{big_bytes};
@@ -66,9 +66,11 @@ pub fn append_error(out: &mut Vec<u8>, code: u16, text: &[u8]) -> Result<(), All
 
 /// Appends a request to read, without options: they are to follow.
 pub fn append_read(out: &mut Vec<u8>, name: &[u8], mode: Mode) -> Result<(), AllocError>
-    ensures ok { OnOk result (out.new.items ≡ out.old.items ++ canonical (Read (plain_request name.now mode))) }
+    ensures ok { OnOk result
+        (out.new.items ≡ out.old.items ++ canonical (Read (plain_request name.now mode))) }
     ensures err { OnErr result (out.new.items ≡ out.old.items) }
-    ensures room { vec_len out.old + length (canonical (Read (plain_request name.now mode))) ≤ vec_capacity out.old → IsOk result }
+    ensures room { vec_len out.old + (length name.now + length (mode_word mode) + 4)
+        ≤ vec_capacity out.old → IsOk result }
     ensures capacity { vec_capacity out.old ≤ vec_capacity out.new }
 {
     append_request(out, READ, name, mode)
@@ -76,21 +78,26 @@ pub fn append_read(out: &mut Vec<u8>, name: &[u8], mode: Mode) -> Result<(), All
 
 /// Appends a request to write, without options: they are to follow.
 pub fn append_write(out: &mut Vec<u8>, name: &[u8], mode: Mode) -> Result<(), AllocError>
-    ensures ok { OnOk result (out.new.items ≡ out.old.items ++ canonical (Write (plain_request name.now mode))) }
+    ensures ok { OnOk result
+        (out.new.items ≡ out.old.items ++ canonical (Write (plain_request name.now mode))) }
     ensures err { OnErr result (out.new.items ≡ out.old.items) }
-    ensures room { vec_len out.old + length (canonical (Write (plain_request name.now mode))) ≤ vec_capacity out.old → IsOk result }
+    ensures room { vec_len out.old + (length name.now + length (mode_word mode) + 4)
+        ≤ vec_capacity out.old → IsOk result }
     ensures capacity { vec_capacity out.old ≤ vec_capacity out.new }
 {
     append_request(out, WRITE, name, mode)
 }
 
 fn append_request(out: &mut Vec<u8>, opcode: u16, name: &[u8], mode: Mode) -> Result<(), AllocError>
-    ensures ok { OnOk result (out.new.items ≡ out.old.items ++ request_bytes opcode (mode_word mode) (plain_request name.now mode)) }
+    ensures ok { OnOk result (out.new.items
+        ≡ out.old.items ++ request_bytes opcode (mode_word mode) (plain_request name.now mode)) }
     ensures err { OnErr result (out.new.items ≡ out.old.items) }
-    ensures room { vec_len out.old + length (request_bytes opcode (mode_word mode) (plain_request name.now mode)) ≤ vec_capacity out.old → IsOk result }
+    ensures room { vec_len out.old + (length name.now + length (mode_word mode) + 4)
+        ≤ vec_capacity out.old → IsOk result }
     ensures capacity { vec_capacity out.old ≤ vec_capacity out.new }
 {
     let word = mode.word().as_bytes();
+    // An opcode and two zero bytes stand round the texts.
     out.reserve(name.len() + word.len() + 4)?;
     put_number(out, opcode);
     put_text(out, name);
@@ -112,9 +119,11 @@ pub fn append_oack_header(out: &mut Vec<u8>) -> Result<(), AllocError>
 
 /// Appends an option of a request or of an OACK.
 pub fn append_option(out: &mut Vec<u8>, name: &[u8], value: &[u8]) -> Result<(), AllocError>
-    ensures ok { OnOk result (out.new.items ≡ out.old.items ++ option_bytes (record { name = name.now; value = value.now })) }
+    ensures ok { OnOk result (out.new.items
+        ≡ out.old.items ++ option_bytes (record { name = name.now; value = value.now })) }
     ensures err { OnErr result (out.new.items ≡ out.old.items) }
-    ensures room { vec_len out.old + (length name.now + length value.now + 2) ≤ vec_capacity out.old → IsOk result }
+    ensures room { vec_len out.old + (length name.now + length value.now + 2) ≤ vec_capacity out.old
+        → IsOk result }
     ensures capacity { vec_capacity out.old ≤ vec_capacity out.new }
 {
     out.reserve(name.len().saturating_add(value.len()).saturating_add(2))?;

@@ -6,7 +6,7 @@ ghost use Rattle.tftp_wire.specs.Faults.{kind_name, kind_number, out_of_memory};
 use std::alloc::AllocError;
 use thiserror::Error;
 
-/// What is wrong with a datagram, or that memory was wanting.
+/// What is wrong with a datagram, or that a call was out of memory.
 #[derive(Clone, Copy, Debug, PartialEq, Eq, Error)]
 pub enum PacketFaultKind {
     /// The datagram ends before its opcode or its number does.
@@ -42,7 +42,7 @@ pub enum PacketFaultKind {
     /// An OACK holds no option.
     #[error("an OACK holds no option")]
     EmptyOack = 11,
-    /// Memory was wanting; the bytes are not at fault.
+    /// Out of memory; the bytes are not at fault.
     #[error("out of memory")]
     Memory = 12,
 }

@@ -20,14 +20,15 @@ use std::alloc::{AllocError, Global};
 /// only for bytes that spell a packet.
 pub fn decode(alloc: Global, bytes: &[u8]) -> Result<Packet, PacketFault>
     ensures found { IfOk result (λ p. Spells p bytes.now) }
-    ensures only { (p : Packet) → Spells p bytes.now → MatchResult result (λ q. q ≡ p) (λ e. e ≡ out_of_memory) }
+    ensures only { (p : Packet) → Spells p bytes.now
+        → MatchResult result (λ q. q ≡ p) (λ e. e ≡ out_of_memory) }
     ensures fault { IfErr result (λ e. IsFailure (first_fault bytes.now) e) }
 {
     decode_ref(bytes)?.to_packet(alloc)
 }
 
 impl<'a> PacketRef<'a> {
-    /// A copy of the packet that owns its bytes. It fails only for want of memory.
+    /// A copy of the packet that owns its bytes. It fails only when out of memory.
     pub fn to_packet(&self, alloc: Global) -> Result<Packet, PacketFault>
         ensures ok { IfOk result (λ p. p ≡ owned self.now) }
         ensures err { IfErr result (λ e. e ≡ out_of_memory) }
@@ -56,7 +57,7 @@ fn copied(alloc: Global, packet: &PacketRef<'_>) -> Result<Packet, AllocError>
 }
 
 impl<'a> RequestRef<'a> {
-    /// A copy of the request that owns its bytes. It fails only for want of memory.
+    /// A copy of the request that owns its bytes. It fails only when out of memory.
     pub fn to_request(&self, alloc: Global) -> Result<Request, AllocError>
         ensures { IfOk result (λ r. r ≡ owned_request self.now) }
     {
@@ -69,7 +70,7 @@ impl<'a> RequestRef<'a> {
 }
 
 impl<'a> OptionsRef<'a> {
-    /// A copy of the options that owns its bytes. It fails only for want of memory.
+    /// A copy of the options that owns its bytes. It fails only when out of memory.
     pub fn to_options(&self, alloc: Global) -> Result<RawOptions, AllocError>
         ensures { IfOk result (λ options. options ≡ self.now) }
     {
@@ -82,7 +83,7 @@ impl<'a> OptionsRef<'a> {
 }
 
 impl<'a> OptionRef<'a> {
-    /// A copy of the option that owns its bytes. It fails only for want of memory.
+    /// A copy of the option that owns its bytes. It fails only when out of memory.
     pub fn to_option(&self, alloc: Global) -> Result<RawOption, AllocError>
         ensures { IfOk result (λ option. option ≡ owned_option self.now) }
     {

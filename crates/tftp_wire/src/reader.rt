@@ -51,7 +51,8 @@ fn read_packet(bytes: &[u8]) -> Result<PacketRef<'_>, PacketFault>
 /// What follows the opcode of a request: a file name, a mode and options.
 fn read_request(bytes: &[u8]) -> Result<RequestRef<'_>, PacketFault>
     requires { 2 ≤ length bytes.now }
-    ensures { Reads owned_request (request_of (texts (drop 2 bytes.now))) (request_fault bytes.now) result }
+    ensures { Reads owned_request (request_of (texts (drop 2 bytes.now)))
+        (request_fault bytes.now) result }
 {
     if bytes.len() > MAX_REQUEST {
         return Err(fault_at(PacketFaultKind::TooLong, MAX_REQUEST));

@@ -4,9 +4,9 @@ ghost use Rattle.std.specs.Prelude.{◌≡◌, ◌≤◌, ◌+◌, ◌-◌, ◌^
 ghost use Rattle.std.specs.List.{AllByRecursion};
 ghost use Rattle.tftp_wire.specs.Borrowed.{owned, owned_request};
 ghost use Rattle.tftp_wire.specs.Faults.{out_of_memory};
-ghost use Rattle.tftp_wire.specs.Modes.{mode_word};
 ghost use Rattle.tftp_wire.specs.Options.{IsOption, options_bytes};
-ghost use Rattle.tftp_wire.specs.Spelling.{IsValid, IsRequest, canonical, request_bytes};
+ghost use Rattle.tftp_wire.specs.Spelling.{IsValid, IsRequest, canonical};
+ghost use Rattle.tftp_wire.specs.declared.packet.Packet.TheVariants.{Read};
 
 use crate::append::{
     append_ack, append_data, append_error, append_oack_header, append_option, append_read,
@@ -92,7 +92,7 @@ pub(crate) fn canonical_len_ref(packet: &PacketRef<'_>) -> usize
 }
 
 fn request_len_ref(request: &RequestRef<'_>) -> usize
-    ensures { result ≡ min (length (request_bytes 1 (mode_word request.now.mode) (owned_request request.now))) (2 ^ 64 - 1) }
+    ensures { result ≡ min (length (canonical (Read (owned_request request.now)))) (2 ^ 64 - 1) }
 {
     request
         .options
@@ -103,7 +103,7 @@ fn request_len_ref(request: &RequestRef<'_>) -> usize
 }
 
 fn request_len(request: &Request) -> usize
-    ensures { result ≡ min (length (request_bytes 1 (mode_word request.now.mode) request.now)) (2 ^ 64 - 1) }
+    ensures { result ≡ min (length (canonical (Read request.now))) (2 ^ 64 - 1) }
 {
     options_len(request.options.as_slice())
         .saturating_add(request.name.as_slice().len())
@@ -126,7 +126,7 @@ fn options_len(options: &[RawOption]) -> usize
 
 /// Appends the canonical spelling of the packet, with a mode in lower case.
 ///
-/// It fails only for want of memory, and `out` is then as before.
+/// It fails only when out of memory, and `out` is then as before.
 pub fn encode(packet: &Packet, out: &mut Vec<u8>) -> Result<(), PacketFault>
     requires { IsValid packet.now }
     ensures ok { OnOk result (out.new.items ≡ out.old.items ++ canonical packet.now) }
