@@ -1,10 +1,22 @@
 //! The six packets, owned and borrowed.
+//!
+//! A number has two bytes, the high one first. A text is bytes without a zero byte, and one zero
+//! byte ends it.
 
 use crate::bytes::Bytes;
 use crate::mode::Mode;
 use crate::options::{OptionsRef, RawOptions};
 
-/// What a read or a write request asks for.
+/// What a read or a write request asks for (RFC 1350, section 5; options: RFC 2347, "Packet
+/// Formats").
+///
+/// ```text
+///  2 bytes   text  1  text  1  text  1  text   1
+/// +--------+------+-+------+-+------+-+-------+-+
+/// | opcode | name |0| mode |0| name |0| value |0| ..
+/// +--------+------+-+------+-+------+-+-------+-+
+///                             \_ an option _/
+/// ```
 #[derive(Debug, Drop)]
 pub struct Request {
     /// The file name, not empty.
@@ -15,24 +27,75 @@ pub struct Request {
     pub options: RawOptions,
 }
 
-/// A packet of TFTP (RFC 1350, section 5; RFC 2347).
+/// A packet of TFTP (RFC 1350, section 5; RFC 2347, "Packet Formats").
 #[derive(Debug, Drop)]
 pub enum Packet {
-    /// RRQ: asks for a file.
+    /// RRQ, opcode 1: asks for a file (RFC 1350, section 5).
+    ///
+    /// ```text
+    /// | 00 01 | name | 00 | mode | 00 | options .. |
+    /// ```
     Read(Request),
-    /// WRQ: asks to store a file.
+    /// WRQ, opcode 2: asks to store a file (RFC 1350, section 5).
+    ///
+    /// ```text
+    /// | 00 02 | name | 00 | mode | 00 | options .. |
+    /// ```
     Write(Request),
-    /// DATA: a block, numbered from 1.
-    Data { block: u16, bytes: Bytes },
-    /// ACK: a block was taken, or, with 0, a write request or an OACK.
-    Ack { block: u16 },
-    /// ERROR: the transfer ends.
-    Error { code: u16, text: Bytes },
-    /// OACK: the options that the server takes.
+    /// DATA, opcode 3: a block of the file (RFC 1350, section 5).
+    ///
+    /// ```text
+    ///  2 bytes 2 bytes  0 to 65,464 bytes
+    /// +-------+-------+--------------------+
+    /// | 00 03 | block | bytes              |
+    /// +-------+-------+--------------------+
+    /// ```
+    Data {
+        /// The number of the block, from 1.
+        block: u16,
+        /// The bytes of the block; fewer than the block size in the last one.
+        bytes: Bytes,
+    },
+    /// ACK, opcode 4: a block was received, or, with 0, a write request or an OACK (RFC 1350, section
+    /// 5).
+    ///
+    /// ```text
+    ///  2 bytes 2 bytes
+    /// +-------+-------+
+    /// | 00 04 | block |
+    /// +-------+-------+
+    /// ```
+    Ack {
+        /// The number of the block that is acknowledged.
+        block: u16,
+    },
+    /// ERROR, opcode 5: the transfer ends (RFC 1350, section 5).
+    ///
+    /// ```text
+    ///  2 bytes 2 bytes   text  1
+    /// +-------+-------+------+----+
+    /// | 00 05 | code  | text | 00 |
+    /// +-------+-------+------+----+
+    /// ```
+    Error {
+        /// What went wrong, as a number (RFC 1350, appendix; 8: RFC 2347).
+        code: u16,
+        /// The same for people, which may be empty.
+        text: Bytes,
+    },
+    /// OACK, opcode 6: the options that the server agrees to, at least one (RFC 2347, "Packet
+    /// Formats").
+    ///
+    /// ```text
+    ///  2 bytes   text   1    text   1
+    /// +-------+------+----+-------+----+
+    /// | 00 06 | name | 00 | value | 00 | ..
+    /// +-------+------+----+-------+----+
+    /// ```
     Oack(RawOptions),
 }
 
-/// A request of a datagram, borrowed from it.
+/// A request of a datagram, borrowed from it. Its layout is that of [`Request`].
 #[derive(Debug, Drop)]
 pub struct RequestRef<'a> {
     /// The file name, not empty.
@@ -43,19 +106,32 @@ pub struct RequestRef<'a> {
     pub options: OptionsRef<'a>,
 }
 
-/// A packet that borrows its bytes from the datagram.
+/// A packet that borrows its bytes from the datagram. The layouts are those of [`Packet`].
 #[derive(Debug, Drop)]
 pub enum PacketRef<'a> {
     /// RRQ: asks for a file.
     Read(RequestRef<'a>),
     /// WRQ: asks to store a file.
     Write(RequestRef<'a>),
-    /// DATA: a block, numbered from 1.
-    Data { block: u16, bytes: &'a [u8] },
-    /// ACK: a block was taken, or, with 0, a write request or an OACK.
-    Ack { block: u16 },
+    /// DATA: a block of the file.
+    Data {
+        /// The number of the block, from 1.
+        block: u16,
+        /// The bytes of the block; fewer than the block size in the last one.
+        bytes: &'a [u8],
+    },
+    /// ACK: a block was received, or, with 0, a write request or an OACK.
+    Ack {
+        /// The number of the block that is acknowledged.
+        block: u16,
+    },
     /// ERROR: the transfer ends.
-    Error { code: u16, text: &'a [u8] },
-    /// OACK: the options that the server takes.
+    Error {
+        /// What went wrong, as a number.
+        code: u16,
+        /// The same for people, which may be empty.
+        text: &'a [u8],
+    },
+    /// OACK: the options that the server agrees to, at least one.
     Oack(OptionsRef<'a>),
 }
