@@ -1,2 +1,3 @@
 pub mod ScriptLemmas
 pub mod ShowLemmas
+pub mod DigitsLemmas

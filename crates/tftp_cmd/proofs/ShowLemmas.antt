@@ -1,6 +1,6 @@
 -- The lines of an input, taken one by one, and what is printed for them.
 use Rattle.std.proofs.Common.{ℕ, suc, ◌≡◌, ◌<◌, ◌-◌, Bool, true, false, cond, ◌&&◌, eqb, refl, ap, sym, subst, ◌∙◌, arith, lt-ltb, List, [], ◌∷◌, ◌++◌, length, append_assoc, append-nil, Option, Some, None, codes}
-use Rattle.std.specs.Prelude.{⊤, MatchResult, IfOk, IsErrAnd, IfSome, is_none}
+use Rattle.std.specs.Prelude.{⊤, MatchResult, IfOk, IsErrAnd, IfSome}
 use Rattle.std.proofs.Math.Bool.{and_assoc, and-true}
 use Rattle.std.specs.declared.result.Result.{Result}
 use Rattle.std.specs.declared.result.Result.TheVariants.{Ok, Err}
@@ -10,9 +10,8 @@ use Rattle.hex.specs.Hex.{decode_of}
 use Rattle.hex.specs.declared.error.FromHexError.{FromHexError}
 use Rattle.tftp_wire.specs.declared.packet.Packet.{Packet}
 use Rattle.tftp_wire.specs.Line.{line}
+use Rattle.tftp_wire.specs.Parts.{packet_in}
 use Rattle.tftp_wire.specs.Reading.{first_fault}
-use Rattle.tftp_wire.specs.Spelling.{Spells}
-use Rattle.tftp_wire.proofs.SpellingLemmas.{spelled_holds}
 use Rattle.tftp_cmd.specs.Show.{onto_first, lines_of, datagram_shown, decoded_shown, line_shown, spells_packet, Decodes, are_packets, input_shown}
 
 by_test : {G : Type 0} (b : Bool) → (b ≡ true → G) → (b ≡ false → G) → G
@@ -21,13 +20,9 @@ by_test false holds fails = fails refl
 
 -- ---- a line
 
--- what spells a packet has no fault
-pub no_fault : (p : Packet) (bytes : List ℕ) → Spells p bytes → true ≡ is_none (first_fault bytes)
-no_fault p bytes s = sym (ap is_none (spelled_holds p bytes s).0)
-
--- and its line is the packet's
-pub packet_shown : (p : Packet) (bytes : List ℕ) → Spells p bytes → line p ≡ datagram_shown bytes (first_fault bytes)
-packet_shown p bytes s = sym (ap (datagram_shown bytes) (spelled_holds p bytes s).0 ∙ ap line (spelled_holds p bytes s).1)
+-- the line of bytes without a fault is that of the packet that is found in them
+pub packet_shown : (p : Packet) (bytes : List ℕ) → first_fault bytes ≡ None → packet_in bytes ≡ p → line p ≡ datagram_shown bytes (first_fault bytes)
+packet_shown p bytes none found = sym (ap (datagram_shown bytes) none ∙ ap line found)
 
 -- digits that are hexadecimal
 pub is_decoded : (d : Result (List ℕ) FromHexError) (b : Bool) (new : List ℕ) → Decodes d b new → b ≡ true → d ≡ Ok new

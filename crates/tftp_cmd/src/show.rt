@@ -1,22 +1,25 @@
 //! `tftp-show`: lines of hexadecimal digits in, a line for each datagram out.
 
+mod digits;
+
 ghost use Rattle.std.specs.Prelude.{◌≡◌, ◌≤◌, ◌++◌, ◌⊎◌, IfOk, IfSome, OnOk, is_none};
 ghost use Rattle.std.specs.Io.BufRead.{strip_last};
 ghost use Rattle.std.specs.Io.KnownBytes.{Appends};
 ghost use Rattle.std.specs.String.{string_bytes};
 ghost use Rattle.hex.specs.Hex.{decode_of};
 ghost use Rattle.tftp_wire.specs.Reading.{first_fault};
-ghost use Rattle.tftp_cmd.specs.Show.{Decodes, datagram_shown, line_shown, spells_packet, are_packets, input_shown, status_of};
+ghost use Rattle.tftp_cmd.specs.Show.{datagram_shown, line_shown, spells_packet, are_packets, input_shown, status_of};
 
+use crate::show::digits::decode_digits;
 use std::alloc::{AllocError, Global};
 use std::io::{self, BufRead, BufReader, BufWriter, ErrorKind, Read, Write};
-use tftp_wire::{PacketFault, decode_ref, show};
+use tftp_wire::{PacketFault, decode_ref, laws, show_ref};
 
 /// Reads lines of hexadecimal digits, each a datagram, and writes for each its packet, or
 /// `fault KIND AT`, or `not hex`.
 ///
-/// The status is 0 if all lines were packets, 1 if not, and 2 if reading or writing failed or memory
-/// was wanting. Memory is bounded by the longest line.
+/// The status is 0 if all lines were packets, 1 if not, and 2 if reading or writing failed or the run
+/// was out of memory. Memory is bounded by the longest line.
 pub fn show_run<R: Read + Drop, W: Write + Drop>(alloc: Global, input: R, output: W) -> u8
     ensures bound { result ≤ 2 }
     ensures known { IfSome (R.remaining input) (λ all. (result ≡ status_of all) ⊎ (result ≡ 2)) }
@@ -42,7 +45,7 @@ fn show_buffered<R: Read + Drop, W: Write + Drop>(
 
 /// Writes a line for each line of the input, to its end, and answers whether all were packets.
 ///
-/// It fails if reading or writing fails or memory is wanting; whole lines may then be written.
+/// It fails if reading or writing fails or when out of memory; whole lines may then be written.
 pub fn show_lines<R: BufRead, W: Write>(
     alloc: Global,
     input: &mut R,
@@ -64,7 +67,7 @@ pub fn show_lines<R: BufRead, W: Write>(
             return Ok(packets);
         }
         text.clear();
-        packets &= show_line(alloc, without_end(line.as_slice()), &mut bytes, &mut text)?;
+        packets &= show_line(without_end(line.as_slice()), &mut bytes, &mut text)?;
         text.push('\n')?;
         output.write_all(text.as_bytes())?;
     }
@@ -83,12 +86,7 @@ fn without_end(line: &[u8]) -> &[u8]
 
 /// Appends what a line of digits holds, and answers whether that is a packet. The bytes are room to
 /// work in.
-fn show_line(
-    alloc: Global,
-    digits: &[u8],
-    bytes: &mut Vec<u8>,
-    text: &mut String,
-) -> Result<bool, AllocError>
+fn show_line(digits: &[u8], bytes: &mut Vec<u8>, text: &mut String) -> Result<bool, AllocError>
     ensures is_packet { IfOk result (λ is_packet. is_packet ≡ spells_packet (decode_of digits.now)) }
     ensures appended { OnOk result (string_bytes text.new ≡ string_bytes text.old ++ line_shown digits.now) }
 {
@@ -96,30 +94,21 @@ fn show_line(
         text.push_str("not hex")?;
         return Ok(false);
     }
-    show_datagram(alloc, bytes.as_slice(), text).map_err(|_| AllocError)
-}
-
-/// Whether the digits are hexadecimal, two for a byte; `bytes` are then what they stand for.
-fn decode_digits(digits: &[u8], bytes: &mut Vec<u8>) -> Result<bool, AllocError>
-    ensures { IfOk result (λ is_hex. Decodes (decode_of digits.now) is_hex bytes.new.items) }
-{
-    bytes.resize(digits.len() / 2, 0)?;
-    Ok(hex::decode_to_slice(digits, bytes.as_mut_slice()).is_ok())
+    show_datagram(bytes.as_slice(), text).map_err(|_| AllocError)
 }
 
 /// Appends the packet of a datagram, or its first fault, and answers whether it is a packet. It fails
-/// only for want of memory.
-pub(crate) fn show_datagram(
-    alloc: Global,
-    bytes: &[u8],
-    text: &mut String,
-) -> Result<bool, PacketFault>
+/// only when out of memory.
+pub(crate) fn show_datagram(bytes: &[u8], text: &mut String) -> Result<bool, PacketFault>
     ensures is_packet { IfOk result (λ is_packet. is_packet ≡ is_none (first_fault bytes.now)) }
     ensures appended { OnOk result (string_bytes text.new ≡ string_bytes text.old ++ datagram_shown bytes.now (first_fault bytes.now)) }
 {
     match decode_ref(bytes) {
         Ok(packet) => {
-            show(&packet.to_packet(alloc)?, text)?;
+            // What is spelled has no fault, and is what the definition of a packet finds.
+            laws::fault_or_packet();
+            laws::spelled_is_found();
+            show_ref(&packet, text)?;
             Ok(true)
         }
         Err(fault) => {

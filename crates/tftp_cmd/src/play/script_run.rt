@@ -109,7 +109,7 @@ impl<W: Write + Drop> ScriptRun<W> {
             return Ok(());
         };
         let mut shown = String::new(self.alloc);
-        show_datagram(self.alloc, datagram.bytes.as_slice(), &mut shown).map_err(|_| AllocError)?;
+        show_datagram(datagram.bytes.as_slice(), &mut shown).map_err(|_| AllocError)?;
         let from = datagram.from;
         let to = datagram.to;
         writeln!(self.output, "#{place} {from} > {to} {shown}")?;

@@ -1,4 +1,3 @@
-use Rattle.std.proofs.Common.{◌≡◌}
 use Rattle.tftp_cmd.proofs.ShowLemmas.{GoesOn}
 use Rattle.tftp_cmd.proofs.show.show_lines.Given as goal
 
