@@ -1,9 +1,9 @@
 -- What the first fault of a datagram is, text by text.
-use Rattle.std.proofs.Common.{ℕ, ◌≡◌, ◌≢◌, ◌+◌, ◌-◌, ◌≤◌, Bool, true, false, cond, ltb, ⊎_elim, refl, ap, sym, ◌∙◌, arith, List, [], ◌∷◌, ◌++◌, length, drop, Option, Some, None, MatchOption}
+use Rattle.std.proofs.Common.{ℕ, ◌≡◌, ◌≢◌, ◌+◌, ◌-◌, ◌≤◌, Bool, true, false, cond, not, eqb, ltb, ⊎_elim, refl, ap, sym, ◌∙◌, arith, List, [], ◌∷◌, ◌++◌, length, drop, Option, Some, None, MatchOption}
 use Rattle.std.specs.Borrow.{Bor}
 use Rattle.std.specs.Option.{ok_or}
 use Rattle.std.specs.List.{AllByRecursion, flat_map}
-use Rattle.std.proofs.lemmas.Bool.{le-ltb, ltb-false}
+use Rattle.std.proofs.lemmas.Bool.{le-ltb, ltb-false, eqb-false}
 use Rattle.std.proofs.lemmas.Bool.Decides.{eqb_tells}
 use Rattle.std.proofs.lemmas.List.{append-nil, append_assoc, length-append}
 use Rattle.tftp_wire.specs.declared.fault.PacketFault.{PacketFault}
@@ -121,10 +121,16 @@ text_left text [] (b ∷ u) rest e h = refl
 text_left text (t ∷ ts) [] rest e h = refl
 text_left text (t ∷ ts) (b ∷ u) rest e h = refl
 
+-- what stands after a packet
+trailing_is : (b : Bool) (x fault : PacketFault) → cond (not b) (Some x) None ≡ Some fault → (b ≡ false) × (Some x ≡ Some fault)
+trailing_is true x fault h = cc
+trailing_is false x fault h = (refl, h)
+
 -- bytes after the text of an ERROR
-pub error_trailing : (bytes text rest : List ℕ) → length bytes ≤ 512 → number_fault bytes ≡ None → length (drop 4 bytes) ≡ length bytes - 4 → BeginsWith (drop 4 bytes) text rest → length rest ≢ 0 → error_fault bytes ≡ Some (record { kind = Trailing; at = length bytes - length rest })
-error_trailing bytes text rest most number shorter t h =
+pub error_trailing : (bytes text rest : List ℕ) (fault : PacketFault) → length bytes ≤ 512 → number_fault bytes ≡ None → length (drop 4 bytes) ≡ length bytes - 4 → BeginsWith (drop 4 bytes) text rest → cond (not (eqb (length rest) 0)) (Some (record { kind = Trailing; at = length bytes - length rest })) None ≡ Some fault → error_fault bytes ≡ Some fault
+error_trailing bytes text rest fault most number shorter t found =
     let long : ltb (length bytes) 4 ≡ false = (guard_none _ _ _ number).0 in
     let least : 4 ≤ length bytes = ltb-false _ _ long in
+    let f = trailing_is (eqb (length rest) 0) (record { kind = Trailing; at = length bytes - length rest }) fault found in
     let place : 4 + (length text + 1) ≡ length bytes - length rest = omega (arith, t.2) in
-    rw (le-ltb 512 (length bytes) most, long, t.0, t.1) (text_left text (texts rest) (unended rest) rest (texts_joined rest) h ∙ ap (λ k. Some (record { kind = Trailing; at = k })) place)
+    rw (le-ltb 512 (length bytes) most, long, t.0, t.1) (text_left text (texts rest) (unended rest) rest (texts_joined rest) (eqb-false _ _ f.0) ∙ ap (λ k. Some (record { kind = Trailing; at = k })) place ∙ f.1)

@@ -1,17 +1,18 @@
 //! Reads a datagram, once for the owned and the borrowed packets, and finds its first fault.
 
-ghost use Rattle.std.specs.Prelude.{◌≡◌, ◌≤◌, ◌+◌, ◌-◌, ◌<◌, ◌^◌, length, drop, IfOk, IfErr, MatchResult, IsOkAnd};
+ghost use Rattle.std.specs.Prelude.{◌≡◌, ◌≤◌, ◌+◌, ◌-◌, ◌<◌, ◌^◌, ◌==◌, ◌∷◌, [], not, None, length, drop, IfOk, IfErr, MatchResult, IsOkAnd};
 ghost use Rattle.byteorder.specs.Endian.{big_number};
 ghost use Rattle.tftp_wire.specs.Borrowed.{owned, owned_request};
 ghost use Rattle.tftp_wire.specs.Options.{options_in};
 ghost use Rattle.tftp_wire.specs.Parts.{packet_in, packet_of, request_of, Reads, bytes_fault, SplitsText, GoesOn};
-ghost use Rattle.tftp_wire.specs.Reading.{first_fault, request_fault, data_fault, ack_fault, error_fault, oack_fault, mode_in, number_fault};
+ghost use Rattle.tftp_wire.specs.Reading.{first_row, row, first_fault, request_fault, data_fault, ack_fault, error_fault, oack_fault, mode_in, number_fault};
+ghost use Rattle.tftp_wire.specs.declared.fault.PacketFaultKind.TheVariants.{Trailing};
 ghost use Rattle.tftp_wire.specs.Spelling.{Spells};
 ghost use Rattle.tftp_wire.specs.Texts.{texts};
 ghost use Rattle.tftp_wire.specs.declared.packet.Packet.{Packet};
 
 use crate::fault::{PacketFault, PacketFaultKind};
-use crate::limits::{MAX_DATA, MAX_REQUEST};
+use crate::limits::{HEADER, MAX_DATA, MAX_REQUEST};
 use crate::mode::Mode;
 use crate::opcode::{ACK, DATA, ERROR, OACK, READ, WRITE};
 use crate::options::OptionsRef;
@@ -97,10 +98,10 @@ fn read_ack(bytes: &[u8]) -> Result<PacketRef<'_>, PacketFault>
     ensures { Reads owned (packet_of 4 bytes.now) (ack_fault bytes.now) result }
 {
     let block = read_number(bytes)?;
-    if bytes.len() > 4 {
-        return Err(fault_at(PacketFaultKind::Trailing, 4));
+    match trailing(&bytes[HEADER..], HEADER) {
+        Some(fault) => Err(fault),
+        None => Ok(PacketRef::Ack { block }),
     }
-    Ok(PacketRef::Ack { block })
 }
 
 /// The code and the text of an ERROR.
@@ -114,10 +115,10 @@ fn read_error(bytes: &[u8]) -> Result<PacketRef<'_>, PacketFault>
     let code = read_number(bytes)?;
     let (_, body) = bytes.split_at(4);
     let (text, rest) = read_text(body, 4)?;
-    if !rest.is_empty() {
-        return Err(fault_at(PacketFaultKind::Trailing, bytes.len() - rest.len()));
+    match trailing(rest, bytes.len() - rest.len()) {
+        Some(fault) => Err(fault),
+        None => Ok(PacketRef::Error { code, text }),
     }
-    Ok(PacketRef::Error { code, text })
 }
 
 /// The options of an OACK.
@@ -133,6 +134,17 @@ fn read_oack(bytes: &[u8]) -> Result<PacketRef<'_>, PacketFault>
     }
     let (_, body) = bytes.split_at(2);
     Ok(PacketRef::Oack(read_options(body, 2)?))
+}
+
+/// The fault of bytes after a packet, which begin at `at` in the datagram.
+fn trailing(rest: &[u8], at: usize) -> Option<PacketFault>
+    ensures { result ≡ first_row (row (not (length rest.now == 0)) Trailing at ∷ []) None }
+{
+    if rest.is_empty() {
+        None
+    } else {
+        Some(fault_at(PacketFaultKind::Trailing, at))
+    }
 }
 
 /// The number after the opcode.
