@@ -4,7 +4,7 @@ use Rattle.std.specs.Cmp.Lexicographic.{pointwise}
 use Rattle.tftp_wire.specs.declared.packet.Packet.{Packet}
 use Rattle.tftp_wire.specs.declared.fault.PacketFault.{PacketFault}
 use Rattle.tftp_wire.specs.Spelling.{Spells}
-use Rattle.tftp_wire.specs.Reading.{first_fault}
+use Rattle.tftp_wire.specs.Reading.{first_fault, has_error_opcode}
 use Rattle.tftp_ends.specs.declared.endpoint.Endpoint.{Endpoint}
 use Rattle.tftp_ends.specs.declared.outcome.Outcome.TheVariants as outcomes
 use Rattle.tftp_ends.specs.declared.phase.Dally.TheVariants.{Fresh, Waited}
@@ -22,12 +22,6 @@ use Rattle.tftp_ends.specs.Receiver.{receiver_action, dally_action}
 abbrev pub Decodes : List ℕ → Option Packet → Type 0
 Decodes bytes (Some packet) = Spells packet bytes
 Decodes bytes None = (fault : PacketFault) × (first_fault bytes ≡ Some fault)
-
--- the datagram begins as an ERROR does: it is never answered
-abbrev pub has_error_opcode : List ℕ → Bool
-has_error_opcode (high ∷ low ∷ rest) = high == 0 && (low == 5)
-has_error_opcode (high ∷ []) = false
-has_error_opcode [] = false
 
 -- the same address
 abbrev pub same_address : Endpoint → Endpoint → Bool

@@ -2,7 +2,7 @@
 
 ghost use Rattle.std.specs.Prelude.{◌≡◌, ◌↔◌, option_map};
 ghost use Rattle.tftp_wire.specs.Borrowed.{owned};
-ghost use Rattle.tftp_ends.specs.Action.{Decodes, has_error_opcode};
+ghost use Rattle.tftp_ends.specs.Action.{Decodes};
 
 use tftp_wire::{PacketRef, decode_ref};
 
@@ -14,11 +14,4 @@ pub fn decode_packet(bytes: &[u8]) -> Option<PacketRef<'_>>
         Ok(packet) => Some(packet),
         Err(_) => None,
     }
-}
-
-/// Whether a datagram begins as an ERROR does. Such a datagram is never answered.
-pub fn has_error_opcode(bytes: &[u8]) -> bool
-    ensures { result ≡ has_error_opcode bytes.now }
-{
-    matches!(bytes, [0, 5, ..])
 }

@@ -10,7 +10,7 @@ ghost use Rattle.tftp_wire.specs.Borrowed.{owned};
 ghost use Rattle.tftp_wire.specs.declared.packet.Packet.{Packet};
 
 use crate::action::Action;
-use crate::decoding::{decode_packet, has_error_opcode};
+use crate::decoding::decode_packet;
 use crate::endpoint::Endpoint;
 use crate::error_reply::ErrorReply;
 use crate::fault::EndFault;
@@ -24,7 +24,7 @@ use crate::side::Side;
 use crate::waiting::{reader_action, writer_action};
 use std::marker::Model;
 use tftp_file::{Files, Sink, Source};
-use tftp_wire::{Mode, PacketRef};
+use tftp_wire::{Mode, PacketRef, has_error_opcode};
 
 /// One end of a transfer.
 ///

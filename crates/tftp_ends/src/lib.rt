@@ -28,7 +28,7 @@ mod waiting;
 
 pub use action::Action;
 pub use config::EndConfig;
-pub use decoding::{decode_packet, has_error_opcode};
+pub use decoding::decode_packet;
 pub use end::End;
 pub use endpoint::Endpoint;
 pub use error_reply::ErrorReply;

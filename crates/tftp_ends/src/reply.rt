@@ -1,53 +1,13 @@
-//! The datagrams that an end makes itself: an ACK, an ERROR, and the front of a DATA.
+//! The ERRORs that an end sends: the same bytes each time.
 
-ghost use Rattle.std.specs.Prelude.{◌≡◌, ◌+◌, ◌≤◌, ◌++◌, [], vec_len, vec_capacity, IsOk, OnOk, OnErr};
-ghost use Rattle.byteorder.specs.Endian.{big_bytes};
-ghost use Rattle.tftp_ends.specs.Step.{ack_bytes, data_bytes, error_bytes};
+ghost use Rattle.std.specs.Prelude.{◌≡◌, ◌++◌, OnOk, OnErr};
+ghost use Rattle.tftp_ends.specs.Step.{error_bytes};
 
 use crate::error_reply::ErrorReply;
-use byteorder::{BigEndian, ByteOrder};
 use std::alloc::AllocError;
-
-/// The opcodes (RFC 1350, section 5).
-const DATA: u16 = 3;
-
-const ACK: u16 = 4;
-
-/// The bytes of an ACK, and of a DATA's opcode and number.
-pub(crate) const HEADER: usize = 4;
 
 /// No ERROR that is sent is longer, in bytes.
 pub(crate) const MAX_ERROR: usize = 24;
-
-/// Two numbers of two bytes each.
-fn header(opcode: u16, number: u16) -> [u8; 4]
-    ensures { result ≡ big_bytes 2 opcode ++ big_bytes 2 number }
-{
-    let mut bytes = [0; HEADER];
-    BigEndian::write_u16(&mut bytes, opcode);
-    BigEndian::write_u16(&mut bytes[2..], number);
-    bytes
-}
-
-/// Appends an ACK.
-pub(crate) fn append_ack(out: &mut Vec<u8>, number: u16) -> Result<(), AllocError>
-    ensures ok { OnOk result (out.new.items ≡ out.old.items ++ ack_bytes number) }
-    ensures err { OnErr result (out.new.items ≡ out.old.items) }
-    ensures room { vec_len out.old + 4 ≤ vec_capacity out.old → IsOk result }
-    ensures capacity { vec_capacity out.old ≤ vec_capacity out.new }
-{
-    out.extend_from_slice(&header(ACK, number))
-}
-
-/// Appends a DATA without its bytes.
-pub(crate) fn append_data_header(out: &mut Vec<u8>, number: u16) -> Result<(), AllocError>
-    ensures ok { OnOk result (out.new.items ≡ out.old.items ++ data_bytes number []) }
-    ensures err { OnErr result (out.new.items ≡ out.old.items) }
-    ensures room { vec_len out.old + 4 ≤ vec_capacity out.old → IsOk result }
-    ensures capacity { vec_capacity out.old ≤ vec_capacity out.new }
-{
-    out.extend_from_slice(&header(DATA, number))
-}
 
 impl ErrorReply {
     /// The ERROR as it is sent.

@@ -1,6 +1,7 @@
 -- The values that an option may have (RFC 2348; RFC 2349).
 use Rattle.std.specs.Prelude.{ℕ, ◌≤◌, Bool, ◌&&◌, nat_le}
-use Rattle.tftp_negotiate.specs.declared.limits.TheConstants.{MIN_BLOCK, MAX_BLOCK, MIN_TIMEOUT, MAX_TIMEOUT}
+use Rattle.tftp_wire.specs.declared.limits.TheConstants.{MAX_BLOCK}
+use Rattle.tftp_negotiate.specs.declared.limits.TheConstants.{MIN_BLOCK, MIN_TIMEOUT, MAX_TIMEOUT}
 
 -- the numbers from the one bound to the other, both included
 pub record Range : Type 0 where

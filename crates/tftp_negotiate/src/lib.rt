@@ -28,9 +28,9 @@ pub use answer::{accept, accept_ref};
 pub use asked::Asked;
 pub use known::{Kind, Known};
 pub use limits::{
-    DEFAULT_BLOCK, Limits, MAX_BLOCK, MAX_TIMEOUT, MIN_BLOCK, MIN_TIMEOUT, is_block_size,
-    is_timeout,
+    DEFAULT_BLOCK, Limits, MAX_TIMEOUT, MIN_BLOCK, MIN_TIMEOUT, is_block_size, is_timeout,
 };
 pub use name::Name;
 pub use oack::{check_oack, check_oack_ref};
 pub use refusal::Refusal;
+pub use tftp_wire::MAX_BLOCK;

@@ -3,11 +3,10 @@
 ghost use Rattle.std.specs.Prelude.{◌↔◌, IsTrue};
 ghost use Rattle.tftp_negotiate.specs.Ranges.{IsBlockSize, IsTimeout};
 
+use tftp_wire::MAX_BLOCK;
+
 /// The least block size, in data bytes (RFC 2348, "Blocksize Option Specification").
 pub const MIN_BLOCK: u16 = 8;
-
-/// The greatest block size, in data bytes (RFC 2348, "Blocksize Option Specification").
-pub const MAX_BLOCK: u16 = 65_464;
 
 /// The block size where none is agreed, in data bytes (RFC 1350, section 2).
 pub const DEFAULT_BLOCK: u16 = 512;

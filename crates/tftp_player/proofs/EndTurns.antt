@@ -14,7 +14,8 @@ use Rattle.tftp_ends.specs.declared.phase.Terms.{Terms}
 use Rattle.tftp_ends.specs.declared.action.Action.{Action}
 use Rattle.tftp_ends.specs.declared.action.Action.TheVariants.{Ignore, Stranger, Retransmit, Close}
 use Rattle.tftp_ends.specs.End.{is_sender, is_client, terms_of, outcome_of}
-use Rattle.tftp_ends.specs.Action.{same_address, same_endpoint, has_error_opcode, is_stranger, garbled_action, packet_action, datagram_action, timeout_action}
+use Rattle.tftp_ends.specs.Action.{same_address, same_endpoint, is_stranger, garbled_action, packet_action, datagram_action, timeout_action}
+use Rattle.tftp_wire.specs.Reading.{has_error_opcode}
 use Rattle.tftp_ends.specs.Step.{action_turn, after}
 use Rattle.tftp_ends.specs.Waiting.{reader_action, writer_action}
 use Rattle.tftp_player.specs.Machine.{Endpoint, server_ip, Message}

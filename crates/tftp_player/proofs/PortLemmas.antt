@@ -16,7 +16,7 @@ use Rattle.tftp_ends.specs.declared.error_reply.ErrorReply.{ErrorReply}
 use Rattle.tftp_ends.specs.declared.error_reply.ErrorReply.TheVariants.{FileTooLarge, ServerBusy}
 use Rattle.tftp_ends.specs.declared.side.Side.TheVariants.{ServerRead}
 use Rattle.tftp_ends.specs.End.{EndState}
-use Rattle.tftp_ends.specs.Action.{has_error_opcode}
+use Rattle.tftp_wire.specs.Reading.{has_error_opcode}
 use Rattle.tftp_server.specs.State.{Held, ServerState, at, with_new}
 use Rattle.tftp_server.specs.Store.{Stored, Drafted, measured}
 use Rattle.tftp_player.specs.Machine.{Endpoint, request_port, server_ip}

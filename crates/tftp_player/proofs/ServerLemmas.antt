@@ -11,7 +11,7 @@ use Rattle.tftp_wire.specs.declared.packet.Packet.{Packet}
 use Rattle.tftp_wire.specs.declared.packet.Packet.TheVariants.{Read, Write, Data, Ack, Error, Oack}
 use Rattle.tftp_wire.specs.declared.packet.Request.{Request}
 use Rattle.tftp_wire.specs.Parts.{packet_in}
-use Rattle.tftp_wire.specs.Reading.{first_fault}
+use Rattle.tftp_wire.specs.Reading.{first_fault, has_error_opcode}
 use Rattle.tftp_wire.specs.Spelling.{canonical}
 use Rattle.tftp_wire.specs.declared.fault.PacketFault.{PacketFault}
 use Rattle.tftp_wire.proofs.SpellingLemmas.{fine_spells}
@@ -37,7 +37,7 @@ use Rattle.tftp_ends.specs.declared.error_reply.ErrorReply.{ErrorReply}
 use Rattle.tftp_ends.specs.declared.error_reply.ErrorReply.TheVariants.{FileTooLarge, ServerBusy}
 use Rattle.tftp_ends.specs.End.{EndState}
 use Rattle.tftp_ends.specs.Opening.{ServesRead, serving}
-use Rattle.tftp_ends.specs.Action.{Decodes, has_error_opcode}
+use Rattle.tftp_ends.specs.Action.{Decodes}
 use Rattle.tftp_ends.specs.Step.{block_length, data_bytes, result_count_is}
 use Rattle.tftp_ends.specs.Waiting.{default_terms, agreed_terms}
 use Rattle.tftp_server.specs.Request.{Asking, Left, refusing, silent, opening, accept_reply, AnswersRead, ReadsFrom, Names, PortStep, RequestStep, SupportedStep, supported, supported_read}

@@ -29,7 +29,7 @@ use Rattle.tftp_file.specs.Path.{path_of_name}
 use Rattle.tftp_ends.specs.declared.error_reply.ErrorReply.{ErrorReply}
 use Rattle.tftp_ends.specs.declared.error_reply.ErrorReply.TheVariants.{FileTooLarge, ServerBusy, FileNotFound, AccessViolation, IllegalOperation, FileExists}
 use Rattle.tftp_ends.specs.ErrorReply.{error_packet}
-use Rattle.tftp_ends.specs.Action.{has_error_opcode}
+use Rattle.tftp_wire.specs.Reading.{has_error_opcode}
 use Rattle.tftp_ends.specs.Step.{error_bytes}
 use Rattle.tftp_server.specs.Store.{measured}
 use Rattle.tftp_player.specs.Machine.{Endpoint, Elsewhere, host_of, server_ip, client_ip, request_port, Request as Says_request, Oack as Says_oack}

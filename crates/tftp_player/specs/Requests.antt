@@ -15,7 +15,7 @@ use Rattle.tftp_file.specs.Path.{path_of_name}
 use Rattle.tftp_ends.specs.declared.error_reply.ErrorReply.{ErrorReply}
 use Rattle.tftp_ends.specs.declared.error_reply.ErrorReply.TheVariants.{FileTooLarge, ServerBusy, FileNotFound, AccessViolation, DiskFull, IllegalOperation, FileExists, OptionRefused}
 use Rattle.tftp_ends.specs.End.{is_client}
-use Rattle.tftp_ends.specs.Action.{has_error_opcode}
+use Rattle.tftp_wire.specs.Reading.{has_error_opcode}
 use Rattle.tftp_server.specs.Store.{measured}
 use Rattle.tftp_player.specs.World.{WorldState, OpenedEnd, file_at, is_closed}
 

@@ -26,7 +26,8 @@ use Rattle.tftp_ends.specs.declared.phase.Terms.{Terms}
 use Rattle.tftp_ends.specs.declared.side.Side.TheVariants.{ServerWrite}
 use Rattle.tftp_ends.specs.End.{EndState}
 use Rattle.tftp_ends.specs.Opening.{ServesRead, CannotStart}
-use Rattle.tftp_ends.specs.Action.{Decodes, has_error_opcode}
+use Rattle.tftp_ends.specs.Action.{Decodes}
+use Rattle.tftp_wire.specs.Reading.{has_error_opcode}
 use Rattle.tftp_ends.specs.Step.{ack_bytes, error_bytes}
 use Rattle.tftp_ends.specs.Waiting.{default_terms, agreed_terms}
 use Rattle.tftp_file.specs.Memory.{MemSinkState}

@@ -3,6 +3,7 @@
 ghost use Rattle.std.specs.Prelude.{◌↔◌, IsTrue};
 ghost use Rattle.tftp_server.specs.Config.{IsConfig};
 
+use tftp_file::MAX_WIRE;
 use tftp_negotiate::{Limits, MAX_BLOCK, MIN_BLOCK};
 
 /// Most retries of an end.
@@ -49,7 +50,7 @@ impl Default for Config {
         Config {
             limits: Limits {
                 max_block: 1_428,
-                max_file: 4_290_183_239,
+                max_file: MAX_WIRE,
             },
             retries: 5,
             cap: 16,

@@ -21,7 +21,8 @@ use crate::table::Table;
 use crate::transfer::Transfer;
 use std::alloc::Global;
 use std::marker::Model;
-use tftp_ends::{Endpoint, Record, Step, has_error_opcode};
+use tftp_ends::{Endpoint, Record, Step};
+use tftp_wire::has_error_opcode;
 
 /// A server: what it is set to, its store and the transfers that it holds.
 ///

@@ -12,9 +12,10 @@ use crate::endpoint::Endpoint;
 use crate::error_reply::ErrorReply;
 use crate::outgoing::Outgoing;
 use crate::phase::Phase;
-use crate::reply::{MAX_ERROR, append_ack};
+use crate::reply::MAX_ERROR;
 use std::alloc::AllocError;
 use tftp_file::{Files, Sink, Source};
+use tftp_wire::append_ack;
 
 /// The bytes of a DATA behind its opcode and number.
 fn piece_of(bytes: &[u8]) -> &[u8]

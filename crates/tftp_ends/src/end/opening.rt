@@ -2,7 +2,6 @@
 
 ghost use Rattle.std.specs.Prelude.{◌≡◌, ◌↔◌, ◌++◌, ◌+◌, ◌*◌, ◌<◌, ◌≤◌, ◌⊎◌, IsTrue, IfOk, IfErr, OnOk, OnErr, IsErrOf, length, vec_capacity};
 ghost use Rattle.tftp_wire.specs.Spelling.{canonical};
-ghost use Rattle.tftp_wire.specs.Texts.{IsText};
 ghost use Rattle.tftp_wire.specs.declared.mode.Mode.TheVariants.{Octet};
 ghost use Rattle.tftp_wire.specs.declared.packet.Packet.TheVariants.{Read};
 ghost use Rattle.tftp_ends.specs.Files.{AreFilesOf, KeepsFiles, AreSame};
@@ -16,17 +15,16 @@ use crate::endpoint::Endpoint;
 use crate::fault::OpenFault;
 use crate::phase::Phase;
 use crate::record::Step;
-use crate::reply::HEADER;
 use crate::side::Side;
 use crate::waiting::{DEFAULT_BLOCK_SIZE, default_terms};
 use std::alloc::Global;
 use tftp_file::{Files, Sink, Source};
 use tftp_negotiate::{Agreed, Asked};
-use tftp_wire::{Bytes, Mode, Packet, RawOptions, Request, encode};
+use tftp_wire::{HEADER, MAX_REQUEST, Mode, append_read, is_text};
 
 /// The longest name of a request in octet without options, in bytes: with its opcode, two zero bytes
-/// and the word of its mode it makes 512.
-const MAX_NAME: usize = 503;
+/// and the five letters of its mode it makes the longest request.
+const MAX_NAME: usize = MAX_REQUEST - 9;
 
 /// What an opening tells: one datagram, which is no progress yet.
 fn opening_step(to: Endpoint) -> Step
@@ -37,12 +35,6 @@ fn opening_step(to: Endpoint) -> Step
         progress: false,
         closed: None,
     }
-}
-
-fn is_text(bytes: &[u8]) -> bool
-    ensures { IsTrue result ↔ IsText bytes.now }
-{
-    bytes.iter().all(|byte| *byte != 0)
 }
 
 fn is_nothing(asked: &Asked) -> bool
@@ -69,15 +61,8 @@ fn request_bytes(alloc: Global, name: &[u8]) -> Result<Vec<u8>, OpenFault>
     ensures room { IfOk result (λ v. 4 ≤ vec_capacity v) }
     ensures memory { IfErr result (λ fault. fault ≡ OpenFault.Memory) }
 {
-    let packet = Packet::Read(Request {
-        name: Bytes::from_slice(alloc, name)?,
-        mode: Mode::Octet,
-        options: RawOptions::from(Vec::new(alloc)),
-    });
     let mut bytes = Vec::new(alloc);
-    if encode(&packet, &mut bytes).is_err() {
-        return Err(OpenFault::Memory);
-    }
+    append_read(&mut bytes, name, Mode::Octet)?;
     bytes.reserve(HEADER)?;
     Ok(bytes)
 }

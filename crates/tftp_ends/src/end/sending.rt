@@ -13,10 +13,10 @@ use crate::error_reply::ErrorReply;
 use crate::outcome::Outcome;
 use crate::outgoing::Outgoing;
 use crate::phase::{Phase, Terms};
-use crate::reply::{HEADER, append_data_header};
 use std::alloc::AllocError;
 use std::mem;
 use tftp_file::{FileFault, Source};
+use tftp_wire::{HEADER, append_data_header};
 
 /// How many bytes DATA of this number carries, of a file of that length.
 pub(crate) fn block_length(length: u64, size: u16, number: u16) -> usize
