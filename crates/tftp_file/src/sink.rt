@@ -28,8 +28,8 @@ pub trait Sink {
 
     /// Puts the bytes at the end of what is held.
     ///
-    /// After `Memory` nothing has changed. After `Full` or `Io` nothing has changed, or some first of
-    /// the bytes have been added, or none, and what is held is not committed.
+    /// After `Memory` nothing has changed. After another fault either nothing has changed, or a
+    /// beginning of the bytes has been added, perhaps none, and what is held is not committed.
     fn append(&mut self, bytes: &[u8]) -> Result<(), StoreFault>
         ensures appends { Appends (held self.old) (held self.new) bytes.now result }
         ensures refused { IfErr result (may_refuse_append self.old bytes.now) }
