@@ -29,7 +29,7 @@ pub(crate) struct Script {
 }
 
 /// A line on which something happens.
-#[derive(Debug, Drop)]
+#[derive(Drop)]
 pub(crate) enum Statement {
     /// A client asks for the server's file of this name.
     Get {
@@ -46,7 +46,7 @@ pub(crate) enum Statement {
 }
 
 /// Why a script cannot be played.
-#[derive(Clone, Copy, Debug, PartialEq, Eq)]
+#[derive(Clone, Copy, Debug)]
 pub(crate) enum ScriptFault {
     /// The first faulty line, counted from 1.
     Line(usize),

@@ -13,7 +13,7 @@ use std::fmt;
 use std::io::{self, ErrorKind, Write};
 
 /// Why a script was not played to its end.
-#[derive(Clone, Copy, Debug, PartialEq, Eq)]
+#[derive(Clone, Copy)]
 pub(crate) enum PlayFault {
     /// The script could not be opened or read.
     Unreadable,
@@ -29,8 +29,8 @@ impl PlayFault {
     /// The fault where opening or reading a script gave this error.
     pub(crate) fn of_reading(error: &io::Error) -> PlayFault
         ensures memory { error_kind error.now ≡ ErrorKind.OutOfMemory → result ≡ Memory }
-        ensures either { (result ≡ Memory) ⊎ (result ≡ Unreadable) }
         ensures unreadable { error_kind error.now ≢ ErrorKind.OutOfMemory → result ≡ Unreadable }
+        ensures either { (result ≡ Memory) ⊎ (result ≡ Unreadable) }
     {
         if is_out_of_memory(error) {
             PlayFault::Memory

@@ -15,7 +15,7 @@ use tftp_file::{Path, PathFault, path_of};
 use tftp_wire::Bytes;
 
 /// Why a line is refused.
-#[derive(Clone, Copy, Debug, PartialEq, Eq)]
+#[derive(Clone, Copy)]
 pub(crate) enum LineFault {
     /// It is no line of the language, or stands where it may not.
     Faulty,
