@@ -24,8 +24,8 @@ pub fn show_command<R: Runtime + AllocGlobal>(rt: &R) -> u8
     }
 }
 
-/// Runs `tftp-play` with the program's own command line, and returns its status. `errors` is standard
-/// error.
+/// Runs `tftp-play` with the program's own command line, and returns its status. `errors` is
+/// standard error.
 ///
 /// See [`play_words`].
 pub fn play_command<R: Runtime + AllocGlobal, E: Write + Drop>(rt: &R, errors: E) -> u8
@@ -46,11 +46,11 @@ fn own_words<R: Runtime + AllocGlobal>(rt: &R) -> Result<Vec<String>> {
     Ok(words)
 }
 
-/// Runs `tftp-show` over standard input and output, as a command line says, and returns its status. The
-/// first word is the program's name.
+/// Runs `tftp-show` over standard input and output, as a command line says, and returns its status.
+/// The first word is the program's name.
 ///
-/// `--help` and `--version` print and return 0. A command line that is not understood is reported on
-/// standard error with status 2. Out of memory is status 2 too.
+/// `--help` and `--version` print and return 0. A command line that is not understood is reported
+/// on standard error with status 2. Out of memory is status 2 too.
 pub fn show_words<R: Runtime + AllocGlobal, S: AsStr>(rt: &R, words: &[S]) -> u8
     ensures { result ≤ 2 }
 {
@@ -63,12 +63,12 @@ pub fn show_words<R: Runtime + AllocGlobal, S: AsStr>(rt: &R, words: &[S]) -> u8
     }
 }
 
-/// Runs `tftp-play` over the script that a command line names, or standard input where it names none, and
-/// standard output, and returns its status. The first word is the program's name, `errors` is standard
-/// error.
+/// Runs `tftp-play` as a command line says, and returns its status. The first word is the program's
+/// name. The script is the file that the second names, or standard input; `errors` is standard error.
 ///
-/// `--help` and `--version` print and return 0. A command line that is not understood and a script that
-/// cannot be opened or read are reported on standard error with status 2. Out of memory is status 2 too.
+/// `--help` and `--version` print and return 0. A command line that is not understood and a script
+/// that cannot be opened or read are reported on standard error with status 2. Out of memory is
+/// status 2 too.
 pub fn play_words<R: Runtime + AllocGlobal, S: AsStr, E: Write + Drop>(
     rt: &R,
     words: &[S],
@@ -94,7 +94,7 @@ fn play_syntax<'a>(alloc: Global) -> Result<Command<'a>, AllocError> {
         .arg(script)
 }
 
-/// Prints the help, the version or what is wrong with a command line, and returns the status for it.
+/// Prints the help, the version or what is wrong with a command line, and returns its status.
 fn print_usage<R: Print + Eprint>(rt: &R, error: &clap::Error) -> u8
     ensures { result ≤ 2 }
 {

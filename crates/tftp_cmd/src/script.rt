@@ -29,7 +29,7 @@ pub(crate) struct Script {
 }
 
 /// A line on which something happens.
-#[derive(Debug, Drop)]
+#[derive(Drop)]
 pub(crate) enum Statement {
     /// A client asks for the server's file of this name.
     Get {
@@ -46,7 +46,7 @@ pub(crate) enum Statement {
 }
 
 /// Why a script cannot be played.
-#[derive(Clone, Copy, Debug, PartialEq, Eq)]
+#[derive(Clone, Copy, Debug)]
 pub(crate) enum ScriptFault {
     /// The first faulty line, counted from 1.
     Line(usize),
@@ -55,8 +55,8 @@ pub(crate) enum ScriptFault {
 }
 
 impl Script {
-    /// Reads a whole script: lines that end in LF, each of words that are parted by one space. Empty
-    /// lines and lines that begin with `#` say nothing.
+    /// Reads a whole script: lines that end in LF, each of words that are parted by one space.
+    /// Empty lines and lines that begin with `#` say nothing.
     ///
     /// `Line` names the first line that is none of the language's, or that no LF ends.
     pub(crate) fn parse(alloc: Global, text: &[u8]) -> Result<Script, ScriptFault> {
@@ -66,7 +66,7 @@ impl Script {
             statements: Vec::new(alloc),
         };
         for (place, line) in text.split_inclusive(|byte| *byte == b'\n').enumerate() {
-            match script.take_line(alloc, line) {
+            match script.parse_line(alloc, line) {
                 Ok(()) => {}
                 Err(LineFault::Faulty) => return Err(ScriptFault::Line(place + 1)),
                 Err(LineFault::Memory) => return Err(ScriptFault::Memory),

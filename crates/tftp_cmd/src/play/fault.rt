@@ -2,7 +2,10 @@
 
 ghost use Rattle.std.specs.Prelude.{◌≡◌, ◌≢◌, ◌⊎◌, IsTrue, ◌↔◌};
 ghost use Rattle.std.specs.IoError.{error_kind};
+ghost use Rattle.std.specs.declared.io.ErrorKind.TheVariants as error_kinds;
 ghost use Rattle.tftp_cmd.specs.declared.play.fault.PlayFault.TheVariants.{Memory, Unreadable};
+ghost use Rattle.tftp_cmd.specs.declared.play.fault.PlayFault.TheVariants.{Unwritable};
+ghost use Rattle.tftp_cmd.specs.Play.{play_fault_of};
 
 use crate::script::ScriptFault;
 use std::alloc::AllocError;
@@ -10,7 +13,7 @@ use std::fmt;
 use std::io::{self, ErrorKind, Write};
 
 /// Why a script was not played to its end.
-#[derive(Clone, Copy, Debug, PartialEq, Eq)]
+#[derive(Clone, Copy)]
 pub(crate) enum PlayFault {
     /// The script could not be opened or read.
     Unreadable,
@@ -26,8 +29,8 @@ impl PlayFault {
     /// The fault where opening or reading a script gave this error.
     pub(crate) fn of_reading(error: &io::Error) -> PlayFault
         ensures memory { error_kind error.now ≡ ErrorKind.OutOfMemory → result ≡ Memory }
-        ensures either { (result ≡ Memory) ⊎ (result ≡ Unreadable) }
         ensures unreadable { error_kind error.now ≢ ErrorKind.OutOfMemory → result ≡ Unreadable }
+        ensures either { (result ≡ Memory) ⊎ (result ≡ Unreadable) }
     {
         if is_out_of_memory(error) {
             PlayFault::Memory
@@ -62,6 +65,8 @@ impl fmt::Display for PlayFault {
 }
 
 impl From<ScriptFault> for PlayFault {
+    ghost from_gives = { λ script_fault fault. fault ≡ play_fault_of script_fault };
+
     fn from(fault: ScriptFault) -> PlayFault {
         match fault {
             ScriptFault::Line(number) => PlayFault::Line(number),
@@ -71,6 +76,8 @@ impl From<ScriptFault> for PlayFault {
 }
 
 impl From<AllocError> for PlayFault {
+    ghost from_gives = { λ _ fault. fault ≡ Memory };
+
     fn from(_error: AllocError) -> PlayFault {
         PlayFault::Memory
     }
@@ -78,6 +85,10 @@ impl From<AllocError> for PlayFault {
 
 /// The fault where writing gave this error.
 impl From<io::Error> for PlayFault {
+    ghost from_gives = { λ error fault.
+        (error_kind error ≡ error_kinds.OutOfMemory → fault ≡ Memory)
+        × (error_kind error ≢ error_kinds.OutOfMemory → fault ≡ Unwritable) };
+
     fn from(error: io::Error) -> PlayFault {
         if is_out_of_memory(&error) {
             PlayFault::Memory

@@ -6,11 +6,17 @@ use crate::script::word::text;
 /// The first word of a line, which decides what its other words are.
 #[derive(Clone, Copy)]
 pub(crate) enum Keyword {
+    /// A number of the configuration.
     Set,
+    /// A file of the server.
     File,
+    /// A client that asks for a file.
     Get,
+    /// A datagram that arrives.
     Deliver,
+    /// An end that has waited long enough.
     Timeout,
+    /// Datagrams that arrive one after another.
     Settle,
 }
 

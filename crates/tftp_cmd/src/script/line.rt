@@ -1,6 +1,8 @@
 //! What one line of a script says.
 
-ghost use Rattle.std.specs.Prelude.{◌≡◌, is_some};
+ghost use Rattle.std.specs.Prelude.{◌≡◌, ◌≢◌, is_some};
+ghost use Rattle.tftp_cmd.specs.declared.script.line.LineFault.TheVariants.{Faulty, Memory};
+ghost use Rattle.tftp_file.specs.declared.path.PathFault.TheVariants as path_faults;
 ghost use Rattle.tftp_server.specs.Memory.{contents};
 ghost use Rattle.tftp_server.specs.Store.{file_at};
 
@@ -12,29 +14,30 @@ use std::str::FromStr;
 use tftp_file::{Path, PathFault, path_of};
 use tftp_wire::Bytes;
 
-/// Why a line is not taken.
-#[derive(Clone, Copy, Debug, PartialEq, Eq)]
+/// Why a line is refused.
+#[derive(Clone, Copy)]
 pub(crate) enum LineFault {
-    /// It is no line of the language, or does not stand at this place.
+    /// It is no line of the language, or stands where it may not.
     Faulty,
     /// An allocation failed; the line is not at fault.
     Memory,
 }
 
 impl Script {
-    /// Takes one line with its line feed.
-    pub(crate) fn take_line(&mut self, alloc: Global, line: &[u8]) -> Result<(), LineFault> {
+    /// Reads one line with its line feed, and adds what it says.
+    pub(crate) fn parse_line(&mut self, alloc: Global, line: &[u8]) -> Result<(), LineFault> {
         match line {
             [b'\n'] | [b'#', .., b'\n'] => Ok(()),
             [line @ .., b'\n'] => {
                 let words: Vec<&[u8]> = line.split(|byte| *byte == b' ').collect(alloc)?;
-                self.take_words(alloc, words.as_slice())
+                self.parse_words(alloc, words.as_slice())
             }
             _ => Err(LineFault::Faulty),
         }
     }
 
-    fn take_words(&mut self, alloc: Global, words: &[&[u8]]) -> Result<(), LineFault> {
+    /// Reads the words of a line, of which none may be empty.
+    fn parse_words(&mut self, alloc: Global, words: &[&[u8]]) -> Result<(), LineFault> {
         let [first, arguments @ ..] = words else {
             return Err(LineFault::Faulty);
         };
@@ -43,8 +46,8 @@ impl Script {
         }
         match Keyword::of_word(first)? {
             Keyword::Set | Keyword::File if !self.statements.is_empty() => Err(LineFault::Faulty),
-            Keyword::Set => self.set(arguments),
-            Keyword::File => self.take_file(alloc, arguments),
+            Keyword::Set => self.parse_setting(arguments),
+            Keyword::File => self.parse_file(alloc, arguments),
             Keyword::Get => self.push(get(alloc, arguments)?),
             Keyword::Deliver => self.push(Statement::Deliver(only_number(arguments)?)),
             Keyword::Timeout => self.push(Statement::Timeout(only_number(arguments)?)),
@@ -53,7 +56,7 @@ impl Script {
     }
 
     /// `set NAME N`: sets a number of the configuration.
-    fn set(&mut self, arguments: &[&[u8]]) -> Result<(), LineFault> {
+    fn parse_setting(&mut self, arguments: &[&[u8]]) -> Result<(), LineFault> {
         let [name, value] = arguments else {
             return Err(LineFault::Faulty);
         };
@@ -73,14 +76,14 @@ impl Script {
     }
 
     /// `file NAME CONTENT`: adds a file of the server.
-    fn take_file(&mut self, alloc: Global, arguments: &[&[u8]]) -> Result<(), LineFault> {
+    fn parse_file(&mut self, alloc: Global, arguments: &[&[u8]]) -> Result<(), LineFault> {
         let [name, bytes] = arguments else {
             return Err(LineFault::Faulty);
         };
         self.add_file(path_of(alloc, name)?, content(alloc, bytes)?)
     }
 
-    /// Adds a file of the server, whose path is to be new.
+    /// Adds a file of the server, at a path that no other has.
     fn add_file(&mut self, path: Path, bytes: Vec<u8>) -> Result<(), LineFault> {
         if has_path(self.files.as_slice(), &path) {
             return Err(LineFault::Faulty);
@@ -125,18 +128,26 @@ fn has_path(files: &[(Path, Vec<u8>)], path: &Path) -> bool
 }
 
 impl From<AllocError> for LineFault {
+    ghost from_gives = { λ _ fault. fault ≡ Memory };
+
     fn from(_error: AllocError) -> LineFault {
         LineFault::Memory
     }
 }
 
 impl<T: Drop> From<AllocFailed<T>> for LineFault {
+    ghost from_gives = { λ _ fault. fault ≡ Memory };
+
     fn from(_error: AllocFailed<T>) -> LineFault {
         LineFault::Memory
     }
 }
 
 impl From<PathFault> for LineFault {
+    ghost from_gives = { λ path_fault fault.
+        (path_fault ≡ path_faults.Memory → fault ≡ Memory)
+        × (path_fault ≢ path_faults.Memory → fault ≡ Faulty) };
+
     fn from(fault: PathFault) -> LineFault {
         match fault {
             PathFault::Memory => LineFault::Memory,

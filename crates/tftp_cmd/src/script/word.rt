@@ -1,6 +1,8 @@
 //! What single words of a script mean.
 
-ghost use Rattle.std.specs.Prelude.{◌≡◌, ◌≤◌, IfOk, vec_len};
+ghost use Rattle.std.specs.Prelude.{◌≡◌, ◌≢◌, ◌≤◌, IfOk, vec_len};
+ghost use Rattle.hex.specs.declared.error.FromHexError.TheVariants as hex_faults;
+ghost use Rattle.tftp_cmd.specs.declared.script.line.LineFault.TheVariants.{Faulty, Memory};
 ghost use Rattle.tftp_negotiate.specs.Asked.{IsAskable};
 ghost use Rattle.tftp_wire.specs.Modes.{mode_word};
 
@@ -100,6 +102,10 @@ pub(crate) fn text(word: &[u8]) -> Result<&str, LineFault>
 }
 
 impl From<FromHexError> for LineFault {
+    ghost from_gives = { λ hex_fault fault.
+        (hex_fault ≡ hex_faults.OutOfMemory → fault ≡ Memory)
+        × (hex_fault ≢ hex_faults.OutOfMemory → fault ≡ Faulty) };
+
     fn from(error: FromHexError) -> LineFault {
         match error {
             FromHexError::OutOfMemory => LineFault::Memory,
