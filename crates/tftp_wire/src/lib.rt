@@ -16,8 +16,6 @@ mod options;
 mod owned;
 mod packet;
 mod reader;
-#[cfg(test)]
-mod tests;
 mod text;
 mod writer;
 
