@@ -1,3 +1,4 @@
+pub mod Lending
 pub mod ReadingBlocks
 pub mod Sending
 pub mod Storing

@@ -1,20 +1,22 @@
 -- A receiver's step, from what its sink made of a block in octet.
-use Rattle.std.proofs.Common.{◌≡◌, ℕ, Bool, true, false, ltb, List, ◌++◌, length, Option, Some, Result, Ok, Err, refl, sym, ap, subst, ◌∙◌}
+use Rattle.std.proofs.Common.{◌≡◌, ℕ, Bool, true, false, ltb, List, length, Option, Some, Result, Ok, Err, refl, sym, ap, subst, ◌∙◌}
 use Rattle.tftp_wire.specs.declared.mode.Mode.{Mode}
 use Rattle.tftp_wire.specs.declared.mode.Mode.TheVariants.{Octet}
 use Rattle.tftp_file.specs.Sink.{Holding}
 use Rattle.tftp_file.specs.declared.fault.StoreFault.{StoreFault}
-use Rattle.tftp_ends.specs.declared.end.acting.BlockStored.{BlockStored}
-use Rattle.tftp_ends.specs.declared.end.acting.BlockStored.TheVariants.{More, All, Refused}
+use Rattle.tftp_ends.specs.declared.end.storing.BlockStored.{BlockStored}
+use Rattle.tftp_ends.specs.declared.end.storing.BlockStored.TheVariants.{More, All, Refused}
 use Rattle.tftp_ends.specs.declared.endpoint.Endpoint.{Endpoint}
 use Rattle.tftp_ends.specs.declared.error_reply.ErrorReply.{ErrorReply}
 use Rattle.tftp_ends.specs.declared.outcome.Outcome.TheVariants as outcomes
+use Rattle.tftp_ends.specs.declared.outgoing.Outgoing.{Outgoing}
+use Rattle.tftp_ends.specs.declared.outgoing.Outgoing.TheVariants.{LastSent, Error}
 use Rattle.tftp_ends.specs.declared.phase.Dally.TheVariants.{Fresh}
 use Rattle.tftp_ends.specs.declared.phase.Phase.TheVariants.{Receiving, Dallying}
 use Rattle.tftp_ends.specs.declared.phase.Terms.{Terms}
 use Rattle.tftp_ends.specs.End.{EndState}
 use Rattle.tftp_ends.specs.Phase.{refused}
-use Rattle.tftp_ends.specs.Step.{Done, Turn, Stores, GoesOn, Carries, in_phase, having_sent, ack_bytes, error_bytes, sent_turn, refused_turn, committed_turn}
+use Rattle.tftp_ends.specs.Step.{Done, Turn, Stores, GoesOn, Lends, in_phase, having_sent, ack_bytes, sent_turn, refused_turn, committed_turn}
 use Rattle.tftp_ends.specs.BlockStored.{StoresBlock, StoresOn, committed_as}
 use Rattle.tftp_ends.specs.Text.{Decoded}
 
@@ -22,7 +24,7 @@ use Rattle.tftp_ends.specs.Text.{Decoded}
 octet_decoded : (mode : Mode) (held piece : List ℕ) → mode ≡ Octet → Decoded mode held piece piece held
 octet_decoded mode held piece e = subst (λ (m : Mode). Decoded m held piece piece held) (sym e) (refl, refl)
 
-module _ {K : Type 0} (held : K → Option Holding) (may_refuse_append : K → List ℕ → StoreFault → Type 0) (may_refuse_commit : K → StoreFault → Type 0) (terms : Terms) (number : ℕ) (from : Endpoint) (piece : List ℕ) (e : EndState) (octet : e.mode ≡ Octet) (sink sink' : K) (old new : List ℕ) where
+module _ {K : Type 0} (held : K → Option Holding) (may_refuse_append : K → List ℕ → StoreFault → Type 0) (may_refuse_commit : K → StoreFault → Type 0) (terms : Terms) (number : ℕ) (from : Endpoint) (piece : List ℕ) (e : EndState) (octet : e.mode ≡ Octet) (sink sink' : K) where
   -- the turn that this comes to
   abbrev pub stored_turn : BlockStored → Turn
   stored_turn More = sent_turn (Receiving terms number) from (ack_bytes number) e
@@ -33,10 +35,10 @@ module _ {K : Type 0} (held : K → Option Holding) (may_refuse_append : K → L
   abbrev pub StoresNext : BlockStored → Type 0
   StoresNext block_stored = StoresBlock held may_refuse_append may_refuse_commit piece (ltb (length piece) terms.size) sink sink' block_stored
 
-  -- what a receiver does at an action that stores, and what its call carries
-  abbrev pub IsStored : EndState → Type 0
-  IsStored e' =
-      (turn : Turn) × Stores held may_refuse_append may_refuse_commit terms number from piece e sink turn sink' × Carries turn e' (Some from) old new
+  -- what a receiver does at an action that stores, and what its call lends
+  abbrev pub IsStored : EndState → Outgoing → Type 0
+  IsStored e' outgoing =
+      (turn : Turn) × Stores held may_refuse_append may_refuse_commit terms number from piece e sink turn sink' × Lends turn e' (Some from) outgoing
 
   committed : (answer : Result Done StoreFault) → stored_turn (committed_as held may_refuse_append may_refuse_commit answer) ≡ committed_turn terms number from e answer
   committed (Ok done) = refl
@@ -63,13 +65,13 @@ module _ {K : Type 0} (held : K → Option Holding) (may_refuse_append : K → L
       }
 
   -- the block was stored, and more is to come
-  pub stored_more : StoresNext More → (e' : EndState) → new ≡ old ++ ack_bytes number → e' ≡ having_sent (record { to = from; bytes = ack_bytes number }) (in_phase (Receiving terms number) e) → IsStored e'
-  stored_more o e' a s = (stored_turn More, stores More o, record { state = s; goes = refl; appended = a })
+  pub stored_more : StoresNext More → (e' : EndState) → e' ≡ having_sent (record { to = from; bytes = ack_bytes number }) (in_phase (Receiving terms number) e) → IsStored e' LastSent
+  stored_more o e' s = (stored_turn More, stores More o, record { state = s; goes = refl; bytes = ap (λ (x : EndState). x.last_sent) s })
 
   -- the whole was stored and committed
-  pub stored_all : StoresNext All → (e' : EndState) → new ≡ old ++ ack_bytes number → e' ≡ having_sent (record { to = from; bytes = ack_bytes number }) (in_phase (Dallying terms number Fresh) e) → IsStored e'
-  stored_all o e' a s = (stored_turn All, stores All o, record { state = s; goes = refl; appended = a })
+  pub stored_all : StoresNext All → (e' : EndState) → e' ≡ having_sent (record { to = from; bytes = ack_bytes number }) (in_phase (Dallying terms number Fresh) e) → IsStored e' LastSent
+  stored_all o e' s = (stored_turn All, stores All o, record { state = s; goes = refl; bytes = ap (λ (x : EndState). x.last_sent) s })
 
   -- the store has refused
-  pub stored_not : (reply : ErrorReply) → StoresNext (Refused reply) → (e' : EndState) → new ≡ old ++ error_bytes reply → e' ≡ in_phase (refused (Some terms) outcomes.StoreFault e.phase) e → IsStored e'
-  stored_not reply o e' a s = (stored_turn (Refused reply), stores (Refused reply) o, record { state = s; goes = refl; appended = a })
+  pub stored_not : (reply : ErrorReply) → StoresNext (Refused reply) → (e' : EndState) → e' ≡ in_phase (refused (Some terms) outcomes.StoreFault e.phase) e → IsStored e' (Error reply)
+  stored_not reply o e' s = (stored_turn (Refused reply), stores (Refused reply) o, record { state = s; goes = refl; bytes = refl })

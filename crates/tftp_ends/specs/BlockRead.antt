@@ -1,7 +1,7 @@
 -- What came of the wish for a block.
 use Rattle.std.specs.Prelude.{Bool, true, false}
-use Rattle.tftp_ends.specs.declared.end.acting.BlockRead.{BlockRead}
-use Rattle.tftp_ends.specs.declared.end.acting.BlockRead.TheVariants.{Whole, Changed}
+use Rattle.tftp_ends.specs.declared.end.sending.BlockRead.{BlockRead}
+use Rattle.tftp_ends.specs.declared.end.sending.BlockRead.TheVariants.{Whole, Changed}
 
 -- the block came
 abbrev pub is_whole : BlockRead → Bool

@@ -3,8 +3,8 @@ use Rattle.std.specs.Prelude.{◌≡◌, ◌≢◌, Bool, true, false, List, ℕ
 use Rattle.tftp_file.specs.Sink.{Holding, Commits}
 use Rattle.tftp_file.specs.declared.fault.StoreFault.{StoreFault}
 use Rattle.tftp_file.specs.declared.fault.StoreFault.TheVariants.{Memory}
-use Rattle.tftp_ends.specs.declared.end.acting.BlockStored.{BlockStored}
-use Rattle.tftp_ends.specs.declared.end.acting.BlockStored.TheVariants.{More, All, Refused}
+use Rattle.tftp_ends.specs.declared.end.storing.BlockStored.{BlockStored}
+use Rattle.tftp_ends.specs.declared.end.storing.BlockStored.TheVariants.{More, All, Refused}
 use Rattle.tftp_ends.specs.declared.error_reply.ErrorReply.TheVariants.{DiskFull}
 use Rattle.tftp_ends.specs.Step.{Done, Appended, commit_reply}
 

@@ -1,5 +1,5 @@
 -- How an end opens (RFC 1350, section 4; RFC 2347, "Negotiation Protocol").
-use Rattle.std.specs.Prelude.{ℕ, ◌≡◌, ◌≢◌, ◌*◌, ◌<◌, true, false, List, [], ◌∷◌, ◌++◌, Option, Some, None, Result, Ok, Err, Bool}
+use Rattle.std.specs.Prelude.{ℕ, ◌≡◌, ◌≢◌, ◌*◌, ◌<◌, false, List, [], ◌∷◌, Option, Some, None, Result, Ok, Err}
 use Rattle.tftp_wire.specs.Spelling.{IsValid, canonical}
 use Rattle.tftp_wire.specs.declared.mode.Mode.{Mode}
 use Rattle.tftp_wire.specs.declared.mode.Mode.TheVariants.{Octet}
@@ -118,11 +118,3 @@ module _ {S : Type 0} (left : S → Option (List ℕ)) (may_fail : S → ℕ →
   abbrev pub FilesCannotStart : {K : Type 0} → ℕ → Files S K → Type 0
   FilesCannotStart length (Source source) = CannotStart length source
   FilesCannotStart length (Sink sink) = ⊥
-
--- DATA 1 of a file of that length went out behind what was there, and was kept, or it could not be had and nothing went out
-abbrev pub StartsWith : Option (List ℕ) → Option (List ℕ) → Type 0 → ℕ → List ℕ → List ℕ → List ℕ → Bool → Type 0
-StartsWith before after may_fail length kept old new true =
-    (piece : List ℕ) × Fills before after (block_length length 512 1) [] piece (Ok (block_length length 512 1))
-    × (kept ≡ data_bytes 1 piece) × (new ≡ old ++ data_bytes 1 piece)
-StartsWith before after may_fail length kept old new false =
-    FallsShort before after may_fail (block_length length 512 1) × (new ≡ old)

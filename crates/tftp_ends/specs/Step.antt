@@ -1,5 +1,5 @@
 -- What an end is after an event, and what it answers.
-use Rattle.std.specs.Prelude.{ℕ, ◌≡◌, ◌≢◌, ◌-◌, ◌*◌, min, nat_lt, ◌==◌, Bool, true, false, if◌then◌else◌, List, [], ◌∷◌, ◌++◌, length, drop, Option, Some, None, Result, Ok, Err, IfErr, option_map}
+use Rattle.std.specs.Prelude.{ℕ, ◌≡◌, ◌≢◌, ◌≤◌, ◌+◌, ◌-◌, ◌*◌, min, nat_lt, ◌==◌, Bool, true, false, if◌then◌else◌, List, [], ◌∷◌, ◌++◌, length, drop, Option, Some, None, Result, Ok, Err, IfErr, option_map}
 use Rattle.tftp_wire.specs.declared.packet.Packet.{Packet}
 use Rattle.tftp_wire.specs.declared.packet.Packet.TheVariants.{Data, Ack}
 use Rattle.tftp_wire.specs.Spelling.{canonical}
@@ -19,6 +19,8 @@ use Rattle.tftp_ends.specs.declared.phase.Terms.{Terms}
 use Rattle.tftp_ends.specs.declared.record.Step.{Step}
 use Rattle.tftp_ends.specs.declared.action.Action.{Action}
 use Rattle.tftp_ends.specs.declared.action.Action.TheVariants.{Ignore, Stranger, ResendReply, Retransmit, Wait, Close, Refuse, Accept, Send, Store, Complete}
+use Rattle.tftp_ends.specs.declared.outgoing.Outgoing.{Outgoing}
+use Rattle.tftp_ends.specs.declared.outgoing.Outgoing.TheVariants.{Nothing, LastSent, Error}
 use Rattle.tftp_ends.specs.End.{EndState, is_progress, step_of}
 use Rattle.tftp_ends.specs.ErrorReply.{error_packet}
 use Rattle.tftp_ends.specs.Phase.{closed, refused, completed, waited}
@@ -230,28 +232,55 @@ IsAnswered (Send terms number) = Unit {0}
 IsAnswered (Store terms number) = Unit {0}
 IsAnswered Complete = ⊥
 
+-- an action that asks a file for a block or gives it one, and so may want memory with no datagram to be appended
+abbrev pub UsesFile : Action → Type 0
+UsesFile (Send terms number) = Unit {0}
+UsesFile (Store terms number) = Unit {0}
+UsesFile _ = ⊥
+
+-- the bytes that an end lends of what goes out
+abbrev pub lent : Outgoing → EndState → List ℕ
+lent Nothing e = []
+lent LastSent e = e.last_sent
+lent (Error reply) e = error_bytes reply
+
+-- the most bytes that go out at an action
+abbrev pub room_of : EndState → Action → ℕ
+room_of e Ignore = 0
+room_of e Stranger = 24
+room_of e ResendReply = length e.last_sent
+room_of e Retransmit = length e.last_sent
+room_of e Wait = 0
+room_of e (Close outcome) = 0
+room_of e (Refuse terms reply outcome) = 24
+room_of e (Accept terms) = 24
+room_of e (Send terms number) = 24 + block_length e.length terms.size number
+room_of e (Store terms number) = 24
+room_of e Complete = 0
+
+-- a call has led to this turn: the end, where the answer goes, and what the end lends of it
+pub record Lends (turn : Turn) (e : EndState) (to : Option Endpoint) (outgoing : Outgoing) : Type 0 where
+  pub state : e ≡ turn.end
+  pub goes : to ≡ option_map (λ (r : Reply). r.to) turn.reply
+  pub bytes : lent outgoing e ≡ reply_bytes turn.reply
+
 -- a call has led to this turn: the end, where the answer goes, and what was appended
 pub record Carries (turn : Turn) (e : EndState) (to : Option Endpoint) (old new : List ℕ) : Type 0 where
   pub state : e ≡ turn.end
   pub goes : to ≡ option_map (λ (r : Reply). r.to) turn.reply
   pub appended : new ≡ old ++ reply_bytes turn.reply
 
--- a fill of a block went behind what was there, if all of the block came; a source that may not fail to read hasn't
-pub record ReadsBlock (before after : Option (List ℕ)) (may_fail : Type 0) (want : ℕ) (old new : List ℕ) (is_whole : Bool) : Type 0 where
-  pub answer : Result ℕ FileFault
-  pub piece : List ℕ
-  pub fills : Fills before after want [] piece answer
-  pub read : answer ≡ Err file_faults.Read → may_fail
-  pub memory : answer ≢ Err file_faults.Memory
-  pub whole : is_whole ≡ result_count_is want answer
-  pub appended : new ≡ old ++ (if is_whole then piece else [])
+-- a buffer holds the DATA of a block that came
+abbrev pub HoldsData : ℕ → ℕ → List ℕ → List ℕ → Bool → Type 0
+HoldsData number want piece buffer true = (buffer ≡ data_bytes number piece) × (length buffer ≤ 4 + want)
+HoldsData number want piece buffer false = Unit {0}
 
--- a fetch whose block went out as DATA, or the ERROR went out that says the file has changed
-pub record AppendsDataOrError (before after : Option (List ℕ)) (may_fail : Type 0) (number want : ℕ) (old new : List ℕ) (is_whole : Bool) : Type 0 where
+-- a source was asked for a block, and the buffer holds it as DATA if all of it came; a source that may not fail to read hasn't
+pub record ReadsData (before after : Option (List ℕ)) (may_fail : Type 0) (number want : ℕ) (buffer : List ℕ) (is_whole : Bool) : Type 0 where
   pub answer : Result ℕ FileFault
   pub piece : List ℕ
   pub fills : Fills before after want [] piece answer
   pub read : answer ≡ Err file_faults.Read → may_fail
   pub memory : answer ≢ Err file_faults.Memory
   pub whole : is_whole ≡ result_count_is want answer
-  pub appended : new ≡ old ++ (if is_whole then data_bytes number piece else error_bytes replies.FileChanged)
+  pub holds : HoldsData number want piece buffer is_whole

@@ -2,8 +2,10 @@
 
 mod acting;
 mod opening;
+mod sending;
+mod storing;
 
-ghost use Rattle.std.specs.Prelude.{◌≡◌, ◌↔◌, option_map, Option, IfOk, OnErr, IsErrOf, IsSome, is_some};
+ghost use Rattle.std.specs.Prelude.{◌≡◌, ◌↔◌, ◌+◌, ◌++◌, ◌≤◌, length, option_map, Option, IfOk, OnErr, IsErrOf, IsSome, is_some, vec_len, vec_capacity};
 ghost use Rattle.tftp_wire.specs.Borrowed.{owned};
 ghost use Rattle.tftp_wire.specs.declared.packet.Packet.{Packet};
 
@@ -13,6 +15,7 @@ use crate::endpoint::Endpoint;
 use crate::error_reply::ErrorReply;
 use crate::fault::EndFault;
 use crate::outcome::Outcome;
+use crate::outgoing::Outgoing;
 use crate::phase::{Dally, Phase, Terms};
 use crate::receiver::{dally_action, receiver_action};
 use crate::record::{Record, Step};
@@ -27,8 +30,10 @@ use tftp_wire::{Mode, PacketRef};
 ///
 /// Hand it each datagram that comes to its port ([`End::on_datagram`]), and a timeout
 /// ([`End::on_timeout`]) when nothing came for the agreed seconds after an opening, progress or the
-/// last timeout. The caller owns the socket and the clock: it sends what a call appends to `out` to
-/// the endpoint that the [`Step`] names. A call at a closed end is refused.
+/// last timeout ([`End::interval`]). The caller owns the socket and the clock: it sends what a call
+/// appends to `out` to the endpoint that the [`Step`] names. [`End::handle_datagram`] and
+/// [`End::handle_timeout`] are the same steps, and lend the datagram. A call at a closed end is
+/// refused.
 #[derive(Debug, Drop)]
 pub struct End {
     side: Side,
@@ -37,6 +42,7 @@ pub struct End {
     retries: u8,
     retries_left: u8,
     last_sent: Vec<u8>,
+    spare: Vec<u8>,
     last_sent_to: Endpoint,
     phase: Phase,
 }
@@ -58,7 +64,7 @@ impl End {
     ghost use Rattle.tftp_ends.specs.Action.{Decodes, datagram_action, packet_action, garbled_action, is_stranger, timeout_action};
     ghost use Rattle.tftp_ends.specs.Sound.{ActionFits};
     ghost use Rattle.tftp_ends.specs.Files.{AreFilesOf, KeepsFiles, AreSame};
-    ghost use Rattle.tftp_ends.specs.Step.{Turn, DatagramStep, Carries, IsAnswered, told, timeout_turn};
+    ghost use Rattle.tftp_ends.specs.Step.{Turn, DatagramStep, Carries, Lends, IsAnswered, UsesFile, told, timeout_turn, lent};
 
     /// How far the end came.
     pub fn record(&self) -> Record
@@ -197,6 +203,77 @@ impl End {
         self.phase
     }
 
+    /// The bytes of what goes out, until the next call.
+    pub fn bytes_of(&self, outgoing: Outgoing) -> &[u8]
+        ensures { result.now ≡ lent outgoing self.now }
+    {
+        match outgoing {
+            Outgoing::Nothing => &[],
+            Outgoing::LastSent => &self.last_sent,
+            Outgoing::Error(reply) => reply.datagram(),
+        }
+    }
+
+    /// Takes a datagram that came from there to the end's port, and tells what goes out: no byte of
+    /// it is copied. [`End::bytes_of`] lends it, and [`Step::to`] says where it goes.
+    ///
+    /// `files` is the end's source if it sends, and its sink if it receives. After `Closed` and after
+    /// `Memory` nothing has changed; `Memory` comes only where a file is asked for a block or given
+    /// one.
+    pub fn handle_datagram<S: Source, K: Sink>(
+        &mut self,
+        files: &mut Files<S, K>,
+        from: Endpoint,
+        bytes: &[u8],
+    ) -> Result<(Step, Outgoing), EndFault>
+        requires { AreFilesOf self.old.side files.old }
+        ensures steps { IfOk result (λ answer. (turn : Turn)
+            × DatagramStep S.left S.may_fail K.held K.may_refuse_append K.may_refuse_commit from bytes.now self.old files.old turn files.new
+            × Lends turn self.new answer.0.to answer.1 × (answer.0 ≡ told self.old turn)) }
+        ensures closed { IsErrOf result EndFault.Closed ↔ IsSome (outcome_of self.old.phase) }
+        ensures memory { IsErrOf result EndFault.Memory → (decoded : Option Packet) × Decodes bytes.now decoded × UsesFile (datagram_action self.old from bytes.now decoded) }
+        ensures err { OnErr result ((self.new ≡ self.old) × KeepsFiles S.left K.held files.old files.new) }
+        ensures same { AreSame S.is_same K.is_same files.old files.new }
+        ensures files { AreFilesOf self.new.side files.new }
+    {
+        if self.is_closed() {
+            return Err(EndFault::Closed);
+        }
+        let before = self.phase();
+        let action = self.datagram_action(from, bytes);
+        let (to, outgoing) = self.act(action, files, from, bytes)?;
+        Ok((before.step_to(self.phase(), to), outgoing))
+    }
+
+    /// Takes a timeout, and tells what goes out. It takes no memory: its one fault is `Closed`, after
+    /// which nothing has changed.
+    pub fn handle_timeout(&mut self) -> Result<(Step, Outgoing), EndFault>
+        ensures steps { IfOk result (λ answer. Lends (timeout_turn self.old) self.new answer.0.to answer.1
+            × (answer.0 ≡ told self.old (timeout_turn self.old))) }
+        ensures closed { IsErrOf result EndFault.Closed ↔ IsSome (outcome_of self.old.phase) }
+        ensures memory { IsErrOf result EndFault.Memory → ⊥ }
+        ensures err { OnErr result (self.new ≡ self.old) }
+        ensures side { self.new.side ≡ self.old.side }
+    {
+        if self.is_closed() {
+            return Err(EndFault::Closed);
+        }
+        let before = self.phase();
+        let action = self.timeout_action();
+        let (to, outgoing) = self.answer(action, self.last_sent_to);
+        Ok((before.step_to(self.phase(), to), outgoing))
+    }
+
+    /// Appends what goes out, in room that was made for it.
+    fn append_outgoing(&self, outgoing: Outgoing, out: &mut Vec<u8>)
+        requires { length (lent outgoing self.now) + vec_len out.old ≤ vec_capacity out.old }
+        ensures { out.new.items ≡ out.old.items ++ lent outgoing self.now }
+    {
+        let Ok(()) = out.extend_from_slice(self.bytes_of(outgoing)) else {
+            unreachable!()
+        };
+    }
+
     /// Takes a datagram that came from there to the end's port.
     ///
     /// At most one datagram is appended to `out`; [`Step::to`] says where it goes. `files` is the
@@ -224,7 +301,9 @@ impl End {
         }
         let before = self.phase();
         let action = self.datagram_action(from, bytes);
-        let to = self.act(action, files, from, bytes, out)?;
+        out.reserve(self.room(action))?;
+        let (to, outgoing) = self.act(action, files, from, bytes)?;
+        self.append_outgoing(outgoing, out);
         Ok(before.step_to(self.phase(), to))
     }
 
@@ -246,7 +325,9 @@ impl End {
         }
         let before = self.phase();
         let action = self.timeout_action();
-        let to = self.answer(action, self.last_sent_to, out)?;
+        out.reserve(self.room(action))?;
+        let (to, outgoing) = self.answer(action, self.last_sent_to);
+        self.append_outgoing(outgoing, out);
         Ok(before.step_to(self.phase(), to))
     }
 }

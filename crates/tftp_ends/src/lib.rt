@@ -1,8 +1,8 @@
 //! The two ends of a transfer as machines with no IO (RFC 1350; RFC 1123, section 4.2.3.1; RFC 2347).
 //!
 //! An end opens no socket, reads no clock and touches no file but through its source or its sink: the
-//! caller hands in datagrams and timeouts, and sends what is appended to `out`, at most one datagram
-//! an event.
+//! caller hands in datagrams and timeouts, and sends what is appended to `out`, or lent, at most one
+//! datagram an event.
 //!
 //! Begin with [`End`]. Each of its calls makes one step of the machine that specs/ defines.
 #![tactic(auto)]
@@ -15,6 +15,7 @@ mod endpoint;
 mod error_reply;
 mod fault;
 mod outcome;
+mod outgoing;
 mod phase;
 mod receiver;
 mod record;
@@ -31,6 +32,7 @@ pub use endpoint::Endpoint;
 pub use error_reply::ErrorReply;
 pub use fault::{EndFault, OpenFault};
 pub use outcome::Outcome;
+pub use outgoing::Outgoing;
 pub use phase::{Dally, Phase, Terms};
 pub use record::{Record, Step};
 pub use side::Side;

@@ -13,8 +13,6 @@ const DATA: u16 = 3;
 
 const ACK: u16 = 4;
 
-const ERROR: u16 = 5;
-
 /// The bytes of an ACK, and of a DATA's opcode and number.
 pub(crate) const HEADER: usize = 4;
 
@@ -51,31 +49,31 @@ pub(crate) fn append_data_header(out: &mut Vec<u8>, number: u16) -> Result<(), A
     out.extend_from_slice(&header(DATA, number))
 }
 
-/// Appends an ERROR.
-pub(crate) fn append_error(out: &mut Vec<u8>, reply: ErrorReply) -> Result<(), AllocError>
-    ensures ok { OnOk result (out.new.items ≡ out.old.items ++ error_bytes reply) }
-    ensures err { OnErr result (out.new.items ≡ out.old.items) }
-    ensures room { vec_len out.old + MAX_ERROR ≤ vec_capacity out.old → IsOk result }
-    ensures capacity { vec_capacity out.old ≤ vec_capacity out.new }
-{
-    let text = reply.text();
-    out.reserve(HEADER + text.len() + 1)?;
-    let (Ok(()), Ok(()), Ok(())) = (
-        out.extend_from_slice(&header(ERROR, reply.code())),
-        out.extend_from_slice(text.as_bytes()),
-        out.push(0),
-    ) else {
-        unreachable!()
-    };
-    Ok(())
-}
-
 impl ErrorReply {
+    /// The ERROR as it is sent.
+    pub fn datagram(self) -> &'static [u8]
+        ensures { result.now ≡ error_bytes self }
+    {
+        match self {
+            ErrorReply::FileTooLarge => b"\x00\x05\x00\x00file too large\x00",
+            ErrorReply::ServerBusy => b"\x00\x05\x00\x00server busy\x00",
+            ErrorReply::FileChanged => b"\x00\x05\x00\x00file changed\x00",
+            ErrorReply::NotNetascii => b"\x00\x05\x00\x00not netascii\x00",
+            ErrorReply::FileNotFound => b"\x00\x05\x00\x01file not found\x00",
+            ErrorReply::AccessViolation => b"\x00\x05\x00\x02access violation\x00",
+            ErrorReply::DiskFull => b"\x00\x05\x00\x03disk full\x00",
+            ErrorReply::IllegalOperation => b"\x00\x05\x00\x04illegal operation\x00",
+            ErrorReply::UnknownTransferId => b"\x00\x05\x00\x05unknown transfer id\x00",
+            ErrorReply::FileExists => b"\x00\x05\x00\x06file exists\x00",
+            ErrorReply::OptionRefused => b"\x00\x05\x00\x08option refused\x00",
+        }
+    }
+
     /// Appends the ERROR, as it is sent. It fails only when out of memory, and then appends nothing.
     pub fn append_to(self, out: &mut Vec<u8>) -> Result<(), AllocError>
         ensures ok { OnOk result (out.new.items ≡ out.old.items ++ error_bytes self) }
         ensures err { OnErr result (out.new.items ≡ out.old.items) }
     {
-        append_error(out, self)
+        out.extend_from_slice(self.datagram())
     }
 }

@@ -29,7 +29,7 @@ use Rattle.tftp_negotiate.specs.Ranges.{IsBlockSize}
 use Rattle.tftp_negotiate.proofs.LawsLemmas.{answers_within_request}
 use Rattle.tftp_negotiate.proofs.NegotiationLemmas.{counts, count_of-cons}
 use Rattle.tftp_negotiate.proofs.OptionsLemmas.{decimal-number_of}
-use Rattle.tftp_negotiate.proofs.TermsLemmas.{answered_option-Keeps}
+use Rattle.tftp_negotiate.proofs.PolicyLemmas.{answered_option-Keeps}
 
 -- the digits of a number are no zero bytes
 digits_text : (digits : List ℕ) → IsText (map (λ d. 48 + d) digits)

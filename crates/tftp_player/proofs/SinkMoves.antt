@@ -42,8 +42,8 @@ took_some : (told : Bool) (before after : Holding) (b : ℕ) (bytes : List ℕ) 
     UnlessTold told before (Some after) answer (AppendsFreely before (Some after) (b ∷ bytes) answer) →
     IfErr answer (may_refuse_append before (b ∷ bytes)) → answer ≢ Err faults.Memory → Took before after (b ∷ bytes) answer
 took_some true before after b bytes answer is h may memory =
-    None_of_it faults.Full h.answer (let e = same_Some after (record before { refuses = false }) h.told in ap (λ (z : Holding). z.bytes) e)
-    (let e = same_Some after (record before { refuses = false }) h.told in ap (λ (z : Holding). z.committed) e)
+    None_of_it faults.Full h.answer (let e = same_Some after (record before { refuses = false }) h.leaves in ap (λ (z : Holding). z.bytes) e)
+    (let e = same_Some after (record before { refuses = false }) h.leaves in ap (λ (z : Holding). z.committed) e)
 took_some false before after b bytes (Ok done) is h may memory =
     let e = same_Some after (with_piece before (b ∷ bytes)) h in
     All_of_it refl (ap (λ (z : Holding). z.bytes) e) (λ _. ap (λ (z : Holding). z.committed) e)
@@ -67,7 +67,7 @@ pub data Kept_all (before after : Holding) (answer : Result Done StoreFault) : T
 kept_by : (told : Bool) (before after : Holding) (answer : Result Done StoreFault) →
     UnlessTold told before (Some after) answer (CommitsFreely before (Some after) answer) → Kept_all before after answer
 kept_by true before after answer h =
-    let e = same_Some after (record before { refuses = false }) h.told in
+    let e = same_Some after (record before { refuses = false }) h.leaves in
     Not_yet faults.Full h.answer (ap (λ (z : Holding). z.bytes) e) (ap (λ (z : Holding). z.committed) e)
 kept_by false before after (Ok done) h =
     let e = same_Some after (record before { committed = true }) h in

@@ -19,7 +19,7 @@ use Rattle.tftp_negotiate.specs.Agreement.{agreement, taken_option}
 use Rattle.tftp_negotiate.specs.Asked.{IsAskable}
 use Rattle.tftp_negotiate.specs.Negotiation.{repeats, each_judged}
 use Rattle.tftp_negotiate.proofs.NegotiationLemmas.{values}
-use Rattle.tftp_negotiate.proofs.TermsLemmas.{taken_option-Keeps}
+use Rattle.tftp_negotiate.proofs.PolicyLemmas.{taken_option-Keeps}
 use Rattle.tftp_file.specs.declared.fault.StoreFault.{StoreFault}
 use Rattle.tftp_file.specs.Block.{block, block_count, Fits}
 use Rattle.tftp_file.specs.Netascii.{wire_text}

@@ -21,7 +21,7 @@ use Rattle.tftp_negotiate.specs.Answer.{answer, answered_option}
 use Rattle.tftp_negotiate.specs.Negotiation.{repeats, each_judged}
 use Rattle.tftp_negotiate.specs.Ranges.{IsBlockSize}
 use Rattle.tftp_negotiate.proofs.NegotiationLemmas.{values}
-use Rattle.tftp_negotiate.proofs.TermsLemmas.{answered_option-Keeps}
+use Rattle.tftp_negotiate.proofs.PolicyLemmas.{answered_option-Keeps}
 use Rattle.tftp_file.specs.declared.path.PathFault.{PathFault}
 use Rattle.tftp_file.specs.Block.{block, block_count, Fits}
 use Rattle.tftp_file.specs.Netascii.{wire_text}

@@ -1,5 +1,5 @@
 -- What a server may be set to (RFC 2348, "Blocksize Option Specification", for the block sizes; the rest is our choice).
-use Rattle.std.specs.Prelude.{◌≤◌}
+use Rattle.std.specs.Prelude.{◌≤◌, false}
 use Rattle.tftp_negotiate.specs.Ranges.{IsBlockSize}
 use Rattle.tftp_server.specs.declared.config.Config.{Config}
 
@@ -12,4 +12,4 @@ pub record IsConfig (config : Config) : Type 0 where
 
 -- what a server is set to where nothing else is said
 abbrev pub default_config : Config
-default_config = record { limits = record { max_block = 1428; max_file = 4290183239 }; retries = 5; cap = 16 }
+default_config = record { limits = record { max_block = 1428; max_file = 4290183239 }; retries = 5; cap = 16; overwrite = false }

@@ -1,9 +1,9 @@
 -- A store in memory: how it is made, and when it refuses.
-use Rattle.std.specs.Prelude.{ℕ, ◌≡◌, Bool, true, false, not, ◌&&◌, ◌⊎◌, List, [], ◌∷◌, map, Option, Some, None, IsSome, is_some, ⊤}
+use Rattle.std.specs.Prelude.{ℕ, ◌≡◌, Bool, true, false, not, ◌&&◌, ◌⊎◌, List, [], ◌∷◌, map, Option, Some, None, is_some, ⊤}
 use Rattle.std.specs.declared.vec.Vec.{Vec}
 use Rattle.tftp_file.specs.declared.fault.StoreFault.{StoreFault}
 use Rattle.tftp_file.specs.declared.fault.StoreFault.TheVariants.{Missing, Exists, Full, Memory}
-use Rattle.tftp_server.specs.Store.{FileList, Stored, Drafted, StoreMeaning, file_at, with_file}
+use Rattle.tftp_server.specs.Store.{FileList, Stored, Drafted, StoreMeaning, file_at, is_taken, with_file}
 
 -- the files of a list, each with its bytes
 abbrev pub contents : {A : Type 0} → List (List ℕ × Vec ℕ A) → FileList
@@ -33,10 +33,10 @@ MayRefuseOpen stored path Missing = file_at path stored.files ≡ None
 MayRefuseOpen stored path Memory = ⊤
 MayRefuseOpen stored path _ = ⊥
 
--- a draft is refused where there is such a file
-abbrev pub MayRefuseBegin : Stored → List ℕ → StoreFault → Type 0
-MayRefuseBegin stored path Exists = IsSome (file_at path stored.files)
-MayRefuseBegin stored path _ = ⊥
+-- a draft is refused where there is such a file, which is not to be replaced
+abbrev pub MayRefuseBegin : Stored → List ℕ → Bool → StoreFault → Type 0
+MayRefuseBegin stored path replace Exists = is_taken replace path stored.files ≡ true
+MayRefuseBegin stored path replace _ = ⊥
 
 -- an append fails as it was told, or when out of memory
 abbrev pub MayRefuseAppend : Stored → Drafted → List ℕ → StoreFault → Type 0
@@ -44,11 +44,11 @@ MayRefuseAppend stored draft bytes Full = stored.refuses ≡ true
 MayRefuseAppend stored draft bytes Memory = stored.refuses ≡ false
 MayRefuseAppend stored draft bytes _ = ⊥
 
--- a commit fails as it was told, where there is such a file, or with Full when out of memory
-abbrev pub MayRefuseCommit : Stored → List ℕ → Drafted → StoreFault → Type 0
-MayRefuseCommit stored path draft Exists = (stored.refuses ≡ false) × IsSome (file_at path stored.files)
-MayRefuseCommit stored path draft Full = (stored.refuses ≡ true) ⊎ (file_at path stored.files ≡ None)
-MayRefuseCommit stored path draft _ = ⊥
+-- a commit fails as it was told, where there is such a file, which is not to be replaced, or with Full when out of memory
+abbrev pub MayRefuseCommit : Stored → List ℕ → Drafted → Bool → StoreFault → Type 0
+MayRefuseCommit stored path draft replace Exists = (stored.refuses ≡ false) × (is_taken replace path stored.files ≡ true)
+MayRefuseCommit stored path draft replace Full = (stored.refuses ≡ true) ⊎ (is_taken replace path stored.files ≡ false)
+MayRefuseCommit stored path draft replace _ = ⊥
 
 -- what a store in memory tells of itself, with drafts that tell this
 abbrev pub memory_meaning : {D : Type 0} → (D → Option Drafted) → StoreMeaning Stored (List ℕ) D

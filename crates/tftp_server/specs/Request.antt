@@ -178,8 +178,8 @@ module _ {S F D : Type 0} (meaning : StoreMeaning S F D) where
   pub record BeginsWrite (path : List ℕ) (mode : Mode) (agreed : List Known) (asking : Asking S F D) (result : Left S F D) : Type 0 where
     pub store : S
     pub draft : Result D StoreFault
-    pub begins : Begins meaning.drafted (meaning.stored asking.old.store) (meaning.stored store) path draft
-    pub refused : IfErr draft (meaning.may_refuse_begin asking.old.store path)
+    pub begins : Begins meaning.drafted (meaning.stored asking.old.store) (meaning.stored store) path asking.old.config.overwrite draft
+    pub refused : IfErr draft (meaning.may_refuse_begin asking.old.store path asking.old.config.overwrite)
     pub goes_on : WritesTo path mode agreed store draft asking result
 
   -- a write: its options are answered before the store is asked

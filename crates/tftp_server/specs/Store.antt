@@ -1,5 +1,5 @@
 -- What a store and its drafts are, and what their calls leave.
-use Rattle.std.specs.Prelude.{ℕ, ◌≡◌, min, Bool, false, List, [], length, Option, Some, None, IsSome, option_map, Result, Ok, Err, ⊤}
+use Rattle.std.specs.Prelude.{ℕ, ◌≡◌, min, Bool, true, false, not, ◌&&◌, List, [], length, Option, Some, None, IsSome, is_some, option_map, Result, Ok, Err, ⊤}
 use Rattle.std.specs.Cmp.Lexicographic.{slice_cmp}
 use Rattle.std.specs.Ordering.{nat_cmp}
 use Rattle.std.specs.declared.cmp.Ordering.{Ordering}
@@ -33,7 +33,7 @@ pub record StoreMeaning (S F D : Type 0) : Type 1 where
   pub drafted : D → Option Drafted
   pub may_fail : F → ℕ → Type 0
   pub may_refuse_open : S → List ℕ → StoreFault → Type 0
-  pub may_refuse_begin : S → List ℕ → StoreFault → Type 0
+  pub may_refuse_begin : S → List ℕ → Bool → StoreFault → Type 0
 
 -- a draft as it begins
 abbrev pub new_draft : Drafted
@@ -50,6 +50,10 @@ file_at path files = lookup (is_at (path_cmp path)) files
 -- the files with one more
 abbrev pub with_file : FileList → List ℕ → List ℕ → FileList
 with_file files path bytes = insert_entry path_cmp files path bytes
+
+-- there is a file at the path, and it is not to be replaced
+abbrev pub is_taken : Bool → List ℕ → FileList → Bool
+is_taken replace path files = not replace && is_some (file_at path files)
 
 -- how long a file is on the wire, or one more than any block size carries where it is longer (65,535 blocks of 65,464 bytes, the last one short)
 abbrev pub measured : Mode → List ℕ → ℕ
@@ -80,18 +84,20 @@ module _ {S : Type 0} (left : S → Option (List ℕ)) where
   Opens (Some stored) path mode (Err _) = ⊤
 
 module _ {K : Type 0} (drafted : K → Option Drafted) where
-  -- what the beginning of a draft answers, by what the store holds
-  abbrev pub Begins : Option Stored → Option Stored → List ℕ → Result K StoreFault → Type 0
-  Begins None after path result = ⊤
-  Begins (Some before) after path (Ok draft) = (after ≡ Some before) × (file_at path before.files ≡ None) × (drafted draft ≡ Some new_draft)
-  Begins (Some before) after path (Err Exists) = (after ≡ Some before) × IsSome (file_at path before.files)
-  Begins (Some before) after path (Err Memory) = (after ≡ Some before) × (file_at path before.files ≡ None)
-  Begins (Some before) after path (Err _) = after ≡ Some before
+  -- what the beginning of a draft answers, by what the store holds; out of memory is the last refusal
+  abbrev pub Begins : Option Stored → Option Stored → List ℕ → Bool → Result K StoreFault → Type 0
+  Begins None after path replace result = ⊤
+  Begins (Some before) after path replace (Ok draft) =
+      (after ≡ Some before) × (is_taken replace path before.files ≡ false) × (drafted draft ≡ Some new_draft)
+  Begins (Some before) after path replace (Err Exists) = (after ≡ Some before) × (is_taken replace path before.files ≡ true)
+  Begins (Some before) after path replace (Err Memory) = (after ≡ Some before) × (is_taken replace path before.files ≡ false)
+  Begins (Some before) after path replace (Err _) = after ≡ Some before
 
--- what a commit leaves of the files: on success the draft's bytes are the new file at the path
-abbrev pub Puts : {A : Type 0} → Option Stored → Option Stored → Option Drafted → List ℕ → Result A StoreFault → Type 0
-Puts (Some before) after (Some draft) path (Ok done) =
-    (files_of after ≡ Some (with_file before.files path draft.bytes)) × (file_at path before.files ≡ None)
-Puts before after draft path (Ok done) = ⊤
-Puts (Some before) after draft path (Err Exists) = (files_of after ≡ Some before.files) × IsSome (file_at path before.files)
-Puts before after draft path (Err _) = files_of after ≡ files_of before
+-- what a commit leaves of the files: on success the draft's bytes are the file at the path
+abbrev pub Puts : {A : Type 0} → Option Stored → Option Stored → Option Drafted → List ℕ → Bool → Result A StoreFault → Type 0
+Puts (Some before) after (Some draft) path replace (Ok done) =
+    (files_of after ≡ Some (with_file before.files path draft.bytes)) × (is_taken replace path before.files ≡ false)
+Puts before after draft path replace (Ok done) = ⊤
+Puts (Some before) after draft path replace (Err Exists) =
+    (files_of after ≡ Some before.files) × (is_taken replace path before.files ≡ true)
+Puts before after draft path replace (Err _) = files_of after ≡ files_of before

@@ -20,6 +20,8 @@ pub struct Config {
     pub retries: u8,
     /// How many transfers it holds at once, 1 to 64; closed ones count until they are taken.
     pub cap: u8,
+    /// Whether a write replaces a file that is there.
+    pub overwrite: bool,
 }
 
 impl Config {
@@ -41,7 +43,8 @@ impl Default for Config {
 
     ghost is_default = { λ c. c ≡ default_config };
 
-    /// Blocks of 1,428 bytes at most, any file that blocks can carry, 5 retries and 16 transfers.
+    /// Blocks of 1,428 bytes at most, any file that blocks can carry, 5 retries and 16 transfers;
+    /// no file is replaced.
     fn default() -> Config {
         Config {
             limits: Limits {
@@ -50,6 +53,7 @@ impl Default for Config {
             },
             retries: 5,
             cap: 16,
+            overwrite: false,
         }
     }
 }

@@ -160,8 +160,8 @@ impl Store for MemStore {
         })
     }
 
-    fn begin(&mut self, alloc: Global, path: &Path) -> Result<MemDraft, StoreFault> {
-        if self.files.contains_key(path) {
+    fn begin(&mut self, alloc: Global, path: &Path, replace: bool) -> Result<MemDraft, StoreFault> {
+        if !replace && self.files.contains_key(path) {
             return Err(StoreFault::Exists);
         }
         Ok(MemDraft {
@@ -180,12 +180,17 @@ impl Store for MemStore {
         Ok(())
     }
 
-    fn commit(&mut self, path: &Path, draft: &mut MemDraft) -> Result<(), StoreFault> {
+    fn commit(
+        &mut self,
+        path: &Path,
+        draft: &mut MemDraft,
+        replace: bool,
+    ) -> Result<(), StoreFault> {
         if self.refuses_next {
             self.refuses_next = false;
             return Err(StoreFault::Full);
         }
-        if self.files.contains_key(path) {
+        if !replace && self.files.contains_key(path) {
             return Err(StoreFault::Exists);
         }
         let Ok(()) = put_copy(&mut self.files, path, &draft.bytes) else {

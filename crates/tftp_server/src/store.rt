@@ -1,6 +1,6 @@
 //! Where a server's files are: they are read as sources, and written as drafts.
 
-ghost use Rattle.std.specs.Prelude.{◌≡◌, ◌≢◌, Err, IfErr, List, ℕ, Option};
+ghost use Rattle.std.specs.Prelude.{◌≡◌, ◌≢◌, Err, IfErr, Bool, List, ℕ, Option};
 ghost use Rattle.tftp_file.specs.Sink.{Appends, Commits};
 ghost use Rattle.tftp_file.specs.declared.fault.StoreFault.{StoreFault};
 ghost use Rattle.tftp_server.specs.Store.{Stored, Drafted, Opens, Begins, holding_of, files_of, Puts};
@@ -40,14 +40,14 @@ pub trait Store {
     /// An opening of the path may answer this fault.
     ghost may_refuse_open: { Self → List ℕ → StoreFault → Type 0 } = { λ _ _ _. Unit {0} };
 
-    /// A draft of the path may be refused with this fault.
-    ghost may_refuse_begin: { Self → List ℕ → StoreFault → Type 0 } = { λ _ _ _. Unit {0} };
+    /// A draft of the path, to replace a file or not, may be refused with this fault.
+    ghost may_refuse_begin: { Self → List ℕ → Bool → StoreFault → Type 0 } = { λ _ _ _ _. Unit {0} };
 
     /// An append of these bytes may answer this fault.
     ghost may_refuse_append: { Self → Self.Draft → List ℕ → StoreFault → Type 0 } = { λ _ _ _ _. Unit {0} };
 
-    /// A commit under the path may answer this fault.
-    ghost may_refuse_commit: { Self → List ℕ → Self.Draft → StoreFault → Type 0 } = { λ _ _ _ _. Unit {0} };
+    /// A commit under the path, to replace a file or not, may answer this fault.
+    ghost may_refuse_commit: { Self → List ℕ → Self.Draft → Bool → StoreFault → Type 0 } = { λ _ _ _ _ _. Unit {0} };
 
     /// Opens the file to be read in the mode.
     ///
@@ -62,12 +62,17 @@ pub trait Store {
         ensures opens { Opens Self.Source.left (stored self.now) path.now mode result }
         ensures refused { IfErr result (may_refuse_open self.now path.now) };
 
-    /// Begins a draft of a new file, which is empty.
+    /// Begins a draft, which is empty. With `replace` there may be a file at the path.
     ///
-    /// `Exists` if there is such a file; `Memory` only where there is none.
-    fn begin(&mut self, alloc: Global, path: &Path) -> Result<Self::Draft, StoreFault>
-        ensures begins { Begins drafted (stored self.old) (stored self.new) path.now result }
-        ensures refused { IfErr result (may_refuse_begin self.old path.now) };
+    /// `Exists` if there is one that is not to be replaced; `Memory` only where that is not so.
+    fn begin(
+        &mut self,
+        alloc: Global,
+        path: &Path,
+        replace: bool,
+    ) -> Result<Self::Draft, StoreFault>
+        ensures begins { Begins drafted (stored self.old) (stored self.new) path.now replace result }
+        ensures refused { IfErr result (may_refuse_begin self.old path.now replace) };
 
     /// Puts the bytes at the end of a draft.
     ///
@@ -78,13 +83,19 @@ pub trait Store {
         ensures files { files_of (stored self.new) ≡ files_of (stored self.old) }
         ensures refused { IfErr result (may_refuse_append self.old draft.old bytes.now) };
 
-    /// Makes what a draft holds the file at the path, for good.
+    /// Makes what a draft holds the file at the path, for good. With `replace` it takes the place of
+    /// one that is there.
     ///
-    /// `Exists` if there is such a file by now. After a fault no file and no byte has changed. Where
-    /// memory is wanting the fault is `Full`.
-    fn commit(&mut self, path: &Path, draft: &mut Self::Draft) -> Result<(), StoreFault>
+    /// `Exists` if there is one by now that is not to be replaced; what the store was told to refuse
+    /// goes before. After a fault no file and no byte has changed. Out of memory is `Full`.
+    fn commit(
+        &mut self,
+        path: &Path,
+        draft: &mut Self::Draft,
+        replace: bool,
+    ) -> Result<(), StoreFault>
         ensures commits { Commits (holding_of (stored self.old) (drafted draft.old)) (holding_of (stored self.new) (drafted draft.new)) result }
-        ensures files { Puts (stored self.old) (stored self.new) (drafted draft.old) path.now result }
-        ensures refused { IfErr result (may_refuse_commit self.old path.now draft.old) }
+        ensures files { Puts (stored self.old) (stored self.new) (drafted draft.old) path.now replace result }
+        ensures refused { IfErr result (may_refuse_commit self.old path.now draft.old replace) }
         ensures not_memory { result ≢ Err StoreFault.Memory };
 }

@@ -19,9 +19,9 @@ fn write<S: Store>(
     path: &Path,
     bytes: &[u8],
 ) -> Result<(), StoreFault> {
-    let mut draft = store.begin(alloc, path)?;
+    let mut draft = store.begin(alloc, path, false)?;
     store.append(&mut draft, bytes)?;
-    store.commit(path, &mut draft)
+    store.commit(path, &mut draft, false)
 }
 
 /// How long the file at the path is on the wire.

@@ -5,23 +5,21 @@ ghost use Rattle.tftp_wire.specs.Spelling.{canonical};
 ghost use Rattle.tftp_wire.specs.Texts.{IsText};
 ghost use Rattle.tftp_wire.specs.declared.mode.Mode.TheVariants.{Octet};
 ghost use Rattle.tftp_wire.specs.declared.packet.Packet.TheVariants.{Read};
-ghost use Rattle.tftp_ends.specs.BlockRead.{is_whole};
 ghost use Rattle.tftp_ends.specs.Files.{AreFilesOf, KeepsFiles, AreSame};
-ghost use Rattle.tftp_ends.specs.Opening.{CanGet, CanServe, IsSupported, ServesFiles, StartsWith, FilesCannotStart, getting, opening_step, request_of, nothing_asked};
-ghost use Rattle.tftp_ends.specs.Step.{block_length};
+ghost use Rattle.tftp_ends.specs.Opening.{CanGet, CanServe, IsSupported, ServesFiles, FilesCannotStart, getting, opening_step, request_of, nothing_asked};
 ghost use Rattle.tftp_negotiate.specs.Agreed.{size};
 
 use crate::config::EndConfig;
 use crate::end::End;
-use crate::end::acting::{BlockRead, block_length, read_block, save_for_retransmission};
+use crate::end::sending::{BlockRead, block_length, read_data};
 use crate::endpoint::Endpoint;
 use crate::fault::OpenFault;
 use crate::phase::Phase;
 use crate::record::Step;
-use crate::reply::{HEADER, append_data_header};
+use crate::reply::HEADER;
 use crate::side::Side;
 use crate::waiting::{DEFAULT_BLOCK_SIZE, default_terms};
-use std::alloc::{AllocError, Global};
+use std::alloc::Global;
 use tftp_file::{Files, Sink, Source};
 use tftp_negotiate::{Agreed, Asked};
 use tftp_wire::{Bytes, Mode, Packet, RawOptions, Request, encode};
@@ -84,41 +82,6 @@ fn request_bytes(alloc: Global, name: &[u8]) -> Result<Vec<u8>, OpenFault>
     Ok(bytes)
 }
 
-/// Appends DATA 1 of a file of that length in blocks of 512 bytes, and a copy to keep, or nothing.
-fn start_with<S: Source>(
-    source: &mut S,
-    length: u64,
-    last_sent: &mut Vec<u8>,
-    out: &mut Vec<u8>,
-) -> Result<BlockRead, AllocError>
-    ensures starts { IfOk result (λ filling. StartsWith (S.left source.old) (S.left source.new) (S.may_fail source.old (block_length length 512 1)) length last_sent.new.items out.old.items out.new.items (is_whole filling)) }
-    ensures room { OnOk result (4 ≤ vec_capacity last_sent.new) }
-    ensures err { OnErr result ((S.left source.new ≡ S.left source.old) × (out.new.items ≡ out.old.items)) }
-    ensures same { S.is_same source.old source.new }
-{
-    let want = block_length(length, DEFAULT_BLOCK_SIZE, 1);
-    last_sent.reserve(HEADER + want)?;
-    out.reserve(HEADER + want)?;
-    let start = out.len();
-    let Ok(()) = append_data_header(out, 1) else {
-        unreachable!()
-    };
-    match read_block(source, want, out) {
-        Ok(BlockRead::Whole) => {
-            save_for_retransmission(last_sent, &out[start..]);
-            Ok(BlockRead::Whole)
-        }
-        Ok(BlockRead::Changed) => {
-            out.truncate(start);
-            Ok(BlockRead::Changed)
-        }
-        Err(error) => {
-            out.truncate(start);
-            Err(error)
-        }
-    }
-}
-
 impl End {
     /// Opens a client that reads: its request is appended to `out`, for `to`.
     ///
@@ -155,6 +118,7 @@ impl End {
             retries: config.retries,
             retries_left: config.retries,
             last_sent,
+            spare: Vec::new(alloc),
             last_sent_to: to,
             phase: Phase::Waiting {
                 asked: *asked,
@@ -202,10 +166,15 @@ impl End {
         let Files::Source(source) = files else {
             unreachable!()
         };
+        let want = block_length(length, DEFAULT_BLOCK_SIZE, 1);
+        out.reserve(HEADER + want)?;
         let mut last_sent = Vec::new(alloc);
-        match start_with(source, length, &mut last_sent, out)? {
+        match read_data(source, 1, want, &mut last_sent)? {
             BlockRead::Changed => Err(OpenFault::SourceFault),
             BlockRead::Whole => {
+                let Ok(()) = out.extend_from_slice(&last_sent) else {
+                    unreachable!()
+                };
                 let end = End {
                     side: Side::ServerRead,
                     mode,
@@ -213,6 +182,7 @@ impl End {
                     retries,
                     retries_left: retries,
                     last_sent,
+                    spare: Vec::new(alloc),
                     last_sent_to: peer,
                     phase: Phase::Sending {
                         terms: default_terms(peer),

@@ -12,7 +12,7 @@ returns-in_default-clause-refused c =
 
 pub returns-in-Ok-effect-clause-steps : goal.returns-in-Ok-effect-clause-steps
 returns-in-Ok-effect-clause-steps c =
-    timeout_result _ _ _ _ _ _ _ _ _ _ _ _ _ c.self.view_is c.in-Some.ensures.some.0 c.self.invariant.1.kept c.in-Ok-effect.ensures.times_out
+    timeout_result c.self.inside.config _ _ _ _ _ _ _ _ _ _ _ _ c.self.view_is c.in-Some.ensures.some.0 c.self.invariant.1.kept c.in-Ok-effect.ensures.times_out
     c.in-Ok.ensures.items c.write_down.ensures.sent c.write_down.ensures.report
 
 pub returns-in_default-reserve-clause-refused : goal.returns-in_default-reserve-clause-refused

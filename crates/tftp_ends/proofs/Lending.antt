@@ -1,0 +1,12 @@
+-- What a call lends and appends is what it carries, and what it tells.
+use Rattle.std.proofs.Common.{◌≡◌, ℕ, List, ◌++◌, Option, refl, ap, ◌∙◌}
+use Rattle.tftp_ends.specs.declared.endpoint.Endpoint.{Endpoint}
+use Rattle.tftp_ends.specs.declared.outgoing.Outgoing.{Outgoing}
+use Rattle.tftp_ends.specs.declared.record.Step.{Step}
+use Rattle.tftp_ends.specs.End.{EndState, step_of}
+use Rattle.tftp_ends.specs.Step.{Turn, Lends, Carries, lent, told}
+
+-- the bytes that are lent went behind others, and the step tells where they go
+pub carries_lent : (before e : EndState) (turn : Turn) (to : Option Endpoint) (outgoing : Outgoing) (old new : List ℕ) (step : Step) → Lends turn e to outgoing → new ≡ old ++ lent outgoing e → step ≡ step_of before.phase e.phase to → Carries turn e step.to old new × (step ≡ told before turn)
+carries_lent before e turn to outgoing old new step l n s =
+    (record { state = l.state; goes = ap (λ (x : Step). x.to) s ∙ l.goes; appended = n ∙ ap (λ (x : List ℕ). old ++ x) l.bytes }, s ∙ rw (l.state, l.goes) refl)

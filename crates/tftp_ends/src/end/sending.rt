@@ -1,0 +1,101 @@
+//! The one block that a source gives: DATA is built in the spare buffer, which then changes places with
+//! the last datagram sent.
+
+ghost use Rattle.std.specs.Prelude.{◌≡◌, ◌≤◌, ◌+◌, length, OnOk, OnErr, IfOk, Some, vec_capacity};
+ghost use Rattle.tftp_ends.specs.BlockRead.{is_whole};
+ghost use Rattle.tftp_ends.specs.Step.{Turn, Lends, Sends, ReadsData, block_length, room_of, lent};
+ghost use Rattle.tftp_ends.specs.Sound.{IsSending};
+
+use crate::action::Action;
+use crate::end::End;
+use crate::endpoint::Endpoint;
+use crate::error_reply::ErrorReply;
+use crate::outcome::Outcome;
+use crate::outgoing::Outgoing;
+use crate::phase::{Phase, Terms};
+use crate::reply::{HEADER, append_data_header};
+use std::alloc::AllocError;
+use std::mem;
+use tftp_file::{FileFault, Source};
+
+/// How many bytes DATA of this number carries, of a file of that length.
+pub(crate) fn block_length(length: u64, size: u16, number: u16) -> usize
+    ensures { result ≡ block_length length size number }
+{
+    let before = u64::from(number.saturating_sub(1)) * u64::from(size);
+    length.saturating_sub(before).min(u64::from(size)) as usize
+}
+
+/// What came of the wish for a block.
+#[derive(Clone, Copy)]
+pub(crate) enum BlockRead {
+    /// All of the block.
+    Whole,
+    /// Less than the block, or nothing.
+    Changed,
+}
+
+/// Makes DATA of that number the buffer's bytes, if the source gives the block.
+pub(crate) fn read_data<S: Source>(
+    source: &mut S,
+    number: u16,
+    want: usize,
+    buffer: &mut Vec<u8>,
+) -> Result<BlockRead, AllocError>
+    requires { want ≤ 65535 }
+    ensures reads { IfOk result (λ read. ReadsData (S.left source.old) (S.left source.new)
+        (S.may_fail source.old want) number want buffer.new.items (is_whole read)) }
+    ensures room { OnOk result (4 ≤ vec_capacity buffer.new) }
+    ensures err { OnErr result (S.left source.new ≡ S.left source.old) }
+    ensures same { S.is_same source.old source.new }
+{
+    buffer.clear();
+    buffer.reserve(HEADER + want)?;
+    let Ok(()) = append_data_header(buffer, number) else {
+        unreachable!()
+    };
+    match source.fill(want, buffer) {
+        Ok(count) => {
+            if count == want {
+                return Ok(BlockRead::Whole);
+            }
+            Ok(BlockRead::Changed)
+        }
+        Err(FileFault::Read) => Ok(BlockRead::Changed),
+        Err(FileFault::Memory) => Err(AllocError),
+    }
+}
+
+impl End {
+    /// Sends DATA of this number, if the source gives the block; the answer goes to the peer.
+    pub(crate) fn send<S: Source>(
+        &mut self,
+        terms: Terms,
+        number: u16,
+        source: &mut S,
+        from: Endpoint,
+    ) -> Result<Outgoing, AllocError>
+        requires { IsSending self.old terms }
+        ensures sends { IfOk result (λ outgoing. (turn : Turn)
+            × Sends S.left S.may_fail terms number from self.old source.old turn source.new
+            × Lends turn self.new (Some from) outgoing) }
+        ensures room { IfOk result (λ outgoing. length (lent outgoing self.new) ≤ room_of self.old (Action.Send terms number)) }
+        ensures err { OnErr result ((self.new ≡ self.old) × (S.left source.new ≡ S.left source.old)) }
+        ensures same { S.is_same source.old source.new }
+        ensures side { self.new.side ≡ self.old.side }
+    {
+        let want = block_length(self.length, terms.size, number);
+        match read_data(source, number, want, &mut self.spare)? {
+            BlockRead::Whole => {
+                mem::swap(&mut self.last_sent, &mut self.spare);
+                self.last_sent_to = from;
+                self.go_into(Phase::Sending { terms, number });
+                Ok(Outgoing::LastSent)
+            }
+            BlockRead::Changed => {
+                self.go_into(self.phase.refused(Some(terms), Outcome::SourceFault));
+                Ok(Outgoing::Error(ErrorReply::FileChanged))
+            }
+        }
+    }
+}
