@@ -5,14 +5,8 @@
 
 mod arguments;
 mod play;
-#[cfg(test)]
-mod play_tests;
 mod script;
-#[cfg(test)]
-mod script_tests;
 mod show;
-#[cfg(test)]
-mod tests;
 
 pub use arguments::{play_command, play_words, show_command, show_words};
 pub use play::play_run;

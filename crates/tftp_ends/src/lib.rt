@@ -22,8 +22,6 @@ mod record;
 mod reply;
 mod sender;
 mod side;
-#[cfg(test)]
-mod tests;
 mod waiting;
 
 pub use action::Action;

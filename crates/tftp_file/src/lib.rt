@@ -16,17 +16,11 @@ pub mod laws;
 mod length;
 mod lines;
 mod memory;
-#[cfg(test)]
-mod memory_tests;
 mod netascii;
 mod path;
 mod sink;
 mod source;
 mod stream;
-#[cfg(test)]
-mod stream_tests;
-#[cfg(test)]
-mod text_tests;
 
 pub use fault::{FileFault, StoreFault};
 pub use fault_source::FaultSource;

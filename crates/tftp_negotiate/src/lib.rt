@@ -20,8 +20,6 @@ mod number;
 mod oack;
 mod policy;
 mod refusal;
-#[cfg(test)]
-mod tests;
 
 pub use agreed::Agreed;
 pub use answer::{accept, accept_ref};

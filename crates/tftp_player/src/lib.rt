@@ -10,8 +10,6 @@ mod datagram;
 mod effect;
 mod event;
 mod fault;
-#[cfg(test)]
-mod fault_tests;
 mod hosts;
 pub mod laws;
 mod player;
@@ -19,8 +17,6 @@ mod report;
 mod served;
 mod shelf;
 mod world;
-#[cfg(test)]
-mod world_tests;
 
 pub use datagram::Datagram;
 pub use event::Event;

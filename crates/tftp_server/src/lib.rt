@@ -11,13 +11,9 @@ mod config;
 mod fault;
 mod memory;
 mod opened;
-#[cfg(test)]
-mod port_tests;
 mod server;
 mod store;
 mod table;
-#[cfg(test)]
-mod tests;
 mod transfer;
 
 pub use config::Config;

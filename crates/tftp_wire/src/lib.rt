@@ -19,8 +19,6 @@ mod options;
 mod owned;
 mod packet;
 mod reader;
-#[cfg(test)]
-mod tests;
 mod text;
 mod writer;
 

@@ -1,11 +1,11 @@
 //! Whole runs of `tftp-play` over memory. What they print is written by hand from RFC 1350, sections 2,
 //! 4 and 6, and RFC 1123, section 4.2.3.1.
 
-use crate::play_run;
-use crate::tests::{Breaks, Full};
+use crate::faulty_streams::{Breaks, Full};
 use std::alloc::Global;
 use std::process::Abort;
 use std::test::Fail;
+use tftp_cmd::play_run;
 
 fn plays(rt: &impl Abort, alloc: Global, script: &str, want: &str, status: u8) -> Result<(), Fail> {
     let mut output = Vec::new(alloc);
@@ -176,23 +176,33 @@ fn quiet_scripts(rt: HostRuntime) -> Result<(), Fail> {
     Ok(())
 }
 
+/// A script cannot be read to its end: nothing is played.
 #[test]
-fn play_failures_are_two(rt: HostRuntime) -> Result<(), Fail> {
+fn a_script_breaks_off(rt: HostRuntime) {
     let mut output = Vec::new(rt.alloc());
     let mut errors = Vec::new(rt.alloc());
     let broken = Breaks(b"get a octet\n");
     let status = play_run(rt.alloc(), broken, &mut output, &mut errors);
-    assert_eq!(rt; status, 2, "a script that breaks off");
+    assert_eq!(rt; status, 2, "the status");
     assert!(rt; output.is_empty(), "nothing is played");
-    assert_eq!(rt; errors.as_slice(), b"script: unreadable\n".as_slice());
+    let message = b"script: unreadable\n".as_slice();
+    assert_eq!(rt; errors.as_slice(), message, "the message");
+}
 
-    errors.clear();
+#[test]
+fn an_output_takes_nothing(rt: HostRuntime) {
+    let mut errors = Vec::new(rt.alloc());
     let script = b"get a octet\n".as_slice();
     let status = play_run(rt.alloc(), script, Full, &mut errors);
-    assert_eq!(rt; status, 2, "an output that takes nothing");
-    assert_eq!(rt; errors.as_slice(), b"output: unwritable\n".as_slice());
+    assert_eq!(rt; status, 2, "the status");
+    let message = b"output: unwritable\n".as_slice();
+    assert_eq!(rt; errors.as_slice(), message, "the message");
+}
 
+#[test]
+fn a_message_cannot_be_written(rt: HostRuntime) {
+    let mut output = Vec::new(rt.alloc());
     let status = play_run(rt.alloc(), b"\xff\n".as_slice(), &mut output, Full);
-    assert_eq!(rt; status, 2, "a message that cannot be written");
-    Ok(())
+    assert_eq!(rt; status, 2, "the status");
+    assert!(rt; output.is_empty(), "nothing is played");
 }

@@ -1,0 +1,51 @@
+//! Command lines of the programs, and their statuses.
+
+use tftp_cmd::{play_words, show_words};
+
+/// A word behind the program's name, and the status: `tftp-show` takes no argument but these two.
+const SHOW: [(&str, u8); 4] = [
+    ("--help", 0),
+    ("--version", 0),
+    ("--verbose", 2),
+    ("packets.hex", 2),
+];
+
+#[test]
+fn show_command_lines(rt: HostRuntime) {
+    for (word, status) in SHOW {
+        let answer = show_words(&rt, &["tftp-show", word]);
+        assert_eq!(rt; answer, status, "the argument {word}");
+    }
+}
+
+/// Command lines of `tftp-play`, and the status.
+const PLAY: [(&[&str], u8); 5] = [
+    (&["tftp-play", "--help"], 0),
+    (&["tftp-play", "--version"], 0),
+    (&["tftp-play", "--verbose"], 2),
+    (&["tftp-play", "a.script", "b.script"], 2),
+    (&["tftp-play", "/missing/a.script"], 2),
+];
+
+#[test]
+fn play_command_lines(rt: HostRuntime) {
+    for (words, status) in PLAY {
+        let mut errors = Vec::new(rt.alloc());
+        let answer = play_words(&rt, words, &mut errors);
+        assert_eq!(rt; answer, status, "the status of {words:?}");
+    }
+}
+
+/// A script that is not there, and a folder.
+const UNREADABLE: [&str; 2] = ["/missing/a.script", "/"];
+
+#[test]
+fn unreadable_scripts(rt: HostRuntime) {
+    for path in UNREADABLE {
+        let mut errors = Vec::new(rt.alloc());
+        let answer = play_words(&rt, &["tftp-play", path], &mut errors);
+        assert_eq!(rt; answer, 2, "the status of {path}");
+        let message = b"script: unreadable\n".as_slice();
+        assert_eq!(rt; errors.as_slice(), message, "the message of {path}");
+    }
+}

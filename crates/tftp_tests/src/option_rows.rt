@@ -1,0 +1,581 @@
+//! Options of requests and of OACKs, and what becomes of them (RFC 2347; RFC 2348; RFC 2349).
+//!
+//! A row writes options as `name=value`, with commas between them, and what becomes of them as the
+//! list that is agreed and the block size, or as the refusal.
+
+use std::alloc::{AllocError, Global};
+use std::process::Abort;
+use std::test::Fail;
+use tftp_negotiate::{
+    Agreed, Asked, Kind, Known, Limits, Name, Refusal, accept, accept_ref, check_oack,
+    check_oack_ref, is_block_size, is_timeout,
+};
+use tftp_wire::{Bytes, Mode, PacketRef, RawOption, decode_ref};
+
+const ROOMY: Limits = Limits {
+    max_block: 65_464,
+    max_file: u64::MAX,
+};
+
+const TIGHT: Limits = Limits {
+    max_block: 1428,
+    max_file: 1000,
+};
+
+const NOTHING: Asked = Asked {
+    blksize: None,
+    timeout: None,
+    tsize: None,
+};
+
+/// Asks for a block size alone.
+const SIZE: Asked = Asked {
+    blksize: Some(1428),
+    timeout: None,
+    tsize: None,
+};
+
+/// Asks for a timeout alone.
+const WAIT: Asked = Asked {
+    blksize: None,
+    timeout: Some(3),
+    tsize: None,
+};
+
+/// Asks for the length of a file that is read.
+const LENGTH: Asked = Asked {
+    blksize: None,
+    timeout: None,
+    tsize: Some(0),
+};
+
+/// Asks for all three, as a writer of 41 bytes.
+const ALL: Asked = Asked {
+    blksize: Some(65_464),
+    timeout: Some(255),
+    tsize: Some(41),
+};
+
+const READ: Kind = Kind::Read;
+
+const WRITE: Kind = Kind::Write;
+
+const OCTET: Mode = Mode::Octet;
+
+const NETASCII: Mode = Mode::Netascii;
+
+/// Each kind in each mode.
+const DIRECTIONS: [(Kind, Mode); 4] = [
+    (READ, OCTET),
+    (READ, NETASCII),
+    (WRITE, OCTET),
+    (WRITE, NETASCII),
+];
+
+/// Values that are no number, whatever the option: the RFCs only say that values are ASCII, and this
+/// project takes a number in one spelling, below 2^64.
+const NO_NUMBERS: [&str; 14] = [
+    "",
+    "00",
+    "01",
+    "08",
+    "+8",
+    "-8",
+    " 8",
+    "8 ",
+    "8.0",
+    "0x8",
+    "1e3",
+    "eight",
+    "18446744073709551616",
+    "99999999999999999999",
+];
+
+const NAMES: [&str; 3] = ["blksize", "timeout", "tsize"];
+
+fn options_of(alloc: Global, row: &str) -> Result<Vec<RawOption>, AllocError> {
+    let mut options = Vec::new(alloc);
+    for option in row.split(',') {
+        if let Some((name, value)) = option.split_once('=') {
+            options.push(option_of(alloc, name, value)?)?;
+        }
+    }
+    Ok(options)
+}
+
+fn option_of(alloc: Global, name: &str, value: &str) -> Result<RawOption, AllocError> {
+    Ok(RawOption {
+        name: Bytes::from_slice(alloc, name.as_bytes())?,
+        value: Bytes::from_slice(alloc, value.as_bytes())?,
+    })
+}
+
+fn shown(alloc: Global, outcome: Result<Agreed, Refusal>) -> Result<String, AllocError> {
+    match outcome {
+        Ok(agreed) => {
+            let list = agreed.as_slice();
+            let size = agreed.block_size();
+            format!(in alloc; "{list:?} {size}")
+        }
+        Err(refusal) => format!(in alloc; "{refusal:?}"),
+    }
+}
+
+/// A server whose file has 10 bytes answers a request with these options so.
+fn answers(
+    rt: &impl Abort,
+    alloc: Global,
+    limits: &Limits,
+    (kind, mode): (Kind, Mode),
+    row: &str,
+    want: &str,
+) -> Result<(), Fail> {
+    let largest = u64::from(limits.max_block);
+    assert!(rt; is_block_size(largest), "the limits of {row:?}");
+    let options = options_of(alloc, row)?;
+    let got = shown(alloc, accept(options.as_slice(), kind, mode, 10, limits))?;
+    assert_eq!(rt; got.as_str(), want, "{kind:?} {mode:?} {row:?}");
+    Ok(())
+}
+
+/// A client takes an OACK with these options so.
+fn takes(
+    rt: &impl Abort,
+    alloc: Global,
+    asked: &Asked,
+    (kind, mode): (Kind, Mode),
+    row: &str,
+    limit: u64,
+    want: &str,
+) -> Result<(), Fail> {
+    assert!(rt; asked.is_askable(), "what {row:?} answers may be asked");
+    let options = options_of(alloc, row)?;
+    let got = shown(
+        alloc,
+        check_oack(asked, kind, mode, options.as_slice(), limit),
+    )?;
+    assert_eq!(rt;
+        got.as_str(),
+        want,
+        "{kind:?} {mode:?} {row:?} for {asked:?}"
+    );
+    Ok(())
+}
+
+/// The first two rows are the lists of a request in two orders; the answer keeps the order
+/// (RFC 2347: the order of options has no meaning).
+const LIMITED: [(&str, &str); 10] = [
+    ("BLKSIZE=1428,timeout=3", "[Blksize(1428), Timeout(3)] 1428"),
+    ("timeout=3,BLKSIZE=1428", "[Timeout(3), Blksize(1428)] 1428"),
+    ("blksize=65464", "[Blksize(1428)] 1428"),
+    ("blksize=1429", "[Blksize(1428)] 1428"),
+    ("blksize=1427", "[Blksize(1427)] 1427"),
+    ("blksize=7", "[] 512"),
+    ("blksize=08", "[] 512"),
+    ("blksize=512,BLKSIZE=512", "Repeated"),
+    ("tsize=0", "[Tsize(10)] 512"),
+    ("", "[] 512"),
+];
+
+#[test]
+fn answers_keep_to_limits(rt: HostRuntime) -> Result<(), Fail> {
+    for (row, want) in LIMITED {
+        answers(&rt, rt.alloc(), &TIGHT, (READ, OCTET), row, want)?;
+    }
+    Ok(())
+}
+
+/// The ranges of RFC 2348 (8 to 65,464) and RFC 2349 (1 to 255), in both modes, both ways.
+const RANGES: [(&str, &str); 21] = [
+    ("blksize=0", "[] 512"),
+    ("blksize=7", "[] 512"),
+    ("blksize=8", "[Blksize(8)] 8"),
+    ("blksize=65464", "[Blksize(65464)] 65464"),
+    ("blksize=65465", "[] 512"),
+    ("blksize=65536", "[] 512"),
+    ("blksize=65544", "[] 512"),
+    ("blksize=18446744073709551615", "[] 512"),
+    ("timeout=0", "[] 512"),
+    ("timeout=1", "[Timeout(1)] 512"),
+    ("timeout=255", "[Timeout(255)] 512"),
+    ("timeout=256", "[] 512"),
+    ("timeout=257", "[] 512"),
+    ("windowsize=4", "[] 512"),
+    ("windowsize=4,windowsize=4", "[] 512"),
+    ("blksiz=8", "[] 512"),
+    ("blksizes=8", "[] 512"),
+    ("bLkSiZe=8,TimeOut=9", "[Blksize(8), Timeout(9)] 8"),
+    ("blksize=x,blksize=y", "Repeated"),
+    ("timeout=3,windowsize=4,TIMEOUT=3", "Repeated"),
+    ("tsize=x,tsize=y", "Repeated"),
+];
+
+fn keeps_to_ranges(rt: &impl Abort, alloc: Global, direction: (Kind, Mode)) -> Result<(), Fail> {
+    for (row, want) in RANGES {
+        answers(rt, alloc, &ROOMY, direction, row, want)?;
+    }
+    Ok(())
+}
+
+#[test]
+fn answers_keep_to_ranges(rt: HostRuntime) -> Result<(), Fail> {
+    for direction in DIRECTIONS {
+        keeps_to_ranges(&rt, rt.alloc(), direction)?;
+    }
+    Ok(())
+}
+
+/// Each option with each value that is no number is left out of the answer.
+fn leaves_out_no_numbers(
+    rt: &impl Abort,
+    alloc: Global,
+    direction: (Kind, Mode),
+    name: &str,
+) -> Result<(), Fail> {
+    for value in NO_NUMBERS {
+        let row = format!(in alloc; "{name}={value}")?;
+        answers(rt, alloc, &ROOMY, direction, row.as_str(), "[] 512")?;
+    }
+    Ok(())
+}
+
+#[test]
+fn answers_leave_out_no_numbers(rt: HostRuntime) -> Result<(), Fail> {
+    for direction in DIRECTIONS {
+        for name in NAMES {
+            leaves_out_no_numbers(&rt, rt.alloc(), direction, name)?;
+        }
+    }
+    Ok(())
+}
+
+/// A read asks 0 and is answered by the length, here 10; a write says its length (RFC 2349). In netascii
+/// the option is left out.
+const LENGTHS: [(Kind, Mode, &str, &str); 12] = [
+    (READ, OCTET, "tsize=0", "[Tsize(10)] 512"),
+    (READ, OCTET, "tsize=1", "[] 512"),
+    (READ, OCTET, "tsize=10", "[] 512"),
+    (WRITE, OCTET, "tsize=0", "[Tsize(0)] 512"),
+    (WRITE, OCTET, "tsize=1000", "[Tsize(1000)] 512"),
+    (WRITE, OCTET, "tsize=1001", "TooLarge"),
+    (WRITE, OCTET, "timeout=1,tsize=1001,blksize=8", "TooLarge"),
+    (WRITE, OCTET, "tsize=1001,tsize=1", "Repeated"),
+    (READ, NETASCII, "tsize=0", "[] 512"),
+    (WRITE, NETASCII, "tsize=1", "[] 512"),
+    (WRITE, NETASCII, "tsize=1001", "[] 512"),
+    (WRITE, NETASCII, "tsize=1,tsize=1", "Repeated"),
+];
+
+#[test]
+fn answers_say_lengths(rt: HostRuntime) -> Result<(), Fail> {
+    for (kind, mode, row, want) in LENGTHS {
+        answers(&rt, rt.alloc(), &TIGHT, (kind, mode), row, want)?;
+    }
+    Ok(())
+}
+
+#[test]
+fn the_largest_length_is_answered(rt: HostRuntime) -> Result<(), Fail> {
+    answers(
+        &rt,
+        rt.alloc(),
+        &ROOMY,
+        (WRITE, OCTET),
+        "tsize=18446744073709551615",
+        "[Tsize(18446744073709551615)] 512",
+    )
+}
+
+/// OACKs for a client that asked for a block size.
+const SIZE_OACKS: [(&str, &str); 11] = [
+    ("blksize=512", "[Blksize(512)] 512"),
+    ("BLKSIZE=8", "[Blksize(8)] 8"),
+    ("blksize=1428", "[Blksize(1428)] 1428"),
+    ("", "[] 512"),
+    ("blksize=1429,timeout=3", "BadValue"),
+    ("timeout=3,blksize=7", "NotAsked"),
+    ("blksize=7,blksize=512", "Repeated"),
+    ("blksize=7", "BadValue"),
+    ("timeout=3,timeout=3", "Repeated"),
+    ("windowsize=4", "NotAsked"),
+    ("windowsize=4,windowsize=4", "NotAsked"),
+];
+
+/// OACKs for a client that asked for the length of the file.
+const LENGTH_OACKS: [(&str, &str); 6] = [
+    ("tsize=1000", "[Tsize(1000)] 512"),
+    ("tsize=1001", "TooLarge"),
+    ("tsize=01", "BadValue"),
+    ("tsize=18446744073709551616", "BadValue"),
+    ("tsize=1001,windowsize=4", "TooLarge"),
+    ("windowsize=4,tsize=1001", "NotAsked"),
+];
+
+/// OACKs for a client that asked for a timeout.
+const WAIT_OACKS: [(&str, &str); 4] = [
+    ("timeout=3", "[Timeout(3)] 512"),
+    ("timeout=4", "BadValue"),
+    ("timeout=2", "BadValue"),
+    ("timeout=259", "BadValue"),
+];
+
+/// OACKs for a client that asked for nothing.
+const UNASKED_OACKS: [(&str, &str); 3] = [
+    ("timeout=3", "NotAsked"),
+    ("blksize=512", "NotAsked"),
+    ("tsize=0", "NotAsked"),
+];
+
+/// The client takes each OACK of an octet read so, with files of at most 1,000 bytes.
+fn takes_each(
+    rt: &impl Abort,
+    alloc: Global,
+    asked: &Asked,
+    rows: &[(&str, &str)],
+) -> Result<(), Fail> {
+    for (row, want) in rows {
+        takes(rt, alloc, asked, (READ, OCTET), row, 1000, want)?;
+    }
+    Ok(())
+}
+
+#[test]
+fn option_rows(rt: HostRuntime) -> Result<(), Fail> {
+    takes_each(&rt, rt.alloc(), &SIZE, &SIZE_OACKS)?;
+    takes_each(&rt, rt.alloc(), &LENGTH, &LENGTH_OACKS)?;
+    takes_each(&rt, rt.alloc(), &WAIT, &WAIT_OACKS)?;
+    takes_each(&rt, rt.alloc(), &NOTHING, &UNASKED_OACKS)
+}
+
+/// The other modes and kinds: a write takes the length that it said alone (RFC 2349), and in netascii
+/// no length counts as asked. Files have at most 39 bytes.
+const OACK_LENGTHS: [(Kind, Mode, &str, &str); 10] = [
+    (WRITE, OCTET, "tsize=41", "[Tsize(41)] 512"),
+    (WRITE, OCTET, "tsize=40", "BadValue"),
+    (WRITE, OCTET, "tsize=0", "BadValue"),
+    (READ, OCTET, "tsize=39", "[Tsize(39)] 512"),
+    (READ, OCTET, "tsize=40", "TooLarge"),
+    (READ, NETASCII, "tsize=39", "NotAsked"),
+    (WRITE, NETASCII, "tsize=41", "NotAsked"),
+    (WRITE, NETASCII, "tsize=41,tsize=41", "Repeated"),
+    (
+        WRITE,
+        NETASCII,
+        "blksize=65464,timeout=255",
+        "[Blksize(65464), Timeout(255)] 65464",
+    ),
+    (
+        READ,
+        OCTET,
+        "tsize=0,timeout=255,blksize=8",
+        "[Tsize(0), Timeout(255), Blksize(8)] 8",
+    ),
+];
+
+#[test]
+fn oack_lengths(rt: HostRuntime) -> Result<(), Fail> {
+    for (kind, mode, row, want) in OACK_LENGTHS {
+        takes(&rt, rt.alloc(), &ALL, (kind, mode), row, 39, want)?;
+    }
+    Ok(())
+}
+
+/// Each option with each value that is no number is refused in an OACK.
+fn refuses_no_numbers(rt: &impl Abort, alloc: Global, kind: Kind, name: &str) -> Result<(), Fail> {
+    for value in NO_NUMBERS {
+        let row = format!(in alloc; "{name}={value}")?;
+        takes(rt, alloc, &ALL, (kind, OCTET), row.as_str(), 39, "BadValue")?;
+    }
+    Ok(())
+}
+
+#[test]
+fn oacks_hold_numbers(rt: HostRuntime) -> Result<(), Fail> {
+    for name in NAMES {
+        refuses_no_numbers(&rt, rt.alloc(), READ, name)?;
+        refuses_no_numbers(&rt, rt.alloc(), WRITE, name)?;
+    }
+    Ok(())
+}
+
+/// Block sizes, and whether one may be asked (RFC 2348, "Blocksize Option Specification").
+const SIZES: [(u16, bool); 6] = [
+    (7, false),
+    (8, true),
+    (65_464, true),
+    (65_465, false),
+    (0, false),
+    (65_535, false),
+];
+
+#[test]
+fn asked_sizes(rt: HostRuntime) {
+    for (size, want) in SIZES {
+        let asked = Asked {
+            blksize: Some(size),
+            timeout: None,
+            tsize: None,
+        };
+        assert_eq!(rt; asked.is_for(READ, OCTET, 0), want, "blksize {size}");
+        assert_eq!(rt; asked.is_askable(), want, "blksize {size}");
+        assert_eq!(rt; is_block_size(u64::from(size)), want, "blksize {size}");
+    }
+}
+
+/// Seconds, and whether they may be asked (RFC 2349, "Timeout Interval Option Specification").
+const SECONDS: [(u8, bool); 3] = [(0, false), (1, true), (255, true)];
+
+#[test]
+fn asked_seconds(rt: HostRuntime) {
+    for (seconds, want) in SECONDS {
+        let asked = Asked {
+            blksize: None,
+            timeout: Some(seconds),
+            tsize: None,
+        };
+        let may_ask = asked.is_for(WRITE, NETASCII, 9);
+        assert_eq!(rt; may_ask, want, "timeout {seconds}");
+        assert_eq!(rt; is_timeout(u64::from(seconds)), want, "timeout {seconds}");
+    }
+}
+
+/// Lengths, and whether one may be asked of a file of 9 bytes (RFC 2349, "Transfer Size Option
+/// Specification").
+const ASKED_LENGTHS: [(Kind, Mode, u64, bool); 6] = [
+    (READ, OCTET, 0, true),
+    (READ, OCTET, 9, false),
+    (WRITE, OCTET, 9, true),
+    (WRITE, OCTET, 0, false),
+    (READ, NETASCII, 5, true),
+    (WRITE, NETASCII, 5, true),
+];
+
+#[test]
+fn asked_lengths(rt: HostRuntime) {
+    for (kind, mode, tsize, want) in ASKED_LENGTHS {
+        let asked = Asked {
+            blksize: None,
+            timeout: None,
+            tsize: Some(tsize),
+        };
+        assert_eq!(rt;
+            asked.is_for(kind, mode, 9),
+            want,
+            "{kind:?} {mode:?} tsize {tsize}"
+        );
+    }
+}
+
+#[test]
+fn nothing_is_asked(rt: HostRuntime) {
+    assert!(rt;
+        Asked::default().is_for(READ, OCTET, 9),
+        "nothing may be asked"
+    );
+    assert_eq!(rt; Asked::default(), NOTHING, "the default");
+    assert_eq!(rt; NOTHING.tsize_in(OCTET), None, "no length");
+}
+
+#[test]
+fn agreed_values(rt: HostRuntime) -> Result<(), Fail> {
+    let options = options_of(rt.alloc(), "tsize=0,timeout=9,blksize=64")?;
+    let outcome = accept(options.as_slice(), READ, OCTET, 10, &ROOMY);
+    let agreed = outcome.ok().ok_or("the options are answered")?;
+    assert_eq!(rt; agreed.block_size(), 64, "the block size");
+    assert_eq!(rt; agreed.timeout(), Some(9), "the timeout");
+    assert!(rt; !agreed.is_empty(), "options are agreed");
+    assert_eq!(rt; agreed.as_slice().len(), 3, "three of them");
+    Ok(())
+}
+
+#[test]
+fn default_values(rt: HostRuntime) {
+    let agreed = Agreed::default();
+    assert_eq!(rt;
+        agreed.block_size(),
+        512,
+        "blocks have 512 bytes without options (RFC 1350, section 2)"
+    );
+    assert_eq!(rt; agreed.timeout(), None, "no timeout is agreed");
+    assert!(rt; agreed.is_empty(), "no option is agreed");
+    assert!(rt; Agreed::new().is_empty(), "nor at first");
+    assert_eq!(rt; Known::default(), Known::Tsize(0), "what a read asks");
+}
+
+/// The options of a datagram are judged as owned ones are: an RRQ with two options (RFC 2347, "Packet
+/// Formats").
+#[test]
+fn a_datagram_is_answered(rt: HostRuntime) -> Result<(), Fail> {
+    let request = b"\0\x01boot.img\0octet\0BLKSIZE\01428\0timeout\03\0";
+    let PacketRef::Read(read) = decode_ref(request)? else {
+        return Err(Fail::from("an RRQ"));
+    };
+    let answer = accept_ref(&read.options, READ, read.mode, 10, &TIGHT);
+    let answer = shown(rt.alloc(), answer)?;
+    assert_eq!(rt;
+        answer.as_str(),
+        "[Blksize(1428), Timeout(3)] 1428",
+        "the RRQ"
+    );
+    Ok(())
+}
+
+/// The OACK that answers it, at a client that asked for more.
+#[test]
+fn a_datagram_is_taken(rt: HostRuntime) -> Result<(), Fail> {
+    let oack = b"\0\x06blksize\01428\0timeout\03\0";
+    let PacketRef::Oack(options) = decode_ref(oack)? else {
+        return Err(Fail::from("an OACK"));
+    };
+    let asked = Asked {
+        blksize: Some(2000),
+        timeout: Some(3),
+        tsize: None,
+    };
+    assert!(rt; asked.is_askable(), "what may be asked");
+    let taken = check_oack_ref(&asked, READ, OCTET, &options, 10);
+    let taken = shown(rt.alloc(), taken)?;
+    assert_eq!(rt;
+        taken.as_str(),
+        "[Blksize(1428), Timeout(3)] 1428",
+        "the OACK"
+    );
+    Ok(())
+}
+
+/// Names are compared without regard to the case of their letters (RFC 2347, "Packet Formats").
+const OPTION_NAMES: [(&[u8], Option<Name>); 5] = [
+    (b"blksize", Some(Name::Blksize)),
+    (b"TIMEOUT", Some(Name::Timeout)),
+    (b"tSIZe", Some(Name::Tsize)),
+    (b"windowsize", None),
+    (b"tsize ", None),
+];
+
+#[test]
+fn option_names(rt: HostRuntime) {
+    for (bytes, name) in OPTION_NAMES {
+        assert_eq!(rt; Name::of(bytes), name, "the name {bytes:?}");
+    }
+}
+
+const REFUSALS: [(Refusal, u8, &str); 4] = [
+    (Refusal::Repeated, 1, "a known option stands twice"),
+    (Refusal::TooLarge, 2, "the file is too large"),
+    (Refusal::NotAsked, 3, "an option was not asked"),
+    (
+        Refusal::BadValue,
+        4,
+        "an option has a value that was not asked",
+    ),
+];
+
+#[test]
+fn refusals(rt: HostRuntime) -> Result<(), Fail> {
+    for (refusal, number, text) in REFUSALS {
+        assert_eq!(rt; refusal.number(), number, "{refusal:?}");
+        let shown = format!(in rt.alloc(); "{refusal}")?;
+        assert_eq!(rt; shown.as_str(), text, "{refusal:?}");
+    }
+    Ok(())
+}

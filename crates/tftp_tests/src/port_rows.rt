@@ -1,0 +1,179 @@
+//! Requests to a server, and its table of transfers (RFC 1350, section 4). The answers are those of
+//! RFC 1350, section 5 and appendix I.
+
+use std::alloc::Global;
+use std::process::Abort;
+use std::test::Fail;
+use tftp_ends::{Endpoint, Outcome};
+use tftp_file::path_of;
+use tftp_server::{Config, MemStore, Opened, Server, ServerFault};
+
+/// A client, at another port for each request.
+fn client(port: u16) -> Endpoint {
+    Endpoint {
+        ip: [10, 0, 0, 2],
+        port,
+    }
+}
+
+/// A server of the file `a` of the three bytes `ABC`.
+fn server(rt: &impl Abort, alloc: Global, config: Config) -> Result<Server<MemStore>, Fail> {
+    let mut files = Vec::new(alloc);
+    files.push((path_of(alloc, b"a")?, Vec::from_slice(alloc, b"ABC")?))?;
+    let store = MemStore::new(alloc, files)?;
+    assert!(rt; config.is_valid(), "the settings of a server");
+    Ok(Server::new(alloc, config, store)?)
+}
+
+/// The request for the file, in octet.
+const REQUEST: &[u8] = b"\x00\x01a\x00octet\x00";
+
+/// What comes to the request port, the answer to it, and whether a transfer opens.
+const ROWS: [(&str, &[u8], &[u8], bool); 9] = [
+    ("begins as an ERROR", b"\x00\x05", b"", false),
+    ("an ERROR", b"\x00\x05\x00\x01no\x00", b"", false),
+    (
+        "no packet",
+        b"\x00\x07",
+        b"\x00\x05\x00\x04illegal operation\x00",
+        false,
+    ),
+    (
+        "an ACK",
+        b"\x00\x04\x00\x00",
+        b"\x00\x05\x00\x04illegal operation\x00",
+        false,
+    ),
+    (
+        "a file above the root",
+        b"\x00\x01../a\x00octet\x00",
+        b"\x00\x05\x00\x02access violation\x00",
+        false,
+    ),
+    (
+        "only a slash",
+        b"\x00\x01/\x00octet\x00",
+        b"\x00\x05\x00\x02access violation\x00",
+        false,
+    ),
+    (
+        "no such file",
+        b"\x00\x01b\x00octet\x00",
+        b"\x00\x05\x00\x01file not found\x00",
+        false,
+    ),
+    (
+        "a write",
+        b"\x00\x02b\x00octet\x00",
+        b"\x00\x05\x00\x04illegal operation\x00",
+        false,
+    ),
+    (
+        "a read, with an option",
+        b"\x00\x01/a\x00OCTET\x00blksize\x008\x00",
+        b"\x00\x03\x00\x01ABC",
+        true,
+    ),
+];
+
+#[test]
+fn port_rows(rt: HostRuntime) -> Result<(), Fail> {
+    let mut server = server(&rt, rt.alloc(), Config::default())?;
+    for (what, request, answer, opens) in ROWS {
+        let mut out = Vec::new(rt.alloc());
+        let opened = server.on_request(client(2000), 1025, request, &mut out)?;
+        assert_eq!(rt; out.as_slice(), answer, "{what}");
+        assert_eq!(rt; opened.to.is_some(), !answer.is_empty(), "{what}: where to");
+        assert_eq!(rt; opened.tid.is_some(), opens, "{what}: a transfer");
+    }
+    Ok(())
+}
+
+/// A request for the file opens a transfer with this identifier.
+fn open(
+    rt: &impl Abort,
+    alloc: Global,
+    server: &mut Server<MemStore>,
+    tid: u16,
+) -> Result<(), Fail> {
+    let mut out = Vec::new(alloc);
+    let opened = server.on_request(client(tid), tid, REQUEST, &mut out)?;
+    let wanted = Opened {
+        tid: Some(tid),
+        to: Some(client(tid)),
+    };
+    assert_eq!(rt; opened, wanted, "a transfer opens");
+    Ok(())
+}
+
+#[test]
+fn a_full_server_is_busy(rt: HostRuntime) -> Result<(), Fail> {
+    let mut config = Config::default();
+    config.cap = 1;
+    let mut server = server(&rt, rt.alloc(), config)?;
+    open(&rt, rt.alloc(), &mut server, 1025)?;
+    let mut out = Vec::new(rt.alloc());
+    let opened = server.on_request(client(1026), 1026, REQUEST, &mut out)?;
+    assert_eq!(rt; opened.tid, None, "no second transfer");
+    assert_eq!(rt; opened.to, Some(client(1026)), "but an answer");
+    let busy = b"\x00\x05\x00\x00server busy\x00".as_slice();
+    assert_eq!(rt; out.as_slice(), busy, "its bytes");
+    Ok(())
+}
+
+/// The identifiers that the server holds.
+fn tids(server: &Server<MemStore>, alloc: Global) -> Result<Vec<u16>, Fail> {
+    let mut tids = Vec::new(alloc);
+    server.tids(&mut tids)?;
+    Ok(tids)
+}
+
+/// In the order of their opening.
+const OPENED: [u16; 3] = [1030, 1025, 1027];
+
+/// A server that holds three transfers.
+fn busy_server(rt: &impl Abort, alloc: Global) -> Result<Server<MemStore>, Fail> {
+    let mut server = server(rt, alloc, Config::default())?;
+    for tid in OPENED {
+        open(rt, alloc, &mut server, tid)?;
+    }
+    Ok(server)
+}
+
+/// ACK 1 of the one block closes the transfer, and it is taken.
+fn close(
+    rt: &impl Abort,
+    alloc: Global,
+    server: &mut Server<MemStore>,
+    tid: u16,
+) -> Result<(), Fail> {
+    let mut out = Vec::new(alloc);
+    let step = server.on_datagram(tid, client(tid), b"\x00\x04\x00\x01", &mut out)?;
+    assert_eq!(rt; step.closed, Some(Outcome::Complete), "it closes");
+    assert!(rt; server.take_closed(tid).is_some(), "a closed one is taken");
+    Ok(())
+}
+
+/// The identifiers that are held when the second was closed and another opened.
+const HELD: &[u16] = &[1027, 1030, 1040];
+
+#[test]
+fn table_rows(rt: HostRuntime) -> Result<(), Fail> {
+    let mut server = busy_server(&rt, rt.alloc())?;
+    close(&rt, rt.alloc(), &mut server, 1025)?;
+    open(&rt, rt.alloc(), &mut server, 1040)?;
+    let held = tids(&server, rt.alloc())?;
+    assert_eq!(rt; held.as_slice(), HELD, "in rising order");
+    Ok(())
+}
+
+#[test]
+fn an_open_transfer_stays(rt: HostRuntime) -> Result<(), Fail> {
+    let mut server = busy_server(&rt, rt.alloc())?;
+    assert!(rt; server.take_closed(1025).is_none(), "it is not taken");
+    assert!(rt; server.record(1025).is_some(), "it is there");
+    let mut out = Vec::new(rt.alloc());
+    let again = server.on_request(client(1027), 1027, REQUEST, &mut out);
+    assert_eq!(rt; again, Err(ServerFault::TidInUse), "an identifier in use");
+    Ok(())
+}

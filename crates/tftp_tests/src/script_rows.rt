@@ -1,0 +1,208 @@
+//! Which lines a script of `tftp-play` may have.
+
+use std::alloc::Global;
+use std::process::Abort;
+use std::test::Fail;
+use tftp_cmd::play_run;
+
+/// Scripts, and the number of their first faulty line.
+const FAULTS: [(&[u8], usize); 58] = [
+    // lines and words
+    (b"#", 1),
+    (b"\n# no end", 2),
+    (b"get a octet", 1),
+    (b" \n", 1),
+    (b" deliver 0\n", 1),
+    (b"deliver 0 \n", 1),
+    (b"deliver  0\n", 1),
+    (b"# a\n\ndeliver\n", 3),
+    (b"Deliver 0\n", 1),
+    (b"deliver 0\r\n", 1),
+    (b"\r\n", 1),
+    (b"deliver 0\nstop\nstop\n", 2),
+    (b"put a octet 41\n", 1),
+    (b"\xff\n", 1),
+    // numbers
+    (b"deliver 00\n", 1),
+    (b"deliver 01\n", 1),
+    (b"deliver +1\n", 1),
+    (b"deliver -1\n", 1),
+    (b"deliver 1x\n", 1),
+    (b"deliver 18446744073709551616\n", 1),
+    (b"settle 18446744073709551616\n", 1),
+    (b"timeout 65536\n", 1),
+    (b"timeout 1 2\n", 1),
+    // settings
+    (b"set retries 11\n", 1),
+    (b"set retries\n", 1),
+    (b"set cap 0\n", 1),
+    (b"set cap 65\n", 1),
+    (b"set max-block 7\n", 1),
+    (b"set max-block 65465\n", 1),
+    (b"set max-file 18446744073709551616\n", 1),
+    (b"set overwrite yes\n", 1),
+    (b"settle 0\nset cap 1\n", 2),
+    (b"timeout 1\nset retries 5\n", 2),
+    // files
+    (b"file a\n", 1),
+    (b"file a 4\n", 1),
+    (b"file a 4G\n", 1),
+    (b"file a 41 42\n", 1),
+    (b"file a 41*0\n", 1),
+    (b"file a 41*01\n", 1),
+    (b"file a 41*\n", 1),
+    (b"file a *3\n", 1),
+    (b"file a -*3\n", 1),
+    (b"file a 41*2*2\n", 1),
+    (b"file a 41*100000001\n", 1),
+    (b"file a 4142*9223372036854775808\n", 1),
+    (b"file .a 41\n", 1),
+    (b"file / 41\n", 1),
+    (b"file a 41\nfile /a -\n", 2),
+    (b"deliver 0\nfile a 41\n", 2),
+    // reads
+    (b"get a\n", 1),
+    (b"get a mail\n", 1),
+    (b"get a OCTET\n", 1),
+    (b"get a octet blksize=7\n", 1),
+    (b"get a octet blksize=512 blksize=512\n", 1),
+    (b"get a octet timeout=0\n", 1),
+    (b"get a octet timeout=256\n", 1),
+    (b"get a octet tsize=0\n", 1),
+    (b"get a octet tsize tsize\n", 1),
+];
+
+fn is_faulty(rt: &impl Abort, alloc: Global, script: &[u8], number: usize) -> Result<(), Fail> {
+    let mut output = Vec::new(alloc);
+    let mut errors = Vec::new(alloc);
+    let status = play_run(alloc, script, &mut output, &mut errors);
+    let want = format!(in alloc; "line {number}: fault\n")?;
+    assert_eq!(rt;
+        errors.as_slice(),
+        want.as_bytes(),
+        "the message of {script:?}"
+    );
+    assert_eq!(rt; status, 2, "the status of {script:?}");
+    assert!(rt; output.is_empty(), "{script:?} is not played");
+    Ok(())
+}
+
+#[test]
+fn script_faults(rt: HostRuntime) -> Result<(), Fail> {
+    for (script, number) in FAULTS {
+        is_faulty(&rt, rt.alloc(), script, number)?;
+    }
+    Ok(())
+}
+
+/// Each form of line, at the ends of its ranges.
+const WHOLE: &[u8] = b"\
+# a comment
+
+set retries 0
+set retries 10
+set max-block 8
+set max-block 65464
+set max-file 18446744073709551615
+set cap 64
+file /b/c 4aF0*2
+file empty -
+get \xff= netascii tsize timeout=255 blksize=65464
+deliver 18446744073709551615
+timeout 65535
+settle 0
+";
+
+/// Today no client asks in netascii.
+const WHOLE_OUTPUT: &str = "\
+refused BadRequest
+refused NoSuchDatagram
+refused NoSuchEnd
+";
+
+fn plays(
+    rt: &impl Abort,
+    alloc: Global,
+    script: &[u8],
+    want: &str,
+    status: u8,
+) -> Result<(), Fail> {
+    let mut output = Vec::new(alloc);
+    let mut errors = Vec::new(alloc);
+    let answer = play_run(alloc, script, &mut output, &mut errors);
+    assert_eq!(rt;
+        output.as_slice(),
+        want.as_bytes(),
+        "the output of {script:?}"
+    );
+    assert!(rt; errors.is_empty(), "an error of {script:?}");
+    assert_eq!(rt; answer, status, "the status of {script:?}");
+    Ok(())
+}
+
+#[test]
+fn whole_scripts(rt: HostRuntime) -> Result<(), Fail> {
+    plays(&rt, rt.alloc(), WHOLE, WHOLE_OUTPUT, 0)
+}
+
+/// What the lines before the first event set, as far as it shows in a run.
+const SETTINGS: [(&[u8], &str, u8); 4] = [
+    // the last line of a setting counts
+    (
+        b"set retries 0\nset retries 2\nget a octet\ntimeout 1024\ntimeout 1024\ntimeout 1024\n",
+        "\
+#0 10.0.0.2:1024 > 10.0.0.1:69 RRQ a octet
+#1 10.0.0.2:1024 > 10.0.0.1:69 RRQ a octet
+#2 10.0.0.2:1024 > 10.0.0.1:69 RRQ a octet
+closed 1024 TimedOut
+end 1024 client-read peer=none size=512 number=0 complete=no TimedOut
+",
+        1,
+    ),
+    // a server with room for one transfer is busy at the second
+    (
+        b"set cap 64\nset cap 1\nfile a -\nget a octet\nget a octet\ndeliver 0\ndeliver 1\n",
+        "\
+#0 10.0.0.2:1024 > 10.0.0.1:69 RRQ a octet
+#1 10.0.0.2:1025 > 10.0.0.1:69 RRQ a octet
+#2 10.0.0.1:1026 > 10.0.0.2:1024 DATA 1 0
+#3 10.0.0.1:69 > 10.0.0.2:1025 ERROR 0 (server busy)
+end 1024 client-read peer=none size=512 number=0 complete=no open
+end 1025 client-read peer=none size=512 number=0 complete=no open
+end 1026 server-read peer=1024 size=512 number=1 complete=no open
+",
+        1,
+    ),
+    // a name's leading slash is dropped, and two bytes twice are four
+    (
+        b"file /b/c 4aF0*2\nget b/c octet\nsettle 0\n",
+        "\
+#0 10.0.0.2:1024 > 10.0.0.1:69 RRQ b/c octet
+#1 10.0.0.1:1025 > 10.0.0.2:1024 DATA 1 4
+#2 10.0.0.2:1024 > 10.0.0.1:1025 ACK 1
+closed 1025 Complete
+end 1024 client-read peer=1025 size=512 number=1 complete=yes open
+end 1025 server-read peer=1024 size=512 number=1 complete=yes Complete
+",
+        0,
+    ),
+    // any bytes but a space are a name
+    (
+        b"get \xff=\r octet\ndeliver 0\ndeliver 1\n",
+        "\
+#0 10.0.0.2:1024 > 10.0.0.1:69 RRQ %ff%3d%0d octet
+#1 10.0.0.1:69 > 10.0.0.2:1024 ERROR 2 (access violation)
+closed 1024 PeerError(2)
+end 1024 client-read peer=none size=512 number=0 complete=no PeerError(2)
+",
+        1,
+    ),
+];
+
+#[test]
+fn settings_and_files(rt: HostRuntime) -> Result<(), Fail> {
+    for (script, want, status) in SETTINGS {
+        plays(&rt, rt.alloc(), script, want, status)?;
+    }
+    Ok(())
+}

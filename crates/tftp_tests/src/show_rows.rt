@@ -1,0 +1,68 @@
+//! Whole runs of `tftp-show` over memory.
+
+use crate::faulty_streams::{Breaks, Full};
+use crate::vectors::VECTORS;
+use std::alloc::Global;
+use std::process::Abort;
+use std::test::Fail;
+use tftp_cmd::show_run;
+
+fn runs(rt: &impl Abort, alloc: Global, input: &[u8], want: &str, status: u8) {
+    let mut output = Vec::new(alloc);
+    let answer = show_run(alloc, input, &mut output);
+    assert_eq!(rt;
+        output.as_slice(),
+        want.as_bytes(),
+        "the output of {input:?}"
+    );
+    assert_eq!(rt; answer, status, "the status of {input:?}");
+}
+
+#[test]
+fn vectors_show(rt: HostRuntime) -> Result<(), Fail> {
+    let mut input = String::new(rt.alloc());
+    let mut want = String::new(rt.alloc());
+    for (line, shown) in VECTORS {
+        writeln!(input, "{line}")?;
+        writeln!(want, "{shown}")?;
+    }
+    runs(&rt, rt.alloc(), input.as_bytes(), want.as_str(), 1);
+    Ok(())
+}
+
+/// Inputs, what is printed and the status: 0 if all lines were packets, else 1. A last line needs no
+/// line feed.
+const INPUTS: [(&[u8], &str, u8); 7] = [
+    (b"", "", 0),
+    (b"00040000", "ACK 0\n", 0),
+    (b"0004FFff\n", "ACK 65535\n", 0),
+    (b"00040000\r\n", "not hex\n", 1),
+    (b"\xff\xff\n", "not hex\n", 1),
+    (b"\n", "fault Short 0\n", 1),
+    (
+        b"00040000\n0\n0006\n",
+        "ACK 0\nnot hex\nfault EmptyOack 2\n",
+        1,
+    ),
+];
+
+#[test]
+fn ends_of_input(rt: HostRuntime) {
+    for (input, want, status) in INPUTS {
+        runs(&rt, rt.alloc(), input, want, status);
+    }
+}
+
+/// What is read before a reader fails.
+const BROKEN: [&[u8]; 3] = [b"", b"00040000\n", b"00040000\n0004"];
+
+#[test]
+fn failures_are_two(rt: HostRuntime) {
+    for input in BROKEN {
+        let mut output = Vec::new(rt.alloc());
+        let status = show_run(rt.alloc(), Breaks(input), &mut output);
+        assert_eq!(rt; status, 2, "a reader that fails after {input:?}");
+    }
+    let status = show_run(rt.alloc(), b"00040000\n".as_slice(), Full);
+    assert_eq!(rt; status, 2, "a writer that fails");
+}
