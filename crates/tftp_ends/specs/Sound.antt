@@ -1,5 +1,5 @@
 -- What holds of every end between two events, and of every action that it finds.
-use Rattle.std.specs.Prelude.{ℕ, ◌≡◌, ◌*◌, ◌<◌, true, false, []}
+use Rattle.std.specs.Prelude.{ℕ, ◌≡◌, ◌*◌, ◌<◌, ◌||◌, nat_lt, not, true, false, []}
 use Rattle.tftp_wire.specs.declared.mode.Mode.TheVariants.{Octet}
 use Rattle.tftp_negotiate.specs.Asked.{IsAskable}
 use Rattle.tftp_ends.specs.declared.phase.Phase.{Phase}
@@ -8,6 +8,7 @@ use Rattle.tftp_ends.specs.declared.action.Action.{Action}
 use Rattle.tftp_ends.specs.declared.action.Action.TheVariants.{Ignore, Stranger, ResendReply, Retransmit, Wait, Close, Refuse, Accept, Send, Store, Complete}
 use Rattle.tftp_ends.specs.declared.phase.Terms.{Terms}
 use Rattle.tftp_ends.specs.End.{EndState, is_sender, is_client}
+use Rattle.tftp_ends.specs.Step.{ack_bytes}
 
 -- a sender's block size, whose blocks of the file can be numbered
 abbrev pub IsSending : EndState → Terms → Type 0
@@ -21,9 +22,23 @@ PhaseFits e (Receiving terms number) = is_sender e.side ≡ false
 PhaseFits e (Dallying terms number dally) = is_sender e.side ≡ false
 PhaseFits e (Closed terms number complete outcome) = Unit {0}
 
+-- the end has acknowledged what it stored: its last datagram is the ACK of its number, but for a server's OACK
+abbrev pub HasAcknowledged : EndState → Terms → ℕ → Type 0
+HasAcknowledged e terms number =
+    is_client e.side || (not terms.by_oack || nat_lt 0 number) ≡ true → e.last_sent ≡ ack_bytes number
+
+-- a receiver's last datagram is the ACK of its number
+abbrev pub ResendsAck : EndState → Phase → Type 0
+ResendsAck e (Waiting asked limit) = Unit {0}
+ResendsAck e (Sending terms number) = Unit {0}
+ResendsAck e (Receiving terms number) = HasAcknowledged e terms number
+ResendsAck e (Dallying terms number dally) = HasAcknowledged e terms number
+ResendsAck e (Closed terms number complete outcome) = Unit {0}
+
 -- what holds of an end between two events
 pub record IsSound (e : EndState) : Type 0 where
   pub phase : PhaseFits e e.phase
+  pub resends : ResendsAck e e.phase
   -- netascii isn't supported yet
   pub octet : e.mode ≡ Octet
   pub nothing_held : e.held ≡ []

@@ -62,13 +62,14 @@ impl Model for End {
 impl End {
     ghost use Rattle.tftp_ends.specs.End.{record_of, outcome_of, terms_of, interval_of};
     ghost use Rattle.tftp_ends.specs.Action.{Decodes, datagram_action, packet_action, garbled_action, is_stranger, timeout_action};
-    ghost use Rattle.tftp_ends.specs.Sound.{ActionFits};
+    ghost use Rattle.tftp_ends.specs.Sound.{ActionFits, ResendsAck};
     ghost use Rattle.tftp_ends.specs.Files.{AreFilesOf, KeepsFiles, AreSame};
     ghost use Rattle.tftp_ends.specs.Step.{Turn, DatagramStep, Carries, Lends, IsAnswered, UsesFile, told, timeout_turn, lent};
 
-    /// How far the end came.
+    /// How far the end came. What a repeated block is answered by is the ACK of the number.
     pub fn record(&self) -> Record
-        ensures { result ≡ record_of self.now }
+        ensures record { result ≡ record_of self.now }
+        ensures resends { ResendsAck self.now self.now.phase }
     {
         let terms = self.phase.terms();
         Record {

@@ -3,7 +3,8 @@
 ghost use Rattle.std.specs.Prelude.{◌≡◌, ◌≤◌, drop, length, OnErr, IfOk};
 ghost use Rattle.tftp_ends.specs.Files.{AreFilesOf, KeepsFiles, AreSame};
 ghost use Rattle.tftp_ends.specs.Step.{Turn, Acts, Lends, UsesFile, ack_bytes, having_sent, in_phase, action_turn, room_of, lent};
-ghost use Rattle.tftp_ends.specs.Sound.{PhaseFits, ActionFits};
+ghost use Rattle.tftp_ends.specs.End.{number_of};
+ghost use Rattle.tftp_ends.specs.Sound.{PhaseFits, ActionFits, ResendsAck};
 
 use crate::action::Action;
 use crate::end::End;
@@ -29,7 +30,8 @@ fn piece_of(bytes: &[u8]) -> &[u8]
 impl End {
     /// Goes into another phase. Progress gives the retries back.
     pub(crate) fn go_into(&mut self, phase: Phase)
-        requires { PhaseFits self.old phase }
+        requires fits { PhaseFits self.old phase }
+        requires resends { ResendsAck self.old phase }
         ensures { self.new ≡ in_phase phase self.old }
     {
         if self.phase.is_progress(phase) {
@@ -38,18 +40,21 @@ impl End {
         self.phase = phase;
     }
 
-    /// Goes into a phase and acknowledges a block. It takes no memory.
-    pub(crate) fn acknowledge(&mut self, phase: Phase, number: u16, from: Endpoint) -> Outgoing
+    /// Goes into a phase and acknowledges its block. It takes no memory.
+    pub(crate) fn acknowledge(&mut self, phase: Phase, from: Endpoint) -> Outgoing
         requires { PhaseFits self.old phase }
-        ensures state { self.new ≡ having_sent (record { to = from; bytes = ack_bytes number }) (in_phase phase self.old) }
+        ensures state { self.new ≡ having_sent (record { to = from; bytes = ack_bytes (number_of phase) }) (in_phase phase self.old) }
         ensures sent { result ≡ Outgoing.LastSent }
     {
         self.last_sent.clear();
-        let Ok(()) = append_ack(&mut self.last_sent, number) else {
+        let Ok(()) = append_ack(&mut self.last_sent, phase.number()) else {
             unreachable!()
         };
         self.last_sent_to = from;
-        self.go_into(phase);
+        if self.phase.is_progress(phase) {
+            self.retries_left = self.retries;
+        }
+        self.phase = phase;
         Outgoing::LastSent
     }
 
@@ -105,7 +110,7 @@ impl End {
                 (Some(from), Outgoing::Error(reply))
             }
             Action::Accept { terms } => {
-                let outgoing = self.acknowledge(Phase::Receiving { terms, number: 0 }, 0, from);
+                let outgoing = self.acknowledge(Phase::Receiving { terms, number: 0 }, from);
                 (Some(from), outgoing)
             }
             Action::Complete => {
