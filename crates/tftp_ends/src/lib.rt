@@ -26,7 +26,7 @@ mod side;
 mod tests;
 mod waiting;
 
-pub use action::Action;
+pub use action::{Action, Response};
 pub use config::EndConfig;
 pub use decoding::{decode_packet, has_error_opcode};
 pub use end::End;
