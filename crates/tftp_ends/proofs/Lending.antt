@@ -10,3 +10,8 @@ use Rattle.tftp_ends.specs.Step.{Turn, Lends, Carries, lent, told}
 pub carries_lent : (before e : EndState) (turn : Turn) (to : Option Endpoint) (outgoing : Outgoing) (old new : List ℕ) (step : Step) → Lends turn e to outgoing → new ≡ old ++ lent outgoing e → step ≡ step_of before.phase e.phase to → Carries turn e step.to old new × (step ≡ told before turn)
 carries_lent before e turn to outgoing old new step l n s =
     (record { state = l.state; goes = ap (λ (x : Step). x.to) s ∙ l.goes; appended = n ∙ ap (λ (x : List ℕ). old ++ x) l.bytes }, s ∙ rw (l.state, l.goes) refl)
+
+-- the step tells where what is lent goes
+pub tells_lent : (before e : EndState) (turn : Turn) (to : Option Endpoint) (outgoing : Outgoing) (step : Step) → Lends turn e to outgoing → step ≡ step_of before.phase e.phase to → Lends turn e step.to outgoing × (step ≡ told before turn)
+tells_lent before e turn to outgoing step l s =
+    (record { state = l.state; goes = ap (λ (x : Step). x.to) s ∙ l.goes; bytes = l.bytes }, s ∙ rw (l.state, l.goes) refl)

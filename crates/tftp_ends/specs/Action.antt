@@ -12,11 +12,13 @@ use Rattle.tftp_ends.specs.declared.phase.Phase.{Phase}
 use Rattle.tftp_ends.specs.declared.phase.Phase.TheVariants.{Waiting, Sending, Receiving, Dallying, Closed}
 use Rattle.tftp_ends.specs.declared.phase.Terms.{Terms}
 use Rattle.tftp_ends.specs.declared.action.Action.{Action}
-use Rattle.tftp_ends.specs.declared.action.Action.TheVariants.{Ignore, Stranger, Retransmit, Wait, Close}
+use Rattle.tftp_ends.specs.declared.action.Action.TheVariants.{Respond}
+use Rattle.tftp_ends.specs.declared.action.Response.{Response}
+use Rattle.tftp_ends.specs.declared.action.Response.TheVariants.{Ignore, Stranger, Retransmit, Wait, Close}
 use Rattle.tftp_ends.specs.End.{EndState, is_sender, is_client, terms_of}
 use Rattle.tftp_ends.specs.Waiting.{reader_action, writer_action}
 use Rattle.tftp_ends.specs.Sender.{sender_action}
-use Rattle.tftp_ends.specs.Receiver.{receiver_action, dally_action}
+use Rattle.tftp_ends.specs.Receiver.{receiver_action, dally_response}
 
 -- what a datagram's bytes say: the packet that they spell, or that they spell none
 abbrev pub Decodes : List ℕ → Option Packet → Type 0
@@ -37,36 +39,40 @@ is_stranger None to from = not (same_address to from)
 is_stranger (Some terms) to from = not (same_endpoint terms.peer from)
 
 -- what begins as an ERROR and is none ends the transfer in silence, but not a dally
-abbrev pub garbled_action : Phase → Action
-garbled_action (Waiting asked limit) = Close outcomes.Illegal
-garbled_action (Sending terms number) = Close outcomes.Illegal
-garbled_action (Receiving terms number) = Close outcomes.Illegal
-garbled_action (Dallying terms number dally) = Ignore
-garbled_action (Closed terms number complete outcome) = Ignore
+abbrev pub garbled_response : Phase → Response
+garbled_response (Waiting asked limit) = Close outcomes.Illegal
+garbled_response (Sending terms number) = Close outcomes.Illegal
+garbled_response (Receiving terms number) = Close outcomes.Illegal
+garbled_response (Dallying terms number dally) = Ignore
+garbled_response (Closed terms number complete outcome) = Ignore
 
 -- how a client that waits handles a packet
 abbrev pub waiting_action : EndState → Endpoint → Option Packet → Phase → Action
 waiting_action e from decoded (Waiting asked limit) =
     if is_sender e.side then writer_action e.mode asked limit e.length from decoded else reader_action e.mode asked limit from decoded
-waiting_action e from decoded _ = Ignore
+waiting_action e from decoded _ = Respond Ignore
 
 -- how an open end handles a packet from its peer, or from the server while it has none
 abbrev pub packet_action : EndState → Endpoint → Option Packet → Phase → Action
 packet_action e from decoded (Waiting asked limit) = waiting_action e from decoded (Waiting asked limit)
 packet_action e from decoded (Sending terms number) = sender_action (is_client e.side) e.length terms number decoded
 packet_action e from decoded (Receiving terms number) = receiver_action (is_client e.side) e.mode e.held terms number decoded
-packet_action e from decoded (Dallying terms number dally) = dally_action number decoded
-packet_action e from decoded (Closed terms number complete outcome) = Ignore
+packet_action e from decoded (Dallying terms number dally) = Respond (dally_response number decoded)
+packet_action e from decoded (Closed terms number complete outcome) = Respond Ignore
 
 -- how an open end handles a datagram: first from whom it is, then whether it can be answered at all
 abbrev pub datagram_action : EndState → Endpoint → List ℕ → Option Packet → Action
 datagram_action e from bytes decoded =
-    if is_stranger (terms_of e.phase) e.last_sent_to from then (if has_error_opcode bytes then Ignore else Stranger)
-    else if has_error_opcode bytes && is_none decoded then garbled_action e.phase
+    if is_stranger (terms_of e.phase) e.last_sent_to from then (if has_error_opcode bytes then Respond Ignore else Respond Stranger)
+    else if has_error_opcode bytes && is_none decoded then Respond (garbled_response e.phase)
     else packet_action e from decoded e.phase
 
 -- how an open end handles a timeout (RFC 1350, sections 2 and 6)
+abbrev pub timeout_response : ℕ → Phase → Response
+timeout_response retries_left (Dallying terms number Fresh) = Wait
+timeout_response retries_left (Dallying terms number Waited) = Close outcomes.Complete
+timeout_response retries_left _ = if retries_left == 0 then Close outcomes.TimedOut else Retransmit
+
+-- the same as an action
 abbrev pub timeout_action : ℕ → Phase → Action
-timeout_action retries_left (Dallying terms number Fresh) = Wait
-timeout_action retries_left (Dallying terms number Waited) = Close outcomes.Complete
-timeout_action retries_left _ = if retries_left == 0 then Close outcomes.TimedOut else Retransmit
+timeout_action retries_left phase = Respond (timeout_response retries_left phase)

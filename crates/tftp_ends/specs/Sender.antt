@@ -6,22 +6,27 @@ use Rattle.tftp_ends.specs.declared.error_reply.ErrorReply.TheVariants.{IllegalO
 use Rattle.tftp_ends.specs.declared.outcome.Outcome.TheVariants as outcomes
 use Rattle.tftp_ends.specs.declared.phase.Terms.{Terms}
 use Rattle.tftp_ends.specs.declared.action.Action.{Action}
-use Rattle.tftp_ends.specs.declared.action.Action.TheVariants.{Ignore, Close, Refuse, Send, Complete}
+use Rattle.tftp_ends.specs.declared.action.Action.TheVariants.{Respond, Send}
+use Rattle.tftp_ends.specs.declared.action.Response.TheVariants.{Ignore, Close, Refuse, Complete}
 
 -- a packet that has no place in the transfer
 abbrev pub illegal_action : Terms → Action
-illegal_action terms = Refuse (Some terms) IllegalOperation outcomes.Illegal
+illegal_action terms = Respond (Refuse (Some terms) IllegalOperation outcomes.Illegal)
+
+-- the peer has given up
+abbrev pub peer_error : ℕ → Action
+peer_error code = Respond (Close (outcomes.PeerError code))
 
 -- an ACK of the newest block asks for the next one, or ends the transfer; an older one asks for nothing
 abbrev pub acked_action : ℕ → Terms → ℕ → ℕ → Action
 acked_action length terms number acked =
-    if acked == number then (if nat_lt number (length / terms.size + 1) then Send terms (number + 1) else Complete)
-    else if nat_lt acked number then Ignore else illegal_action terms
+    if acked == number then (if nat_lt number (length / terms.size + 1) then Send terms (number + 1) else Respond Complete)
+    else if nat_lt acked number then Respond Ignore else illegal_action terms
 
 -- how a sender handles a packet; `client` says that it is a client's end
 abbrev pub sender_action : Bool → ℕ → Terms → ℕ → Option Packet → Action
 sender_action client length terms number None = illegal_action terms
 sender_action client length terms number (Some (Ack acked)) = acked_action length terms number acked
-sender_action client length terms number (Some (Error code text)) = Close (outcomes.PeerError code)
-sender_action client length terms number (Some (Oack options)) = if client && terms.by_oack then Ignore else illegal_action terms
+sender_action client length terms number (Some (Error code text)) = peer_error code
+sender_action client length terms number (Some (Oack options)) = if client && terms.by_oack then Respond Ignore else illegal_action terms
 sender_action client length terms number (Some _) = illegal_action terms

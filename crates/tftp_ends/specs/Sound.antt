@@ -1,13 +1,16 @@
 -- What holds of every end between two events, and of every action that it finds.
-use Rattle.std.specs.Prelude.{ℕ, ◌≡◌, ◌*◌, ◌<◌, true, false, []}
+use Rattle.std.specs.Prelude.{ℕ, ◌≡◌, ◌*◌, ◌<◌, ◌||◌, nat_lt, not, true, false, []}
 use Rattle.tftp_wire.specs.declared.mode.Mode.TheVariants.{Octet}
 use Rattle.tftp_negotiate.specs.Asked.{IsAskable}
 use Rattle.tftp_ends.specs.declared.phase.Phase.{Phase}
 use Rattle.tftp_ends.specs.declared.phase.Phase.TheVariants.{Waiting, Sending, Receiving, Dallying, Closed}
 use Rattle.tftp_ends.specs.declared.action.Action.{Action}
-use Rattle.tftp_ends.specs.declared.action.Action.TheVariants.{Ignore, Stranger, ResendReply, Retransmit, Wait, Close, Refuse, Accept, Send, Store, Complete}
+use Rattle.tftp_ends.specs.declared.action.Action.TheVariants.{Respond, Send, Store}
+use Rattle.tftp_ends.specs.declared.action.Response.{Response}
+use Rattle.tftp_ends.specs.declared.action.Response.TheVariants.{Retransmit, Accept}
 use Rattle.tftp_ends.specs.declared.phase.Terms.{Terms}
 use Rattle.tftp_ends.specs.End.{EndState, is_sender, is_client}
+use Rattle.tftp_ends.specs.Step.{ack_bytes}
 
 -- a sender's block size, whose blocks of the file can be numbered
 abbrev pub IsSending : EndState → Terms → Type 0
@@ -21,51 +24,58 @@ PhaseFits e (Receiving terms number) = is_sender e.side ≡ false
 PhaseFits e (Dallying terms number dally) = is_sender e.side ≡ false
 PhaseFits e (Closed terms number complete outcome) = Unit {0}
 
+-- the end has acknowledged what it stored: its last datagram is the ACK of its number, but for a server's OACK
+abbrev pub HasAcknowledged : EndState → Terms → ℕ → Type 0
+HasAcknowledged e terms number =
+    is_client e.side || (not terms.by_oack || nat_lt 0 number) ≡ true → e.last_sent ≡ ack_bytes number
+
+-- a receiver's last datagram is the ACK of its number
+abbrev pub ResendsAck : EndState → Phase → Type 0
+ResendsAck e (Waiting asked limit) = Unit {0}
+ResendsAck e (Sending terms number) = Unit {0}
+ResendsAck e (Receiving terms number) = HasAcknowledged e terms number
+ResendsAck e (Dallying terms number dally) = HasAcknowledged e terms number
+ResendsAck e (Closed terms number complete outcome) = Unit {0}
+
 -- what holds of an end between two events
 pub record IsSound (e : EndState) : Type 0 where
   pub phase : PhaseFits e e.phase
+  pub resends : ResendsAck e e.phase
   -- netascii isn't supported yet
   pub octet : e.mode ≡ Octet
   pub nothing_held : e.held ≡ []
 
--- an action that sends is a sender's, and one that receives a receiver's
+-- a retry is spent only where one is left, and only a receiver takes an OACK by an ACK
+abbrev pub ResponseFits : EndState → Response → Type 0
+ResponseFits e Retransmit = 0 < e.retries_left
+ResponseFits e (Accept terms) = is_sender e.side ≡ false
+ResponseFits e _ = Unit {0}
+
+-- an action that sends is a sender's, and one that stores a receiver's
 abbrev pub ActionFits : EndState → Action → Type 0
-ActionFits e Ignore = Unit {0}
-ActionFits e Stranger = Unit {0}
-ActionFits e ResendReply = Unit {0}
-ActionFits e Retransmit = 0 < e.retries_left
-ActionFits e Wait = Unit {0}
-ActionFits e (Close outcome) = Unit {0}
-ActionFits e (Refuse terms reply outcome) = Unit {0}
-ActionFits e (Accept terms) = is_sender e.side ≡ false
+ActionFits e (Respond response) = ResponseFits e response
 ActionFits e (Send terms number) = IsSending e terms
 ActionFits e (Store terms number) = (is_sender e.side ≡ false) × (e.mode ≡ Octet)
-ActionFits e Complete = Unit {0}
+
+-- what a sender does at a packet where no file is touched
+abbrev pub IsSenders : Response → Type 0
+IsSenders Retransmit = ⊥
+IsSenders (Accept terms) = ⊥
+IsSenders _ = Unit {0}
+
+-- what a receiver does at a packet where no file is touched
+abbrev pub IsReceivers : Response → Type 0
+IsReceivers Retransmit = ⊥
+IsReceivers _ = Unit {0}
 
 -- an action that a sender of a file of that length finds at a packet
 abbrev pub FitsSender : ℕ → Action → Type 0
-FitsSender length Ignore = Unit {0}
-FitsSender length Stranger = Unit {0}
-FitsSender length ResendReply = Unit {0}
-FitsSender length Retransmit = ⊥
-FitsSender length Wait = Unit {0}
-FitsSender length (Close outcome) = Unit {0}
-FitsSender length (Refuse terms reply outcome) = Unit {0}
-FitsSender length (Accept terms) = ⊥
+FitsSender length (Respond response) = IsSenders response
 FitsSender length (Send terms number) = (0 < terms.size) × (length < 65535 * terms.size)
 FitsSender length (Store terms number) = ⊥
-FitsSender length Complete = Unit {0}
 
 -- an action that a receiver finds at a packet
 abbrev pub FitsReceiver : Action → Type 0
-FitsReceiver Ignore = Unit {0}
-FitsReceiver Stranger = Unit {0}
-FitsReceiver ResendReply = Unit {0}
-FitsReceiver Retransmit = ⊥
-FitsReceiver Wait = Unit {0}
-FitsReceiver (Close outcome) = Unit {0}
-FitsReceiver (Refuse terms reply outcome) = Unit {0}
-FitsReceiver (Accept terms) = Unit {0}
+FitsReceiver (Respond response) = IsReceivers response
 FitsReceiver (Send terms number) = ⊥
 FitsReceiver (Store terms number) = Unit {0}
-FitsReceiver Complete = Unit {0}

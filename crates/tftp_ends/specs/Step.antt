@@ -18,13 +18,15 @@ use Rattle.tftp_ends.specs.declared.phase.Phase.TheVariants.{Sending, Receiving,
 use Rattle.tftp_ends.specs.declared.phase.Terms.{Terms}
 use Rattle.tftp_ends.specs.declared.record.Step.{Step}
 use Rattle.tftp_ends.specs.declared.action.Action.{Action}
-use Rattle.tftp_ends.specs.declared.action.Action.TheVariants.{Ignore, Stranger, ResendReply, Retransmit, Wait, Close, Refuse, Accept, Send, Store, Complete}
+use Rattle.tftp_ends.specs.declared.action.Action.TheVariants.{Respond, Send, Store}
+use Rattle.tftp_ends.specs.declared.action.Response.{Response}
+use Rattle.tftp_ends.specs.declared.action.Response.TheVariants.{Ignore, Stranger, ResendReply, Retransmit, Wait, Close, Refuse, Accept, Complete}
 use Rattle.tftp_ends.specs.declared.outgoing.Outgoing.{Outgoing}
 use Rattle.tftp_ends.specs.declared.outgoing.Outgoing.TheVariants.{Nothing, LastSent, Error}
 use Rattle.tftp_ends.specs.End.{EndState, is_progress, step_of}
 use Rattle.tftp_ends.specs.ErrorReply.{error_packet}
 use Rattle.tftp_ends.specs.Phase.{closed, refused, completed, waited}
-use Rattle.tftp_ends.specs.Action.{Decodes, datagram_action, timeout_action}
+use Rattle.tftp_ends.specs.Action.{Decodes, datagram_action, timeout_response}
 use Rattle.tftp_ends.specs.Text.{Decoded}
 use Rattle.tftp_file.specs.Source.{Fills}
 use Rattle.tftp_file.specs.Sink.{Holding, Appends, Commits}
@@ -59,8 +61,8 @@ ack_bytes number = canonical (Ack number)
 abbrev pub data_bytes : ℕ → List ℕ → List ℕ
 data_bytes number bytes = canonical (Data number bytes)
 
--- the end after an action that touches no file, where a datagram came from there
-abbrev pub after : Action → Endpoint → EndState → EndState
+-- the end after what touches no file, where a datagram came from there
+abbrev pub after : Response → Endpoint → EndState → EndState
 after Ignore from e = e
 after Stranger from e = e
 after ResendReply from e = e
@@ -69,12 +71,10 @@ after Wait from e = record e { phase = waited e.phase }
 after (Close outcome) from e = in_phase (closed outcome e.phase) e
 after (Refuse terms reply outcome) from e = in_phase (refused terms outcome e.phase) e
 after (Accept terms) from e = having_sent (record { to = from; bytes = ack_bytes 0 }) (in_phase (Receiving terms 0) e)
-after (Send terms number) from e = e
-after (Store terms number) from e = e
 after Complete from e = in_phase (completed e.phase) e
 
--- what is answered at an action that touches no file
-abbrev pub reply_at : Action → Endpoint → EndState → Option Reply
+-- what is answered where no file is touched
+abbrev pub reply_at : Response → Endpoint → EndState → Option Reply
 reply_at Ignore from e = None
 reply_at Stranger from e = Some (record { to = from; bytes = error_bytes replies.UnknownTransferId })
 reply_at ResendReply from e = Some (record { to = from; bytes = e.last_sent })
@@ -83,8 +83,6 @@ reply_at Wait from e = None
 reply_at (Close outcome) from e = None
 reply_at (Refuse terms reply outcome) from e = Some (record { to = from; bytes = error_bytes reply })
 reply_at (Accept terms) from e = Some (record { to = from; bytes = ack_bytes 0 })
-reply_at (Send terms number) from e = None
-reply_at (Store terms number) from e = None
 reply_at Complete from e = None
 
 -- an end after an event, and its answer
@@ -92,13 +90,13 @@ pub record Turn : Type 0 where
   pub end : EndState
   pub reply : Option Reply
 
--- an action that touches no file
-abbrev pub action_turn : Action → Endpoint → EndState → Turn
-action_turn action from e = record { end = after action from e; reply = reply_at action from e }
+-- the turn of what touches no file
+abbrev pub response_turn : Response → Endpoint → EndState → Turn
+response_turn response from e = record { end = after response from e; reply = reply_at response from e }
 
 -- an ERROR, and closed with these terms
 abbrev pub refused_turn : Terms → ErrorReply → Outcome → Endpoint → EndState → Turn
-refused_turn terms reply outcome from e = action_turn (Refuse (Some terms) reply outcome) from e
+refused_turn terms reply outcome from e = response_turn (Refuse (Some terms) reply outcome) from e
 
 -- a datagram that is kept as the last one sent, in that phase
 abbrev pub sent_turn : Phase → Endpoint → List ℕ → EndState → Turn
@@ -195,9 +193,9 @@ module _ {S K : Type 0} (left : S → Option (List ℕ)) (may_fail : S → ℕ �
 
   -- what an end does at an action, where a datagram of these bytes came from there
   abbrev pub Acts : Action → Endpoint → List ℕ → EndState → Files S K → Turn → Files S K → Type 0
+  Acts (Respond response) from bytes e files turn files' = (turn ≡ response_turn response from e) × (files' ≡ files)
   Acts (Send terms number) from bytes e files turn files' = SendsFrom terms number from e files turn files'
   Acts (Store terms number) from bytes e files turn files' = StoresIn terms number from (drop 4 bytes) e files turn files'
-  Acts action from bytes e files turn files' = (turn ≡ action_turn action from e) × (files' ≡ files)
 
   -- what an open end does at a datagram
   pub record DatagramStep (from : Endpoint) (bytes : List ℕ) (e : EndState) (files : Files S K) (turn : Turn) (files' : Files S K) : Type 0 where
@@ -207,7 +205,7 @@ module _ {S K : Type 0} (left : S → Option (List ℕ)) (may_fail : S → ℕ �
 
 -- what an open end does at a timeout
 abbrev pub timeout_turn : EndState → Turn
-timeout_turn e = action_turn (timeout_action e.retries_left e.phase) e.last_sent_to e
+timeout_turn e = response_turn (timeout_response e.retries_left e.phase) e.last_sent_to e
 
 -- what a call tells of a turn
 abbrev pub told : EndState → Turn → Step
@@ -218,25 +216,29 @@ abbrev pub reply_bytes : Option Reply → List ℕ
 reply_bytes None = []
 reply_bytes (Some reply) = reply.bytes
 
+-- a datagram goes out where no file is touched
+abbrev pub HasReply : Response → Type 0
+HasReply Ignore = ⊥
+HasReply Stranger = Unit {0}
+HasReply ResendReply = Unit {0}
+HasReply Retransmit = Unit {0}
+HasReply Wait = ⊥
+HasReply (Close outcome) = ⊥
+HasReply (Refuse terms reply outcome) = Unit {0}
+HasReply (Accept terms) = Unit {0}
+HasReply Complete = ⊥
+
 -- an action that answers by a datagram, and so may want memory
 abbrev pub IsAnswered : Action → Type 0
-IsAnswered Ignore = ⊥
-IsAnswered Stranger = Unit {0}
-IsAnswered ResendReply = Unit {0}
-IsAnswered Retransmit = Unit {0}
-IsAnswered Wait = ⊥
-IsAnswered (Close outcome) = ⊥
-IsAnswered (Refuse terms reply outcome) = Unit {0}
-IsAnswered (Accept terms) = Unit {0}
+IsAnswered (Respond response) = HasReply response
 IsAnswered (Send terms number) = Unit {0}
 IsAnswered (Store terms number) = Unit {0}
-IsAnswered Complete = ⊥
 
--- an action that asks a file for a block or gives it one, and so may want memory with no datagram to be appended
+-- an action that asks a file for a block or gives it one, and so may want memory even where nothing is appended
 abbrev pub UsesFile : Action → Type 0
+UsesFile (Respond response) = ⊥
 UsesFile (Send terms number) = Unit {0}
 UsesFile (Store terms number) = Unit {0}
-UsesFile _ = ⊥
 
 -- the bytes that an end lends of what goes out
 abbrev pub lent : Outgoing → EndState → List ℕ
@@ -244,19 +246,23 @@ lent Nothing e = []
 lent LastSent e = e.last_sent
 lent (Error reply) e = error_bytes reply
 
+-- the most bytes that go out where no file is touched
+abbrev pub response_room : EndState → Response → ℕ
+response_room e Ignore = 0
+response_room e Stranger = 24
+response_room e ResendReply = length e.last_sent
+response_room e Retransmit = length e.last_sent
+response_room e Wait = 0
+response_room e (Close outcome) = 0
+response_room e (Refuse terms reply outcome) = 24
+response_room e (Accept terms) = 24
+response_room e Complete = 0
+
 -- the most bytes that go out at an action
 abbrev pub room_of : EndState → Action → ℕ
-room_of e Ignore = 0
-room_of e Stranger = 24
-room_of e ResendReply = length e.last_sent
-room_of e Retransmit = length e.last_sent
-room_of e Wait = 0
-room_of e (Close outcome) = 0
-room_of e (Refuse terms reply outcome) = 24
-room_of e (Accept terms) = 24
+room_of e (Respond response) = response_room e response
 room_of e (Send terms number) = 24 + block_length e.length terms.size number
 room_of e (Store terms number) = 24
-room_of e Complete = 0
 
 -- a call has led to this turn: the end, where the answer goes, and what the end lends of it
 pub record Lends (turn : Turn) (e : EndState) (to : Option Endpoint) (outgoing : Outgoing) : Type 0 where

@@ -15,7 +15,9 @@ use Rattle.tftp_ends.specs.declared.error_reply.ErrorReply.TheVariants.{FileTooL
 use Rattle.tftp_ends.specs.declared.outcome.Outcome.TheVariants as outcomes
 use Rattle.tftp_ends.specs.declared.phase.Terms.{Terms}
 use Rattle.tftp_ends.specs.declared.action.Action.{Action}
-use Rattle.tftp_ends.specs.declared.action.Action.TheVariants.{Close, Refuse, Accept, Send}
+use Rattle.tftp_ends.specs.declared.action.Action.TheVariants.{Respond, Send}
+use Rattle.tftp_ends.specs.declared.action.Response.TheVariants.{Refuse, Accept}
+use Rattle.tftp_ends.specs.Sender.{peer_error}
 use Rattle.tftp_ends.specs.Receiver.{receiver_action}
 
 -- a first DATA or ACK agrees on nothing
@@ -28,24 +30,24 @@ agreed_terms peer agreed = record { peer = peer; size = size agreed; timeout = t
 
 -- a packet that has no place as a first answer
 abbrev pub no_answer : Action
-no_answer = Refuse None IllegalOperation outcomes.Illegal
+no_answer = Respond (Refuse None IllegalOperation outcomes.Illegal)
 
 -- an OACK that doesn't fit what was asked
 abbrev pub refusal_action : Refusal → Action
-refusal_action refusals.Repeated = Refuse None OptionRefused (outcomes.Refused refusals.Repeated)
-refusal_action refusals.TooLarge = Refuse None DiskFull outcomes.TooLarge
-refusal_action refusals.NotAsked = Refuse None OptionRefused (outcomes.Refused refusals.NotAsked)
-refusal_action refusals.BadValue = Refuse None OptionRefused (outcomes.Refused refusals.BadValue)
+refusal_action refusals.Repeated = Respond (Refuse None OptionRefused (outcomes.Refused refusals.Repeated))
+refusal_action refusals.TooLarge = Respond (Refuse None DiskFull outcomes.TooLarge)
+refusal_action refusals.NotAsked = Respond (Refuse None OptionRefused (outcomes.Refused refusals.NotAsked))
+refusal_action refusals.BadValue = Respond (Refuse None OptionRefused (outcomes.Refused refusals.BadValue))
 
 -- a reader takes the options, or refuses them
 abbrev pub accept_action : Endpoint → Result (List Known) Refusal → Action
-accept_action from (Ok agreed) = Accept (agreed_terms from agreed)
+accept_action from (Ok agreed) = Respond (Accept (agreed_terms from agreed))
 accept_action from (Err refusal) = refusal_action refusal
 
 -- a writer begins, if the file's blocks can be numbered
 abbrev pub begin_action : ℕ → Terms → Action
 begin_action length terms =
-    if nat_lt length (65535 * terms.size) then Send terms 1 else Refuse None FileTooLarge outcomes.TooLarge
+    if nat_lt length (65535 * terms.size) then Send terms 1 else Respond (Refuse None FileTooLarge outcomes.TooLarge)
 
 -- a writer takes the options and begins, or refuses them
 abbrev pub begin_with_action : Endpoint → ℕ → Result (List Known) Refusal → Action
@@ -58,7 +60,7 @@ reader_action mode asked limit from None = no_answer
 reader_action mode asked limit from (Some (Data number bytes)) =
     if number == 1 && nat_le (length bytes) 512 then receiver_action true mode [] (default_terms from) 0 (Some (Data number bytes)) else no_answer
 reader_action mode asked limit from (Some (Oack options)) = accept_action from (agreement asked kinds.Read mode options limit)
-reader_action mode asked limit from (Some (Error code text)) = Close (outcomes.PeerError code)
+reader_action mode asked limit from (Some (Error code text)) = peer_error code
 reader_action mode asked limit from (Some _) = no_answer
 
 -- how a client that writes handles a packet from the server's address
@@ -67,5 +69,5 @@ writer_action mode asked limit length from None = no_answer
 writer_action mode asked limit length from (Some (Ack number)) = if number == 0 then begin_action length (default_terms from) else no_answer
 writer_action mode asked limit length from (Some (Oack options)) =
     begin_with_action from length (agreement asked kinds.Write mode options limit)
-writer_action mode asked limit length from (Some (Error code text)) = Close (outcomes.PeerError code)
+writer_action mode asked limit length from (Some (Error code text)) = peer_error code
 writer_action mode asked limit length from (Some _) = no_answer

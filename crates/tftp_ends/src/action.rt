@@ -7,6 +7,18 @@ use crate::phase::Terms;
 /// What is to be done at an event.
 #[derive(Clone, Copy, Debug, PartialEq, Eq)]
 pub enum Action {
+    /// No file is touched.
+    Respond(Response),
+    /// DATA of this number, if the source gives it.
+    Send { terms: Terms, number: u16 },
+    /// The data that came is stored as the block of this number, if the store takes it, and then
+    /// acknowledged.
+    Store { terms: Terms, number: u16 },
+}
+
+/// What is to be done where no file is touched.
+#[derive(Clone, Copy, Debug, PartialEq, Eq)]
+pub enum Response {
     /// No datagram and no change.
     Ignore,
     /// ERROR 5 to the sender of the datagram, and no change.
@@ -30,17 +42,6 @@ pub enum Action {
     /// A client that reads takes an OACK: ACK 0.
     Accept {
         terms: Terms,
-    },
-    /// DATA of this number, if the source gives it.
-    Send {
-        terms: Terms,
-        number: u16,
-    },
-    /// The data that came is stored as the block of this number, if the store takes it, and then
-    /// acknowledged.
-    Store {
-        terms: Terms,
-        number: u16,
     },
     /// The last block was acknowledged: closed as complete, in silence.
     Complete,

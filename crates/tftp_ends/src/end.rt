@@ -9,7 +9,7 @@ ghost use Rattle.std.specs.Prelude.{◌≡◌, ◌↔◌, ◌+◌, ◌++◌, ◌
 ghost use Rattle.tftp_wire.specs.Borrowed.{owned};
 ghost use Rattle.tftp_wire.specs.declared.packet.Packet.{Packet};
 
-use crate::action::Action;
+use crate::action::{Action, Response};
 use crate::decoding::decode_packet;
 use crate::endpoint::Endpoint;
 use crate::error_reply::ErrorReply;
@@ -17,7 +17,7 @@ use crate::fault::EndFault;
 use crate::outcome::Outcome;
 use crate::outgoing::Outgoing;
 use crate::phase::{Dally, Phase, Terms};
-use crate::receiver::{dally_action, receiver_action};
+use crate::receiver::{dally_response, receiver_action};
 use crate::record::{Record, Step};
 use crate::sender::sender_action;
 use crate::side::Side;
@@ -61,14 +61,15 @@ impl Model for End {
 
 impl End {
     ghost use Rattle.tftp_ends.specs.End.{record_of, outcome_of, terms_of, interval_of};
-    ghost use Rattle.tftp_ends.specs.Action.{Decodes, datagram_action, packet_action, garbled_action, is_stranger, timeout_action};
-    ghost use Rattle.tftp_ends.specs.Sound.{ActionFits};
+    ghost use Rattle.tftp_ends.specs.Action.{Decodes, datagram_action, packet_action, garbled_response, is_stranger, timeout_response, timeout_action};
+    ghost use Rattle.tftp_ends.specs.Sound.{ActionFits, ResponseFits, ResendsAck};
     ghost use Rattle.tftp_ends.specs.Files.{AreFilesOf, KeepsFiles, AreSame};
     ghost use Rattle.tftp_ends.specs.Step.{Turn, DatagramStep, Carries, Lends, IsAnswered, UsesFile, told, timeout_turn, lent};
 
-    /// How far the end came.
+    /// How far the end came. What a repeated block is answered by is the ACK of the number.
     pub fn record(&self) -> Record
-        ensures { result ≡ record_of self.now }
+        ensures record { result ≡ record_of self.now }
+        ensures resends { ResendsAck self.now self.now.phase }
     {
         let terms = self.phase.terms();
         Record {
@@ -110,15 +111,15 @@ impl End {
     }
 
     /// What begins as an ERROR and is none ends the transfer in silence, but not a dally.
-    fn garbled_action(&self) -> Action
-        ensures { result ≡ garbled_action self.now.phase }
+    fn garbled_response(&self) -> Response
+        ensures { result ≡ garbled_response self.now.phase }
     {
         match self.phase {
             Phase::Waiting { .. } | Phase::Sending { .. } | Phase::Receiving { .. } =>
-                Action::Close {
+                Response::Close {
                     outcome: Outcome::Illegal,
                 },
-            Phase::Dallying { .. } | Phase::Closed { .. } => Action::Ignore,
+            Phase::Dallying { .. } | Phase::Closed { .. } => Response::Ignore,
         }
     }
 
@@ -141,8 +142,8 @@ impl End {
             Phase::Receiving { terms, number } => receiver_action(
                 self.side, terms, number, decoded,
             ),
-            Phase::Dallying { number, .. } => dally_action(number, decoded),
-            Phase::Closed { .. } => Action::Ignore,
+            Phase::Dallying { number, .. } => Action::Respond(dally_response(number, decoded)),
+            Phase::Closed { .. } => Action::Respond(Response::Ignore),
         }
     }
 
@@ -154,38 +155,38 @@ impl End {
         let decoded = decode_packet(bytes);
         let is_error = has_error_opcode(bytes);
         if self.is_stranger(from) {
-            return if is_error {
-                Action::Ignore
+            return Action::Respond(if is_error {
+                Response::Ignore
             } else {
-                Action::Stranger
-            };
+                Response::Stranger
+            });
         }
         if is_error && decoded.is_none() {
-            return self.garbled_action();
+            return Action::Respond(self.garbled_response());
         }
         self.packet_action(from, &decoded)
     }
 
     /// How the end handles a timeout (RFC 1350, sections 2 and 6).
-    fn timeout_action(&self) -> Action
-        ensures action { result ≡ timeout_action self.now.retries_left self.now.phase }
-        ensures fits { ActionFits self.now result }
+    fn timeout_response(&self) -> Response
+        ensures response { result ≡ timeout_response self.now.retries_left self.now.phase }
+        ensures fits { ResponseFits self.now result }
     {
         match self.phase {
             Phase::Dallying {
                 dally: Dally::Fresh,
                 ..
-            } => Action::Wait,
+            } => Response::Wait,
             Phase::Dallying {
                 dally: Dally::Waited,
                 ..
-            } => Action::Close {
+            } => Response::Close {
                 outcome: Outcome::Complete,
             },
-            _ if self.retries_left == 0 => Action::Close {
+            _ if self.retries_left == 0 => Response::Close {
                 outcome: Outcome::TimedOut,
             },
-            _ => Action::Retransmit,
+            _ => Response::Retransmit,
         }
     }
 
@@ -259,8 +260,8 @@ impl End {
             return Err(EndFault::Closed);
         }
         let before = self.phase();
-        let action = self.timeout_action();
-        let (to, outgoing) = self.answer(action, self.last_sent_to);
+        let response = self.timeout_response();
+        let (to, outgoing) = self.respond(response, self.last_sent_to);
         Ok((before.step_to(self.phase(), to), outgoing))
     }
 
@@ -324,9 +325,9 @@ impl End {
             return Err(EndFault::Closed);
         }
         let before = self.phase();
-        let action = self.timeout_action();
-        out.reserve(self.room(action))?;
-        let (to, outgoing) = self.answer(action, self.last_sent_to);
+        let response = self.timeout_response();
+        out.reserve(self.response_room(response))?;
+        let (to, outgoing) = self.respond(response, self.last_sent_to);
         self.append_outgoing(outgoing, out);
         Ok(before.step_to(self.phase(), to))
     }

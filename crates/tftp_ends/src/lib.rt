@@ -24,7 +24,7 @@ mod sender;
 mod side;
 mod waiting;
 
-pub use action::Action;
+pub use action::{Action, Response};
 pub use config::EndConfig;
 pub use decoding::decode_packet;
 pub use end::End;

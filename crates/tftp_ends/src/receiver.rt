@@ -4,14 +4,14 @@ ghost use Rattle.std.specs.Prelude.{◌≡◌, [], length, option_map};
 ghost use Rattle.tftp_wire.specs.Borrowed.{owned};
 ghost use Rattle.tftp_wire.specs.declared.mode.Mode.TheVariants.{Octet};
 ghost use Rattle.tftp_ends.specs.End.{is_client};
-ghost use Rattle.tftp_ends.specs.Sound.{FitsReceiver};
-ghost use Rattle.tftp_ends.specs.Receiver.{next_action, data_action, receiver_action, dally_action};
+ghost use Rattle.tftp_ends.specs.Sound.{FitsReceiver, IsReceivers};
+ghost use Rattle.tftp_ends.specs.Receiver.{next_action, data_action, receiver_action, dally_response};
 
-use crate::action::Action;
+use crate::action::{Action, Response};
 use crate::error_reply::ErrorReply;
 use crate::outcome::Outcome;
 use crate::phase::Terms;
-use crate::sender::illegal_action;
+use crate::sender::{illegal_action, peer_error};
 use crate::side::Side;
 use tftp_wire::PacketRef;
 
@@ -25,11 +25,11 @@ fn next_action(terms: Terms, number: u16, bytes: &[u8]) -> Action
         return illegal_action(terms);
     }
     if number == u16::MAX && bytes.len() == size {
-        return Action::Refuse {
+        return Action::Respond(Response::Refuse {
             terms: Some(terms),
             reply: ErrorReply::FileTooLarge,
             outcome: Outcome::TooLarge,
-        };
+        });
     }
     Action::Store { terms, number }
 }
@@ -40,10 +40,10 @@ fn data_action(terms: Terms, stored: u16, number: u16, bytes: &[u8]) -> Action
     ensures fits { FitsReceiver result }
 {
     if number == stored {
-        return Action::ResendReply;
+        return Action::Respond(Response::ResendReply);
     }
     if number < stored {
-        return Action::Ignore;
+        return Action::Respond(Response::Ignore);
     }
     if number - stored > 1 {
         return illegal_action(terms);
@@ -63,27 +63,25 @@ pub(crate) fn receiver_action(
 {
     match decoded {
         Some(PacketRef::Data { block, bytes }) => data_action(terms, stored, *block, bytes),
-        Some(PacketRef::Error { code, .. }) => Action::Close {
-            outcome: Outcome::PeerError(*code),
-        },
+        Some(PacketRef::Error { code, .. }) => peer_error(*code),
         Some(PacketRef::Oack(_)) if side.is_client() && terms.by_oack => {
-            if stored == 0 {
-                Action::ResendReply
+            Action::Respond(if stored == 0 {
+                Response::ResendReply
             } else {
-                Action::Ignore
-            }
+                Response::Ignore
+            })
         }
         _ => illegal_action(terms),
     }
 }
 
 /// How a receiver that dallies handles a packet: the last block again is acknowledged again.
-pub(crate) fn dally_action(stored: u16, decoded: &Option<PacketRef<'_>>) -> Action
-    ensures action { result ≡ dally_action stored (option_map owned decoded.now) }
-    ensures fits { FitsReceiver result }
+pub(crate) fn dally_response(stored: u16, decoded: &Option<PacketRef<'_>>) -> Response
+    ensures response { result ≡ dally_response stored (option_map owned decoded.now) }
+    ensures fits { IsReceivers result }
 {
     match decoded {
-        Some(PacketRef::Data { block, .. }) if *block == stored => Action::ResendReply,
-        _ => Action::Ignore,
+        Some(PacketRef::Data { block, .. }) if *block == stored => Response::ResendReply,
+        _ => Response::Ignore,
     }
 }

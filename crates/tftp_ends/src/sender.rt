@@ -4,9 +4,9 @@ ghost use Rattle.std.specs.Prelude.{◌≡◌, ◌*◌, ◌<◌, option_map};
 ghost use Rattle.tftp_wire.specs.Borrowed.{owned};
 ghost use Rattle.tftp_ends.specs.End.{is_client};
 ghost use Rattle.tftp_ends.specs.Sound.{FitsSender};
-ghost use Rattle.tftp_ends.specs.Sender.{illegal_action, acked_action, sender_action};
+ghost use Rattle.tftp_ends.specs.Sender.{illegal_action, peer_error, acked_action, sender_action};
 
-use crate::action::Action;
+use crate::action::{Action, Response};
 use crate::error_reply::ErrorReply;
 use crate::outcome::Outcome;
 use crate::phase::Terms;
@@ -17,11 +17,20 @@ use tftp_wire::PacketRef;
 pub(crate) fn illegal_action(terms: Terms) -> Action
     ensures { result ≡ illegal_action terms }
 {
-    Action::Refuse {
+    Action::Respond(Response::Refuse {
         terms: Some(terms),
         reply: ErrorReply::IllegalOperation,
         outcome: Outcome::Illegal,
-    }
+    })
+}
+
+/// The peer has given up.
+pub(crate) fn peer_error(code: u16) -> Action
+    ensures { result ≡ peer_error code }
+{
+    Action::Respond(Response::Close {
+        outcome: Outcome::PeerError(code),
+    })
 }
 
 /// An ACK of the newest block asks for the next one, or ends the transfer. An older one asks for
@@ -36,7 +45,7 @@ fn acked_action(length: u64, terms: Terms, number: u16, acked: u16) -> Action
         return illegal_action(terms);
     }
     if acked < number {
-        return Action::Ignore;
+        return Action::Respond(Response::Ignore);
     }
     if u64::from(number) < length / u64::from(terms.size) + 1 {
         Action::Send {
@@ -44,7 +53,7 @@ fn acked_action(length: u64, terms: Terms, number: u16, acked: u16) -> Action
             number: number + 1,
         }
     } else {
-        Action::Complete
+        Action::Respond(Response::Complete)
     }
 }
 
@@ -63,10 +72,10 @@ pub(crate) fn sender_action(
 {
     match decoded {
         Some(PacketRef::Ack { block }) => acked_action(length, terms, number, *block),
-        Some(PacketRef::Error { code, .. }) => Action::Close {
-            outcome: Outcome::PeerError(*code),
-        },
-        Some(PacketRef::Oack(_)) if side.is_client() && terms.by_oack => Action::Ignore,
+        Some(PacketRef::Error { code, .. }) => peer_error(*code),
+        Some(PacketRef::Oack(_)) if side.is_client() && terms.by_oack => {
+            Action::Respond(Response::Ignore)
+        }
         _ => illegal_action(terms),
     }
 }

@@ -7,12 +7,13 @@ ghost use Rattle.tftp_negotiate.specs.Asked.{IsAskable};
 ghost use Rattle.tftp_ends.specs.Sound.{FitsSender, FitsReceiver};
 ghost use Rattle.tftp_ends.specs.Waiting.{default_terms, agreed_terms, no_answer, refusal_action, accept_action, begin_action, begin_with_action, reader_action, writer_action};
 
-use crate::action::Action;
+use crate::action::{Action, Response};
 use crate::endpoint::Endpoint;
 use crate::error_reply::ErrorReply;
 use crate::outcome::Outcome;
 use crate::phase::Terms;
 use crate::receiver::receiver_action;
+use crate::sender::peer_error;
 use crate::side::Side;
 use tftp_negotiate::{Agreed, Asked, Kind, Refusal, check_oack_ref};
 use tftp_wire::{Mode, PacketRef};
@@ -48,11 +49,11 @@ pub(crate) fn agreed_terms(peer: Endpoint, agreed: &Agreed) -> Terms
 fn no_answer() -> Action
     ensures { result ≡ no_answer }
 {
-    Action::Refuse {
+    Action::Respond(Response::Refuse {
         terms: None,
         reply: ErrorReply::IllegalOperation,
         outcome: Outcome::Illegal,
-    }
+    })
 }
 
 fn refusal_action(refusal: Refusal) -> Action
@@ -64,11 +65,11 @@ fn refusal_action(refusal: Refusal) -> Action
         Refusal::TooLarge => (ErrorReply::DiskFull, Outcome::TooLarge),
         refusal => (ErrorReply::OptionRefused, Outcome::Refused(refusal)),
     };
-    Action::Refuse {
+    Action::Respond(Response::Refuse {
         terms: None,
         reply,
         outcome,
-    }
+    })
 }
 
 fn accept_action(from: Endpoint, answer: Result<Agreed, Refusal>) -> Action
@@ -76,9 +77,9 @@ fn accept_action(from: Endpoint, answer: Result<Agreed, Refusal>) -> Action
     ensures fits { FitsReceiver result }
 {
     match answer {
-        Ok(agreed) => Action::Accept {
+        Ok(agreed) => Action::Respond(Response::Accept {
             terms: agreed_terms(from, &agreed),
-        },
+        }),
         Err(refusal) => refusal_action(refusal),
     }
 }
@@ -92,11 +93,11 @@ fn begin_action(length: u64, terms: Terms) -> Action
     if length < 65_535 * u64::from(terms.size) {
         Action::Send { terms, number: 1 }
     } else {
-        Action::Refuse {
+        Action::Respond(Response::Refuse {
             terms: None,
             reply: ErrorReply::FileTooLarge,
             outcome: Outcome::TooLarge,
-        }
+        })
     }
 }
 
@@ -130,9 +131,7 @@ pub(crate) fn reader_action(
             from,
             check_oack_ref(asked, Kind::Read, Mode::Octet, options, limit),
         ),
-        Some(PacketRef::Error { code, .. }) => Action::Close {
-            outcome: Outcome::PeerError(*code),
-        },
+        Some(PacketRef::Error { code, .. }) => peer_error(*code),
         _ => no_answer(),
     }
 }
@@ -156,9 +155,7 @@ pub(crate) fn writer_action(
             length,
             check_oack_ref(asked, Kind::Write, Mode::Octet, options, limit),
         ),
-        Some(PacketRef::Error { code, .. }) => Action::Close {
-            outcome: Outcome::PeerError(*code),
-        },
+        Some(PacketRef::Error { code, .. }) => peer_error(*code),
         _ => no_answer(),
     }
 }

@@ -17,11 +17,11 @@ use Rattle.tftp_ends.specs.declared.outcome.Outcome.{Outcome}
 use Rattle.tftp_ends.specs.declared.phase.Phase.{Phase}
 use Rattle.tftp_ends.specs.declared.phase.Phase.TheVariants.{Waiting, Sending, Receiving, Dallying, Closed}
 use Rattle.tftp_ends.specs.declared.phase.Terms.{Terms}
-use Rattle.tftp_ends.specs.declared.action.Action.{Action}
-use Rattle.tftp_ends.specs.declared.action.Action.TheVariants.{Ignore, Stranger, ResendReply, Retransmit, Close, Refuse}
+use Rattle.tftp_ends.specs.declared.action.Response.{Response}
+use Rattle.tftp_ends.specs.declared.action.Response.TheVariants.{Ignore, Stranger, ResendReply, Retransmit, Close, Refuse}
 use Rattle.tftp_ends.specs.End.{is_sender, terms_of, is_complete, outcome_of}
 use Rattle.tftp_ends.specs.ErrorReply.{code_of, text_of, error_packet}
-use Rattle.tftp_ends.specs.Step.{Turn, Reply, action_turn, after}
+use Rattle.tftp_ends.specs.Step.{Turn, Reply, response_turn, after}
 use Rattle.tftp_player.specs.Machine.{Endpoint, Error, Message}
 use Rattle.tftp_player.specs.Rules.{Says_error, Repeats, message}
 use Rattle.tftp_player.specs.Said.{said}
@@ -138,16 +138,16 @@ same_files : (b : Bool) (x : OpenedEnd) → with_files x (if b then Source x.lef
 same_files true x = refl
 same_files false x = refl
 
--- an action that touches no file
-pub from_action : (views : List EndView) (messages : List Message) (k : ℕ) (x : OpenedEnd) (action : Action) (from : Endpoint) (turn : Turn) (held : Files (List ℕ) Holding) →
-    Goes views messages k x (action_turn action from x.state) (in_state (after action from x.state) x) →
-    (turn ≡ action_turn action from x.state) × (held ≡ files_of x) → Goes views messages k x turn (end_after x turn held)
-from_action views messages k x action from turn held g h =
-    let y = in_state (after action from x.state) x in
+-- a response, which touches no file
+pub from_response : (views : List EndView) (messages : List Message) (k : ℕ) (x : OpenedEnd) (response : Response) (from : Endpoint) (turn : Turn) (held : Files (List ℕ) Holding) →
+    Goes views messages k x (response_turn response from x.state) (in_state (after response from x.state) x) →
+    (turn ≡ response_turn response from x.state) × (held ≡ files_of x) → Goes views messages k x turn (end_after x turn held)
+from_response views messages k x response from turn held g h =
+    let y = in_state (after response from x.state) x in
     let same : with_files y (files_of x) ≡ y = same_files (is_sender x.state.side) y in
     subst (λ (t : Turn). Goes views messages k x t (end_after x t held)) (sym h.0)
-    (subst (λ (f : Files (List ℕ) Holding). Goes views messages k x (action_turn action from x.state) (with_files y f)) (sym h.1)
-    (subst (λ (z : OpenedEnd). Goes views messages k x (action_turn action from x.state) z) (sym same) g))
+    (subst (λ (f : Files (List ℕ) Holding). Goes views messages k x (response_turn response from x.state) (with_files y f)) (sym h.1)
+    (subst (λ (z : OpenedEnd). Goes views messages k x (response_turn response from x.state) z) (sym same) g))
 
 text_cut : (b g : Bool) (f w h : List ℕ) → IsBeginningOf (if b then f else w) (if b then f else if g then w ++ h else w)
 text_cut true g f w h = ([], append-nil f)
@@ -189,7 +189,7 @@ going_live (Closed terms number complete outcome) e = absurd (true≢false (sym 
 
 module _ (views : List EndView) (messages : List Message) (k : ℕ) (x : OpenedEnd) (s : Stands views messages k (view_of_end x)) (kept : EndKept x) where
   -- nothing changes
-  pub ignores : (from : Endpoint) → is_some (outcome_of x.state.phase) ≡ false → Goes views messages k x (action_turn Ignore from x.state) x
+  pub ignores : (from : Endpoint) → is_some (outcome_of x.state.phase) ≡ false → Goes views messages k x (response_turn Ignore from x.state) x
   ignores from o = record {
     said_now = [];
     shown = goes views messages k (view_of_end x) s [] (open_live x.state.phase o) tt;
@@ -201,7 +201,7 @@ module _ (views : List EndView) (messages : List Message) (k : ℕ) (x : OpenedE
   }
 
   -- a stranger is told so
-  pub tells_stranger : (from : Endpoint) → is_some (outcome_of x.state.phase) ≡ false → Goes views messages k x (action_turn Stranger from x.state) x
+  pub tells_stranger : (from : Endpoint) → is_some (outcome_of x.state.phase) ≡ false → Goes views messages k x (response_turn Stranger from x.state) x
   tells_stranger from o = record {
     said_now = message x.address from Error ∷ [];
     shown = goes views messages k (view_of_end x) s (Says_error x.address from ∷ []) (open_live x.state.phase o) (refl, tt, tt);
@@ -214,7 +214,7 @@ module _ (views : List EndView) (messages : List Message) (k : ℕ) (x : OpenedE
 
   -- the last datagram sent goes out again
   pub answers_again : (from : Endpoint) → is_some (outcome_of x.state.phase) ≡ false → from ≡ x.state.last_sent_to →
-      IsThere messages x.address x.state.last_sent_to x.state.last_sent → Goes views messages k x (action_turn ResendReply from x.state) x
+      IsThere messages x.address x.state.last_sent_to x.state.last_sent → Goes views messages k x (response_turn ResendReply from x.state) x
   answers_again from o same old =
       let m = message x.address from (said old.0) in record {
         said_now = m ∷ [];
@@ -230,7 +230,7 @@ module _ (views : List EndView) (messages : List Message) (k : ℕ) (x : OpenedE
   -- a timeout: the last datagram sent goes out again, for one retry
   pub retries : (from : Endpoint) → is_some (outcome_of x.state.phase) ≡ false →
       IsThere messages x.address x.state.last_sent_to x.state.last_sent →
-      Goes views messages k x (action_turn Retransmit from x.state) (in_state (after Retransmit from x.state) x)
+      Goes views messages k x (response_turn Retransmit from x.state) (in_state (after Retransmit from x.state) x)
   retries from o old =
       let m = message x.address x.state.last_sent_to (said old.0) in record {
         said_now = m ∷ [];
@@ -249,7 +249,7 @@ module _ (views : List EndView) (messages : List Message) (k : ℕ) (x : OpenedE
 
   -- it gives up in silence
   pub gives_up : (outcome : Outcome) (from : Endpoint) → goes_on x.state.phase ≡ true →
-      Goes views messages k x (action_turn (Close outcome) from x.state) (in_state (after (Close outcome) from x.state) x)
+      Goes views messages k x (response_turn (Close outcome) from x.state) (in_state (after (Close outcome) from x.state) x)
   gives_up outcome from going =
       let y = in_state (after (Close outcome) from x.state) x in
       let live = going_live x.state.phase going in
@@ -272,7 +272,7 @@ module _ (views : List EndView) (messages : List Message) (k : ℕ) (x : OpenedE
 
   -- it gives up, and says so
   pub refuses_now : (reply : ErrorReply) (outcome : Outcome) (from : Endpoint) → goes_on x.state.phase ≡ true →
-      Goes views messages k x (action_turn (Refuse (terms_of x.state.phase) reply outcome) from x.state) (in_state (after (Refuse (terms_of x.state.phase) reply outcome) from x.state) x)
+      Goes views messages k x (response_turn (Refuse (terms_of x.state.phase) reply outcome) from x.state) (in_state (after (Refuse (terms_of x.state.phase) reply outcome) from x.state) x)
   refuses_now reply outcome from going =
       let y = in_state (after (Refuse (terms_of x.state.phase) reply outcome) from x.state) x in
       let live = going_live x.state.phase going in

@@ -12,18 +12,20 @@ use Rattle.tftp_ends.specs.declared.phase.Phase.{Phase}
 use Rattle.tftp_ends.specs.declared.phase.Phase.TheVariants.{Waiting, Sending, Receiving, Dallying, Closed}
 use Rattle.tftp_ends.specs.declared.phase.Terms.{Terms}
 use Rattle.tftp_ends.specs.declared.action.Action.{Action}
-use Rattle.tftp_ends.specs.declared.action.Action.TheVariants.{Ignore, Stranger, Retransmit, Close}
+use Rattle.tftp_ends.specs.declared.action.Action.TheVariants.{Respond}
+use Rattle.tftp_ends.specs.declared.action.Response.{Response}
+use Rattle.tftp_ends.specs.declared.action.Response.TheVariants.{Ignore, Stranger, Retransmit, Close}
 use Rattle.tftp_ends.specs.End.{is_sender, is_client, terms_of, outcome_of}
-use Rattle.tftp_ends.specs.Action.{same_address, same_endpoint, is_stranger, garbled_action, packet_action, datagram_action, timeout_action}
+use Rattle.tftp_ends.specs.Action.{same_address, same_endpoint, is_stranger, garbled_response, packet_action, datagram_action, timeout_response}
 use Rattle.tftp_wire.specs.Reading.{has_error_opcode}
-use Rattle.tftp_ends.specs.Step.{action_turn, after}
+use Rattle.tftp_ends.specs.Step.{response_turn, after}
 use Rattle.tftp_ends.specs.Waiting.{reader_action, writer_action}
 use Rattle.tftp_player.specs.Machine.{Endpoint, server_ip, Message}
 use Rattle.tftp_player.specs.Shows.{EndView}
 use Rattle.tftp_player.specs.World.{OpenedEnd, in_state, goes_on, view_of_end}
 use Rattle.tftp_player.specs.WorldKept.{EndKept}
 use Rattle.tftp_player.proofs.Actions.{Stands, goes}
-use Rattle.tftp_player.proofs.EndMoves.{Goes, IsThere, placed, from_action, gives_up, retries}
+use Rattle.tftp_player.proofs.EndMoves.{Goes, IsThere, placed, from_response, gives_up, retries}
 use Rattle.tftp_player.proofs.PhaseMoves.{Acting, OfDecoded, if_acts, not_false, same_ips, same_endpoints, ignore_acts, stranger_acts, sender_acts, receiver_acts, dally_acts}
 use Rattle.tftp_player.proofs.WaitingMoves.{reader_acts, writer_acts}
 
@@ -55,13 +57,13 @@ module _ (views : List EndView) (messages : List Message) (k : ℕ) (x0 : Opened
   by_packet (Closed terms n complete outcome) s kept o near = absurd (true≢false o)
 
   -- what begins as an ERROR and is none
-  by_garbled : (phase : Phase) → There phase → EndKept (placed phase x0) → is_some (outcome_of phase) ≡ false → Goes_on phase (garbled_action phase)
+  by_garbled : (phase : Phase) → There phase → EndKept (placed phase x0) → is_some (outcome_of phase) ≡ false → Goes_on phase (Respond (garbled_response phase))
   by_garbled (Waiting asked limit) s kept o turn held h =
-      let x = placed (Waiting asked limit) x0 in from_action views messages k x (Close outcomes.Illegal) from turn held (gives_up views messages k x s kept outcomes.Illegal from refl) h
+      let x = placed (Waiting asked limit) x0 in from_response views messages k x (Close outcomes.Illegal) from turn held (gives_up views messages k x s kept outcomes.Illegal from refl) h
   by_garbled (Sending terms n) s kept o turn held h =
-      let x = placed (Sending terms n) x0 in from_action views messages k x (Close outcomes.Illegal) from turn held (gives_up views messages k x s kept outcomes.Illegal from refl) h
+      let x = placed (Sending terms n) x0 in from_response views messages k x (Close outcomes.Illegal) from turn held (gives_up views messages k x s kept outcomes.Illegal from refl) h
   by_garbled (Receiving terms n) s kept o turn held h =
-      let x = placed (Receiving terms n) x0 in from_action views messages k x (Close outcomes.Illegal) from turn held (gives_up views messages k x s kept outcomes.Illegal from refl) h
+      let x = placed (Receiving terms n) x0 in from_response views messages k x (Close outcomes.Illegal) from turn held (gives_up views messages k x s kept outcomes.Illegal from refl) h
   by_garbled (Dallying terms n dally) s kept o turn held h = ignore_acts views messages k (placed (Dallying terms n dally) x0) s kept refuses_commit from bytes refl turn held h
   by_garbled (Closed terms n complete outcome) s kept o turn held h = absurd (true≢false o)
 
@@ -72,22 +74,22 @@ module _ (views : List EndView) (messages : List Message) (k : ℕ) (x0 : Opened
       let P = Goes_on phase in
       let e = (placed phase x0).state in
       let far = is_stranger (terms_of phase) x0.state.last_sent_to from in
-      let near_action = if has_error_opcode bytes && is_none decoded then garbled_action phase else packet_action e from decoded phase in
-      if_acts P far (if has_error_opcode bytes then Ignore else Stranger) near_action
-      (λ f. if_acts P (has_error_opcode bytes) Ignore Stranger
+      let near_action = if has_error_opcode bytes && is_none decoded then Respond (garbled_response phase) else packet_action e from decoded phase in
+      if_acts P far (if has_error_opcode bytes then Respond Ignore else Respond Stranger) near_action
+      (λ f. if_acts P (has_error_opcode bytes) (Respond Ignore) (Respond Stranger)
       (λ b. ignore_acts views messages k (placed phase x0) s kept refuses_commit from bytes o)
       (λ b. stranger_acts views messages k (placed phase x0) s kept refuses_commit from bytes o))
-      (λ f. if_acts P (has_error_opcode bytes && is_none decoded) (garbled_action phase) (packet_action e from decoded phase)
+      (λ f. if_acts P (has_error_opcode bytes && is_none decoded) (Respond (garbled_response phase)) (packet_action e from decoded phase)
       (λ b. by_garbled phase s kept o)
       (λ b. by_packet phase s kept o f))
 
 -- an open end at a timeout
 module _ (views : List EndView) (messages : List Message) (k : ℕ) (x0 : OpenedEnd)
     (old : IsThere messages x0.address x0.state.last_sent_to x0.state.last_sent) where
-  abbrev Turns_at : OpenedEnd → Action → Type 0
-  Turns_at x action = Goes views messages k x (action_turn action x.state.last_sent_to x.state) (in_state (after action x.state.last_sent_to x.state) x)
+  abbrev Turns_at : OpenedEnd → Response → Type 0
+  Turns_at x response = Goes views messages k x (response_turn response x.state.last_sent_to x.state) (in_state (after response x.state.last_sent_to x.state) x)
 
-  if_turns : (x : OpenedEnd) (b : Bool) (r s : Action) → Turns_at x r → Turns_at x s → Turns_at x (if b then r else s)
+  if_turns : (x : OpenedEnd) (b : Bool) (r s : Response) → Turns_at x r → Turns_at x s → Turns_at x (if b then r else s)
   if_turns x true r s f g = f
   if_turns x false r s f g = g
 
@@ -101,7 +103,7 @@ module _ (views : List EndView) (messages : List Message) (k : ℕ) (x0 : Opened
 
   -- a dally goes on, or ends
   dally_turns : (terms : Terms) (n : ℕ) (dally : Dally) → Stands views messages k (view_of_end (placed (Dallying terms n dally) x0)) → EndKept (placed (Dallying terms n dally) x0) →
-      Turns_at (placed (Dallying terms n dally) x0) (timeout_action x0.state.retries_left (Dallying terms n dally))
+      Turns_at (placed (Dallying terms n dally) x0) (timeout_response x0.state.retries_left (Dallying terms n dally))
   dally_turns terms n Fresh s kept = record {
     said_now = [];
     shown = goes views messages k (view_of_end (placed (Dallying terms n Fresh) x0)) s [] refl tt;
@@ -122,7 +124,7 @@ module _ (views : List EndView) (messages : List Message) (k : ℕ) (x0 : Opened
   }
 
   pub by_timeout : (phase : Phase) → Stands views messages k (view_of_end (placed phase x0)) → EndKept (placed phase x0) → is_some (outcome_of phase) ≡ false →
-      Turns_at (placed phase x0) (timeout_action x0.state.retries_left phase)
+      Turns_at (placed phase x0) (timeout_response x0.state.retries_left phase)
   by_timeout (Waiting asked limit) s kept o = waits_or_gives_up (Waiting asked limit) s kept o refl
   by_timeout (Sending terms n) s kept o = waits_or_gives_up (Sending terms n) s kept o refl
   by_timeout (Receiving terms n) s kept o = waits_or_gives_up (Receiving terms n) s kept o refl

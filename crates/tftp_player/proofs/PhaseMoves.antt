@@ -18,9 +18,11 @@ use Rattle.tftp_ends.specs.declared.outcome.Outcome.TheVariants as outcomes
 use Rattle.tftp_ends.specs.declared.phase.Phase.TheVariants.{Sending, Receiving, Dallying}
 use Rattle.tftp_ends.specs.declared.phase.Terms.{Terms}
 use Rattle.tftp_ends.specs.declared.action.Action.{Action}
-use Rattle.tftp_ends.specs.declared.action.Action.TheVariants.{Ignore, Stranger, ResendReply, Close, Refuse, Send, Store, Complete}
+use Rattle.tftp_ends.specs.declared.action.Action.TheVariants.{Respond, Send, Store}
+use Rattle.tftp_ends.specs.declared.action.Response.{Response}
+use Rattle.tftp_ends.specs.declared.action.Response.TheVariants.{Ignore, Stranger, ResendReply, Close, Refuse, Complete}
 use Rattle.tftp_ends.specs.End.{outcome_of}
-use Rattle.tftp_ends.specs.Receiver.{receiver_action, data_action, next_action, dally_action}
+use Rattle.tftp_ends.specs.Receiver.{receiver_action, data_action, next_action, dally_response}
 use Rattle.tftp_ends.specs.Action.{same_address, same_endpoint}
 use Rattle.tftp_ends.specs.Sender.{sender_action, acked_action, illegal_action}
 use Rattle.tftp_ends.specs.Step.{Turn, Acts, StoresIn}
@@ -35,12 +37,12 @@ use Rattle.tftp_player.specs.WorldKept.{EndKept, sent_text}
 use Rattle.tftp_player.proofs.Endpoints.{endpoint_from}
 use Rattle.tftp_player.proofs.Actions.{Stands, stores, refuses_next}
 use Rattle.tftp_player.proofs.SaidLemmas.{data_of}
-use Rattle.tftp_player.proofs.EndMoves.{Goes, IsThere, placed, from_action, ignores, tells_stranger, answers_again, gives_up, refuses_now}
+use Rattle.tftp_player.proofs.EndMoves.{Goes, IsThere, placed, from_response, ignores, tells_stranger, answers_again, gives_up, refuses_now}
 use Rattle.tftp_player.proofs.SourceMoves.{data_goes, sends_next, ends_whole}
 use Rattle.tftp_player.proofs.SinkMoves.{Receives, block_goes}
 
 -- either way of a test
-pub if_acts : (P : Action → Type 0) (b : Bool) (r s : Action) → (b ≡ true → P r) → (b ≡ false → P s) → P (if b then r else s)
+pub if_acts : {A : Type 0} (P : A → Type 0) (b : Bool) (r s : A) → (b ≡ true → P r) → (b ≡ false → P s) → P (if b then r else s)
 if_acts P true r s f g = f refl
 if_acts P false r s f g = g refl
 
@@ -73,14 +75,14 @@ OfDecoded messages from x decoded = (p : WirePacket) → decoded ≡ Some p → 
 
 module _ (views : List EndView) (messages : List Message) (k : ℕ) (x : OpenedEnd) (s : Stands views messages k (view_of_end x)) (kept : EndKept x)
     (refuses_commit : Holding → StoreFault → Type 0) (from : Endpoint) (bytes : List ℕ) (open_now : is_some (outcome_of x.state.phase) ≡ false) where
-  pub ignore_acts : Acting views messages k x refuses_commit from bytes Ignore
-  ignore_acts turn held h = from_action views messages k x Ignore from turn held (ignores views messages k x s kept from open_now) h
+  pub ignore_acts : Acting views messages k x refuses_commit from bytes (Respond Ignore)
+  ignore_acts turn held h = from_response views messages k x Ignore from turn held (ignores views messages k x s kept from open_now) h
 
-  pub stranger_acts : Acting views messages k x refuses_commit from bytes Stranger
-  stranger_acts turn held h = from_action views messages k x Stranger from turn held (tells_stranger views messages k x s kept from open_now) h
+  pub stranger_acts : Acting views messages k x refuses_commit from bytes (Respond Stranger)
+  stranger_acts turn held h = from_response views messages k x Stranger from turn held (tells_stranger views messages k x s kept from open_now) h
 
-  pub again_acts : from ≡ x.state.last_sent_to → IsThere messages x.address x.state.last_sent_to x.state.last_sent → Acting views messages k x refuses_commit from bytes ResendReply
-  again_acts same old turn held h = from_action views messages k x ResendReply from turn held (answers_again views messages k x s kept from open_now same old) h
+  pub again_acts : from ≡ x.state.last_sent_to → IsThere messages x.address x.state.last_sent_to x.state.last_sent → Acting views messages k x refuses_commit from bytes (Respond ResendReply)
+  again_acts same old turn held h = from_response views messages k x ResendReply from turn held (answers_again views messages k x s kept from open_now same old) h
 
 module _ (views : List EndView) (messages : List Message) (k : ℕ) (x0 : OpenedEnd) (terms : Terms) (n : ℕ)
     (s : Stands views messages k (view_of_end (placed (Sending terms n) x0))) (kept : EndKept (placed (Sending terms n) x0))
@@ -90,7 +92,7 @@ module _ (views : List EndView) (messages : List Message) (k : ℕ) (x0 : Opened
 
   illegal_sender : Acting views messages k sender refuses_commit from bytes (illegal_action terms)
   illegal_sender turn held h =
-      from_action views messages k sender (illegal_action terms) from turn held (refuses_now views messages k sender s kept replies.IllegalOperation outcomes.Illegal from refl) h
+      from_response views messages k sender (Refuse (Some terms) replies.IllegalOperation outcomes.Illegal) from turn held (refuses_now views messages k sender s kept replies.IllegalOperation outcomes.Illegal from refl) h
 
   -- a sender with an ACK
   acked_acts : (acked : ℕ) → terms.peer ≡ from → Contains messages (message from x0.address (Says_ack acked)) →
@@ -100,18 +102,18 @@ module _ (views : List EndView) (messages : List Message) (k : ℕ) (x0 : Opened
       let u = kept.phase in
       let text = sent_text x0 in
       let measured : x0.state.length ≡ length text = u.measured in
-      if_acts P (acked == n) (if nat_lt n (x0.state.length / terms.size + 1) then Send terms (n + 1) else Complete) (if nat_lt acked n then Ignore else illegal_action terms)
+      if_acts P (acked == n) (if nat_lt n (x0.state.length / terms.size + 1) then Send terms (n + 1) else Respond Complete) (if nat_lt acked n then Respond Ignore else illegal_action terms)
       (λ e.
       let here : Contains messages (message from x0.address (Says_ack n)) = subst (λ (m : ℕ). Contains messages (message from x0.address (Says_ack m))) (eqb-true acked n e) come in
-      if_acts P (nat_lt n (x0.state.length / terms.size + 1)) (Send terms (n + 1)) Complete
+      if_acts P (nat_lt n (x0.state.length / terms.size + 1)) (Send terms (n + 1)) (Respond Complete)
       (λ l. let more : n < block_count text terms.size = subst (λ (m : ℕ). n < m / terms.size + 1) measured (ltb-true n (x0.state.length / terms.size + 1) l) in
       λ turn held h. data_goes views messages k sender terms n from turn held refuses_commit u.sender measured u.left
       (sends_next views messages k x0 terms n s kept from peer here more) h)
       (λ l. let least : block_count text terms.size ≤ n = subst (λ (m : ℕ). m / terms.size + 1 ≤ n) measured (ltb-false n (x0.state.length / terms.size + 1) l) in
       let most = u.so_far in
       let last : n ≡ block_count text terms.size = omega arith in
-      λ turn held h. from_action views messages k sender Complete from turn held (ends_whole views messages k x0 terms n s kept from peer here last) h))
-      (λ e. if_acts P (nat_lt acked n) Ignore (illegal_action terms)
+      λ turn held h. from_response views messages k sender Complete from turn held (ends_whole views messages k x0 terms n s kept from peer here last) h))
+      (λ e. if_acts P (nat_lt acked n) (Respond Ignore) (illegal_action terms)
       (λ l. ignore_acts views messages k sender s kept refuses_commit from bytes refl)
       (λ l. illegal_sender))
 
@@ -124,9 +126,9 @@ module _ (views : List EndView) (messages : List Message) (k : ℕ) (x0 : Opened
   sender_acts client (Some (Data number piece)) peer come = illegal_sender
   sender_acts client (Some (Ack acked)) peer come = acked_acts acked peer (come (Ack acked) refl)
   sender_acts client (Some (Error code text)) peer come =
-      λ turn held h. from_action views messages k sender (Close (outcomes.PeerError code)) from turn held (gives_up views messages k sender s kept (outcomes.PeerError code) from refl) h
+      λ turn held h. from_response views messages k sender (Close (outcomes.PeerError code)) from turn held (gives_up views messages k sender s kept (outcomes.PeerError code) from refl) h
   sender_acts client (Some (Oack options)) peer come =
-      if_acts (Acting views messages k sender refuses_commit from bytes) (client && terms.by_oack) Ignore (illegal_action terms)
+      if_acts (Acting views messages k sender refuses_commit from bytes) (client && terms.by_oack) (Respond Ignore) (illegal_action terms)
       (λ e. ignore_acts views messages k sender s kept refuses_commit from bytes refl) (λ e. illegal_sender)
 
 module _ (views : List EndView) (messages : List Message) (k : ℕ) (x0 : OpenedEnd) (terms : Terms) (n : ℕ)
@@ -136,14 +138,14 @@ module _ (views : List EndView) (messages : List Message) (k : ℕ) (x0 : Opened
   abbrev receiver : OpenedEnd
   receiver = placed (Receiving terms n) x0
 
-  refuse_receiver : (reply : ErrorReply) (outcome : Outcome) → Acting views messages k receiver refuses_commit from bytes (Refuse (Some terms) reply outcome)
+  refuse_receiver : (reply : ErrorReply) (outcome : Outcome) → Acting views messages k receiver refuses_commit from bytes (Respond (Refuse (Some terms) reply outcome))
   refuse_receiver reply outcome turn held h =
-      from_action views messages k receiver (Refuse (Some terms) reply outcome) from turn held (refuses_now views messages k receiver s kept reply outcome from refl) h
+      from_response views messages k receiver (Refuse (Some terms) reply outcome) from turn held (refuses_now views messages k receiver s kept reply outcome from refl) h
 
-  again_receiver : Acting views messages k receiver refuses_commit from bytes ResendReply
+  again_receiver : Acting views messages k receiver refuses_commit from bytes (Respond ResendReply)
   again_receiver = again_acts views messages k receiver s kept refuses_commit from bytes refl (sym peer ∙ sym kept.phase.1) old
 
-  ignore_receiver : Acting views messages k receiver refuses_commit from bytes Ignore
+  ignore_receiver : Acting views messages k receiver refuses_commit from bytes (Respond Ignore)
   ignore_receiver = ignore_acts views messages k receiver s kept refuses_commit from bytes refl
 
   -- a receiver with its next block
@@ -152,9 +154,9 @@ module _ (views : List EndView) (messages : List Message) (k : ℕ) (x0 : Opened
   next_acts number piece is spelled come =
       let P = Acting views messages k receiver refuses_commit from bytes in
       let last = nat_lt (length piece) terms.size in
-      let store = if is_readable x0.state.mode x0.state.held piece last then Store terms number else Refuse (Some terms) replies.NotNetascii outcomes.NotNetascii in
+      let store = if is_readable x0.state.mode x0.state.held piece last then Store terms number else Respond (Refuse (Some terms) replies.NotNetascii outcomes.NotNetascii) in
       if_acts P (nat_lt terms.size (length piece)) (illegal_action terms)
-      (if number == 65535 && (length piece == terms.size) then Refuse (Some terms) replies.FileTooLarge outcomes.TooLarge else store)
+      (if number == 65535 && (length piece == terms.size) then Respond (Refuse (Some terms) replies.FileTooLarge outcomes.TooLarge) else store)
       (λ e. refuse_receiver replies.IllegalOperation outcomes.Illegal)
       (λ e.
       let l : length piece ≤ terms.size = ltb-false terms.size (length piece) e in
@@ -169,9 +171,9 @@ module _ (views : List EndView) (messages : List Message) (k : ℕ) (x0 : Opened
             (stores views messages k (view_of_end receiver) s from piece (refl, refl) kept.phase.0 (ap Some peer) here l);
         refused = λ t b. refuses_next views messages k (view_of_end receiver) s from piece t (refl, refl) kept.phase.0 (ap Some peer) here l b;
       } in
-      if_acts P (number == 65535 && (length piece == terms.size)) (Refuse (Some terms) replies.FileTooLarge outcomes.TooLarge) store
+      if_acts P (number == 65535 && (length piece == terms.size)) (Respond (Refuse (Some terms) replies.FileTooLarge outcomes.TooLarge)) store
       (λ f. refuse_receiver replies.FileTooLarge outcomes.TooLarge)
-      (λ f. if_acts P (is_readable x0.state.mode x0.state.held piece last) (Store terms number) (Refuse (Some terms) replies.NotNetascii outcomes.NotNetascii)
+      (λ f. if_acts P (is_readable x0.state.mode x0.state.held piece last) (Store terms number) (Respond (Refuse (Some terms) replies.NotNetascii outcomes.NotNetascii))
       (λ readable turn held h. block_goes views messages k receiver terms number from piece kept got readable refuses_commit turn held
       (subst (λ (bs : List ℕ). StoresIn (λ (z : List ℕ). Some z) never_fails (λ (z : Holding). Some z) may_refuse_append refuses_commit terms number from bs receiver.state (files_of receiver) turn held) (data_of number piece bytes spelled) h))
       (λ g. refuse_receiver replies.NotNetascii outcomes.NotNetascii)))
@@ -181,9 +183,9 @@ module _ (views : List EndView) (messages : List Message) (k : ℕ) (x0 : Opened
   data_acts number piece spelled come =
       let P = Acting views messages k receiver refuses_commit from bytes in
       let later = if number == n + 1 then next_action x0.state.mode x0.state.held terms number piece else illegal_action terms in
-      if_acts P (number == n) ResendReply (if nat_lt number n then Ignore else later)
+      if_acts P (number == n) (Respond ResendReply) (if nat_lt number n then Respond Ignore else later)
       (λ e. again_receiver)
-      (λ e. if_acts P (nat_lt number n) Ignore later
+      (λ e. if_acts P (nat_lt number n) (Respond Ignore) later
       (λ f. ignore_receiver)
       (λ f. if_acts P (number == n + 1) (next_action x0.state.mode x0.state.held terms number piece) (illegal_action terms)
       (λ g. next_acts number piece (eqb-true number (n + 1) g) spelled come)
@@ -198,11 +200,11 @@ module _ (views : List EndView) (messages : List Message) (k : ℕ) (x0 : Opened
   receiver_acts client (Some (Data number piece)) spelled come = data_acts number piece (spelled (Data number piece) refl) (come (Data number piece) refl)
   receiver_acts client (Some (Ack acked)) spelled come = refuse_receiver replies.IllegalOperation outcomes.Illegal
   receiver_acts client (Some (Error code text)) spelled come =
-      λ turn held h. from_action views messages k receiver (Close (outcomes.PeerError code)) from turn held (gives_up views messages k receiver s kept (outcomes.PeerError code) from refl) h
+      λ turn held h. from_response views messages k receiver (Close (outcomes.PeerError code)) from turn held (gives_up views messages k receiver s kept (outcomes.PeerError code) from refl) h
   receiver_acts client (Some (Oack options)) spelled come =
       let P = Acting views messages k receiver refuses_commit from bytes in
-      if_acts P (client && terms.by_oack) (if n == 0 then ResendReply else Ignore) (illegal_action terms)
-      (λ e. if_acts P (n == 0) ResendReply Ignore (λ f. again_receiver) (λ f. ignore_receiver))
+      if_acts P (client && terms.by_oack) (if n == 0 then Respond ResendReply else Respond Ignore) (illegal_action terms)
+      (λ e. if_acts P (n == 0) (Respond ResendReply) (Respond Ignore) (λ f. again_receiver) (λ f. ignore_receiver))
       (λ e. refuse_receiver replies.IllegalOperation outcomes.Illegal)
 
 module _ (views : List EndView) (messages : List Message) (k : ℕ) (x0 : OpenedEnd) (terms : Terms) (n : ℕ) (dally : Dally)
@@ -212,16 +214,16 @@ module _ (views : List EndView) (messages : List Message) (k : ℕ) (x0 : Opened
   abbrev dallier : OpenedEnd
   dallier = placed (Dallying terms n dally) x0
 
-  ignore_dallier : Acting views messages k dallier refuses_commit from bytes Ignore
+  ignore_dallier : Acting views messages k dallier refuses_commit from bytes (Respond Ignore)
   ignore_dallier = ignore_acts views messages k dallier s kept refuses_commit from bytes refl
 
   -- a receiver that dallies, with any packet
-  pub dally_acts : (decoded : Option WirePacket) → Acting views messages k dallier refuses_commit from bytes (dally_action n decoded)
+  pub dally_acts : (decoded : Option WirePacket) → Acting views messages k dallier refuses_commit from bytes (Respond (dally_response n decoded))
   dally_acts None = ignore_dallier
   dally_acts (Some (Read r)) = ignore_dallier
   dally_acts (Some (Write r)) = ignore_dallier
   dally_acts (Some (Data number piece)) =
-      if_acts (Acting views messages k dallier refuses_commit from bytes) (number == n) ResendReply Ignore
+      if_acts (λ (r : Response). Acting views messages k dallier refuses_commit from bytes (Respond r)) (number == n) ResendReply Ignore
       (λ e. again_acts views messages k dallier s kept refuses_commit from bytes refl (sym peer ∙ sym kept.phase.1) old)
       (λ e. ignore_dallier)
   dally_acts (Some (Ack acked)) = ignore_dallier

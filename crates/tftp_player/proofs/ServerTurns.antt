@@ -8,7 +8,7 @@ use Rattle.tftp_file.specs.declared.files.Files.{Files}
 use Rattle.tftp_file.specs.declared.files.Files.TheVariants.{Source, Sink}
 use Rattle.tftp_ends.specs.declared.record.Step.{Step}
 use Rattle.tftp_ends.specs.declared.action.Action.{Action}
-use Rattle.tftp_ends.specs.declared.action.Action.TheVariants.{Ignore, Stranger, ResendReply, Retransmit, Wait, Close, Refuse, Accept, Send, Store, Complete}
+use Rattle.tftp_ends.specs.declared.action.Action.TheVariants.{Respond, Send, Store}
 use Rattle.tftp_ends.specs.End.{EndState, is_sender, is_client, outcome_of}
 use Rattle.tftp_ends.specs.Action.{datagram_action}
 use Rattle.tftp_ends.specs.Step.{Turn, Reply, Acts, DatagramStep, Carries, reply_bytes, timeout_turn, told}
@@ -115,17 +115,9 @@ module _ (refuses_commit : Holding → StoreFault → Type 0) (from : Endpoint) 
   -- an end that sends wants no sink
   sends_alone : (action : Action) → Decoded_as action →
       Acts (λ (s : List ℕ). Some s) never_fails (λ (h : Holding). Some h) may_refuse_append refuses_commit action from bytes e (Source left) turn (Source left')
-  sends_alone Ignore h = (h.0, ap source_only h.1)
-  sends_alone Stranger h = (h.0, ap source_only h.1)
-  sends_alone ResendReply h = (h.0, ap source_only h.1)
-  sends_alone Retransmit h = (h.0, ap source_only h.1)
-  sends_alone Wait h = (h.0, ap source_only h.1)
-  sends_alone (Close outcome) h = (h.0, ap source_only h.1)
-  sends_alone (Refuse terms reply outcome) h = (h.0, ap source_only h.1)
-  sends_alone (Accept terms) h = (h.0, ap source_only h.1)
+  sends_alone (Respond response) h = (h.0, ap source_only h.1)
   sends_alone (Send terms number) h = h
   sends_alone (Store terms number) h = absurd h
-  sends_alone Complete h = (h.0, ap source_only h.1)
 
 -- what a transfer that sends has heard is what an end of the world hears
 pub read_stepped : (refuses_commit : Holding → StoreFault → Type 0) (from : Endpoint) (bytes : List ℕ) (e : EndState) (left left' : List ℕ) (turn : Turn) →

@@ -19,9 +19,9 @@ use Rattle.tftp_ends.specs.declared.error_reply.ErrorReply.TheVariants as replie
 use Rattle.tftp_ends.specs.declared.outcome.Outcome.TheVariants as outcomes
 use Rattle.tftp_ends.specs.declared.phase.Phase.TheVariants.{Sending}
 use Rattle.tftp_ends.specs.declared.phase.Terms.{Terms}
-use Rattle.tftp_ends.specs.declared.action.Action.TheVariants.{Complete}
+use Rattle.tftp_ends.specs.declared.action.Response.TheVariants.{Complete}
 use Rattle.tftp_ends.specs.End.{EndState, is_sender}
-use Rattle.tftp_ends.specs.Step.{Turn, action_turn, after, Sends, SendsFrom, sent_turn, refused_turn, data_bytes, block_length, filled_turn, result_count_is}
+use Rattle.tftp_ends.specs.Step.{Turn, response_turn, after, Sends, SendsFrom, sent_turn, refused_turn, data_bytes, block_length, filled_turn, result_count_is}
 use Rattle.tftp_player.specs.Machine.{Endpoint, Data as Says_data, Ack as Says_ack, Message}
 use Rattle.tftp_player.specs.Rules.{message}
 use Rattle.tftp_player.specs.Said.{said}
@@ -176,7 +176,7 @@ module _ (views : List EndView) (messages : List Message) (k : ℕ) (x0 : Opened
 
   -- the last block is acknowledged
   pub ends_whole : (from : Endpoint) → terms.peer ≡ from → Contains messages (message from x0.address (Says_ack n)) → n ≡ block_count (sent_text x0) terms.size →
-      Goes views messages k (placed (Sending terms n) x0) (action_turn Complete from (placed (Sending terms n) x0).state) (in_state (after Complete from (placed (Sending terms n) x0).state) (placed (Sending terms n) x0))
+      Goes views messages k (placed (Sending terms n) x0) (response_turn Complete from (placed (Sending terms n) x0).state) (in_state (after Complete from (placed (Sending terms n) x0).state) (placed (Sending terms n) x0))
   ends_whole from peer acked last =
       let x = placed (Sending terms n) x0 in
       let u = kept.phase in

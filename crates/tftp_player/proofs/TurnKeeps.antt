@@ -8,10 +8,12 @@ use Rattle.tftp_file.specs.declared.files.Files.TheVariants.{Source, Sink}
 use Rattle.tftp_file.specs.Sink.{Holding}
 use Rattle.tftp_ends.specs.declared.phase.Terms.{Terms}
 use Rattle.tftp_ends.specs.declared.action.Action.{Action}
-use Rattle.tftp_ends.specs.declared.action.Action.TheVariants.{Ignore, Stranger, ResendReply, Retransmit, Wait, Close, Refuse, Accept, Send, Store, Complete}
+use Rattle.tftp_ends.specs.declared.action.Action.TheVariants.{Respond, Send, Store}
+use Rattle.tftp_ends.specs.declared.action.Response.{Response}
+use Rattle.tftp_ends.specs.declared.action.Response.TheVariants.{Ignore, Stranger, ResendReply, Retransmit, Wait, Close, Refuse, Accept, Complete}
 use Rattle.tftp_ends.specs.End.{EndState}
-use Rattle.tftp_ends.specs.Action.{datagram_action, timeout_action}
-use Rattle.tftp_ends.specs.Step.{Turn, DatagramStep, Acts, SendsFrom, StoresIn, GoesOn, Done, action_turn, filled_turn, committed_turn, result_count_is, block_length, timeout_turn, holding}
+use Rattle.tftp_ends.specs.Action.{datagram_action, timeout_response}
+use Rattle.tftp_ends.specs.Step.{Turn, DatagramStep, Acts, SendsFrom, StoresIn, GoesOn, Done, response_turn, filled_turn, committed_turn, result_count_is, block_length, timeout_turn, holding}
 use Rattle.tftp_player.specs.Machine.{Endpoint}
 use Rattle.tftp_player.specs.WorldSteps.{never_fails, may_refuse_append}
 
@@ -23,21 +25,19 @@ pub record KeepsKind (old new : EndState) : Type 0 where
 kept : (e : EndState) (turn turn' : Turn) → turn ≡ turn' → KeepsKind e turn'.end → KeepsKind e turn.end
 kept e turn turn' is k = subst (λ (t : Turn). KeepsKind e t.end) (sym is) k
 
-action_keeps : (action : Action) (from : Endpoint) (e : EndState) → KeepsKind e (action_turn action from e).end
-action_keeps Ignore from e = record { side = refl; mode = refl }
-action_keeps Stranger from e = record { side = refl; mode = refl }
-action_keeps ResendReply from e = record { side = refl; mode = refl }
-action_keeps Retransmit from e = record { side = refl; mode = refl }
-action_keeps Wait from e = record { side = refl; mode = refl }
-action_keeps (Close outcome) from e = record { side = refl; mode = refl }
-action_keeps (Refuse terms reply outcome) from e = record { side = refl; mode = refl }
-action_keeps (Accept terms) from e = record { side = refl; mode = refl }
-action_keeps (Send terms number) from e = record { side = refl; mode = refl }
-action_keeps (Store terms number) from e = record { side = refl; mode = refl }
-action_keeps Complete from e = record { side = refl; mode = refl }
+response_keeps : (response : Response) (from : Endpoint) (e : EndState) → KeepsKind e (response_turn response from e).end
+response_keeps Ignore from e = record { side = refl; mode = refl }
+response_keeps Stranger from e = record { side = refl; mode = refl }
+response_keeps ResendReply from e = record { side = refl; mode = refl }
+response_keeps Retransmit from e = record { side = refl; mode = refl }
+response_keeps Wait from e = record { side = refl; mode = refl }
+response_keeps (Close outcome) from e = record { side = refl; mode = refl }
+response_keeps (Refuse terms reply outcome) from e = record { side = refl; mode = refl }
+response_keeps (Accept terms) from e = record { side = refl; mode = refl }
+response_keeps Complete from e = record { side = refl; mode = refl }
 
 pub timeout_keeps : (e : EndState) → KeepsKind e (timeout_turn e).end
-timeout_keeps e = action_keeps (timeout_action e.retries_left e.phase) e.last_sent_to e
+timeout_keeps e = response_keeps (timeout_response e.retries_left e.phase) e.last_sent_to e
 
 either : (e : EndState) (b : Bool) (one two : Turn) → KeepsKind e one.end → KeepsKind e two.end → KeepsKind e (if b then one else two).end
 either e true one two h k = h
@@ -72,17 +72,9 @@ module _ (refuses_commit : Holding → StoreFault → Type 0) (from : Endpoint) 
 
   acts_keeps : (action : Action) (files files' : Files (List ℕ) Holding) (turn : Turn) →
       Acts (λ (s : List ℕ). Some s) never_fails (λ (h : Holding). Some h) may_refuse_append refuses_commit action from bytes e files turn files' → KeepsKind e turn.end
-  acts_keeps Ignore files files' turn a = kept e turn _ a.0 (action_keeps Ignore from e)
-  acts_keeps Stranger files files' turn a = kept e turn _ a.0 (action_keeps Stranger from e)
-  acts_keeps ResendReply files files' turn a = kept e turn _ a.0 (action_keeps ResendReply from e)
-  acts_keeps Retransmit files files' turn a = kept e turn _ a.0 (action_keeps Retransmit from e)
-  acts_keeps Wait files files' turn a = kept e turn _ a.0 (action_keeps Wait from e)
-  acts_keeps (Close outcome) files files' turn a = kept e turn _ a.0 (action_keeps (Close outcome) from e)
-  acts_keeps (Refuse terms reply outcome) files files' turn a = kept e turn _ a.0 (action_keeps (Refuse terms reply outcome) from e)
-  acts_keeps (Accept terms) files files' turn a = kept e turn _ a.0 (action_keeps (Accept terms) from e)
+  acts_keeps (Respond response) files files' turn a = kept e turn _ a.0 (response_keeps response from e)
   acts_keeps (Send terms number) files files' turn a = sends_keeps terms number files files' turn a
   acts_keeps (Store terms number) files files' turn a = stores_keeps terms number _ files files' turn a
-  acts_keeps Complete files files' turn a = kept e turn _ a.0 (action_keeps Complete from e)
 
   pub step_keeps : (files files' : Files (List ℕ) Holding) (turn : Turn) →
       DatagramStep (λ (s : List ℕ). Some s) never_fails (λ (h : Holding). Some h) may_refuse_append refuses_commit from bytes e files turn files' → KeepsKind e turn.end

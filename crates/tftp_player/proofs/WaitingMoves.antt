@@ -31,11 +31,12 @@ use Rattle.tftp_ends.specs.declared.outcome.Outcome.TheVariants as outcomes
 use Rattle.tftp_ends.specs.declared.phase.Phase.TheVariants.{Waiting}
 use Rattle.tftp_ends.specs.declared.phase.Terms.{Terms}
 use Rattle.tftp_ends.specs.declared.action.Action.{Action}
-use Rattle.tftp_ends.specs.declared.action.Action.TheVariants.{Close, Refuse, Accept, Send, Store}
+use Rattle.tftp_ends.specs.declared.action.Action.TheVariants.{Respond, Send, Store}
+use Rattle.tftp_ends.specs.declared.action.Response.TheVariants.{Close, Refuse, Accept}
 use Rattle.tftp_ends.specs.End.{is_sender}
 use Rattle.tftp_ends.specs.Receiver.{receiver_action}
 use Rattle.tftp_ends.specs.Sender.{illegal_action}
-use Rattle.tftp_ends.specs.Step.{StoresIn, action_turn, after}
+use Rattle.tftp_ends.specs.Step.{StoresIn, response_turn, after}
 use Rattle.tftp_ends.specs.Text.{is_readable}
 use Rattle.tftp_ends.specs.Waiting.{default_terms, agreed_terms, no_answer, refusal_action, accept_action, begin_action, begin_with_action, reader_action, writer_action}
 use Rattle.tftp_player.specs.Machine.{Endpoint, server_ip, Data as Says_data, Ack as Says_ack, Oack as Says_oack, Message}
@@ -47,7 +48,7 @@ use Rattle.tftp_player.specs.WorldSteps.{never_fails, may_refuse_append}
 use Rattle.tftp_player.specs.WorldKept.{EndKept, sent_text}
 use Rattle.tftp_player.proofs.Actions.{Stands, IsWaiting, stores_first, refuses_first, accepts, sends_first, sends_first_with}
 use Rattle.tftp_player.proofs.SaidLemmas.{data_of, spells_own, taken_oack, negotiated_each}
-use Rattle.tftp_player.proofs.EndMoves.{Goes, placed, from_action, gives_up, refuses_now}
+use Rattle.tftp_player.proofs.EndMoves.{Goes, placed, from_response, gives_up, refuses_now}
 use Rattle.tftp_player.proofs.SourceMoves.{text_if, data_turn, data_end, data_goes, data_kept, valid_data}
 use Rattle.tftp_player.proofs.SinkMoves.{Receives, told, block_goes, refused_goes}
 use Rattle.tftp_player.proofs.PhaseMoves.{Acting, OfDecoded, if_acts, both_true}
@@ -75,13 +76,13 @@ module _ (views : List EndView) (messages : List Message) (k : ℕ) (x0 : Opened
   abbrev Answers : Action → Type 0
   Answers action = Acting views messages k waiter refuses_commit from bytes action
 
-  refuse_waiter : (reply : ErrorReply) (outcome : Outcome) → Answers (Refuse None reply outcome)
+  refuse_waiter : (reply : ErrorReply) (outcome : Outcome) → Answers (Respond (Refuse None reply outcome))
   refuse_waiter reply outcome turn held h =
-      from_action views messages k waiter (Refuse None reply outcome) from turn held (refuses_now views messages k waiter s kept reply outcome from refl) h
+      from_response views messages k waiter (Refuse None reply outcome) from turn held (refuses_now views messages k waiter s kept reply outcome from refl) h
 
-  close_waiter : (outcome : Outcome) → Answers (Close outcome)
+  close_waiter : (outcome : Outcome) → Answers (Respond (Close outcome))
   close_waiter outcome turn held h =
-      from_action views messages k waiter (Close outcome) from turn held (gives_up views messages k waiter s kept outcome from refl) h
+      from_response views messages k waiter (Close outcome) from turn held (gives_up views messages k waiter s kept outcome from refl) h
 
   refusal_acts : (refusal : Refusal) → Answers (refusal_action refusal)
   refusal_acts refusals.Repeated = refuse_waiter replies.OptionRefused (outcomes.Refused refusals.Repeated)
@@ -91,13 +92,13 @@ module _ (views : List EndView) (messages : List Message) (k : ℕ) (x0 : Opened
 
   -- a reader takes an OACK
   accept_acts : is_sender x0.state.side ≡ false → (options : List RawOption) (known : List Known) → Contains messages (message from x0.address (Says_oack (oack_size options))) →
-      agreement asked kinds.Read x0.state.mode options limit ≡ Ok known → Answers (Accept (agreed_terms from known))
+      agreement asked kinds.Read x0.state.mode options limit ≡ Ok known → Answers (Respond (Accept (agreed_terms from known)))
   accept_acts reader options known come e turn held h =
-      let action = Accept (agreed_terms from known) in
-      let y = in_state (after action from waiter.state) waiter in
+      let response = Accept (agreed_terms from known) in
+      let y = in_state (after response from waiter.state) waiter in
       let here : Contains messages (message from x0.address (Says_oack (size known))) =
       subst (λ (n : ℕ). Contains messages (message from x0.address (Says_oack n))) (taken_oack asked kinds.Read x0.state.mode options limit known e) come in
-      let goes_now : Goes views messages k waiter (action_turn action from waiter.state) y = record {
+      let goes_now : Goes views messages k waiter (response_turn response from waiter.state) y = record {
         said_now = message x0.address from (Says_ack 0) ∷ [];
         shown = accepts views messages k (view_of_end waiter) s from (size known) ((refl, refl), kept.phase.0, refl, server) reader here;
         replies = (Ack 0, spells_own (Ack 0) (omega arith), refl);
@@ -106,7 +107,7 @@ module _ (views : List EndView) (messages : List Message) (k : ℕ) (x0 : Opened
         last_sent = inr refl;
         stored = λ _. refl;
       } in
-      from_action views messages k waiter action from turn held goes_now h
+      from_response views messages k waiter response from turn held goes_now h
 
   accept_cases : is_sender x0.state.side ≡ false → (options : List RawOption) → Contains messages (message from x0.address (Says_oack (oack_size options))) →
       (r : Result (List Known) Refusal) → agreement asked kinds.Read x0.state.mode options limit ≡ r → Answers (accept_action from r)
@@ -130,14 +131,14 @@ module _ (views : List EndView) (messages : List Message) (k : ℕ) (x0 : Opened
         stored = stores_first views messages k (view_of_end waiter) s from piece waits reader come l;
         refused = λ t b. refuses_first views messages k (view_of_end waiter) s from piece t waits reader come l b;
       } in
-      let refuse : (reply : ErrorReply) (outcome : Outcome) → Answers (Refuse (Some terms) reply outcome) =
-      λ reply outcome turn held h. from_action views messages k waiter (Refuse (Some terms) reply outcome) from turn held
+      let refuse : (reply : ErrorReply) (outcome : Outcome) → Answers (Respond (Refuse (Some terms) reply outcome)) =
+      λ reply outcome turn held h. from_response views messages k waiter (Refuse (Some terms) reply outcome) from turn held
       (refused_goes views messages k waiter terms 1 from piece kept got x0.state.held (holding_of waiter) reply outcome kept.held (kept.committed reader)
       (x0.state.held ++ piece, sym (append_assoc (wire_text x0.state.mode x0.stored) x0.state.held piece) ∙ ap (λ (t : List ℕ). t ++ piece) (sym (told views messages k waiter terms 1 from piece kept got)))) h in
       if_acts Answers (nat_lt 512 (length piece)) (illegal_action terms)
-      (if is_readable x0.state.mode [] piece last then Store terms 1 else Refuse (Some terms) replies.NotNetascii outcomes.NotNetascii)
+      (if is_readable x0.state.mode [] piece last then Store terms 1 else Respond (Refuse (Some terms) replies.NotNetascii outcomes.NotNetascii))
       (λ e. refuse replies.IllegalOperation outcomes.Illegal)
-      (λ e. if_acts Answers (is_readable x0.state.mode [] piece last) (Store terms 1) (Refuse (Some terms) replies.NotNetascii outcomes.NotNetascii)
+      (λ e. if_acts Answers (is_readable x0.state.mode [] piece last) (Store terms 1) (Respond (Refuse (Some terms) replies.NotNetascii outcomes.NotNetascii))
       (λ readable turn held h. block_goes views messages k waiter terms 1 from piece kept got
       (subst (λ (hs : List ℕ). is_readable x0.state.mode hs piece last ≡ true) (sym none) readable) refuses_commit turn held
       (subst (λ (bs : List ℕ). StoresIn (λ (z : List ℕ). Some z) never_fails (λ (z : Holding). Some z) may_refuse_append refuses_commit terms 1 from bs waiter.state (files_of waiter) turn held) (data_of 1 piece bytes spelled) h))
@@ -170,7 +171,7 @@ module _ (views : List EndView) (messages : List Message) (k : ℕ) (x0 : Opened
       (Fits (text_of_end waiter) terms.size → IsShown (set views k (record (view_of_end waiter) { peer = Some from; size = terms.size; number = 1 })) (messages ++ message x0.address from (Says_data 1 (block (text_of_end waiter) terms.size 1)) ∷ [])) →
       Answers (begin_action x0.state.length terms)
   begin_acts writer terms peer positive small shown =
-      if_acts Answers (nat_lt x0.state.length (65535 * terms.size)) (Send terms 1) (Refuse None replies.FileTooLarge outcomes.TooLarge)
+      if_acts Answers (nat_lt x0.state.length (65535 * terms.size)) (Send terms 1) (Respond (Refuse None replies.FileTooLarge outcomes.TooLarge))
       (λ e.
       let text = sent_text x0 in
       let measured : x0.state.length ≡ length text = kept.phase.5 writer in

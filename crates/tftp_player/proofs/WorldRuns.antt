@@ -12,7 +12,7 @@ use Rattle.tftp_negotiate.specs.Ranges.{IsBlockSize}
 use Rattle.tftp_ends.specs.declared.phase.Phase.{Phase}
 use Rattle.tftp_ends.specs.declared.phase.Phase.TheVariants.{Waiting, Sending, Receiving, Dallying, Closed}
 use Rattle.tftp_ends.specs.End.{is_sender, is_client}
-use Rattle.tftp_ends.specs.Action.{Decodes, timeout_action}
+use Rattle.tftp_ends.specs.Action.{Decodes, timeout_response}
 use Rattle.tftp_ends.specs.Step.{timeout_turn}
 use Rattle.tftp_player.specs.Machine.{Endpoint, Elsewhere, host_of, Message}
 use Rattle.tftp_player.specs.Rules.{message}
@@ -33,7 +33,7 @@ use Rattle.tftp_player.proofs.Actions.{Stands, strays}
 use Rattle.tftp_player.proofs.Shown.{shown_start}
 use Rattle.tftp_player.proofs.ViewSafe.{shown_at_home}
 use Rattle.tftp_player.proofs.SaidLemmas.{one_packet, none_packet}
-use Rattle.tftp_player.proofs.EndMoves.{IsThere, from_action}
+use Rattle.tftp_player.proofs.EndMoves.{IsThere, from_response}
 use Rattle.tftp_player.proofs.EndTurns.{by_datagram, by_timeout}
 use Rattle.tftp_player.proofs.WorldTurns.{nothing_in, one_in, turn_keeps, view_at}
 use Rattle.tftp_player.proofs.WorldKeeps.{reading_keeps, writing_keeps, serving_keeps, stays_ok}
@@ -100,7 +100,7 @@ module _ (strangers : Bool) (w v : WorldState) (ok : IsOk strangers w) (report :
       let old = there_now strangers w ok x.address x.state.last_sent_to x.state.last_sent (kept.last_sent open_now) in
       let g = by_timeout views ok.messages k x old x.state.phase s kept.kept open_now in
       turn_keeps strangers w v ok k x (timeout_turn x.state) (files_of x) report at open_now
-      (from_action views ok.messages k x (timeout_action x.state.retries_left x.state.phase) x.state.last_sent_to (timeout_turn x.state) (files_of x) g (refl, refl)) t
+      (from_response views ok.messages k x (timeout_response x.state.retries_left x.state.phase) x.state.last_sent_to (timeout_turn x.state) (files_of x) g (refl, refl)) t
 
 -- what is to be refused has no part in what an end tells
 told_view : (b c : Bool) (x : OpenedEnd) → view_of_end (if b then x else if c then x else record x { refuses = true }) ≡ view_of_end x

@@ -13,11 +13,13 @@ use Rattle.tftp_ends.specs.declared.fault.EndFault.{EndFault}
 use Rattle.tftp_ends.specs.declared.fault.EndFault.TheVariants as ends
 use Rattle.tftp_ends.specs.declared.record.Step.{Step}
 use Rattle.tftp_ends.specs.declared.action.Action.{Action}
-use Rattle.tftp_ends.specs.declared.action.Action.TheVariants.{Ignore, Stranger, ResendReply, Retransmit, Wait, Close, Refuse, Accept, Send, Store, Complete}
+use Rattle.tftp_ends.specs.declared.action.Action.TheVariants.{Respond, Send, Store}
+use Rattle.tftp_ends.specs.declared.action.Response.{Response}
+use Rattle.tftp_ends.specs.declared.action.Response.TheVariants.{Ignore, Stranger, ResendReply, Retransmit, Wait, Close, Refuse, Accept, Complete}
 use Rattle.tftp_ends.specs.End.{EndState, is_sender}
 use Rattle.tftp_ends.specs.Files.{AreFilesOf, AreSame, KeepsFiles}
 use Rattle.tftp_ends.specs.Action.{Decodes, datagram_action}
-use Rattle.tftp_ends.specs.Step.{Turn, Acts, DatagramStep, action_turn, block_length, result_count_is, IsAnswered, Carries, told, timeout_turn}
+use Rattle.tftp_ends.specs.Step.{Turn, Acts, DatagramStep, response_turn, block_length, result_count_is, IsAnswered, Carries, told, timeout_turn}
 use Rattle.tftp_ends.specs.Action.{timeout_action}
 use Rattle.tftp_wire.specs.declared.packet.Packet.{Packet}
 use Rattle.tftp_server.specs.declared.fault.ServerFault.{ServerFault}
@@ -25,19 +27,17 @@ use Rattle.tftp_server.specs.Fault.{of_end}
 use Rattle.tftp_server.specs.State.{Held, IsRead, is_closed, at, with_next}
 use Rattle.tftp_server.specs.Steps.{TakesIn, TakesDatagram, TimesOut, StaysAs, KeepsHeld, TimeoutFault, DatagramFault, with_end}
 
--- an end's side stays over an action that touches no file, and over a fill
-action_side : (action : Action) (from : Endpoint) (e : EndState) → (action_turn action from e).end.side ≡ e.side
-action_side Ignore from e = refl
-action_side Stranger from e = refl
-action_side ResendReply from e = refl
-action_side Retransmit from e = refl
-action_side Wait from e = refl
-action_side (Close outcome) from e = refl
-action_side (Refuse terms reply outcome) from e = refl
-action_side (Accept terms) from e = refl
-action_side (Send terms number) from e = refl
-action_side (Store terms number) from e = refl
-action_side Complete from e = refl
+-- an end's side stays where no file is touched, and over a fill
+response_side : (response : Response) (from : Endpoint) (e : EndState) → (response_turn response from e).end.side ≡ e.side
+response_side Ignore from e = refl
+response_side Stranger from e = refl
+response_side ResendReply from e = refl
+response_side Retransmit from e = refl
+response_side Wait from e = refl
+response_side (Close outcome) from e = refl
+response_side (Refuse terms reply outcome) from e = refl
+response_side (Accept terms) from e = refl
+response_side Complete from e = refl
 
 cond_side : (b : Bool) (t u : Turn) (e : EndState) → t.end.side ≡ e.side → u.end.side ≡ e.side → (cond b t u).end.side ≡ e.side
 cond_side true t u e p q = p
@@ -54,32 +54,16 @@ module _ {F K : Type 0} (left : F → Option (List ℕ)) (may_fail : F → ℕ �
       Acts left may_fail (λ (sink : Unit {0}). None) (λ sink piece fault. Unit {0}) (λ sink fault. Unit {0}) action from bytes e (Source source) turn (Source source')
 
   acts_read : (action : Action) (from : Endpoint) (bytes : List ℕ) (e : EndState) (source source' : F) (turn : Turn) → Acts left may_fail held may_refuse_append may_refuse_commit action from bytes e (Source source) turn (Source source') → DecodedAs action from bytes e source turn source'
-  acts_read Ignore from bytes e source source' turn h = (h.0, ap (source_of source) h.1)
-  acts_read Stranger from bytes e source source' turn h = (h.0, ap (source_of source) h.1)
-  acts_read ResendReply from bytes e source source' turn h = (h.0, ap (source_of source) h.1)
-  acts_read Retransmit from bytes e source source' turn h = (h.0, ap (source_of source) h.1)
-  acts_read Wait from bytes e source source' turn h = (h.0, ap (source_of source) h.1)
-  acts_read (Close outcome) from bytes e source source' turn h = (h.0, ap (source_of source) h.1)
-  acts_read (Refuse terms reply outcome) from bytes e source source' turn h = (h.0, ap (source_of source) h.1)
-  acts_read (Accept terms) from bytes e source source' turn h = (h.0, ap (source_of source) h.1)
+  acts_read (Respond response) from bytes e source source' turn h = (h.0, ap (source_of source) h.1)
   acts_read (Send terms number) from bytes e source source' turn h = h
   acts_read (Store terms number) from bytes e source source' turn h = absurd h
-  acts_read Complete from bytes e source source' turn h = (h.0, ap (source_of source) h.1)
 
   acts_side : (action : Action) (from : Endpoint) (bytes : List ℕ) (e : EndState) (source source' : F) (turn : Turn) → Acts left may_fail held may_refuse_append may_refuse_commit action from bytes e (Source source) turn (Source source') → turn.end.side ≡ e.side
-  acts_side Ignore from bytes e source source' turn h = ap (λ (t : Turn). t.end.side) h.0
-  acts_side Stranger from bytes e source source' turn h = ap (λ (t : Turn). t.end.side) h.0
-  acts_side ResendReply from bytes e source source' turn h = ap (λ (t : Turn). t.end.side) h.0
-  acts_side Retransmit from bytes e source source' turn h = ap (λ (t : Turn). t.end.side) h.0
-  acts_side Wait from bytes e source source' turn h = ap (λ (t : Turn). t.end.side) h.0
-  acts_side (Close outcome) from bytes e source source' turn h = ap (λ (t : Turn). t.end.side) h.0
-  acts_side (Refuse terms reply outcome) from bytes e source source' turn h = ap (λ (t : Turn). t.end.side) h.0
-  acts_side (Accept terms) from bytes e source source' turn h = ap (λ (t : Turn). t.end.side) h.0
+  acts_side (Respond response) from bytes e source source' turn h = ap (λ (t : Turn). t.end.side) h.0 ∙ response_side response from e
   acts_side (Send terms number) from bytes e source source' turn h =
       ap (λ (t : Turn). t.end.side) h.answers
       ∙ cond_side (result_count_is (block_length e.length terms.size number) h.answer) _ _ e refl refl
   acts_side (Store terms number) from bytes e source source' turn h = absurd h
-  acts_side Complete from bytes e source source' turn h = ap (λ (t : Turn). t.end.side) h.0
 
   -- what a call of an end at a datagram ensures where it has taken it
   abbrev pub HasDecoded : Endpoint → List ℕ → EndState → EndState → Files F K → Files F K → List ℕ → List ℕ → Step → Type 0

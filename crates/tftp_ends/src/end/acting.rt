@@ -2,10 +2,11 @@
 
 ghost use Rattle.std.specs.Prelude.{◌≡◌, ◌≤◌, drop, length, OnErr, IfOk};
 ghost use Rattle.tftp_ends.specs.Files.{AreFilesOf, KeepsFiles, AreSame};
-ghost use Rattle.tftp_ends.specs.Step.{Turn, Acts, Lends, UsesFile, ack_bytes, having_sent, in_phase, action_turn, room_of, lent};
-ghost use Rattle.tftp_ends.specs.Sound.{PhaseFits, ActionFits};
+ghost use Rattle.tftp_ends.specs.Step.{Turn, Acts, Lends, UsesFile, ack_bytes, having_sent, in_phase, response_turn, room_of, response_room, lent};
+ghost use Rattle.tftp_ends.specs.End.{number_of};
+ghost use Rattle.tftp_ends.specs.Sound.{PhaseFits, ActionFits, ResponseFits, ResendsAck};
 
-use crate::action::Action;
+use crate::action::{Action, Response};
 use crate::end::End;
 use crate::end::sending::block_length;
 use crate::endpoint::Endpoint;
@@ -30,7 +31,8 @@ fn piece_of(bytes: &[u8]) -> &[u8]
 impl End {
     /// Goes into another phase. Progress gives the retries back.
     pub(crate) fn go_into(&mut self, phase: Phase)
-        requires { PhaseFits self.old phase }
+        requires fits { PhaseFits self.old phase }
+        requires resends { ResendsAck self.old phase }
         ensures { self.new ≡ in_phase phase self.old }
     {
         if self.phase.is_progress(phase) {
@@ -39,18 +41,21 @@ impl End {
         self.phase = phase;
     }
 
-    /// Goes into a phase and acknowledges a block. It takes no memory.
-    pub(crate) fn acknowledge(&mut self, phase: Phase, number: u16, from: Endpoint) -> Outgoing
+    /// Goes into a phase and acknowledges its block. It takes no memory.
+    pub(crate) fn acknowledge(&mut self, phase: Phase, from: Endpoint) -> Outgoing
         requires { PhaseFits self.old phase }
-        ensures state { self.new ≡ having_sent (record { to = from; bytes = ack_bytes number }) (in_phase phase self.old) }
+        ensures state { self.new ≡ having_sent (record { to = from; bytes = ack_bytes (number_of phase) }) (in_phase phase self.old) }
         ensures sent { result ≡ Outgoing.LastSent }
     {
         self.last_sent.clear();
-        let Ok(()) = append_ack(&mut self.last_sent, number) else {
+        let Ok(()) = append_ack(&mut self.last_sent, phase.number()) else {
             unreachable!()
         };
         self.last_sent_to = from;
-        self.go_into(phase);
+        if self.phase.is_progress(phase) {
+            self.retries_left = self.retries;
+        }
+        self.phase = phase;
         Outgoing::LastSent
     }
 
@@ -59,45 +64,53 @@ impl End {
         ensures { result ≡ room_of self.now action }
     {
         match action {
-            Action::Ignore | Action::Wait | Action::Close { .. } | Action::Complete => 0,
-            Action::ResendReply | Action::Retransmit => self.last_sent.len(),
-            Action::Stranger
-            | Action::Refuse { .. }
-            | Action::Accept { .. }
-            | Action::Store { .. } => MAX_ERROR,
+            Action::Respond(response) => self.response_room(response),
             Action::Send { terms, number } => {
                 MAX_ERROR + block_length(self.length, terms.size, number)
             }
+            Action::Store { .. } => MAX_ERROR,
         }
     }
 
-    /// Does what an action says that touches no file, and tells what goes out and where to. It takes
-    /// no memory.
-    pub(crate) fn answer(&mut self, action: Action, from: Endpoint) -> (Option<Endpoint>, Outgoing)
-        requires { ActionFits self.old action }
-        ensures lends { Lends (action_turn action from self.old) self.new result.0 result.1 }
-        ensures room { length (lent result.1 self.new) ≤ room_of self.old action }
+    /// The most bytes that go out where no file is touched.
+    pub(crate) fn response_room(&self, response: Response) -> usize
+        ensures { result ≡ response_room self.now response }
+    {
+        match response {
+            Response::ResendReply | Response::Retransmit => self.last_sent.len(),
+            Response::Stranger | Response::Refuse { .. } | Response::Accept { .. } => MAX_ERROR,
+            Response::Ignore | Response::Wait | Response::Close { .. } | Response::Complete => 0,
+        }
+    }
+
+    /// Does what touches no file, and tells what goes out and where to. It takes no memory.
+    pub(crate) fn respond(
+        &mut self,
+        response: Response,
+        from: Endpoint,
+    ) -> (Option<Endpoint>, Outgoing)
+        requires { ResponseFits self.old response }
+        ensures lends { Lends (response_turn response from self.old) self.new result.0 result.1 }
+        ensures room { length (lent result.1 self.new) ≤ response_room self.old response }
         ensures side { self.new.side ≡ self.old.side }
     {
-        match action {
-            Action::Ignore | Action::Send { .. } | Action::Store { .. } => {
-                (None, Outgoing::Nothing)
-            }
-            Action::Stranger => (Some(from), Outgoing::Error(ErrorReply::UnknownTransferId)),
-            Action::ResendReply => (Some(from), Outgoing::LastSent),
-            Action::Retransmit => {
+        match response {
+            Response::Ignore => (None, Outgoing::Nothing),
+            Response::Stranger => (Some(from), Outgoing::Error(ErrorReply::UnknownTransferId)),
+            Response::ResendReply => (Some(from), Outgoing::LastSent),
+            Response::Retransmit => {
                 self.retries_left -= 1;
                 (Some(self.last_sent_to), Outgoing::LastSent)
             }
-            Action::Wait => {
+            Response::Wait => {
                 self.go_into(self.phase.waited());
                 (None, Outgoing::Nothing)
             }
-            Action::Close { outcome } => {
+            Response::Close { outcome } => {
                 self.go_into(self.phase.closed(outcome));
                 (None, Outgoing::Nothing)
             }
-            Action::Refuse {
+            Response::Refuse {
                 terms,
                 reply,
                 outcome,
@@ -105,11 +118,11 @@ impl End {
                 self.go_into(self.phase.refused(terms, outcome));
                 (Some(from), Outgoing::Error(reply))
             }
-            Action::Accept { terms } => {
-                let outgoing = self.acknowledge(Phase::Receiving { terms, number: 0 }, 0, from);
+            Response::Accept { terms } => {
+                let outgoing = self.acknowledge(Phase::Receiving { terms, number: 0 }, from);
                 (Some(from), outgoing)
             }
-            Action::Complete => {
+            Response::Complete => {
                 self.go_into(self.phase.completed());
                 (None, Outgoing::Nothing)
             }
@@ -137,6 +150,7 @@ impl End {
         ensures files { AreFilesOf self.new.side files.new }
     {
         match action {
+            Action::Respond(response) => Ok(self.respond(response, from)),
             Action::Send { terms, number } => {
                 let Files::Source(source) = files else {
                     unreachable!()
@@ -151,7 +165,6 @@ impl End {
                 let outgoing = self.store(terms, number, piece_of(bytes), sink, from)?;
                 Ok((Some(from), outgoing))
             }
-            action => Ok(self.answer(action, from)),
         }
     }
 }

@@ -108,16 +108,14 @@ impl End {
     {
         let is_last = piece.len() < usize::from(terms.size);
         match store_block(sink, piece, is_last)? {
-            BlockStored::More => {
-                Ok(self.acknowledge(Phase::Receiving { terms, number }, number, from))
-            }
+            BlockStored::More => { Ok(self.acknowledge(Phase::Receiving { terms, number }, from)) }
             BlockStored::All => {
                 let phase = Phase::Dallying {
                     terms,
                     number,
                     dally: Dally::Fresh,
                 };
-                Ok(self.acknowledge(phase, number, from))
+                Ok(self.acknowledge(phase, from))
             }
             BlockStored::Refused(reply) => {
                 self.go_into(self.phase.refused(Some(terms), Outcome::StoreFault));
