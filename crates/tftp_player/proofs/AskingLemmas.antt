@@ -14,19 +14,20 @@ use Rattle.tftp_file.specs.Memory.{MemSinkState}
 use Rattle.tftp_ends.specs.declared.record.Record.{Record}
 use Rattle.tftp_ends.specs.Action.{Decodes}
 use Rattle.tftp_server.specs.declared.opened.Opened.{Opened}
-use Rattle.tftp_server.specs.Request.{SupportedStep, supported, supported_read, default_read, asked_of}
+use Rattle.tftp_server.specs.Request.{RequestStep, supported, supported_read, default_read}
 use Rattle.tftp_server.specs.Memory.{memory_meaning}
 use Rattle.tftp_server.specs.Store.{Stored, Drafted, FileList}
 use Rattle.tftp_player.specs.Machine.{Endpoint, request_port}
 use Rattle.tftp_player.specs.Effect.{said_by, report_by}
 use Rattle.tftp_player.specs.Played.{PlayerKept, end_at, ends_from, records_from}
-use Rattle.tftp_player.specs.Requests.{service, Sends_file, open_transfers}
+use Rattle.tftp_player.specs.Requests.{service, open_transfers}
+use Rattle.tftp_server.specs.Port.{Sends}
 use Rattle.tftp_player.specs.Requested.{IsRequested, requested_by, requested_at}
 use Rattle.tftp_player.specs.declared.served.Served.{Served}
 use Rattle.tftp_player.specs.Serving.{PlayedServer, Transfer}
 use Rattle.tftp_player.specs.Stage.{IsStaged, ends_of, world_of}
 use Rattle.tftp_player.specs.Today.{ArrivesToday, At_port, StageAsks}
-use Rattle.tftp_player.specs.World.{WorldState, OpenedEnd, is_closed, datagram, no_report, said_in, opened_in, sent_report}
+use Rattle.tftp_player.specs.World.{WorldState, OpenedEnd, file_at, is_closed, datagram, no_report, said_in, opened_in, sent_report}
 use Rattle.tftp_player.specs.WorldSteps.{never_fails, HasPort}
 use Rattle.tftp_player.specs.declared.datagram.Datagram.{Datagram}
 use Rattle.tftp_player.specs.declared.effect.Effect.{Effect}
@@ -35,7 +36,7 @@ use Rattle.tftp_player.specs.declared.report.Report.{Report}
 use Rattle.tftp_player.proofs.PlayLemmas.{ends_length, ends_rest, to_kept, from_kept}
 use Rattle.tftp_player.proofs.PortLemmas.{PortOpened, PortRefused, PortSilent, port_opened, port_not_opened, service_sends, new_sender, sending_is, sending_side, sending_open, sending_last_sent_to}
 use Rattle.tftp_player.proofs.Resting.{resting_same, resting_opened}
-use Rattle.tftp_player.proofs.ServerLemmas.{says_something, says_one, carries_no_write, IsServerOf, PortLeft, PortDid, supported_did, held_of}
+use Rattle.tftp_player.proofs.ServerLemmas.{says_something, says_one, carries_no_write, IsServerOf, PortAsking, PortLeft, PortDid, supported_did, held_of}
 use Rattle.tftp_player.proofs.HeldLemmas.{AreBelow, AreBelow-with_new, with_new-last, at-with_new, at-with_new_other}
 use Rattle.tftp_player.proofs.PlacedEnds.{told-same, kept-push, is_transfer, transfers-push}
 use Rattle.tftp_player.proofs.OpenedLemmas.{ends_push, records_push}
@@ -50,6 +51,10 @@ use Rattle.tftp_player.specs.declared.player.Player.TheVariants.{Server}
 -- a draft tells nothing
 abbrev pub untold : MemSinkState → Option Drafted
 untold draft = None
+
+-- who asked, and for which identifier
+abbrev asking : PlayedServer → Endpoint → ℕ → PortAsking untold
+asking before from port = record { old = before; from = from; tid = port }
 
 -- ---- where an end opens
 -- what is supported asks for the same end
@@ -70,10 +75,10 @@ supported_requests files (Some (Error code text)) request e = absurd (no_request
 supported_requests files (Some (Oack options)) request e = absurd (no_request request e)
 
 -- the end that opens is the one that was wanted
-pub requested_is : (w : WorldState) (bytes : List ℕ) (decoded : Option Packet) (path file : List ℕ) (mode : Mode) (agreed : List Known) (o : Option Served) → Decodes bytes decoded →
-    service w bytes (supported decoded) ≡ Sends_file path file mode agreed → IsRequested w.files bytes o → o ≡ Some (record { mode = mode; path = path; file = file; ended = None })
-requested_is w bytes decoded path file mode agreed o says sends requests =
-    let r = service_sends w path file mode agreed bytes (supported decoded) (carries_no_write decoded) sends in
+pub requested_is : (w : WorldState) (bytes : List ℕ) (decoded : Option Packet) (path file : List ℕ) (mode : Mode) (length : ℕ) (agreed : List Known) (o : Option Served) → Decodes bytes decoded →
+    file_at w.files path ≡ Some file → service w bytes (supported decoded) ≡ Sends path mode length agreed → IsRequested w.files bytes o → o ≡ Some (record { mode = mode; path = path; file = file; ended = None })
+requested_is w bytes decoded path file mode length agreed o says there sends requests =
+    let r = service_sends w path mode length agreed file bytes (supported decoded) (carries_no_write decoded) there sends in
     requests.2
     ∙ (ap (requested_by w.files) (says_one bytes requests.0 decoded requests.1 says)
     ∙ (supported_requests w.files decoded r.request r.decoded_is
@@ -96,19 +101,19 @@ module _ (from : Endpoint) (bytes : List ℕ) (before : PlayedServer) (ps : List
   said = says_something bytes range
 
   did : (sent : List Datagram) (after : PlayedServer) (opened : Opened) (out : List ℕ) →
-      SupportedStep (memory_meaning untold) bytes (asked_of before from port) (record { new = after; opened = opened; sent = out }) →
-      PortDid untold (w sent) (service (w sent) bytes (supported said.0)) (asked_of before from port) (record { new = after; opened = opened; sent = out })
-  did sent after opened out h = supported_did untold (w sent) (asked_of before from port) (record { new = after; opened = opened; sent = out }) (is_server sent) max bytes said.0 said.1 h
+      RequestStep (memory_meaning untold) before from supported bytes port (record { new = after; opened = opened; sent = out }) →
+      PortDid untold (w sent) (service (w sent) bytes (supported said.0)) (asking before from port) (record { new = after; opened = opened; sent = out })
+  did sent after opened out h = supported_did untold (w sent) (asking before from port) (record { new = after; opened = opened; sent = out }) (is_server sent) max bytes said.0 said.1 h
 
   module _ (after : PlayedServer) (opened : Opened) (out : List ℕ)
-      (h : SupportedStep (memory_meaning untold) bytes (asked_of before from port) (record { new = after; opened = opened; sent = out }))
+      (h : RequestStep (memory_meaning untold) before from supported bytes port (record { new = after; opened = opened; sent = out }))
       (none : opened.tid ≡ None) where
     abbrev result : PortLeft untold
     result = record { new = after; opened = opened; sent = out }
 
     seen : (sent : List Datagram) →
-        PortRefused untold (w sent) (asked_of before from port) result (service (w sent) bytes (supported said.0)) ⊎ PortSilent untold (w sent) (asked_of before from port) result (service (w sent) bytes (supported said.0))
-    seen sent = port_not_opened untold (w sent) (asked_of before from port) result (service (w sent) bytes (supported said.0)) (did sent after opened out h) none
+        PortRefused untold (w sent) (asking before from port) result (service (w sent) bytes (supported said.0)) ⊎ PortSilent untold (w sent) (asking before from port) result (service (w sent) bytes (supported said.0))
+    seen sent = port_not_opened untold (w sent) (asking before from port) result (service (w sent) bytes (supported said.0)) (did sent after opened out h) none
 
     -- where nothing opened the server is as before
     pub not_opened_same : after ≡ before
@@ -151,13 +156,13 @@ module _ (from : Endpoint) (bytes : List ℕ) (before : PlayedServer) (ps : List
         (subst (λ (qs : List Player). IsStaged before qs records0) (sym a) (subst (λ (rs : List (ℕ × Record)). IsStaged before ps rs) (sym b) staged))
 
   module _ (after : PlayedServer) (opened : Opened) (out : List ℕ)
-      (h : SupportedStep (memory_meaning untold) bytes (asked_of before from port) (record { new = after; opened = opened; sent = out }))
+      (h : RequestStep (memory_meaning untold) before from supported bytes port (record { new = after; opened = opened; sent = out }))
       (t : ℕ) (told : opened.tid ≡ Some t) (o : Option Served) (requests : IsRequested before.store.files bytes o) where
     abbrev result' : PortLeft untold
     result' = record { new = after; opened = opened; sent = out }
 
-    q : (sent : List Datagram) → PortOpened untold (w sent) (asked_of before from port) result' (service (w sent) bytes (supported said.0))
-    q sent = port_opened untold (w sent) (asked_of before from port) result' (service (w sent) bytes (supported said.0)) t (did sent after opened out h) told
+    q : (sent : List Datagram) → PortOpened untold (w sent) (asking before from port) result' (service (w sent) bytes (supported said.0))
+    q sent = port_opened untold (w sent) (asking before from port) result' (service (w sent) bytes (supported said.0)) t (did sent after opened out h) told
 
     abbrev x : List Datagram → OpenedEnd
     x sent = sending_end (w sent) from (q sent).mode (q sent).path (q sent).file (q sent).agreed
@@ -166,7 +171,7 @@ module _ (from : Endpoint) (bytes : List ℕ) (before : PlayedServer) (ps : List
     own sent = record { mode = (q sent).mode; path = (q sent).path; file = (q sent).file; ended = None }
 
     requested_own : (sent : List Datagram) → o ≡ Some (own sent)
-    requested_own sent = requested_is (w sent) bytes said.0 (q sent).path (q sent).file (q sent).mode (q sent).agreed o said.1 (q sent).service_is requests
+    requested_own sent = requested_is (w sent) bytes said.0 (q sent).path (q sent).file (q sent).mode (q sent).length (q sent).agreed o said.1 (q sent).there (q sent).service_is requests
 
     port_next : port ≡ 1024 + length ps
     port_next = is ∙ ap (λ (n : ℕ). 1024 + n) counts

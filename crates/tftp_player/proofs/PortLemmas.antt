@@ -2,6 +2,7 @@
 use Rattle.std.proofs.Common.{◌≡◌, ℕ, Bool, true, false, List, [], ◌∷◌, Option, Some, None, Result, Ok, Err, refl, sym, ap, ◌∙◌, inl, inr}
 use Rattle.std.specs.Prelude.{◌⊎◌, ◌*◌, if◌then◌else◌, nat_lt, nat_le}
 use Rattle.tftp_wire.specs.declared.mode.Mode.{Mode}
+use Rattle.tftp_wire.specs.declared.options.RawOption.{RawOption}
 use Rattle.tftp_wire.specs.declared.packet.Packet.{Packet}
 use Rattle.tftp_wire.specs.declared.packet.Packet.TheVariants.{Read, Write, Data, Ack, Error, Oack}
 use Rattle.tftp_wire.specs.declared.packet.Request.{Request}
@@ -23,7 +24,8 @@ use Rattle.tftp_player.specs.Machine.{Endpoint, request_port, server_ip}
 use Rattle.tftp_player.specs.World.{WorldState, OpenedEnd, file_at, is_closed, next_port, datagram, no_report, opened_in, said_in, sent_report}
 use Rattle.tftp_player.specs.WorldSteps.{Serves}
 use Rattle.tftp_player.specs.Openings.{sending_end}
-use Rattle.tftp_player.specs.Requests.{Service, Ignores, Refuses, Sends_file, Takes_file, open_transfers, sending, read_service, path_service, packet_service, service}
+use Rattle.tftp_server.specs.Port.{Ask, Ignores, Refuses, Reads, Service, Silent, Refused, Sends, Takes, by_file, by_length, by_name, by_packet}
+use Rattle.tftp_player.specs.Requests.{open_transfers, opened_of, served, service}
 use Rattle.tftp_player.proofs.HeldLemmas.{AreBelow, at-above_all, at-with_new}
 use Rattle.tftp_player.proofs.ServerLemmas.{IsNoWrite, held_of, PortAsking, PortLeft, PortDid}
 
@@ -35,12 +37,15 @@ pub record ReadServed (w : WorldState) (decoded : Option Packet) (path file : Li
   pub file_is : file_at w.files path ≡ Some file
   pub mode_is : mode ≡ request.mode
 
-module _ (w : WorldState) (path file : List ℕ) (mode : Mode) (agreed : List Known) where
+module _ (w : WorldState) (path : List ℕ) (mode : Mode) (length : ℕ) (agreed : List Known) where
   abbrev Is_sent : Service → Type 0
-  Is_sent service = service ≡ Sends_file path file mode agreed
+  Is_sent service = service ≡ Sends path mode length agreed
+
+  abbrev Is_asked : Ask → Type 0
+  Is_asked ask = Is_sent (served w ask)
 
   -- the other way of a test sends no file
-  other_way : (b : Bool) (this that : Service) → (Is_sent this → ⊥) → Is_sent (if b then this else that) → Is_sent that
+  other_way : (b : Bool) (this that : Ask) → (Is_asked this → ⊥) → Is_asked (if b then this else that) → Is_asked that
   other_way true this that none h = absurd (none h)
   other_way false this that none h = h
 
@@ -48,50 +53,49 @@ module _ (w : WorldState) (path file : List ℕ) (mode : Mode) (agreed : List Kn
   first_way true this that none h = h
   first_way false this that none h = absurd (none h)
 
-  refuses_none : (reply : ErrorReply) → Is_sent (Refuses reply) → ⊥
+  refuses_none : (reply : ErrorReply) → Is_sent (Refused reply) → ⊥
   refuses_none reply h = cc
 
-  ignores_none : Is_sent Ignores → ⊥
+  ignores_none : Is_sent Silent → ⊥
   ignores_none h = cc
 
-  by_answer : (p f : List ℕ) (m : Mode) (a : Result (List Known) Refusal) → Is_sent (sending p f m a) → (p ≡ path) × (f ≡ file) × (m ≡ mode)
-  by_answer p f m (Err refusal) h = absurd (refuses_none _ h)
-  by_answer p f m (Ok known) h =
-      let s : Sends_file p f m known ≡ Sends_file path file mode agreed = first_way (nat_lt (measured m f) (65535 * size known)) (Sends_file p f m known) (Refuses FileTooLarge) (refuses_none FileTooLarge) h in
-      ((let e : p ≡ path = cc in e), (let e : f ≡ file = cc in e), (let e : m ≡ mode = cc in e))
+  by_answer : (p : List ℕ) (m : Mode) (n : ℕ) (a : Result (List Known) Refusal) → Is_sent (by_length p m n a) → (p ≡ path) × (m ≡ mode)
+  by_answer p m n (Err refusal) h = absurd (refuses_none _ h)
+  by_answer p m n (Ok known) h =
+      let s : Sends p m n known ≡ Sends path mode length agreed = first_way (nat_lt n (65535 * size known)) (Sends p m n known) (Refused FileTooLarge) (refuses_none FileTooLarge) h in
+      ((let e : p ≡ path = cc in e), (let e : m ≡ mode = cc in e))
 
-  by_file : (request : Request) (p : List ℕ) (there : Option (List ℕ)) → Is_sent (read_service w request p there) →
-      (p ≡ path) × (there ≡ Some file) × (mode ≡ request.mode)
-  by_file request p None h = absurd (refuses_none _ h)
-  by_file request p (Some f) h =
-      let b = by_answer p f request.mode (answer request.options kinds.Read request.mode (measured request.mode f) w.limits) h in
-      (b.0, ap (λ (g : List ℕ). Some g) b.1, sym b.2)
+  by_opened : (p : List ℕ) (m : Mode) (options : List RawOption) (there : Option (List ℕ)) → Is_sent (by_file w.limits p m options (opened_of m there)) → (p ≡ path) × (m ≡ mode)
+  by_opened p m options None h = absurd (refuses_none _ h)
+  by_opened p m options (Some f) h = by_answer p m (measured m f) (answer options kinds.Read m (measured m f) w.limits) h
 
-  by_name : (request : Request) (name : Result (List ℕ) PathFault) → path_of_name request.name ≡ name → Is_sent (path_service w false request name) → ReadServed w (Some (Read request)) path file mode
-  by_name request (Err fault) e h = absurd (refuses_none _ h)
-  by_name request (Ok p) e h =
-      let s = other_way (nat_le w.cap (open_transfers w.ends)) (Refuses ServerBusy) (read_service w request p (file_at w.files p)) (refuses_none ServerBusy) h in
-      let b = by_file request p (file_at w.files p) s in
+  by_named : (file : List ℕ) (request : Request) (name : Result (List ℕ) PathFault) → file_at w.files path ≡ Some file → path_of_name request.name ≡ name →
+      Is_asked (by_name w.cap (open_transfers w.ends) (λ p. Reads p request.mode request.options) name) → ReadServed w (Some (Read request)) path file mode
+  by_named file request (Err fault) there e h = absurd (refuses_none _ h)
+  by_named file request (Ok p) there e h =
+      let s = other_way (nat_le w.cap (open_transfers w.ends)) (Refuses ServerBusy) (Reads p request.mode request.options) (refuses_none ServerBusy) h in
+      let b = by_opened p request.mode request.options (file_at w.files p) s in
       record {
         request = request;
         decoded_is = refl;
         path_is = e ∙ ap (λ (q : List ℕ). Ok q) b.0;
-        file_is = ap (file_at w.files) (sym b.0) ∙ b.1;
-        mode_is = b.2;
+        file_is = there;
+        mode_is = sym b.1;
       }
 
-  by_packet : (decoded : Option Packet) → IsNoWrite decoded → Is_sent (packet_service w decoded) → ReadServed w decoded path file mode
-  by_packet None no_write h = absurd (refuses_none _ h)
-  by_packet (Some (Read request)) no_write h = by_name request (path_of_name request.name) refl h
-  by_packet (Some (Write request)) no_write h = absurd no_write
-  by_packet (Some (Data number bytes)) no_write h = absurd (refuses_none _ h)
-  by_packet (Some (Ack number)) no_write h = absurd (refuses_none _ h)
-  by_packet (Some (Error code text)) no_write h = absurd (refuses_none _ h)
-  by_packet (Some (Oack options)) no_write h = absurd (refuses_none _ h)
+  by_asked : (file : List ℕ) (decoded : Option Packet) → IsNoWrite decoded → file_at w.files path ≡ Some file → Is_asked (by_packet w.cap (open_transfers w.ends) w.limits decoded) → ReadServed w decoded path file mode
+  by_asked file None no_write there h = absurd (refuses_none _ h)
+  by_asked file (Some (Read request)) no_write there h = by_named file request (path_of_name request.name) there refl h
+  by_asked file (Some (Write request)) no_write there h = absurd no_write
+  by_asked file (Some (Data number bytes)) no_write there h = absurd (refuses_none _ h)
+  by_asked file (Some (Ack number)) no_write there h = absurd (refuses_none _ h)
+  by_asked file (Some (Error code text)) no_write there h = absurd (refuses_none _ h)
+  by_asked file (Some (Oack options)) no_write there h = absurd (refuses_none _ h)
 
   -- what was asked for where the server sends a file
-  pub service_sends : (bytes : List ℕ) (decoded : Option Packet) → IsNoWrite decoded → service w bytes decoded ≡ Sends_file path file mode agreed → ReadServed w decoded path file mode
-  service_sends bytes decoded no_write h = by_packet decoded no_write (other_way (has_error_opcode bytes) Ignores (packet_service w decoded) ignores_none h)
+  pub service_sends : (file bytes : List ℕ) (decoded : Option Packet) → IsNoWrite decoded → file_at w.files path ≡ Some file → service w bytes decoded ≡ Sends path mode length agreed → ReadServed w decoded path file mode
+  service_sends file bytes decoded no_write there h =
+      by_asked file decoded no_write there (other_way (has_error_opcode bytes) Ignores (by_packet w.cap (open_transfers w.ends) w.limits decoded) ignores_none h)
 
 pub sending_open : (w : WorldState) (peer : Endpoint) (mode : Mode) (path file : List ℕ) (agreed : List Known) → is_closed (sending_end w peer mode path file agreed) ≡ false
 sending_open w peer mode path file [] = refl
@@ -133,8 +137,10 @@ module _ {D : Type 0} (drafted : D → Option Drafted) (w : WorldState) (asking 
     pub path : List ℕ
     pub file : List ℕ
     pub mode : Mode
+    pub length : ℕ
     pub agreed : List Known
-    pub service_is : service ≡ Sends_file path file mode agreed
+    pub there : file_at w.files path ≡ Some file
+    pub service_is : service ≡ Sends path mode length agreed
     pub tid : result.opened.tid ≡ Some asking.tid
     pub to : result.opened.to ≡ Some asking.from
     pub sent : result.sent ≡ (sending_end w asking.from mode path file agreed).state.last_sent
@@ -158,32 +164,34 @@ module _ {D : Type 0} (drafted : D → Option Drafted) (w : WorldState) (asking 
 
   -- one of the three
   pub port_seen : (service : Service) → PortDid drafted w service asking result → PortOpened service ⊎ (PortRefused service ⊎ PortSilent service)
-  port_seen Ignores h = inr (inr (record {
+  port_seen Silent h = inr (inr (record {
     tid = ap (λ (r : PortLeft drafted). r.opened.tid) h;
     to = ap (λ (r : PortLeft drafted). r.opened.to) h;
     sent = ap (λ (r : PortLeft drafted). r.sent) h;
     new = ap (λ (r : PortLeft drafted). r.new) h;
     serves = record { tells = refl; is = refl };
   }))
-  port_seen (Refuses reply) h = inr (inl (record {
+  port_seen (Refused reply) h = inr (inl (record {
     tid = ap (λ (r : PortLeft drafted). r.opened.tid) h;
     to = ap (λ (r : PortLeft drafted). r.opened.to) h;
     new = ap (λ (r : PortLeft drafted). r.new) h;
     serves = (refl, ap (λ (bytes : List ℕ). said_in w (datagram request_port asking.from bytes)) (ap (λ (r : PortLeft drafted). r.sent) h));
   }))
-  port_seen (Sends_file path file mode agreed) h = inl (record {
+  port_seen (Sends path mode length agreed) h = inl (record {
     path = path;
-    file = file;
+    file = h.0;
     mode = mode;
+    length = length;
     agreed = agreed;
+    there = h.1;
     service_is = refl;
-    tid = ap (λ (r : PortLeft drafted). r.opened.tid) h;
-    to = ap (λ (r : PortLeft drafted). r.opened.to) h;
-    sent = ap (λ (r : PortLeft drafted). r.sent) h;
-    new = ap (λ (r : PortLeft drafted). r.new) h;
-    serves = record { tells = refl; is = refl };
+    tid = ap (λ (r : PortLeft drafted). r.opened.tid) h.2;
+    to = ap (λ (r : PortLeft drafted). r.opened.to) h.2;
+    sent = ap (λ (r : PortLeft drafted). r.sent) h.2;
+    new = ap (λ (r : PortLeft drafted). r.new) h.2;
+    serves = (h.0, h.1, record { tells = refl; is = refl });
   })
-  port_seen (Takes_file path mode agreed) h = absurd h
+  port_seen (Takes path mode agreed) h = absurd h
 
   -- by whether the call told an identifier
   pub port_opened : (service : Service) (tid : ℕ) → PortDid drafted w service asking result → result.opened.tid ≡ Some tid → PortOpened service

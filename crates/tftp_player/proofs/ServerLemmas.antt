@@ -7,6 +7,7 @@ use Rattle.std.proofs.lemmas.List.{take_min, drop_min}
 use Rattle.std.proofs.lemmas.Option.{same_Some}
 use Rattle.tftp_wire.specs.declared.mode.Mode.{Mode}
 use Rattle.tftp_wire.specs.declared.mode.Mode.TheVariants.{Octet, Netascii}
+use Rattle.tftp_wire.specs.declared.options.RawOption.{RawOption}
 use Rattle.tftp_wire.specs.declared.packet.Packet.{Packet}
 use Rattle.tftp_wire.specs.declared.packet.Packet.TheVariants.{Read, Write, Data, Ack, Error, Oack}
 use Rattle.tftp_wire.specs.declared.packet.Request.{Request}
@@ -34,13 +35,13 @@ use Rattle.tftp_file.specs.declared.fault.StoreFault.TheVariants as store_faults
 use Rattle.tftp_file.specs.declared.files.Files.TheVariants.{Source}
 use Rattle.tftp_file.specs.declared.path.PathFault.{PathFault}
 use Rattle.tftp_ends.specs.declared.error_reply.ErrorReply.{ErrorReply}
-use Rattle.tftp_ends.specs.declared.error_reply.ErrorReply.TheVariants.{FileTooLarge, ServerBusy}
+use Rattle.tftp_ends.specs.declared.error_reply.ErrorReply.TheVariants.{FileNotFound, FileTooLarge, ServerBusy}
 use Rattle.tftp_ends.specs.End.{EndState}
 use Rattle.tftp_ends.specs.Opening.{ServesRead, serving}
 use Rattle.tftp_ends.specs.Action.{Decodes}
 use Rattle.tftp_ends.specs.Step.{block_length, data_bytes, result_count_is}
 use Rattle.tftp_ends.specs.Waiting.{default_terms, agreed_terms}
-use Rattle.tftp_server.specs.Request.{Asking, Left, refusing, silent, opening, accept_reply, AnswersRead, ReadsFrom, Names, PortStep, RequestStep, SupportedStep, supported, supported_read}
+use Rattle.tftp_server.specs.Request.{Came, Nothing, An_error, A_transfer, Goes, Left, RequestStep, Sent, left_by, opened_length, supported, supported_read}
 use Rattle.tftp_server.specs.State.{Held, ServerState}
 use Rattle.tftp_server.specs.Memory.{MayRefuseOpen, memory_meaning}
 use Rattle.tftp_server.specs.Store.{Stored, Drafted, Opens, measured, file_at as file_under}
@@ -49,7 +50,8 @@ use Rattle.tftp_player.specs.Machine.{Endpoint}
 use Rattle.tftp_player.specs.World.{WorldState, StoredFile, OpenedEnd, file_at}
 use Rattle.tftp_player.specs.WorldSteps.{never_fails}
 use Rattle.tftp_player.specs.Openings.{sending_end}
-use Rattle.tftp_player.specs.Requests.{Service, Ignores, Refuses, Sends_file, Takes_file, open_transfers, refusal_reply, sending, read_service, path_service, packet_service, service}
+use Rattle.tftp_server.specs.Port.{Ask, Ignores, Refuses, Reads, Writes, Service, Silent, Refused, Sends, Takes, accept_reply, asks, by_file, by_length, by_name, by_packet}
+use Rattle.tftp_player.specs.Requests.{open_transfers, opened_of, served, service}
 use Rattle.tftp_player.proofs.SaidLemmas.{one_packet, none_packet}
 use Rattle.tftp_player.proofs.WaitingMoves.{agreed_size}
 use Rattle.tftp_player.proofs.WorldKeeps.{answered_values}
@@ -72,13 +74,6 @@ says_something bytes fine = by_fault (first_fault bytes) refl where
   by_fault : (fault : Option PacketFault) → first_fault bytes ≡ fault → (decoded : Option Packet) × Decodes bytes decoded
   by_fault None e = (Some (packet_in bytes), fine_spells bytes fine e)
   by_fault (Some fault) e = (None, (fault, e))
-
--- the options are refused for the same reason
-same_reply : (refusal : Refusal) → accept_reply refusal ≡ refusal_reply refusal
-same_reply refusals.Repeated = refl
-same_reply refusals.TooLarge = refl
-same_reply refusals.NotAsked = refl
-same_reply refusals.BadValue = refl
 
 -- of a text that was counted to its end, the first block is wanted
 first_want : (m n : ℕ) → m ≡ n → block_length m 512 1 ≡ min 512 n
@@ -155,30 +150,57 @@ carries_no_write (Some (Ack number)) = tt
 carries_no_write (Some (Error code text)) = tt
 carries_no_write (Some (Oack options)) = tt
 
+-- nor does the port ask for a draft then
+abbrev AsksNoDraft : Ask → Type 0
+AsksNoDraft (Writes path mode agreed) = ⊥
+AsksNoDraft ask = Unit {0}
+
+reads_no_draft : (cap count : ℕ) (mode : Mode) (options : List RawOption) (path : Result (List ℕ) PathFault) → AsksNoDraft (by_name cap count (λ p. Reads p mode options) path)
+reads_no_draft cap count mode options (Err fault) = tt
+reads_no_draft cap count mode options (Ok path) = by (nat_le cap count) where
+  by : (b : Bool) → AsksNoDraft (if b then Refuses ServerBusy else Reads path mode options)
+  by true = tt
+  by false = tt
+
+packet_no_draft : (cap count : ℕ) (limits : Limits) (decoded : Option Packet) → IsNoWrite decoded → AsksNoDraft (by_packet cap count limits decoded)
+packet_no_draft cap count limits None no_write = tt
+packet_no_draft cap count limits (Some (Read request)) no_write = reads_no_draft cap count request.mode request.options (path_of_name request.name)
+packet_no_draft cap count limits (Some (Write request)) no_write = absurd no_write
+packet_no_draft cap count limits (Some (Data number bytes)) no_write = tt
+packet_no_draft cap count limits (Some (Ack number)) no_write = tt
+packet_no_draft cap count limits (Some (Error code text)) no_write = tt
+packet_no_draft cap count limits (Some (Oack options)) no_write = tt
+
+asks_no_draft : (cap count : ℕ) (limits : Limits) (bytes : List ℕ) (decoded : Option Packet) → IsNoWrite decoded → AsksNoDraft (asks cap count limits bytes decoded)
+asks_no_draft cap count limits bytes decoded no_write = by (has_error_opcode bytes) where
+  by : (b : Bool) → AsksNoDraft (if b then Ignores else by_packet cap count limits decoded)
+  by true = tt
+  by false = packet_no_draft cap count limits decoded no_write
+
 module _ {D : Type 0} (drafted : D → Option Drafted) where
-  -- what a request is answered from, and what it left, where the store and the sources tell what they hold
-  abbrev pub PortAsking : Type 0
-  PortAsking = Asking Stored (List ℕ) D
+  -- what a request is answered from, where the store and the sources tell what they hold
+  pub record PortAsking : Type 0 where
+    pub old : ServerState Stored (List ℕ) D
+    pub from : Endpoint
+    pub tid : ℕ
 
   abbrev pub PortLeft : Type 0
   PortLeft = Left Stored (List ℕ) D
 
-  abbrev pub port_silent : PortAsking → PortLeft
-  port_silent asking = silent asking
+  abbrev pub PortCame : Type 0
+  PortCame = Came Stored (List ℕ) D
 
-  abbrev pub port_refusing : ErrorReply → PortAsking → PortLeft
-  port_refusing reply asking = refusing reply asking.old.store asking
-
-  abbrev pub port_opening : Held (List ℕ) D → PortAsking → PortLeft
-  port_opening held asking = opening held asking.old.store asking
+  abbrev port_left : PortCame → PortAsking → PortLeft
+  port_left came asking = left_by came asking.old asking.from asking.tid
 
   -- the port did what the world's service is; no transfer takes a file yet
   abbrev pub PortDid : WorldState → Service → PortAsking → PortLeft → Type 0
-  PortDid w Ignores asking result = result ≡ port_silent asking
-  PortDid w (Refuses reply) asking result = result ≡ port_refusing reply asking
-  PortDid w (Sends_file path file mode agreed) asking result =
-      result ≡ port_opening (held_of (sending_end w asking.from mode path file agreed)) asking
-  PortDid w (Takes_file path mode agreed) asking result = ⊥
+  PortDid w Silent asking result = result ≡ port_left Nothing asking
+  PortDid w (Refused reply) asking result = result ≡ port_left (An_error reply asking.old.store) asking
+  PortDid w (Sends path mode length agreed) asking result =
+      (file : List ℕ) × (file_at w.files path ≡ Some file)
+      × (result ≡ port_left (A_transfer (held_of (sending_end w asking.from mode path file agreed)) asking.old.store) asking)
+  PortDid w (Takes path mode agreed) asking result = ⊥
 
   -- the server is set to what the world is, holds its files and as many transfers
   pub record IsServerOf (w : WorldState) (server : ServerState Stored (List ℕ) D) : Type 0 where
@@ -188,98 +210,85 @@ module _ {D : Type 0} (drafted : D → Option Drafted) where
     pub cap : server.config.cap ≡ w.cap
     pub count : length server.held ≡ open_transfers w.ends
 
-  module _ (w : WorldState) (asking : PortAsking) (result : PortLeft) (s : IsServerOf w asking.old) (max : IsBlockSize w.limits.max_block) where
+  module _ (w : WorldState) (asking : PortAsking) (came : PortCame) (s : IsServerOf w asking.old) (max : IsBlockSize w.limits.max_block) where
     abbrev Did : Service → Type 0
-    Did service = PortDid w service asking result
+    Did service = PortDid w service asking (port_left came asking)
 
-    if_did : (b : Bool) (this other : Service) (P Q : Type 0) → (b ≡ true → P → Did this) → (b ≡ false → Q → Did other) → MatchBool b P Q → Did (if b then this else other)
-    if_did true this other P Q f g h = f refl h
-    if_did false this other P Q f g h = g refl h
+    abbrev Has_sent : Service → Opening (List ℕ) → Type 0
+    Has_sent service file = Sent (memory_meaning drafted) asking.old asking.from service (Ok file) came
+
+    refused : (reply : ErrorReply) → came ≡ An_error reply asking.old.store → Did (Refused reply)
+    refused reply h = ap (λ (c : PortCame). port_left c asking) h
 
     -- the answer to the options of a read
-    by_answer : (request : Request) (path file : List ℕ) (a : Result (List Known) Refusal) → answer request.options kinds.Read request.mode (measured request.mode file) w.limits ≡ a →
-        AnswersRead (memory_meaning drafted) path request.mode (measured request.mode file) (wire_text request.mode file) a asking result →
-        Did (sending path file request.mode a)
-    by_answer request path file (Err refusal) e h = h ∙ ap (λ (reply : ErrorReply). port_refusing reply asking) (same_reply refusal)
-    by_answer request path file (Ok agreed) e h =
-        let mode = request.mode in
-        let m = measured mode file in
-        if_did (nat_lt m (65535 * size agreed)) (Sends_file path file mode agreed) (Refuses FileTooLarge) _ _
-        (λ l starts.
-        let few : m < 65535 * size agreed = ltb-true m (65535 * size agreed) l in
-        let small = (agreed_size agreed (answered_values kinds.Read mode m w.limits request.options agreed max e)).1 in
-        let whole = measured_whole mode file (size agreed) small few in
-        elim starts [
-          | inl serves ↦
-              let b = read_end w asking.from mode path file agreed m asking.old.config.retries serves.rest serves.end whole s.retries serves.serves in
-              serves.opens
-              ∙ (ap (λ (e : EndState). port_opening (record { end = e; files = Source serves.rest; path = path }) asking) b.0
-              ∙ (ap (λ (r : List ℕ). port_opening (record { end = (sending_end w asking.from mode path file agreed).state; files = Source r; path = path }) asking) b.1
-              ∙ ap (λ (p : List ℕ). port_opening (record { end = (sending_end w asking.from mode path file agreed).state; files = Source (sending_end w asking.from mode path file agreed).left; path = p }) asking)
-              (sym (sending_path w asking.from mode path file agreed))))
-          | inr changed ↦ let c = changed.1 in absurd (cannot_be_short (wire_text mode file) m c.0 c.1.piece whole c.1.answer c.1.fills c.1.short c.1.memory c.1.read)
-        ])
-        (λ l refused. refused) h
+    by_answer : (path file : List ℕ) (mode : Mode) (options : List RawOption) (a : Result (List Known) Refusal) → file_at w.files path ≡ Some file → answer options kinds.Read mode (measured mode file) w.limits ≡ a →
+        Has_sent (by_length path mode (measured mode file) a) (record { source = wire_text mode file; length = measured mode file }) → Did (by_length path mode (measured mode file) a)
+    by_answer path file mode options (Err refusal) there e h = refused (accept_reply refusal) h
+    by_answer path file mode options (Ok agreed) there e h = by (nat_lt m (65535 * size agreed)) refl h
+      where
+        m : ℕ
+        m = measured mode file
+
+        opened : Opening (List ℕ)
+        opened = record { source = wire_text mode file; length = measured mode file }
+
+        by : (b : Bool) → nat_lt m (65535 * size agreed) ≡ b → Has_sent (if b then Sends path mode m agreed else Refused FileTooLarge) opened → Did (if b then Sends path mode m agreed else Refused FileTooLarge)
+        by false l refusal = refused FileTooLarge refusal
+        by true l starts =
+            let few : m < 65535 * size agreed = ltb-true m (65535 * size agreed) l in
+            let small = (agreed_size agreed (answered_values kinds.Read mode m w.limits options agreed max e)).1 in
+            let whole = measured_whole mode file (size agreed) small few in
+            elim starts [
+              | inl serves ↦
+                  let b = read_end w asking.from mode path file agreed m asking.old.config.retries serves.rest serves.end whole s.retries serves.serves in
+                  let x = sending_end w asking.from mode path file agreed in
+                  (file, there, ap (λ (c : PortCame). port_left c asking) (serves.opens
+                  ∙ (ap (λ (e : EndState). A_transfer (record { end = e; files = Source serves.rest; path = path }) asking.old.store) b.0
+                  ∙ (ap (λ (r : List ℕ). A_transfer (record { end = x.state; files = Source r; path = path }) asking.old.store) b.1
+                  ∙ ap (λ (p : List ℕ). A_transfer (record { end = x.state; files = Source x.left; path = p }) asking.old.store) (sym (sending_path w asking.from mode path file agreed))))))
+              | inr changed ↦ let c = changed.1 in absurd (cannot_be_short (wire_text mode file) m c.0 c.1.piece whole c.1.answer c.1.fills c.1.short c.1.memory c.1.read)
+            ]
 
     -- the file was opened, or is not there
-    by_file : (request : Request) (path : List ℕ) (file : Result (Opening (List ℕ)) StoreFault) (there : Option (List ℕ)) → file_at w.files path ≡ there →
-        Opens (λ (s : List ℕ). Some s) (Some asking.old.store) path request.mode file → IfErr file (MayRefuseOpen asking.old.store path) →
-        ReadsFrom (memory_meaning drafted) path request file asking result → Did (read_service w request path there)
-    by_file request path (Ok opened) None e opens refused h =
+    by_store : (path : List ℕ) (mode : Mode) (options : List RawOption) (file : Result (Opening (List ℕ)) StoreFault) (there : Option (List ℕ)) → file_at w.files path ≡ there →
+        Opens (λ (s : List ℕ). Some s) (Some asking.old.store) path mode file → IfErr file (MayRefuseOpen asking.old.store path) → file ≢ Err store_faults.Memory →
+        Sent (memory_meaning drafted) asking.old asking.from (by_file asking.old.config.limits path mode options (opened_length file)) file came → Did (by_file w.limits path mode options (opened_of mode there))
+    by_store path mode options (Ok opened) None e opens may memory h =
         absurd (let f : None ≡ Some opens.0 = sym e ∙ (ap (λ (files : List StoredFile). file_at files path) (sym s.files) ∙ opens.1) in cc)
-    by_file request path (Ok opened) (Some file) e opens refused h =
-        let mode = request.mode in
+    by_store path mode options (Ok opened) (Some file) e opens may memory h =
         let same : opens.0 ≡ file = same_Some opens.0 file (sym opens.1 ∙ (ap (λ (files : List StoredFile). file_at files path) s.files ∙ e)) in
         let source : opened.source ≡ wire_text mode file = same_Some opened.source (wire_text mode file) (opens.2.source ∙ ap (λ (f : List ℕ). Some (wire_text mode f)) same) in
         let count : opened.length ≡ measured mode file = opens.2.length ∙ ap (measured mode) same in
-        by_answer request path file (answer request.options kinds.Read mode (measured mode file) w.limits) refl
-        (subst (λ (l : Limits). AnswersRead (memory_meaning drafted) path mode (measured mode file) (wire_text mode file) (answer request.options kinds.Read mode (measured mode file) l) asking result) s.limits
-        (subst (λ (t : List ℕ). AnswersRead (memory_meaning drafted) path mode (measured mode file) t (answer request.options kinds.Read mode (measured mode file) asking.old.config.limits) asking result) source
-        (subst (λ (n : ℕ). AnswersRead (memory_meaning drafted) path mode n opened.source (answer request.options kinds.Read mode n asking.old.config.limits) asking result) count h)))
-    by_file request path (Err store_faults.Missing) None e opens refused h = h
-    by_file request path (Err store_faults.Missing) (Some file) e opens refused h =
+        by_answer path file mode options (answer options kinds.Read mode (measured mode file) w.limits) e refl
+        (subst (λ (l : Limits). Has_sent (by_length path mode (measured mode file) (answer options kinds.Read mode (measured mode file) l)) (record { source = wire_text mode file; length = measured mode file })) s.limits
+        (subst (λ (t : List ℕ). Has_sent (by_length path mode (measured mode file) (answer options kinds.Read mode (measured mode file) asking.old.config.limits)) (record { source = t; length = measured mode file })) source
+        (subst (λ (n : ℕ). Has_sent (by_length path mode n (answer options kinds.Read mode n asking.old.config.limits)) (record { source = opened.source; length = n })) count h)))
+    by_store path mode options (Err store_faults.Missing) None e opens may memory h = refused FileNotFound h
+    by_store path mode options (Err store_faults.Missing) (Some file) e opens may memory h =
         absurd (let f : None ≡ Some file = sym opens ∙ (ap (λ (files : List StoredFile). file_at files path) s.files ∙ e) in cc)
-    by_file request path (Err store_faults.Memory) there e opens refused h = absurd h
-    by_file request path (Err store_faults.Exists) there e opens refused h = absurd refused
-    by_file request path (Err store_faults.Full) there e opens refused h = absurd refused
-    by_file request path (Err store_faults.Io) there e opens refused h = absurd refused
+    by_store path mode options (Err store_faults.Memory) there e opens may memory h = absurd (memory refl)
+    by_store path mode options (Err store_faults.Exists) there e opens may memory h = absurd may
+    by_store path mode options (Err store_faults.Full) there e opens may memory h = absurd may
+    by_store path mode options (Err store_faults.Io) there e opens may memory h = absurd may
 
-    -- the name is a path, or not
-    by_name : (request : Request) (path : Result (List ℕ) PathFault) →
-        Names (memory_meaning drafted) false request path asking result → Did (path_service w false request path)
-    by_name request (Err fault) h = h
-    by_name request (Ok path) h =
-        subst (λ (b : Bool). Did (if b then Refuses ServerBusy else read_service w request path (file_at w.files path)))
-        (ap (λ (n : ℕ). nat_le n (length asking.old.held)) s.cap ∙ ap (λ (n : ℕ). nat_le w.cap n) s.count)
-        (if_did (nat_le asking.old.config.cap (length asking.old.held)) (Refuses ServerBusy) (read_service w request path (file_at w.files path)) _ _
-        (λ b busy. busy)
-        (λ b asks. by_file request path asks.file (file_at w.files path) refl asks.opens asks.refused asks.goes_on) h)
+    -- what the port asked came to what it comes to in the world
+    port_did : (ask : Ask) → AsksNoDraft ask → Goes (memory_meaning drafted) asking.old asking.from ask came → Did (served w ask)
+    port_did Ignores none h = ap (λ (c : PortCame). port_left c asking) h
+    port_did (Refuses reply) none h = refused reply h
+    port_did (Reads path mode options) none h = by_store path mode options h.file (file_at w.files path) refl h.opens h.refused h.memory h.goes_on
+    port_did (Writes path mode agreed) none h = absurd none
 
-    -- the port did at what a datagram says as the world's server does
-    pub port_did : (decoded : Option Packet) → IsNoWrite decoded → PortStep (memory_meaning drafted) decoded asking result → Did (packet_service w decoded)
-    port_did None no_write h = h
-    port_did (Some (Read request)) no_write h = by_name request (path_of_name request.name) h
-    port_did (Some (Write request)) no_write h = absurd no_write
-    port_did (Some (Data number bytes)) no_write h = h
-    port_did (Some (Ack number)) no_write h = h
-    port_did (Some (Error code text)) no_write h = h
-    port_did (Some (Oack options)) no_write h = h
-
-    -- and at a datagram
-    pub request_did : (bytes : List ℕ) (decoded : Option Packet) → Decodes bytes decoded → IsNoWrite decoded →
-        RequestStep (memory_meaning drafted) bytes asking result → Did (service w bytes decoded)
-    request_did bytes decoded says no_write h =
-        if_did (has_error_opcode bytes) Ignores (packet_service w decoded) _ _
-        (λ b quiet. quiet)
-        (λ b port. let same = says_one bytes port.0 decoded port.1 says in
-        port_did decoded no_write (subst (λ (p : Option Packet). PortStep (memory_meaning drafted) p asking result) same port.2)) h
-
-    -- and where only what is supported so far has a place
-    pub supported_did : (bytes : List ℕ) (decoded : Option Packet) → Decodes bytes decoded →
-        SupportedStep (memory_meaning drafted) bytes asking result → Did (service w bytes (supported decoded))
-    supported_did bytes decoded says h =
-        if_did (has_error_opcode bytes) Ignores (packet_service w (supported decoded)) _ _
-        (λ b quiet. quiet)
-        (λ b port. let same = says_one bytes port.0 decoded port.1 says in
-        port_did (supported decoded) (carries_no_write decoded)
-        (subst (λ (p : Option Packet). PortStep (memory_meaning drafted) (supported p) asking result) same port.2)) h
+  -- the port did at a datagram as the world's server does, where only what is supported so far has a place
+  pub supported_did : (w : WorldState) (asking : PortAsking) (result : PortLeft) (s : IsServerOf w asking.old) (max : IsBlockSize w.limits.max_block) (bytes : List ℕ) (decoded : Option Packet) → Decodes bytes decoded →
+      RequestStep (memory_meaning drafted) asking.old asking.from supported bytes asking.tid result → PortDid w (service w bytes (supported decoded)) asking result
+  supported_did w asking result s max bytes decoded says h =
+      let packet = supported decoded in
+      let same : asks asking.old.config.cap (length asking.old.held) asking.old.config.limits bytes (supported h.decoded) ≡ asks w.cap (open_transfers w.ends) w.limits bytes packet =
+      ap (λ (p : Option Packet). asks asking.old.config.cap (length asking.old.held) asking.old.config.limits bytes (supported p)) (says_one bytes h.decoded decoded h.says says)
+      ∙ (ap (λ (n : ℕ). asks n (length asking.old.held) asking.old.config.limits bytes packet) s.cap
+      ∙ (ap (λ (n : ℕ). asks w.cap n asking.old.config.limits bytes packet) s.count
+      ∙ ap (λ (l : Limits). asks w.cap (open_transfers w.ends) l bytes packet) s.limits)) in
+      let ask = asks w.cap (open_transfers w.ends) w.limits bytes packet in
+      subst (λ (r : PortLeft). PortDid w (service w bytes packet) asking r) (sym h.left)
+      (port_did w asking h.came s max ask (asks_no_draft w.cap (open_transfers w.ends) w.limits bytes packet (carries_no_write decoded))
+      (subst (λ (a : Ask). Goes (memory_meaning drafted) asking.old asking.from a h.came) same h.goes))

@@ -1,6 +1,7 @@
 use Rattle.std.proofs.Common.{◌≡◌, ℕ, ◌+◌, ◌*◌, ◌<◌, ◌≤◌, Bool, true, false, List, [], ◌∷◌, ◌++◌, length, map, drop, Option, Some, None, Result, Ok, Err, sym, refl, ap, ◌∙◌, subst, arith, suc}
 use Rattle.std.specs.Prelude.{◌≢◌, if◌then◌else◌, nat_lt, nat_le}
 use Rattle.std.specs.List.{Contains, AllByRecursion}
+use Rattle.std.proofs.lemmas.Option.{same_Some}
 use Rattle.std.proofs.lemmas.Bool.{true≢false, ltb-true}
 use Rattle.std.proofs.lemmas.List.{append-nil}
 use Rattle.tftp_wire.specs.declared.mode.Mode.{Mode}
@@ -38,7 +39,8 @@ use Rattle.tftp_player.specs.Said.{said}
 use Rattle.tftp_player.specs.Shows.{IsShown}
 use Rattle.tftp_player.specs.World.{WorldState, OpenedEnd, file_at, datagram, said_in, view_of_end}
 use Rattle.tftp_player.specs.Openings.{request_of, reading_client, writing_client, MayRead, MayWrite, sending_end, receiving_end}
-use Rattle.tftp_player.specs.Requests.{Service, Ignores, Refuses, Sends_file, open_transfers, refusal_reply, sending, read_service, taking, write_service, path_service, packet_service, service}
+use Rattle.tftp_server.specs.Port.{Ask, Ignores, Refuses, Reads, Service, Refused, Sends, accept_reply, by_draft, by_file, by_length, by_name, by_options, by_packet}
+use Rattle.tftp_player.specs.Requests.{open_transfers, opened_of, begun_of, served, service}
 use Rattle.tftp_player.specs.WorldSteps.{Stays, Serves, Opens}
 use Rattle.tftp_player.specs.WorldKept.{HeldFits, IsOk}
 use Rattle.tftp_player.specs.declared.report.Report.{Report}
@@ -163,7 +165,7 @@ refusing_keeps strangers w v from reply ok e =
     (says_error (map view_of_end w.ends) ok.messages ok.shown request_port from) (at_server request_port refl))
 
 -- either way of a test
-if_served : (P : Service → Type 0) (b : Bool) (r s : Service) → (b ≡ true → P r) → (b ≡ false → P s) → P (if b then r else s)
+if_served : {A : Type 0} (P : A → Type 0) (b : Bool) (r s : A) → (b ≡ true → P r) → (b ≡ false → P s) → P (if b then r else s)
 if_served P true r s f g = f refl
 if_served P false r s f g = g refl
 
@@ -171,55 +173,63 @@ module _ (strangers : Bool) (w v : WorldState) (from : Endpoint) (report : Repor
   abbrev Kept_by : Service → Type 0
   Kept_by service = Serves service w from report v → IsOk strangers v
 
-  refused : (reply : ErrorReply) → Kept_by (Refuses reply)
+  refused : (reply : ErrorReply) → Kept_by (Refused reply)
   refused reply h = refusing_keeps strangers w v from reply ok h.1
 
   -- a read with the server's answer to its options
-  sending_served : (r : Request) (path file : List ℕ) (a : Result (List Known) Refusal) → Contains ok.messages (message from request_port (Says_request false r.mode)) →
-      answer r.options kinds.Read r.mode (measured r.mode file) w.limits ≡ a → Kept_by (sending path file r.mode a)
-  sending_served r path file (Err refusal) come e = refused (refusal_reply refusal)
-  sending_served r path file (Ok agreed) come e =
-      let m = measured r.mode file in
-      if_served Kept_by (nat_lt m (65535 * size agreed)) (Sends_file path file r.mode agreed) (Refuses FileTooLarge)
-      (λ f.
+  sending_served : (path file : List ℕ) (mode : Mode) (options : List RawOption) (a : Result (List Known) Refusal) → Contains ok.messages (message from request_port (Says_request false mode)) →
+      file_at w.files path ≡ Some file → answer options kinds.Read mode (measured mode file) w.limits ≡ a → Kept_by (by_length path mode (measured mode file) a)
+  sending_served path file mode options (Err refusal) come there e = refused (accept_reply refusal)
+  sending_served path file mode options (Ok agreed) come there e =
+      let m = measured mode file in
+      if_served Kept_by (nat_lt m (65535 * size agreed)) (Sends path mode m agreed) (Refused FileTooLarge)
+      (λ f o.
       let few : m < 65535 * size agreed = ltb-true m (65535 * size agreed) f in
-      let agreeable = answered_values kinds.Read r.mode m w.limits r.options agreed ok.max_block e in
+      let agreeable = answered_values kinds.Read mode m w.limits options agreed ok.max_block e in
       let b = agreed_size agreed agreeable in
-      let fits : Fits (wire_text r.mode file) (size agreed) = measured_fits r.mode file (size agreed) b.1 few in
+      let fits : Fits (wire_text mode file) (size agreed) = measured_fits mode file (size agreed) b.1 few in
       let small = let c = b.1 in let l : m < 65535 * 65464 = omega arith in l in
-      sending_keeps strangers w v from r.mode path file agreed report ok come agreeable
-      (λ some. valid_oack kinds.Read r.mode m w.limits r.options agreed (omega (arith, small)) ok.max_block e some) fits)
+      let same : o.0 ≡ file = same_Some o.0 file (sym o.1 ∙ there) in
+      sending_keeps strangers w v from mode path file agreed report ok come agreeable
+      (λ some. valid_oack kinds.Read mode m w.limits options agreed (omega (arith, small)) ok.max_block e some) fits
+      (subst (λ (g : List ℕ). Opens w (sending_end w from mode path g agreed) report v) same o.2))
       (λ f. refused FileTooLarge)
 
-  reading_served : (r : Request) (path : List ℕ) (there : Option (List ℕ)) → Contains ok.messages (message from request_port (Says_request false r.mode)) → Kept_by (read_service w r path there)
-  reading_served r path None come = refused FileNotFound
-  reading_served r path (Some file) come = sending_served r path file (answer r.options kinds.Read r.mode (measured r.mode file) w.limits) come refl
+  reading_served : (path : List ℕ) (mode : Mode) (options : List RawOption) (there : Option (List ℕ)) → Contains ok.messages (message from request_port (Says_request false mode)) →
+      file_at w.files path ≡ there → Kept_by (by_file w.limits path mode options (opened_of mode there))
+  reading_served path mode options None come e = refused FileNotFound
+  reading_served path mode options (Some file) come e = sending_served path file mode options (answer options kinds.Read mode (measured mode file) w.limits) come e refl
 
   -- a write with the server's answer to its options
-  taking_served : (r : Request) (path : List ℕ) (there : Option (List ℕ)) (a : Result (List Known) Refusal) → Contains ok.messages (message from request_port (Says_request true r.mode)) →
-      answer r.options kinds.Write r.mode 0 w.limits ≡ a → Kept_by (taking path r.mode there a)
-  taking_served r path None (Err refusal) come e = refused (refusal_reply refusal)
-  taking_served r path (Some file) (Err refusal) come e = refused (refusal_reply refusal)
-  taking_served r path None (Ok agreed) come e =
-      taking_keeps strangers w v from r.mode path agreed report ok come (answered_values kinds.Write r.mode 0 w.limits r.options agreed ok.max_block e)
-      (λ some. valid_oack kinds.Write r.mode 0 w.limits r.options agreed (omega arith) ok.max_block e some)
-  taking_served r path (Some file) (Ok agreed) come e = refused FileExists
+  taking_served : (path : List ℕ) (mode : Mode) (options : List RawOption) (there : Option (List ℕ)) (agreed : List Known) → Contains ok.messages (message from request_port (Says_request true mode)) →
+      answer options kinds.Write mode 0 w.limits ≡ Ok agreed → Kept_by (by_draft path mode agreed (begun_of there))
+  taking_served path mode options None agreed come e =
+      taking_keeps strangers w v from mode path agreed report ok come (answered_values kinds.Write mode 0 w.limits options agreed ok.max_block e)
+      (λ some. valid_oack kinds.Write mode 0 w.limits options agreed (omega arith) ok.max_block e some)
+  taking_served path mode options (Some file) agreed come e = refused FileExists
 
-  by_path : (write : Bool) (r : Request) (path : Result (List ℕ) PathFault) → Contains ok.messages (message from request_port (Says_request write r.mode)) → Kept_by (path_service w write r path)
-  by_path write r (Err fault) come = refused AccessViolation
-  by_path true r (Ok path) come =
-      if_served Kept_by (nat_le w.cap (open_transfers w.ends)) (Refuses ServerBusy) (write_service w r path)
-      (λ b. refused ServerBusy)
-      (λ b. taking_served r path (file_at w.files path) (answer r.options kinds.Write r.mode 0 w.limits) come refl)
-  by_path false r (Ok path) come =
-      if_served Kept_by (nat_le w.cap (open_transfers w.ends)) (Refuses ServerBusy) (read_service w r path (file_at w.files path))
-      (λ b. refused ServerBusy)
-      (λ b. reading_served r path (file_at w.files path) come)
+  -- what comes of what the port asks
+  abbrev Kept_asking : Ask → Type 0
+  Kept_asking ask = Kept_by (served w ask)
 
-  by_request : (decoded : Option WirePacket) → ((p : WirePacket) → decoded ≡ Some p → Contains ok.messages (message from request_port (said p))) → Kept_by (packet_service w decoded)
+  writing_served : (path : List ℕ) (mode : Mode) (options : List RawOption) (a : Result (List Known) Refusal) → Contains ok.messages (message from request_port (Says_request true mode)) →
+      answer options kinds.Write mode 0 w.limits ≡ a → Kept_asking (by_options path mode a)
+  writing_served path mode options (Err refusal) come e = refused (accept_reply refusal)
+  writing_served path mode options (Ok agreed) come e = taking_served path mode options (file_at w.files path) agreed come e
+
+  named_served : (next : List ℕ → Ask) → ((path : List ℕ) → Kept_asking (next path)) → (path : Result (List ℕ) PathFault) →
+      Kept_asking (by_name w.cap (open_transfers w.ends) next path)
+  named_served next each (Err fault) = refused AccessViolation
+  named_served next each (Ok path) =
+      if_served Kept_asking (nat_le w.cap (open_transfers w.ends)) (Refuses ServerBusy) (next path) (λ b. refused ServerBusy) (λ b. each path)
+
+  by_request : (decoded : Option WirePacket) → ((p : WirePacket) → decoded ≡ Some p → Contains ok.messages (message from request_port (said p))) → Kept_asking (by_packet w.cap (open_transfers w.ends) w.limits decoded)
   by_request None come = refused IllegalOperation
-  by_request (Some (Read r)) come = by_path false r (path_of_name r.name) (come (Read r) refl)
-  by_request (Some (Write r)) come = by_path true r (path_of_name r.name) (come (Write r) refl)
+  by_request (Some (Read r)) come =
+      named_served (λ path. Reads path r.mode r.options) (λ path. reading_served path r.mode r.options (file_at w.files path) (come (Read r) refl) refl) (path_of_name r.name)
+  by_request (Some (Write r)) come =
+      named_served (λ path. by_options path r.mode (answer r.options kinds.Write r.mode 0 w.limits))
+      (λ path. writing_served path r.mode r.options (answer r.options kinds.Write r.mode 0 w.limits) (come (Write r) refl) refl) (path_of_name r.name)
   by_request (Some (Data number bytes)) come = refused IllegalOperation
   by_request (Some (Ack number)) come = refused IllegalOperation
   by_request (Some (Error code text)) come = refused IllegalOperation
@@ -228,6 +238,6 @@ module _ (strangers : Bool) (w v : WorldState) (from : Endpoint) (report : Repor
   -- the request port keeps the world
   pub serving_keeps : (bytes : List ℕ) (decoded : Option WirePacket) → ((p : WirePacket) → decoded ≡ Some p → Contains ok.messages (message from request_port (said p))) → Kept_by (service w bytes decoded)
   serving_keeps bytes decoded come =
-      if_served Kept_by (has_error_opcode bytes) Ignores (packet_service w decoded)
+      if_served Kept_asking (has_error_opcode bytes) Ignores (by_packet w.cap (open_transfers w.ends) w.limits decoded)
       (λ b h. stays_ok strangers w v report ok h)
       (λ b. by_request decoded come)

@@ -11,7 +11,8 @@ use Rattle.tftp_ends.specs.Step.{Turn, DatagramStep, timeout_turn, error_bytes}
 use Rattle.tftp_player.specs.Machine.{Endpoint, Elsewhere, host_of, request_port}
 use Rattle.tftp_player.specs.World.{StoredFile, file_at, OpenedEnd, WorldState, next_port, is_closed, datagram, resting, files_of, end_after, has_committed, world_after, report_of, no_report, opened_in, said_in, sent_report}
 use Rattle.tftp_player.specs.Openings.{reading_client, writing_client, MayRead, MayWrite, sending_end, receiving_end}
-use Rattle.tftp_player.specs.Requests.{Service, Ignores, Refuses, Sends_file, Takes_file, service}
+use Rattle.tftp_server.specs.Port.{Service, Silent, Refused, Sends, Takes}
+use Rattle.tftp_player.specs.Requests.{service}
 use Rattle.tftp_player.specs.declared.datagram.Datagram.{Datagram}
 use Rattle.tftp_player.specs.declared.event.Event.{Event}
 use Rattle.tftp_player.specs.declared.event.Event.TheVariants.{Get, Put, Deliver, Timeout, RefuseStore, Stray}
@@ -70,11 +71,12 @@ HasPort w = next_port w ≤ 65535
 
 -- what the server's request port did
 abbrev pub Serves : Service → WorldState → Endpoint → Report → WorldState → Type 0
-Serves Ignores old from report new = Stays old report new
-Serves (Refuses reply) old from report new =
+Serves Silent old from report new = Stays old report new
+Serves (Refused reply) old from report new =
     (report ≡ sent_report old) × (new ≡ said_in old (datagram request_port from (error_bytes reply)))
-Serves (Sends_file path file mode agreed) old from report new = Opens old (sending_end old from mode path file agreed) report new
-Serves (Takes_file path mode agreed) old from report new = Opens old (receiving_end old from mode path agreed) report new
+Serves (Sends path mode length agreed) old from report new =
+    (file : List ℕ) × (file_at old.files path ≡ Some file) × Opens old (sending_end old from mode path file agreed) report new
+Serves (Takes path mode agreed) old from report new = Opens old (receiving_end old from mode path agreed) report new
 
 -- a datagram came to an open end
 pub record OnDatagram (old : WorldState) (k : ℕ) (x : OpenedEnd) (from : Endpoint) (bytes : List ℕ) (report : Report) (new : WorldState) : Type 0 where

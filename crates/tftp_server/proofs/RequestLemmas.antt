@@ -1,17 +1,32 @@
 -- What the request port decides, from the calls that it makes.
-use Rattle.std.proofs.Common.{◌≡◌, ℕ, false, List, [], Option, Result, Ok, Err, IfOk, nat_le, length, refl}
+use Rattle.std.proofs.Common.{◌≡◌, ℕ, Bool, false, List, [], ◌++◌, Option, Some, None, Result, Ok, Err, IfOk, OnOk, length, refl, sym, ap, subst, ◌∙◌}
+use Rattle.std.specs.Prelude.{if◌then◌else◌}
+use Rattle.tftp_wire.specs.declared.mode.Mode.{Mode}
 use Rattle.tftp_wire.specs.declared.mode.Mode.TheVariants.{Octet}
-use Rattle.tftp_file.specs.Memory.{MemSinkState}
-use Rattle.tftp_file.specs.declared.path.PathFault.{PathFault}
+use Rattle.tftp_wire.specs.declared.packet.Packet.{Packet}
+use Rattle.tftp_wire.specs.declared.packet.Packet.TheVariants.{Read, Write, Data, Ack, Error, Oack}
+use Rattle.tftp_wire.specs.declared.packet.Request.{Request}
 use Rattle.tftp_negotiate.specs.Negotiation.{places_of}
 use Rattle.tftp_negotiate.specs.Answer.{answer}
 use Rattle.tftp_negotiate.specs.declared.known.Kind.{Kind}
-use Rattle.tftp_negotiate.specs.declared.known.Kind.TheVariants.{Read}
+use Rattle.tftp_negotiate.specs.declared.known.Kind.TheVariants as kinds
 use Rattle.tftp_negotiate.specs.declared.limits.Limits.{Limits}
-use Rattle.tftp_wire.specs.declared.mode.Mode.{Mode}
+use Rattle.tftp_file.specs.Path.{path_of_name}
+use Rattle.tftp_file.specs.Memory.{MemSinkState}
+use Rattle.tftp_ends.specs.Action.{Decodes}
+use Rattle.tftp_wire.specs.Reading.{has_error_opcode}
+use Rattle.tftp_ends.specs.Step.{error_bytes}
+use Rattle.tftp_ends.specs.declared.endpoint.Endpoint.{Endpoint}
+use Rattle.tftp_ends.specs.declared.error_reply.ErrorReply.{ErrorReply}
+use Rattle.std.proofs.lemmas.List.{append-nil}
+use Rattle.tftp_server.specs.declared.fault.ServerFault.{ServerFault}
+use Rattle.tftp_server.specs.declared.opened.Opened.{Opened}
+use Rattle.tftp_server.specs.declared.server.request.Asked.{Asked}
 use Rattle.tftp_server.specs.declared.server.request.Decision.{Decision}
 use Rattle.tftp_server.specs.declared.store.Opening.{Opening}
-use Rattle.tftp_server.specs.Request.{Asking, AnswersRead, AsksToRead, Names, came_to, default_read}
+use Rattle.tftp_server.specs.Port.{Ask, Ignores, Refuses, Reads, asks, by_packet, by_name, by_length}
+use Rattle.tftp_server.specs.Request.{Came, Nothing, An_error, NamesFile, AsksToRead, Goes, RequestStep, Sent, Left, ask_of, came_to, left_by, supported}
+use Rattle.tftp_server.specs.State.{ServerState}
 use Rattle.tftp_server.specs.Store.{StoreMeaning, Opens}
 
 -- nothing is answered where nothing was asked
@@ -19,13 +34,73 @@ nothing_answered : (kind : Kind) (mode : Mode) (count : ℕ) (limits : Limits) �
 unfolding places_of
 nothing_answered kind mode count limits = refl
 
-module _ {S F E : Type 0} (meaning : StoreMeaning S F MemSinkState) (asking : Asking S F MemSinkState) (path : List ℕ) where
-  -- the file was opened, and this was decided of it
-  pub asks_to_read : (file : Opening F) (r : Result (Decision F) E) → Opens meaning.left (meaning.stored asking.old.store) path Octet (Ok file) → IfOk r (λ d. AnswersRead meaning path Octet file.length file.source (Ok []) asking (came_to d asking)) → IfOk r (λ d. (name : List ℕ) → AsksToRead meaning path (default_read name) asking (came_to d asking))
-  asks_to_read file (Ok d) o h = λ name. record { file = Ok file; opens = o; refused = tt; goes_on = rw (nothing_answered Read Octet file.length asking.old.config.limits) h }
-  asks_to_read file (Err e) o h = tt
+module _ (cap count : ℕ) (limits : Limits) where
+  -- the port goes on with the name of what is supported
+  packet_named : (packet : Option Packet) (name : List ℕ) → NamesFile packet (Some name) →
+      by_packet cap count limits packet ≡ by_name cap count (λ path. Reads path Octet []) (path_of_name name)
+  packet_named (Some (Read request)) name h = ap (λ (r : Request). by_packet cap count limits (Some (Read r))) h
+  packet_named (Some (Write request)) name h = absurd h
+  packet_named (Some (Data number bytes)) name h = absurd h
+  packet_named (Some (Ack number)) name h = absurd h
+  packet_named (Some (Error code text)) name h = absurd h
+  packet_named (Some (Oack options)) name h = absurd h
+  packet_named None name h = absurd h
 
-  -- the name is a path and there is room, and this was decided of the path
-  pub names_path : (name : List ℕ) (requested_end : Result (List ℕ) PathFault) (r : Result (Decision F) E) → requested_end ≡ Ok path → nat_le asking.old.config.cap (length asking.old.held) ≡ false → IfOk r (λ d. (name : List ℕ) → AsksToRead meaning path (default_read name) asking (came_to d asking)) → IfOk r (λ d. Names meaning false (default_read name) requested_end asking (came_to d asking))
-  names_path name requested_end (Ok d) w room h = rw (w, room) (h name)
-  names_path name requested_end (Err e) w room h = tt
+  -- the tests of a name are those of the datagram
+  pub asked_by_name : {E : Type 0} (bytes name : List ℕ) (decoded : Option Packet) (r : Result Asked E) → has_error_opcode bytes ≡ false → Decodes bytes decoded → NamesFile (supported decoded) (Some name) →
+      IfOk r (λ asked. ask_of asked ≡ by_name cap count (λ path. Reads path Octet []) (path_of_name name)) →
+      IfOk r (λ asked. (decoded : Option Packet) × Decodes bytes decoded × (ask_of asked ≡ asks cap count limits bytes (supported decoded)))
+  asked_by_name bytes name decoded (Ok asked) test says names h =
+      (decoded, says, h ∙ (sym (packet_named (supported decoded) name names) ∙ ap (λ (b : Bool). if b then Ignores else by_packet cap count limits (supported decoded)) (sym test)))
+  asked_by_name bytes name decoded (Err fault) test says names h = tt
+
+module _ {S F : Type 0} (meaning : StoreMeaning S F MemSinkState) (old : ServerState S F MemSinkState) (from : Endpoint) where
+  -- the file was opened, and this was decided of it
+  pub asks_to_read : {E : Type 0} (path : List ℕ) (file : Opening F) (r : Result (Decision F) E) → Opens meaning.left (meaning.stored old.store) path Octet (Ok file) →
+      IfOk r (λ d. Sent meaning old from (by_length path Octet file.length (Ok [])) (Ok file) (came_to d old.store)) →
+      IfOk r (λ d. AsksToRead meaning old from path Octet [] (came_to d old.store))
+  asks_to_read path file (Ok d) o h =
+      record { file = Ok file; opens = o; refused = tt; memory = λ e. cc; goes_on = rw (nothing_answered kinds.Read Octet file.length old.config.limits) h }
+  asks_to_read path file (Err e) o h = tt
+
+  -- the port has asked for this
+  abbrev pub IsAsked : List ℕ → Ask → Type 0
+  IsAsked bytes ask = (decoded : Option Packet) × Decodes bytes decoded × (ask ≡ asks old.config.cap (length old.held) old.config.limits bytes (supported decoded))
+
+  pub asked_as : (bytes : List ℕ) (a b : Asked) → a ≡ b → IsAsked bytes (ask_of a) → IsAsked bytes (ask_of b)
+  asked_as bytes a b e h = subst (λ (x : Asked). IsAsked bytes (ask_of x)) e h
+
+  -- what the port asks, and what came of it, is its step
+  request_step : (bytes : List ℕ) (tid : ℕ) (ask : Ask) (came : Came S F MemSinkState) (result : Left S F MemSinkState) →
+      IsAsked bytes ask →
+      Goes meaning old from ask came → result ≡ left_by came old from tid → RequestStep meaning old from supported bytes tid result
+  request_step bytes tid ask came result asked goes left =
+      record { decoded = asked.0; says = asked.1; came = came; goes = subst (λ (a : Ask). Goes meaning old from a came) asked.2 goes; left = left }
+
+  -- nothing comes of it
+  pub stays_silent : (bytes : List ℕ) (tid : ℕ) (out : List ℕ) →
+      IsAsked bytes Ignores →
+      (sent : List ℕ) × (out ≡ out ++ sent) × RequestStep meaning old from supported bytes tid (record { new = old; opened = record { tid = None; to = None }; sent = sent })
+  stays_silent bytes tid out asked = ([], sym (append-nil out), request_step bytes tid Ignores Nothing _ asked refl refl)
+
+  -- an ERROR went out
+  pub refuses : (bytes : List ℕ) (tid : ℕ) (reply : ErrorReply) (before after : List ℕ) (r : Result Opened ServerFault) →
+      IsAsked bytes (Refuses reply) →
+      IfOk r (λ opened. opened ≡ record { tid = None; to = Some from }) → OnOk r (after ≡ before ++ error_bytes reply) →
+      IfOk r (λ opened. (sent : List ℕ) × (after ≡ before ++ sent) × RequestStep meaning old from supported bytes tid (record { new = old; opened = opened; sent = sent }))
+  refuses bytes tid reply before after (Ok opened) asked tells ok = (
+    error_bytes reply,
+    ok,
+    request_step bytes tid (Refuses reply) (An_error reply old.store) _ asked refl
+        (ap (λ (o : Opened). record { new = old; opened = o; sent = error_bytes reply }) tells),
+  )
+  refuses bytes tid reply before after (Err fault) asked tells ok = tt
+
+  -- the store was asked for a file
+  pub reads : (bytes : List ℕ) (tid : ℕ) (path : List ℕ) (before after : List ℕ) (new : ServerState S F MemSinkState) (r : Result Opened ServerFault) →
+      IsAsked bytes (Reads path Octet []) →
+      IfOk r (λ opened. (came : Came S F MemSinkState) × (sent : List ℕ) × AsksToRead meaning old from path Octet [] came
+      × (after ≡ before ++ sent) × (record { new = new; opened = opened; sent = sent } ≡ left_by came old from tid)) →
+      IfOk r (λ opened. (sent : List ℕ) × (after ≡ before ++ sent) × RequestStep meaning old from supported bytes tid (record { new = new; opened = opened; sent = sent }))
+  reads bytes tid path before after new (Ok opened) asked h = (h.1, h.3, request_step bytes tid (Reads path Octet []) h.0 _ asked h.2 h.4)
+  reads bytes tid path before after new (Err fault) asked h = tt

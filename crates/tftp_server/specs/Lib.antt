@@ -5,4 +5,5 @@ pub mod Store
 pub mod Memory
 pub mod State
 pub mod Steps
+pub mod Port
 pub mod Request

@@ -2,12 +2,14 @@
 
 mod request;
 
-ghost use Rattle.std.specs.Prelude.{◌≡◌, ◌↔◌, ◌⊎◌, ◌++◌, List, ℕ, [], None, option_map, is_some, IsSome, if◌then◌else◌, false, IfOk, IfErr, IsErrOf, OnOk, OnErr};
+ghost use Rattle.std.specs.Prelude.{◌≡◌, ◌↔◌, ◌⊎◌, ◌++◌, List, ℕ, [], None, Some, option_map, is_some, IsSome, if◌then◌else◌, false, IfOk, IfErr, IsErrOf, OnOk, OnErr};
 ghost use Rattle.std.specs.Map.{keys_of};
 ghost use Rattle.tftp_ends.specs.End.{record_of};
 ghost use Rattle.tftp_file.specs.Memory.{MemSinkState};
 ghost use Rattle.tftp_server.specs.Config.{IsConfig};
-ghost use Rattle.tftp_server.specs.Request.{SupportedStep, asked_of};
+ghost use Rattle.tftp_server.specs.Request.{AsksToRead, Came, RequestStep, left_by, supported};
+ghost use Rattle.tftp_wire.specs.declared.mode.Mode.TheVariants.{Octet};
+ghost use Rattle.tftp_ends.specs.Step.{error_bytes};
 ghost use Rattle.tftp_server.specs.State.{at, is_open, taken_of, without};
 ghost use Rattle.tftp_server.specs.Steps.{TimesOut, TimeoutFault, TakesDatagram, DatagramFault, KeepsHeld};
 ghost use Rattle.std.specs.Borrow.{Lends, sem};
@@ -15,14 +17,14 @@ ghost use Rattle.std.specs.Borrow.{Lends, sem};
 use crate::config::Config;
 use crate::fault::ServerFault;
 use crate::opened::Opened;
-use crate::server::request::Decision;
+use crate::server::request::{Asked, Decision};
 use crate::store::Store;
 use crate::table::Table;
 use crate::transfer::Transfer;
 use std::alloc::Global;
 use std::marker::Model;
-use tftp_ends::{Endpoint, Record, Step};
-use tftp_wire::has_error_opcode;
+use tftp_ends::{Endpoint, ErrorReply, Record, Step};
+use tftp_file::Path;
 
 /// A server: what it is set to, its store and the transfers that it holds.
 ///
@@ -139,7 +141,7 @@ impl<S: Store> Server<S> {
         out: &mut Vec<u8>,
     ) -> Result<Opened, ServerFault>
         ensures steps { IfOk result (λ opened. (sent : List ℕ) × (out.new.items ≡ out.old.items ++ sent)
-            × SupportedStep (record { stored = S.stored; left = S.Source.left; drafted = λ (draft : MemSinkState). None; may_fail = S.Source.may_fail; may_refuse_open = S.may_refuse_open; may_refuse_begin = S.may_refuse_begin }) bytes.now (asked_of self.old from tid) (record { new = self.new; opened = opened; sent = sent })) }
+            × RequestStep (record { stored = S.stored; left = S.Source.left; drafted = λ (draft : MemSinkState). None; may_fail = S.Source.may_fail; may_refuse_open = S.may_refuse_open; may_refuse_begin = S.may_refuse_begin }) self.old from supported bytes.now tid (record { new = self.new; opened = opened; sent = sent })) }
         ensures in_use { IsErrOf result ServerFault.TidInUse ↔ IsSome (at tid self.old.held) }
         ensures fault { IfErr result (λ fault. (fault ≡ ServerFault.TidInUse) ⊎ (fault ≡ ServerFault.Memory)) }
         ensures err { OnErr result ((self.new ≡ self.old) × (out.new.items ≡ out.old.items)) }
@@ -147,23 +149,35 @@ impl<S: Store> Server<S> {
         if self.table.contains(tid) {
             return Err(ServerFault::TidInUse);
         }
-        if has_error_opcode(bytes) {
-            return Ok(Opened {
+        match self.asked(bytes) {
+            Ok(Asked::Nothing) => Ok(Opened {
                 tid: None,
                 to: None,
-            });
+            }),
+            Ok(Asked::Refuse(reply)) => refuse(reply, from, out),
+            Ok(Asked::Read(path)) => self.read_from(from, tid, path, out),
+            Err(_) => Err(ServerFault::Memory),
         }
+    }
+
+    /// Opens a transfer of the file at the path under an identifier that none has.
+    fn read_from(
+        &mut self,
+        from: Endpoint,
+        tid: u16,
+        path: Path,
+        out: &mut Vec<u8>,
+    ) -> Result<Opened, ServerFault>
+        requires { at tid self.old.held ≡ None }
+        ensures reads { IfOk result (λ opened. (came : Came S S.Source MemSinkState) × (sent : List ℕ)
+            × AsksToRead (record { stored = S.stored; left = S.Source.left; drafted = λ (draft : MemSinkState). None; may_fail = S.Source.may_fail; may_refuse_open = S.may_refuse_open; may_refuse_begin = S.may_refuse_begin }) self.old from path Octet [] came
+            × (out.new.items ≡ out.old.items ++ sent) × (record { new = self.new; opened = opened; sent = sent } ≡ left_by came self.old from tid)) }
+        ensures memory { IfErr result (λ fault. fault ≡ ServerFault.Memory) }
+        ensures err { OnErr result ((self.new ≡ self.old) × (out.new.items ≡ out.old.items)) }
+    {
         let start = out.len();
-        match self.decide(from, tid, bytes, out) {
-            Ok(Decision::Refuse(reply)) => {
-                let Ok(()) = reply.append_to(out) else {
-                    return Err(ServerFault::Memory);
-                };
-                Ok(Opened {
-                    tid: None,
-                    to: Some(from),
-                })
-            }
+        match self.read(from, path, out) {
+            Ok(Decision::Refuse(reply)) => refuse(reply, from, out),
             Ok(Decision::Open(transfer)) => {
                 let Ok(()) = self.table.insert(tid, transfer) else {
                     out.truncate(start);
@@ -224,4 +238,20 @@ impl<S: Store + Drop> Server<S> {
         };
         Some((transfer.record(), None))
     }
+}
+
+/// An ERROR goes out from the request port.
+fn refuse(reply: ErrorReply, from: Endpoint, out: &mut Vec<u8>) -> Result<Opened, ServerFault>
+    ensures opened { IfOk result (λ opened. opened ≡ record { tid = None; to = Some from }) }
+    ensures ok { OnOk result (out.new.items ≡ out.old.items ++ error_bytes reply) }
+    ensures memory { IfErr result (λ fault. fault ≡ ServerFault.Memory) }
+    ensures err { OnErr result (out.new.items ≡ out.old.items) }
+{
+    let Ok(()) = reply.append_to(out) else {
+        return Err(ServerFault::Memory);
+    };
+    Ok(Opened {
+        tid: None,
+        to: Some(from),
+    })
 }

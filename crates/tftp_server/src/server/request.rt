@@ -1,22 +1,35 @@
-//! How the request port handles a request to read.
+//! The request port: its tests, one after the other.
 
-ghost use Rattle.std.specs.Prelude.{◌≡◌, ◌++◌, [], ◌<◌, List, ℕ, Option, Some, None, Ok, false, length, option_map, IfOk, IfErr, OnErr};
+ghost use Rattle.std.specs.Prelude.{◌≡◌, ◌++◌, [], Ok, Option, None, length, option_map, IfOk, IfErr, OnErr};
 ghost use Rattle.tftp_wire.specs.declared.mode.Mode.TheVariants.{Octet};
 ghost use Rattle.tftp_wire.specs.Borrowed.{owned};
 ghost use Rattle.tftp_wire.specs.declared.packet.Packet.{Packet};
 ghost use Rattle.tftp_file.specs.Memory.{MemSinkState};
 ghost use Rattle.tftp_file.specs.Path.{path_of_name};
 ghost use Rattle.tftp_ends.specs.Action.{Decodes};
-ghost use Rattle.tftp_server.specs.Request.{Asking, Left, NamesFile, PortStep, Names, AsksToRead, AnswersRead, asked_of, came_to, supported, decided_bytes, default_read};
+ghost use Rattle.tftp_server.specs.Port.{Reads, asks, by_name, by_room, by_length};
+ghost use Rattle.tftp_server.specs.Request.{NamesFile, AsksToRead, Sent, ask_of, came_to, supported, decided_bytes};
 
 use crate::fault::ServerFault;
 use crate::server::Server;
 use crate::store::{Opening, Store};
 use crate::transfer::Transfer;
+use std::alloc::Global;
 use tftp_ends::{End, Endpoint, ErrorReply, OpenFault, decode_packet};
 use tftp_file::{Files, Path, PathFault, StoreFault, path_of};
 use tftp_negotiate::Agreed;
-use tftp_wire::{Mode, PacketRef};
+use tftp_wire::{Mode, PacketRef, has_error_opcode};
+
+/// What the request port does before it asks its store.
+#[derive(Drop)]
+pub(crate) enum Asked {
+    /// Nothing.
+    Nothing,
+    /// An ERROR goes out.
+    Refuse(ErrorReply),
+    /// The store is asked for the file at this path, to be read in octet and without options.
+    Read(Path),
+}
 
 /// What is to be done at a request.
 #[derive(Drop)]
@@ -40,18 +53,58 @@ fn file_name<'a>(decoded: &Option<PacketRef<'a>>) -> Option<&'a [u8]>
     }
 }
 
+/// The table must have room.
+fn by_room(cap: u8, count: usize, path: Path) -> Asked
+    ensures { ask_of result ≡ by_room cap count (λ p. Reads p Octet []) path }
+{
+    if count >= usize::from(cap) {
+        return Asked::Refuse(ErrorReply::ServerBusy);
+    }
+    Asked::Read(path)
+}
+
+/// The name must be a path.
+fn by_name(alloc: Global, cap: u8, count: usize, name: &[u8]) -> Result<Asked, ServerFault>
+    ensures named { IfOk result (λ asked. ask_of asked ≡ by_name cap count (λ p. Reads p Octet []) (path_of_name name.now)) }
+    ensures memory { IfErr result (λ fault. fault ≡ ServerFault.Memory) }
+{
+    match path_of(alloc, name) {
+        Ok(path) => Ok(by_room(cap, count, path)),
+        Err(PathFault::Memory) => Err(ServerFault::Memory),
+        Err(PathFault::Empty | PathFault::Segment | PathFault::Depth | PathFault::Length) => {
+            Ok(Asked::Refuse(ErrorReply::AccessViolation))
+        }
+    }
+}
+
 impl<S: Store> Server<S> {
+    /// The tests that ask no store: only a request has a place here, and what begins as an ERROR is
+    /// never answered.
+    pub(crate) fn asked(&self, bytes: &[u8]) -> Result<Asked, ServerFault>
+        ensures asks { IfOk result (λ asked. (decoded : Option Packet) × Decodes bytes.now decoded
+            × (ask_of asked ≡ asks self.now.config.cap (length self.now.held) self.now.config.limits bytes.now (supported decoded))) }
+        ensures memory { IfErr result (λ fault. fault ≡ ServerFault.Memory) }
+    {
+        let decoded = decode_packet(bytes);
+        if has_error_opcode(bytes) {
+            return Ok(Asked::Nothing);
+        }
+        match file_name(&decoded) {
+            Some(name) => by_name(self.alloc, self.config.cap, self.table.len(), name),
+            None => Ok(Asked::Refuse(ErrorReply::IllegalOperation)),
+        }
+    }
+
     /// Opens a transfer of the file, if its blocks can be numbered and the first can be read.
-    fn serve(
+    fn send(
         &self,
         from: Endpoint,
-        tid: u16,
         path: Path,
         file: Opening<S::Source>,
         out: &mut Vec<u8>,
     ) -> Result<Decision<S::Source>, ServerFault>
-        ensures answers { IfOk result (λ decision. AnswersRead (record { stored = S.stored; left = S.Source.left; drafted = λ (draft : MemSinkState). None; may_fail = S.Source.may_fail; may_refuse_open = S.may_refuse_open; may_refuse_begin = S.may_refuse_begin }) path Octet file.length file.source (Ok [])
-            (asked_of self.now from tid) (came_to decision (asked_of self.now from tid))) }
+        ensures sends { IfOk result (λ decision. Sent (record { stored = S.stored; left = S.Source.left; drafted = λ (draft : MemSinkState). None; may_fail = S.Source.may_fail; may_refuse_open = S.may_refuse_open; may_refuse_begin = S.may_refuse_begin }) self.now from
+            (by_length path Octet file.length (Ok [])) (Ok file) (came_to decision self.now.store)) }
         ensures sent { IfOk result (λ decision. out.new.items ≡ out.old.items ++ decided_bytes decision) }
         ensures memory { IfErr result (λ fault. fault ≡ ServerFault.Memory) }
         ensures err { OnErr result (out.new.items ≡ out.old.items) }
@@ -79,73 +132,25 @@ impl<S: Store> Server<S> {
     }
 
     /// Opens the file at the path, if there is one and it can be opened.
-    fn read(
+    pub(crate) fn read(
         &self,
         from: Endpoint,
-        tid: u16,
         path: Path,
         out: &mut Vec<u8>,
     ) -> Result<Decision<S::Source>, ServerFault>
-        ensures asks { IfOk result (λ decision. (name : List ℕ) → AsksToRead (record { stored = S.stored; left = S.Source.left; drafted = λ (draft : MemSinkState). None; may_fail = S.Source.may_fail; may_refuse_open = S.may_refuse_open; may_refuse_begin = S.may_refuse_begin }) path (default_read name)
-            (asked_of self.now from tid) (came_to decision (asked_of self.now from tid))) }
+        ensures asks { IfOk result (λ decision. AsksToRead (record { stored = S.stored; left = S.Source.left; drafted = λ (draft : MemSinkState). None; may_fail = S.Source.may_fail; may_refuse_open = S.may_refuse_open; may_refuse_begin = S.may_refuse_begin }) self.now from
+            path Octet [] (came_to decision self.now.store)) }
         ensures sent { IfOk result (λ decision. out.new.items ≡ out.old.items ++ decided_bytes decision) }
         ensures memory { IfErr result (λ fault. fault ≡ ServerFault.Memory) }
         ensures err { OnErr result (out.new.items ≡ out.old.items) }
     {
         match self.store.open(self.alloc, &path, Mode::Octet) {
-            Ok(file) => self.serve(from, tid, path, file, out),
+            Ok(file) => self.send(from, path, file, out),
             Err(StoreFault::Missing) => Ok(Decision::Refuse(ErrorReply::FileNotFound)),
             Err(StoreFault::Memory) => Err(ServerFault::Memory),
             Err(StoreFault::Exists | StoreFault::Full | StoreFault::Io) => {
                 Ok(Decision::Refuse(ErrorReply::AccessViolation))
             }
-        }
-    }
-
-    /// Reads the name as a path, if it is one and the table has room.
-    fn read_name(
-        &self,
-        from: Endpoint,
-        tid: u16,
-        name: &[u8],
-        out: &mut Vec<u8>,
-    ) -> Result<Decision<S::Source>, ServerFault>
-        ensures names { IfOk result (λ decision. Names (record { stored = S.stored; left = S.Source.left; drafted = λ (draft : MemSinkState). None; may_fail = S.Source.may_fail; may_refuse_open = S.may_refuse_open; may_refuse_begin = S.may_refuse_begin }) false (default_read name.now) (path_of_name name.now)
-            (asked_of self.now from tid) (came_to decision (asked_of self.now from tid))) }
-        ensures sent { IfOk result (λ decision. out.new.items ≡ out.old.items ++ decided_bytes decision) }
-        ensures memory { IfErr result (λ fault. fault ≡ ServerFault.Memory) }
-        ensures err { OnErr result (out.new.items ≡ out.old.items) }
-    {
-        let path = match path_of(self.alloc, name) {
-            Ok(path) => path,
-            Err(PathFault::Memory) => return Err(ServerFault::Memory),
-            Err(PathFault::Empty | PathFault::Segment | PathFault::Depth | PathFault::Length) => {
-                return Ok(Decision::Refuse(ErrorReply::AccessViolation));
-            }
-        };
-        if self.table.len() >= usize::from(self.config.cap) {
-            return Ok(Decision::Refuse(ErrorReply::ServerBusy));
-        }
-        self.read(from, tid, path, out)
-    }
-
-    /// What is to be done at a datagram that is no ERROR: only a request to read has a place.
-    pub(crate) fn decide(
-        &self,
-        from: Endpoint,
-        tid: u16,
-        bytes: &[u8],
-        out: &mut Vec<u8>,
-    ) -> Result<Decision<S::Source>, ServerFault>
-        ensures steps { IfOk result (λ decision. (decoded : Option Packet) × Decodes bytes.now decoded
-            × PortStep (record { stored = S.stored; left = S.Source.left; drafted = λ (draft : MemSinkState). None; may_fail = S.Source.may_fail; may_refuse_open = S.may_refuse_open; may_refuse_begin = S.may_refuse_begin }) (supported decoded) (asked_of self.now from tid) (came_to decision (asked_of self.now from tid))) }
-        ensures sent { IfOk result (λ decision. out.new.items ≡ out.old.items ++ decided_bytes decision) }
-        ensures memory { IfErr result (λ fault. fault ≡ ServerFault.Memory) }
-        ensures err { OnErr result (out.new.items ≡ out.old.items) }
-    {
-        match file_name(&decode_packet(bytes)) {
-            Some(name) => self.read_name(from, tid, name, out),
-            None => Ok(Decision::Refuse(ErrorReply::IllegalOperation)),
         }
     }
 }

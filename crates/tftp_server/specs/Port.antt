@@ -1,0 +1,118 @@
+-- The tests of the request port, each a definition: the first that holds decides (RFC 1350, sections 2 and 4; RFC 2347, "Negotiation Protocol").
+use Rattle.std.specs.Prelude.{ℕ, ◌*◌, nat_lt, nat_le, if◌then◌else◌, List, Option, Some, Result, Ok, Err}
+use Rattle.tftp_wire.specs.declared.mode.Mode.{Mode}
+use Rattle.tftp_wire.specs.declared.options.RawOption.{RawOption}
+use Rattle.tftp_wire.specs.declared.packet.Packet.{Packet}
+use Rattle.tftp_wire.specs.declared.packet.Packet.TheVariants.{Read, Write}
+use Rattle.tftp_negotiate.specs.Agreed.{size}
+use Rattle.tftp_negotiate.specs.Answer.{answer}
+use Rattle.tftp_negotiate.specs.declared.known.Kind.TheVariants as kinds
+use Rattle.tftp_negotiate.specs.declared.known.Known.{Known}
+use Rattle.tftp_negotiate.specs.declared.limits.Limits.{Limits}
+use Rattle.tftp_negotiate.specs.declared.refusal.Refusal.{Refusal}
+use Rattle.tftp_negotiate.specs.declared.refusal.Refusal.TheVariants as refusals
+use Rattle.tftp_file.specs.Path.{path_of_name}
+use Rattle.tftp_file.specs.declared.fault.StoreFault.{StoreFault}
+use Rattle.tftp_file.specs.declared.fault.StoreFault.TheVariants.{Missing, Exists, Full}
+use Rattle.tftp_file.specs.declared.path.PathFault.{PathFault}
+use Rattle.tftp_ends.specs.declared.error_reply.ErrorReply.{ErrorReply}
+use Rattle.tftp_ends.specs.declared.error_reply.ErrorReply.TheVariants.{FileTooLarge, ServerBusy, FileNotFound, AccessViolation, DiskFull, IllegalOperation, FileExists, OptionRefused}
+use Rattle.tftp_wire.specs.Reading.{has_error_opcode}
+
+-- what the request port does before it asks its store
+pub data Ask : Type 0 where
+  -- nothing
+  Ignores : Ask
+  -- an ERROR goes out
+  Refuses : ErrorReply → Ask
+  -- the store is to open the file at this path
+  Reads : (path : List ℕ) → Mode → List RawOption → Ask
+  -- the store is to begin a draft for this path; these options are agreed
+  Writes : (path : List ℕ) → Mode → List Known → Ask
+
+-- what the request port does
+pub data Service : Type 0 where
+  -- nothing
+  Silent : Service
+  -- an ERROR goes out
+  Refused : ErrorReply → Service
+  -- a transfer sends the file of this path, which has this length
+  Sends : (path : List ℕ) → Mode → (length : ℕ) → List Known → Service
+  -- a transfer takes a file for this path
+  Takes : (path : List ℕ) → Mode → List Known → Service
+
+-- why no file is opened
+abbrev pub open_reply : StoreFault → ErrorReply
+open_reply Missing = FileNotFound
+open_reply _ = AccessViolation
+
+-- why no draft is begun
+abbrev pub begin_reply : StoreFault → ErrorReply
+begin_reply Exists = FileExists
+begin_reply Full = DiskFull
+begin_reply _ = AccessViolation
+
+-- why the options are refused
+abbrev pub accept_reply : Refusal → ErrorReply
+accept_reply refusals.TooLarge = DiskFull
+accept_reply _ = OptionRefused
+
+-- ---- before the store is asked
+
+-- the options of a write are answered before the store is asked
+abbrev pub by_options : List ℕ → Mode → Result (List Known) Refusal → Ask
+by_options path mode (Err refusal) = Refuses (accept_reply refusal)
+by_options path mode (Ok agreed) = Writes path mode agreed
+
+module _ (cap count : ℕ) where
+  -- the table must have room
+  abbrev pub by_room : (List ℕ → Ask) → List ℕ → Ask
+  by_room next path = if nat_le cap count then Refuses ServerBusy else next path
+
+  -- the name must be a path
+  abbrev pub by_name : (List ℕ → Ask) → Result (List ℕ) PathFault → Ask
+  by_name next (Err fault) = Refuses AccessViolation
+  by_name next (Ok path) = by_room next path
+
+  -- only a request has a place here
+  abbrev pub by_packet : Limits → Option Packet → Ask
+  by_packet limits (Some (Read r)) = by_name (λ path. Reads path r.mode r.options) (path_of_name r.name)
+  by_packet limits (Some (Write r)) =
+      by_name (λ path. by_options path r.mode (answer r.options kinds.Write r.mode 0 limits)) (path_of_name r.name)
+  by_packet limits _ = Refuses IllegalOperation
+
+  -- what begins as an ERROR is never answered
+  abbrev pub asks : Limits → List ℕ → Option Packet → Ask
+  asks limits bytes packet = if has_error_opcode bytes then Ignores else by_packet limits packet
+
+-- ---- by what the store answers
+
+-- the options of a read are answered, and then its blocks must be such that they can be numbered
+abbrev pub by_length : List ℕ → Mode → ℕ → Result (List Known) Refusal → Service
+by_length path mode length (Err refusal) = Refused (accept_reply refusal)
+by_length path mode length (Ok agreed) =
+    if nat_lt length (65535 * size agreed) then Sends path mode length agreed else Refused FileTooLarge
+
+-- a file of this length was opened, or why none was
+abbrev pub by_file : Limits → List ℕ → Mode → List RawOption → Result ℕ StoreFault → Service
+by_file limits path mode options (Err fault) = Refused (open_reply fault)
+by_file limits path mode options (Ok length) = by_length path mode length (answer options kinds.Read mode length limits)
+
+-- a draft was begun, or why none was
+abbrev pub by_draft : {D : Type 0} → List ℕ → Mode → List Known → Result D StoreFault → Service
+by_draft path mode agreed (Err fault) = Refused (begin_reply fault)
+by_draft path mode agreed (Ok draft) = Takes path mode agreed
+
+-- ---- both, for a store that answers this
+
+module _ {D : Type 0} (limits : Limits) (opened : List ℕ → Mode → Result ℕ StoreFault) (begun : List ℕ → Result D StoreFault) where
+  -- the store is asked
+  abbrev pub answered : Ask → Service
+  answered Ignores = Silent
+  answered (Refuses reply) = Refused reply
+  answered (Reads path mode options) = by_file limits path mode options (opened path mode)
+  answered (Writes path mode agreed) = by_draft path mode agreed (begun path)
+
+  -- the whole, where the table holds so many transfers
+  abbrev pub service : (cap count : ℕ) → List ℕ → Option Packet → Service
+  service cap count bytes packet = answered (asks cap count limits bytes packet)
