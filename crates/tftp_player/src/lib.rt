@@ -18,6 +18,7 @@ mod player;
 mod report;
 mod served;
 mod shelf;
+mod stage;
 mod world;
 #[cfg(test)]
 mod world_tests;
