@@ -14,10 +14,13 @@ use Rattle.tftp_player.specs.Machine.{Elsewhere as Far}
 use Rattle.tftp_player.specs.Rules.{message}
 use Rattle.tftp_player.specs.Said.{said}
 use Rattle.tftp_player.specs.Today.{ArrivesToday, At_port, Elsewhere, StepToday}
-use Rattle.tftp_player.specs.TodayRuns.{Delivered, StaysSafe, SettlesSafe, BeginsSafe}
+use Rattle.tftp_player.specs.TodayRuns.{Delivered}
 use Rattle.tftp_player.specs.World.{WorldState, StoredFile, new_world, resting}
 use Rattle.tftp_player.specs.WorldKept.{IsOk}
 use Rattle.tftp_player.specs.WorldRuns.{MayHappen}
+use Rattle.tftp_player.specs.WorldSafety.{HasPeersAtHome}
+use Rattle.tftp_player.specs.PlayedWorld.{strayed_after}
+use Rattle.std.proofs.lemmas.Bool.{true≢false}
 use Rattle.tftp_player.specs.declared.event.Event.{Event}
 use Rattle.tftp_player.specs.declared.event.Event.TheVariants.{Get, Put, Deliver, Timeout, RefuseStore, Stray}
 use Rattle.tftp_player.specs.declared.fault.WorldFault.{WorldFault}
@@ -26,8 +29,7 @@ use Rattle.tftp_negotiate.specs.declared.limits.Limits.{Limits}
 use Rattle.tftp_negotiate.specs.Ranges.{IsBlockSize}
 use Rattle.tftp_player.proofs.Resting.{resting_ok}
 use Rattle.tftp_player.proofs.WorldKeeps.{serving_keeps}
-use Rattle.tftp_player.proofs.WorldSafe.{kept_is_safe}
-use Rattle.tftp_player.proofs.WorldRuns.{arrives_keeps, come_from, contains_at, new_ok, says_spelled, step_keeps, stray_keeps, with_decoded}
+use Rattle.tftp_player.proofs.WorldRuns.{arrives_keeps, come_from, contains_at, ok_at_home, says_spelled, step_keeps, stray_keeps, with_decoded}
 
 -- what is supported of a packet says what the packet says, as far as the machine goes
 supported_decodes : (name : List ℕ) (mode : Mode) (p : WirePacket) → supported_read name mode ≡ Some p → said p ≡ Request false mode
@@ -69,10 +71,6 @@ strange_arrival_keeps w v ok report from to bytes far (At_port here port decoded
 strange_arrival_keeps w v ok report from to bytes far (Elsewhere away mid arrives new) =
     rested true mid v new (stray_keeps w mid ok report from to bytes far arrives)
 
-may_deliver : (strangers : Bool) (i : ℕ) → MayHappen strangers (Deliver i)
-may_deliver true i = tt
-may_deliver false i = tt
-
 add_0 : (n : ℕ) → n + 0 ≡ n
 add_0 n = omega arith
 
@@ -90,22 +88,32 @@ today_keeps strangers w v (RefuseStore port) report may ok s = step_keeps strang
 today_keeps true w v (Stray from to bytes) report may ok s = strange_arrival_keeps w v ok report from to bytes s.0 s.1
 today_keeps false w v (Stray from to bytes) report may ok s = absurd may
 
--- whatever a call answered, the world stays safe
-pub stays_safe : (old new : WorldState) (event : Event) (result : Result Report WorldFault) → IfOk result (λ report. StepToday old event report new) → OnErr result (new ≡ old) → StaysSafe old event new
-stays_safe old new event (Ok report) s e = λ strangers may ok.
-    let kept = today_keeps strangers old new event report may ok s in (kept, kept_is_safe strangers new kept)
-stays_safe old new event (Err fault) s e = λ strangers may ok.
-    let kept = subst (λ (z : WorldState). IsOk strangers z) (sym e) ok in (kept, kept_is_safe strangers new kept)
+-- a world that no stranger spoke in is also one in which somebody may have spoken
+kept_anyway : (w : WorldState) → IsOk false w → IsOk true w
+kept_anyway w ok =
+    record {
+      messages = ok.messages;
+      shown = ok.shown;
+      sent = ok.sent;
+      only = ok.only;
+      speakers = λ m c e. absurd (true≢false e);
+      max_block = ok.max_block;
+      ends = ok.ends;
+    }
 
--- deliveries keep a world
-pub delivered_keeps : (strangers : Bool) (old new : WorldState) (from : ℕ) (reports : List Report) → IsOk strangers old → Delivered old from reports new → IsOk strangers new
-delivered_keeps strangers old new from [] ok d = subst (λ (z : WorldState). IsOk strangers z) (sym d) ok
-delivered_keeps strangers old new from (report ∷ reports) ok d =
-    delivered_keeps strangers d.0 new (from + 1) reports (today_keeps strangers old d.0 (Deliver from) report (may_deliver strangers from) ok d.1) d.2
+-- each event keeps the world, by whether a stray has arrived
+pub played_keeps : (strayed : Bool) (w v : WorldState) (event : Event) (report : Report) → IsOk strayed w → StepToday w event report v → IsOk (strayed_after strayed event) v
+played_keeps true w v event report ok s = today_keeps true w v event report tt ok s
+played_keeps false w v (Get name mode asked) report ok s = today_keeps false w v (Get name mode asked) report tt ok s
+played_keeps false w v (Put name mode asked bytes) report ok s = today_keeps false w v (Put name mode asked bytes) report tt ok s
+played_keeps false w v (Deliver i) report ok s = today_keeps false w v (Deliver i) report tt ok s
+played_keeps false w v (Timeout port) report ok s = today_keeps false w v (Timeout port) report tt ok s
+played_keeps false w v (RefuseStore port) report ok s = today_keeps false w v (RefuseStore port) report tt ok s
+played_keeps false w v (Stray from to bytes) report ok s = today_keeps true w v (Stray from to bytes) report tt (kept_anyway w ok) s
 
-pub settles_safe : (old new : WorldState) (from : ℕ) (reports : List Report) → Delivered old from reports new → SettlesSafe old new
-settles_safe old new from reports d = λ strangers ok.
-    let kept = delivered_keeps strangers old new from reports ok d in (kept, kept_is_safe strangers new kept)
+-- without strays every peer is at home
+pub home_of : (strayed : Bool) (w : WorldState) → IsOk strayed w → strayed ≡ false → HasPeersAtHome w
+home_of strayed w ok e = ok_at_home w (subst (λ (b : Bool). IsOk b w) e ok)
 
 -- one delivery more
 pub delivered_more : (old mid new : WorldState) (from : ℕ) (reports : List Report) (report : Report) → Delivered old from reports mid → StepToday mid (Deliver (from + length reports)) report new → Delivered old from (reports ++ report ∷ []) new
@@ -122,11 +130,3 @@ delivers_on old mid new from count report d s = (
   delivered_more old mid new from d.0 report d.1 (subst (λ (n : ℕ). StepToday mid (Deliver (from + n)) report new) (sym d.2) s),
   length-append d.0 (report ∷ []) ∙ ap (λ (n : ℕ). n + 1) d.2,
 )
-
--- a world begins safe
-pub begins_safe : (files : List StoredFile) (limits : Limits) (retries cap : ℕ) → IsBlockSize limits.max_block → BeginsSafe (new_world files limits retries cap)
-begins_safe files limits retries cap ok = λ strangers.
-    let kept = new_ok strangers files limits retries cap ok in (kept, kept_is_safe strangers (new_world files limits retries cap) kept)
-
-pub begins_as : (w : WorldState) (files : List StoredFile) (limits : Limits) (retries cap : ℕ) → w ≡ new_world files limits retries cap → IsBlockSize limits.max_block → BeginsSafe w
-begins_as w files limits retries cap e ok = subst BeginsSafe (sym e) (begins_safe files limits retries cap ok)

@@ -16,6 +16,7 @@ pub mod WorldSafety
 pub mod WorldKept
 pub mod WorldRuns
 pub mod PlayedClient
+pub mod PlayedWorld
 pub mod Effect
 pub mod Clients
 pub mod Serving

@@ -16,18 +16,6 @@ TodayKeeps =
     (strangers : Bool) (old new : WorldState) (event : Event) (report : Report) →
     MayHappen strangers event → IsOk strangers old → StepToday old event report new → IsOk strangers new
 
--- a world that was kept is kept and safe; `strangers` says that somebody at neither host may have spoken
-abbrev pub StaysSafe : WorldState → Event → WorldState → Type 0
-StaysSafe old event new = (strangers : Bool) → MayHappen strangers event → IsOk strangers old → IsOk strangers new × IsSafe new
-
--- the same of deliveries, with which no stranger speaks
-abbrev pub SettlesSafe : WorldState → WorldState → Type 0
-SettlesSafe old new = (strangers : Bool) → IsOk strangers old → IsOk strangers new × IsSafe new
-
--- a world in which nothing has happened
-abbrev pub BeginsSafe : WorldState → Type 0
-BeginsSafe w = (strangers : Bool) → IsOk strangers w × IsSafe w
-
 -- the datagrams from this place on were delivered one after another, so many of them
 abbrev pub Delivered : WorldState → ℕ → List Report → WorldState → Type 0
 Delivered old from [] new = new ≡ old

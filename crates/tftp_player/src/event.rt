@@ -1,5 +1,8 @@
 //! What may happen in a world.
 
+ghost use Rattle.std.specs.Prelude.{◌≡◌};
+ghost use Rattle.tftp_player.specs.PlayedWorld.{strayed_after};
+
 use tftp_ends::Endpoint;
 use tftp_negotiate::Asked;
 use tftp_wire::{Bytes, Mode};
@@ -36,4 +39,13 @@ pub enum Event {
     /// A datagram of these bytes arrives from the first endpoint, which is at neither host, at the
     /// second.
     Stray(Endpoint, Endpoint, Bytes),
+}
+
+impl Event {
+    /// Whether a datagram of neither host has arrived once this event happened.
+    pub(crate) fn strayed_after(&self, strayed: bool) -> bool
+        ensures { result ≡ strayed_after strayed self.now }
+    {
+        strayed || matches!(self, Event::Stray(..))
+    }
 }

@@ -1,6 +1,7 @@
 //! The two hosts of a world and the ports of its ends.
 
-ghost use Rattle.std.specs.Prelude.{◌≡◌, ◌+◌, ◌<◌, ◌≤◌, ◌⊎◌, IfSome, IfNone};
+ghost use Rattle.std.specs.Prelude.{◌≡◌, ◌+◌, ◌<◌, ◌≤◌, ◌⊎◌, IfSome, IfNone, IsTrue, ◌↔◌};
+ghost use Rattle.tftp_player.specs.Machine.{host_of, Elsewhere};
 ghost use Rattle.tftp_player.specs.Clients.{client_at, server_at};
 
 use tftp_ends::Endpoint;
@@ -62,4 +63,11 @@ pub(crate) fn server_at(port: u16) -> Endpoint
         ip: SERVER_IP,
         port,
     }
+}
+
+/// Whether an endpoint is at neither host.
+pub(crate) fn is_foreign(endpoint: &Endpoint) -> bool
+    ensures { IsTrue result ↔ (host_of endpoint.now ≡ Elsewhere) }
+{
+    endpoint.ip != SERVER_IP && endpoint.ip != CLIENT_IP
 }

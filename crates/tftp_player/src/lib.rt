@@ -16,6 +16,7 @@ mod player;
 mod report;
 mod served;
 mod shelf;
+mod stage;
 mod world;
 
 pub use datagram::Datagram;

@@ -1,31 +1,28 @@
 //! A world that is played by the real machines.
 
-mod arriving;
-mod opening;
-
-ghost use Rattle.std.specs.Prelude.{◌≡◌, ◌<◌, ◌+◌, [], true, length, option_map, slice_get, IfOk, IfErr, OnErr};
+ghost use Rattle.std.specs.Prelude.{◌≡◌, true, false, option_map, IfOk, IfErr, OnOk, OnErr, IsTrue, ◌↔◌};
 ghost use Rattle.tftp_server.specs.Config.{IsConfig};
 ghost use Rattle.tftp_server.specs.Memory.{contents, has_distinct_paths, in_path_order};
-ghost use Rattle.tftp_player.specs.Today.{StepToday, RefusesToday, IsPlayable};
-ghost use Rattle.tftp_player.specs.World.{new_world, file_at};
-ghost use Rattle.tftp_player.specs.WorldSteps.{WorldStep, WorldRefuses};
-ghost use Rattle.tftp_player.specs.TodayRuns.{BeginsSafe, StaysSafe, SettlesSafe, Settled, StopsAt};
-ghost use Rattle.tftp_player.specs.declared.event.Event.TheVariants.{Timeout, RefuseStore};
+ghost use Rattle.tftp_player.specs.Machine.{host_of, Elsewhere};
 ghost use Rattle.tftp_player.specs.Played.{records_from};
-ghost use Rattle.tftp_player.specs.Stage.{IsStaged, StageTimeoutStep, record_closed, stored_at, committed_at};
+ghost use Rattle.tftp_player.specs.PlayedWorld.{strayed_after, IsHome};
+ghost use Rattle.tftp_player.specs.Stage.{stored_at, committed_at};
+ghost use Rattle.tftp_player.specs.Today.{StepToday, RefusesToday, IsPlayable};
+ghost use Rattle.tftp_player.specs.TodayRuns.{Settled, StopsAt};
+ghost use Rattle.tftp_player.specs.World.{new_world, file_at};
+ghost use Rattle.tftp_player.specs.WorldSafety.{IsSafe};
 
 use crate::datagram::Datagram;
-use crate::effect::{Effect, no_effect, write_down};
 use crate::event::Event;
 use crate::fault::WorldFault;
-use crate::hosts::place_of;
-use crate::player::Player;
+use crate::hosts::is_foreign;
 use crate::report::Report;
+use crate::stage::Stage;
 use std::alloc::Global;
 use std::marker::Model;
-use tftp_ends::Record;
+use tftp_ends::{Endpoint, Record};
 use tftp_file::Path;
-use tftp_server::{Config, MemStore, Server};
+use tftp_server::Config;
 
 /// One server, its clients, and a network that keeps all that was ever sent.
 ///
@@ -33,28 +30,26 @@ use tftp_server::{Config, MemStore, Server};
 /// may be delivered never, once or often, in any order and at any time. The server is 10.0.0.1 with
 /// request port 69, the clients are at 10.0.0.2, and every end that opens takes the next port from
 /// 1,024 on.
+///
+/// It is safe at all times: the two ends of an established transfer have one block size, what a
+/// receiver stored is a beginning of its peer's file and all of it once it is complete, and a sender
+/// is complete only after its receiver.
 #[derive(Drop)]
 pub struct World {
-    alloc: Global,
-    config: Config,
-    server: Server<MemStore>,
-    sent: Vec<Datagram>,
-    players: Vec<Player>,
-    records: Vec<(u16, Record)>,
+    stage: Stage,
+    /// Whether a datagram of neither host has arrived.
+    strayed: bool,
 }
 
 impl Model for World {
-    ghost use Rattle.std.specs.Prelude.{◌≡◌};
-    ghost use Rattle.tftp_player.specs.World.{WorldState};
+    ghost use Rattle.tftp_player.specs.PlayedWorld.{PlayedWorld};
+    ghost use Rattle.tftp_player.specs.WorldKept.{IsOk};
 
-    ghost Value = { WorldState };
+    ghost Value = { PlayedWorld };
 
-    ghost use Rattle.tftp_negotiate.specs.Ranges.{IsBlockSize};
-    ghost use Rattle.tftp_player.specs.Stage.{IsStaged, world_of};
+    ghost view = { λ w. record { state = w.stage; strayed = w.strayed } };
 
-    ghost view = { λ w. world_of w.config w.sent.items w.server w.players.items };
-
-    ghost invariant = { λ w. (w.server.config ≡ w.config) × IsStaged w.server w.players.items w.records.items × IsBlockSize w.config.limits.max_block };
+    ghost invariant = { λ w. IsOk w.strayed w.stage };
 }
 
 impl World {
@@ -67,99 +62,89 @@ impl World {
     ) -> Result<World, WorldFault>
         requires paths { has_distinct_paths (contents files.items) ≡ true }
         requires config { IsConfig config }
-        ensures new { IfOk result (λ world. world ≡ new_world (in_path_order (contents files.items)) config.limits config.retries config.cap) }
+        ensures new { IfOk result (λ world. world.state ≡
+            new_world (in_path_order (contents files.items)) config.limits config.retries config.cap) }
+        ensures strayed { IfOk result (λ world. world.strayed ≡ false) }
         ensures memory { IfErr result (λ fault. fault ≡ WorldFault.Memory) }
-        ensures safe { IfOk result BeginsSafe }
+        ensures safe { IfOk result (λ world. IsSafe world.state) }
     {
-        let Ok(store) = MemStore::new(alloc, files) else {
-            return Err(WorldFault::Memory);
-        };
-        let Ok(server) = Server::new(alloc, config, store) else {
-            return Err(WorldFault::Memory);
-        };
+        let stage = Stage::new(alloc, files, config)?;
         Ok(World {
-            alloc,
-            config,
-            server,
-            sent: Vec::new(alloc),
-            players: Vec::new(alloc),
-            records: Vec::new(alloc),
+            stage,
+            strayed: false,
         })
+    }
+
+    /// Whether an endpoint is at neither host, as a stray's sender is.
+    pub fn is_foreign(endpoint: &Endpoint) -> bool
+        ensures { IsTrue result ↔ (host_of endpoint.now ≡ Elsewhere) }
+    {
+        is_foreign(endpoint)
     }
 
     /// All that was ever sent, in order.
     pub fn sent(&self) -> &[Datagram]
-        ensures { result.now ≡ self.now.sent }
+        ensures { result.now ≡ self.now.state.sent }
     {
-        self.sent.as_slice()
+        self.stage.sent()
     }
 
     /// Every end that was ever opened, by its port, and how far it came; in order of opening.
     pub fn records(&self) -> &[(u16, Record)]
-        ensures { result.now ≡ records_from 1024 self.now.ends }
+        ensures { result.now ≡ records_from 1024 self.now.state.ends }
     {
-        self.records.as_slice()
+        self.stage.records()
     }
 
     /// What the receiver at this port has stored, also after it closed. None for a sender.
     pub fn stored(&self, port: u16) -> Option<&[u8]>
-        ensures { option_map (λ bytes. bytes.now) result ≡ stored_at self.now.ends port }
+        ensures { option_map (λ bytes. bytes.now) result ≡ stored_at self.now.state.ends port }
     {
-        match place_of(port, self.players.len()) {
-            None => None,
-            Some(place) => self.players[place].stored(),
-        }
+        self.stage.stored(port)
     }
 
     /// Whether the receiver at this port has committed what it stored.
     pub fn committed(&self, port: u16) -> bool
-        ensures { result ≡ committed_at self.now.ends port }
+        ensures { result ≡ committed_at self.now.state.ends port }
     {
-        match place_of(port, self.players.len()) {
-            None => false,
-            Some(place) => self.players[place].committed(),
-        }
+        self.stage.committed(port)
     }
 
     /// The server's file of this path, as it is now.
     pub fn file(&self, path: &Path) -> Option<&[u8]>
-        ensures { option_map (λ bytes. bytes.now) result ≡ file_at self.now.files path.now }
+        ensures { option_map (λ bytes. bytes.now) result ≡ file_at self.now.state.files path.now }
     {
-        self.server.store().file(path)
+        self.stage.file(path)
     }
 
     /// Plays an event. After a refusal nothing has changed.
     ///
     /// `NoSuchDatagram` and `NoSuchEnd` where an event names what was never sent or opened; `NoPort`
     /// where an end could open and no port is left; `BadRequest` where the client refuses to ask
-    /// this, and today for every `Put`. A stray comes from an address of neither host.
+    /// this, and today for every `Put`. The sender of a stray is foreign ([`World::is_foreign`]).
     ///
-    /// It copies a datagram's bytes once, since an end keeps the last one that it sent; its look-ups take a time that
-    /// grows with the logarithm of the open transfers, and a request that is served copies the file.
+    /// It copies a datagram's bytes once, since an end keeps the last one that it sent; its look-ups
+    /// take a time that grows with the logarithm of the open transfers, and a request that is served
+    /// copies the file.
     pub fn apply(&mut self, event: Event) -> Result<Report, WorldFault>
         requires { IsPlayable event }
-        ensures steps { IfOk result (λ report. StepToday self.old event report self.new) }
-        ensures refused { IfErr result (RefusesToday self.old event) }
+        // the step of the event
+        ensures steps { IfOk result (λ report.
+            StepToday self.old.state event report self.new.state) }
+        ensures strayed { OnOk result (self.new.strayed ≡ strayed_after self.old.strayed event) }
+        ensures refused { IfErr result (RefusesToday self.old.state event) }
         ensures err { OnErr result (self.new ≡ self.old) }
-        ensures safe { StaysSafe self.old event self.new }
+        // what it leaves is safe, and without strays every peer is at one of the two hosts
+        ensures safe { IsSafe self.new.state }
+        ensures home { IsHome self.new }
     {
-        self.step(event)
-    }
-
-    /// Makes the step of an event.
-    fn step(&mut self, event: Event) -> Result<Report, WorldFault>
-        requires { IsPlayable event }
-        ensures steps { IfOk result (λ report. StepToday self.old event report self.new) }
-        ensures refused { IfErr result (RefusesToday self.old event) }
-        ensures err { OnErr result (self.new ≡ self.old) }
-    {
-        match event {
-            Event::Get { name, mode, asked } => self.get(name.as_slice(), mode, &asked),
-            Event::Put { .. } => self.put(),
-            Event::Deliver(place) => self.deliver(place),
-            Event::Timeout(port) => self.timeout(port),
-            Event::RefuseStore(port) => self.refuse_store(port),
-            Event::Stray(from, to, bytes) => self.stray(from, to, &bytes),
+        let strayed = event.strayed_after(self.strayed);
+        match self.stage.step(event) {
+            Ok(report) => {
+                self.strayed = strayed;
+                Ok(report)
+            }
+            Err(fault) => Err(fault),
         }
     }
 
@@ -169,99 +154,24 @@ impl World {
     /// A refusal stops it, and the deliveries before it stand. It is that many calls of
     /// [`World::apply`].
     pub fn settle(&mut self, from: usize, most: usize) -> Result<usize, WorldFault>
-        ensures settles { IfOk result (λ count. Settled self.old from most count self.new) }
-        ensures stops { IfErr result (λ fault. StopsAt self.old from most fault self.new) }
-        ensures safe { SettlesSafe self.old self.new }
+        // so many deliveries
+        ensures settles { IfOk result (λ count.
+            Settled self.old.state from most count self.new.state) }
+        ensures stops { IfErr result (λ fault.
+            StopsAt self.old.state from most fault self.new.state) }
+        ensures strayed { self.new.strayed ≡ self.old.strayed }
+        // what they leave is safe, and without strays every peer is at one of the two hosts
+        ensures safe { IsSafe self.new.state }
+        ensures home { IsHome self.new }
     {
+        let _ = &self.stage;
         let mut count = 0;
-        while count < most && count < self.sent.len().saturating_sub(from) {
+        while count < most && count < self.sent().len().saturating_sub(from) {
             match self.apply(Event::Deliver(from + count)) {
                 Ok(_) => count += 1,
                 Err(fault) => return Err(fault),
             }
         }
         Ok(count)
-    }
-
-    /// The end at this port takes a timeout.
-    fn timeout(&mut self, port: u16) -> Result<Report, WorldFault>
-        ensures steps { IfOk result (λ report. WorldStep self.old (Timeout port) report self.new) }
-        ensures refused { IfErr result (WorldRefuses self.old (Timeout port)) }
-        ensures err { OnErr result (self.new ≡ self.old) }
-    {
-        let Some(place) = place_of(port, self.players.len()) else {
-            return Err(WorldFault::NoSuchEnd);
-        };
-        let Ok(()) = self.sent.reserve(1) else {
-            return Err(WorldFault::Memory);
-        };
-        let effect = on_timeout(
-            self.alloc,
-            &mut self.server,
-            &mut self.players,
-            &mut self.records,
-            place,
-            port,
-        );
-        match effect {
-            Ok(effect) => Ok(write_down(&mut self.sent, effect)),
-            Err(fault) => Err(fault),
-        }
-    }
-
-    /// The receiver at this port is to refuse its next append or commit.
-    fn refuse_store(&mut self, port: u16) -> Result<Report, WorldFault>
-        ensures steps { IfOk result (λ report. WorldStep self.old (RefuseStore port) report self.new) }
-        ensures refused { IfErr result (WorldRefuses self.old (RefuseStore port)) }
-        ensures err { OnErr result (self.new ≡ self.old) }
-    {
-        let Some(place) = place_of(port, self.players.len()) else {
-            return Err(WorldFault::NoSuchEnd);
-        };
-        let player = &mut self.players[place];
-        player.refuse_next();
-        Ok(Report {
-            added: None,
-            closed: None,
-        })
-    }
-}
-
-/// The end at this place takes a timeout, unless it is closed.
-fn on_timeout(
-    alloc: Global,
-    server: &mut Server<MemStore>,
-    players: &mut Vec<Player>,
-    records: &mut Vec<(u16, Record)>,
-    place: usize,
-    port: u16,
-) -> Result<Effect, WorldFault>
-    requires staged { IsStaged server.old players.old.items records.old.items }
-    requires place { (place < length players.old.items) × (port ≡ 1024 + place) }
-    ensures times_out { IfOk result (λ effect. StageTimeoutStep place server.old server.new players.old.items players.new.items effect) }
-    ensures staged { IsStaged server.new players.new.items records.new.items }
-    ensures memory { IfErr result (λ fault. fault ≡ WorldFault.Memory) }
-    ensures err { OnErr result ((server.new ≡ server.old) × (players.new.items ≡ players.old.items)) }
-{
-    let player = &mut players[place];
-    if is_recorded_closed(records, place) {
-        return Ok(no_effect(alloc, player.address(port)));
-    }
-    match player.on_timeout(alloc, server, port) {
-        Ok((effect, record)) => {
-            records[place] = (port, record);
-            Ok(effect)
-        }
-        Err(fault) => Err(fault),
-    }
-}
-
-/// Whether the end at this place is recorded as closed.
-pub(crate) fn is_recorded_closed(records: &Vec<(u16, Record)>, place: usize) -> bool
-    ensures { result ≡ record_closed (slice_get records.now.items place) }
-{
-    match records.get(place) {
-        Some((_, record)) => record.outcome.is_some(),
-        None => true,
     }
 }

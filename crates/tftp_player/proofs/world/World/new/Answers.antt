@@ -1,8 +1,16 @@
-use Rattle.std.proofs.Common.{rules}
+-- A world in which nothing has happened is kept.
+use Rattle.std.proofs.Common.{false, subst, sym}
 use Rattle.tftp_server.specs.Memory.{contents, in_path_order}
-use Rattle.tftp_player.proofs.TodayKeeps.{begins_as}
+use Rattle.tftp_player.specs.World.{WorldState, new_world}
+use Rattle.tftp_player.specs.WorldKept.{IsOk}
+use Rattle.tftp_player.proofs.WorldRuns.{new_ok}
+use Rattle.tftp_player.proofs.WorldSafe.{kept_is_safe}
 use Rattle.tftp_player.proofs.world.World.new.Goals as goal
 
+pub invariant_of-result : goal.invariant_of-result
+invariant_of-result c =
+    subst (λ (w : WorldState). IsOk false w) (sym c.in_ok-stage.ensures.new)
+    (new_ok false (in_path_order (contents c.args.files.items)) c.args.config.limits c.args.config.retries c.args.config.cap c.requires.config.max_block)
+
 pub returns-clause-safe : goal.returns-clause-safe
-returns-clause-safe c =
-    begins_as _ (in_path_order (contents c.args.files.items)) c.args.config.limits c.args.config.retries c.args.config.cap (search rules) c.requires.config.max_block
+returns-clause-safe c = kept_is_safe false c.in_ok-stage.stage (invariant_of-result c)

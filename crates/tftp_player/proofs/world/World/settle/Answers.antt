@@ -1,21 +1,26 @@
-use Rattle.std.proofs.Common.{rules}
-use Rattle.tftp_player.proofs.TodayKeeps.{delivers_on, settles_safe}
+-- A settling is one delivery after another, each of which leaves the world safe.
+use Rattle.std.proofs.Common.{◌∙◌, refl, rules, subst}
+use Rattle.std.proofs.Math.Bool.{or-false}
+use Rattle.tftp_player.specs.PlayedWorld.{PlayedWorld, IsHome}
+use Rattle.tftp_player.specs.WorldSafety.{IsSafe}
+use Rattle.tftp_player.proofs.TodayKeeps.{delivers_on, home_of}
+use Rattle.tftp_player.proofs.WorldSafe.{kept_is_safe}
 use Rattle.tftp_player.proofs.world.World.settle.Goals as goal
+
+pub loop-count-init : goal.loop-count-init
+loop-count-init c = record {
+  delivered = search rules;
+  bounded = search rules;
+  strayed = refl;
+  safe = subst (λ (w : PlayedWorld). IsSafe w.state) c.self.view_is (kept_is_safe c.self.inside.strayed c.self.inside.stage c.self.invariant);
+  home = subst IsHome c.self.view_is (home_of c.self.inside.strayed c.self.inside.stage c.self.invariant);
+}
 
 pub loop-count-preserved : goal.loop-count-preserved
 loop-count-preserved c = record {
-  delivered = delivers_on c.args.self.now c.loop-count.self c.apply.new.self c.args.from c.loop-count.count c.in-Ok.field-0 c.loop-count.invariant.delivered c.in-Ok.ensures.steps;
+  delivered = delivers_on c.args.self.now.state c.loop-count.self.state c.apply.new.self.state c.args.from c.loop-count.count c.in-Ok.field-0 c.loop-count.invariant.delivered c.in-Ok.ensures.steps;
   bounded = search rules;
+  strayed = c.in-Ok.ensures.strayed ∙ (or-false c.loop-count.self.strayed ∙ c.loop-count.invariant.strayed);
+  safe = c.apply.ensures.safe;
+  home = c.apply.ensures.home;
 }
-
-pub returns-in-Err-clause-safe : goal.returns-in-Err-clause-safe
-returns-in-Err-clause-safe c =
-    rw (c.in-Err.ensures.err) (settles_safe c.args.self.now c.loop-count.self c.args.from c.loop-count.invariant.delivered.0 c.loop-count.invariant.delivered.1)
-
-pub returns-else-count-saturating_sub-clause-safe : goal.returns-else-count-saturating_sub-clause-safe
-returns-else-count-saturating_sub-clause-safe c =
-    settles_safe c.args.self.now c.loop-count.self c.args.from c.loop-count.invariant.delivered.0 c.loop-count.invariant.delivered.1
-
-pub returns-after-loop-count-clause-safe : goal.returns-after-loop-count-clause-safe
-returns-after-loop-count-clause-safe c =
-    settles_safe c.args.self.now c.loop-count.self c.args.from c.loop-count.invariant.delivered.0 c.loop-count.invariant.delivered.1

@@ -1,0 +1,25 @@
+-- What the struct that plays a world keeps.
+use Rattle.std.specs.Prelude.{◌≡◌, Bool, true, false, ◌||◌}
+use Rattle.tftp_player.specs.World.{WorldState}
+use Rattle.tftp_player.specs.WorldSafety.{HasPeersAtHome}
+use Rattle.tftp_player.specs.declared.event.Event.{Event}
+use Rattle.tftp_player.specs.declared.event.Event.TheVariants.{Stray}
+
+-- a world, and whether a datagram of neither host has arrived in it
+pub record PlayedWorld : Type 0 where
+  pub state : WorldState
+  pub strayed : Bool
+
+-- the event is a datagram of neither host
+abbrev pub is_stray : Event → Bool
+is_stray (Stray from to bytes) = true
+is_stray event = false
+
+-- one has arrived, or the event is one
+abbrev pub strayed_after : Bool → Event → Bool
+strayed_after strayed event = strayed || is_stray event
+
+-- without strays every peer is at one of the two hosts, so that what is claimed of such peers is
+-- claimed of every peer
+abbrev pub IsHome : PlayedWorld → Type 0
+IsHome w = w.strayed ≡ false → HasPeersAtHome w.state

@@ -1,0 +1,221 @@
+//! The server and the clients of a world, and the network between them.
+
+mod arriving;
+mod opening;
+
+ghost use Rattle.std.specs.Prelude.{◌≡◌, ◌<◌, ◌+◌, [], true, length, option_map, slice_get, IfOk, IfErr, OnErr};
+ghost use Rattle.tftp_server.specs.Config.{IsConfig};
+ghost use Rattle.tftp_server.specs.Memory.{contents, has_distinct_paths, in_path_order};
+ghost use Rattle.tftp_player.specs.Today.{StepToday, RefusesToday, IsPlayable};
+ghost use Rattle.tftp_player.specs.World.{new_world, file_at};
+ghost use Rattle.tftp_player.specs.WorldSteps.{WorldStep, WorldRefuses};
+ghost use Rattle.tftp_player.specs.declared.event.Event.TheVariants.{Timeout, RefuseStore};
+ghost use Rattle.tftp_player.specs.Played.{records_from};
+ghost use Rattle.tftp_player.specs.Stage.{IsStaged, StageTimeoutStep, record_closed, stored_at, committed_at};
+
+use crate::datagram::Datagram;
+use crate::effect::{Effect, no_effect, write_down};
+use crate::event::Event;
+use crate::fault::WorldFault;
+use crate::hosts::place_of;
+use crate::player::Player;
+use crate::report::Report;
+use std::alloc::Global;
+use std::marker::Model;
+use tftp_ends::Record;
+use tftp_file::Path;
+use tftp_server::{Config, MemStore, Server};
+
+/// The server, the clients, their records and what was sent, which hang together.
+#[derive(Drop)]
+pub(crate) struct Stage {
+    alloc: Global,
+    config: Config,
+    server: Server<MemStore>,
+    sent: Vec<Datagram>,
+    players: Vec<Player>,
+    records: Vec<(u16, Record)>,
+}
+
+impl Model for Stage {
+    ghost use Rattle.std.specs.Prelude.{◌≡◌};
+    ghost use Rattle.tftp_player.specs.World.{WorldState};
+
+    ghost Value = { WorldState };
+
+    ghost use Rattle.tftp_negotiate.specs.Ranges.{IsBlockSize};
+    ghost use Rattle.tftp_player.specs.Stage.{IsStaged, world_of};
+
+    ghost view = { λ w. world_of w.config w.sent.items w.server w.players.items };
+
+    ghost invariant = { λ w. (w.server.config ≡ w.config) × IsStaged w.server w.players.items w.records.items × IsBlockSize w.config.limits.max_block };
+}
+
+impl Stage {
+    /// Nothing has happened, and the server has these files.
+    pub(crate) fn new(
+        alloc: Global,
+        files: Vec<(Path, Vec<u8>)>,
+        config: Config,
+    ) -> Result<Stage, WorldFault>
+        requires paths { has_distinct_paths (contents files.items) ≡ true }
+        requires config { IsConfig config }
+        ensures new { IfOk result (λ world. world ≡ new_world (in_path_order (contents files.items)) config.limits config.retries config.cap) }
+        ensures memory { IfErr result (λ fault. fault ≡ WorldFault.Memory) }
+    {
+        let Ok(store) = MemStore::new(alloc, files) else {
+            return Err(WorldFault::Memory);
+        };
+        let Ok(server) = Server::new(alloc, config, store) else {
+            return Err(WorldFault::Memory);
+        };
+        Ok(Stage {
+            alloc,
+            config,
+            server,
+            sent: Vec::new(alloc),
+            players: Vec::new(alloc),
+            records: Vec::new(alloc),
+        })
+    }
+
+    /// All that was ever sent, in order.
+    pub(crate) fn sent(&self) -> &[Datagram]
+        ensures { result.now ≡ self.now.sent }
+    {
+        self.sent.as_slice()
+    }
+
+    /// Every end that was ever opened, by its port, and how far it came; in order of opening.
+    pub(crate) fn records(&self) -> &[(u16, Record)]
+        ensures { result.now ≡ records_from 1024 self.now.ends }
+    {
+        self.records.as_slice()
+    }
+
+    /// What the receiver at this port has stored.
+    pub(crate) fn stored(&self, port: u16) -> Option<&[u8]>
+        ensures { option_map (λ bytes. bytes.now) result ≡ stored_at self.now.ends port }
+    {
+        match place_of(port, self.players.len()) {
+            None => None,
+            Some(place) => self.players[place].stored(),
+        }
+    }
+
+    /// Whether the receiver at this port has committed what it stored.
+    pub(crate) fn committed(&self, port: u16) -> bool
+        ensures { result ≡ committed_at self.now.ends port }
+    {
+        match place_of(port, self.players.len()) {
+            None => false,
+            Some(place) => self.players[place].committed(),
+        }
+    }
+
+    /// The server's file of this path, as it is now.
+    pub(crate) fn file(&self, path: &Path) -> Option<&[u8]>
+        ensures { option_map (λ bytes. bytes.now) result ≡ file_at self.now.files path.now }
+    {
+        self.server.store().file(path)
+    }
+
+    /// Makes the step of an event.
+    pub(crate) fn step(&mut self, event: Event) -> Result<Report, WorldFault>
+        requires { IsPlayable event }
+        ensures steps { IfOk result (λ report. StepToday self.old event report self.new) }
+        ensures refused { IfErr result (RefusesToday self.old event) }
+        ensures err { OnErr result (self.new ≡ self.old) }
+    {
+        match event {
+            Event::Get { name, mode, asked } => self.get(name.as_slice(), mode, &asked),
+            Event::Put { .. } => self.put(),
+            Event::Deliver(place) => self.deliver(place),
+            Event::Timeout(port) => self.timeout(port),
+            Event::RefuseStore(port) => self.refuse_store(port),
+            Event::Stray(from, to, bytes) => self.stray(from, to, &bytes),
+        }
+    }
+
+    /// The end at this port takes a timeout.
+    fn timeout(&mut self, port: u16) -> Result<Report, WorldFault>
+        ensures steps { IfOk result (λ report. WorldStep self.old (Timeout port) report self.new) }
+        ensures refused { IfErr result (WorldRefuses self.old (Timeout port)) }
+        ensures err { OnErr result (self.new ≡ self.old) }
+    {
+        let Some(place) = place_of(port, self.players.len()) else {
+            return Err(WorldFault::NoSuchEnd);
+        };
+        let Ok(()) = self.sent.reserve(1) else {
+            return Err(WorldFault::Memory);
+        };
+        let effect = on_timeout(
+            self.alloc,
+            &mut self.server,
+            &mut self.players,
+            &mut self.records,
+            place,
+            port,
+        );
+        match effect {
+            Ok(effect) => Ok(write_down(&mut self.sent, effect)),
+            Err(fault) => Err(fault),
+        }
+    }
+
+    /// The receiver at this port is to refuse its next append or commit.
+    fn refuse_store(&mut self, port: u16) -> Result<Report, WorldFault>
+        ensures steps { IfOk result (λ report. WorldStep self.old (RefuseStore port) report self.new) }
+        ensures refused { IfErr result (WorldRefuses self.old (RefuseStore port)) }
+        ensures err { OnErr result (self.new ≡ self.old) }
+    {
+        let Some(place) = place_of(port, self.players.len()) else {
+            return Err(WorldFault::NoSuchEnd);
+        };
+        let player = &mut self.players[place];
+        player.refuse_next();
+        Ok(Report {
+            added: None,
+            closed: None,
+        })
+    }
+}
+
+/// The end at this place takes a timeout, unless it is closed.
+fn on_timeout(
+    alloc: Global,
+    server: &mut Server<MemStore>,
+    players: &mut Vec<Player>,
+    records: &mut Vec<(u16, Record)>,
+    place: usize,
+    port: u16,
+) -> Result<Effect, WorldFault>
+    requires staged { IsStaged server.old players.old.items records.old.items }
+    requires place { (place < length players.old.items) × (port ≡ 1024 + place) }
+    ensures times_out { IfOk result (λ effect. StageTimeoutStep place server.old server.new players.old.items players.new.items effect) }
+    ensures staged { IsStaged server.new players.new.items records.new.items }
+    ensures memory { IfErr result (λ fault. fault ≡ WorldFault.Memory) }
+    ensures err { OnErr result ((server.new ≡ server.old) × (players.new.items ≡ players.old.items)) }
+{
+    let player = &mut players[place];
+    if is_recorded_closed(records, place) {
+        return Ok(no_effect(alloc, player.address(port)));
+    }
+    match player.on_timeout(alloc, server, port) {
+        Ok((effect, record)) => {
+            records[place] = (port, record);
+            Ok(effect)
+        }
+        Err(fault) => Err(fault),
+    }
+}
+
+/// Whether the end at this place is recorded as closed.
+pub(crate) fn is_recorded_closed(records: &Vec<(u16, Record)>, place: usize) -> bool
+    ensures { result ≡ record_closed (slice_get records.now.items place) }
+{
+    match records.get(place) {
+        Some((_, record)) => record.outcome.is_some(),
+        None => true,
+    }
+}
