@@ -9,14 +9,20 @@ SOURCES := $(shell find crates -path '*/out' -prune -o \( -name '*.rt' -o -name 
 # one after another: each crate is proved by as many processors as there are
 .NOTPARALLEL:
 
-run: $(PROGRAMS:%=bin/tftp-%)
+run: $(PROGRAMS:%=bin/tftp-%) bin/tftp bin/tftpd
 	bin/tftp-show < examples/packets.hex; test $$? -le 1 # 1: some lines of the sample are faults
 	bin/tftp-play examples/lossy.script
+	examples/loopback.sh bin/tftpd bin/tftp
 
 bin/tftp-%: $(SOURCES) tools/build.sh
 	@tools/build.sh tftp_$*_main
 	@mkdir -p bin
 	@cp crates/tftp_$*_main/out/tftp_$*_main $@
+
+bin/tftp bin/tftpd: bin/%: $(SOURCES) tools/build.sh
+	@tools/build.sh $*_main
+	@mkdir -p bin
+	@cp crates/$*_main/out/$*_main $@
 
 test:
 	rt ci

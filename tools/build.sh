@@ -25,7 +25,8 @@ crates_of() {
 build() {
     log=$PWD/out/$1.log
     verb=lib
-    test -f "crates/$1/src/main.rt" && verb=run
+    # a program runs once it is built: it only prints its help
+    test -f "crates/$1/src/main.rt" && verb="run -- --help"
     start=$(date +%s)
     (cd "crates/$1" && rt $verb) < /dev/null > "$log.new" 2>&1
     status=$?

@@ -1,2 +1,5 @@
+pub mod Fallback
 pub mod Play
+pub mod Printed
 pub mod Show
+pub mod Watch

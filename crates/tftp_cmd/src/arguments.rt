@@ -38,7 +38,7 @@ pub fn play_command<R: Runtime + AllocGlobal, E: Write + Drop>(rt: &R, errors: E
 }
 
 /// The words of the program's own command line.
-fn own_words<R: Runtime + AllocGlobal>(rt: &R) -> Result<Vec<String>> {
+pub(crate) fn own_words<R: Runtime + AllocGlobal>(rt: &R) -> Result<Vec<String>> {
     let mut words = Vec::new(rt.alloc());
     for word in env::args(rt)? {
         words.push(word)?;
@@ -94,8 +94,8 @@ fn play_syntax<'a>(alloc: Global) -> Result<Command<'a>, AllocError> {
         .arg(script)
 }
 
-/// Prints the help, the version or what is wrong with a command line, and returns its status.
-fn print_usage<R: Print + Eprint>(rt: &R, error: &clap::Error) -> u8
+/// Prints the help, the version or what is wrong with a command line, and returns the status for it.
+pub(crate) fn print_usage<R: Print + Eprint>(rt: &R, error: &clap::Error) -> u8
     ensures { result ≤ 2 }
 {
     if error.print(rt).is_err() || error.use_stderr() {

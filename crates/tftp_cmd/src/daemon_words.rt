@@ -1,0 +1,171 @@
+//! The command line of `tftpd`.
+
+ghost use Rattle.std.specs.Prelude.{◌≤◌, IfOk, IfSome};
+ghost use Rattle.tftp_server.specs.Config.{IsConfig};
+
+use crate::arguments::{own_words, print_usage};
+use crate::daemon::{Service, ServiceFault, serve};
+use crate::words::{endpoint_in, flag, number, word};
+use anyhow::Result;
+use clap::error::ErrorKind;
+use clap::{Arg, ArgMatches, Command, value_parser};
+use std::alloc::Global;
+use std::convert::AsStr;
+use std::net::Net;
+use std::rt::Runtime;
+use tftp_negotiate::Limits;
+use tftp_server::Config;
+
+const EXAMPLES: &str = "\
+Examples:
+  tftpd /srv/tftp --listen 192.0.2.1:6969 --transfers 1000
+  tftpd . --listen 127.0.0.1:0 --max-block 8192 --cap 64";
+
+/// Runs `tftpd` with the program's own command line, and returns its status.
+///
+/// See [`tftpd_words`].
+pub fn tftpd_command<R: Runtime + AllocGlobal + Net>(rt: &R) -> u8
+    ensures { result ≤ 2 }
+{
+    match own_words(rt) {
+        Ok(words) => tftpd_words(rt, words.as_slice()),
+        Err(_) => 2,
+    }
+}
+
+/// Runs `tftpd` as a command line says, and returns its status. The first word is the program's name.
+///
+/// `--help` and `--version` print and return 0. The status is 2 for a command line that is not understood, a
+/// root that is no folder, a port that cannot be bound and output that cannot be written, each reported
+/// on standard error, and when out of memory.
+pub fn tftpd_words<R: Runtime + AllocGlobal + Net, S: AsStr>(rt: &R, words: &[S]) -> u8
+    ensures { result ≤ 2 }
+{
+    serve_words(rt, words).unwrap_or(2)
+}
+
+/// As [`tftpd_words`]; it fails when out of memory, or where standard error cannot be written.
+fn serve_words<'a, R: Runtime + AllocGlobal + Net, S: AsStr>(
+    rt: &R,
+    words: &'a [S],
+) -> Result<u8>
+    ensures { IfOk result (λ status. status ≤ 2) }
+{
+    let mut command = command(rt.alloc())?;
+    let matches = match command.try_get_matches_from_mut(words) {
+        Ok(matches) => matches,
+        Err(error) => return Ok(print_usage(rt, &error)),
+    };
+    let Some(service) = service(&matches) else {
+        let message = "invalid value for '--listen <ADDR:PORT>': not an IPv4 address and a port";
+        let error = command.error(ErrorKind::InvalidValue, message)?;
+        return Ok(print_usage(rt, &error));
+    };
+    let message = match serve(rt, &service) {
+        Ok(()) => return Ok(0),
+        Err(ServiceFault::File) => "tftpd: file fault",
+        Err(ServiceFault::Socket) => "tftpd: socket fault",
+        Err(ServiceFault::Output) => "tftpd: output fault",
+        Err(ServiceFault::Memory) => "tftpd: out of memory",
+    };
+    rt.eprintln(message)?;
+    Ok(2)
+}
+
+/// What the words of a command line that is understood say, if the address is one.
+fn service<'a>(matches: &ArgMatches<'a>) -> Option<Service<'a>>
+    ensures { IfSome result (λ service. IsConfig service.config) }
+{
+    let root = matches.get_str("ROOT")?;
+    let listen = endpoint_in(matches.get_str("listen")?)?;
+    let transfers = matches.get_one::<u32>("transfers")?;
+    let rounds = matches.get_one::<u32>("rounds")?;
+    let config = config(matches)?;
+    Some(Service {
+        root,
+        listen,
+        config,
+        transfers,
+        rounds,
+    })
+}
+
+/// What transfers are allowed.
+fn config(matches: &ArgMatches<'_>) -> Option<Config>
+    ensures { IfSome result IsConfig }
+{
+    let config = Config {
+        limits: Limits {
+            max_block: matches.get_one::<u16>("max-block")?,
+            max_file: matches.get_one::<u64>("max-file")?,
+        },
+        retries: matches.get_one::<u8>("retries")?,
+        cap: matches.get_one::<u8>("cap")?,
+        overwrite: matches.get_flag("overwrite"),
+    };
+    if config.is_valid() {
+        Some(config)
+    } else {
+        None
+    }
+}
+
+/// What `tftpd` understands.
+fn command<'a>(alloc: Global) -> Result<Command<'a>> {
+    let listen = Arg::new(alloc, "listen")
+        .long("listen")
+        .value_name("ADDR:PORT")
+        .default_value("127.0.0.1:6969")
+        .help("IPv4 address and UDP port of the requests; port 0 lets the system choose");
+    let block = number(
+        alloc,
+        "max-block",
+        value_parser!(u16).range(8..=65_464),
+        "Largest block size that is agreed, in bytes, 8 to 65464",
+    );
+    let file = number(
+        alloc,
+        "max-file",
+        value_parser!(u64),
+        "Longest file that is taken, in bytes, any number below 2^64",
+    );
+    let retries = number(
+        alloc,
+        "retries",
+        value_parser!(u8).range(0..=10),
+        "How often a datagram is sent again without progress, 0 to 10",
+    );
+    let cap = number(
+        alloc,
+        "cap",
+        value_parser!(u8).range(1..=64),
+        "Transfers that are open at once, 1 to 64",
+    );
+    let transfers = number(
+        alloc,
+        "transfers",
+        value_parser!(u32).range(1..=4_294_967_295),
+        "Ends after so many closed transfers, 1 to 4294967295",
+    );
+    let rounds = number(
+        alloc,
+        "rounds",
+        value_parser!(u32).range(1..=4_294_967_295),
+        "Ends after so many waits, each of a second at most, 1 to 4294967295",
+    );
+    Ok(
+        Command::new(alloc, "tftpd")
+            .about("Serves the files of a folder by TFTP (RFC 1350, RFC 2347 to 2349)")
+            .version("0.1.0")
+            .after_help(EXAMPLES)
+            .arg(word(alloc, "ROOT", "The folder whose files are served"))?
+            .arg(listen)?
+            .arg(block.default_value("1428"))?
+            .arg(file.default_value("4290183239"))?
+            .arg(retries.default_value("5"))?
+            .arg(cap.default_value("16"))?
+            .arg(flag(alloc, "overwrite", "A write replaces a file that is there"))?
+            .arg(transfers.default_value("1"))?
+            .arg(rounds.default_value("1000000"))?,
+    )
+}

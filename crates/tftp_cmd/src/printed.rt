@@ -1,0 +1,41 @@
+//! The lines that the programs over UDP print.
+
+use std::fmt;
+use tftp_ends::{Endpoint, Outcome};
+
+/// A line that a program prints.
+#[derive(Clone, Copy, Debug, PartialEq, Eq)]
+pub enum Printed {
+    /// A server waits for requests here.
+    Listening(Endpoint),
+    /// A server's transfer closed: its port, its peer's port and how.
+    Closed {
+        port: u16,
+        peer: u16,
+        outcome: Outcome,
+    },
+    /// A client's transfer completed; the host bytes of the file.
+    Complete(u64),
+    /// A client's transfer did not.
+    Failed(Outcome),
+}
+
+impl fmt::Display for Printed {
+    ghost use Rattle.std.specs.Prelude.{Some};
+    ghost use Rattle.tftp_cmd.specs.Printed.{line_text};
+
+    ghost output = { λ line. Some (line_text line) };
+
+    fn fmt<W: fmt::Write>(&self, f: &mut fmt::Formatter<W>) -> fmt::Result {
+        match self {
+            Printed::Listening(endpoint) => write!(f, "listening {endpoint}"),
+            Printed::Closed {
+                port,
+                peer,
+                outcome,
+            } => write!(f, "{port} {peer} {outcome}"),
+            Printed::Complete(count) => write!(f, "complete {count}"),
+            Printed::Failed(outcome) => write!(f, "tftp: {outcome}"),
+        }
+    }
+}

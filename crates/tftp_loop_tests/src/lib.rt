@@ -1,0 +1,11 @@
+//! Tests of `tftp` and `tftpd` as programs of their own, over the loopback address, and of their store.
+#![tactic(auto)]
+
+#[cfg(test)]
+mod folder_rows;
+#[cfg(test)]
+mod loopback;
+#[cfg(test)]
+mod programs;
+#[cfg(test)]
+mod scratch;

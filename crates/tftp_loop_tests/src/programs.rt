@@ -1,0 +1,68 @@
+//! The programs, started by a test.
+//!
+//! A test knows of no file but its own program. So that program plays the others: run with the name of one
+//! of the first two tests here and further words, it is `tftp` or `tftpd` with these words.
+
+use std::env;
+use std::process::{Command, Processes};
+use std::rt::Runtime;
+use std::test::Fail;
+
+/// The words behind the name of a test.
+fn words_of_a_program<R: Runtime + AllocGlobal>(rt: &R) -> Result<Vec<String>, Fail> {
+    let mut words = Vec::new(rt.alloc());
+    for word in env::args(rt)?.skip(1) {
+        words.push(word)?;
+    }
+    Ok(words)
+}
+
+/// Is `tftp`, where this program was started as one.
+#[test]
+fn tftp(rt: HostRuntime) -> Result<(), Fail> {
+    let words = words_of_a_program(&rt)?;
+    if words.len() > 1 {
+        let status = tftp_cmd::tftp_words(&rt, words.as_slice());
+        println!(rt; "status {status}")?;
+    }
+    Ok(())
+}
+
+/// Is `tftpd`, where this program was started as one.
+#[test]
+fn tftpd(rt: HostRuntime) -> Result<(), Fail> {
+    let words = words_of_a_program(&rt)?;
+    if words.len() > 1 {
+        let status = tftp_cmd::tftpd_words(&rt, words.as_slice());
+        println!(rt; "status {status}")?;
+    }
+    Ok(())
+}
+
+/// A command that runs this program as the other.
+pub(crate) fn program<R: Runtime + AllocGlobal>(
+    rt: &R,
+    name: &str,
+    words: &[&str],
+) -> Result<Command, Fail> {
+    let own = env::current_exe(rt)?;
+    let mut command = Command::new(rt.alloc(), own.as_path())?;
+    command.arg(name)?;
+    for word in words {
+        command.arg(*word)?;
+    }
+    Ok(command)
+}
+
+/// All that a program prints, its standard output before its standard error.
+pub(crate) fn told<R: Runtime + AllocGlobal + Processes>(
+    rt: &R,
+    name: &str,
+    words: &[&str],
+) -> Result<String, Fail> {
+    let output = program(rt, name, words)?.output(rt)?;
+    let mut told = String::new(rt.alloc());
+    told.push_str(str::from_utf8(output.stdout.as_slice())?)?;
+    told.push_str(str::from_utf8(output.stderr.as_slice())?)?;
+    Ok(told)
+}
