@@ -92,19 +92,19 @@ pairs_left ds i h =
     ∙ ap (λ k. get_or ds (2 * i) 0 ∷ get_or ds (2 * i + 1) 0 ∷ drop k ds) after
 
 -- so far: the bytes that stand, with those of the digits that are left, are those of all
-pub record GoesOn (ds bytes : List ℕ) (i largest : ℕ) : Type 0 where
+pub record PairsSoFar (ds bytes : List ℕ) (i largest : ℕ) : Type 0 where
   pub size : length ds ≡ 2 * length bytes
   pub within : i ≤ length bytes
   pub made : take i bytes ++ joined_pairs (drop (2 * i) ds) ≡ joined_pairs ds
   pub most : max largest (largest_of (drop (2 * i) ds)) ≡ largest_of ds
 
 -- before the first pair
-pub begins : (ds bytes : List ℕ) → length ds ≡ 2 * length bytes → GoesOn ds bytes 0 0
-begins ds bytes e = record { size = e; within = omega arith; made = refl; most = omega arith }
+pub pairs_begin : (ds bytes : List ℕ) → length ds ≡ 2 * length bytes → PairsSoFar ds bytes 0 0
+pairs_begin ds bytes e = record { size = e; within = omega arith; made = refl; most = omega arith }
 
 -- after a pair
-pub goes_on : (ds bytes : List ℕ) (i largest high low : ℕ) → i < length bytes → GoesOn ds bytes i largest → high ≡ value (get_or ds (2 * i) 0) → low ≡ value (get_or ds (2 * i + 1) 0) → GoesOn ds (set bytes i (joined high low)) (i + 1) (max (max largest high) low)
-goes_on ds bytes i largest high low in_range g h l =
+pub pairs_go_on : (ds bytes : List ℕ) (i largest high low : ℕ) → i < length bytes → PairsSoFar ds bytes i largest → high ≡ value (get_or ds (2 * i) 0) → low ≡ value (get_or ds (2 * i + 1) 0) → PairsSoFar ds (set bytes i (joined high low)) (i + 1) (max (max largest high) low)
+pairs_go_on ds bytes i largest high low in_range g h l =
     let left = pairs_left ds i (omega (arith, g.size)) in
     let rest = drop (2 * (i + 1)) ds in
     let made = take_more_set bytes i (joined high low) in_range in
@@ -118,8 +118,8 @@ goes_on ds bytes i largest high low in_range g h l =
     }
 
 -- after the last pair
-pub ends : (ds bytes : List ℕ) (i largest : ℕ) → length bytes ≤ i → GoesOn ds bytes i largest → Decodes (decode_of ds) (ltb largest 255) bytes
-ends ds bytes i largest e g =
+pub pairs_end : (ds bytes : List ℕ) (i largest : ℕ) → length bytes ≤ i → PairsSoFar ds bytes i largest → Decodes (decode_of ds) (ltb largest 255) bytes
+pairs_end ds bytes i largest e g =
     let none : drop (2 * i) ds ≡ [] = drop_of_length-le ds (omega (arith, g.size)) in
     let all : take i bytes ≡ bytes = take_all i bytes (omega arith) in
     let made : bytes ≡ joined_pairs ds = sym (append-nil bytes) ∙ ap (λ b. b ++ []) (sym all) ∙ ap (λ r. take i bytes ++ joined_pairs r) (sym none) ∙ g.made in

@@ -18,8 +18,8 @@ use tftp_wire::{PacketFault, decode_ref, laws, show_ref};
 /// Reads lines of hexadecimal digits, each a datagram, and writes for each its packet, or
 /// `fault KIND AT`, or `not hex`.
 ///
-/// The status is 0 if all lines were packets, 1 if not, and 2 if reading or writing failed or the run
-/// was out of memory. Memory is bounded by the longest line.
+/// The status is 0 if all lines were packets, 1 if not, and 2 if reading or writing failed or the
+/// run was out of memory. Memory is bounded by the longest line.
 pub fn show_run<R: Read + Drop, W: Write + Drop>(alloc: Global, input: R, output: W) -> u8
     ensures bound { result ≤ 2 }
     ensures known { IfSome (R.remaining input) (λ all. (result ≡ status_of all) ⊎ (result ≡ 2)) }
@@ -36,7 +36,8 @@ fn show_buffered<R: Read + Drop, W: Write + Drop>(
     input: R,
     output: W,
 ) -> io::Result<bool>
-    ensures { IfOk result (λ packets. IfSome (R.remaining input) (λ all. packets ≡ are_packets all)) }
+    ensures { IfOk result (λ packets. IfSome (R.remaining input) (λ all.
+        packets ≡ are_packets all)) }
 {
     let mut input = BufReader::new(alloc, input)?;
     let mut output = BufWriter::new(alloc, output)?;
@@ -87,8 +88,10 @@ fn without_end(line: &[u8]) -> &[u8]
 /// Appends what a line of digits holds, and answers whether that is a packet. The bytes are room to
 /// work in.
 fn show_line(digits: &[u8], bytes: &mut Vec<u8>, text: &mut String) -> Result<bool, AllocError>
-    ensures is_packet { IfOk result (λ is_packet. is_packet ≡ spells_packet (decode_of digits.now)) }
-    ensures appended { OnOk result (string_bytes text.new ≡ string_bytes text.old ++ line_shown digits.now) }
+    ensures is_packet { IfOk result (λ is_packet.
+        is_packet ≡ spells_packet (decode_of digits.now)) }
+    ensures appended { OnOk result
+        (string_bytes text.new ≡ string_bytes text.old ++ line_shown digits.now) }
 {
     if !decode_digits(digits, bytes)? {
         text.push_str("not hex")?;
@@ -97,11 +100,12 @@ fn show_line(digits: &[u8], bytes: &mut Vec<u8>, text: &mut String) -> Result<bo
     show_datagram(bytes.as_slice(), text).map_err(|_| AllocError)
 }
 
-/// Appends the packet of a datagram, or its first fault, and answers whether it is a packet. It fails
-/// only when out of memory.
+/// Appends the packet of a datagram, or its first fault, and answers whether it is a packet. It
+/// fails only when out of memory.
 pub(crate) fn show_datagram(bytes: &[u8], text: &mut String) -> Result<bool, PacketFault>
     ensures is_packet { IfOk result (λ is_packet. is_packet ≡ is_none (first_fault bytes.now)) }
-    ensures appended { OnOk result (string_bytes text.new ≡ string_bytes text.old ++ datagram_shown bytes.now (first_fault bytes.now)) }
+    ensures appended { OnOk result (string_bytes text.new
+        ≡ string_bytes text.old ++ datagram_shown bytes.now (first_fault bytes.now)) }
 {
     match decode_ref(bytes) {
         Ok(packet) => {

@@ -1,5 +1,5 @@
-use Rattle.tftp_cmd.proofs.DigitsLemmas.{GoesOn}
+use Rattle.tftp_cmd.proofs.DigitsLemmas.{PairsSoFar}
 use Rattle.tftp_cmd.proofs.show.digits.decode_pairs.Given as goal
 
 abbrev pub invariant-loop-i : goal.invariant-loop-i
-invariant-loop-i l = GoesOn l.digits l.bytes l.i l.largest
+invariant-loop-i l = PairsSoFar l.digits l.bytes l.i l.largest
