@@ -149,7 +149,10 @@ fn fetch_once<R: Runtime + AllocGlobal + Net>(rt: &R, job: &Job<'_>) -> Result<u
     let opened = End::get(
         alloc, job.server, name, job.mode, &job.asked, &config, &mut out,
     );
-    let (mut end, step) = opened.map_err(FetchFault::Open)?;
+    let (mut end, step) = match opened {
+        Ok(opened) => opened,
+        Err(fault) => return Err(FetchFault::Open(fault)),
+    };
     socket.send(&step, out.as_slice());
     let mut files: Files<MemSource, LocalFile<R>> = Files::Sink(local);
     let mut buffer = Vec::from_elem(alloc, 0u8, DATAGRAM_BUFFER)?;

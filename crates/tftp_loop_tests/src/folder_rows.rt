@@ -3,6 +3,7 @@
 use crate::scratch::scratch_folder;
 use std::alloc::Global;
 use std::fs;
+use std::os::unix::fs::symlink;
 use std::process::{self, Command};
 use std::test::Fail;
 use tftp_cmd::FolderStore;
@@ -43,10 +44,10 @@ fn opens_what_is_in_the_folder(rt: HostRuntime) -> Result<(), Fail> {
     fs::write(&rt, format!(in alloc; "{root}/a")?, "A\nB")?;
     fs::write(&rt, format!(in alloc; "{root}/sub/b")?, "BB")?;
     fs::write(&rt, format!(in alloc; "{folder}/secret")?, "S")?;
-    fs::symlink(&rt, "sub/b", format!(in alloc; "{root}/inner")?)?;
-    fs::symlink(&rt, "../secret", format!(in alloc; "{root}/outer")?)?;
-    fs::symlink(&rt, "..", format!(in alloc; "{root}/up")?)?;
-    fs::symlink(&rt, "nowhere", format!(in alloc; "{root}/dangling")?)?;
+    symlink(&rt, "sub/b", format!(in alloc; "{root}/inner")?)?;
+    symlink(&rt, "../secret", format!(in alloc; "{root}/outer")?)?;
+    symlink(&rt, "..", format!(in alloc; "{root}/up")?)?;
+    symlink(&rt, "nowhere", format!(in alloc; "{root}/dangling")?)?;
     let fifo = format!(in alloc; "{root}/fifo")?;
     Command::new(alloc, "mkfifo")?.arg(&fifo)?.status(&rt)?;
     let store = FolderStore::new(rt, alloc, root)?;

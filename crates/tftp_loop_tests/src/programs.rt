@@ -45,8 +45,8 @@ pub(crate) fn program<R: Runtime + AllocGlobal>(
     name: &str,
     words: &[&str],
 ) -> Result<Command, Fail> {
-    let own = env::current_exe(rt)?;
-    let mut command = Command::new(rt.alloc(), own.as_path())?;
+    let own = env::args(rt)?.next().ok_or("a program has a name")?;
+    let mut command = Command::new(rt.alloc(), own.as_str())?;
     command.arg(name)?;
     for word in words {
         command.arg(*word)?;
