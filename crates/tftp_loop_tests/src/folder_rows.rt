@@ -38,7 +38,7 @@ fn opens_what_is_in_the_folder(rt: HostRuntime) -> Result<(), Fail> {
     let alloc = rt.alloc();
     let folder = scratch_folder(&rt, process::id(rt.process()), "opens")?;
     let folder = folder.as_str();
-    let root = format!(in alloc; "{folder}/root")?;
+    let root = format!(in alloc; "{folder}/served")?;
     let root = root.as_str();
     fs::create_dir_all(&rt, format!(in alloc; "{root}/sub")?)?;
     fs::write(&rt, format!(in alloc; "{root}/a")?, "A\nB")?;

@@ -14,7 +14,7 @@ fn loopback(rt: HostRuntime) -> Result<(), Fail> {
     let alloc = rt.alloc();
     let folder = scratch_folder(&rt, process::id(rt.process()), "loopback")?;
     let folder = folder.as_str();
-    let root = format!(in alloc; "{folder}/root")?;
+    let root = format!(in alloc; "{folder}/served")?;
     let local = format!(in alloc; "{folder}/local")?;
     fs::create_dir_all(&rt, root.as_str())?;
     let file = format!(in alloc; "{root}/a")?;
