@@ -1,9 +1,10 @@
+-- Each act of an end, each opening and each datagram of a world is shown again.
 use Rattle.std.proofs.Common.{◌≡◌, ℕ, ◌+◌, ◌<◌, ◌≤◌, Bool, true, false, List, [], ◌∷◌, ◌++◌, length, set, Some, None, sym, refl, ◌∙◌, subst}
 use Rattle.std.specs.Prelude.{slice_get, nat_lt, if◌then◌else◌}
 use Rattle.std.specs.List.{Contains}
 use Rattle.std.proofs.lemmas.List.{append-nil}
 use Rattle.std.proofs.lemmas.Bool.{true≢false}
-use Rattle.tftp_wire.specs.declared.mode.Mode.{Mode}
+use Rattle.tftp_wire.specs.declared.packet.Request.{Request as WireRequest}
 use Rattle.tftp_file.specs.Block.{block, block_count, Fits, IsBeginningOf}
 use Rattle.tftp_player.specs.Machine.{Endpoint, server_ip, client_ip, At_server, At_client, Elsewhere, host_of, request_port, Packet, Request, Data, Ack, Oack, Error, Message, Party}
 use Rattle.tftp_player.specs.Rules.{Rule, Asks, Opens_plainly, Opens_with, Takes_oack, Takes_ack, Takes_data, Appends, Sends_next, Completes, Fails, Fails_with, Says_error, Repeats, Strays, message, asking, opened, HasText}
@@ -199,24 +200,24 @@ pub strays : (views : List EndView) (messages : List Message) → IsShown views 
 strays views messages h stray o = shown_speaks views messages (Strays stray) h tt o
 
 -- a client opens; a reader has no text
-pub asks : (views : List EndView) (messages : List Message) → IsShown views messages → (a : Endpoint) (write : Bool) (mode : Mode) (text : List ℕ) →
+pub asks : (views : List EndView) (messages : List Message) → IsShown views messages → (a : Endpoint) (write : Bool) (request : WireRequest) (text : List ℕ) →
     a.ip ≡ client_ip → a.port ≡ 1024 + length views → (write ≡ false → text ≡ []) →
-    IsShown (views ++ view_of a (asking write mode text) ∷ []) (messages ++ message a request_port (Request write mode) ∷ [])
-asks views messages h a write mode text ip port none =
-    shown_opens views messages (view_of a (asking write mode text)) (Asks a write mode text) h tt (refl, host_client a ip, none) refl port (match_self a (asking write mode text) refl)
+    IsShown (views ++ view_of a (asking write request text) ∷ []) (messages ++ message a request_port (Request write request) ∷ [])
+asks views messages h a write request text ip port none =
+    shown_opens views messages (view_of a (asking write request text)) (Asks a write request text) h tt (refl, host_client a ip, none) refl port (match_self a (asking write request text) refl)
 
 -- a request opens an end at the server, with no options
-pub serves_plainly : (views : List EndView) (messages : List Message) → IsShown views messages → (a peer : Endpoint) (write : Bool) (mode : Mode) (text : List ℕ) →
-    a.ip ≡ server_ip → a.port ≡ 1024 + length views → Contains messages (message peer request_port (Request write mode)) → HasText write text 512 →
-    IsShown (views ++ view_of a (opened true peer write mode text 512 (if write then 0 else 1)) ∷ []) (messages ++ message a peer (if write then Ack 0 else Data 1 (block text 512 1)) ∷ [])
-serves_plainly views messages h a peer write mode text ip port c has =
-    let x = opened true peer write mode text 512 (if write then 0 else 1) in
-    shown_opens views messages (view_of a x) (Opens_plainly a peer write mode text) h tt (refl, host_server a ip, c, has) refl port (match_self a x refl)
+pub serves_plainly : (views : List EndView) (messages : List Message) → IsShown views messages → (a peer : Endpoint) (write : Bool) (request : WireRequest) (text : List ℕ) →
+    a.ip ≡ server_ip → a.port ≡ 1024 + length views → Contains messages (message peer request_port (Request write request)) → HasText write text 512 →
+    IsShown (views ++ view_of a (opened true peer write request text 512 (if write then 0 else 1)) ∷ []) (messages ++ message a peer (if write then Ack 0 else Data 1 (block text 512 1)) ∷ [])
+serves_plainly views messages h a peer write request text ip port c has =
+    let x = opened true peer write request text 512 (if write then 0 else 1) in
+    shown_opens views messages (view_of a x) (Opens_plainly a peer write request text) h tt (refl, host_server a ip, c, has) refl port (match_self a x refl)
 
 -- a request opens an end at the server, with options
-pub serves_with : (views : List EndView) (messages : List Message) → IsShown views messages → (a peer : Endpoint) (write : Bool) (mode : Mode) (text : List ℕ) (size : ℕ) →
-    a.ip ≡ server_ip → a.port ≡ 1024 + length views → Contains messages (message peer request_port (Request write mode)) → HasText write text size → 0 < size →
-    IsShown (views ++ view_of a (opened false peer write mode text size 0) ∷ []) (messages ++ message a peer (Oack size) ∷ [])
-serves_with views messages h a peer write mode text size ip port c has positive =
-    let x = opened false peer write mode text size 0 in
-    shown_opens views messages (view_of a x) (Opens_with a peer write mode text size) h tt (refl, host_server a ip, c, has, positive) refl port (match_self a x refl)
+pub serves_with : (views : List EndView) (messages : List Message) → IsShown views messages → (a peer : Endpoint) (write : Bool) (request : WireRequest) (text : List ℕ) (size : ℕ) →
+    a.ip ≡ server_ip → a.port ≡ 1024 + length views → Contains messages (message peer request_port (Request write request)) → HasText write text size → 0 < size →
+    IsShown (views ++ view_of a (opened false peer write request text size 0) ∷ []) (messages ++ message a peer (Oack size) ∷ [])
+serves_with views messages h a peer write request text size ip port c has positive =
+    let x = opened false peer write request text size 0 in
+    shown_opens views messages (view_of a x) (Opens_with a peer write request text size) h tt (refl, host_server a ip, c, has, positive) refl port (match_self a x refl)

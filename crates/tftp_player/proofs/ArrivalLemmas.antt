@@ -64,7 +64,7 @@ module _ (from to : Endpoint) (bytes : List ℕ) (before after : PlayedServer) (
       ∙ (ap (λ (ds : List Datagram). world_of before.config ds after ps') (append-nil sent)
       ∙ (ap (λ (st : Stored). record (old sent) { files = st.files; ends = ends_of after ps' }) store ∙ ap (λ (xs : List OpenedEnd). record (old sent) { ends = xs }) lost.next))
 
-  decoded_as : (sent : List Datagram) (place : ℕ) (x : OpenedEnd) → after.store ≡ before.store → (h : DatagramAt place x from bytes before.store.files (ends_of before ps) (ends_of after ps') effect) →
+  decoded_as : (sent : List Datagram) (place : ℕ) (x : OpenedEnd) → after.store ≡ before.store → (h : DatagramAt place x from bytes before.config.overwrite before.store.files (ends_of before ps) (ends_of after ps') effect) →
       new sent ≡ turned (old sent) place x h.turn h.held
   decoded_as sent place x store h =
       ap (λ (e : Effect). world_of before.config (sent ++ said_by e.from e.to e.bytes) after ps') h.turns.effects
@@ -76,7 +76,7 @@ module _ (from to : Endpoint) (bytes : List ℕ) (before after : PlayedServer) (
   step_arrives place port t sent = by_case t.comes where
     by_case : ((t.end.address ≢ to) × LostAt to (ends_of before ps) (ends_of after ps') effect)
         ⊎ ((t.end.address ≡ to) × (((is_closed t.end ≡ true) × LostAt to (ends_of before ps) (ends_of after ps') effect)
-        ⊎ DatagramAt place t.end from bytes before.store.files (ends_of before ps) (ends_of after ps') effect)) →
+        ⊎ DatagramAt place t.end from bytes before.config.overwrite before.store.files (ends_of before ps) (ends_of after ps') effect)) →
         ArrivesToday (old sent) from to bytes (report_by sent effect) (new sent)
     by_case (inl (differs, lost)) =
         elsewhere (old sent) (old sent) (new sent) from to bytes no_report (report_by sent effect) away (ap (report_by sent) lost.effects) (still sent t.same.store lost)

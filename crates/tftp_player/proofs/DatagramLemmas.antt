@@ -16,7 +16,7 @@ use Rattle.tftp_player.specs.PlayedClient.{PlayedClient}
 use Rattle.tftp_player.specs.Played.{client_end, sending_served, end_at, PlayerKept, PlayerDatagramStep, has_ended, address_of}
 use Rattle.tftp_player.specs.Serving.{PlayedServer, Transfer}
 use Rattle.tftp_player.specs.Stage.{ends_of, IsStaged, LostAt, StageDatagramStep, record_closed}
-use Rattle.tftp_player.specs.World.{OpenedEnd, file_at, is_closed, files_of, end_after, has_committed}
+use Rattle.tftp_player.specs.World.{OpenedEnd, file_at, in_the_way, is_closed, files_of, end_after, has_committed}
 use Rattle.tftp_player.specs.WorldSteps.{never_fails, may_refuse_append, may_refuse_commit, FilesAfter}
 use Rattle.tftp_player.specs.declared.effect.Effect.{Effect}
 use Rattle.tftp_player.specs.declared.player.Player.{Player}
@@ -33,15 +33,15 @@ use Rattle.tftp_player.proofs.TurnKeeps.{step_keeps}
 pub record PlayerStepped (port : ℕ) (x : OpenedEnd) (p' : Player) (before after : PlayedServer) (from : Endpoint) (bytes : List ℕ) (effect : Effect) (r : Record) : Type 0 where
   pub turn : Turn
   pub held : Files (List ℕ) Holding
-  pub steps : DatagramStep (λ (s : List ℕ). Some s) never_fails (λ (h : Holding). Some h) may_refuse_append (may_refuse_commit (is_client x.state.side) (file_at before.store.files x.path)) from bytes x.state (files_of x) turn held
-  pub commits : FilesAfter (not (is_client x.state.side) && has_committed x (end_after x turn held)) x.path (end_after x turn held).stored before.store.files before.store.files
+  pub steps : DatagramStep (λ (s : List ℕ). Some s) never_fails (λ (h : Holding). Some h) may_refuse_append (may_refuse_commit (is_client x.state.side) (in_the_way before.config.overwrite (file_at before.store.files x.path))) from bytes x.state (files_of x) turn held
+  pub commits : FilesAfter before.config.overwrite (not (is_client x.state.side) && has_committed x (end_after x turn held)) x.path (end_after x turn held).stored before.store.files before.store.files
   pub stepped : Stepped port x p' before after turn held effect r
 
 client_stepped : (port : ℕ) (c c' : PlayedClient) (server : PlayedServer) (from : Endpoint) (bytes : List ℕ) (effect : Effect) (r : Record) →
     PlayerKept port server.held (Client c) → is_some (outcome_of c.end.phase) ≡ false → ClientDatagramStep port from bytes c c' effect r →
     PlayerStepped port (client_end port c) (Client c') server server from bytes effect r
 client_stepped port c c' server from bytes effect r kept open_now t =
-    let there = file_at server.store.files [] in
+    let there = in_the_way server.config.overwrite (file_at server.store.files []) in
     let one : DatagramStep (λ (s : List ℕ). Some s) never_fails (λ (h : Holding). Some h) may_refuse_append (may_refuse_commit true there) from bytes c.end c.files t.turn c'.files = t.steps in
     let two : DatagramStep (λ (s : List ℕ). Some s) never_fails (λ (h : Holding). Some h) may_refuse_append (may_refuse_commit (is_client c.end.side) there) from bytes c.end c.files t.turn c'.files =
     subst (λ (b : Bool). DatagramStep (λ (s : List ℕ). Some s) never_fails (λ (h : Holding). Some h) may_refuse_append (may_refuse_commit b there) from bytes c.end c.files t.turn c'.files) (sym kept.0) one in
@@ -49,21 +49,21 @@ client_stepped port c c' server from bytes effect r kept open_now t =
       turn = t.turn;
       held = c'.files;
       steps = subst (λ (f : Files (List ℕ) Holding). DatagramStep (λ (s : List ℕ). Some s) never_fails (λ (h : Holding). Some h) may_refuse_append (may_refuse_commit (is_client c.end.side) there) from bytes c.end f t.turn c'.files) (sym (client_files port c kept.1)) two;
-      commits = client_commits (is_client c.end.side) _ [] _ server.store.files kept.0;
+      commits = client_commits server.config.overwrite (is_client c.end.side) _ [] _ server.store.files kept.0;
       stepped = client_open port c c' server t.turn c'.files effect r kept open_now t.turns t.kind (step_keeps (may_refuse_commit true None) from bytes c.end c.files c'.files t.turn t.steps);
     }
 
 served_stepped : (port : ℕ) (s s' : Served) (before after : PlayedServer) (from : Endpoint) (bytes : List ℕ) (effect : Effect) (r : Record) (h : Transfer) (left : List ℕ) (turn : Turn) (left' : List ℕ) →
     at port before.held ≡ Some h → is_sender h.end.side ≡ true →
-    DatagramStep (λ (q : List ℕ). Some q) never_fails (λ (q : Holding). Some q) may_refuse_append (may_refuse_commit (is_client h.end.side) (file_at before.store.files s.path)) from bytes h.end (Source left) turn (Source left') →
+    DatagramStep (λ (q : List ℕ). Some q) never_fails (λ (q : Holding). Some q) may_refuse_append (may_refuse_commit (is_client h.end.side) (in_the_way before.config.overwrite (file_at before.store.files s.path))) from bytes h.end (Source left) turn (Source left') →
     Stepped port (sending_served port s h.end left) (Server s') before after turn (Source left') effect r →
     PlayerStepped port (sending_served port s h.end left) (Server s') before after from bytes effect r
 served_stepped port s s' before after from bytes effect r h left turn left' found sender steps stepped = record {
   turn = turn;
   held = Source left';
-  steps = subst (λ (f : Files (List ℕ) Holding). DatagramStep (λ (q : List ℕ). Some q) never_fails (λ (q : Holding). Some q) may_refuse_append (may_refuse_commit (is_client h.end.side) (file_at before.store.files s.path)) from bytes h.end f turn (Source left'))
+  steps = subst (λ (f : Files (List ℕ) Holding). DatagramStep (λ (q : List ℕ). Some q) never_fails (λ (q : Holding). Some q) may_refuse_append (may_refuse_commit (is_client h.end.side) (in_the_way before.config.overwrite (file_at before.store.files s.path))) from bytes h.end f turn (Source left'))
       (sym (sending_files port s h.end left sender)) steps;
-  commits = files_same (is_client h.end.side) false false s.path [] before.store.files refl;
+  commits = files_same before.config.overwrite (is_client h.end.side) false false s.path [] before.store.files refl;
   stepped = stepped;
 }
 
@@ -78,8 +78,8 @@ player_stepped port (Server s) (Server s') before after from bytes effect r kept
     let h = t.0 in
     let is : end_at port before.held (Server s) ≡ sending_served port s h.end t.1 = served_is port s before.held h t.1 open_now t.4 t.5 in
     let sender : is_sender h.end.side ≡ true = sender_of port s before.held h t.4 (served_kept port s before.held open_now kept) in
-    let steps = read_stepped (may_refuse_commit (is_client h.end.side) (file_at before.store.files s.path)) from bytes h.end t.1 t.3 t.2 t.6 in
-    let stepped = served_steps port s s' before after h t.1 t.2 t.3 effect r t.4 t.5 open_now kept (step_keeps (may_refuse_commit (is_client h.end.side) (file_at before.store.files s.path)) from bytes h.end (Source t.1) (Source t.3) t.2 steps) t.7 in
+    let steps = read_stepped (may_refuse_commit (is_client h.end.side) (in_the_way before.config.overwrite (file_at before.store.files s.path))) from bytes h.end t.1 t.3 t.2 t.6 in
+    let stepped = served_steps port s s' before after h t.1 t.2 t.3 effect r t.4 t.5 open_now kept (step_keeps (may_refuse_commit (is_client h.end.side) (in_the_way before.config.overwrite (file_at before.store.files s.path))) from bytes h.end (Source t.1) (Source t.3) t.2 steps) t.7 in
     subst (λ (x : OpenedEnd). PlayerStepped port x (Server s') before after from bytes effect r) (sym is)
     (served_stepped port s s' before after from bytes effect r h t.1 t.2 t.3 t.4 sender steps
     (subst (λ (x : OpenedEnd). Stepped port x (Server s') before after t.2 (Source t.3) effect r) is stepped))

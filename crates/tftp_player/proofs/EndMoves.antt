@@ -1,3 +1,4 @@
+-- What an open end answers where no file is touched: ERRORs, resent datagrams, acknowledgements.
 use Rattle.std.proofs.Common.{◌≡◌, ℕ, ◌-◌, Bool, true, false, List, [], ◌∷◌, ◌++◌, length, set, Option, Some, None, sym, refl, ap, ◌∙◌, subst, arith, inl}
 use Rattle.std.specs.Prelude.{◌⊎◌, ◌==◌, if◌then◌else◌, not, nat_le, is_some}
 use Rattle.std.specs.List.{Contains}

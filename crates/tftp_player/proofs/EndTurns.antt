@@ -1,3 +1,4 @@
+-- An open end with any datagram, and at a timeout.
 use Rattle.std.proofs.Common.{◌≡◌, ℕ, Bool, true, false, List, [], Option, Some, sym, refl, ap, ◌∙◌, inl}
 use Rattle.std.specs.Prelude.{◌==◌, ◌&&◌, if◌then◌else◌, is_none, is_some}
 use Rattle.std.proofs.lemmas.Bool.{true≢false}

@@ -1,3 +1,4 @@
+-- An open end of the machine goes on: what stays of it, and what was told of it stays true.
 use Rattle.std.proofs.Common.{◌≡◌, ◌≤◌, true, not, List, ◌++◌, Some, sym, refl, ap, ◌∙◌, subst, arith, inl, inr}
 use Rattle.std.specs.Prelude.{◌≢◌}
 use Rattle.std.specs.List.{Contains}
@@ -43,7 +44,7 @@ AllGrow-with ends a x g = record {
 }
 
 pub Told-grows : (x y : Party) → (x.is_open ≡ true → Grows x y) → (to : Endpoint) (k : Packet) → Told x to k → Told y to k
-Told-grows x y f to (Request write mode) h = let g = f h.is_open in
+Told-grows x y f to (Request write request) h = let g = f h.is_open in
     record { is_open = g.is_open; client = g.client ∙ h.client; sender = g.sender ∙ h.sender; mode = g.mode ∙ h.mode }
 Told-grows x y f to (Data n bytes) h = let g = f h.is_open in
     record { is_open = g.is_open; sender = g.sender ∙ h.sender; peer = g.peer to h.peer; first = h.first; number = omega (arith, h.number, g.number); bytes = rw (g.text h.sender, g.size to h.peer) h.bytes }

@@ -1,3 +1,4 @@
+-- Each rule of the machine keeps what carries the proof that it is safe.
 use Rattle.std.proofs.Common.{◌≡◌, ◌+◌, true, false, [], ◌∷◌, ◌++◌, length, Some, None, sym, refl, ◌∙◌, arith, inl, inr}
 use Rattle.std.specs.Prelude.{if◌then◌else◌, nat_lt}
 use Rattle.std.proofs.lemmas.Bool.{true≢false, cases_Bool}
@@ -11,18 +12,18 @@ use Rattle.tftp_player.proofs.Opening.{asks, opens, takes, told_first}
 use Rattle.tftp_player.proofs.Moving.{received_more, received_failed, receives, sends, last_acked, fails, says}
 
 pub keeps : (r : Rule) (m : Machine) → Holds m → Guard r m → Holds (after r m)
-keeps (Asks at write mode text) m h g = asks m h at write mode text g
-keeps (Opens_plainly at peer true mode text) m h g =
-    opens m h at peer true true mode text 512 0 g.0 g.1 g.2 (omega arith) (λ _. refl) (λ _. refl) (λ _. (g.3, refl)) (Ack 0)
+keeps (Asks at write request text) m h g = asks m h at write request text g
+keeps (Opens_plainly at peer true request text) m h g =
+    opens m h at peer true true request text 512 0 g.0 g.1 g.2 (omega arith) (λ _. refl) (λ _. refl) (λ _. (g.3, refl)) (Ack 0)
     (record { is_open = refl; sender = refl; peer = refl; number = omega arith; plain = λ _ _. refl })
-keeps (Opens_plainly at peer false mode text) m h g =
-    opens m h at peer false true mode text 512 1 g.0 g.1 g.2 (omega arith) (λ _. refl) (λ e. cc) (λ e. cc) (Data 1 (block text 512 1))
+keeps (Opens_plainly at peer false request text) m h g =
+    opens m h at peer false true request text 512 1 g.0 g.1 g.2 (omega arith) (λ _. refl) (λ e. cc) (λ e. cc) (Data 1 (block text 512 1))
     (record { is_open = refl; sender = refl; peer = refl; first = omega arith; number = omega arith; bytes = refl })
-keeps (Opens_with at peer true mode text size) m h g =
-    opens m h at peer true false mode text size 0 g.0 g.1 g.2 g.4 (λ e. cc) (λ _. refl) (λ _. (g.3, refl)) (Oack size)
+keeps (Opens_with at peer true request text size) m h g =
+    opens m h at peer true false request text size 0 g.0 g.1 g.2 g.4 (λ e. cc) (λ _. refl) (λ _. (g.3, refl)) (Oack size)
     (record { is_open = refl; client = refl; plain = refl; peer = refl; size = refl })
-keeps (Opens_with at peer false mode text size) m h g =
-    opens m h at peer false false mode text size 0 g.0 g.1 g.2 g.4 (λ e. cc) (λ _. refl) (λ e. cc) (Oack size)
+keeps (Opens_with at peer false request text size) m h g =
+    opens m h at peer false false request text size 0 g.0 g.1 g.2 g.4 (λ e. cc) (λ _. refl) (λ e. cc) (Oack size)
     (record { is_open = refl; client = refl; plain = refl; peer = refl; size = refl })
 keeps (Takes_oack at peer size) m h g =
     let w = g.0 in

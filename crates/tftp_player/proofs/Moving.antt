@@ -1,3 +1,4 @@
+-- A receiver that stores a block, a sender that goes on, an end that gives up.
 use Rattle.std.proofs.Common.{◌≡◌, ℕ, ◌+◌, ◌*◌, ◌<◌, ◌≤◌, true, false, List, [], ◌∷◌, ◌++◌, length, take, Some, None, sym, refl, ◌∙◌, subst, arith, inl, inr}
 use Rattle.std.specs.Prelude.{◌≢◌, nat_lt}
 use Rattle.std.specs.List.{Contains}

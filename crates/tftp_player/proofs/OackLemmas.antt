@@ -1,3 +1,4 @@
+-- The OACK of a server is a packet: its options have bytes, and there are three at most.
 use Rattle.std.proofs.Common.{◌≡◌, ℕ, ◌+◌, ◌*◌, ◌^◌, ◌<◌, ◌≤◌, Bool, true, false, cond, List, [], ◌∷◌, ◌++◌, length, map, Result, Ok, Err, decimal, sym, refl, ap, ◌∙◌, subst, arith, inl, inr, suc}
 use Rattle.std.specs.Prelude.{◌≢◌, ◌||◌, nat_lt}
 use Rattle.std.specs.List.{AllByRecursion}

@@ -1,8 +1,9 @@
+-- A client that asks, a server's end that opens, a client that takes its peer.
 use Rattle.std.proofs.Common.{◌≡◌, ℕ, ◌<◌, Bool, true, false, not, List, [], ◌∷◌, ◌++◌, Some, None, sym, refl, ap, ◌∙◌, subst, arith}
 use Rattle.std.specs.Prelude.{◌≢◌, if◌then◌else◌}
 use Rattle.std.specs.List.{Contains}
 use Rattle.std.proofs.lemmas.Bool.{true≢false, cond_both}
-use Rattle.tftp_wire.specs.declared.mode.Mode.{Mode}
+use Rattle.tftp_wire.specs.declared.packet.Request.{Request as WireRequest}
 use Rattle.tftp_file.specs.Block.{block}
 use Rattle.tftp_player.specs.Machine.{Endpoint, At_server, Elsewhere, host_of, request_port, Packet, Request, Data, Ack, Message, Party, Machine, with_end}
 use Rattle.tftp_player.specs.Rules.{Asks, message, Waits, taken, opened, asking, Guard, after}
@@ -11,10 +12,10 @@ use Rattle.tftp_player.proofs.Grows.{Grows, AllGrow-with, IsServing-grows, kept}
 use Rattle.tftp_player.proofs.Steps.{not-not, flip, own_of, received_nothing}
 use Rattle.tftp_player.proofs.Telling.{told_one}
 
-pub asks : (m : Machine) → Holds m → (at : Endpoint) (write : Bool) (mode : Mode) (text : List ℕ) → Guard (Asks at write mode text) m → Holds (after (Asks at write mode text) m)
-asks m h at write mode text g =
-    let x = asking write mode text in
-    kept m at x (message at request_port (Request write mode) ∷ []) h
+pub asks : (m : Machine) → Holds m → (at : Endpoint) (write : Bool) (request : WireRequest) (text : List ℕ) → Guard (Asks at write request text) m → Holds (after (Asks at write request text) m)
+asks m h at write request text g =
+    let x = asking write request text in
+    kept m at x (message at request_port (Request write request) ∷ []) h
     (λ o. absurd (true≢false (sym o ∙ g.0)))
     (λ _. record {
       at_home = g.1;
@@ -28,15 +29,15 @@ asks m h at write mode text g =
       received = λ s p e o. cc;
       ended = λ s d p e o. cc;
     })
-    (told_one m.party at x request_port (Request write mode) (record { is_open = refl; client = refl; sender = refl; mode = refl }))
+    (told_one m.party at x request_port (Request write request) (record { is_open = refl; client = refl; sender = refl; mode = refl }))
 
-pub opens : (m : Machine) → Holds m → (at peer : Endpoint) (write plain : Bool) (mode : Mode) (text : List ℕ) (size number : ℕ) →
-    (m.party at).is_open ≡ false → host_of at ≡ At_server → Contains m.sent (message peer request_port (Request write mode)) → 0 < size →
+pub opens : (m : Machine) → Holds m → (at peer : Endpoint) (write plain : Bool) (request : WireRequest) (text : List ℕ) (size number : ℕ) →
+    (m.party at).is_open ≡ false → host_of at ≡ At_server → Contains m.sent (message peer request_port (Request write request)) → 0 < size →
     (plain ≡ true → size ≡ 512) → (plain ≡ false → number ≡ 0) → (write ≡ true → (text ≡ []) × (number ≡ 0)) →
-    (k : Packet) → Told (opened plain peer write mode text size number) peer k →
-    Holds (record { sent = m.sent ++ message at peer k ∷ []; party = with_end m.party at (opened plain peer write mode text size number) })
-opens m h at peer write plain mode text size number closed server request positive small begins empty k t =
-    let x = opened plain peer write mode text size number in
+    (k : Packet) → Told (opened plain peer write request text size number) peer k →
+    Holds (record { sent = m.sent ++ message at peer k ∷ []; party = with_end m.party at (opened plain peer write request text size number) })
+opens m h at peer write plain request text size number closed server asks_so positive small begins empty k t =
+    let x = opened plain peer write request text size number in
     let all = AllGrow-with m.party at x (λ o. absurd (true≢false (sym o ∙ closed))) in
     let new = with_end m.party at x in
     kept m at x (message at peer k ∷ []) h
@@ -49,7 +50,7 @@ opens m h at peer write plain mode text size number closed server request positi
       has_peer = λ c. (peer, refl);
       asked = λ c p e o.
           let same : peer ≡ p = cc in
-          let asked_by = h.told (message peer request_port (Request write mode)) request (rw same o) in
+          let asked_by = h.told (message peer request_port (Request write request)) asks_so (rw same o) in
           let grown = (all.grows peer asked_by.is_open) in
           subst (λ (q : Endpoint). HasAsked x (new q)) same
           (record { is_open = grown.is_open; client = grown.client ∙ asked_by.client; mode = grown.mode ∙ asked_by.mode; sender = grown.sender ∙ (asked_by.sender ∙ sym (not-not write)) });

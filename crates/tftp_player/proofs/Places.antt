@@ -1,3 +1,4 @@
+-- What stands at a place of a list after a write or a push.
 use Rattle.std.proofs.Common.{◌≡◌, ℕ, List, [], ◌∷◌, ◌++◌, length, set, Some, None, refl, ap, arith, inl, inr, zero, suc}
 use Rattle.std.specs.Prelude.{◌≢◌, ◌⊎◌, slice_get}
 

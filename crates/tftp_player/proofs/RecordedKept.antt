@@ -1,3 +1,4 @@
+-- Each rule of the machine keeps the record of what was sent before an end came to be what it is.
 use Rattle.std.proofs.Common.{◌≡◌, ℕ, ◌+◌, Bool, true, false, not, List, [], ◌∷◌, ◌++◌, length, Some, None, sym, refl, ap, ◌∙◌, subst, arith, inl, inr}
 use Rattle.std.specs.Prelude.{◌≢◌, if◌then◌else◌, nat_lt}
 use Rattle.std.specs.List.{Contains}
@@ -16,7 +17,7 @@ use Rattle.tftp_player.proofs.Keeps.{keeps}
 -- more was sent
 more : (sent added : List Message) (a : Endpoint) (x : Party) → IsRecorded sent a x → IsRecorded (sent ++ added) a x
 more sent added a x h = record {
-  requested = λ c p e. Contains-append_left sent added (message p request_port (Request (not x.sender) x.mode)) (h.requested c p e);
+  requested = λ c p e. Contains-append_left sent added (message p request_port (Request (not x.sender) x.request)) (h.requested c p e);
   oack = λ c f p e. Contains-append_left sent added (message a p (Oack x.size)) (h.oack c f p e);
   begun = λ c s f n p e. Contains-append_left sent added (message p a (Ack 0)) (h.begun c s f n p e);
   ended = λ s d p e. Contains-append_left sent added (message p a (Ack (block_count x.text x.size))) (h.ended s d p e);
@@ -66,7 +67,7 @@ first_one : (P : Endpoint → Endpoint → Type 0) (d : Message) → (d.packet �
 first_one P d f y p own i = one_sent (λ e. e.packet ≡ Ack 0 → host_of e.from ≢ Elsewhere → P e.from e.to) d f (message y p (Ack 0)) i refl own
 
 opens : (m : Machine) → Holds m → AreRecorded m → (at peer : Endpoint) (x : Party) (k : Packet) → (m.party at).is_open ≡ false → x.client ≡ false → x.done ≡ false →
-    ((p : Endpoint) → x.peer ≡ Some p → peer ≡ p) → Contains m.sent (message peer request_port (Request (not x.sender) x.mode)) →
+    ((p : Endpoint) → x.peer ≡ Some p → peer ≡ p) → Contains m.sent (message peer request_port (Request (not x.sender) x.request)) →
     (x.plain ≡ false → (x.number ≡ 0) × (k ≡ Oack x.size)) → (k ≡ Ack 0 → x.plain ≡ true) →
     AreRecorded (record { sent = m.sent ++ message at peer k ∷ []; party = with_end m.party at x })
 opens m h r at peer x k closed client alive same asked with plain =
@@ -74,8 +75,8 @@ opens m h r at peer x k closed client alive same asked with plain =
     kept m at x added h r
     (λ o. absurd (true≢false (sym o ∙ closed)))
     (λ _. record {
-      requested = λ c p e. subst (λ (q : Endpoint). Contains (m.sent ++ added) (message q request_port (Request (not x.sender) x.mode))) (same p e)
-          (Contains-append_left m.sent added (message peer request_port (Request (not x.sender) x.mode)) asked);
+      requested = λ c p e. subst (λ (q : Endpoint). Contains (m.sent ++ added) (message q request_port (Request (not x.sender) x.request))) (same p e)
+          (Contains-append_left m.sent added (message peer request_port (Request (not x.sender) x.request)) asked);
       oack = λ c f p e. let w = with f in subst (λ (q : Endpoint). Contains (m.sent ++ added) (message at q (Oack x.size))) (same p e) (subst (λ (j : Packet). Contains (m.sent ++ added) (message at peer j)) w.1 (Contains-push m.sent (message at peer k)));
       begun = λ c s f n p e. absurd (let z = (with f).0 in omega arith);
       ended = λ s d p e. absurd (true≢false (sym d ∙ alive));
@@ -108,14 +109,14 @@ says m h r d f =
     (first_one (λ y p. IsFirstAck all y (with_end m.party at x y) p) d
     (λ z own. let b = f z own in subst (λ (v : Party). IsFirstAck all at v d.to) (sym (with_at m.party at x)) (b.0, λ c. Contains-append_left m.sent (d ∷ []) (message d.to at (Oack x.size)) (b.1 c))))
 
-receives : (m : Machine) → Holds m → AreRecorded m → (at : Endpoint) (x : Party) → (m.party at).is_open ≡ true → x.client ≡ (m.party at).client → x.plain ≡ (m.party at).plain → x.peer ≡ (m.party at).peer → x.size ≡ (m.party at).size → x.sender ≡ (m.party at).sender → x.mode ≡ (m.party at).mode → x.sender ≡ false → (added : List Message) →
+receives : (m : Machine) → Holds m → AreRecorded m → (at : Endpoint) (x : Party) → (m.party at).is_open ≡ true → x.client ≡ (m.party at).client → x.plain ≡ (m.party at).plain → x.peer ≡ (m.party at).peer → x.size ≡ (m.party at).size → x.sender ≡ (m.party at).sender → x.request ≡ (m.party at).request → x.sender ≡ false → (added : List Message) →
     ((y p : Endpoint) → host_of y ≢ Elsewhere → Contains added (message y p (Ack 0)) → IsFirstAck (m.sent ++ added) y (with_end m.party at x y) p) →
     AreRecorded (record { sent = m.sent ++ added; party = with_end m.party at x })
-receives m h r at x o client plain peer size sender mode receiver added first =
+receives m h r at x o client plain peer size sender request receiver added first =
     let b = more m.sent added at (m.party at) (r.ends at o) in
     kept m at x added h r (λ _. (client, plain, λ p e. size))
     (λ _. record {
-      requested = λ c p e. rw (sender, mode) (b.requested (sym client ∙ c) p (sym peer ∙ e));
+      requested = λ c p e. rw (sender, request) (b.requested (sym client ∙ c) p (sym peer ∙ e));
       oack = λ c f p e. rw size (b.oack (sym client ∙ c) (sym plain ∙ f) p (sym peer ∙ e));
       begun = λ c s f n p e. absurd (true≢false (sym s ∙ receiver));
       ended = λ s d p e. absurd (true≢false (sym s ∙ receiver));
@@ -123,11 +124,11 @@ receives m h r at x o client plain peer size sender mode receiver added first =
     first
 
 pub recorded_keeps : (r : Rule) (m : Machine) → Holds m → AreRecorded m → Guard r m → AreRecorded (after r m)
-recorded_keeps (Asks at write mode text) m h r g =
-    kept m at (asking write mode text) (message at request_port (Request write mode) ∷ []) h r
+recorded_keeps (Asks at write request text) m h r g =
+    kept m at (asking write request text) (message at request_port (Request write request) ∷ []) h r
     (λ o. absurd (true≢false (sym o ∙ g.0)))
     (λ _. record { requested = λ c p e. cc; oack = λ c f p e. cc; begun = λ c s f n p e. cc; ended = λ s d p e. cc })
-    (other (λ y p. IsFirstAck (m.sent ++ message at request_port (Request write mode) ∷ []) y (with_end m.party at (asking write mode text) y) p) at request_port (Request write mode) (λ e. cc))
+    (other (λ y p. IsFirstAck (m.sent ++ message at request_port (Request write request) ∷ []) y (with_end m.party at (asking write request text) y) p) at request_port (Request write request) (λ e. cc))
 recorded_keeps (Fails at) m h r g =
     let x = record (m.party at) { failed = true } in
     kept m at x [] h r (λ _. (refl, refl, λ p e. refl))
@@ -162,13 +163,13 @@ recorded_keeps (Sends_next at peer) m h r g =
       ended = λ s d p e. absurd (true≢false (sym d ∙ g.0.0.1));
     })
     (other (λ y p. IsFirstAck (m.sent ++ added) y (with_end m.party at x y) p) at peer k (λ e. cc))
-recorded_keeps (Opens_plainly at peer true mode text) m h r g =
-    opens m h r at peer (opened true peer true mode text 512 0) (Ack 0) g.0 refl refl (λ p e. cc) g.2 (λ e. cc) (λ _. refl)
-recorded_keeps (Opens_plainly at peer false mode text) m h r g =
-    opens m h r at peer (opened true peer false mode text 512 1) (Data 1 (block text 512 1)) g.0 refl refl (λ p e. cc) g.2 (λ e. cc) (λ _. refl)
-recorded_keeps (Opens_with at peer write mode text size) m h r g =
-    opens m h r at peer (opened false peer write mode text size 0) (Oack size) g.0 refl refl (λ p e. cc)
-    (subst (λ (b : Bool). Contains m.sent (message peer request_port (Request b mode))) (sym (not-not write)) g.2) (λ _. (refl, refl)) (λ e. cc)
+recorded_keeps (Opens_plainly at peer true request text) m h r g =
+    opens m h r at peer (opened true peer true request text 512 0) (Ack 0) g.0 refl refl (λ p e. cc) g.2 (λ e. cc) (λ _. refl)
+recorded_keeps (Opens_plainly at peer false request text) m h r g =
+    opens m h r at peer (opened true peer false request text 512 1) (Data 1 (block text 512 1)) g.0 refl refl (λ p e. cc) g.2 (λ e. cc) (λ _. refl)
+recorded_keeps (Opens_with at peer write request text size) m h r g =
+    opens m h r at peer (opened false peer write request text size 0) (Oack size) g.0 refl refl (λ p e. cc)
+    (subst (λ (b : Bool). Contains m.sent (message peer request_port (Request b request))) (sym (not-not write)) g.2) (λ _. (refl, refl)) (λ e. cc)
 recorded_keeps (Takes_oack at peer size) m h r g =
     let x = m.party at in
     let d = message at peer (if x.sender then Data 1 (block x.text size 1) else Ack 0) in
@@ -200,7 +201,7 @@ recorded_keeps (Strays stray) m h r g = says m h r stray (λ z own. absurd (own 
 
 pub recorded_run : (rules : List Rule) (m : Machine) → Holds m → AreRecorded m → IsLegal rules m → AreRecorded (run rules m)
 recorded_run [] m h r g = r
-recorded_run (x ∷ rules) m h r g = recorded_run rules (after x m) (keeps x m h g.0) (recorded_keeps x m h r g.0) g.1
+recorded_run (x ∷ rules) m h r g = recorded_run rules (after x m) (keeps x m h g.0) (recorded_keeps x m h r g.0) g.2
 
 pub recorded_start : AreRecorded start
 recorded_start = record {

@@ -1,3 +1,4 @@
+-- Closed ends at rest: what they keep, and that a world of them is kept.
 use Rattle.std.proofs.Common.{◌≡◌, ℕ, Bool, false, List, [], ◌∷◌, ◌++◌, map, Option, Some, None, sym, refl, ap, ◌∙◌, subst}
 use Rattle.std.specs.Prelude.{is_some, slice_get, slice_set, option_map}
 use Rattle.std.proofs.lemmas.Bool.{true≢false}

@@ -1,3 +1,4 @@
+-- Every run of the machine keeps its facts, and these make it safe.
 use Rattle.std.proofs.Common.{◌≡◌, true, List, [], ◌∷◌, Option, Some, None, sym, refl, ◌∙◌}
 use Rattle.std.specs.Prelude.{◌≢◌}
 use Rattle.std.proofs.lemmas.Bool.{true≢false}
@@ -17,7 +18,7 @@ Holds-start = record {
 
 pub Holds-run : (rules : List Rule) (m : Machine) → Holds m → IsLegal rules m → Holds (run rules m)
 Holds-run [] m h g = h
-Holds-run (r ∷ rules) m h g = Holds-run rules (after r m) (keeps r m h g.0) g.1
+Holds-run (r ∷ rules) m h g = Holds-run rules (after r m) (keeps r m h g.0) g.2
 
 pub some_peer : (m : Machine) → Holds m → (x : Endpoint) → (m.party x).is_open ≡ true → (m.party x).done ≡ true → (o : Option Endpoint) → (m.party x).peer ≡ o → (y : Endpoint) × ((m.party x).peer ≡ Some y)
 some_peer m h x o d None e = absurd (true≢false (sym d ∙ ((h.ends x o).no_peer e).1))

@@ -1,3 +1,4 @@
+-- What the bytes of a datagram say: one packet at most, and a valid packet what it spells.
 use Rattle.std.proofs.Common.{◌≡◌, ℕ, ◌^◌, ◌<◌, Bool, true, false, cond, List, [], ◌∷◌, ◌++◌, Option, Some, None, Result, Ok, Err, decimal, sym, refl, ap, ◌∙◌, arith, drop, nat_le, ◌==◌}
 use Rattle.std.specs.Prelude.{option_to_list, ◌&&◌}
 use Rattle.std.specs.List.{AllByRecursion}

@@ -15,7 +15,7 @@ use Rattle.tftp_ends.specs.Step.{Turn, Reply, Acts, DatagramStep, Carries, reply
 use Rattle.tftp_server.specs.State.{Held}
 use Rattle.tftp_server.specs.Steps.{TakesIn, DatagramStepIn, ReadDatagramStep}
 use Rattle.tftp_player.specs.Machine.{Endpoint}
-use Rattle.tftp_player.specs.World.{WorldState, OpenedEnd, StoredFile, file_at, datagram, replied, in_state, files_of, holding_of, with_files, end_after, has_committed, world_after, added_at, closed_at, report_of}
+use Rattle.tftp_player.specs.World.{WorldState, OpenedEnd, StoredFile, file_at, in_the_way, datagram, replied, in_state, files_of, holding_of, with_files, end_after, has_committed, world_after, added_at, closed_at, report_of}
 use Rattle.tftp_player.specs.WorldSteps.{never_fails, may_refuse_append, may_refuse_commit, FilesAfter, Turns, OnDatagram}
 use Rattle.tftp_player.specs.declared.datagram.Datagram.{Datagram}
 use Rattle.tftp_player.specs.declared.report.Report.{Report}
@@ -65,7 +65,7 @@ module _ (w : WorldState) (k : ℕ) (x : OpenedEnd) (turn : Turn) (held : Files 
       ∙ ap (λ (z : OpenedEnd). record w { sent = w.sent ++ replied x.address turn.reply; ends = slice_set w.ends k z }) y_is))
 
   -- so this is a turn of the end, if no file of the server changed
-  pub turn_told : FilesAfter (not (is_client x.state.side) && has_committed x (end_after x turn held)) x.path (end_after x turn held).stored w.files w.files →
+  pub turn_told : FilesAfter w.overwrite (not (is_client x.state.side) && has_committed x (end_after x turn held)) x.path (end_after x turn held).stored w.files w.files →
       Turns w k x turn held (told_report w x.address step) (stepped w k x y step bytes)
   turn_told same = record { files = w.files; stored = same; tells = report_told; is = world_stepped }
 
@@ -78,9 +78,9 @@ none_put : (client : Bool) → (client && false) ≡ false
 none_put true = refl
 none_put false = refl
 
-pub files_same : (client old new : Bool) (path bytes : List ℕ) (files : List StoredFile) → new ≡ old → FilesAfter (not client && (not old && new)) path bytes files files
-files_same client old new path bytes files e =
-    subst (λ (b : Bool). FilesAfter b path bytes files files)
+pub files_same : (overwrite client old new : Bool) (path bytes : List ℕ) (files : List StoredFile) → new ≡ old → FilesAfter overwrite (not client && (not old && new)) path bytes files files
+files_same overwrite client old new path bytes files e =
+    subst (λ (b : Bool). FilesAfter overwrite b path bytes files files)
     (sym (ap (λ (c : Bool). not client && (not old && c)) e ∙ (ap (λ (c : Bool). not client && c) (none_new old) ∙ none_put (not client)))) refl
 
 -- ---- a timeout, at an end of either host
@@ -98,7 +98,7 @@ timeout_turns w k x e step bytes carries tells =
     let turn = timeout_turn x.state in
     let y_is : in_state e x ≡ end_after x turn (files_of x) = ap (λ (z : EndState). in_state z x) carries.state ∙ sym (timeout_after x turn) in
     turn_told w k x turn (files_of x) (in_state e x) step bytes y_is tells carries.appended
-    (files_same (is_client x.state.side) x.committed (end_after x turn (files_of x)).committed x.path (end_after x turn (files_of x)).stored w.files
+    (files_same w.overwrite (is_client x.state.side) x.committed (end_after x turn (files_of x)).committed x.path (end_after x turn (files_of x)).stored w.files
     (ap (λ (z : OpenedEnd). z.committed) (timeout_after x turn)))
 
 -- ---- a datagram, at a transfer of the server that sends
@@ -148,7 +148,7 @@ module _ {D : Type 0} (w : WorldState) (k : ℕ) (x : OpenedEnd) (from : Endpoin
       OnDatagram w k x from bytes (told_report w x.address step) (stepped w k x (with_held {D = D} x (record { end = e; files = files; path = path })) step out)
   by_files (Sink draft) e path step out turn steps carries tells = absurd steps
   by_files (Source left') e path step out turn steps carries tells =
-      let refuses_commit = may_refuse_commit (is_client x.state.side) (file_at w.files x.path) in
+      let refuses_commit = may_refuse_commit (is_client x.state.side) (in_the_way w.overwrite (file_at w.files x.path)) in
       let acts = sends_alone refuses_commit from bytes x.state x.left left' turn (datagram_action x.state from bytes steps.decoded) steps.acts in
       let own : files_of x ≡ Source x.left = sender_files (is_sender x.state.side) x sender in
       record {
@@ -161,7 +161,7 @@ module _ {D : Type 0} (w : WorldState) (k : ℕ) (x : OpenedEnd) (from : Endpoin
         };
         turns = turn_told w k x turn (Source left') (record x { state = e; left = left' }) step out
             (ap (λ (z : EndState). record x { state = z; left = left' }) carries.state) tells carries.appended
-            (files_same (is_client x.state.side) x.committed x.committed x.path x.stored w.files refl);
+            (files_same w.overwrite (is_client x.state.side) x.committed x.committed x.path x.stored w.files refl);
       }
 
   -- a transfer that took a datagram, and appended its answer to nothing, is the world's end that heard it

@@ -1,3 +1,4 @@
+-- What is shown of a machine is shown again after an act, an opening or a datagram.
 use Rattle.std.proofs.Common.{◌≡◌, ℕ, ◌+◌, Bool, true, false, List, [], ◌∷◌, ◌++◌, length, set, Some, None, sym, refl, ap, ◌∙◌, subst, arith, inl, inr}
 use Rattle.std.specs.Prelude.{◌≢◌, slice_get}
 use Rattle.std.specs.List.{Contains}
@@ -6,7 +7,7 @@ use Rattle.std.proofs.lemmas.Option.{slice_get_within}
 use Rattle.tftp_player.specs.Machine.{Endpoint, Message, Party, nobody, Machine, start}
 use Rattle.tftp_player.specs.Rules.{Rule, Asks, Opens_plainly, Opens_with, Says_error, Repeats, Strays, actor, MayAct, Guard, packets, party_after, after}
 use Rattle.tftp_player.specs.Shows.{EndView, party_of, Matches, Shows, IsShown, ActInTurn, party_then, sent_by, Opens, Speaks}
-use Rattle.tftp_player.proofs.Acting.{with_plain, act_in_turn}
+use Rattle.tftp_player.proofs.Acting.{Unshown, with_unshown, act_in_turn}
 use Rattle.tftp_player.proofs.Endpoints.{cases_same}
 use Rattle.tftp_player.proofs.Grows.{with_at, with_other}
 use Rattle.tftp_player.proofs.Keeps.{keeps}
@@ -14,14 +15,15 @@ use Rattle.tftp_player.proofs.Places.{slice_get-set_cases, slice_get-set_same, s
 use Rattle.tftp_player.proofs.RecordedKept.{recorded_keeps, recorded_start}
 use Rattle.tftp_player.proofs.Runs.{Holds-start}
 
--- of an end that did not fail all is told but whether it was opened plainly
-told_all : (e : EndView) (x : Party) → Matches e x → x.text ≡ e.text → x ≡ with_plain x.plain (party_of e)
+-- of an end that did not fail all is told but whether it was opened plainly, and by what request
+told_all : (e : EndView) (x : Party) → Matches e x → x.text ≡ e.text → x ≡ with_unshown (record { plain = x.plain; request = x.request }) (party_of e)
 told_all e x m t = λ i. record {
   is_open = m.is_open i;
   client = m.client i;
   sender = m.sender i;
   plain = x.plain;
   mode = m.mode i;
+  request = x.request;
   peer = m.peer i;
   size = m.size i;
   number = m.number i;
@@ -36,9 +38,9 @@ same_text e x m f = elim (cases_Bool e.done) [
   | inr d ↦ m.live d f
 ]
 
--- a match does not ask whether the end was opened plainly
-match_plain : (f : EndView) (b : Bool) (x : Party) → Matches f x → Matches f (with_plain b x)
-match_plain f b x m = record {
+-- a match does not ask whether the end was opened plainly, nor by what request
+match_unshown : (f : EndView) (b : Unshown) (x : Party) → Matches f x → Matches f (with_unshown b x)
+match_unshown f b x m = record {
   is_open = m.is_open;
   client = m.client;
   sender = m.sender;
@@ -66,10 +68,10 @@ shown_acts views messages k e f rs shown at alive turns same matches =
     let a = e.address in
     let here = s.ends k e at in
     let x = m.party a in
-    let acted = act_in_turn rs a messages m x.plain (party_of e) shown.1 shown.2 (told_all e x here.0 (same_text e x here.0 alive)) (λ d i. subst (λ (ds : List Message). Contains ds d) (sym s.sent) i) turns in
+    let acted = act_in_turn rs a messages m (record { plain = x.plain; request = x.request }) (party_of e) shown.1 shown.2 (told_all e x here.0 (same_text e x here.0 alive)) (λ d i. subst (λ (ds : List Message). Contains ds d) (sym s.sent) i) turns in
     let n = acted.0 in
     let w = acted.1 in
-    let at_new : Matches f (n.party f.address) = subst (λ (y : Party). Matches f y) (sym w.here.1 ∙ ap n.party (sym same)) (match_plain f w.here.0 (party_then rs (party_of e)) matches) in (
+    let at_new : Matches f (n.party f.address) = subst (λ (y : Party). Matches f y) (sym w.here.1 ∙ ap n.party (sym same)) (match_unshown f w.here.0 (party_then rs (party_of e)) matches) in (
       n,
       w.holds,
       w.recorded,
@@ -102,15 +104,15 @@ next_port views messages m s a p = elim (cases_Bool (m.party a).is_open) [
 ]
 
 may_open : (r : Rule) → Opens r → (sent : List Message) (x : Party) → x.is_open ≡ false → MayAct r sent nobody → MayAct r sent x
-may_open (Asks at write mode text) o sent x c h = (c, h.1, h.2)
-may_open (Opens_plainly at peer write mode text) o sent x c h = (c, h.1, h.2, h.3)
-may_open (Opens_with at peer write mode text size) o sent x c h = (c, h.1, h.2, h.3, h.4)
+may_open (Asks at write request text) o sent x c h = (c, h.1, h.2)
+may_open (Opens_plainly at peer write request text) o sent x c h = (c, h.1, h.2, h.3)
+may_open (Opens_with at peer write request text size) o sent x c h = (c, h.1, h.2, h.3, h.4)
 may_open r o sent x c h = absurd o
 
 opens_alike : (r : Rule) → Opens r → (x : Party) → (party_after r x ≡ party_after r nobody) × (packets r x ≡ packets r nobody)
-opens_alike (Asks at write mode text) o x = (refl, refl)
-opens_alike (Opens_plainly at peer write mode text) o x = (refl, refl)
-opens_alike (Opens_with at peer write mode text size) o x = (refl, refl)
+opens_alike (Asks at write request text) o x = (refl, refl)
+opens_alike (Opens_plainly at peer write request text) o x = (refl, refl)
+opens_alike (Opens_with at peer write request text size) o x = (refl, refl)
 opens_alike r o x = absurd o
 
 pub shown_opens : (views : List EndView) (messages : List Message) (f : EndView) (r : Rule) → IsShown views messages → Opens r → MayAct r messages nobody →

@@ -1,3 +1,4 @@
+-- A receiver whose sink stores a block or commits.
 use Rattle.std.proofs.Common.{◌≡◌, ℕ, ◌^◌, ◌<◌, Bool, true, false, List, [], ◌∷◌, ◌++◌, length, set, Some, Result, Ok, Err, sym, refl, ap, ◌∙◌, subst, inl, inr, append_assoc}
 use Rattle.std.specs.Prelude.{◌≢◌, ◌&&◌, if◌then◌else◌, not, nat_lt, IfErr}
 use Rattle.std.proofs.lemmas.Bool.{true≢false}

@@ -11,7 +11,7 @@ use Rattle.tftp_ends.specs.declared.phase.Phase.{Phase}
 use Rattle.tftp_ends.specs.End.{is_sender, is_client}
 use Rattle.tftp_ends.specs.Step.{Turn, DatagramStep, timeout_turn}
 use Rattle.tftp_player.specs.Machine.{Endpoint, Elsewhere, host_of, request_port}
-use Rattle.tftp_player.specs.World.{WorldState, OpenedEnd, StoredFile, file_at, is_closed, replied, files_of, end_after, has_committed, world_after, report_of, no_report, opened_in, sent_report, at_rest, resting, view_of_end}
+use Rattle.tftp_player.specs.World.{WorldState, OpenedEnd, StoredFile, file_at, in_the_way, is_closed, replied, files_of, end_after, has_committed, world_after, report_of, no_report, opened_in, sent_report, at_rest, resting, view_of_end}
 use Rattle.tftp_player.specs.WorldSteps.{never_fails, may_refuse_append, may_refuse_commit, FilesAfter, Turns, Arrives, At_open_end, At_closed_end, At_nobody, HasPort, IsAtPort, TimesOut, told_to_refuse, WorldStep}
 use Rattle.tftp_player.specs.WorldKept.{IsOk}
 use Rattle.tftp_player.specs.Openings.{reading_client, MayRead}
@@ -33,12 +33,12 @@ turned_rests w k x turn held r = sym (resting_after w k x turn held w.files r)
 
 -- the turn, where the end is a client's or commits nothing now
 pub turns_as : (w : WorldState) (k : ℕ) (x : OpenedEnd) (turn : Turn) (held : Files (List ℕ) Holding) →
-    FilesAfter (not (is_client x.state.side) && has_committed x (end_after x turn held)) x.path (end_after x turn held).stored w.files w.files →
+    FilesAfter w.overwrite (not (is_client x.state.side) && has_committed x (end_after x turn held)) x.path (end_after x turn held).stored w.files w.files →
     Turns w k x turn held (report_of w x turn) (world_after w k x turn held w.files)
 turns_as w k x turn held same = record { files = w.files; stored = same; tells = refl; is = refl }
 
-pub client_files : (client b : Bool) (path bytes : List ℕ) (files : List StoredFile) → client ≡ true → FilesAfter (not client && b) path bytes files files
-client_files client b path bytes files e = subst (λ (c : Bool). FilesAfter (not c && b) path bytes files files) (sym e) refl
+pub client_files : (overwrite client b : Bool) (path bytes : List ℕ) (files : List StoredFile) → client ≡ true → FilesAfter overwrite (not client && b) path bytes files files
+client_files overwrite client b path bytes files e = subst (λ (c : Bool). FilesAfter overwrite (not c && b) path bytes files files) (sym e) refl
 
 -- a client asks
 pub get_step : (w : WorldState) (name : List ℕ) (mode : Mode) (asked : Asked) → IsAtRest w → HasPort w → MayRead name mode asked →
@@ -54,7 +54,7 @@ timeout_step w port k x r at open_now =
     let turn = timeout_turn x.state in
     let held = files_of x in
     let mid = world_after w k x turn held w.files in
-    let same = files_same (is_client x.state.side) x.committed (end_after x turn held).committed x.path (end_after x turn held).stored w.files (ap (λ (z : OpenedEnd). z.committed) (timeout_after x turn)) in
+    let same = files_same w.overwrite (is_client x.state.side) x.committed (end_after x turn held).committed x.path (end_after x turn held).stored w.files (ap (λ (z : OpenedEnd). z.committed) (timeout_after x turn)) in
     (mid, (k, x, at, subst (λ (b : Bool). TimesOut b w k x (report_of w x turn) mid) (sym open_now) (turns_as w k x turn held same)), turned_rests w k x turn held r)
 
 pub timeout_rests : (w : WorldState) (port k : ℕ) (x : OpenedEnd) → IsAtRest w → IsAtPort w port k x → is_closed x ≡ true → WorldStep w (Timeout port) no_report w
@@ -97,8 +97,8 @@ stray_step w new from to bytes report far a = (a.0, (far, a.1), a.2)
 
 -- at an open end that heard it, and changed no file of the server
 pub open_arrives : (w : WorldState) (k : ℕ) (x : OpenedEnd) (from : Endpoint) (bytes : List ℕ) (turn : Turn) (held : Files (List ℕ) Holding) → IsAtRest w → slice_get w.ends k ≡ Some x → is_closed x ≡ false →
-    DatagramStep (λ (s : List ℕ). Some s) never_fails (λ (h : Holding). Some h) may_refuse_append (may_refuse_commit (is_client x.state.side) (file_at w.files x.path)) from bytes x.state (files_of x) turn held →
-    FilesAfter (not (is_client x.state.side) && has_committed x (end_after x turn held)) x.path (end_after x turn held).stored w.files w.files →
+    DatagramStep (λ (s : List ℕ). Some s) never_fails (λ (h : Holding). Some h) may_refuse_append (may_refuse_commit (is_client x.state.side) (in_the_way w.overwrite (file_at w.files x.path))) from bytes x.state (files_of x) turn held →
+    FilesAfter w.overwrite (not (is_client x.state.side) && has_committed x (end_after x turn held)) x.path (end_after x turn held).stored w.files w.files →
     ArrivesAtRest w from x.address bytes (report_of w x turn) (turned w k x turn held)
 open_arrives w k x from bytes turn held r at open_now steps same =
     (world_after w k x turn held w.files, At_open_end k x at refl open_now (record { turn = turn; held = held; steps = steps; turns = turns_as w k x turn held same }), turned_rests w k x turn held r)

@@ -1,3 +1,4 @@
+-- What the one datagram of a rule tells is true.
 use Rattle.std.proofs.Common.{[], ◌∷◌, sym, subst}
 use Rattle.std.specs.Prelude.{◌≢◌}
 use Rattle.std.specs.List.{Contains}

@@ -1,5 +1,5 @@
 -- How an event handles a world today keeps what every world keeps.
-use Rattle.std.proofs.Common.{◌≡◌, ℕ, ◌+◌, suc, arith, Bool, true, false, List, [], ◌∷◌, ◌++◌, length, Option, Some, None, Result, Ok, Err, IfOk, OnErr, refl, sym, ap, subst, ◌∙◌}
+use Rattle.std.proofs.Common.{◌≡◌, ℕ, ◌+◌, suc, arith, Bool, true, false, List, [], ◌∷◌, ◌++◌, length, Option, Some, None, refl, sym, ap, subst, ◌∙◌}
 use Rattle.std.specs.List.{Contains}
 use Rattle.std.proofs.lemmas.List.{length-append}
 use Rattle.std.proofs.lemmas.Option.{same_Some}
@@ -9,13 +9,13 @@ use Rattle.tftp_wire.specs.declared.packet.Packet.{Packet as WirePacket}
 use Rattle.tftp_wire.specs.declared.packet.Packet.TheVariants.{Read, Write, Data, Ack, Error, Oack}
 use Rattle.tftp_wire.specs.Spelling.{Spells}
 use Rattle.tftp_server.specs.Request.{supported, supported_read, default_read}
-use Rattle.tftp_player.specs.Machine.{Endpoint, host_of, request_port, Packet, Request}
+use Rattle.tftp_player.specs.Machine.{Endpoint, host_of, request_port}
 use Rattle.tftp_player.specs.Machine.{Elsewhere as Far}
 use Rattle.tftp_player.specs.Rules.{message}
 use Rattle.tftp_player.specs.Said.{said}
 use Rattle.tftp_player.specs.Today.{ArrivesToday, At_port, Elsewhere, StepToday}
 use Rattle.tftp_player.specs.TodayRuns.{Delivered}
-use Rattle.tftp_player.specs.World.{WorldState, StoredFile, new_world, resting}
+use Rattle.tftp_player.specs.World.{WorldState, resting}
 use Rattle.tftp_player.specs.WorldKept.{IsOk}
 use Rattle.tftp_player.specs.WorldRuns.{MayHappen}
 use Rattle.tftp_player.specs.WorldSafety.{HasPeersAtHome}
@@ -25,25 +25,28 @@ use Rattle.tftp_player.specs.declared.event.Event.{Event}
 use Rattle.tftp_player.specs.declared.event.Event.TheVariants.{Get, Put, Deliver, Timeout, RefuseStore, Stray}
 use Rattle.tftp_player.specs.declared.fault.WorldFault.{WorldFault}
 use Rattle.tftp_player.specs.declared.report.Report.{Report}
-use Rattle.tftp_negotiate.specs.declared.limits.Limits.{Limits}
-use Rattle.tftp_negotiate.specs.Ranges.{IsBlockSize}
 use Rattle.tftp_player.proofs.Resting.{resting_ok}
-use Rattle.tftp_player.proofs.WorldKeeps.{serving_keeps}
+use Rattle.tftp_wire.specs.declared.packet.Request.{Request}
+use Rattle.tftp_player.proofs.WorldKeeps.{serving_keeps, asked_so, request_packet}
 use Rattle.tftp_player.proofs.WorldRuns.{arrives_keeps, come_from, contains_at, ok_at_home, says_spelled, step_keeps, stray_keeps, with_decoded}
 
--- what is supported of a packet says what the packet says, as far as the machine goes
-supported_decodes : (name : List ℕ) (mode : Mode) (p : WirePacket) → supported_read name mode ≡ Some p → said p ≡ Request false mode
-supported_decodes name Octet p e = ap said (sym (same_Some (Read (default_read name)) p e))
-supported_decodes name Netascii p e = absurd (let f : None ≡ Some p = e in cc)
+-- what is supported of a packet is a read in the mode that the packet asks for
+supported_mode : (name : List ℕ) (mode : Mode) (write : Bool) (r : Request) → supported_read name mode ≡ Some (request_packet write r) → (write ≡ false) × (mode ≡ r.mode)
+supported_mode name Octet true r e = absurd (let f : Some (Read (default_read name)) ≡ Some (Write r) = e in cc)
+supported_mode name Octet false r e = let f : Some (Read (default_read name)) ≡ Some (Read r) = e in let same : default_read name ≡ r = cc in (refl, ap (λ (q : Request). q.mode) same)
+supported_mode name Netascii write r e = absurd (let f : None ≡ Some (request_packet write r) = e in cc)
 
-supported_said : (decoded : Option WirePacket) (p : WirePacket) → supported decoded ≡ Some p → (q : WirePacket) × (decoded ≡ Some q) × (said q ≡ said p)
-supported_said None p e = absurd (let f : None ≡ Some p = e in cc)
-supported_said (Some (Read request)) p e = (Read request, refl, sym (supported_decodes request.name request.mode p e))
-supported_said (Some (Write request)) p e = absurd (let f : None ≡ Some p = e in cc)
-supported_said (Some (Data number bytes)) p e = absurd (let f : None ≡ Some p = e in cc)
-supported_said (Some (Ack number)) p e = absurd (let f : None ≡ Some p = e in cc)
-supported_said (Some (Error code text)) p e = absurd (let f : None ≡ Some p = e in cc)
-supported_said (Some (Oack options)) p e = absurd (let f : None ≡ Some p = e in cc)
+supported_asked : (decoded : Option WirePacket) (write : Bool) (r : Request) → supported decoded ≡ Some (request_packet write r) →
+    (q : Request) × (q.mode ≡ r.mode) × (decoded ≡ Some (request_packet write q))
+supported_asked None write r e = absurd (let f : None ≡ Some (request_packet write r) = e in cc)
+supported_asked (Some (Read q)) write r e =
+    let same = supported_mode q.name q.mode write r e in
+    (q, same.1, subst (λ (b : Bool). Some (Read q) ≡ Some (request_packet b q)) (sym same.0) refl)
+supported_asked (Some (Write q)) write r e = absurd (let f : None ≡ Some (request_packet write r) = e in cc)
+supported_asked (Some (Data number bytes)) write r e = absurd (let f : None ≡ Some (request_packet write r) = e in cc)
+supported_asked (Some (Ack number)) write r e = absurd (let f : None ≡ Some (request_packet write r) = e in cc)
+supported_asked (Some (Error code text)) write r e = absurd (let f : None ≡ Some (request_packet write r) = e in cc)
+supported_asked (Some (Oack options)) write r e = absurd (let f : None ≡ Some (request_packet write r) = e in cc)
 
 -- closed ends go to rest in a world that is kept
 rested : (strangers : Bool) (mid v : WorldState) → v ≡ resting mid → IsOk strangers mid → IsOk strangers v
@@ -56,9 +59,9 @@ arrival_keeps : (strangers : Bool) (w v : WorldState) (ok : IsOk strangers w) (r
 arrival_keeps strangers w v ok report from to bytes come (At_port here port decoded says mid served new) =
     rested strangers mid v new
     (serving_keeps strangers w mid from report ok bytes (supported decoded)
-    (λ p e. let q = supported_said decoded p e in
-    subst (λ (packet : Packet). Contains ok.messages (message from request_port packet)) q.2
-    (subst (λ (a : Endpoint). Contains ok.messages (message from a (said q.0))) here (come q.0 (says_spelled bytes decoded says q.0 q.1)))) served)
+    (λ write r e. let q = supported_asked decoded write r e in
+    let was = asked_so ok.messages from decoded (λ p f. subst (λ (a : Endpoint). Contains ok.messages (message from a (said p))) here (come p (says_spelled bytes decoded says p f))) write q.0 q.2 in
+    (was.0, was.1 ∙ q.1, was.2)) served)
 arrival_keeps strangers w v ok report from to bytes come (Elsewhere away mid arrives new) =
     rested strangers mid v new (arrives_keeps strangers w mid ok report from to bytes come arrives)
 

@@ -1,3 +1,4 @@
+-- Ends that are shown are safe, as the machine is.
 use Rattle.std.proofs.Common.{◌≡◌, ℕ, true, not, List, [], ◌∷◌, ◌++◌, Some, sym, refl, ap, ◌∙◌, subst, arith, inl, inr, append_assoc}
 use Rattle.std.specs.Prelude.{slice_get}
 use Rattle.std.specs.List.{Contains}
@@ -109,6 +110,6 @@ shown_at_home views messages shown home x p i e =
       | inl c ↦ own_server p (h.serving c p peer).0
       | inr c ↦
           let y = m.party x.address in
-          let d = message p request_port (Request (not y.sender) y.mode) in
+          let d = message p request_port (Request (not y.sender) y.request) in
           home d (subst (λ (ds : List Message). Contains ds d) s.sent ((shown.2.ends x.address a.is_open).requested c p peer))
     ]

@@ -1,3 +1,4 @@
+-- Clients that open, and the request port, keep a world.
 use Rattle.std.proofs.Common.{◌≡◌, ℕ, ◌+◌, ◌*◌, ◌<◌, ◌≤◌, Bool, true, false, List, [], ◌∷◌, ◌++◌, length, map, drop, Option, Some, None, Result, Ok, Err, sym, refl, ap, ◌∙◌, subst, arith, suc}
 use Rattle.std.specs.Prelude.{◌≢◌, if◌then◌else◌, nat_lt, nat_le}
 use Rattle.std.specs.List.{Contains, AllByRecursion}
@@ -33,11 +34,11 @@ use Rattle.tftp_ends.specs.ErrorReply.{error_packet}
 use Rattle.tftp_wire.specs.Reading.{has_error_opcode}
 use Rattle.tftp_ends.specs.Step.{error_bytes}
 use Rattle.tftp_server.specs.Store.{measured}
-use Rattle.tftp_player.specs.Machine.{Endpoint, Elsewhere, host_of, server_ip, client_ip, request_port, Request as Says_request, Oack as Says_oack}
+use Rattle.tftp_player.specs.Machine.{Endpoint, Elsewhere, host_of, server_ip, client_ip, request_port, Message, Request as Says_request, Oack as Says_oack}
 use Rattle.tftp_player.specs.Rules.{message}
 use Rattle.tftp_player.specs.Said.{said}
 use Rattle.tftp_player.specs.Shows.{IsShown}
-use Rattle.tftp_player.specs.World.{WorldState, OpenedEnd, file_at, datagram, said_in, view_of_end}
+use Rattle.tftp_player.specs.World.{WorldState, OpenedEnd, file_at, in_the_way, datagram, said_in, view_of_end}
 use Rattle.tftp_player.specs.Openings.{request_of, reading_client, writing_client, MayRead, MayWrite, sending_end, receiving_end}
 use Rattle.tftp_server.specs.Port.{Ask, Ignores, Refuses, Reads, Service, Refused, Sends, accept_reply, by_draft, by_file, by_length, by_name, by_options, by_packet}
 use Rattle.tftp_player.specs.Requests.{open_transfers, opened_of, begun_of, served, service}
@@ -87,7 +88,7 @@ reading_keeps strangers w v name mode asked report ok may o =
     let x = reading_client w name mode asked in
     let p = Read (request_of name mode asked) in
     let a = x.address in
-    let shown_now = asks (map view_of_end w.ends) ok.messages ok.shown a false mode (wire_text mode [] ++ []) refl (ap (λ (n : ℕ). 1024 + n) (sym (length_views w))) (λ _. no_text mode) in
+    let shown_now = asks (map view_of_end w.ends) ok.messages ok.shown a false (request_of name mode asked) (wire_text mode [] ++ []) refl (ap (λ (n : ℕ). 1024 + n) (sym (length_views w))) (λ _. no_text mode) in
     opening_keeps strangers w v ok x report p (spells_own p may.valid) shown_now (at_client a refl)
     (record { phase = (refl, may.allowed.askable, refl, refl, λ _. refl, λ e. absurd (true≢false (sym e))); held = empty_held mode; committed = λ _. refl }) refl o
 
@@ -97,7 +98,7 @@ writing_keeps strangers w v name mode asked file report ok may o =
     let x = writing_client w name mode asked file in
     let p = Write (request_of name mode asked) in
     let a = x.address in
-    let shown_now = asks (map view_of_end w.ends) ok.messages ok.shown a true mode (wire_text mode file) refl (ap (λ (n : ℕ). 1024 + n) (sym (length_views w))) (λ e. absurd (true≢false e)) in
+    let shown_now = asks (map view_of_end w.ends) ok.messages ok.shown a true (request_of name mode asked) (wire_text mode file) refl (ap (λ (n : ℕ). 1024 + n) (sym (length_views w))) (λ e. absurd (true≢false e)) in
     opening_keeps strangers w v ok x report p (spells_own p may.valid) shown_now (at_client a refl)
     (record { phase = (refl, may.allowed.askable, refl, refl, λ _. refl, λ _. refl); held = empty_held mode; committed = λ e. absurd (true≢false e) }) refl o
 
@@ -109,53 +110,53 @@ answered_values kind mode told limits options known ok e =
     (negotiated_each (repeats options) (each_judged (answered_option kind mode told limits) options) known e)
 
 -- a read is served
-sending_keeps : (strangers : Bool) (w v : WorldState) (from : Endpoint) (mode : Mode) (path file : List ℕ) (agreed : List Known) (report : Report) (ok : IsOk strangers w) →
-    Contains ok.messages (message from request_port (Says_request false mode)) → AllByRecursion IsAgreeable agreed → (agreed ≢ [] → IsValid (Oack (agreed_options agreed))) → Fits (wire_text mode file) (size agreed) →
-    Opens w (sending_end w from mode path file agreed) report v → IsOk strangers v
-sending_keeps strangers w v from mode path file [] report ok come agreeable valid fits o =
-    let text = wire_text mode file in
-    let x = sending_end w from mode path file [] in
+sending_keeps : (strangers : Bool) (w v : WorldState) (from : Endpoint) (request : Request) (path file : List ℕ) (agreed : List Known) (report : Report) (ok : IsOk strangers w) →
+    Contains ok.messages (message from request_port (Says_request false request)) → AllByRecursion IsAgreeable agreed → (agreed ≢ [] → IsValid (Oack (agreed_options agreed))) → Fits (wire_text request.mode file) (size agreed) →
+    Opens w (sending_end w from request.mode path file agreed) report v → IsOk strangers v
+sending_keeps strangers w v from request path file [] report ok come agreeable valid fits o =
+    let text = wire_text request.mode file in
+    let x = sending_end w from request.mode path file [] in
     let one : 1 ≤ block_count text 512 = omega arith in
     let p = Data 1 (block text 512 1) in
-    let shown_now = serves_plainly (map view_of_end w.ends) ok.messages ok.shown x.address from false mode text refl (ap (λ (n : ℕ). 1024 + n) (sym (length_views w))) come fits in
+    let shown_now = serves_plainly (map view_of_end w.ends) ok.messages ok.shown x.address from false request text refl (ap (λ (n : ℕ). 1024 + n) (sym (length_views w))) come fits in
     opening_keeps strangers w v ok x report p (spells_own p (valid_data text 512 0 (omega arith) (omega arith) fits one)) shown_now (at_server x.address refl)
     (record {
       phase = record { sender = refl; positive = omega arith; size = omega arith; fits = fits; so_far = one; left = refl; last_sent_to = refl; measured = refl };
-      held = empty_held mode;
+      held = empty_held request.mode;
       committed = λ e. absurd (true≢false e);
     }) refl o
-sending_keeps strangers w v from mode path file (known ∷ agreed) report ok come agreeable valid fits o =
-    let text = wire_text mode file in
-    let x = sending_end w from mode path file (known ∷ agreed) in
+sending_keeps strangers w v from request path file (known ∷ agreed) report ok come agreeable valid fits o =
+    let text = wire_text request.mode file in
+    let x = sending_end w from request.mode path file (known ∷ agreed) in
     let b = agreed_size (known ∷ agreed) agreeable in
     let p = Oack (agreed_options (known ∷ agreed)) in
-    let shown_now = serves_with (map view_of_end w.ends) ok.messages ok.shown x.address from false mode text (size (known ∷ agreed)) refl (ap (λ (n : ℕ). 1024 + n) (sym (length_views w))) come fits b.0 in
+    let shown_now = serves_with (map view_of_end w.ends) ok.messages ok.shown x.address from false request text (size (known ∷ agreed)) refl (ap (λ (n : ℕ). 1024 + n) (sym (length_views w))) come fits b.0 in
     let says = subst (λ (n : ℕ). IsShown (map view_of_end w.ends ++ view_of_end x ∷ []) (ok.messages ++ message x.address from (Says_oack n) ∷ [])) (sym (own_oack (known ∷ agreed) agreeable)) shown_now in
     let none : 0 * size (known ∷ agreed) ≡ 0 = omega arith in
     opening_keeps strangers w v ok x report p (spells_own p (valid (λ e. cc))) says (at_server x.address refl)
     (record {
       phase = record { sender = refl; positive = b.0; size = b.1; fits = fits; so_far = omega arith; left = ap (λ (n : ℕ). drop n text) (sym none); last_sent_to = refl; measured = refl };
-      held = empty_held mode;
+      held = empty_held request.mode;
       committed = λ e. absurd (true≢false e);
     }) refl o
 
 -- a write is served
-taking_keeps : (strangers : Bool) (w v : WorldState) (from : Endpoint) (mode : Mode) (path : List ℕ) (agreed : List Known) (report : Report) (ok : IsOk strangers w) →
-    Contains ok.messages (message from request_port (Says_request true mode)) → AllByRecursion IsAgreeable agreed → (agreed ≢ [] → IsValid (Oack (agreed_options agreed))) →
-    Opens w (receiving_end w from mode path agreed) report v → IsOk strangers v
-taking_keeps strangers w v from mode path [] report ok come agreeable valid o =
-    let x = receiving_end w from mode path [] in
-    let shown_now = serves_plainly (map view_of_end w.ends) ok.messages ok.shown x.address from true mode (wire_text mode [] ++ []) refl (ap (λ (n : ℕ). 1024 + n) (sym (length_views w))) come (no_text mode) in
+taking_keeps : (strangers : Bool) (w v : WorldState) (from : Endpoint) (request : Request) (path : List ℕ) (agreed : List Known) (report : Report) (ok : IsOk strangers w) →
+    Contains ok.messages (message from request_port (Says_request true request)) → AllByRecursion IsAgreeable agreed → (agreed ≢ [] → IsValid (Oack (agreed_options agreed))) →
+    Opens w (receiving_end w from request.mode path agreed) report v → IsOk strangers v
+taking_keeps strangers w v from request path [] report ok come agreeable valid o =
+    let x = receiving_end w from request.mode path [] in
+    let shown_now = serves_plainly (map view_of_end w.ends) ok.messages ok.shown x.address from true request (wire_text request.mode [] ++ []) refl (ap (λ (n : ℕ). 1024 + n) (sym (length_views w))) come (no_text request.mode) in
     opening_keeps strangers w v ok x report (Ack 0) (spells_own (Ack 0) (omega arith)) shown_now (at_server x.address refl)
-    (record { phase = (refl, refl); held = empty_held mode; committed = λ _. refl }) refl o
-taking_keeps strangers w v from mode path (known ∷ agreed) report ok come agreeable valid o =
-    let x = receiving_end w from mode path (known ∷ agreed) in
+    (record { phase = (refl, refl); held = empty_held request.mode; committed = λ _. refl }) refl o
+taking_keeps strangers w v from request path (known ∷ agreed) report ok come agreeable valid o =
+    let x = receiving_end w from request.mode path (known ∷ agreed) in
     let b = agreed_size (known ∷ agreed) agreeable in
     let p = Oack (agreed_options (known ∷ agreed)) in
-    let shown_now = serves_with (map view_of_end w.ends) ok.messages ok.shown x.address from true mode (wire_text mode [] ++ []) (size (known ∷ agreed)) refl (ap (λ (n : ℕ). 1024 + n) (sym (length_views w))) come (no_text mode) b.0 in
+    let shown_now = serves_with (map view_of_end w.ends) ok.messages ok.shown x.address from true request (wire_text request.mode [] ++ []) (size (known ∷ agreed)) refl (ap (λ (n : ℕ). 1024 + n) (sym (length_views w))) come (no_text request.mode) b.0 in
     let says = subst (λ (n : ℕ). IsShown (map view_of_end w.ends ++ view_of_end x ∷ []) (ok.messages ++ message x.address from (Says_oack n) ∷ [])) (sym (own_oack (known ∷ agreed) agreeable)) shown_now in
     opening_keeps strangers w v ok x report p (spells_own p (valid (λ e. cc))) says (at_server x.address refl)
-    (record { phase = (refl, refl); held = empty_held mode; committed = λ _. refl }) refl o
+    (record { phase = (refl, refl); held = empty_held request.mode; committed = λ _. refl }) refl o
 
 -- the request port refuses
 refusing_keeps : (strangers : Bool) (w v : WorldState) (from : Endpoint) (reply : ErrorReply) → IsOk strangers w → v ≡ said_in w (datagram request_port from (error_bytes reply)) → IsOk strangers v
@@ -169,6 +170,22 @@ if_served : {A : Type 0} (P : A → Type 0) (b : Bool) (r s : A) → (b ≡ true
 if_served P true r s f g = f refl
 if_served P false r s f g = g refl
 
+-- a request, to write or to read
+abbrev pub request_packet : Bool → Request → WirePacket
+request_packet true r = Write r
+request_packet false r = Read r
+
+-- a request in this mode was sent
+abbrev pub WasAsked : List Message → Endpoint → Bool → Mode → Type 0
+WasAsked messages from write mode =
+    (q : Request) × (q.mode ≡ mode) × Contains messages (message from request_port (Says_request write q))
+
+-- what was decoded was sent
+pub asked_so : (messages : List Message) (from : Endpoint) (decoded : Option WirePacket) → ((p : WirePacket) → decoded ≡ Some p → Contains messages (message from request_port (said p))) →
+    (write : Bool) (r : Request) → decoded ≡ Some (request_packet write r) → WasAsked messages from write r.mode
+asked_so messages from decoded come true r e = (r, refl, come (Write r) e)
+asked_so messages from decoded come false r e = (r, refl, come (Read r) e)
+
 module _ (strangers : Bool) (w v : WorldState) (from : Endpoint) (report : Report) (ok : IsOk strangers w) where
   abbrev Kept_by : Service → Type 0
   Kept_by service = Serves service w from report v → IsOk strangers v
@@ -177,7 +194,7 @@ module _ (strangers : Bool) (w v : WorldState) (from : Endpoint) (report : Repor
   refused reply h = refusing_keeps strangers w v from reply ok h.1
 
   -- a read with the server's answer to its options
-  sending_served : (path file : List ℕ) (mode : Mode) (options : List RawOption) (a : Result (List Known) Refusal) → Contains ok.messages (message from request_port (Says_request false mode)) →
+  sending_served : (path file : List ℕ) (mode : Mode) (options : List RawOption) (a : Result (List Known) Refusal) → WasAsked ok.messages from false mode →
       file_at w.files path ≡ Some file → answer options kinds.Read mode (measured mode file) w.limits ≡ a → Kept_by (by_length path mode (measured mode file) a)
   sending_served path file mode options (Err refusal) come there e = refused (accept_reply refusal)
   sending_served path file mode options (Ok agreed) come there e =
@@ -190,32 +207,34 @@ module _ (strangers : Bool) (w v : WorldState) (from : Endpoint) (report : Repor
       let fits : Fits (wire_text mode file) (size agreed) = measured_fits mode file (size agreed) b.1 few in
       let small = let c = b.1 in let l : m < 65535 * 65464 = omega arith in l in
       let same : o.0 ≡ file = same_Some o.0 file (sym o.1 ∙ there) in
-      sending_keeps strangers w v from mode path file agreed report ok come agreeable
-      (λ some. valid_oack kinds.Read mode m w.limits options agreed (omega (arith, small)) ok.max_block e some) fits
+      subst (λ (n : Mode). Fits (wire_text n file) (size agreed) → Opens w (sending_end w from n path file agreed) report v → IsOk strangers v) come.1
+      (sending_keeps strangers w v from come.0 path file agreed report ok come.2 agreeable
+      (λ some. valid_oack kinds.Read mode m w.limits options agreed (omega (arith, small)) ok.max_block e some)) fits
       (subst (λ (g : List ℕ). Opens w (sending_end w from mode path g agreed) report v) same o.2))
       (λ f. refused FileTooLarge)
 
-  reading_served : (path : List ℕ) (mode : Mode) (options : List RawOption) (there : Option (List ℕ)) → Contains ok.messages (message from request_port (Says_request false mode)) →
+  reading_served : (path : List ℕ) (mode : Mode) (options : List RawOption) (there : Option (List ℕ)) → WasAsked ok.messages from false mode →
       file_at w.files path ≡ there → Kept_by (by_file w.limits path mode options (opened_of mode there))
   reading_served path mode options None come e = refused FileNotFound
   reading_served path mode options (Some file) come e = sending_served path file mode options (answer options kinds.Read mode (measured mode file) w.limits) come e refl
 
   -- a write with the server's answer to its options
-  taking_served : (path : List ℕ) (mode : Mode) (options : List RawOption) (there : Option (List ℕ)) (agreed : List Known) → Contains ok.messages (message from request_port (Says_request true mode)) →
+  taking_served : (path : List ℕ) (mode : Mode) (options : List RawOption) (there : Option (List ℕ)) (agreed : List Known) → WasAsked ok.messages from true mode →
       answer options kinds.Write mode 0 w.limits ≡ Ok agreed → Kept_by (by_draft path mode agreed (begun_of there))
   taking_served path mode options None agreed come e =
-      taking_keeps strangers w v from mode path agreed report ok come (answered_values kinds.Write mode 0 w.limits options agreed ok.max_block e)
-      (λ some. valid_oack kinds.Write mode 0 w.limits options agreed (omega arith) ok.max_block e some)
+      subst (λ (n : Mode). Opens w (receiving_end w from n path agreed) report v → IsOk strangers v) come.1
+      (taking_keeps strangers w v from come.0 path agreed report ok come.2 (answered_values kinds.Write mode 0 w.limits options agreed ok.max_block e)
+      (λ some. valid_oack kinds.Write mode 0 w.limits options agreed (omega arith) ok.max_block e some))
   taking_served path mode options (Some file) agreed come e = refused FileExists
 
   -- what comes of what the port asks
   abbrev Kept_asking : Ask → Type 0
   Kept_asking ask = Kept_by (served w ask)
 
-  writing_served : (path : List ℕ) (mode : Mode) (options : List RawOption) (a : Result (List Known) Refusal) → Contains ok.messages (message from request_port (Says_request true mode)) →
+  writing_served : (path : List ℕ) (mode : Mode) (options : List RawOption) (a : Result (List Known) Refusal) → WasAsked ok.messages from true mode →
       answer options kinds.Write mode 0 w.limits ≡ a → Kept_asking (by_options path mode a)
   writing_served path mode options (Err refusal) come e = refused (accept_reply refusal)
-  writing_served path mode options (Ok agreed) come e = taking_served path mode options (file_at w.files path) agreed come e
+  writing_served path mode options (Ok agreed) come e = taking_served path mode options (in_the_way w.overwrite (file_at w.files path)) agreed come e
 
   named_served : (next : List ℕ → Ask) → ((path : List ℕ) → Kept_asking (next path)) → (path : Result (List ℕ) PathFault) →
       Kept_asking (by_name w.cap (open_transfers w.ends) next path)
@@ -223,20 +242,20 @@ module _ (strangers : Bool) (w v : WorldState) (from : Endpoint) (report : Repor
   named_served next each (Ok path) =
       if_served Kept_asking (nat_le w.cap (open_transfers w.ends)) (Refuses ServerBusy) (next path) (λ b. refused ServerBusy) (λ b. each path)
 
-  by_request : (decoded : Option WirePacket) → ((p : WirePacket) → decoded ≡ Some p → Contains ok.messages (message from request_port (said p))) → Kept_asking (by_packet w.cap (open_transfers w.ends) w.limits decoded)
+  by_request : (decoded : Option WirePacket) → ((write : Bool) (r : Request) → decoded ≡ Some (request_packet write r) → WasAsked ok.messages from write r.mode) → Kept_asking (by_packet w.cap (open_transfers w.ends) w.limits decoded)
   by_request None come = refused IllegalOperation
   by_request (Some (Read r)) come =
-      named_served (λ path. Reads path r.mode r.options) (λ path. reading_served path r.mode r.options (file_at w.files path) (come (Read r) refl) refl) (path_of_name r.name)
+      named_served (λ path. Reads path r.mode r.options) (λ path. reading_served path r.mode r.options (file_at w.files path) (come false r refl) refl) (path_of_name r.name)
   by_request (Some (Write r)) come =
       named_served (λ path. by_options path r.mode (answer r.options kinds.Write r.mode 0 w.limits))
-      (λ path. writing_served path r.mode r.options (answer r.options kinds.Write r.mode 0 w.limits) (come (Write r) refl) refl) (path_of_name r.name)
+      (λ path. writing_served path r.mode r.options (answer r.options kinds.Write r.mode 0 w.limits) (come true r refl) refl) (path_of_name r.name)
   by_request (Some (Data number bytes)) come = refused IllegalOperation
   by_request (Some (Ack number)) come = refused IllegalOperation
   by_request (Some (Error code text)) come = refused IllegalOperation
   by_request (Some (Oack options)) come = refused IllegalOperation
 
   -- the request port keeps the world
-  pub serving_keeps : (bytes : List ℕ) (decoded : Option WirePacket) → ((p : WirePacket) → decoded ≡ Some p → Contains ok.messages (message from request_port (said p))) → Kept_by (service w bytes decoded)
+  pub serving_keeps : (bytes : List ℕ) (decoded : Option WirePacket) → ((write : Bool) (r : Request) → decoded ≡ Some (request_packet write r) → WasAsked ok.messages from write r.mode) → Kept_by (service w bytes decoded)
   serving_keeps bytes decoded come =
       if_served Kept_asking (has_error_opcode bytes) Ignores (by_packet w.cap (open_transfers w.ends) w.limits decoded)
       (λ b h. stays_ok strangers w v report ok h)

@@ -1,3 +1,4 @@
+-- Each event keeps a world, and so does every run.
 use Rattle.std.proofs.Common.{◌≡◌, ℕ, Bool, true, false, List, [], ◌∷◌, ◌++◌, map, set, Option, Some, None, sym, refl, ap, ◌∙◌, subst, inl, inr, zero, suc}
 use Rattle.std.specs.Prelude.{if◌then◌else◌, slice_get}
 use Rattle.std.specs.List.{Contains}
@@ -7,7 +8,7 @@ use Rattle.std.proofs.lemmas.List.Elements.{Contains-append_cases, Contains-appe
 use Rattle.std.proofs.lemmas.Option.{same_Some}
 use Rattle.tftp_wire.specs.declared.packet.Packet.{Packet as WirePacket}
 use Rattle.tftp_wire.specs.Spelling.{Spells}
-use Rattle.tftp_negotiate.specs.declared.limits.Limits.{Limits}
+use Rattle.tftp_server.specs.declared.config.Config.{Config}
 use Rattle.tftp_negotiate.specs.Ranges.{IsBlockSize}
 use Rattle.tftp_ends.specs.declared.phase.Phase.{Phase}
 use Rattle.tftp_ends.specs.declared.phase.Phase.TheVariants.{Waiting, Sending, Receiving, Dallying, Closed}
@@ -18,7 +19,7 @@ use Rattle.tftp_player.specs.Machine.{Endpoint, Elsewhere, host_of, Message}
 use Rattle.tftp_player.specs.Rules.{message}
 use Rattle.tftp_player.specs.Said.{said}
 use Rattle.tftp_player.specs.Shows.{EndView, IsShown}
-use Rattle.tftp_player.specs.World.{WorldState, OpenedEnd, StoredFile, file_at, datagram, files_of, is_closed, new_world, view_of_end}
+use Rattle.tftp_player.specs.World.{WorldState, OpenedEnd, StoredFile, file_at, in_the_way, datagram, files_of, is_closed, new_world, view_of_end}
 use Rattle.tftp_player.specs.WorldSteps.{may_refuse_commit, OnDatagram, Arrives, At_request_port, At_open_end, At_closed_end, At_nobody, TimesOut, told_to_refuse, EventStep}
 use Rattle.tftp_player.specs.WorldKept.{PhaseKept, IsKeptIn, IsOk}
 use Rattle.tftp_player.specs.WorldRuns.{Runs, MayHappen, MayAllHappen, StepsKeep}
@@ -36,7 +37,7 @@ use Rattle.tftp_player.proofs.SaidLemmas.{one_packet, none_packet}
 use Rattle.tftp_player.proofs.EndMoves.{IsThere, from_response}
 use Rattle.tftp_player.proofs.EndTurns.{by_datagram, by_timeout}
 use Rattle.tftp_player.proofs.WorldTurns.{nothing_in, one_in, turn_keeps, view_at}
-use Rattle.tftp_player.proofs.WorldKeeps.{reading_keeps, writing_keeps, serving_keeps, stays_ok}
+use Rattle.tftp_player.proofs.WorldKeeps.{reading_keeps, writing_keeps, serving_keeps, asked_so, stays_ok}
 
 pub contains_at : {X : Type 0} (xs : List X) (k : ℕ) (x : X) → slice_get xs k ≡ Some x → Contains xs x
 contains_at {X = X} [] k x e = absurd (let f : None ≡ Some x = e in cc)
@@ -74,7 +75,7 @@ module _ (strangers : Bool) (w v : WorldState) (ok : IsOk strangers w) (report :
       let kept = ok.ends k x at in
       let spelled = says_spelled bytes h.steps.decoded h.steps.says in
       let old = there_now strangers w ok x.address x.state.last_sent_to x.state.last_sent (kept.last_sent open_now) in
-      let goes_now = by_datagram views ok.messages k x (may_refuse_commit (is_client x.state.side) (file_at w.files x.path)) from bytes h.steps.decoded spelled
+      let goes_now = by_datagram views ok.messages k x (may_refuse_commit (is_client x.state.side) (in_the_way w.overwrite (file_at w.files x.path))) from bytes h.steps.decoded spelled
       (λ p e. come p (spelled p e)) old x.state.phase s kept.kept open_now h.turn h.held h.steps.acts in
       turn_keeps strangers w v ok k x h.turn h.held report at open_now goes_now h.turns
 
@@ -84,7 +85,7 @@ module _ (strangers : Bool) (w v : WorldState) (ok : IsOk strangers w) (report :
   arrives_keeps from to bytes come (At_request_port here port decoded says served) =
       let spelled = says_spelled bytes decoded says in
       serving_keeps strangers w v from report ok bytes decoded
-      (λ p e. subst (λ (a : Endpoint). Contains ok.messages (message from a (said p))) here (come p (spelled p e))) served
+      (asked_so ok.messages from decoded (λ p e. subst (λ (a : Endpoint). Contains ok.messages (message from a (said p))) here (come p (spelled p e)))) served
   arrives_keeps from to bytes come (At_open_end k x at here open_now h) =
       datagram_keeps k x from bytes at open_now (λ p s. subst (λ (a : Endpoint). Contains ok.messages (message from a (said p))) (sym here) (come p s)) h
   arrives_keeps from to bytes come (At_closed_end k x at here closed_now s) = stays_ok strangers w v report ok s
@@ -125,18 +126,18 @@ phase_told (Dallying terms number dally) x h = h
 phase_told (Closed terms number complete outcome) x h = tt
 
 -- an end is kept in a world with the same datagrams and files
-same_kept : (w v : WorldState) (x : OpenedEnd) → v.sent ≡ w.sent → v.files ≡ w.files → IsKeptIn w x → IsKeptIn v x
-same_kept w v x s f h = record {
+same_kept : (w v : WorldState) (x : OpenedEnd) → v.sent ≡ w.sent → v.files ≡ w.files → v.overwrite ≡ w.overwrite → IsKeptIn w x → IsKeptIn v x
+same_kept w v x s f set h = record {
   kept = h.kept;
   last_sent = λ o. subst (λ (ds : List Datagram). Contains ds (datagram x.address x.state.last_sent_to x.state.last_sent)) (sym s) (h.last_sent o);
-  stored = λ c r d. subst (λ (files : List StoredFile). file_at files x.path ≡ Some x.stored) (sym f) (h.stored c r d);
+  stored = λ o c r d. subst (λ (files : List StoredFile). file_at files x.path ≡ Some x.stored) (sym f) (h.stored (sym set ∙ o) c r d);
 }
 
-told_kept : (w v : WorldState) (b c : Bool) (x : OpenedEnd) → v.sent ≡ w.sent → v.files ≡ w.files → IsKeptIn w x → IsKeptIn v (if b then x else if c then x else record x { refuses = true })
-told_kept w v true c x s f h = same_kept w v x s f h
-told_kept w v false true x s f h = same_kept w v x s f h
-told_kept w v false false x s f h =
-    let g = same_kept w v x s f h in record {
+told_kept : (w v : WorldState) (b c : Bool) (x : OpenedEnd) → v.sent ≡ w.sent → v.files ≡ w.files → v.overwrite ≡ w.overwrite → IsKeptIn w x → IsKeptIn v (if b then x else if c then x else record x { refuses = true })
+told_kept w v true c x s f set h = same_kept w v x s f set h
+told_kept w v false true x s f set h = same_kept w v x s f set h
+told_kept w v false false x s f set h =
+    let g = same_kept w v x s f set h in record {
       kept = record { phase = phase_told x.state.phase x g.kept.phase; held = g.kept.held; committed = g.kept.committed };
       last_sent = g.last_sent;
       stored = g.stored;
@@ -161,8 +162,8 @@ told_keeps strangers w ok k x at =
       speakers = ok.speakers;
       max_block = ok.max_block;
       ends = λ j z i. elim (slice_get-set_cases w.ends k j y z i) [
-        | inl h ↦ subst (λ (u : OpenedEnd). IsKeptIn v u) (sym h.1) (told_kept w v b c x refl refl (ok.ends k x at))
-        | inr h ↦ same_kept w v z refl refl (ok.ends j z h.1)
+        | inl h ↦ subst (λ (u : OpenedEnd). IsKeptIn v u) (sym h.1) (told_kept w v b c x refl refl refl (ok.ends k x at))
+        | inr h ↦ same_kept w v z refl refl refl (ok.ends j z h.1)
       ];
     }
 
@@ -227,8 +228,8 @@ run_keeps strangers [] w v may ok r = subst (λ (z : WorldState). IsOk strangers
 run_keeps strangers (event ∷ events) w v may ok r = run_keeps strangers events r.0 v may.1 (step_keeps strangers w r.0 event r.1 may.0 ok r.2) r.3
 
 -- a world begins
-pub new_ok : (strangers : Bool) (files : List StoredFile) (limits : Limits) (retries cap : ℕ) → IsBlockSize limits.max_block → IsOk strangers (new_world files limits retries cap)
-new_ok strangers files limits retries cap ok = record {
+pub new_ok : (strangers : Bool) (files : List StoredFile) (config : Config) → IsBlockSize config.limits.max_block → IsOk strangers (new_world files config)
+new_ok strangers files config ok = record {
   messages = [];
   shown = shown_start;
   sent = λ d i. absurd (nothing_in d i);

@@ -1,3 +1,4 @@
+-- A world that is kept is safe.
 use Rattle.std.proofs.Common.{◌≡◌, ℕ, Bool, true, false, List, [], ◌++◌, map, Option, Some, None, sym, refl, ap, ◌∙◌, subst, arith}
 use Rattle.std.specs.Prelude.{if◌then◌else◌, slice_get, option_map}
 use Rattle.std.proofs.lemmas.Bool.{true≢false}
@@ -110,7 +111,7 @@ module _ (strangers : Bool) (w : WorldState) (ok : IsOk strangers w) where
               ap (λ (v : EndView). v.text) (sym y.2) ∙ (sends z sender ∙ ap (λ (m : Mode). wire_text m z.file) mode) in
               (z, ((y.1, ap (λ (v : EndView). v.address) y.2 ∙ h.1.1), sender), wire_same x.state.mode x.stored z.file (sym (whole x r d) ∙ (h.4 ∙ text))),
         );
-    is_at_path = λ x i r d c. (ok.ends i.0 x i.1).stored c r d;
+    is_at_path = λ o x i r d c. (ok.ends i.0 x i.1).stored o c r d;
     sender_last = λ x i s d.
         let g = safe.sender_last (view_of_end x) (among x i) s d in (
           g.0,
@@ -126,9 +127,9 @@ pub kept_is_safe : KeptIsSafe
 kept_is_safe strangers w ok = ok_safe strangers w ok
 
 pub worlds_are_safe : WorldsAreSafe
-worlds_are_safe files limits retries cap events w max r =
-    ok_safe true w (run_keeps true events (new_world files limits retries cap) w (any_may events) (new_ok true files limits retries cap max) r)
+worlds_are_safe files config events w max r =
+    ok_safe true w (run_keeps true events (new_world files config) w (any_may events) (new_ok true files config max) r)
 
 pub peers_stay_home : PeersStayHome
-peers_stay_home files limits retries cap events w max may r =
-    ok_at_home w (run_keeps false events (new_world files limits retries cap) w may (new_ok false files limits retries cap max) r)
+peers_stay_home files config events w max may r =
+    ok_at_home w (run_keeps false events (new_world files config) w may (new_ok false files config max) r)

@@ -1,3 +1,4 @@
+-- A turn of an end, an opening and an ERROR keep a world.
 use Rattle.std.proofs.Common.{◌≡◌, ℕ, Bool, true, false, List, [], ◌∷◌, ◌++◌, map, Option, Some, None, sym, refl, ap, ◌∙◌, subst, arith, inl, inr}
 use Rattle.std.specs.Prelude.{◌≢◌, ◌⊎◌, ◌&&◌, not, slice_get, option_map}
 use Rattle.std.specs.List.{Contains}
@@ -17,7 +18,7 @@ use Rattle.tftp_player.specs.Rules.{message}
 use Rattle.tftp_player.specs.Said.{said}
 use Rattle.tftp_player.specs.Facts.{home}
 use Rattle.tftp_player.specs.Shows.{EndView, IsShown}
-use Rattle.tftp_player.specs.World.{WorldState, OpenedEnd, StoredFile, file_at, is_closed, datagram, replied, end_after, with_files, has_committed, world_after, opened_in, said_in, view_of_end}
+use Rattle.tftp_player.specs.World.{WorldState, OpenedEnd, StoredFile, file_at, in_the_way, is_closed, datagram, replied, end_after, with_files, has_committed, world_after, opened_in, said_in, view_of_end}
 use Rattle.tftp_player.specs.WorldSteps.{FilesAfter, Turns, Opens}
 use Rattle.tftp_player.specs.WorldKept.{EndKept, IsKeptIn, SaysSo, MaySpeak, IsOk}
 use Rattle.tftp_player.specs.declared.datagram.Datagram.{Datagram}
@@ -84,17 +85,20 @@ same_place x (Source left) = (refl, refl, refl)
 same_place x (Sink holding) = (refl, refl, refl)
 
 -- the files stay where they are
-files_stay : (b : Bool) (path bytes : List ℕ) (old new : List StoredFile) → FilesAfter b path bytes old new → (q c : List ℕ) → file_at old q ≡ Some c → file_at new q ≡ Some c
-files_stay true path bytes old new h q c e = h.others q (λ same. let f : None ≡ Some c = sym h.free ∙ (ap (file_at old) (sym same) ∙ e) in cc) ∙ e
-files_stay false path bytes old new h q c e = ap (λ (files : List StoredFile). file_at files q) h ∙ e
+files_stay : (overwrite b : Bool) (path bytes : List ℕ) (old new : List StoredFile) → FilesAfter overwrite b path bytes old new → overwrite ≡ false → (q c : List ℕ) → file_at old q ≡ Some c → file_at new q ≡ Some c
+files_stay overwrite true path bytes old new h kept q c e =
+    h.others q (λ same.
+    let free : file_at old path ≡ None = ap (λ (b : Bool). in_the_way b (file_at old path)) (sym kept) ∙ h.free in
+    let f : None ≡ Some c = sym free ∙ (ap (file_at old) (sym same) ∙ e) in cc) ∙ e
+files_stay overwrite false path bytes old new h kept q c e = ap (λ (files : List StoredFile). file_at files q) h ∙ e
 
 -- an end that changed nothing is kept when the world goes on
 still_kept : (w v : WorldState) (added : List Datagram) (x : OpenedEnd) → v.sent ≡ w.sent ++ added →
-    ((q c : List ℕ) → file_at w.files q ≡ Some c → file_at v.files q ≡ Some c) → IsKeptIn w x → IsKeptIn v x
-still_kept w v added x more stay h = record {
+    v.overwrite ≡ w.overwrite → (w.overwrite ≡ false → (q c : List ℕ) → file_at w.files q ≡ Some c → file_at v.files q ≡ Some c) → IsKeptIn w x → IsKeptIn v x
+still_kept w v added x more set stay h = record {
   kept = h.kept;
   last_sent = λ o. subst (λ (ds : List Datagram). Contains ds (datagram x.address x.state.last_sent_to x.state.last_sent)) (sym more) (Contains-append_left w.sent added (datagram x.address x.state.last_sent_to x.state.last_sent) (h.last_sent o));
-  stored = λ c r d. stay x.path x.stored (h.stored c r d);
+  stored = λ o c r d. let kept = sym set ∙ o in stay kept x.path x.stored (h.stored kept c r d);
 }
 
 -- what was sent and what is there, after an answer
@@ -146,12 +150,12 @@ turn_keeps strangers w v ok k x turn held report at open_now g t = subst (λ (z 
       Contains-append_right w.sent (replied x.address turn.reply) d
       (subst (λ (r : Option Reply). Contains (replied x.address r) d) (sym e) (here_in d))
 
-  stays : (q c : List ℕ) → file_at w.files q ≡ Some c → file_at t.files q ≡ Some c
-  stays = files_stay (not (is_client x.state.side) && has_committed x (end_after x turn held)) x.path (end_after x turn held).stored w.files t.files t.stored
+  stays : w.overwrite ≡ false → (q c : List ℕ) → file_at w.files q ≡ Some c → file_at t.files q ≡ Some c
+  stays = files_stay w.overwrite (not (is_client x.state.side) && has_committed x (end_after x turn held)) x.path (end_after x turn held).stored w.files t.files t.stored
 
-  stored_is : is_client (end_after x turn held).state.side ≡ false → is_sender (end_after x turn held).state.side ≡ false → is_complete (end_after x turn held).state.phase ≡ true →
+  stored_is : w.overwrite ≡ false → is_client (end_after x turn held).state.side ≡ false → is_sender (end_after x turn held).state.side ≡ false → is_complete (end_after x turn held).state.phase ≡ true →
       file_at t.files (end_after x turn held).path ≡ Some (end_after x turn held).stored
-  stored_is c r d =
+  stored_is o c r d =
       let y = end_after x turn held in
       let path = (same_place (record x { state = turn.end }) held).1 in
       let client : is_client x.state.side ≡ false = ap is_client (sym g.side) ∙ c in
@@ -159,8 +163,8 @@ turn_keeps strangers w v ok k x turn held report at open_now g t = subst (λ (z 
       let old = (ok.ends k x at).kept.committed receiver in
       let new : y.committed ≡ true = g.kept.committed r ∙ d in
       let under : file_at t.files x.path ≡ Some y.stored = elim (complete_then (is_complete x.state.phase) (is_client x.state.side) x.committed y.committed old new client) [
-        | inl h ↦ stays x.path y.stored ((ok.ends k x at).stored client receiver h.0 ∙ ap (λ (z : List ℕ). Some z) (sym (g.stored h.0)))
-        | inr h ↦ (subst (λ (b : Bool). FilesAfter b x.path y.stored w.files t.files) h t.stored).here
+        | inl h ↦ stays o x.path y.stored ((ok.ends k x at).stored o client receiver h.0 ∙ ap (λ (z : List ℕ). Some z) (sym (g.stored h.0)))
+        | inr h ↦ (subst (λ (b : Bool). FilesAfter w.overwrite b x.path y.stored w.files t.files) h t.stored).here
       ] in
       subst (λ (q : List ℕ). file_at t.files q ≡ Some y.stored) (sym path) under
 
@@ -182,7 +186,7 @@ turn_keeps strangers w v ok k x turn held report at open_now g t = subst (λ (z 
             last_sent = λ _. subst (λ (a : Endpoint). Contains (w.sent ++ replied x.address turn.reply) (datagram a y.state.last_sent_to y.state.last_sent)) (sym place) (last_sent_is y.state.last_sent_to y.state.last_sent g.last_sent);
             stored = stored_is;
           })
-          | inr h ↦ still_kept w (world_after w k x turn held t.files) (replied x.address turn.reply) z refl stays (ok.ends j z h.1)
+          | inr h ↦ still_kept w (world_after w k x turn held t.files) (replied x.address turn.reply) z refl refl stays (ok.ends j z h.1)
         ];
       }
 
@@ -204,11 +208,11 @@ opening_keeps strangers w v ok x report p spells shown own kept incomplete o = s
         speakers = speakers_then strangers w ok x.address own reply (m ∷ []) r;
         max_block = ok.max_block;
         ends = λ j z i. elim (slice_get-push_cases w.ends j x z i) [
-          | inl h ↦ still_kept w (opened_in w x) (replied x.address reply) z refl (λ q c e. e) (ok.ends j z h)
+          | inl h ↦ still_kept w (opened_in w x) (replied x.address reply) z refl refl (λ o q c e. e) (ok.ends j z h)
           | inr h ↦ subst (λ (u : OpenedEnd). IsKeptIn (opened_in w x) u) (sym h.1) (record {
             kept = kept;
             last_sent = λ _. Contains-append_right w.sent (replied x.address reply) (datagram x.address x.state.last_sent_to x.state.last_sent) (here_in (datagram x.address x.state.last_sent_to x.state.last_sent));
-            stored = λ c f d. absurd (true≢false (sym d ∙ incomplete));
+            stored = λ o c f d. absurd (true≢false (sym d ∙ incomplete));
           })
         ];
       }
@@ -228,5 +232,5 @@ saying_keeps strangers w ok from to bytes p spells shown own =
       only = only_then strangers w ok from own reply (m ∷ []) r;
       speakers = speakers_then strangers w ok from own reply (m ∷ []) r;
       max_block = ok.max_block;
-      ends = λ j z i. still_kept w (said_in w (datagram from to bytes)) (replied from reply) z refl (λ q c e. e) (ok.ends j z i);
+      ends = λ j z i. still_kept w (said_in w (datagram from to bytes)) (replied from reply) z refl refl (λ o q c e. e) (ok.ends j z i);
     }

@@ -11,12 +11,12 @@ home false = At_server
 
 -- what a datagram to `to` tells of the end x that sent it
 abbrev pub Told : Party → Endpoint → Packet → Type 0
-Told x to (Request write mode) =
+Told x to (Request write request) =
     record {
       is_open : x.is_open ≡ true;
       client : x.client ≡ true;
       sender : x.sender ≡ write;
-      mode : x.mode ≡ mode;
+      mode : x.mode ≡ request.mode;
     }
 Told x to (Data n bytes) =
     record {

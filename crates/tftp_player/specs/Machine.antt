@@ -3,6 +3,7 @@ use Rattle.std.specs.Prelude.{ℕ, ◌==◌, nat_eq, if◌then◌else◌, Bool, 
 use Rattle.std.specs.Cmp.Lexicographic.{pointwise}
 use Rattle.tftp_wire.specs.declared.mode.Mode.{Mode}
 use Rattle.tftp_wire.specs.declared.mode.Mode.TheVariants.{Octet}
+use Rattle.tftp_wire.specs.declared.packet.Request.{Request as WireRequest}
 pub use Rattle.tftp_ends.specs.declared.endpoint.Endpoint.{Endpoint}
 
 -- whether the two addresses are the same
@@ -39,9 +40,9 @@ host_of e = host_at e.ip
 abbrev pub request_port : Endpoint
 request_port = record { ip = server_ip; port = 69 }
 
--- what a datagram says, as far as the machine goes: of an OACK the block size that it gives
+-- what a datagram says, as far as the machine goes: the whole request, and of an OACK the block size that it gives
 pub data Packet : Type 0 where
-  Request : (write : Bool) → Mode → Packet
+  Request : (write : Bool) → WireRequest → Packet
   Data : (block : ℕ) → (bytes : List ℕ) → Packet
   Ack : (block : ℕ) → Packet
   Oack : (size : ℕ) → Packet
@@ -64,6 +65,8 @@ pub record Party : Type 0 where
   -- a server's end that was opened without options
   pub plain : Bool
   pub mode : Mode
+  -- what a client asked, or what opened a server's end
+  pub request : WireRequest
   pub peer : Option Endpoint
   -- the block size, in bytes
   pub size : ℕ
@@ -76,6 +79,10 @@ pub record Party : Type 0 where
   -- a sender's wire text, or what a receiver took of it
   pub text : List ℕ
 
+-- no request
+abbrev pub no_request : WireRequest
+no_request = record { name = []; mode = Octet; options = [] }
+
 -- what stands at an endpoint that no end has opened
 abbrev pub nobody : Party
 nobody =
@@ -85,6 +92,7 @@ nobody =
       sender = false;
       plain = false;
       mode = Octet;
+      request = no_request;
       peer = None;
       size = 512;
       number = 0;

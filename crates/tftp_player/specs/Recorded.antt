@@ -9,7 +9,7 @@ use Rattle.tftp_player.specs.Rules.{message}
 pub record IsRecorded (sent : List Message) (a : Endpoint) (x : Party) : Type 0 where
   -- the peer of a server's end sent the request that it answers
   pub requested : x.client ≡ false → (p : Endpoint) → x.peer ≡ Some p →
-      Contains sent (message p request_port (Request (not x.sender) x.mode))
+      Contains sent (message p request_port (Request (not x.sender) x.request))
   -- a server's end that was opened with options sent its OACK
   pub oack : x.client ≡ false → x.plain ≡ false → (p : Endpoint) → x.peer ≡ Some p →
       Contains sent (message a p (Oack x.size))

@@ -7,7 +7,7 @@ use Rattle.tftp_file.specs.declared.fault.StoreFault.TheVariants.{Missing, Exist
 use Rattle.tftp_ends.specs.End.{is_client}
 use Rattle.tftp_server.specs.Port.{Ask, Service, answered, asks}
 use Rattle.tftp_server.specs.Store.{measured}
-use Rattle.tftp_player.specs.World.{WorldState, OpenedEnd, file_at, is_closed}
+use Rattle.tftp_player.specs.World.{WorldState, OpenedEnd, file_at, in_the_way, is_closed}
 
 -- how many transfers the server holds: its ends that are not closed
 abbrev pub open_transfers : List OpenedEnd → ℕ
@@ -19,14 +19,15 @@ abbrev pub opened_of : Mode → Option (List ℕ) → Result ℕ StoreFault
 opened_of mode None = Err Missing
 opened_of mode (Some file) = Ok (measured mode file)
 
--- a draft is begun where there is no file
+-- a draft is begun where no file is in its way
 abbrev pub begun_of : Option (List ℕ) → Result (Unit {0}) StoreFault
 begun_of None = Ok tt
 begun_of (Some file) = Err Exists
 
 -- what comes of what the port asks of its store
 abbrev pub served : WorldState → Ask → Service
-served w ask = answered w.limits (λ path mode. opened_of mode (file_at w.files path)) (λ path. begun_of (file_at w.files path)) ask
+served w ask =
+    answered w.limits (λ path mode. opened_of mode (file_at w.files path)) (λ path. begun_of (in_the_way w.overwrite (file_at w.files path))) ask
 
 -- what comes of a datagram
 abbrev pub service : WorldState → List ℕ → Option Packet → Service

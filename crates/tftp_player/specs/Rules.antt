@@ -1,7 +1,7 @@
 -- What may happen in the guarded machine: any rule may act whenever its guard holds.
-use Rattle.std.specs.Prelude.{◌≡◌, ℕ, ◌+◌, ◌<◌, ◌≤◌, Bool, true, false, not, nat_lt, if◌then◌else◌, List, [], ◌∷◌, ◌++◌, length, None, Some}
+use Rattle.std.specs.Prelude.{◌≡◌, ℕ, ◌+◌, ◌<◌, ◌≤◌, Bool, true, false, not, nat_lt, if◌then◌else◌, List, [], ◌∷◌, ◌++◌, length, None, Some, ◌⊎◌}
 use Rattle.std.specs.List.{Contains}
-use Rattle.tftp_wire.specs.declared.mode.Mode.{Mode}
+use Rattle.tftp_wire.specs.declared.packet.Request.{Request as WireRequest}
 use Rattle.tftp_file.specs.Block.{block, block_count, Fits}
 use Rattle.tftp_player.specs.Machine.{Endpoint, At_server, At_client, Elsewhere, host_of, request_port, Packet, Request, Data, Ack, Oack, Error, Message, Party, nobody, Machine, with_end}
 pub use Rattle.tftp_player.specs.Machine.{start}
@@ -9,11 +9,11 @@ pub use Rattle.tftp_player.specs.Machine.{start}
 -- what may happen: `at` is the endpoint of the end that acts, and `peer` the other's
 pub data Rule : Type 0 where
   -- a client opens and sends its request (RFC 1350, section 4)
-  Asks : (at : Endpoint) (write : Bool) → Mode → (text : List ℕ) → Rule
+  Asks : (at : Endpoint) (write : Bool) → WireRequest → (text : List ℕ) → Rule
   -- a request opens an end at the server, which answers by DATA 1 or ACK 0 (RFC 1350, section 4)
-  Opens_plainly : (at peer : Endpoint) (write : Bool) → Mode → (text : List ℕ) → Rule
+  Opens_plainly : (at peer : Endpoint) (write : Bool) → WireRequest → (text : List ℕ) → Rule
   -- a request opens an end at the server, which answers by an OACK (RFC 2347, "Negotiation Protocol")
-  Opens_with : (at peer : Endpoint) (write : Bool) → Mode → (text : List ℕ) → (size : ℕ) → Rule
+  Opens_with : (at peer : Endpoint) (write : Bool) → WireRequest → (text : List ℕ) → (size : ℕ) → Rule
   -- a waiting client takes an OACK, and answers by DATA 1 or ACK 0 (RFC 2347, "Negotiation Protocol")
   Takes_oack : (at peer : Endpoint) (size : ℕ) → Rule
   -- a waiting writer takes ACK 0, and answers by DATA 1
@@ -67,14 +67,14 @@ HasText false text size = Fits text size
 
 -- when the rule may act, where these were sent and x is the end that acts
 abbrev pub MayAct : Rule → List Message → Party → Type 0
-MayAct (Asks at write mode text) sent x =
+MayAct (Asks at write request text) sent x =
     (x.is_open ≡ false) × (host_of at ≡ At_client) × (write ≡ false → text ≡ [])
-MayAct (Opens_plainly at peer write mode text) sent x =
+MayAct (Opens_plainly at peer write request text) sent x =
     (x.is_open ≡ false) × (host_of at ≡ At_server)
-    × Contains sent (message peer request_port (Request write mode)) × HasText write text 512
-MayAct (Opens_with at peer write mode text size) sent x =
+    × Contains sent (message peer request_port (Request write request)) × HasText write text 512
+MayAct (Opens_with at peer write request text size) sent x =
     (x.is_open ≡ false) × (host_of at ≡ At_server)
-    × Contains sent (message peer request_port (Request write mode)) × HasText write text size × (0 < size)
+    × Contains sent (message peer request_port (Request write request)) × HasText write text size × (0 < size)
 MayAct (Takes_oack at peer size) sent x =
     Waits x peer × Contains sent (message peer at (Oack size)) × (x.sender ≡ true → Fits x.text size)
 MayAct (Takes_ack at peer) sent x =
@@ -91,17 +91,19 @@ MayAct (Repeats old) sent x = Contains sent old
 MayAct (Strays stray) sent x = host_of stray.from ≡ Elsewhere
 
 -- a client that asks
-abbrev pub asking : Bool → Mode → List ℕ → Party
-asking write mode text = record nobody { is_open = true; client = true; sender = write; mode = mode; text = text }
+abbrev pub asking : Bool → WireRequest → List ℕ → Party
+asking write request text =
+    record nobody { is_open = true; client = true; sender = write; mode = request.mode; request = request; text = text }
 
 -- a server's end, as it opens
-abbrev pub opened : Bool → Endpoint → Bool → Mode → List ℕ → ℕ → ℕ → Party
-opened plain peer write mode text size number =
+abbrev pub opened : Bool → Endpoint → Bool → WireRequest → List ℕ → ℕ → ℕ → Party
+opened plain peer write request text size number =
     record nobody {
       is_open = true;
       sender = not write;
       plain = plain;
-      mode = mode;
+      mode = request.mode;
+      request = request;
       peer = Some peer;
       size = size;
       number = number;
@@ -118,9 +120,9 @@ appended x bytes = record x { number = x.number + 1; done = nat_lt (length bytes
 
 -- where the end that acts is
 abbrev pub actor : Rule → Endpoint
-actor (Asks at write mode text) = at
-actor (Opens_plainly at peer write mode text) = at
-actor (Opens_with at peer write mode text size) = at
+actor (Asks at write request text) = at
+actor (Opens_plainly at peer write request text) = at
+actor (Opens_with at peer write request text size) = at
 actor (Takes_oack at peer size) = at
 actor (Takes_ack at peer) = at
 actor (Takes_data at peer bytes) = at
@@ -135,9 +137,9 @@ actor (Strays stray) = stray.from
 
 -- the end that acts, after the rule
 abbrev pub party_after : Rule → Party → Party
-party_after (Asks at write mode text) x = asking write mode text
-party_after (Opens_plainly at peer write mode text) x = opened true peer write mode text 512 (if write then 0 else 1)
-party_after (Opens_with at peer write mode text size) x = opened false peer write mode text size 0
+party_after (Asks at write request text) x = asking write request text
+party_after (Opens_plainly at peer write request text) x = opened true peer write request text 512 (if write then 0 else 1)
+party_after (Opens_with at peer write request text size) x = opened false peer write request text size 0
 party_after (Takes_oack at peer size) x = taken x peer size
 party_after (Takes_ack at peer) x = taken x peer 512
 party_after (Takes_data at peer bytes) x = taken x peer 512
@@ -152,10 +154,10 @@ party_after (Strays stray) x = x
 
 -- what the rule sends, where the end that acts was x
 abbrev pub packets : Rule → Party → List Message
-packets (Asks at write mode text) x = message at request_port (Request write mode) ∷ []
-packets (Opens_plainly at peer write mode text) x =
+packets (Asks at write request text) x = message at request_port (Request write request) ∷ []
+packets (Opens_plainly at peer write request text) x =
     message at peer (if write then Ack 0 else Data 1 (block text 512 1)) ∷ []
-packets (Opens_with at peer write mode text size) x = message at peer (Oack size) ∷ []
+packets (Opens_with at peer write request text size) x = message at peer (Oack size) ∷ []
 packets (Takes_oack at peer size) x =
     message at peer (if x.sender then Data 1 (block x.text size 1) else Ack 0) ∷ []
 packets (Takes_ack at peer) x = message at peer (Data 1 (block x.text 512 1)) ∷ []
@@ -182,10 +184,30 @@ after r m =
       party = with_end m.party (actor r) (party_after r (m.party (actor r)));
     }
 
+-- this request of this client opened the end
+pub record IsOpenedBy (x : Party) (peer : Endpoint) (write : Bool) (request : WireRequest) : Type 0 where
+  pub is_open : x.is_open ≡ true
+  pub server : x.client ≡ false
+  pub sender : x.sender ≡ not write
+  pub peer_is : x.peer ≡ Some peer
+  pub request_is : x.request ≡ request
+
+-- every end that this request of this client opened is done or failed
+abbrev pub AreOver : Machine → Endpoint → Bool → WireRequest → Type 0
+AreOver m peer write request =
+    (a : Endpoint) → IsOpenedBy (m.party a) peer write request → ((m.party a).done ≡ true) ⊎ ((m.party a).failed ≡ true)
+
+-- a request that is repeated while its transfer is open opens nothing: it opens an end only where
+-- those that it opened before are over
+abbrev pub OpensAnew : Rule → Machine → Type 0
+OpensAnew (Opens_plainly at peer write request text) m = AreOver m peer write request
+OpensAnew (Opens_with at peer write request text size) m = AreOver m peer write request
+OpensAnew r m = Unit {0}
+
 -- each rule may act when its turn comes
 abbrev pub IsLegal : List Rule → Machine → Type 0
 IsLegal [] m = Unit {0}
-IsLegal (r ∷ rs) m = Guard r m × IsLegal rs (after r m)
+IsLegal (r ∷ rs) m = Guard r m × OpensAnew r m × IsLegal rs (after r m)
 
 -- the rules, one after another
 abbrev pub run : List Rule → Machine → Machine

@@ -35,8 +35,8 @@ oack_size options = size (told_options options)
 
 -- the packet, as far as the machine goes
 abbrev pub said : WirePacket → Packet
-said (Read request) = Request false request.mode
-said (Write request) = Request true request.mode
+said (Read request) = Request false request
+said (Write request) = Request true request
 said (WireData block bytes) = Data block bytes
 said (WireAck block) = Ack block
 said (WireError code text) = Error

@@ -2,7 +2,7 @@
 use Rattle.std.specs.Prelude.{◌≡◌, ℕ, ◌+◌, Bool, true, false, List, [], ◌∷◌, ◌++◌, slice_get, Option, Some}
 use Rattle.tftp_wire.specs.declared.mode.Mode.{Mode}
 use Rattle.tftp_file.specs.Block.{IsBeginningOf}
-use Rattle.tftp_player.specs.Machine.{Endpoint, Message, Party, Machine}
+use Rattle.tftp_player.specs.Machine.{Endpoint, Message, Party, no_request, Machine}
 use Rattle.tftp_player.specs.Rules.{Rule, Asks, Opens_plainly, Opens_with, Says_error, Repeats, Strays, actor, MayAct, packets, party_after}
 use Rattle.tftp_player.specs.Facts.{Holds}
 use Rattle.tftp_player.specs.Recorded.{AreRecorded}
@@ -23,7 +23,7 @@ pub record EndView : Type 0 where
   -- a sender's wire text; of a receiver what it stored, as it travels, and the text held back
   pub text : List ℕ
 
--- the party with all that is told of the end
+-- the party with all that is told of the end: not whether it was opened plainly, nor its request
 abbrev pub party_of : EndView → Party
 party_of e =
     record {
@@ -32,6 +32,7 @@ party_of e =
       sender = e.sender;
       plain = false;
       mode = e.mode;
+      request = no_request;
       peer = e.peer;
       size = e.size;
       number = e.number;
@@ -102,9 +103,9 @@ sent_by (r ∷ rs) x = packets r x ++ sent_by rs (party_after r x)
 
 -- the rule opens an end
 abbrev pub Opens : Rule → Type 0
-Opens (Asks at write mode text) = Unit {0}
-Opens (Opens_plainly at peer write mode text) = Unit {0}
-Opens (Opens_with at peer write mode text size) = Unit {0}
+Opens (Asks at write request text) = Unit {0}
+Opens (Opens_plainly at peer write request text) = Unit {0}
+Opens (Opens_with at peer write request text size) = Unit {0}
 Opens _ = ⊥
 
 -- the rule changes no end

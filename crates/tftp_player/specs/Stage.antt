@@ -11,7 +11,7 @@ use Rattle.tftp_player.specs.Played.{ends_from, records_from, AllKept}
 use Rattle.tftp_player.specs.Serving.{PlayedServer, Transfer}
 use Rattle.tftp_player.specs.Requests.{open_transfers}
 use Rattle.tftp_player.specs.Machine.{Endpoint}
-use Rattle.tftp_player.specs.World.{WorldState, OpenedEnd, StoredFile, file_at, is_closed, files_of, end_after, has_committed, at_rest}
+use Rattle.tftp_player.specs.World.{WorldState, OpenedEnd, StoredFile, file_at, in_the_way, is_closed, files_of, end_after, has_committed, at_rest}
 use Rattle.tftp_player.specs.WorldSteps.{never_fails, may_refuse_append, may_refuse_commit, FilesAfter}
 use Rattle.tftp_server.specs.declared.config.Config.{Config}
 use Rattle.tftp_player.specs.declared.datagram.Datagram.{Datagram}
@@ -87,15 +87,16 @@ world_of config sent server players =
       limits = config.limits;
       retries = config.retries;
       cap = config.cap;
+      overwrite = config.overwrite;
     }
 
 -- a datagram came to an end of this place and was taken; the server's files stay
-pub record DatagramAt (place : ℕ) (x : OpenedEnd) (from : Endpoint) (bytes : List ℕ) (files : List StoredFile) (ends ends' : List OpenedEnd) (effect : Effect) : Type 0 where
+pub record DatagramAt (place : ℕ) (x : OpenedEnd) (from : Endpoint) (bytes : List ℕ) (overwrite : Bool) (files : List StoredFile) (ends ends' : List OpenedEnd) (effect : Effect) : Type 0 where
   pub open_now : is_closed x ≡ false
   pub turn : Turn
   pub held : Files (List ℕ) Holding
-  pub steps : DatagramStep (λ (s : List ℕ). Some s) never_fails (λ (h : Holding). Some h) may_refuse_append (may_refuse_commit (is_client x.state.side) (file_at files x.path)) from bytes x.state (files_of x) turn held
-  pub commits : FilesAfter (not (is_client x.state.side) && has_committed x (end_after x turn held)) x.path (end_after x turn held).stored files files
+  pub steps : DatagramStep (λ (s : List ℕ). Some s) never_fails (λ (h : Holding). Some h) may_refuse_append (may_refuse_commit (is_client x.state.side) (in_the_way overwrite (file_at files x.path))) from bytes x.state (files_of x) turn held
+  pub commits : FilesAfter overwrite (not (is_client x.state.side) && has_committed x (end_after x turn held)) x.path (end_after x turn held).stored files files
   pub turns : EndTurns place x turn held ends ends' effect
 
 -- nothing came of it
@@ -110,5 +111,5 @@ pub record StageDatagramStep (place : ℕ) (from to : Endpoint) (bytes : List �
   pub comes : ((end.address ≢ to) × LostAt to (ends_of before players) (ends_of after players') effect)
       ⊎ ((end.address ≡ to)
       × (((is_closed end ≡ true) × LostAt to (ends_of before players) (ends_of after players') effect)
-      ⊎ DatagramAt place end from bytes before.store.files (ends_of before players) (ends_of after players') effect))
+      ⊎ DatagramAt place end from bytes before.config.overwrite before.store.files (ends_of before players) (ends_of after players') effect))
   pub same : SameStore before after

@@ -6,6 +6,7 @@ use Rattle.std.specs.Map.{lookup}
 use Rattle.std.specs.Ordering.{nat_cmp}
 use Rattle.tftp_wire.specs.declared.mode.Mode.{Mode}
 use Rattle.tftp_negotiate.specs.declared.limits.Limits.{Limits}
+use Rattle.tftp_server.specs.declared.config.Config.{Config}
 use Rattle.tftp_file.specs.declared.files.Files.{Files}
 use Rattle.tftp_file.specs.declared.files.Files.TheVariants.{Source, Sink}
 use Rattle.tftp_file.specs.Netascii.{wire_text}
@@ -30,6 +31,11 @@ StoredFile = List ℕ × List ℕ
 -- what stands under a path
 abbrev pub file_at : List StoredFile → List ℕ → Option (List ℕ)
 file_at files path = lookup (is_at (slice_cmp nat_cmp path)) files
+
+-- the file that a write finds in its way: none where it may replace one
+abbrev pub in_the_way : Bool → Option (List ℕ) → Option (List ℕ)
+in_the_way true there = None
+in_the_way false there = there
 
 -- an end that was opened, and the file that it sends or receives
 pub record OpenedEnd : Type 0 where
@@ -59,11 +65,21 @@ pub record WorldState : Type 0 where
   pub retries : ℕ
   -- how many transfers the server holds at most
   pub cap : ℕ
+  -- a write may replace a file that is there
+  pub overwrite : Bool
 
 -- a world in which nothing has happened
-abbrev pub new_world : List StoredFile → Limits → ℕ → ℕ → WorldState
-new_world files limits retries cap =
-    record { sent = []; files = files; ends = []; limits = limits; retries = retries; cap = cap }
+abbrev pub new_world : List StoredFile → Config → WorldState
+new_world files config =
+    record {
+      sent = [];
+      files = files;
+      ends = [];
+      limits = config.limits;
+      retries = config.retries;
+      cap = config.cap;
+      overwrite = config.overwrite;
+    }
 
 -- the port of the next end
 abbrev pub next_port : WorldState → ℕ

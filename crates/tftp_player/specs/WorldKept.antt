@@ -64,8 +64,8 @@ pub record IsKeptIn (w : WorldState) (x : OpenedEnd) : Type 0 where
   pub kept : EndKept x
   -- the last datagram sent of an open end was sent
   pub last_sent : is_closed x ≡ false → Contains w.sent (datagram x.address x.state.last_sent_to x.state.last_sent)
-  -- what a complete receiver stored stands under its path at the server
-  pub stored : is_client x.state.side ≡ false → is_sender x.state.side ≡ false → is_complete x.state.phase ≡ true →
+  -- what a complete receiver stored stands under its path at the server, where no write replaces it
+  pub stored : w.overwrite ≡ false → is_client x.state.side ≡ false → is_sender x.state.side ≡ false → is_complete x.state.phase ≡ true →
       file_at w.files x.path ≡ Some x.stored
 
 -- the datagram says this

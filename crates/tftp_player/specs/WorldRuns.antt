@@ -1,6 +1,6 @@
 -- Every run of a world.
 use Rattle.std.specs.Prelude.{◌≡◌, ℕ, Bool, false, List, [], ◌∷◌}
-use Rattle.tftp_negotiate.specs.declared.limits.Limits.{Limits}
+use Rattle.tftp_server.specs.declared.config.Config.{Config}
 use Rattle.tftp_negotiate.specs.Ranges.{IsBlockSize}
 use Rattle.tftp_player.specs.World.{WorldState, StoredFile, new_world}
 use Rattle.tftp_player.specs.WorldSteps.{WorldStep}
@@ -28,14 +28,14 @@ MayAllHappen strangers (event ∷ events) = MayHappen strangers event × MayAllH
 -- whatever happens, the world stays safe
 abbrev pub WorldsAreSafe : Type 0
 WorldsAreSafe =
-    (files : List StoredFile) (limits : Limits) (retries cap : ℕ) (events : List Event) (w : WorldState) →
-    IsBlockSize limits.max_block → Runs (new_world files limits retries cap) events w → IsSafe w
+    (files : List StoredFile) (config : Config) (events : List Event) (w : WorldState) →
+    IsBlockSize config.limits.max_block → Runs (new_world files config) events w → IsSafe w
 
 -- without strangers every peer is at one of the two hosts
 abbrev pub PeersStayHome : Type 0
 PeersStayHome =
-    (files : List StoredFile) (limits : Limits) (retries cap : ℕ) (events : List Event) (w : WorldState) →
-    IsBlockSize limits.max_block → MayAllHappen false events → Runs (new_world files limits retries cap) events w → HasPeersAtHome w
+    (files : List StoredFile) (config : Config) (events : List Event) (w : WorldState) →
+    IsBlockSize config.limits.max_block → MayAllHappen false events → Runs (new_world files config) events w → HasPeersAtHome w
 
 -- a step keeps what every world keeps
 abbrev pub StepsKeep : Type 0

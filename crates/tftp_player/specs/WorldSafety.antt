@@ -47,8 +47,8 @@ pub record IsSafe (w : WorldState) : Type 0 where
   pub is_whole : (x : OpenedEnd) → IsIn w x → IsReceiver x → IsComplete x →
       (p : Endpoint) × HasPeer x p
       × (host_of p ≢ Elsewhere → (y : OpenedEnd) × IsSenderAt w p y × (x.stored ≡ y.file))
-  -- and which at the server stands under its path
-  pub is_at_path : (x : OpenedEnd) → IsIn w x → IsReceiver x → IsComplete x → is_client x.state.side ≡ false →
+  -- and which at the server stands under its path, unless a later write may have replaced it
+  pub is_at_path : w.overwrite ≡ false → (x : OpenedEnd) → IsIn w x → IsReceiver x → IsComplete x → is_client x.state.side ≡ false →
       file_at w.files x.path ≡ Some x.stored
   -- a sender that is complete has a peer, which has it as its own peer and is complete
   pub sender_last : (x : OpenedEnd) → IsIn w x → is_sender x.state.side ≡ true → IsComplete x →

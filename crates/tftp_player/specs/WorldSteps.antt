@@ -9,7 +9,7 @@ use Rattle.tftp_ends.specs.End.{is_sender, is_client}
 use Rattle.tftp_ends.specs.Action.{Decodes}
 use Rattle.tftp_ends.specs.Step.{Turn, DatagramStep, timeout_turn, error_bytes}
 use Rattle.tftp_player.specs.Machine.{Endpoint, Elsewhere, host_of, request_port}
-use Rattle.tftp_player.specs.World.{StoredFile, file_at, OpenedEnd, WorldState, next_port, is_closed, datagram, resting, files_of, end_after, has_committed, world_after, report_of, no_report, opened_in, said_in, sent_report}
+use Rattle.tftp_player.specs.World.{StoredFile, file_at, in_the_way, OpenedEnd, WorldState, next_port, is_closed, datagram, resting, files_of, end_after, has_committed, world_after, report_of, no_report, opened_in, said_in, sent_report}
 use Rattle.tftp_player.specs.Openings.{reading_client, writing_client, MayRead, MayWrite, sending_end, receiving_end}
 use Rattle.tftp_server.specs.Port.{Service, Silent, Refused, Sends, Takes}
 use Rattle.tftp_player.specs.Requests.{service}
@@ -30,28 +30,28 @@ may_refuse_append holding bytes faults.Full = holding.refuses ≡ true
 may_refuse_append holding bytes faults.Memory = ⊤
 may_refuse_append holding bytes fault = ⊥
 
--- a commit at a client is refused only as it was told; at the server also where memory is wanting, or the path is taken
+-- a commit at a client is refused only as it was told; at the server also when out of memory, or where a file is in its way
 abbrev pub may_refuse_commit : Bool → Option (List ℕ) → Holding → StoreFault → Type 0
 may_refuse_commit true there holding faults.Full = holding.refuses ≡ true
 may_refuse_commit false there holding faults.Full = (holding.refuses ≡ true) ⊎ (there ≡ None)
 may_refuse_commit false there holding faults.Exists = (holding.refuses ≡ false) × (there ≢ None)
 may_refuse_commit client there holding fault = ⊥
 
--- the file now stands under a path that was free, and the others stand where they stood
-pub record IsStored (path bytes : List ℕ) (old new : List StoredFile) : Type 0 where
-  pub free : file_at old path ≡ None
+-- the file now stands under a path where none was in the way, and the others stand where they stood
+pub record IsStored (overwrite : Bool) (path bytes : List ℕ) (old new : List StoredFile) : Type 0 where
+  pub free : in_the_way overwrite (file_at old path) ≡ None
   pub here : file_at new path ≡ Some bytes
   pub others : (q : List ℕ) → q ≢ path → file_at new q ≡ file_at old q
 
 -- the server's files, by whether one of its ends has committed
-abbrev pub FilesAfter : Bool → List ℕ → List ℕ → List StoredFile → List StoredFile → Type 0
-FilesAfter true path bytes old new = IsStored path bytes old new
-FilesAfter false path bytes old new = new ≡ old
+abbrev pub FilesAfter : Bool → Bool → List ℕ → List ℕ → List StoredFile → List StoredFile → Type 0
+FilesAfter overwrite true path bytes old new = IsStored overwrite path bytes old new
+FilesAfter overwrite false path bytes old new = new ≡ old
 
 -- the end at place k has made this turn of an event, and its file is this now
 pub record Turns (old : WorldState) (k : ℕ) (x : OpenedEnd) (turn : Turn) (held : Files (List ℕ) Holding) (report : Report) (new : WorldState) : Type 0 where
   pub files : List StoredFile
-  pub stored : FilesAfter (not (is_client x.state.side) && has_committed x (end_after x turn held)) x.path (end_after x turn held).stored old.files files
+  pub stored : FilesAfter old.overwrite (not (is_client x.state.side) && has_committed x (end_after x turn held)) x.path (end_after x turn held).stored old.files files
   pub tells : report ≡ report_of old x turn
   pub is : new ≡ world_after old k x turn held files
 
@@ -82,7 +82,7 @@ Serves (Takes path mode agreed) old from report new = Opens old (receiving_end o
 pub record OnDatagram (old : WorldState) (k : ℕ) (x : OpenedEnd) (from : Endpoint) (bytes : List ℕ) (report : Report) (new : WorldState) : Type 0 where
   pub turn : Turn
   pub held : Files (List ℕ) Holding
-  pub steps : DatagramStep (λ (s : List ℕ). Some s) never_fails (λ (h : Holding). Some h) may_refuse_append (may_refuse_commit (is_client x.state.side) (file_at old.files x.path)) from bytes x.state (files_of x) turn held
+  pub steps : DatagramStep (λ (s : List ℕ). Some s) never_fails (λ (h : Holding). Some h) may_refuse_append (may_refuse_commit (is_client x.state.side) (in_the_way old.overwrite (file_at old.files x.path))) from bytes x.state (files_of x) turn held
   pub turns : Turns old k x turn held report new
 
 -- what a datagram did where it came to

@@ -60,7 +60,7 @@ impl Stage {
     ) -> Result<Stage, WorldFault>
         requires paths { has_distinct_paths (contents files.items) ≡ true }
         requires config { IsConfig config }
-        ensures new { IfOk result (λ world. world ≡ new_world (in_path_order (contents files.items)) config.limits config.retries config.cap) }
+        ensures new { IfOk result (λ world. world ≡ new_world (in_path_order (contents files.items)) config) }
         ensures memory { IfErr result (λ fault. fault ≡ WorldFault.Memory) }
     {
         let Ok(store) = MemStore::new(alloc, files) else {

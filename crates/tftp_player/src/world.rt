@@ -62,8 +62,8 @@ impl World {
     ) -> Result<World, WorldFault>
         requires paths { has_distinct_paths (contents files.items) ≡ true }
         requires config { IsConfig config }
-        ensures new { IfOk result (λ world. world.state ≡
-            new_world (in_path_order (contents files.items)) config.limits config.retries config.cap) }
+        ensures new { IfOk result (λ world.
+            world.state ≡ new_world (in_path_order (contents files.items)) config) }
         ensures strayed { IfOk result (λ world. world.strayed ≡ false) }
         ensures memory { IfErr result (λ fault. fault ≡ WorldFault.Memory) }
         ensures safe { IfOk result (λ world. IsSafe world.state) }

@@ -10,7 +10,7 @@ use Rattle.tftp_player.proofs.world.World.new.Goals as goal
 pub invariant_of-result : goal.invariant_of-result
 invariant_of-result c =
     subst (λ (w : WorldState). IsOk false w) (sym c.in_ok-stage.ensures.new)
-    (new_ok false (in_path_order (contents c.args.files.items)) c.args.config.limits c.args.config.retries c.args.config.cap c.requires.config.max_block)
+    (new_ok false (in_path_order (contents c.args.files.items)) c.args.config c.requires.config.max_block)
 
 pub returns-clause-safe : goal.returns-clause-safe
 returns-clause-safe c = kept_is_safe false c.in_ok-stage.stage (invariant_of-result c)
