@@ -2,11 +2,17 @@
 #![tactic(auto)]
 
 #[cfg(test)]
+mod append_rows;
+#[cfg(test)]
 mod command_rows;
 #[cfg(test)]
 mod end_rows;
 #[cfg(test)]
+mod fault_rows;
+#[cfg(test)]
 mod faulty_streams;
+#[cfg(test)]
+mod lending_rows;
 #[cfg(test)]
 mod memory_rows;
 #[cfg(test)]
@@ -33,3 +39,5 @@ mod store_rows;
 mod stream_rows;
 #[cfg(test)]
 mod vectors;
+#[cfg(test)]
+mod waiting_rows;

@@ -5,7 +5,7 @@ use crate::vectors::VECTORS;
 use std::alloc::Global;
 use std::process::Abort;
 use std::test::Fail;
-use tftp_cmd::show_run;
+use tftp_cmd::{show_lines, show_run};
 
 fn runs(rt: &impl Abort, alloc: Global, input: &[u8], want: &str, status: u8) {
     let mut output = Vec::new(alloc);
@@ -65,4 +65,16 @@ fn failures_are_two(rt: HostRuntime) {
     }
     let status = show_run(rt.alloc(), b"00040000\n".as_slice(), Full);
     assert_eq!(rt; status, 2, "a writer that fails");
+}
+
+/// The lines alone, for a reader and a writer that the caller keeps.
+#[test]
+fn lines_are_appended(rt: HostRuntime) -> Result<(), Fail> {
+    let mut output = Vec::from_slice(rt.alloc(), b"old\n")?;
+    let mut input = b"00040000\n0".as_slice();
+    let packets = show_lines(rt.alloc(), &mut input, &mut output)?;
+    assert!(rt; !packets, "one is no packet");
+    let want = b"old\nACK 0\nnot hex\n".as_slice();
+    assert_eq!(rt; output.as_slice(), want, "behind the old bytes");
+    Ok(())
 }
