@@ -45,10 +45,7 @@ pub fn tftpd_words<R: Runtime + AllocGlobal + Net, S: AsStr>(rt: &R, words: &[S]
 }
 
 /// As [`tftpd_words`]; it fails when out of memory, or where standard error cannot be written.
-fn serve_words<'a, R: Runtime + AllocGlobal + Net, S: AsStr>(
-    rt: &R,
-    words: &'a [S],
-) -> Result<u8>
+fn serve_words<'a, R: Runtime + AllocGlobal + Net, S: AsStr>(rt: &R, words: &'a [S]) -> Result<u8>
     ensures { IfOk result (λ status. status ≤ 2) }
 {
     let mut command = command(rt.alloc())?;

@@ -99,16 +99,25 @@ fn names_at_the_commit(rt: HostRuntime) -> Result<(), Fail> {
     assert_eq!(rt; fs::read_to_string(&rt, target)?.as_str(), "first");
     assert!(rt; !fs::exists(&rt, draft_name)?, "after its commit");
 
-    assert_eq!(rt; store.begin(alloc, &n, false).err(), Some(StoreFault::Exists));
+    assert_eq!(rt;
+        store.begin(alloc, &n, false).err(),
+        Some(StoreFault::Exists)
+    );
     let mut draft = store.begin(alloc, &n, true)?;
     store.append(&mut draft, b"second")?;
-    assert_eq!(rt; store.commit(&n, &mut draft, false), Err(StoreFault::Exists));
+    assert_eq!(rt;
+        store.commit(&n, &mut draft, false),
+        Err(StoreFault::Exists)
+    );
     assert_eq!(rt; fs::read_to_string(&rt, target)?.as_str(), "first");
     store.commit(&n, &mut draft, true)?;
     assert_eq!(rt; fs::read_to_string(&rt, target)?.as_str(), "second");
 
     let deep = path(alloc, "missing/n")?;
-    assert_eq!(rt; store.begin(alloc, &deep, false).err(), Some(StoreFault::Io));
+    assert_eq!(rt;
+        store.begin(alloc, &deep, false).err(),
+        Some(StoreFault::Io)
+    );
     fs::remove_dir_all(&rt, root)?;
     Ok(())
 }

@@ -34,20 +34,47 @@ fn loopback(rt: HostRuntime) -> Result<(), Fail> {
         .ok_or("the server listens")?
         .trim_end();
 
-    let missing = told(&rt, "programs::tftp", &["get", address, "b", local.as_str()])?;
-    assert!(rt; missing.as_str().contains("tftp: PeerError(1)\n"), "missing: {missing}");
-    assert!(rt; missing.as_str().contains("status 1\n"), "missing: {missing}");
-    let got = told(&rt, "programs::tftp", &["get", address, "a", local.as_str()])?;
-    assert!(rt; got.as_str().contains("complete 3\nstatus 0\n"), "got: {got}");
+    let missing = told(
+        &rt,
+        "programs::tftp",
+        &["get", address, "b", local.as_str()],
+    )?;
+    assert!(rt;
+        missing.as_str().contains("tftp: PeerError(1)\n"),
+        "missing: {missing}"
+    );
+    assert!(rt;
+        missing.as_str().contains("status 1\n"),
+        "missing: {missing}"
+    );
+    let got = told(
+        &rt,
+        "programs::tftp",
+        &["get", address, "a", local.as_str()],
+    )?;
+    assert!(rt;
+        got.as_str().contains("complete 3\nstatus 0\n"),
+        "got: {got}"
+    );
     let stored = fs::read_to_string(&rt, local.as_str())?;
     assert_eq!(rt; stored.as_str(), "ABC");
-    let again = told(&rt, "programs::tftp", &["get", address, "a", local.as_str()])?;
-    assert!(rt; again.as_str().contains("tftp: file fault\n"), "again: {again}");
+    let again = told(
+        &rt,
+        "programs::tftp",
+        &["get", address, "a", local.as_str()],
+    )?;
+    assert!(rt;
+        again.as_str().contains("tftp: file fault\n"),
+        "again: {again}"
+    );
     assert!(rt; again.as_str().contains("status 2\n"), "again: {again}");
 
     let mut rest = String::new(alloc);
     printed.read_to_string(&mut rest)?;
-    assert!(rt; rest.as_str().contains(" Complete\nstatus 0\n"), "server: {rest}");
+    assert!(rt;
+        rest.as_str().contains(" Complete\nstatus 0\n"),
+        "server: {rest}"
+    );
     server.wait()?;
     fs::remove_dir_all(&rt, folder)?;
     Ok(())
@@ -68,7 +95,15 @@ fn sixteen_at_once(rt: HostRuntime) -> Result<(), Fail> {
     for at in 0u32..40_000 {
         bytes.push((at % 251) as u8)?;
     }
-    let serving = [folder, "--listen", "127.0.0.1:0", "--transfers", "16", "--rounds", "100000"];
+    let serving = [
+        folder,
+        "--listen",
+        "127.0.0.1:0",
+        "--transfers",
+        "16",
+        "--rounds",
+        "100000",
+    ];
     let mut server = program(&rt, "programs::tftpd", &serving)?
         .stdout(Stdio::piped())
         .spawn(&rt)?;
@@ -90,9 +125,11 @@ fn sixteen_at_once(rt: HostRuntime) -> Result<(), Fail> {
         let text = bytes.get(..length).ok_or("there are enough bytes")?;
         fs::write(&rt, file.as_str(), text)?;
         let words = ["get", address, name.as_str(), local.as_str()];
-        clients.push(program(&rt, "programs::tftp", &words)?
-            .stdout(Stdio::piped())
-            .spawn(&rt)?)?;
+        clients.push(
+            program(&rt, "programs::tftp", &words)?
+                .stdout(Stdio::piped())
+                .spawn(&rt)?,
+        )?;
     }
     for client in clients {
         let output = client.wait_with_output(alloc)?;
@@ -106,7 +143,10 @@ fn sixteen_at_once(rt: HostRuntime) -> Result<(), Fail> {
     }
     let mut rest = String::new(alloc);
     printed.read_to_string(&mut rest)?;
-    let complete = rest.as_str().lines().filter(|line| line.ends_with(" Complete"));
+    let complete = rest
+        .as_str()
+        .lines()
+        .filter(|line| line.ends_with(" Complete"));
     assert_eq!(rt; complete.count(), 16, "{rest}");
     server.wait()?;
     fs::remove_dir_all(&rt, folder)?;
