@@ -1,12 +1,14 @@
-//! The tests of TFTP's crates, over their public calls.
+//! The tests of the crates below the programs, over their public calls.
 #![tactic(auto)]
 
 #[cfg(test)]
-mod command_rows;
+mod append_rows;
 #[cfg(test)]
 mod end_rows;
 #[cfg(test)]
-mod faulty_streams;
+mod fault_rows;
+#[cfg(test)]
+mod lending_rows;
 #[cfg(test)]
 mod memory_rows;
 #[cfg(test)]
@@ -18,18 +20,10 @@ mod packet_rows;
 #[cfg(test)]
 mod path_rows;
 #[cfg(test)]
-mod play_rows;
-#[cfg(test)]
 mod port_rows;
 #[cfg(test)]
 mod read_rows;
 #[cfg(test)]
-mod script_rows;
-#[cfg(test)]
-mod show_rows;
-#[cfg(test)]
 mod store_rows;
 #[cfg(test)]
 mod stream_rows;
-#[cfg(test)]
-mod vectors;

@@ -4,7 +4,9 @@ use std::alloc::Global;
 use std::io::{Error, ErrorKind, Read, Result as IoResult};
 use std::process::Abort;
 use std::test::Fail;
-use tftp_file::{FileFault, MAX_WIRE, NetDecoder, NetEncoder, NetFault, wire_length};
+use tftp_file::{
+    FileFault, MAX_WIRE, NetDecoder, NetEncoder, NetFault, wire_length, wire_length_within,
+};
 use tftp_wire::Mode;
 
 /// Host bytes and their wire text, by hand: a line feed travels as CR LF, a CR as CR NUL.
@@ -155,6 +157,22 @@ fn lengths_on_the_wire(rt: HostRuntime) -> Result<(), Fail> {
         assert_eq!(rt; netascii, wire.len() as u64, "netascii {host:?}");
     }
     Ok(())
+}
+
+/// A text, its mode, the most that counts, and the length.
+const WITHIN: [(&[u8], Mode, u64, u64); 4] = [
+    (b"\r\nA", Mode::Octet, 9, 3),
+    (b"\r\nA", Mode::Octet, 2, 2),
+    (b"\r\nA", Mode::Netascii, 9, 5),
+    (b"\r\nA", Mode::Netascii, 4, 4),
+];
+
+#[test]
+fn lengths_within_a_limit(rt: HostRuntime) {
+    for (bytes, mode, most, want) in WITHIN {
+        let length = wire_length_within(bytes, mode, most);
+        assert_eq!(rt; length, want, "{bytes:?} in {mode:?} within {most}");
+    }
 }
 
 /// A reader that fills every buffer, so many times, and then fails.

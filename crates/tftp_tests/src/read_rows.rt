@@ -4,7 +4,7 @@
 use std::alloc::Global;
 use std::process::Abort;
 use std::test::Fail;
-use tftp_ends::{Outcome, Side};
+use tftp_ends::{Endpoint, Outcome, Side};
 use tftp_file::path_of;
 use tftp_negotiate::Asked;
 use tftp_player::{Event, Report, World, WorldFault};
@@ -327,6 +327,26 @@ fn a_store_refuses_as_told(rt: HostRuntime) -> Result<(), Fail> {
     );
     assert!(rt; !world.committed(1024), "nothing is committed");
     Ok(())
+}
+
+/// Addresses, and whether one is of neither host.
+const ADDRESSES: [([u8; 4], bool); 4] = [
+    ([10, 0, 0, 1], false),
+    ([10, 0, 0, 2], false),
+    ([10, 0, 0, 3], true),
+    ([127, 0, 0, 1], true),
+];
+
+#[test]
+fn the_hosts_are_known(rt: HostRuntime) {
+    for (ip, want) in ADDRESSES {
+        let endpoint = Endpoint { ip, port: 69 };
+        assert_eq!(rt;
+            World::is_foreign(&endpoint),
+            want,
+            "the address {endpoint}"
+        );
+    }
 }
 
 const WORLD_FAULTS: [(WorldFault, u8); 5] = [

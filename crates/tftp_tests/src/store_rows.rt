@@ -68,6 +68,19 @@ fn a_name_is_given_once(rt: HostRuntime) -> Result<(), Fail> {
     Ok(())
 }
 
+/// A store that is told to replace takes a second file of the name, and holds the newer.
+#[test]
+fn a_file_is_replaced(rt: HostRuntime) -> Result<(), Fail> {
+    let path = path_of(rt.alloc(), b"/a/b")?;
+    let mut store = written(rt.alloc(), &path)?;
+    let mut draft = store.begin(rt.alloc(), &path, true)?;
+    store.append(&mut draft, b"C")?;
+    store.commit(&path, &mut draft, true)?;
+    let file = store.file(&path).ok_or("a file")?;
+    assert_eq!(rt; file, b"C".as_slice(), "the newer");
+    Ok(())
+}
+
 #[test]
 fn a_call_of_a_store_is_refused_once_as_told(rt: HostRuntime) -> Result<(), Fail> {
     let mut store = empty(rt.alloc())?;

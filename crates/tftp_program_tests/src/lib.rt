@@ -1,0 +1,15 @@
+//! The tests of the programs' functions, over the public calls of `tftp_cmd`.
+#![tactic(auto)]
+
+#[cfg(test)]
+mod command_rows;
+#[cfg(test)]
+mod faulty_streams;
+#[cfg(test)]
+mod play_rows;
+#[cfg(test)]
+mod script_rows;
+#[cfg(test)]
+mod show_rows;
+#[cfg(test)]
+mod waiting_rows;

@@ -1,0 +1,84 @@
+//! How long the programs wait, and when a transfer is tried again without options.
+
+use tftp_cmd::{Port, Watch, deadline, fallback, is_due, place_of, wait_for};
+use tftp_ends::Outcome;
+use tftp_negotiate::Asked;
+
+/// Readings of a clock, from 5,000 on, and the time in milliseconds: a wait counts for a second at most,
+/// and a clock that goes back for nothing.
+const READINGS: [(u64, u64); 5] = [
+    (5_200, 200),
+    (5_200, 200),
+    (9_999, 1_200),
+    (1_000, 1_200),
+    (1_001, 1_201),
+];
+
+#[test]
+fn a_watch_goes_on(rt: HostRuntime) {
+    let mut watch = Watch::new(5_000);
+    for (reading, time) in READINGS {
+        assert_eq!(rt; watch.advance(reading), time, "the time at {reading}");
+    }
+}
+
+/// What is agreed in seconds, and when a transfer of the time 700 is due: after a second where nothing
+/// is agreed.
+const DEADLINES: [(Option<u8>, u64); 3] = [(None, 1_700), (Some(1), 1_700), (Some(255), 255_700)];
+
+#[test]
+fn a_transfer_is_due(rt: HostRuntime) {
+    for (agreed, want) in DEADLINES {
+        assert_eq!(rt; deadline(700, agreed), want, "after {agreed:?}");
+    }
+    assert!(rt; !is_due(1_699, 1_700), "before it");
+    assert!(rt; is_due(1_700, 1_700), "at the time");
+}
+
+fn port(tid: u16, due: u64) -> Port<()> {
+    Port {
+        tid,
+        due,
+        is_ready: false,
+        socket: (),
+    }
+}
+
+#[test]
+fn the_nearest_deadline_is_waited_for(rt: HostRuntime) {
+    let ports = [port(1030, 900), port(1025, 750), port(1027, 800)];
+    assert_eq!(rt; wait_for(700, &ports), 50, "the nearest");
+    assert_eq!(rt; wait_for(760, &ports), 0, "one that has come");
+    assert_eq!(rt;
+        wait_for::<()>(700, &[]),
+        1_000,
+        "a second where there is none"
+    );
+    assert_eq!(rt; place_of(1027, &ports), Some(2), "the third port");
+    assert_eq!(rt; place_of(1040, &ports), None, "no such port");
+}
+
+/// Outcomes, whether a block size was asked, and whether the transfer is tried again.
+const OUTCOMES: [(Outcome, Option<u16>, bool); 4] = [
+    (Outcome::PeerError(8), Some(8), true),
+    (Outcome::PeerError(8), None, false),
+    (Outcome::PeerError(0), Some(8), false),
+    (Outcome::TimedOut, Some(8), false),
+];
+
+/// ERROR 8 refuses options (RFC 2347, "Negotiation Protocol").
+#[test]
+fn options_are_left_out_where_they_are_refused(rt: HostRuntime) {
+    for (outcome, blksize, want) in OUTCOMES {
+        let asked = Asked {
+            blksize,
+            timeout: None,
+            tsize: None,
+        };
+        assert_eq!(rt;
+            fallback(outcome, &asked),
+            want,
+            "after {outcome:?} for {asked:?}"
+        );
+    }
+}

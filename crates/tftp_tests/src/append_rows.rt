@@ -1,0 +1,102 @@
+//! Packets that are appended from borrowed parts. The bytes are written by hand from the layouts of the
+//! packets (RFC 1350, section 5; RFC 2347, "Packet Formats").
+
+use std::alloc::Global;
+use std::test::Fail;
+use tftp_wire::{
+    MAX_REQUEST, Mode, append_ack, append_data, append_data_header, append_error,
+    append_oack_header, append_option, append_read, append_write, decode_ref, has_error_opcode,
+    is_text, show_ref,
+};
+
+/// A buffer with something in it.
+fn buffer(alloc: Global) -> Result<Vec<u8>, Fail> {
+    Ok(Vec::from_slice(alloc, b"old ")?)
+}
+
+#[test]
+fn an_ack_is_appended(rt: HostRuntime) -> Result<(), Fail> {
+    let mut out = buffer(rt.alloc())?;
+    append_ack(&mut out, 258)?;
+    let want = b"old \x00\x04\x01\x02".as_slice();
+    assert_eq!(rt; out.as_slice(), want, "ACK 258");
+    Ok(())
+}
+
+#[test]
+fn data_is_appended(rt: HostRuntime) -> Result<(), Fail> {
+    let mut out = buffer(rt.alloc())?;
+    append_data(&mut out, 1, b"ABC")?;
+    append_data_header(&mut out, 2)?;
+    let want = b"old \x00\x03\x00\x01ABC\x00\x03\x00\x02".as_slice();
+    assert_eq!(rt; out.as_slice(), want, "DATA 1, and the header of DATA 2");
+    Ok(())
+}
+
+#[test]
+fn an_error_is_appended(rt: HostRuntime) -> Result<(), Fail> {
+    let mut out = buffer(rt.alloc())?;
+    append_error(&mut out, 1, b"no")?;
+    let want = b"old \x00\x05\x00\x01no\x00".as_slice();
+    assert_eq!(rt; out.as_slice(), want, "ERROR 1");
+    Ok(())
+}
+
+#[test]
+fn requests_are_appended(rt: HostRuntime) -> Result<(), Fail> {
+    let mut out = buffer(rt.alloc())?;
+    append_read(&mut out, b"a", Mode::Octet)?;
+    append_write(&mut out, b"b", Mode::Netascii)?;
+    let want = b"old \x00\x01a\x00octet\x00\x00\x02b\x00netascii\x00".as_slice();
+    assert_eq!(rt; out.as_slice(), want, "RRQ and WRQ");
+    Ok(())
+}
+
+#[test]
+fn an_oack_is_appended(rt: HostRuntime) -> Result<(), Fail> {
+    let mut out = buffer(rt.alloc())?;
+    append_oack_header(&mut out)?;
+    append_option(&mut out, b"blksize", b"8")?;
+    append_option(&mut out, b"tsize", b"")?;
+    let want = b"old \x00\x06blksize\x008\x00tsize\x00\x00".as_slice();
+    assert_eq!(rt; out.as_slice(), want, "OACK");
+    Ok(())
+}
+
+#[test]
+fn a_borrowed_packet_is_shown(rt: HostRuntime) -> Result<(), Fail> {
+    let packet = decode_ref(b"\x00\x06blksize\x008\x00tsize\x00\x00")?;
+    let mut line = String::new(rt.alloc());
+    show_ref(&packet, &mut line)?;
+    assert_eq!(rt; line.as_str(), "OACK blksize=8 tsize=", "its line");
+    Ok(())
+}
+
+/// Datagrams, and whether each begins as an ERROR does.
+const OPCODES: [(&[u8], bool); 5] = [
+    (b"\x00\x05", true),
+    (b"\x00\x05\x00\x01no\x00", true),
+    (b"\x00\x04\x00\x05", false),
+    (b"\x05\x00", false),
+    (b"", false),
+];
+
+#[test]
+fn errors_are_known_by_their_opcode(rt: HostRuntime) {
+    for (bytes, want) in OPCODES {
+        assert_eq!(rt; has_error_opcode(bytes), want, "the opcode of {bytes:?}");
+    }
+}
+
+/// A text holds no zero byte.
+#[test]
+fn texts_hold_no_zero(rt: HostRuntime) {
+    assert!(rt; is_text(b"boot.img"), "a name");
+    assert!(rt; is_text(b""), "no byte");
+    assert!(rt; !is_text(b"a\x00b"), "a zero in the middle");
+    assert_eq!(rt;
+        MAX_REQUEST,
+        512,
+        "the longest request (RFC 2347, \"Packet Formats\")"
+    );
+}
