@@ -37,7 +37,7 @@ use Rattle.tftp_file.specs.declared.path.PathFault.{PathFault}
 use Rattle.tftp_ends.specs.declared.error_reply.ErrorReply.{ErrorReply}
 use Rattle.tftp_ends.specs.declared.error_reply.ErrorReply.TheVariants.{FileNotFound, FileTooLarge, ServerBusy}
 use Rattle.tftp_ends.specs.End.{EndState}
-use Rattle.tftp_ends.specs.Opening.{ServesRead, serving}
+use Rattle.tftp_ends.specs.Opening.{ServesRead, serving_read}
 use Rattle.tftp_ends.specs.Action.{Decodes}
 use Rattle.tftp_ends.specs.Step.{block_length, data_bytes, result_count_is}
 use Rattle.tftp_ends.specs.Waiting.{default_terms, agreed_terms}
@@ -103,23 +103,22 @@ cannot_be_short text m after piece e (Err file_faults.Memory) fills short memory
 
 -- a read that is served opens the end that the world says
 pub read_end : (w : WorldState) (peer : Endpoint) (mode : Mode) (path file : List ℕ) (agreed : List Known) (m retries : ℕ) (rest : List ℕ) (e : EndState) →
-    m ≡ length (wire_text mode file) → retries ≡ w.retries → ServesRead (λ (s : List ℕ). Some s) agreed peer mode m retries (wire_text mode file) rest e →
+    m ≡ length (wire_text mode file) → retries ≡ w.retries → ServesRead (λ (s : List ℕ). Some s) never_fails agreed peer mode m retries (wire_text mode file) rest e →
     (e ≡ (sending_end w peer mode path file agreed).state) × (rest ≡ (sending_end w peer mode path file agreed).left)
 read_end w peer mode path file [] m retries rest e whole r s =
     let text = wire_text mode file in
-    let b = first_moved text rest s.0 m whole s.1 in (
+    let b = first_moved text rest s.0 m whole s.1.fills in (
       s.2
-          ∙ (ap (λ (n : ℕ). serving mode n retries (default_terms peer) 1 (data_bytes 1 s.0)) whole
-          ∙ (ap (λ (n : ℕ). serving mode (length text) n (default_terms peer) 1 (data_bytes 1 s.0)) r
-          ∙ ap (λ (p : List ℕ). serving mode (length text) w.retries (default_terms peer) 1 (data_bytes 1 p)) b.0)),
+          ∙ (ap (λ (n : ℕ). serving_read [] peer mode n retries s.0) whole
+          ∙ (ap (λ (n : ℕ). serving_read [] peer mode (length text) n s.0) r
+          ∙ ap (λ (p : List ℕ). serving_read [] peer mode (length text) w.retries p) b.0)),
       b.1,
     )
 read_end w peer mode path file (known ∷ others) m retries rest e whole r s =
-    let text = wire_text mode file in
-    let sent = canonical (Oack (agreed_options (known ∷ others))) in (
+    let text = wire_text mode file in (
       s.1
-          ∙ (ap (λ (n : ℕ). serving mode n retries (agreed_terms peer (known ∷ others)) 0 sent) whole
-          ∙ ap (λ (n : ℕ). serving mode (length text) n (agreed_terms peer (known ∷ others)) 0 sent) r),
+          ∙ (ap (λ (n : ℕ). serving_read (known ∷ others) peer mode n retries []) whole
+          ∙ ap (λ (n : ℕ). serving_read (known ∷ others) peer mode (length text) n []) r),
       s.0,
     )
 
@@ -246,7 +245,7 @@ module _ {D : Type 0} (drafted : D → Option Drafted) where
                   ∙ (ap (λ (e : EndState). A_transfer (record { end = e; files = Source serves.rest; path = path }) asking.old.store) b.0
                   ∙ (ap (λ (r : List ℕ). A_transfer (record { end = x.state; files = Source r; path = path }) asking.old.store) b.1
                   ∙ ap (λ (p : List ℕ). A_transfer (record { end = x.state; files = Source x.left; path = p }) asking.old.store) (sym (sending_path w asking.from mode path file agreed))))))
-              | inr changed ↦ let c = changed.1 in absurd (cannot_be_short (wire_text mode file) m c.0 c.1.piece whole c.1.answer c.1.fills c.1.short c.1.memory c.1.read)
+              | inr changed ↦ let c = changed.1 in absurd (cannot_be_short (wire_text mode file) m c.after c.piece whole c.answer c.reads.fills c.short c.reads.memory c.reads.read)
             ]
 
     -- the file was opened, or is not there

@@ -130,7 +130,8 @@ impl End {
         out: &mut Vec<u8>,
     ) -> Result<(End, Step), OpenFault>
         requires { AreFilesOf Side.ServerRead files.old }
-        ensures serves { IfOk result (λ opened. ServesFiles S.left agreed.now peer mode length retries files.old files.new opened.0
+        ensures serves { IfOk result (λ opened.
+            ServesFiles S.left S.may_fail agreed.now peer mode length retries files.old files.new opened.0
             × (out.new.items ≡ out.old.items ++ opened.0.last_sent)) }
         ensures step { IfOk result (λ opened. opened.1 ≡ opening_step peer) }
         ensures ok { OnOk result (CanServe mode agreed.now length) }
