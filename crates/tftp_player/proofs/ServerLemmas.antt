@@ -1,7 +1,6 @@
 -- What the server's request port did is what the world says of it, for a store and for sources that tell what they hold.
 use Rattle.std.proofs.Common.{◌≡◌, ◌≢◌, ℕ, ◌*◌, ◌<◌, Bool, true, false, List, [], ◌∷◌, length, get_or, take, drop, min, Option, Some, None, Result, Ok, Err, refl, sym, ap, ◌∙◌, subst, arith, inl, inr}
 use Rattle.std.specs.Prelude.{IfErr, if◌then◌else◌, nat_lt, nat_le}
-use Rattle.std.specs.Bool.{MatchBool}
 use Rattle.std.proofs.lemmas.Bool.{true≢false, ltb-true, eq-eqb}
 use Rattle.std.proofs.lemmas.List.{take_min, drop_min}
 use Rattle.std.proofs.lemmas.Option.{same_Some}
@@ -10,20 +9,17 @@ use Rattle.tftp_wire.specs.declared.mode.Mode.TheVariants.{Octet, Netascii}
 use Rattle.tftp_wire.specs.declared.options.RawOption.{RawOption}
 use Rattle.tftp_wire.specs.declared.packet.Packet.{Packet}
 use Rattle.tftp_wire.specs.declared.packet.Packet.TheVariants.{Read, Write, Data, Ack, Error, Oack}
-use Rattle.tftp_wire.specs.declared.packet.Request.{Request}
 use Rattle.tftp_wire.specs.Parts.{packet_in}
 use Rattle.tftp_wire.specs.Reading.{first_fault, has_error_opcode}
-use Rattle.tftp_wire.specs.Spelling.{canonical}
 use Rattle.tftp_wire.specs.declared.fault.PacketFault.{PacketFault}
 use Rattle.tftp_wire.proofs.SpellingLemmas.{fine_spells}
-use Rattle.tftp_negotiate.specs.Agreed.{size, agreed_options}
+use Rattle.tftp_negotiate.specs.Agreed.{size}
 use Rattle.tftp_negotiate.specs.Answer.{answer}
 use Rattle.tftp_negotiate.specs.Ranges.{IsBlockSize}
 use Rattle.tftp_negotiate.specs.declared.known.Kind.TheVariants as kinds
 use Rattle.tftp_negotiate.specs.declared.known.Known.{Known}
 use Rattle.tftp_negotiate.specs.declared.limits.Limits.{Limits}
 use Rattle.tftp_negotiate.specs.declared.refusal.Refusal.{Refusal}
-use Rattle.tftp_negotiate.specs.declared.refusal.Refusal.TheVariants as refusals
 use Rattle.tftp_file.specs.Block.{block}
 use Rattle.tftp_file.specs.Netascii.{wire_text}
 use Rattle.tftp_file.specs.Path.{path_of_name}
@@ -39,8 +35,7 @@ use Rattle.tftp_ends.specs.declared.error_reply.ErrorReply.TheVariants.{FileNotF
 use Rattle.tftp_ends.specs.End.{EndState}
 use Rattle.tftp_ends.specs.Opening.{ServesRead, serving_read}
 use Rattle.tftp_ends.specs.Action.{Decodes}
-use Rattle.tftp_ends.specs.Step.{block_length, data_bytes, result_count_is}
-use Rattle.tftp_ends.specs.Waiting.{default_terms, agreed_terms}
+use Rattle.tftp_ends.specs.Step.{block_length, result_count_is}
 use Rattle.tftp_server.specs.Request.{Came, Nothing, An_error, A_transfer, Goes, Left, RequestStep, Sent, left_by, opened_length, supported, supported_read}
 use Rattle.tftp_server.specs.State.{Held, ServerState}
 use Rattle.tftp_server.specs.Memory.{MayRefuseOpen, memory_meaning}
