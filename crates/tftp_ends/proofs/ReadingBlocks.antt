@@ -26,18 +26,18 @@ reads_whole before after may_fail number want k mid buffer e m f =
     let p = fills_behind before after want k mid buffer f in
     let is_data : buffer ≡ data_bytes number p.0 = data_behind number buffer mid p.0 m p.1 in
     let within : length p.0 ≤ want = fills_within before after want k p.0 p.2 in
-    record { answer = Ok k; piece = p.0; fills = p.2; read = λ h. absurd cc; memory = λ h. cc; whole = sym (eq-eqb k want e); holds = (is_data, omega (arith, ap length is_data)) }
+    record { answer = Ok k; piece = p.0; reads = record { fills = p.2; read = λ h. absurd cc; memory = λ h. cc }; whole = sym (eq-eqb k want e); holds = (is_data, omega (arith, ap length is_data)) }
 
 -- less than a block came
 pub reads_short : (before after : Option (List ℕ)) (may_fail : Type 0) (number want k : ℕ) (mid buffer : List ℕ) → k ≢ want → Fills before after want mid buffer (Ok k) → ReadsData before after may_fail number want buffer false
 reads_short before after may_fail number want k mid buffer ne f =
     let p = fills_behind before after want k mid buffer f in
-    record { answer = Ok k; piece = p.0; fills = p.2; read = λ h. absurd cc; memory = λ h. cc; whole = sym (ne_eqb k want ne); holds = tt }
+    record { answer = Ok k; piece = p.0; reads = record { fills = p.2; read = λ h. absurd cc; memory = λ h. cc }; whole = sym (ne_eqb k want ne); holds = tt }
 
 -- the source could not be read
 pub reads_nothing : (before after : Option (List ℕ)) (may_fail : Type 0) (number want : ℕ) (buffer : List ℕ) → may_fail → ReadsData before after may_fail number want buffer false
 reads_nothing before after may_fail number want buffer m =
-    record { answer = Err Read; piece = []; fills = fills_nothing before; read = λ h. m; memory = λ h. cc; whole = refl; holds = tt }
+    record { answer = Err Read; piece = []; reads = record { fills = fills_nothing before; read = λ h. m; memory = λ h. cc }; whole = refl; holds = tt }
   where
     fills_nothing : (b : Option (List ℕ)) → Fills b after want [] [] (Err Read)
     fills_nothing (Some left) = refl

@@ -25,7 +25,7 @@ module _ {S : Type 0} (left : S → Option (List ℕ)) (may_fail : S → ℕ →
   -- the step of an offer, by the turn that it comes to
   abbrev pub step_at : (is_whole : Bool) → (o : ReadsNext is_whole) → Sends left may_fail terms number from e source (filled_turn terms number from o.piece e o.answer) source'
   step_at is_whole o =
-      record { answer = o.answer; piece = o.piece; fills = o.fills; read = o.read; memory = o.memory; answers = refl }
+      record { answer = o.answer; piece = o.piece; reads = o.reads; answers = refl }
 
   -- the block goes out, and is what a timeout sends again
   pub sent_whole : (o : ReadsNext true) (e' : EndState) → e' ≡ having_sent (record { to = from; bytes = buffer }) (in_phase (Sending terms number) e) → IsSent e' LastSent

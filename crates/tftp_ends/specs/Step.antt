@@ -136,14 +136,22 @@ committed_turn terms number from e (Err fault) = refused_turn terms (commit_repl
 abbrev pub holding : List ℕ → EndState → EndState
 holding held e = record e { held = held }
 
+-- a source was asked for so many bytes, and this came of it; one that may not fail to read hasn't
+pub record ReadsBlock (before after : Option (List ℕ)) (may_fail : Type 0) (want : ℕ) (piece : List ℕ) (answer : Result ℕ FileFault) : Type 0 where
+  pub fills : Fills before after want [] piece answer
+  pub read : answer ≡ Err file_faults.Read → may_fail
+  pub memory : answer ≢ Err file_faults.Memory
+
 module _ {S : Type 0} (left : S → Option (List ℕ)) (may_fail : S → ℕ → Type 0) where
+  -- so many bytes were asked for, of a source as it was before and as it is after
+  abbrev pub AsksFor : ℕ → S → Option (List ℕ) → List ℕ → Result ℕ FileFault → Type 0
+  AsksFor want source after piece answer = ReadsBlock (left source) after (may_fail source want) want piece answer
+
   -- a source was asked for the next block, and DATA went out or the file had changed
   pub record Sends (terms : Terms) (number : ℕ) (from : Endpoint) (e : EndState) (source : S) (turn : Turn) (source' : S) : Type 0 where
     pub answer : Result ℕ FileFault
     pub piece : List ℕ
-    pub fills : Fills (left source) (left source') (block_length e.length terms.size number) [] piece answer
-    pub read : answer ≡ Err file_faults.Read → may_fail source (block_length e.length terms.size number)
-    pub memory : answer ≢ Err file_faults.Memory
+    pub reads : AsksFor (block_length e.length terms.size number) source (left source') piece answer
     pub answers : turn ≡ filled_turn terms number from piece e answer
 
 module _ {K : Type 0} (held : K → Option Holding) (may_refuse_append : K → List ℕ → StoreFault → Type 0) (may_refuse_commit : K → StoreFault → Type 0) where
@@ -281,12 +289,10 @@ abbrev pub HoldsData : ℕ → ℕ → List ℕ → List ℕ → Bool → Type 0
 HoldsData number want piece buffer true = (buffer ≡ data_bytes number piece) × (length buffer ≤ 4 + want)
 HoldsData number want piece buffer false = Unit {0}
 
--- a source was asked for a block, and the buffer holds it as DATA if all of it came; a source that may not fail to read hasn't
+-- a source was asked for a block, and the buffer holds it as DATA if all of it came
 pub record ReadsData (before after : Option (List ℕ)) (may_fail : Type 0) (number want : ℕ) (buffer : List ℕ) (is_whole : Bool) : Type 0 where
   pub answer : Result ℕ FileFault
   pub piece : List ℕ
-  pub fills : Fills before after want [] piece answer
-  pub read : answer ≡ Err file_faults.Read → may_fail
-  pub memory : answer ≢ Err file_faults.Memory
+  pub reads : ReadsBlock before after may_fail want piece answer
   pub whole : is_whole ≡ result_count_is want answer
   pub holds : HoldsData number want piece buffer is_whole

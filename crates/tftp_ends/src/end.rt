@@ -3,6 +3,7 @@
 mod acting;
 mod opening;
 mod sending;
+mod serving;
 mod storing;
 
 ghost use Rattle.std.specs.Prelude.{◌≡◌, ◌↔◌, ◌+◌, ◌++◌, ◌≤◌, length, option_map, Option, IfOk, OnErr, IsErrOf, IsSome, is_some, vec_len, vec_capacity};

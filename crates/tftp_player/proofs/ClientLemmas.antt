@@ -7,11 +7,11 @@ use Rattle.tftp_file.specs.Netascii.{wire_text}
 use Rattle.tftp_ends.specs.Opening.{CanGet, getting}
 use Rattle.tftp_player.specs.Machine.{client_ip, request_port}
 use Rattle.tftp_player.specs.World.{WorldState, OpenedEnd, next_port}
-use Rattle.tftp_player.specs.Openings.{MayRead, reading_client}
+use Rattle.tftp_player.specs.Openings.{MayGet, reading_client}
 
 -- what can be asked for may be
-pub may_read : (name : List ℕ) (mode : Mode) (asked : Asked) → CanGet name mode asked → MayRead name mode asked
-may_read name mode asked can = record { valid = can.valid; allowed = can.options }
+pub may_read : (name : List ℕ) (mode : Mode) (asked : Asked) → CanGet name mode asked → MayGet name mode asked
+may_read name mode asked can = can.may
 
 -- an empty file has no text
 pub no_wire : (mode : Mode) → wire_text mode [] ≡ []

@@ -1,7 +1,6 @@
 -- What the server's request port did is what the world says of it, for a store and for sources that tell what they hold.
 use Rattle.std.proofs.Common.{◌≡◌, ◌≢◌, ℕ, ◌*◌, ◌<◌, Bool, true, false, List, [], ◌∷◌, length, get_or, take, drop, min, Option, Some, None, Result, Ok, Err, refl, sym, ap, ◌∙◌, subst, arith, inl, inr}
 use Rattle.std.specs.Prelude.{IfErr, if◌then◌else◌, nat_lt, nat_le}
-use Rattle.std.specs.Bool.{MatchBool}
 use Rattle.std.proofs.lemmas.Bool.{true≢false, ltb-true, eq-eqb}
 use Rattle.std.proofs.lemmas.List.{take_min, drop_min}
 use Rattle.std.proofs.lemmas.Option.{same_Some}
@@ -10,20 +9,17 @@ use Rattle.tftp_wire.specs.declared.mode.Mode.TheVariants.{Octet, Netascii}
 use Rattle.tftp_wire.specs.declared.options.RawOption.{RawOption}
 use Rattle.tftp_wire.specs.declared.packet.Packet.{Packet}
 use Rattle.tftp_wire.specs.declared.packet.Packet.TheVariants.{Read, Write, Data, Ack, Error, Oack}
-use Rattle.tftp_wire.specs.declared.packet.Request.{Request}
 use Rattle.tftp_wire.specs.Parts.{packet_in}
 use Rattle.tftp_wire.specs.Reading.{first_fault, has_error_opcode}
-use Rattle.tftp_wire.specs.Spelling.{canonical}
 use Rattle.tftp_wire.specs.declared.fault.PacketFault.{PacketFault}
 use Rattle.tftp_wire.proofs.SpellingLemmas.{fine_spells}
-use Rattle.tftp_negotiate.specs.Agreed.{size, agreed_options}
+use Rattle.tftp_negotiate.specs.Agreed.{size}
 use Rattle.tftp_negotiate.specs.Answer.{answer}
 use Rattle.tftp_negotiate.specs.Ranges.{IsBlockSize}
 use Rattle.tftp_negotiate.specs.declared.known.Kind.TheVariants as kinds
 use Rattle.tftp_negotiate.specs.declared.known.Known.{Known}
 use Rattle.tftp_negotiate.specs.declared.limits.Limits.{Limits}
 use Rattle.tftp_negotiate.specs.declared.refusal.Refusal.{Refusal}
-use Rattle.tftp_negotiate.specs.declared.refusal.Refusal.TheVariants as refusals
 use Rattle.tftp_file.specs.Block.{block}
 use Rattle.tftp_file.specs.Netascii.{wire_text}
 use Rattle.tftp_file.specs.Path.{path_of_name}
@@ -37,10 +33,9 @@ use Rattle.tftp_file.specs.declared.path.PathFault.{PathFault}
 use Rattle.tftp_ends.specs.declared.error_reply.ErrorReply.{ErrorReply}
 use Rattle.tftp_ends.specs.declared.error_reply.ErrorReply.TheVariants.{FileNotFound, FileTooLarge, ServerBusy}
 use Rattle.tftp_ends.specs.End.{EndState}
-use Rattle.tftp_ends.specs.Opening.{ServesRead, serving}
+use Rattle.tftp_ends.specs.Opening.{ServesRead, serving_read}
 use Rattle.tftp_ends.specs.Action.{Decodes}
-use Rattle.tftp_ends.specs.Step.{block_length, data_bytes, result_count_is}
-use Rattle.tftp_ends.specs.Waiting.{default_terms, agreed_terms}
+use Rattle.tftp_ends.specs.Step.{block_length, result_count_is}
 use Rattle.tftp_server.specs.Request.{Came, Nothing, An_error, A_transfer, Goes, Left, RequestStep, Sent, left_by, opened_length, supported, supported_read}
 use Rattle.tftp_server.specs.State.{Held, ServerState}
 use Rattle.tftp_server.specs.Memory.{MayRefuseOpen, memory_meaning}
@@ -103,23 +98,22 @@ cannot_be_short text m after piece e (Err file_faults.Memory) fills short memory
 
 -- a read that is served opens the end that the world says
 pub read_end : (w : WorldState) (peer : Endpoint) (mode : Mode) (path file : List ℕ) (agreed : List Known) (m retries : ℕ) (rest : List ℕ) (e : EndState) →
-    m ≡ length (wire_text mode file) → retries ≡ w.retries → ServesRead (λ (s : List ℕ). Some s) agreed peer mode m retries (wire_text mode file) rest e →
+    m ≡ length (wire_text mode file) → retries ≡ w.retries → ServesRead (λ (s : List ℕ). Some s) never_fails agreed peer mode m retries (wire_text mode file) rest e →
     (e ≡ (sending_end w peer mode path file agreed).state) × (rest ≡ (sending_end w peer mode path file agreed).left)
 read_end w peer mode path file [] m retries rest e whole r s =
     let text = wire_text mode file in
-    let b = first_moved text rest s.0 m whole s.1 in (
+    let b = first_moved text rest s.0 m whole s.1.fills in (
       s.2
-          ∙ (ap (λ (n : ℕ). serving mode n retries (default_terms peer) 1 (data_bytes 1 s.0)) whole
-          ∙ (ap (λ (n : ℕ). serving mode (length text) n (default_terms peer) 1 (data_bytes 1 s.0)) r
-          ∙ ap (λ (p : List ℕ). serving mode (length text) w.retries (default_terms peer) 1 (data_bytes 1 p)) b.0)),
+          ∙ (ap (λ (n : ℕ). serving_read [] peer mode n retries s.0) whole
+          ∙ (ap (λ (n : ℕ). serving_read [] peer mode (length text) n s.0) r
+          ∙ ap (λ (p : List ℕ). serving_read [] peer mode (length text) w.retries p) b.0)),
       b.1,
     )
 read_end w peer mode path file (known ∷ others) m retries rest e whole r s =
-    let text = wire_text mode file in
-    let sent = canonical (Oack (agreed_options (known ∷ others))) in (
+    let text = wire_text mode file in (
       s.1
-          ∙ (ap (λ (n : ℕ). serving mode n retries (agreed_terms peer (known ∷ others)) 0 sent) whole
-          ∙ ap (λ (n : ℕ). serving mode (length text) n (agreed_terms peer (known ∷ others)) 0 sent) r),
+          ∙ (ap (λ (n : ℕ). serving_read (known ∷ others) peer mode n retries []) whole
+          ∙ ap (λ (n : ℕ). serving_read (known ∷ others) peer mode (length text) n []) r),
       s.0,
     )
 
@@ -246,7 +240,7 @@ module _ {D : Type 0} (drafted : D → Option Drafted) where
                   ∙ (ap (λ (e : EndState). A_transfer (record { end = e; files = Source serves.rest; path = path }) asking.old.store) b.0
                   ∙ (ap (λ (r : List ℕ). A_transfer (record { end = x.state; files = Source r; path = path }) asking.old.store) b.1
                   ∙ ap (λ (p : List ℕ). A_transfer (record { end = x.state; files = Source x.left; path = p }) asking.old.store) (sym (sending_path w asking.from mode path file agreed))))))
-              | inr changed ↦ let c = changed.1 in absurd (cannot_be_short (wire_text mode file) m c.0 c.1.piece whole c.1.answer c.1.fills c.1.short c.1.memory c.1.read)
+              | inr changed ↦ let c = changed.1 in absurd (cannot_be_short (wire_text mode file) m c.after c.piece whole c.answer c.reads.fills c.short c.reads.memory c.reads.read)
             ]
 
     -- the file was opened, or is not there

@@ -76,7 +76,7 @@ filled terms number from piece e answer h =
 pub block_sent : (terms : Terms) (n : ℕ) (from : Endpoint) (e : EndState) (text left : List ℕ) (turn : Turn) (left' : List ℕ) →
     e.length ≡ length text → left ≡ drop (n * terms.size) text →
     Sends (λ (s : List ℕ). Some s) never_fails terms (n + 1) from e left turn left' → BlockSent terms n from e text turn left'
-block_sent terms n from e text left turn left' measured behind h = by_answer h.answer h.fills h.read h.memory h.answers where
+block_sent terms n from e text left turn left' measured behind h = by_answer h.answer h.reads.fills h.reads.read h.reads.memory h.answers where
   by_answer : (answer : Result ℕ FileFault) →
       Fills (Some left) (Some left') (block_length e.length terms.size (n + 1)) [] h.piece answer →
       (answer ≡ Err file_faults.Read → ⊥) → answer ≢ Err file_faults.Memory → turn ≡ filled_turn terms (n + 1) from h.piece e answer →

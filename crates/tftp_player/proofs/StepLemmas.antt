@@ -14,7 +14,7 @@ use Rattle.tftp_player.specs.Machine.{Endpoint, Elsewhere, host_of, request_port
 use Rattle.tftp_player.specs.World.{WorldState, OpenedEnd, StoredFile, file_at, in_the_way, is_closed, replied, files_of, end_after, has_committed, world_after, report_of, no_report, opened_in, sent_report, at_rest, resting, view_of_end}
 use Rattle.tftp_player.specs.WorldSteps.{never_fails, may_refuse_append, may_refuse_commit, FilesAfter, Turns, Arrives, At_open_end, At_closed_end, At_nobody, HasPort, IsAtPort, TimesOut, told_to_refuse, WorldStep}
 use Rattle.tftp_player.specs.WorldKept.{IsOk}
-use Rattle.tftp_player.specs.Openings.{reading_client, MayRead}
+use Rattle.tftp_player.specs.Openings.{reading_client, MayGet}
 use Rattle.tftp_player.specs.declared.datagram.Datagram.{Datagram}
 use Rattle.tftp_player.specs.declared.event.Event.TheVariants.{Get, Deliver, Timeout, RefuseStore, Stray}
 use Rattle.tftp_player.specs.declared.report.Report.{Report}
@@ -41,7 +41,7 @@ pub client_files : (overwrite client b : Bool) (path bytes : List ℕ) (files : 
 client_files overwrite client b path bytes files e = subst (λ (c : Bool). FilesAfter overwrite (not c && b) path bytes files files) (sym e) refl
 
 -- a client asks
-pub get_step : (w : WorldState) (name : List ℕ) (mode : Mode) (asked : Asked) → IsAtRest w → HasPort w → MayRead name mode asked →
+pub get_step : (w : WorldState) (name : List ℕ) (mode : Mode) (asked : Asked) → IsAtRest w → HasPort w → MayGet name mode asked →
     WorldStep w (Get name mode asked) (sent_report w) (opened_in w (reading_client w name mode asked))
 get_step w name mode asked r port may =
     let x = reading_client w name mode asked in

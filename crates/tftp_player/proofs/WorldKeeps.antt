@@ -9,7 +9,6 @@ use Rattle.tftp_wire.specs.declared.mode.Mode.{Mode}
 use Rattle.tftp_wire.specs.declared.mode.Mode.TheVariants.{Octet, Netascii}
 use Rattle.tftp_wire.specs.declared.packet.Packet.{Packet as WirePacket}
 use Rattle.tftp_wire.specs.declared.packet.Packet.TheVariants.{Read, Write, Data, Ack, Error, Oack}
-use Rattle.tftp_wire.specs.declared.packet.Request.{Request}
 use Rattle.tftp_wire.specs.Spelling.{IsValid}
 use Rattle.tftp_wire.specs.declared.options.RawOption.{RawOption}
 use Rattle.tftp_negotiate.specs.declared.asked.Asked.{Asked}
@@ -39,7 +38,7 @@ use Rattle.tftp_player.specs.Rules.{message}
 use Rattle.tftp_player.specs.Said.{said}
 use Rattle.tftp_player.specs.Shows.{IsShown}
 use Rattle.tftp_player.specs.World.{WorldState, OpenedEnd, file_at, in_the_way, datagram, said_in, view_of_end}
-use Rattle.tftp_player.specs.Openings.{request_of, reading_client, writing_client, MayRead, MayWrite, sending_end, receiving_end}
+use Rattle.tftp_player.specs.Openings.{request_of, reading_client, writing_client, MayGet, MayPut, sending_end, receiving_end}
 use Rattle.tftp_server.specs.Port.{Ask, Ignores, Refuses, Reads, Service, Refused, Sends, accept_reply, by_draft, by_file, by_length, by_name, by_options, by_packet}
 use Rattle.tftp_player.specs.Requests.{open_transfers, opened_of, begun_of, served, service}
 use Rattle.tftp_player.specs.WorldSteps.{Stays, Serves, Opens}
@@ -82,7 +81,7 @@ pub stays_ok : (strangers : Bool) (w v : WorldState) (report : Report) → IsOk 
 stays_ok strangers w v report ok s = subst (λ (z : WorldState). IsOk strangers z) (sym s.is) ok
 
 -- a client opens
-pub reading_keeps : (strangers : Bool) (w v : WorldState) (name : List ℕ) (mode : Mode) (asked : Asked) (report : Report) → IsOk strangers w → MayRead name mode asked →
+pub reading_keeps : (strangers : Bool) (w v : WorldState) (name : List ℕ) (mode : Mode) (asked : Asked) (report : Report) → IsOk strangers w → MayGet name mode asked →
     Opens w (reading_client w name mode asked) report v → IsOk strangers v
 reading_keeps strangers w v name mode asked report ok may o =
     let x = reading_client w name mode asked in
@@ -90,9 +89,9 @@ reading_keeps strangers w v name mode asked report ok may o =
     let a = x.address in
     let shown_now = asks (map view_of_end w.ends) ok.messages ok.shown a false (request_of name mode asked) (wire_text mode [] ++ []) refl (ap (λ (n : ℕ). 1024 + n) (sym (length_views w))) (λ _. no_text mode) in
     opening_keeps strangers w v ok x report p (spells_own p may.valid) shown_now (at_client a refl)
-    (record { phase = (refl, may.allowed.askable, refl, refl, λ _. refl, λ e. absurd (true≢false (sym e))); held = empty_held mode; committed = λ _. refl }) refl o
+    (record { phase = (refl, may.options.askable, refl, refl, λ _. refl, λ e. absurd (true≢false (sym e))); held = empty_held mode; committed = λ _. refl }) refl o
 
-pub writing_keeps : (strangers : Bool) (w v : WorldState) (name : List ℕ) (mode : Mode) (asked : Asked) (file : List ℕ) (report : Report) → IsOk strangers w → MayWrite name mode asked file →
+pub writing_keeps : (strangers : Bool) (w v : WorldState) (name : List ℕ) (mode : Mode) (asked : Asked) (file : List ℕ) (report : Report) → IsOk strangers w → MayPut name mode asked (length (wire_text mode file)) →
     Opens w (writing_client w name mode asked file) report v → IsOk strangers v
 writing_keeps strangers w v name mode asked file report ok may o =
     let x = writing_client w name mode asked file in
@@ -100,7 +99,7 @@ writing_keeps strangers w v name mode asked file report ok may o =
     let a = x.address in
     let shown_now = asks (map view_of_end w.ends) ok.messages ok.shown a true (request_of name mode asked) (wire_text mode file) refl (ap (λ (n : ℕ). 1024 + n) (sym (length_views w))) (λ e. absurd (true≢false e)) in
     opening_keeps strangers w v ok x report p (spells_own p may.valid) shown_now (at_client a refl)
-    (record { phase = (refl, may.allowed.askable, refl, refl, λ _. refl, λ _. refl); held = empty_held mode; committed = λ e. absurd (true≢false e) }) refl o
+    (record { phase = (refl, may.options.askable, refl, refl, λ _. refl, λ _. refl); held = empty_held mode; committed = λ e. absurd (true≢false e) }) refl o
 
 -- the options that a server agreed to
 pub answered_values : (kind : Kind) (mode : Mode) (told : ℕ) (limits : Limits) (options : List RawOption) (known : List Known) → IsBlockSize limits.max_block →

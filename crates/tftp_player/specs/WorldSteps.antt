@@ -4,13 +4,14 @@ use Rattle.tftp_wire.specs.declared.packet.Packet.{Packet}
 use Rattle.tftp_file.specs.declared.fault.StoreFault.{StoreFault}
 use Rattle.tftp_file.specs.declared.fault.StoreFault.TheVariants as faults
 use Rattle.tftp_file.specs.declared.files.Files.{Files}
+use Rattle.tftp_file.specs.Netascii.{wire_text}
 use Rattle.tftp_file.specs.Sink.{Holding}
 use Rattle.tftp_ends.specs.End.{is_sender, is_client}
 use Rattle.tftp_ends.specs.Action.{Decodes}
 use Rattle.tftp_ends.specs.Step.{Turn, DatagramStep, timeout_turn, error_bytes}
 use Rattle.tftp_player.specs.Machine.{Endpoint, Elsewhere, host_of, request_port}
 use Rattle.tftp_player.specs.World.{StoredFile, file_at, in_the_way, OpenedEnd, WorldState, next_port, is_closed, datagram, resting, files_of, end_after, has_committed, world_after, report_of, no_report, opened_in, said_in, sent_report}
-use Rattle.tftp_player.specs.Openings.{reading_client, writing_client, MayRead, MayWrite, sending_end, receiving_end}
+use Rattle.tftp_player.specs.Openings.{reading_client, writing_client, MayGet, MayPut, sending_end, receiving_end}
 use Rattle.tftp_server.specs.Port.{Service, Silent, Refused, Sends, Takes}
 use Rattle.tftp_player.specs.Requests.{service}
 use Rattle.tftp_player.specs.declared.datagram.Datagram.{Datagram}
@@ -117,9 +118,9 @@ pub record IsAtPort (w : WorldState) (port k : ℕ) (x : OpenedEnd) : Type 0 whe
 -- how an event that is not refused handles a world, closed ends as they were when they closed
 abbrev pub EventStep : WorldState → Event → Report → WorldState → Type 0
 EventStep old (Get name mode asked) report new =
-    HasPort old × MayRead name mode asked × Opens old (reading_client old name mode asked) report new
+    HasPort old × MayGet name mode asked × Opens old (reading_client old name mode asked) report new
 EventStep old (Put name mode asked bytes) report new =
-    HasPort old × MayWrite name mode asked bytes × Opens old (writing_client old name mode asked bytes) report new
+    HasPort old × MayPut name mode asked (length (wire_text mode bytes)) × Opens old (writing_client old name mode asked bytes) report new
 EventStep old (Deliver i) report new =
     (d : Datagram) × (slice_get old.sent i ≡ Some d) × Arrives old d.from d.to d.bytes report new
 EventStep old (Timeout port) report new =
@@ -154,8 +155,8 @@ EventRefuses w (Get name mode asked) NoPort = 65535 < next_port w
 EventRefuses w (Put name mode asked bytes) NoPort = 65535 < next_port w
 EventRefuses w (Deliver i) NoPort = (d : Datagram) × (slice_get w.sent i ≡ Some d) × LacksPort w d.to
 EventRefuses w (Stray from to bytes) NoPort = LacksPort w to
-EventRefuses w (Get name mode asked) BadRequest = HasPort w × (MayRead name mode asked → ⊥)
-EventRefuses w (Put name mode asked bytes) BadRequest = HasPort w × (MayWrite name mode asked bytes → ⊥)
+EventRefuses w (Get name mode asked) BadRequest = HasPort w × (MayGet name mode asked → ⊥)
+EventRefuses w (Put name mode asked bytes) BadRequest = HasPort w × (MayPut name mode asked (length (wire_text mode bytes)) → ⊥)
 EventRefuses w event fault = ⊥
 
 -- want of memory is the last reason: it refuses where no other does

@@ -1,13 +1,11 @@
 -- How the request port handles a datagram, and what it leaves (RFC 1350, section 4; RFC 2347, "Negotiation Protocol").
-use Rattle.std.specs.Prelude.{ℕ, ◌≡◌, ◌≢◌, List, [], ◌∷◌, ◌⊎◌, length, Option, Some, None, Result, Ok, Err, IfErr}
-use Rattle.tftp_wire.specs.Spelling.{canonical}
+use Rattle.std.specs.Prelude.{ℕ, ◌≡◌, ◌≢◌, List, [], ◌⊎◌, length, Option, Some, None, Result, Ok, Err, IfErr}
 use Rattle.tftp_wire.specs.declared.mode.Mode.{Mode}
 use Rattle.tftp_wire.specs.declared.mode.Mode.TheVariants.{Octet, Netascii}
 use Rattle.tftp_wire.specs.declared.options.RawOption.{RawOption}
 use Rattle.tftp_wire.specs.declared.packet.Packet.{Packet}
-use Rattle.tftp_wire.specs.declared.packet.Packet.TheVariants.{Read, Oack}
+use Rattle.tftp_wire.specs.declared.packet.Packet.TheVariants.{Read}
 use Rattle.tftp_wire.specs.declared.packet.Request.{Request}
-use Rattle.tftp_negotiate.specs.Agreed.{agreed_options}
 use Rattle.tftp_negotiate.specs.declared.known.Known.{Known}
 use Rattle.tftp_file.specs.declared.fault.StoreFault.{StoreFault}
 use Rattle.tftp_file.specs.declared.fault.StoreFault.TheVariants.{Memory}
@@ -15,14 +13,10 @@ use Rattle.tftp_file.specs.declared.files.Files.TheVariants.{Source, Sink}
 use Rattle.tftp_ends.specs.declared.endpoint.Endpoint.{Endpoint}
 use Rattle.tftp_ends.specs.declared.error_reply.ErrorReply.{ErrorReply}
 use Rattle.tftp_ends.specs.declared.error_reply.ErrorReply.TheVariants.{FileChanged}
-use Rattle.tftp_ends.specs.declared.phase.Phase.TheVariants.{Receiving}
-use Rattle.tftp_ends.specs.declared.phase.Terms.{Terms}
-use Rattle.tftp_ends.specs.declared.side.Side.TheVariants.{ServerWrite}
 use Rattle.tftp_ends.specs.End.{EndState}
-use Rattle.tftp_ends.specs.Opening.{ServesRead, CannotStart}
+use Rattle.tftp_ends.specs.Opening.{ServesRead, CannotStart, serving_write}
 use Rattle.tftp_ends.specs.Action.{Decodes}
-use Rattle.tftp_ends.specs.Step.{ack_bytes, error_bytes}
-use Rattle.tftp_ends.specs.Waiting.{default_terms, agreed_terms}
+use Rattle.tftp_ends.specs.Step.{error_bytes}
 use Rattle.tftp_file.specs.Memory.{MemSinkState}
 use Rattle.tftp_server.specs.declared.opened.Opened.{Opened}
 use Rattle.tftp_server.specs.declared.server.request.Asked.{Asked}
@@ -33,27 +27,6 @@ use Rattle.tftp_server.specs.declared.store.Opening.{Opening}
 use Rattle.tftp_server.specs.State.{Held, ServerState, with_new}
 use Rattle.tftp_server.specs.Port.{Ask, Ignores, Refuses, Reads, Writes, Service, Refused, Sends, Takes, asks, by_file, by_draft}
 use Rattle.tftp_server.specs.Store.{StoreMeaning, Opens, Begins}
-
--- a server's end that receives, and has sent this
-abbrev pub receiving : Mode → ℕ → Terms → List ℕ → EndState
-receiving mode retries terms sent =
-    record {
-      side = ServerWrite;
-      mode = mode;
-      length = 0;
-      retries = retries;
-      retries_left = retries;
-      last_sent = sent;
-      last_sent_to = terms.peer;
-      held = [];
-      phase = Receiving terms 0;
-    }
-
--- a write is served: ACK 0 goes out, or where options are agreed their OACK
-abbrev pub write_end : List Known → Endpoint → Mode → ℕ → EndState
-write_end [] peer mode retries = receiving mode retries (default_terms peer) (ack_bytes 0)
-write_end (known ∷ others) peer mode retries =
-    receiving mode retries (agreed_terms peer (known ∷ others)) (canonical (Oack (agreed_options (known ∷ others))))
 
 -- a request to read in octet, without options
 abbrev pub default_read : List ℕ → Request
@@ -117,7 +90,7 @@ module _ {S F D : Type 0} (meaning : StoreMeaning S F D) (old : ServerState S F 
   pub record Serves (path : List ℕ) (mode : Mode) (length : ℕ) (agreed : List Known) (source : F) (came : Came S F D) : Type 0 where
     pub rest : F
     pub end : EndState
-    pub serves : ServesRead meaning.left agreed from mode length old.config.retries source rest end
+    pub serves : ServesRead meaning.left meaning.may_fail agreed from mode length old.config.retries source rest end
     pub opens : came ≡ A_transfer (record { end = end; files = Source rest; path = path }) old.store
 
   -- or, where no option is agreed and DATA 1 can't be had, the file has changed
@@ -144,7 +117,7 @@ module _ {S F D : Type 0} (meaning : StoreMeaning S F D) (old : ServerState S F 
   abbrev pub Taken : Service → Result D StoreFault → S → Came S F D → Type 0
   Taken (Refused reply) draft store came = came ≡ An_error reply store
   Taken (Takes path mode agreed) (Ok draft) store came =
-      came ≡ A_transfer (record { end = write_end agreed from mode old.config.retries; files = Sink draft; path = path }) store
+      came ≡ A_transfer (record { end = serving_write agreed from mode old.config.retries; files = Sink draft; path = path }) store
   Taken service draft store came = ⊥
 
   -- a write: the store is asked for a draft

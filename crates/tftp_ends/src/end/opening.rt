@@ -1,33 +1,29 @@
-//! How an end opens: a client by its request, a server's end by its first answer.
+//! How a client's end opens: by its request.
 
-ghost use Rattle.std.specs.Prelude.{◌≡◌, ◌↔◌, ◌++◌, ◌+◌, ◌*◌, ◌<◌, ◌≤◌, ◌⊎◌, IsTrue, IfOk, IfErr, OnOk, OnErr, IsErrOf, length, vec_capacity};
+ghost use Rattle.std.specs.Prelude.{ℕ, ◌≡◌, ◌↔◌, ◌++◌, ◌*◌, ◌≤◌, ◌⊎◌, IsTrue, IfOk, IfErr, OnOk, OnErr, IsErrOf, vec_capacity};
 ghost use Rattle.tftp_wire.specs.Spelling.{canonical};
 ghost use Rattle.tftp_wire.specs.declared.mode.Mode.TheVariants.{Octet};
-ghost use Rattle.tftp_wire.specs.declared.packet.Packet.TheVariants.{Read};
-ghost use Rattle.tftp_ends.specs.Files.{AreFilesOf, KeepsFiles, AreSame};
-ghost use Rattle.tftp_ends.specs.Opening.{CanGet, CanServe, IsSupported, ServesFiles, FilesCannotStart, getting, opening_step, request_of, nothing_asked};
-ghost use Rattle.tftp_negotiate.specs.Agreed.{size};
+ghost use Rattle.tftp_wire.specs.declared.packet.Packet.TheVariants.{Read, Write};
+ghost use Rattle.tftp_ends.specs.Opening.{CanGet, CanPut, CanAskPut, getting, putting, opening_step, request_of, nothing_asked, asked_size};
 
 use crate::config::EndConfig;
 use crate::end::End;
-use crate::end::sending::{BlockRead, block_length, read_data};
 use crate::endpoint::Endpoint;
 use crate::fault::OpenFault;
 use crate::phase::Phase;
 use crate::record::Step;
 use crate::side::Side;
-use crate::waiting::{DEFAULT_BLOCK_SIZE, default_terms};
-use std::alloc::Global;
-use tftp_file::{Files, Sink, Source};
-use tftp_negotiate::{Agreed, Asked};
-use tftp_wire::{HEADER, MAX_REQUEST, Mode, append_read, is_text};
+use crate::waiting::DEFAULT_BLOCK_SIZE;
+use std::alloc::{AllocError, Global};
+use tftp_negotiate::Asked;
+use tftp_wire::{HEADER, MAX_REQUEST, Mode, append_read, append_write, is_text};
 
 /// The longest name of a request in octet without options, in bytes: with its opcode, two zero bytes
 /// and the five letters of its mode it makes the longest request.
 const MAX_NAME: usize = MAX_REQUEST - 9;
 
 /// What an opening tells: one datagram, which is no progress yet.
-fn opening_step(to: Endpoint) -> Step
+pub(crate) fn opening_step(to: Endpoint) -> Step
     ensures { result ≡ opening_step to }
 {
     Step {
@@ -43,9 +39,11 @@ fn is_nothing(asked: &Asked) -> bool
     asked.blksize.is_none() && asked.timeout.is_none() && asked.tsize.is_none()
 }
 
-/// Whether a read of that name can be asked for.
-fn can_get(name: &[u8], mode: Mode, asked: &Asked) -> bool
-    ensures { IsTrue result ↔ CanGet name.now mode asked.now }
+/// Whether a transfer of that name can be asked for. Whether a file's blocks can be numbered is
+/// another question.
+fn can_ask(name: &[u8], mode: Mode, asked: &Asked) -> bool
+    ensures get { IsTrue result ↔ CanGet name.now mode asked.now }
+    ensures put { (length : ℕ) → IsTrue result ↔ CanAskPut name.now mode asked.now length }
 {
     !name.is_empty()
         && is_text(name)
@@ -54,15 +52,24 @@ fn can_get(name: &[u8], mode: Mode, asked: &Asked) -> bool
         && is_nothing(asked)
 }
 
-/// The request for a file in octet, without options.
-fn request_bytes(alloc: Global, name: &[u8]) -> Result<Vec<u8>, OpenFault>
-    requires { CanGet name.now Octet nothing_asked }
+/// The request to read a file in octet, without options.
+fn read_request(alloc: Global, name: &[u8]) -> Result<Vec<u8>, AllocError>
     ensures ok { IfOk result (λ v. v.items ≡ canonical (Read (request_of name.now Octet nothing_asked))) }
     ensures room { IfOk result (λ v. 4 ≤ vec_capacity v) }
-    ensures memory { IfErr result (λ fault. fault ≡ OpenFault.Memory) }
 {
     let mut bytes = Vec::new(alloc);
     append_read(&mut bytes, name, Mode::Octet)?;
+    bytes.reserve(HEADER)?;
+    Ok(bytes)
+}
+
+/// The request to write a file in octet, without options.
+fn write_request(alloc: Global, name: &[u8]) -> Result<Vec<u8>, AllocError>
+    ensures ok { IfOk result (λ v. v.items ≡ canonical (Write (request_of name.now Octet nothing_asked))) }
+    ensures room { IfOk result (λ v. 4 ≤ vec_capacity v) }
+{
+    let mut bytes = Vec::new(alloc);
+    append_write(&mut bytes, name, Mode::Octet)?;
     bytes.reserve(HEADER)?;
     Ok(bytes)
 }
@@ -91,10 +98,10 @@ impl End {
         ensures memory { IsErrOf result OpenFault.Memory → CanGet name.now mode asked.now }
         ensures err { IfErr result (λ fault. ((fault ≡ OpenFault.BadRequest) ⊎ (fault ≡ OpenFault.Memory)) × (out.new.items ≡ out.old.items)) }
     {
-        if !can_get(name, mode, asked) {
+        if !can_ask(name, mode, asked) {
             return Err(OpenFault::BadRequest);
         }
-        let last_sent = request_bytes(alloc, name)?;
+        let last_sent = read_request(alloc, name)?;
         out.extend_from_slice(&last_sent)?;
         let end = End {
             side: Side::ClientRead,
@@ -113,69 +120,57 @@ impl End {
         Ok((end, opening_step(to)))
     }
 
-    /// Opens a server's end that sends a file of that length, in bytes of wire text, to a client.
+    /// Opens a client that writes a file of that length, in bytes of wire text: its request is
+    /// appended to `out`, for `to`.
     ///
-    /// DATA 1 is appended to `out`, for `peer` (RFC 1350, section 4). `TooLarge` comes where the
-    /// file's blocks cannot be numbered, `SourceFault` where the first one cannot be read to the
-    /// measured length, and today `BadRequest` for netascii and for agreed options. After an error
-    /// `out` is unchanged; after `Memory` the source is, too.
-    pub fn serve_read<S: Source, K: Sink>(
+    /// It retries `config.retries` times. `BadRequest` comes where [`End::get`] answers it, and then
+    /// `TooLarge` where the file's blocks cannot be numbered at the size that is asked, or at 512
+    /// bytes. After an error `out` is unchanged.
+    pub fn put(
         alloc: Global,
-        files: &mut Files<S, K>,
-        peer: Endpoint,
+        to: Endpoint,
+        name: &[u8],
         mode: Mode,
-        agreed: &Agreed,
+        asked: &Asked,
         length: u64,
-        retries: u8,
+        config: &EndConfig,
         out: &mut Vec<u8>,
     ) -> Result<(End, Step), OpenFault>
-        requires { AreFilesOf Side.ServerRead files.old }
-        ensures serves { IfOk result (λ opened. ServesFiles S.left agreed.now peer mode length retries files.old files.new opened.0
-            × (out.new.items ≡ out.old.items ++ opened.0.last_sent)) }
-        ensures step { IfOk result (λ opened. opened.1 ≡ opening_step peer) }
-        ensures ok { OnOk result (CanServe mode agreed.now length) }
-        ensures bad_request { IsErrOf result OpenFault.BadRequest → IsSupported mode agreed.now → ⊥ }
-        ensures too_large { IsErrOf result OpenFault.TooLarge → IsSupported mode agreed.now × (65535 * size agreed.now ≤ length) }
-        ensures source { IsErrOf result OpenFault.SourceFault → CanServe mode agreed.now length × FilesCannotStart S.left S.may_fail length files.old }
-        ensures memory { IsErrOf result OpenFault.Memory → CanServe mode agreed.now length × KeepsFiles S.left K.held files.old files.new }
+        ensures end { IfOk result (λ opened. opened.0
+            ≡ putting to name.now mode asked.now length config.now.limits.max_file config.now.retries) }
+        ensures step { IfOk result (λ opened. opened.1 ≡ opening_step to) }
+        ensures sent { OnOk result (out.new.items
+            ≡ out.old.items ++ canonical (Write (request_of name.now mode asked.now))) }
+        ensures ok { OnOk result (CanPut name.now mode asked.now length) }
+        ensures bad_request { IsErrOf result OpenFault.BadRequest → CanAskPut name.now mode asked.now length → ⊥ }
+        ensures too_large { IsErrOf result OpenFault.TooLarge →
+            CanAskPut name.now mode asked.now length × (65535 * asked_size asked.now.blksize ≤ length) }
+        ensures memory { IsErrOf result OpenFault.Memory → CanPut name.now mode asked.now length }
+        ensures never { IsErrOf result OpenFault.SourceFault → ⊥ }
         ensures err { OnErr result (out.new.items ≡ out.old.items) }
-        ensures same { AreSame S.is_same K.is_same files.old files.new }
-        ensures files { IfOk result (λ opened. AreFilesOf opened.0.side files.new) }
     {
-        if mode != Mode::Octet || !agreed.is_empty() {
+        if !can_ask(name, mode, asked) {
             return Err(OpenFault::BadRequest);
         }
         if length >= 65_535 * u64::from(DEFAULT_BLOCK_SIZE) {
             return Err(OpenFault::TooLarge);
         }
-        let Files::Source(source) = files else {
-            unreachable!()
+        let last_sent = write_request(alloc, name)?;
+        out.extend_from_slice(&last_sent)?;
+        let end = End {
+            side: Side::ClientWrite,
+            mode,
+            length,
+            retries: config.retries,
+            retries_left: config.retries,
+            last_sent,
+            spare: Vec::new(alloc),
+            last_sent_to: to,
+            phase: Phase::Waiting {
+                asked: *asked,
+                limit: config.limits.max_file,
+            },
         };
-        let want = block_length(length, DEFAULT_BLOCK_SIZE, 1);
-        out.reserve(HEADER + want)?;
-        let mut last_sent = Vec::new(alloc);
-        match read_data(source, 1, want, &mut last_sent)? {
-            BlockRead::Changed => Err(OpenFault::SourceFault),
-            BlockRead::Whole => {
-                let Ok(()) = out.extend_from_slice(&last_sent) else {
-                    unreachable!()
-                };
-                let end = End {
-                    side: Side::ServerRead,
-                    mode,
-                    length,
-                    retries,
-                    retries_left: retries,
-                    last_sent,
-                    spare: Vec::new(alloc),
-                    last_sent_to: peer,
-                    phase: Phase::Sending {
-                        terms: default_terms(peer),
-                        number: 1,
-                    },
-                };
-                Ok((end, opening_step(peer)))
-            }
-        }
+        Ok((end, opening_step(to)))
     }
 }
