@@ -9,9 +9,9 @@ ghost use Rattle.tftp_file.specs.Memory.{MemSinkState};
 ghost use Rattle.tftp_server.specs.Config.{IsConfig};
 ghost use Rattle.tftp_server.specs.Request.{AsksToRead, Came, RequestStep, left_by, supported};
 ghost use Rattle.tftp_wire.specs.declared.mode.Mode.TheVariants.{Octet};
-ghost use Rattle.tftp_ends.specs.Step.{error_bytes};
+ghost use Rattle.tftp_ends.specs.Step.{error_bytes, lent};
 ghost use Rattle.tftp_server.specs.State.{at, is_open, taken_of, without};
-ghost use Rattle.tftp_server.specs.Steps.{TimesOut, TimeoutFault, TakesDatagram, DatagramFault, KeepsHeld};
+ghost use Rattle.tftp_server.specs.Steps.{TimesOut, TimesOutLent, TimeoutFault, TakesDatagram, TakesDatagramLent, DatagramFault, DatagramFaultLent, KeepsHeld};
 ghost use Rattle.std.specs.Borrow.{Lends, sem};
 
 use crate::config::Config;
@@ -23,7 +23,7 @@ use crate::table::Table;
 use crate::transfer::Transfer;
 use std::alloc::Global;
 use std::marker::Model;
-use tftp_ends::{Endpoint, ErrorReply, Record, Step};
+use tftp_ends::{Endpoint, ErrorReply, Outgoing, Record, Step};
 use tftp_file::Path;
 
 /// A server: what it is set to, its store and the transfers that it holds.
@@ -123,6 +123,62 @@ impl<S: Store> Server<S> {
         match transfer.on_datagram(from, bytes, out) {
             Ok(step) => Ok(step),
             Err(fault) => Err(ServerFault::from(fault)),
+        }
+    }
+
+    /// The transfer at the identifier takes a timeout, and tells what goes out, without a copy of it:
+    /// [`Server::bytes_of`] lends it, and [`Step::to`] says where it goes.
+    ///
+    /// Its one fault is `NoSuchTid`, where no open transfer has the identifier; then nothing has changed.
+    pub fn handle_timeout(&mut self, tid: u16) -> Result<(Step, Outgoing), ServerFault>
+        ensures steps { IfOk result (λ answer. TimesOutLent tid self.old.held self.new.held answer.0 answer.1) }
+        ensures rest { self.new ≡ record self.old { held = self.new.held } }
+        ensures no_such_tid { IsErrOf result ServerFault.NoSuchTid ↔ (is_open (at tid self.old.held) ≡ false) }
+        ensures fault { IfErr result (λ fault. fault ≡ ServerFault.NoSuchTid) }
+        ensures err { OnErr result (self.new ≡ self.old) }
+    {
+        let Some(transfer) = self.table.get_mut(tid) else {
+            return Err(ServerFault::NoSuchTid);
+        };
+        match transfer.handle_timeout() {
+            Ok(answer) => Ok(answer),
+            Err(_) => Err(ServerFault::NoSuchTid),
+        }
+    }
+
+    /// The transfer at the identifier takes a datagram that came from there, and tells what goes out,
+    /// without a copy of it: [`Server::bytes_of`] lends it, and [`Step::to`] says where it goes.
+    ///
+    /// `NoSuchTid` where no open transfer has the identifier; `Memory` only where a file is asked for a
+    /// block or given one. After a fault nothing has changed.
+    pub fn handle_datagram(
+        &mut self,
+        tid: u16,
+        from: Endpoint,
+        bytes: &[u8],
+    ) -> Result<(Step, Outgoing), ServerFault>
+        ensures takes { IfOk result (λ answer. TakesDatagramLent S.Source.left S.Source.may_fail tid from bytes.now self.old.held self.new.held answer.0 answer.1) }
+        ensures rest { self.new ≡ record self.old { held = self.new.held } }
+        ensures no_such_tid { IsErrOf result ServerFault.NoSuchTid ↔ (is_open (at tid self.old.held) ≡ false) }
+        ensures fault { IfErr result (DatagramFaultLent from bytes.now (at tid self.old.held)) }
+        ensures err { OnErr result (KeepsHeld S.Source.left S.Source.may_fail tid (at tid self.old.held) self.old.held self.new.held) }
+    {
+        let Some(transfer) = self.table.get_mut(tid) else {
+            return Err(ServerFault::NoSuchTid);
+        };
+        match transfer.handle_datagram(from, bytes) {
+            Ok(answer) => Ok(answer),
+            Err(fault) => Err(ServerFault::from(fault)),
+        }
+    }
+
+    /// The bytes of what goes out of the transfer at the identifier, until the next call.
+    pub fn bytes_of(&self, tid: u16, outgoing: Outgoing) -> Option<&[u8]>
+        ensures { option_map (λ bytes. bytes.now) result ≡ option_map (λ held. lent outgoing held.end) (at tid self.now.held) }
+    {
+        match self.table.get(tid) {
+            Some(transfer) => Some(transfer.bytes_of(outgoing)),
+            None => None,
         }
     }
 
