@@ -42,6 +42,11 @@ IsFree-remove : (test : ℕ → Bool) (index : List (ℕ × ℕ)) (key : ℕ) �
 IsFree-remove test [] key free = tt
 IsFree-remove test (e ∷ index) key free = free-removed (test e.0) key e index _ free (IsFree-remove test index key free.1)
 
+-- the key that is removed is free then
+removed_at : (b : Bool) (key : ℕ) (e : ℕ × ℕ) (index more : List (ℕ × ℕ)) (m : Option ℕ) → IsFree e.1 index → (m ≡ Some key → IsFree key more) → (m ≡ Some key → e.1 ≢ key) → cond b (Some e.1) m ≡ Some key → IsFree key (cond b index (e ∷ more))
+removed_at true key e index more m free rest differs found = let same : e.1 ≡ key = cc in subst (λ (x : ℕ). IsFree x index) same free
+removed_at false key e index more m free rest differs found = (differs found, rest found)
+
 -- what holds stands beside an error
 pub on_err : {A E : Type 0} {P : Type 0} (r : Result A E) → P → OnErr r P
 on_err (Ok a) p = tt
