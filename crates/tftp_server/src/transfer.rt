@@ -62,10 +62,13 @@ impl<F> Transfer<F> {
 impl<F> Transfer<F> {
     /// Its end takes a timeout. After a fault nothing has changed.
     pub(crate) fn on_timeout(&mut self, out: &mut Vec<u8>) -> Result<Step, EndFault>
-        ensures steps { IfOk result (λ step. Carries (timeout_turn self.old.end) self.new.end step.to out.old.items out.new.items
-            × (step ≡ told self.old.end (timeout_turn self.old.end)) × (self.new ≡ with_end self.new.end self.old)) }
+        ensures steps { IfOk result (λ step. Carries (timeout_turn self.old.end) self.new.end
+            step.to out.old.items out.new.items
+            × (step ≡ told self.old.end (timeout_turn self.old.end))
+            × (self.new ≡ with_end self.new.end self.old)) }
         ensures closed { IsErrOf result EndFault.Closed ↔ (is_closed self.old ≡ true) }
-        ensures memory { IsErrOf result EndFault.Memory → IsAnswered (timeout_action self.old.end.retries_left self.old.end.phase) }
+        ensures memory { IsErrOf result EndFault.Memory
+            → IsAnswered (timeout_action self.old.end.retries_left self.old.end.phase) }
         ensures err { OnErr result ((self.new ≡ self.old) × (out.new.items ≡ out.old.items)) }
     {
         self.end.on_timeout(out)
@@ -73,8 +76,10 @@ impl<F> Transfer<F> {
 
     /// The same, with what goes out lent by [`Transfer::bytes_of`].
     pub(crate) fn handle_timeout(&mut self) -> Result<(Step, Outgoing), EndFault>
-        ensures steps { IfOk result (λ answer. Lends (timeout_turn self.old.end) self.new.end answer.0.to answer.1
-            × (answer.0 ≡ told self.old.end (timeout_turn self.old.end)) × (self.new ≡ with_end self.new.end self.old)) }
+        ensures steps { IfOk result (λ answer. Lends (timeout_turn self.old.end) self.new.end
+            answer.0.to answer.1
+            × (answer.0 ≡ told self.old.end (timeout_turn self.old.end))
+            × (self.new ≡ with_end self.new.end self.old)) }
         ensures closed { IsErrOf result EndFault.Closed ↔ (is_closed self.old ≡ true) }
         ensures memory { IsErrOf result EndFault.Memory → ⊥ }
         ensures err { OnErr result (self.new ≡ self.old) }
@@ -98,10 +103,14 @@ impl<F: Source> Transfer<F> {
         bytes: &[u8],
         out: &mut Vec<u8>,
     ) -> Result<Step, EndFault>
-        ensures takes { IfOk result (λ step. TakesIn F.left F.may_fail from bytes.now self.old self.new step out.old.items out.new.items) }
+        ensures takes { IfOk result (λ step. TakesIn F.left F.may_fail from bytes.now self.old
+            self.new step out.old.items out.new.items) }
         ensures closed { IsErrOf result EndFault.Closed ↔ (is_closed self.old ≡ true) }
-        ensures memory { IsErrOf result EndFault.Memory → (decoded : Option Packet) × Decodes bytes.now decoded × IsAnswered (datagram_action self.old.end from bytes.now decoded) }
-        ensures err { OnErr result (StaysAs F.left F.may_fail self.old self.new × (out.new.items ≡ out.old.items)) }
+        ensures memory { IsErrOf result EndFault.Memory → (decoded : Option Packet)
+            × Decodes bytes.now decoded × IsAnswered (datagram_action self.old.end from bytes.now
+            decoded) }
+        ensures err { OnErr result (StaysAs F.left F.may_fail self.old self.new
+            × (out.new.items ≡ out.old.items)) }
     {
         self.end.on_datagram(&mut self.files, from, bytes, out)
     }
@@ -111,9 +120,12 @@ impl<F: Source> Transfer<F> {
         from: Endpoint,
         bytes: &[u8],
     ) -> Result<(Step, Outgoing), EndFault>
-        ensures takes { IfOk result (λ answer. TakesBy F.left F.may_fail (lends answer.1) from bytes.now self.old self.new answer.0) }
+        ensures takes { IfOk result (λ answer. TakesBy F.left F.may_fail
+            (lends answer.1) from bytes.now self.old self.new answer.0) }
         ensures closed { IsErrOf result EndFault.Closed ↔ (is_closed self.old ≡ true) }
-        ensures memory { IsErrOf result EndFault.Memory → (decoded : Option Packet) × Decodes bytes.now decoded × UsesFile (datagram_action self.old.end from bytes.now decoded) }
+        ensures memory { IsErrOf result EndFault.Memory → (decoded : Option Packet)
+            × Decodes bytes.now decoded × UsesFile (datagram_action self.old.end from bytes.now
+            decoded) }
         ensures err { OnErr result (StaysAs F.left F.may_fail self.old self.new) }
     {
         self.end.handle_datagram(&mut self.files, from, bytes)
