@@ -19,13 +19,13 @@ use Rattle.tftp_ends.specs.declared.action.Response.TheVariants.{Ignore, Strange
 use Rattle.tftp_ends.specs.End.{EndState, is_sender}
 use Rattle.tftp_ends.specs.Files.{AreFilesOf, AreSame, KeepsFiles}
 use Rattle.tftp_ends.specs.Action.{Decodes, datagram_action}
-use Rattle.tftp_ends.specs.Step.{Turn, Acts, DatagramStep, response_turn, block_length, result_count_is, IsAnswered, Carries, told, timeout_turn}
+use Rattle.tftp_ends.specs.Step.{Turn, Acts, DatagramStep, response_turn, block_length, result_count_is, IsAnswered, told, timeout_turn}
 use Rattle.tftp_ends.specs.Action.{timeout_action}
 use Rattle.tftp_wire.specs.declared.packet.Packet.{Packet}
 use Rattle.tftp_server.specs.declared.fault.ServerFault.{ServerFault}
 use Rattle.tftp_server.specs.Fault.{of_end}
 use Rattle.tftp_server.specs.State.{Held, IsRead, is_closed, at, with_next}
-use Rattle.tftp_server.specs.Steps.{TakesIn, TakesDatagram, TimesOut, StaysAs, KeepsHeld, TimeoutFault, DatagramFault, with_end}
+use Rattle.tftp_server.specs.Steps.{Gives, TakesBy, TakesDatagramBy, TimesOutBy, StaysAs, KeepsHeld, TimeoutFault, DatagramFaultBy, with_end}
 
 -- an end's side stays where no file is touched, and over a fill
 response_side : (response : Response) (from : Endpoint) (e : EndState) → (response_turn response from e).end.side ≡ e.side
@@ -65,37 +65,39 @@ module _ {F K : Type 0} (left : F → Option (List ℕ)) (may_fail : F → ℕ �
       ∙ cond_side (result_count_is (block_length e.length terms.size number) h.answer) _ _ e refl refl
   acts_side (Store terms number) from bytes e source source' turn h = absurd h
 
-  -- what a call of an end at a datagram ensures where it has taken it
-  abbrev pub HasDecoded : Endpoint → List ℕ → EndState → EndState → Files F K → Files F K → List ℕ → List ℕ → Step → Type 0
-  HasDecoded from bytes e e' files files' before after step =
-      (turn : Turn) × DatagramStep left may_fail held may_refuse_append may_refuse_commit from bytes e files turn files'
-      × Carries turn e' step.to before after × (step ≡ told e turn)
+  module _ {R : Type 0} (step_in : R → Step) (gives : R → Gives) where
+    -- what a call of an end at a datagram ensures where it has taken it
+    abbrev pub HasDecoded : Endpoint → List ℕ → EndState → EndState → Files F K → Files F K → R → Type 0
+    HasDecoded from bytes e e' files files' r =
+        (turn : Turn) × DatagramStep left may_fail held may_refuse_append may_refuse_commit from bytes e files turn files'
+        × gives r turn e' (step_in r).to × (step_in r ≡ told e turn)
 
-  -- a transfer that reads makes this step
-  pub takes_in : (from : Endpoint) (bytes : List ℕ) (e e' : EndState) (files files' : Files F K) (path before after : List ℕ) (same_source : F → F → Type 0) (same_sink : K → K → Type 0) (result : Result Step EndFault) → IsRead files → AreSame same_source same_sink files files' → IfOk result (HasDecoded from bytes e e' files files' before after) → IfOk result (λ step. TakesIn left may_fail from bytes (record { end = e; files = files; path = path }) (record { end = e'; files = files'; path = path }) step before after)
-  takes_in from bytes e e' (Source s) (Source s') path before after ss sk (Ok step) read same h =
-      record {
-        turn = h.0;
-        steps = record { decoded = h.1.decoded; says = h.1.says; acts = acts_read (datagram_action e from bytes h.1.decoded) from bytes e s s' h.0 h.1.acts };
-        carries = h.2;
-        tells = h.3;
-        path = refl;
-      }
-  takes_in from bytes e e' (Source s) (Sink k) path before after ss sk result read same h = absurd same
-  takes_in from bytes e e' (Sink k) files' path before after ss sk result read same h = absurd read
-  takes_in from bytes e e' (Source s) (Source s') path before after ss sk (Err fault) read same h = tt
+    -- a transfer that reads makes this step
+    pub takes_in : (from : Endpoint) (bytes : List ℕ) (e e' : EndState) (files files' : Files F K) (path : List ℕ) (same_source : F → F → Type 0) (same_sink : K → K → Type 0) (result : Result R EndFault) → IsRead files → AreSame same_source same_sink files files' → IfOk result (HasDecoded from bytes e e' files files') → IfOk result (λ r. TakesBy left may_fail (gives r) from bytes (record { end = e; files = files; path = path }) (record { end = e'; files = files'; path = path }) (step_in r))
+    takes_in from bytes e e' (Source s) (Source s') path ss sk (Ok r) read same h =
+        record {
+          turn = h.0;
+          steps = record { decoded = h.1.decoded; says = h.1.says; acts = acts_read (datagram_action e from bytes h.1.decoded) from bytes e s s' h.0 h.1.acts };
+          carries = h.2;
+          tells = h.3;
+          path = refl;
+        }
+    takes_in from bytes e e' (Source s) (Sink k) path ss sk result read same h = absurd same
+    takes_in from bytes e e' (Sink k) files' path ss sk result read same h = absurd read
+    takes_in from bytes e e' (Source s) (Source s') path ss sk (Err fault) read same h = tt
 
-  decoded_side : (from : Endpoint) (bytes : List ℕ) (e e' : EndState) (s s' : F) (before after : List ℕ) (A B : Type 0) (result : Result Step EndFault) → IfOk result (HasDecoded from bytes e e' (Source s) (Source s') before after) → OnErr result ((e' ≡ e) × A × B) → e'.side ≡ e.side
-  decoded_side from bytes e e' s s' before after A B (Ok step) h kept =
-      ap (λ (x : EndState). x.side) h.2.state ∙ acts_side (datagram_action e from bytes h.1.decoded) from bytes e s s' h.0 h.1.acts
-  decoded_side from bytes e e' s s' before after A B (Err fault) h kept = ap (λ (x : EndState). x.side) kept.0
+    module _ (state : (r : R) (turn : Turn) (e : EndState) (to : Option Endpoint) → gives r turn e to → e ≡ turn.end) where
+      decoded_side : (from : Endpoint) (bytes : List ℕ) (e e' : EndState) (s s' : F) (P : Type 0) (same : P → e' ≡ e) (result : Result R EndFault) → IfOk result (HasDecoded from bytes e e' (Source s) (Source s')) → OnErr result P → e'.side ≡ e.side
+      decoded_side from bytes e e' s s' P same (Ok r) h kept =
+          ap (λ (x : EndState). x.side) (state r h.0 e' (step_in r).to h.2) ∙ acts_side (datagram_action e from bytes h.1.decoded) from bytes e s s' h.0 h.1.acts
+      decoded_side from bytes e e' s s' P same (Err fault) h kept = ap (λ (x : EndState). x.side) (same kept)
 
-  -- and its end still has the file that it wants
-  pub still_reads : (from : Endpoint) (bytes : List ℕ) (e e' : EndState) (files files' : Files F K) (before after : List ℕ) (A B : Type 0) (same_source : F → F → Type 0) (same_sink : K → K → Type 0) (result : Result Step EndFault) → AreFilesOf e.side files × IsRead files → AreSame same_source same_sink files files' → IfOk result (HasDecoded from bytes e e' files files' before after) → OnErr result ((e' ≡ e) × A × B) → AreFilesOf e'.side files' × IsRead files'
-  still_reads from bytes e e' (Source s) (Source s') before after A B ss sk result fits same h kept =
-      (ap is_sender (decoded_side from bytes e e' s s' before after A B result h kept) ∙ fits.0, tt)
-  still_reads from bytes e e' (Source s) (Sink k) before after A B ss sk result fits same h kept = absurd same
-  still_reads from bytes e e' (Sink k) files' before after A B ss sk result fits same h kept = absurd fits.1
+      -- and its end still has the file that it wants
+      pub still_reads : (from : Endpoint) (bytes : List ℕ) (e e' : EndState) (files files' : Files F K) (P : Type 0) (stays : P → e' ≡ e) (same_source : F → F → Type 0) (same_sink : K → K → Type 0) (result : Result R EndFault) → AreFilesOf e.side files × IsRead files → AreSame same_source same_sink files files' → IfOk result (HasDecoded from bytes e e' files files') → OnErr result P → AreFilesOf e'.side files' × IsRead files'
+      still_reads from bytes e e' (Source s) (Source s') P stays ss sk result fits same h kept =
+          (ap is_sender (decoded_side from bytes e e' s s' P stays result h kept) ∙ fits.0, tt)
+      still_reads from bytes e e' (Source s) (Sink k) P stays ss sk result fits same h kept = absurd same
+      still_reads from bytes e e' (Sink k) files' P stays ss sk result fits same h kept = absurd fits.1
 
   kept_as : (files files' : Files F K) → KeepsFiles left held files files' → KeepsFiles left (λ (k : K). None) files files'
   kept_as (Source s) (Source s') h = h
@@ -103,20 +105,24 @@ module _ {F K : Type 0} (left : F → Option (List ℕ)) (may_fail : F → ℕ �
   kept_as (Sink k) (Source s) h = h
   kept_as (Sink k) (Sink k') h = tt
 
+  pub stays_lent : {R : Type 0} (e e' : EndState) (files files' : Files F K) (path : List ℕ) (result : Result R EndFault) → OnErr result ((e' ≡ e) × KeepsFiles left held files files') → OnErr result (StaysAs left may_fail (record { end = e; files = files; path = path }) (record { end = e'; files = files'; path = path }))
+  stays_lent e e' files files' path (Ok r) h = tt
+  stays_lent e e' files files' path (Err fault) h = record { end = h.0; path = refl; files = kept_as files files' h.1 }
+
   pub stays_as : (e e' : EndState) (files files' : Files F K) (path before after : List ℕ) (result : Result Step EndFault) → OnErr result ((e' ≡ e) × (after ≡ before) × KeepsFiles left held files files') → OnErr result (StaysAs left may_fail (record { end = e; files = files; path = path }) (record { end = e'; files = files'; path = path }) × (after ≡ before))
   stays_as e e' files files' path before after (Ok step) h = tt
   stays_as e e' files files' path before after (Err fault) h = (record { end = h.0; path = refl; files = kept_as files files' h.2 }, h.1)
 
 -- ---- why an event was not taken
-different : (fault : EndFault) → fault ≡ ends.Memory → IsErrOf {T = Step} (Err fault) ends.Closed → ⊥
-different fault memory e = let both : IsErrOf {T = Step} (Err ends.Memory) ends.Closed = subst (λ (f : EndFault). IsErrOf {T = Step} (Err f) ends.Closed) memory e in cc
+different : {R : Type 0} (fault : EndFault) → fault ≡ ends.Memory → IsErrOf {T = R} (Err fault) ends.Closed → ⊥
+different {R = R} fault memory e = let both : IsErrOf {T = R} (Err ends.Memory) ends.Closed = subst (λ (f : EndFault). IsErrOf {T = R} (Err f) ends.Closed) memory e in cc
 
 module _ {F D : Type 0} where
-  open_unless_closed : (held : Held F D) (fault : EndFault) → (IsErrOf {T = Step} (Err fault) ends.Closed ↔ (is_closed held ≡ true)) → fault ≡ ends.Memory → is_closed held ≡ false
-  open_unless_closed held fault closed memory = by (is_closed held) refl
+  open_unless_closed : {R : Type 0} (held : Held F D) (fault : EndFault) → (IsErrOf {T = R} (Err fault) ends.Closed ↔ (is_closed held ≡ true)) → fault ≡ ends.Memory → is_closed held ≡ false
+  open_unless_closed {R = R} held fault closed memory = by (is_closed held) refl
     where
       by : (b : Bool) → is_closed held ≡ b → b ≡ false
-      by true h = absurd (different fault memory (closed.1 h))
+      by true h = absurd (different {R = R} fault memory (closed.1 h))
       by false h = refl
 
   pub timeout_fault : (transfer : Option (Held F D)) (held : Held F D) (fault : EndFault) (server : ServerFault) → transfer ≡ Some held → server ≡ of_end fault → (IsErrOf {T = Step} (Err fault) ends.Closed ↔ (is_closed held ≡ true)) → (IsErrOf {T = Step} (Err fault) ends.Memory → IsAnswered (timeout_action held.end.retries_left held.end.phase)) → TimeoutFault transfer server
@@ -125,22 +131,22 @@ module _ {F D : Type 0} where
     where
       by : (f : EndFault) → (IsErrOf {T = Step} (Err f) ends.Closed ↔ (is_closed held ≡ true)) → (IsErrOf {T = Step} (Err f) ends.Memory → IsAnswered (timeout_action held.end.retries_left held.end.phase)) → TimeoutFault (Some held) (of_end f)
       by ends.Closed c m = ap not (c.0 refl)
-      by ends.Memory c m = (open_unless_closed held ends.Memory c refl, m refl)
+      by ends.Memory c m = (open_unless_closed {R = Step} held ends.Memory c refl, m refl)
 
-  pub datagram_fault : (from : Endpoint) (bytes : List ℕ) (transfer : Option (Held F D)) (held : Held F D) (fault : EndFault) (server : ServerFault) → transfer ≡ Some held → server ≡ of_end fault → (IsErrOf {T = Step} (Err fault) ends.Closed ↔ (is_closed held ≡ true)) → (IsErrOf {T = Step} (Err fault) ends.Memory → (decoded : Option Packet) × Decodes bytes decoded × IsAnswered (datagram_action held.end from bytes decoded)) → DatagramFault from bytes transfer server
-  datagram_fault from bytes transfer held fault server there same closed memory =
-      subst (λ (t : Option (Held F D)). DatagramFault from bytes t server) (sym there) (subst (λ (f : ServerFault). DatagramFault from bytes (Some held) f) (sym same) (by fault closed memory))
+  pub datagram_fault : {R : Type 0} (kind : Action → Type 0) (from : Endpoint) (bytes : List ℕ) (transfer : Option (Held F D)) (held : Held F D) (fault : EndFault) (server : ServerFault) → transfer ≡ Some held → server ≡ of_end fault → (IsErrOf {T = R} (Err fault) ends.Closed ↔ (is_closed held ≡ true)) → (IsErrOf {T = R} (Err fault) ends.Memory → (decoded : Option Packet) × Decodes bytes decoded × kind (datagram_action held.end from bytes decoded)) → DatagramFaultBy kind from bytes transfer server
+  datagram_fault {R = R} kind from bytes transfer held fault server there same closed memory =
+      subst (λ (t : Option (Held F D)). DatagramFaultBy kind from bytes t server) (sym there) (subst (λ (f : ServerFault). DatagramFaultBy kind from bytes (Some held) f) (sym same) (by fault closed memory))
     where
-      by : (f : EndFault) → (IsErrOf {T = Step} (Err f) ends.Closed ↔ (is_closed held ≡ true)) → (IsErrOf {T = Step} (Err f) ends.Memory → (decoded : Option Packet) × Decodes bytes decoded × IsAnswered (datagram_action held.end from bytes decoded)) → DatagramFault from bytes (Some held) (of_end f)
+      by : (f : EndFault) → (IsErrOf {T = R} (Err f) ends.Closed ↔ (is_closed held ≡ true)) → (IsErrOf {T = R} (Err f) ends.Memory → (decoded : Option Packet) × Decodes bytes decoded × kind (datagram_action held.end from bytes decoded)) → DatagramFaultBy kind from bytes (Some held) (of_end f)
       by ends.Closed c m = ap not (c.0 refl)
-      by ends.Memory c m = let said = m refl in (open_unless_closed held ends.Memory c refl, said.0, said.1, said.2)
+      by ends.Memory c m = let said = m refl in (open_unless_closed {R = R} held ends.Memory c refl, said.0, said.1, said.2)
 
   -- ---- what is written back to the transfers
   pub found_now : (tid : ℕ) (table now : List (ℕ × Held F D)) (transfer : Held F D) → table ≡ now → Some transfer ≡ at tid table → at tid now ≡ Some transfer
   found_now tid table now transfer same found = ap (at tid) (sym same) ∙ sym found
 
-  pub times_out : (tid : ℕ) (table now : List (ℕ × Held F D)) (transfer next : Held F D) (step : Step) (before after : List ℕ) → table ≡ now → Some transfer ≡ at tid table → Carries (timeout_turn transfer.end) next.end step.to before after × (step ≡ told transfer.end (timeout_turn transfer.end)) × (next ≡ with_end next.end transfer) → TimesOut tid now (with_next tid next table) step before after
-  times_out tid table now transfer next step before after same found h =
+  pub times_out : (gives : Gives) (tid : ℕ) (table now : List (ℕ × Held F D)) (transfer next : Held F D) (step : Step) → table ≡ now → Some transfer ≡ at tid table → gives (timeout_turn transfer.end) next.end step.to × (step ≡ told transfer.end (timeout_turn transfer.end)) × (next ≡ with_end next.end transfer) → TimesOutBy gives tid now (with_next tid next table) step
+  times_out gives tid table now transfer next step same found h =
       record {
         transfer = transfer;
         found = found_now tid table now transfer same found;
@@ -150,8 +156,8 @@ module _ {F D : Type 0} where
         held = ap (λ (t : Held F D). with_next tid t table) h.2 ∙ ap (with_next tid (with_end next.end transfer)) same;
       }
 
-  pub takes_datagram : (left : F → Option (List ℕ)) (may_fail : F → ℕ → Type 0) (tid : ℕ) (from : Endpoint) (bytes : List ℕ) (table now : List (ℕ × Held F D)) (transfer next : Held F D) (step : Step) (before after : List ℕ) → table ≡ now → Some transfer ≡ at tid table → TakesIn left may_fail from bytes transfer next step before after → TakesDatagram left may_fail tid from bytes now (with_next tid next table) step before after
-  takes_datagram left may_fail tid from bytes table now transfer next step before after same found h =
+  pub takes_datagram : (left : F → Option (List ℕ)) (may_fail : F → ℕ → Type 0) (gives : Gives) (tid : ℕ) (from : Endpoint) (bytes : List ℕ) (table now : List (ℕ × Held F D)) (transfer next : Held F D) (step : Step) → table ≡ now → Some transfer ≡ at tid table → TakesBy left may_fail gives from bytes transfer next step → TakesDatagramBy left may_fail gives tid from bytes now (with_next tid next table) step
+  takes_datagram left may_fail gives tid from bytes table now transfer next step same found h =
       record {
         transfer = transfer;
         next = next;

@@ -1,5 +1,5 @@
 -- The tests of the request port, each a definition: the first that holds decides (RFC 1350, sections 2 and 4; RFC 2347, "Negotiation Protocol").
-use Rattle.std.specs.Prelude.{ℕ, ◌*◌, nat_lt, nat_le, if◌then◌else◌, List, Option, Some, Result, Ok, Err}
+use Rattle.std.specs.Prelude.{ℕ, Bool, true, false, ◌*◌, nat_lt, nat_le, if◌then◌else◌, List, Option, Some, Result, Ok, Err}
 use Rattle.tftp_wire.specs.declared.mode.Mode.{Mode}
 use Rattle.tftp_wire.specs.declared.options.RawOption.{RawOption}
 use Rattle.tftp_wire.specs.declared.packet.Packet.{Packet}
@@ -84,6 +84,13 @@ module _ (cap count : ℕ) where
   -- what begins as an ERROR is never answered
   abbrev pub asks : Limits → List ℕ → Option Packet → Ask
   asks limits bytes packet = if has_error_opcode bytes then Ignores else by_packet limits packet
+
+-- the store is asked
+abbrev pub asks_store : Ask → Bool
+asks_store Ignores = false
+asks_store (Refuses reply) = false
+asks_store (Reads path mode options) = true
+asks_store (Writes path mode agreed) = true
 
 -- ---- by what the store answers
 

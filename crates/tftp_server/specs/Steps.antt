@@ -8,7 +8,9 @@ use Rattle.tftp_ends.specs.declared.record.Step.{Step}
 use Rattle.tftp_ends.specs.End.{EndState}
 use Rattle.tftp_ends.specs.Files.{KeepsFiles}
 use Rattle.tftp_ends.specs.Action.{Decodes, datagram_action, timeout_action}
-use Rattle.tftp_ends.specs.Step.{Turn, DatagramStep, Carries, IsAnswered, timeout_turn, told}
+use Rattle.tftp_ends.specs.Step.{Turn, DatagramStep, Carries, Lends, IsAnswered, UsesFile, timeout_turn, told}
+use Rattle.tftp_ends.specs.declared.action.Action.{Action}
+use Rattle.tftp_ends.specs.declared.outgoing.Outgoing.{Outgoing}
 use Rattle.tftp_server.specs.declared.fault.ServerFault.{ServerFault}
 use Rattle.tftp_server.specs.declared.fault.ServerFault.TheVariants.{NoSuchTid, Memory}
 use Rattle.tftp_server.specs.State.{Held, at, is_open, is_closed, with_next}
@@ -18,19 +20,38 @@ abbrev pub ReadDatagramStep : {F : Type 0} → (F → Option (List ℕ)) → (F 
 ReadDatagramStep left may_fail from bytes e source turn source' =
     DatagramStep left may_fail (λ (sink : Unit {0}). None) (λ sink piece fault. Unit {0}) (λ sink fault. Unit {0}) from bytes e (Source source) turn (Source source')
 
+-- what a call gives of a turn, by the end that it leaves and where the answer goes
+abbrev pub Gives : Type 1
+Gives = Turn → EndState → Option Endpoint → Type 0
+
+-- the answer, behind what was there
+abbrev pub appends : List ℕ → List ℕ → Gives
+appends before after turn e to = Carries turn e to before after
+
+-- the answer, which the end lends
+abbrev pub lends : Outgoing → Gives
+lends outgoing turn e to = Lends turn e to outgoing
+
 module _ {F D : Type 0} where
   -- the transfer with another state of its end
   abbrev pub with_end : EndState → Held F D → Held F D
   with_end e held = record held { end = e }
 
-  -- the transfer at the identifier made the step of a timeout, and every other is as before
-  pub record TimesOut (tid : ℕ) (old new : List (ℕ × Held F D)) (step : Step) (before after : List ℕ) : Type 0 where
+  -- the transfer at the identifier made the step of a timeout, which gave this, and every other is as before
+  pub record TimesOutBy (gives : Gives) (tid : ℕ) (old new : List (ℕ × Held F D)) (step : Step) : Type 0 where
     pub transfer : Held F D
     pub found : at tid old ≡ Some transfer
     pub end : EndState
-    pub carries : Carries (timeout_turn transfer.end) end step.to before after
+    pub carries : gives (timeout_turn transfer.end) end step.to
     pub tells : step ≡ told transfer.end (timeout_turn transfer.end)
     pub held : new ≡ with_next tid (with_end end transfer) old
+
+  -- its datagram was appended, or is lent
+  abbrev pub TimesOut : ℕ → List (ℕ × Held F D) → List (ℕ × Held F D) → Step → List ℕ → List ℕ → Type 0
+  TimesOut tid old new step before after = TimesOutBy (appends before after) tid old new step
+
+  abbrev pub TimesOutLent : ℕ → List (ℕ × Held F D) → List (ℕ × Held F D) → Step → Outgoing → Type 0
+  TimesOutLent tid old new step outgoing = TimesOutBy (lends outgoing) tid old new step
 
   -- why a timeout was not taken: there is no open transfer, or there is no memory for its datagram
   abbrev pub TimeoutFault : Option (Held F D) → ServerFault → Type 0
@@ -38,12 +59,19 @@ module _ {F D : Type 0} where
   TimeoutFault (Some held) Memory = (is_closed held ≡ false) × IsAnswered (timeout_action held.end.retries_left held.end.phase)
   TimeoutFault transfer _ = ⊥
 
-  -- why a datagram was not taken: there is no open transfer, or there is no memory for the answer
+  -- why a datagram was not taken: there is no open transfer, or no memory for an action of this kind
+  abbrev pub DatagramFaultBy : (Action → Type 0) → Endpoint → List ℕ → Option (Held F D) → ServerFault → Type 0
+  DatagramFaultBy kind from bytes transfer NoSuchTid = is_open transfer ≡ false
+  DatagramFaultBy kind from bytes (Some held) Memory =
+      (is_closed held ≡ false) × (decoded : Option Packet) × Decodes bytes decoded × kind (datagram_action held.end from bytes decoded)
+  DatagramFaultBy kind from bytes transfer _ = ⊥
+
+  -- where the answer is appended, or lent
   abbrev pub DatagramFault : Endpoint → List ℕ → Option (Held F D) → ServerFault → Type 0
-  DatagramFault from bytes transfer NoSuchTid = is_open transfer ≡ false
-  DatagramFault from bytes (Some held) Memory =
-      (is_closed held ≡ false) × (decoded : Option Packet) × Decodes bytes decoded × IsAnswered (datagram_action held.end from bytes decoded)
-  DatagramFault from bytes transfer _ = ⊥
+  DatagramFault from bytes transfer fault = DatagramFaultBy IsAnswered from bytes transfer fault
+
+  abbrev pub DatagramFaultLent : Endpoint → List ℕ → Option (Held F D) → ServerFault → Type 0
+  DatagramFaultLent from bytes transfer fault = DatagramFaultBy UsesFile from bytes transfer fault
 
 module _ {F D : Type 0} (left : F → Option (List ℕ)) (may_fail : F → ℕ → Type 0) where
   -- what an end does at a datagram with the file of its transfer
@@ -51,21 +79,31 @@ module _ {F D : Type 0} (left : F → Option (List ℕ)) (may_fail : F → ℕ �
   DatagramStepIn from bytes e (Source source) turn (Source source') = ReadDatagramStep left may_fail from bytes e source turn source'
   DatagramStepIn from bytes e _ turn _ = ⊥
 
-  -- the transfer made the step of a datagram
-  pub record TakesIn (from : Endpoint) (bytes : List ℕ) (transfer next : Held F D) (step : Step) (before after : List ℕ) : Type 0 where
+  -- the transfer made the step of a datagram, which gave this
+  pub record TakesBy (gives : Gives) (from : Endpoint) (bytes : List ℕ) (transfer next : Held F D) (step : Step) : Type 0 where
     pub turn : Turn
     pub steps : DatagramStepIn from bytes transfer.end transfer.files turn next.files
-    pub carries : Carries turn next.end step.to before after
+    pub carries : gives turn next.end step.to
     pub tells : step ≡ told transfer.end turn
     pub path : next.path ≡ transfer.path
 
-  -- the transfer at the identifier made the step of a datagram, and every other is as before
-  pub record TakesDatagram (tid : ℕ) (from : Endpoint) (bytes : List ℕ) (old new : List (ℕ × Held F D)) (step : Step) (before after : List ℕ) : Type 0 where
+  -- the transfer at the identifier made the step of a datagram, which gave this, and every other is as before
+  pub record TakesDatagramBy (gives : Gives) (tid : ℕ) (from : Endpoint) (bytes : List ℕ) (old new : List (ℕ × Held F D)) (step : Step) : Type 0 where
     pub transfer : Held F D
     pub next : Held F D
     pub found : at tid old ≡ Some transfer
-    pub takes : TakesIn from bytes transfer next step before after
+    pub takes : TakesBy gives from bytes transfer next step
     pub held : new ≡ with_next tid next old
+
+  -- its answer was appended, or is lent
+  abbrev pub TakesIn : Endpoint → List ℕ → Held F D → Held F D → Step → List ℕ → List ℕ → Type 0
+  TakesIn from bytes transfer next step before after = TakesBy (appends before after) from bytes transfer next step
+
+  abbrev pub TakesDatagram : ℕ → Endpoint → List ℕ → List (ℕ × Held F D) → List (ℕ × Held F D) → Step → List ℕ → List ℕ → Type 0
+  TakesDatagram tid from bytes old new step before after = TakesDatagramBy (appends before after) tid from bytes old new step
+
+  abbrev pub TakesDatagramLent : ℕ → Endpoint → List ℕ → List (ℕ × Held F D) → List (ℕ × Held F D) → Step → Outgoing → Type 0
+  TakesDatagramLent tid from bytes old new step outgoing = TakesDatagramBy (lends outgoing) tid from bytes old new step
 
   -- the transfer is as it was, and its file tells the same
   pub record StaysAs (transfer next : Held F D) : Type 0 where

@@ -34,7 +34,8 @@ impl MemStore {
     pub fn new(alloc: Global, files: Vec<(Path, Vec<u8>)>) -> Result<MemStore, StoreFault>
         requires { has_distinct_paths (contents files.items) ≡ true }
         ensures files { IfOk result (λ store. store.files ≡ in_path_order (contents files.items)) }
-        ensures found { IfOk result (λ store. (path : List ℕ) → file_at path store.files ≡ file_at path (contents files.items)) }
+        ensures found { IfOk result (λ store. (path : List ℕ)
+            → file_at path store.files ≡ file_at path (contents files.items)) }
         ensures told { IfOk result (λ store. store.refuses ≡ false) }
         ensures memory { IfErr result (λ fault. fault ≡ StoreFault.Memory) }
     {
@@ -221,7 +222,8 @@ fn put_copy(
     path: &Path,
     bytes: &Vec<u8>,
 ) -> Result<(), AllocError>
-    ensures ok { OnOk result (files.new.entries ≡ with_file files.old.entries path.now bytes.now.items) }
+    ensures ok { OnOk result (files.new.entries ≡ with_file files.old.entries path.now
+        bytes.now.items) }
     ensures err { OnErr result (files.new.entries ≡ files.old.entries) }
 {
     let path = path.clone()?;

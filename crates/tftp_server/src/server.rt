@@ -2,16 +2,19 @@
 
 mod request;
 
-ghost use Rattle.std.specs.Prelude.{◌≡◌, ◌↔◌, ◌⊎◌, ◌++◌, List, ℕ, [], None, Some, option_map, is_some, IsSome, if◌then◌else◌, false, IfOk, IfErr, IsErrOf, OnOk, OnErr};
+ghost use Rattle.std.specs.Prelude.{◌≡◌, ◌↔◌, ◌⊎◌, ◌++◌, List, ℕ, [], length, Option, None, Some, option_map, is_some, IsSome, if◌then◌else◌, false, IfOk, IfErr, IsErrOf, OnOk, OnErr};
 ghost use Rattle.std.specs.Map.{keys_of};
 ghost use Rattle.tftp_ends.specs.End.{record_of};
 ghost use Rattle.tftp_file.specs.Memory.{MemSinkState};
 ghost use Rattle.tftp_server.specs.Config.{IsConfig};
 ghost use Rattle.tftp_server.specs.Request.{AsksToRead, Came, RequestStep, left_by, supported};
 ghost use Rattle.tftp_wire.specs.declared.mode.Mode.TheVariants.{Octet};
-ghost use Rattle.tftp_ends.specs.Step.{error_bytes};
+ghost use Rattle.tftp_ends.specs.Step.{error_bytes, lent};
+ghost use Rattle.tftp_wire.specs.declared.packet.Packet.{Packet};
+ghost use Rattle.tftp_ends.specs.Action.{Decodes};
+ghost use Rattle.tftp_server.specs.Port.{asks, asks_store};
 ghost use Rattle.tftp_server.specs.State.{at, is_open, taken_of, without};
-ghost use Rattle.tftp_server.specs.Steps.{TimesOut, TimeoutFault, TakesDatagram, DatagramFault, KeepsHeld};
+ghost use Rattle.tftp_server.specs.Steps.{TimesOut, TimesOutLent, TimeoutFault, TakesDatagram, TakesDatagramLent, DatagramFault, DatagramFaultLent, KeepsHeld};
 ghost use Rattle.std.specs.Borrow.{Lends, sem};
 
 use crate::config::Config;
@@ -23,7 +26,7 @@ use crate::table::Table;
 use crate::transfer::Transfer;
 use std::alloc::Global;
 use std::marker::Model;
-use tftp_ends::{Endpoint, ErrorReply, Record, Step};
+use tftp_ends::{Endpoint, ErrorReply, Outgoing, Record, Step};
 use tftp_file::Path;
 
 /// A server: what it is set to, its store and the transfers that it holds.
@@ -84,9 +87,11 @@ impl<S: Store> Server<S> {
     /// `NoSuchTid` where no open transfer has the identifier; `Memory` only where a datagram is to be
     /// sent. After a fault nothing has changed.
     pub fn on_timeout(&mut self, tid: u16, out: &mut Vec<u8>) -> Result<Step, ServerFault>
-        ensures steps { IfOk result (λ step. TimesOut tid self.old.held self.new.held step out.old.items out.new.items) }
+        ensures steps { IfOk result (λ step. TimesOut tid self.old.held self.new.held step
+            out.old.items out.new.items) }
         ensures rest { self.new ≡ record self.old { held = self.new.held } }
-        ensures no_such_tid { IsErrOf result ServerFault.NoSuchTid ↔ (is_open (at tid self.old.held) ≡ false) }
+        ensures no_such_tid { IsErrOf result ServerFault.NoSuchTid
+            ↔ (is_open (at tid self.old.held) ≡ false) }
         ensures fault { IfErr result (TimeoutFault (at tid self.old.held)) }
         ensures err { OnErr result ((self.new ≡ self.old) × (out.new.items ≡ out.old.items)) }
     {
@@ -111,11 +116,14 @@ impl<S: Store> Server<S> {
         bytes: &[u8],
         out: &mut Vec<u8>,
     ) -> Result<Step, ServerFault>
-        ensures takes { IfOk result (λ step. TakesDatagram S.Source.left S.Source.may_fail tid from bytes.now self.old.held self.new.held step out.old.items out.new.items) }
+        ensures takes { IfOk result (λ step. TakesDatagram S.Source.left S.Source.may_fail tid from
+            bytes.now self.old.held self.new.held step out.old.items out.new.items) }
         ensures rest { self.new ≡ record self.old { held = self.new.held } }
-        ensures no_such_tid { IsErrOf result ServerFault.NoSuchTid ↔ (is_open (at tid self.old.held) ≡ false) }
+        ensures no_such_tid { IsErrOf result ServerFault.NoSuchTid
+            ↔ (is_open (at tid self.old.held) ≡ false) }
         ensures fault { IfErr result (DatagramFault from bytes.now (at tid self.old.held)) }
-        ensures err { OnErr result (KeepsHeld S.Source.left S.Source.may_fail tid (at tid self.old.held) self.old.held self.new.held × (out.new.items ≡ out.old.items)) }
+        ensures err { OnErr result (KeepsHeld S.Source.left S.Source.may_fail tid
+            (at tid self.old.held) self.old.held self.new.held × (out.new.items ≡ out.old.items)) }
     {
         let Some(transfer) = self.table.get_mut(tid) else {
             return Err(ServerFault::NoSuchTid);
@@ -123,6 +131,85 @@ impl<S: Store> Server<S> {
         match transfer.on_datagram(from, bytes, out) {
             Ok(step) => Ok(step),
             Err(fault) => Err(ServerFault::from(fault)),
+        }
+    }
+
+    /// The transfer at the identifier takes a timeout, and tells what goes out, without a copy of it:
+    /// [`Server::bytes_of`] lends it, and [`Step::to`] says where it goes.
+    ///
+    /// Its one fault is `NoSuchTid`, where no open transfer has the identifier; then nothing has changed.
+    pub fn handle_timeout(&mut self, tid: u16) -> Result<(Step, Outgoing), ServerFault>
+        ensures steps { IfOk result (λ answer. TimesOutLent tid self.old.held self.new.held answer.0
+            answer.1) }
+        ensures rest { self.new ≡ record self.old { held = self.new.held } }
+        ensures no_such_tid { IsErrOf result ServerFault.NoSuchTid
+            ↔ (is_open (at tid self.old.held) ≡ false) }
+        ensures fault { IfErr result (λ fault. fault ≡ ServerFault.NoSuchTid) }
+        ensures err { OnErr result (self.new ≡ self.old) }
+    {
+        let Some(transfer) = self.table.get_mut(tid) else {
+            return Err(ServerFault::NoSuchTid);
+        };
+        match transfer.handle_timeout() {
+            Ok(answer) => Ok(answer),
+            Err(_) => Err(ServerFault::NoSuchTid),
+        }
+    }
+
+    /// The transfer at the identifier takes a datagram that came from there, and tells what goes out,
+    /// without a copy of it: [`Server::bytes_of`] lends it, and [`Step::to`] says where it goes.
+    ///
+    /// `NoSuchTid` where no open transfer has the identifier; `Memory` only where a file is asked for a
+    /// block or given one. After a fault nothing has changed.
+    pub fn handle_datagram(
+        &mut self,
+        tid: u16,
+        from: Endpoint,
+        bytes: &[u8],
+    ) -> Result<(Step, Outgoing), ServerFault>
+        ensures takes { IfOk result (λ answer. TakesDatagramLent S.Source.left S.Source.may_fail tid
+            from bytes.now self.old.held self.new.held answer.0 answer.1) }
+        ensures rest { self.new ≡ record self.old { held = self.new.held } }
+        ensures no_such_tid { IsErrOf result ServerFault.NoSuchTid
+            ↔ (is_open (at tid self.old.held) ≡ false) }
+        ensures fault { IfErr result (DatagramFaultLent from bytes.now (at tid self.old.held)) }
+        ensures err { OnErr result (KeepsHeld S.Source.left S.Source.may_fail tid
+            (at tid self.old.held) self.old.held self.new.held) }
+    {
+        let Some(transfer) = self.table.get_mut(tid) else {
+            return Err(ServerFault::NoSuchTid);
+        };
+        match transfer.handle_datagram(from, bytes) {
+            Ok(answer) => Ok(answer),
+            Err(fault) => Err(ServerFault::from(fault)),
+        }
+    }
+
+    /// The bytes of what goes out of the transfer at the identifier, until the next call.
+    pub fn bytes_of(&self, tid: u16, outgoing: Outgoing) -> Option<&[u8]>
+        ensures { option_map (λ bytes. bytes.now) result ≡ option_map
+            (λ held. lent outgoing held.end) (at tid self.now.held) }
+    {
+        match self.table.get(tid) {
+            Some(transfer) => Some(transfer.bytes_of(outgoing)),
+            None => None,
+        }
+    }
+
+    /// Whether a datagram to the port of requests could open a transfer, by the tests that ask no
+    /// store, so that no socket has to be made where it could not: [`Server::on_request`] then opens
+    /// none, whatever the identifier. It fails only when out of memory.
+    pub fn may_open(&self, bytes: &[u8]) -> Result<bool, ServerFault>
+        ensures asks { IfOk result (λ may. (decoded : Option Packet) × Decodes bytes.now decoded
+            × (may ≡ asks_store (asks self.now.config.cap (length self.now.held)
+            self.now.config.limits bytes.now (supported decoded)))) }
+        ensures memory { IfErr result (λ fault. fault ≡ ServerFault.Memory) }
+    {
+        match self.asked(bytes) {
+            Ok(Asked::Nothing) => Ok(false),
+            Ok(Asked::Refuse(_)) => Ok(false),
+            Ok(Asked::Read(_)) => Ok(true),
+            Err(_) => Err(ServerFault::Memory),
         }
     }
 
@@ -140,10 +227,20 @@ impl<S: Store> Server<S> {
         bytes: &[u8],
         out: &mut Vec<u8>,
     ) -> Result<Opened, ServerFault>
-        ensures steps { IfOk result (λ opened. (sent : List ℕ) × (out.new.items ≡ out.old.items ++ sent)
-            × RequestStep (record { stored = S.stored; left = S.Source.left; drafted = λ (draft : MemSinkState). None; may_fail = S.Source.may_fail; may_refuse_open = S.may_refuse_open; may_refuse_begin = S.may_refuse_begin }) self.old from supported bytes.now tid (record { new = self.new; opened = opened; sent = sent })) }
+        ensures steps { IfOk result (λ opened. (sent : List ℕ)
+            × (out.new.items ≡ out.old.items ++ sent)
+            × RequestStep (record {
+              stored = S.stored;
+              left = S.Source.left;
+              drafted = λ (draft : MemSinkState). None;
+              may_fail = S.Source.may_fail;
+              may_refuse_open = S.may_refuse_open;
+              may_refuse_begin = S.may_refuse_begin;
+            }) self.old from supported bytes.now tid
+            (record { new = self.new; opened = opened; sent = sent })) }
         ensures in_use { IsErrOf result ServerFault.TidInUse ↔ IsSome (at tid self.old.held) }
-        ensures fault { IfErr result (λ fault. (fault ≡ ServerFault.TidInUse) ⊎ (fault ≡ ServerFault.Memory)) }
+        ensures fault { IfErr result (λ fault. (fault ≡ ServerFault.TidInUse) ⊎
+            (fault ≡ ServerFault.Memory)) }
         ensures err { OnErr result ((self.new ≡ self.old) × (out.new.items ≡ out.old.items)) }
     {
         if self.table.contains(tid) {
@@ -169,9 +266,21 @@ impl<S: Store> Server<S> {
         out: &mut Vec<u8>,
     ) -> Result<Opened, ServerFault>
         requires { at tid self.old.held ≡ None }
-        ensures reads { IfOk result (λ opened. (came : Came S S.Source MemSinkState) × (sent : List ℕ)
-            × AsksToRead (record { stored = S.stored; left = S.Source.left; drafted = λ (draft : MemSinkState). None; may_fail = S.Source.may_fail; may_refuse_open = S.may_refuse_open; may_refuse_begin = S.may_refuse_begin }) self.old from path Octet [] came
-            × (out.new.items ≡ out.old.items ++ sent) × (record { new = self.new; opened = opened; sent = sent } ≡ left_by came self.old from tid)) }
+        ensures reads { IfOk result (λ opened. (came : Came S S.Source MemSinkState)
+            × (sent : List ℕ)
+            × AsksToRead (record {
+              stored = S.stored;
+              left = S.Source.left;
+              drafted = λ (draft : MemSinkState). None;
+              may_fail = S.Source.may_fail;
+              may_refuse_open = S.may_refuse_open;
+              may_refuse_begin = S.may_refuse_begin;
+            }) self.old from path Octet [] came
+            × (out.new.items ≡ out.old.items ++ sent) × (record {
+              new = self.new;
+              opened = opened;
+              sent = sent;
+            } ≡ left_by came self.old from tid)) }
         ensures memory { IfErr result (λ fault. fault ≡ ServerFault.Memory) }
         ensures err { OnErr result ((self.new ≡ self.old) × (out.new.items ≡ out.old.items)) }
     {
@@ -214,7 +323,8 @@ impl<S: Store> Server<S> {
 
     /// The store, to be changed. No transfer changes.
     pub fn store_mut(&mut self) -> &mut S
-        ensures* writes_back { sem 𝓛 (Lends (the_row S.row S.Source.row S.Draft.row S.Store S.Source.Source) S.row self.entry result (λ w. record self.old { store = w })) }
+        ensures* writes_back { sem 𝓛 (Lends (the_row S.row S.Source.row S.Draft.row S.Store
+            S.Source.Source) S.row self.entry result (λ w. record self.old { store = w })) }
         ensures value { result.now ≡ self.old.store }
     {
         &mut self.store
@@ -226,7 +336,8 @@ impl<S: Store + Drop> Server<S> {
     /// came. Nothing changes if none with this identifier is held, or it has not closed.
     pub fn take_closed(&mut self, tid: u16) -> Option<(Record, Option<S::Draft>)>
         ensures taken { result ≡ taken_of (at tid self.old.held) }
-        ensures held { self.new.held ≡ (if is_some result then without tid self.old.held else self.old.held) }
+        ensures held { self.new.held ≡ (if is_some result then without tid self.old.held else
+            self.old.held) }
         ensures rest { self.new ≡ record self.old { held = self.new.held } }
     {
         match self.table.get(tid) {

@@ -41,13 +41,16 @@ pub trait Store {
     ghost may_refuse_open: { Self → List ℕ → StoreFault → Type 0 } = { λ _ _ _. Unit {0} };
 
     /// A draft of the path, to replace a file or not, may be refused with this fault.
-    ghost may_refuse_begin: { Self → List ℕ → Bool → StoreFault → Type 0 } = { λ _ _ _ _. Unit {0} };
+    ghost may_refuse_begin: { Self → List ℕ → Bool → StoreFault
+        → Type 0 } = { λ _ _ _ _. Unit {0} };
 
     /// An append of these bytes may answer this fault.
-    ghost may_refuse_append: { Self → Self.Draft → List ℕ → StoreFault → Type 0 } = { λ _ _ _ _. Unit {0} };
+    ghost may_refuse_append: { Self → Self.Draft → List ℕ → StoreFault
+        → Type 0 } = { λ _ _ _ _. Unit {0} };
 
     /// A commit under the path, to replace a file or not, may answer this fault.
-    ghost may_refuse_commit: { Self → List ℕ → Self.Draft → Bool → StoreFault → Type 0 } = { λ _ _ _ _ _. Unit {0} };
+    ghost may_refuse_commit: { Self → List ℕ → Self.Draft → Bool → StoreFault
+        → Type 0 } = { λ _ _ _ _ _. Unit {0} };
 
     /// Opens the file to be read in the mode.
     ///
@@ -79,7 +82,8 @@ pub trait Store {
     /// After `Memory` nothing has changed. After another fault some first of the bytes may have been
     /// added, and none before them has gone.
     fn append(&mut self, draft: &mut Self::Draft, bytes: &[u8]) -> Result<(), StoreFault>
-        ensures appends { Appends (holding_of (stored self.old) (drafted draft.old)) (holding_of (stored self.new) (drafted draft.new)) bytes.now result }
+        ensures appends { Appends (holding_of (stored self.old) (drafted draft.old)) (holding_of
+            (stored self.new) (drafted draft.new)) bytes.now result }
         ensures files { files_of (stored self.new) ≡ files_of (stored self.old) }
         ensures refused { IfErr result (may_refuse_append self.old draft.old bytes.now) };
 
@@ -94,8 +98,10 @@ pub trait Store {
         draft: &mut Self::Draft,
         replace: bool,
     ) -> Result<(), StoreFault>
-        ensures commits { Commits (holding_of (stored self.old) (drafted draft.old)) (holding_of (stored self.new) (drafted draft.new)) result }
-        ensures files { Puts (stored self.old) (stored self.new) (drafted draft.old) path.now replace result }
+        ensures commits { Commits (holding_of (stored self.old) (drafted draft.old)) (holding_of
+            (stored self.new) (drafted draft.new)) result }
+        ensures files { Puts (stored self.old) (stored self.new)
+            (drafted draft.old) path.now replace result }
         ensures refused { IfErr result (may_refuse_commit self.old path.now draft.old replace) }
         ensures not_memory { result ≢ Err StoreFault.Memory };
 }

@@ -71,7 +71,8 @@ impl<T> Table<T> {
 
     /// The value at the identifier, to be changed.
     pub(crate) fn get_mut(&mut self, tid: u16) -> Option<&mut T>
-        ensures* writes_back { sem 𝓛 (LendsIf (the_row T.row) T.row self.entry result (λ w. set_value (is_at (nat_cmp tid)) self.old w) self.old) }
+        ensures* writes_back { sem 𝓛 (LendsIf (the_row T.row) T.row self.entry result
+            (λ w. set_value (is_at (nat_cmp tid)) self.old w) self.old) }
         ensures value { option_copied_mut result ≡ lookup (is_at (nat_cmp tid)) self.old }
     {
         let key = key_at(&self.index, &self.slots, tid);

@@ -4,13 +4,13 @@ ghost use Rattle.std.specs.Prelude.{◌≡◌, ◌↔◌, true, IfOk, OnErr, IsE
 ghost use Rattle.tftp_ends.specs.End.{record_of};
 ghost use Rattle.tftp_server.specs.State.{is_closed, IsRead};
 ghost use Rattle.tftp_ends.specs.Files.{AreFilesOf};
-ghost use Rattle.tftp_server.specs.Steps.{with_end, TakesIn, StaysAs};
+ghost use Rattle.tftp_server.specs.Steps.{with_end, lends, TakesBy, TakesIn, StaysAs};
 ghost use Rattle.tftp_ends.specs.Action.{Decodes, datagram_action, timeout_action};
-ghost use Rattle.tftp_ends.specs.Step.{Carries, IsAnswered, timeout_turn, told};
+ghost use Rattle.tftp_ends.specs.Step.{Carries, Lends, IsAnswered, UsesFile, lent, timeout_turn, told};
 ghost use Rattle.tftp_wire.specs.declared.packet.Packet.{Packet};
 
 use std::marker::Model;
-use tftp_ends::{End, EndFault, Endpoint, Record, Step};
+use tftp_ends::{End, EndFault, Endpoint, Outgoing, Record, Step};
 use tftp_file::{Files, MemSink, Path, Source};
 
 /// A transfer: an end with its source, and the path of the file. No transfer has a sink yet.
@@ -62,13 +62,36 @@ impl<F> Transfer<F> {
 impl<F> Transfer<F> {
     /// Its end takes a timeout. After a fault nothing has changed.
     pub(crate) fn on_timeout(&mut self, out: &mut Vec<u8>) -> Result<Step, EndFault>
-        ensures steps { IfOk result (λ step. Carries (timeout_turn self.old.end) self.new.end step.to out.old.items out.new.items
-            × (step ≡ told self.old.end (timeout_turn self.old.end)) × (self.new ≡ with_end self.new.end self.old)) }
+        ensures steps { IfOk result (λ step. Carries (timeout_turn self.old.end) self.new.end
+            step.to out.old.items out.new.items
+            × (step ≡ told self.old.end (timeout_turn self.old.end))
+            × (self.new ≡ with_end self.new.end self.old)) }
         ensures closed { IsErrOf result EndFault.Closed ↔ (is_closed self.old ≡ true) }
-        ensures memory { IsErrOf result EndFault.Memory → IsAnswered (timeout_action self.old.end.retries_left self.old.end.phase) }
+        ensures memory { IsErrOf result EndFault.Memory
+            → IsAnswered (timeout_action self.old.end.retries_left self.old.end.phase) }
         ensures err { OnErr result ((self.new ≡ self.old) × (out.new.items ≡ out.old.items)) }
     {
         self.end.on_timeout(out)
+    }
+
+    /// The same, with what goes out lent by [`Transfer::bytes_of`].
+    pub(crate) fn handle_timeout(&mut self) -> Result<(Step, Outgoing), EndFault>
+        ensures steps { IfOk result (λ answer. Lends (timeout_turn self.old.end) self.new.end
+            answer.0.to answer.1
+            × (answer.0 ≡ told self.old.end (timeout_turn self.old.end))
+            × (self.new ≡ with_end self.new.end self.old)) }
+        ensures closed { IsErrOf result EndFault.Closed ↔ (is_closed self.old ≡ true) }
+        ensures memory { IsErrOf result EndFault.Memory → ⊥ }
+        ensures err { OnErr result (self.new ≡ self.old) }
+    {
+        self.end.handle_timeout()
+    }
+
+    /// The bytes of what goes out.
+    pub(crate) fn bytes_of(&self, outgoing: Outgoing) -> &[u8]
+        ensures { result.now ≡ lent outgoing self.now.end }
+    {
+        self.end.bytes_of(outgoing)
     }
 }
 
@@ -80,11 +103,31 @@ impl<F: Source> Transfer<F> {
         bytes: &[u8],
         out: &mut Vec<u8>,
     ) -> Result<Step, EndFault>
-        ensures takes { IfOk result (λ step. TakesIn F.left F.may_fail from bytes.now self.old self.new step out.old.items out.new.items) }
+        ensures takes { IfOk result (λ step. TakesIn F.left F.may_fail from bytes.now self.old
+            self.new step out.old.items out.new.items) }
         ensures closed { IsErrOf result EndFault.Closed ↔ (is_closed self.old ≡ true) }
-        ensures memory { IsErrOf result EndFault.Memory → (decoded : Option Packet) × Decodes bytes.now decoded × IsAnswered (datagram_action self.old.end from bytes.now decoded) }
-        ensures err { OnErr result (StaysAs F.left F.may_fail self.old self.new × (out.new.items ≡ out.old.items)) }
+        ensures memory { IsErrOf result EndFault.Memory → (decoded : Option Packet)
+            × Decodes bytes.now decoded × IsAnswered (datagram_action self.old.end from bytes.now
+            decoded) }
+        ensures err { OnErr result (StaysAs F.left F.may_fail self.old self.new
+            × (out.new.items ≡ out.old.items)) }
     {
         self.end.on_datagram(&mut self.files, from, bytes, out)
+    }
+    /// The same, with what goes out lent by [`Transfer::bytes_of`].
+    pub(crate) fn handle_datagram(
+        &mut self,
+        from: Endpoint,
+        bytes: &[u8],
+    ) -> Result<(Step, Outgoing), EndFault>
+        ensures takes { IfOk result (λ answer. TakesBy F.left F.may_fail
+            (lends answer.1) from bytes.now self.old self.new answer.0) }
+        ensures closed { IsErrOf result EndFault.Closed ↔ (is_closed self.old ≡ true) }
+        ensures memory { IsErrOf result EndFault.Memory → (decoded : Option Packet)
+            × Decodes bytes.now decoded × UsesFile (datagram_action self.old.end from bytes.now
+            decoded) }
+        ensures err { OnErr result (StaysAs F.left F.may_fail self.old self.new) }
+    {
+        self.end.handle_datagram(&mut self.files, from, bytes)
     }
 }

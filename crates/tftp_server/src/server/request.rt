@@ -42,7 +42,8 @@ pub(crate) enum Decision<F> {
 
 /// The name in a request to read in octet.
 fn file_name<'a>(decoded: &Option<PacketRef<'a>>) -> Option<&'a [u8]>
-    ensures { NamesFile (supported (option_map owned decoded.now)) (option_map (λ name. name.now) result) }
+    ensures { NamesFile (supported (option_map owned decoded.now)) (option_map
+        (λ name. name.now) result) }
 {
     match decoded {
         Some(PacketRef::Read(request)) => match request.mode {
@@ -65,7 +66,8 @@ fn by_room(cap: u8, count: usize, path: Path) -> Asked
 
 /// The name must be a path.
 fn by_name(alloc: Global, cap: u8, count: usize, name: &[u8]) -> Result<Asked, ServerFault>
-    ensures named { IfOk result (λ asked. ask_of asked ≡ by_name cap count (λ p. Reads p Octet []) (path_of_name name.now)) }
+    ensures named { IfOk result (λ asked. ask_of asked ≡ by_name cap count (λ p. Reads p Octet [])
+        (path_of_name name.now)) }
     ensures memory { IfErr result (λ fault. fault ≡ ServerFault.Memory) }
 {
     match path_of(alloc, name) {
@@ -82,7 +84,8 @@ impl<S: Store> Server<S> {
     /// never answered.
     pub(crate) fn asked(&self, bytes: &[u8]) -> Result<Asked, ServerFault>
         ensures asks { IfOk result (λ asked. (decoded : Option Packet) × Decodes bytes.now decoded
-            × (ask_of asked ≡ asks self.now.config.cap (length self.now.held) self.now.config.limits bytes.now (supported decoded))) }
+            × (ask_of asked ≡ asks self.now.config.cap (length self.now.held) self.now.config.limits
+            bytes.now (supported decoded))) }
         ensures memory { IfErr result (λ fault. fault ≡ ServerFault.Memory) }
     {
         let decoded = decode_packet(bytes);
@@ -103,9 +106,18 @@ impl<S: Store> Server<S> {
         file: Opening<S::Source>,
         out: &mut Vec<u8>,
     ) -> Result<Decision<S::Source>, ServerFault>
-        ensures sends { IfOk result (λ decision. Sent (record { stored = S.stored; left = S.Source.left; drafted = λ (draft : MemSinkState). None; may_fail = S.Source.may_fail; may_refuse_open = S.may_refuse_open; may_refuse_begin = S.may_refuse_begin }) self.now from
-            (by_length path Octet file.length (Ok [])) (Ok file) (came_to decision self.now.store)) }
-        ensures sent { IfOk result (λ decision. out.new.items ≡ out.old.items ++ decided_bytes decision) }
+        ensures sends { IfOk result (λ decision. Sent (record {
+          stored = S.stored;
+          left = S.Source.left;
+          drafted = λ (draft : MemSinkState). None;
+          may_fail = S.Source.may_fail;
+          may_refuse_open = S.may_refuse_open;
+          may_refuse_begin = S.may_refuse_begin;
+        }) self.now from
+            (by_length path Octet file.length (Ok [])) (Ok file)
+            (came_to decision self.now.store)) }
+        ensures sent { IfOk result (λ decision. out.new.items ≡ out.old.items ++ decided_bytes
+            decision) }
         ensures memory { IfErr result (λ fault. fault ≡ ServerFault.Memory) }
         ensures err { OnErr result (out.new.items ≡ out.old.items) }
     {
@@ -138,9 +150,17 @@ impl<S: Store> Server<S> {
         path: Path,
         out: &mut Vec<u8>,
     ) -> Result<Decision<S::Source>, ServerFault>
-        ensures asks { IfOk result (λ decision. AsksToRead (record { stored = S.stored; left = S.Source.left; drafted = λ (draft : MemSinkState). None; may_fail = S.Source.may_fail; may_refuse_open = S.may_refuse_open; may_refuse_begin = S.may_refuse_begin }) self.now from
+        ensures asks { IfOk result (λ decision. AsksToRead (record {
+          stored = S.stored;
+          left = S.Source.left;
+          drafted = λ (draft : MemSinkState). None;
+          may_fail = S.Source.may_fail;
+          may_refuse_open = S.may_refuse_open;
+          may_refuse_begin = S.may_refuse_begin;
+        }) self.now from
             path Octet [] (came_to decision self.now.store)) }
-        ensures sent { IfOk result (λ decision. out.new.items ≡ out.old.items ++ decided_bytes decision) }
+        ensures sent { IfOk result (λ decision. out.new.items ≡ out.old.items ++ decided_bytes
+            decision) }
         ensures memory { IfErr result (λ fault. fault ≡ ServerFault.Memory) }
         ensures err { OnErr result (out.new.items ≡ out.old.items) }
     {

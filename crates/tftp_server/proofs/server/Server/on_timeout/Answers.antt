@@ -1,6 +1,7 @@
 use Rattle.std.proofs.Common.{◌≡◌, ap, ◌∙◌, List, ℕ}
 use Rattle.tftp_file.specs.Memory.{MemSinkState}
 use Rattle.tftp_server.specs.State.{ServerState, Held, at}
+use Rattle.tftp_server.specs.Steps.{appends}
 use Rattle.tftp_server.proofs.StepsLemmas.{found_now, timeout_fault, times_out, nothing_written}
 use Rattle.tftp_server.proofs.server.Server.on_timeout.Goals as goal
 use Rattle.tftp_server.proofs.server.Server.on_timeout.Goals.{in-Ok, in-Err}
@@ -23,8 +24,8 @@ returns-clause-steps g c =
     elim c.match-on_timeout.branch [
       | in-Ok w ↦
           rw w.result-is
-          (times_out c.args.tid c.self.inside.table c.args.self.now.held c.in-Some.transfer.now c.on_timeout.new.self w.in-Ok.step
-          c.args.out.now.items c.on_timeout.new.out.items same c.in-Some.ensures.value w.in-Ok.ensures.steps)
+          (times_out (appends c.args.out.now.items c.on_timeout.new.out.items) c.args.tid c.self.inside.table c.args.self.now.held c.in-Some.transfer.now c.on_timeout.new.self w.in-Ok.step
+          same c.in-Some.ensures.value w.in-Ok.ensures.steps)
       | in-Err w ↦ rw w.result-is tt
     ]
 

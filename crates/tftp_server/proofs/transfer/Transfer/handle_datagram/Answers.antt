@@ -1,0 +1,28 @@
+use Rattle.std.proofs.Common.{◌≡◌, Some}
+use Rattle.tftp_file.specs.Memory.{MemSinkState, MayRefuseAppend, MayRefuseCommit}
+use Rattle.tftp_ends.specs.Files.{KeepsFiles}
+use Rattle.tftp_ends.specs.declared.outgoing.Outgoing.{Outgoing}
+use Rattle.tftp_ends.specs.declared.record.Step.{Step}
+use Rattle.tftp_server.specs.Steps.{lends}
+use Rattle.tftp_server.proofs.StepsLemmas.{takes_in, still_reads}
+use Rattle.tftp_server.proofs.transfer.Transfer.handle_datagram.Goals as goal
+
+pub invariant_of-self : goal.invariant_of-self
+invariant_of-self g c =
+    still_reads
+    g.F.Source.left g.F.Source.may_fail (λ (s : MemSinkState). Some s.holding) MayRefuseAppend MayRefuseCommit
+    (λ (answer : Step × Outgoing). answer.0) (λ answer. lends answer.1) (λ answer turn e to h. h.state)
+    c.args.from c.args.bytes.now c.self.inside.end c.handle_datagram.new.self c.self.inside.files c.handle_datagram.new.files
+    ((c.handle_datagram.new.self ≡ c.self.inside.end) × KeepsFiles g.F.Source.left (λ (s : MemSinkState). Some s.holding) c.self.inside.files c.handle_datagram.new.files) (λ h. h.0)
+    g.F.Source.is_same (λ (s t : MemSinkState). (t.room ≡ s.room) × (t.refuses_commit ≡ s.refuses_commit))
+    c.handle_datagram.result c.self.invariant c.handle_datagram.ensures.same c.handle_datagram.ensures.steps c.handle_datagram.ensures.err
+
+pub returns-clause-takes : goal.returns-clause-takes
+returns-clause-takes g c =
+    rw (← c.self.view_is)
+    (takes_in
+    g.F.Source.left g.F.Source.may_fail (λ (s : MemSinkState). Some s.holding) MayRefuseAppend MayRefuseCommit
+    (λ (answer : Step × Outgoing). answer.0) (λ answer. lends answer.1)
+    c.args.from c.args.bytes.now c.self.inside.end c.handle_datagram.new.self c.self.inside.files c.handle_datagram.new.files c.self.inside.path
+    g.F.Source.is_same (λ (s t : MemSinkState). (t.room ≡ s.room) × (t.refuses_commit ≡ s.refuses_commit))
+    c.handle_datagram.result c.self.invariant.1 c.handle_datagram.ensures.same c.handle_datagram.ensures.steps)
