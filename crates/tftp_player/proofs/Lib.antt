@@ -36,7 +36,6 @@ pub mod WorldKeeps
 pub mod OackLemmas
 pub mod WorldRuns
 pub mod WorldSafe
-pub mod OpeningFacts
 pub mod ServingLemmas
 pub mod TurnKeeps
 pub mod StageLemmas
