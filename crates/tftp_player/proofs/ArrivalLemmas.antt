@@ -14,7 +14,7 @@ use Rattle.tftp_player.specs.Today.{ArrivesToday, Elsewhere, StepToday, ArrivalR
 use Rattle.tftp_player.specs.World.{WorldState, OpenedEnd, is_closed, replied, report_of, no_report}
 use Rattle.tftp_player.specs.declared.datagram.Datagram.{Datagram}
 use Rattle.tftp_player.specs.WorldSteps.{LacksPort, EventRefuses, WorldRefuses}
-use Rattle.tftp_player.specs.declared.event.Event.TheVariants.{Deliver, Stray}
+use Rattle.tftp_player.specs.declared.event.Event.TheVariants.{Deliver}
 use Rattle.tftp_player.specs.declared.fault.WorldFault.{WorldFault}
 use Rattle.tftp_player.specs.declared.fault.WorldFault.TheVariants.{NoSuchDatagram, NoSuchEnd, NoPort, BadRequest, Memory}
 use Rattle.tftp_player.specs.declared.effect.Effect.{Effect}
@@ -145,19 +145,6 @@ delivery_refused old i d Memory e h = none where
 delivery_refused old i d NoSuchDatagram e h = absurd h
 delivery_refused old i d NoSuchEnd e h = absurd h
 delivery_refused old i d BadRequest e h = absurd h
-
-pub stray_refused : (old : WorldState) (from to : Endpoint) (bytes : List ℕ) (fault : WorldFault) → ArrivalRefuses old to fault → WorldRefuses old (Stray from to bytes) fault
-stray_refused old from to bytes NoPort h = h
-stray_refused old from to bytes Memory h = none where
-  none : (f : WorldFault) → EventRefuses old (Stray from to bytes) f → ⊥
-  none NoPort lacks = h lacks
-  none BadRequest f = f
-  none NoSuchEnd f = f
-  none NoSuchDatagram f = f
-  none Memory f = f
-stray_refused old from to bytes NoSuchDatagram h = absurd h
-stray_refused old from to bytes NoSuchEnd h = absurd h
-stray_refused old from to bytes BadRequest h = absurd h
 
 pub delivery_fault : (config : Config) (sent sent0 : List Datagram) (i : ℕ) (d : Datagram) (before : PlayedServer) (ps : List Player) (old : WorldState) (fault : WorldFault) →
     i < length sent0 → d ≡ slice_index_or sent0 i d → sent0 ≡ sent → world_of config sent before ps ≡ old → StageRefuses d.to ps fault → WorldRefuses old (Deliver i) fault

@@ -28,7 +28,7 @@ use Rattle.tftp_player.specs.Serving.{PlayedServer, Transfer}
 use Rattle.tftp_player.specs.Stage.{IsStaged, ends_of, world_of}
 use Rattle.tftp_player.specs.Today.{ArrivesToday, At_port, StageAsks}
 use Rattle.tftp_player.specs.World.{WorldState, OpenedEnd, file_at, is_closed, datagram, no_report, said_in, opened_in, sent_report}
-use Rattle.tftp_player.specs.WorldSteps.{never_fails, HasPort}
+use Rattle.tftp_player.specs.WorldSteps.{HasPort}
 use Rattle.tftp_player.specs.declared.datagram.Datagram.{Datagram}
 use Rattle.tftp_player.specs.declared.effect.Effect.{Effect}
 use Rattle.tftp_player.specs.declared.player.Player.{Player}

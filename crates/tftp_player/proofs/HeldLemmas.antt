@@ -4,7 +4,6 @@ use Rattle.std.proofs.lemmas.Bool.Decides.{nat_tests}
 use Rattle.std.specs.BTreeMap.{is_at}
 use Rattle.std.specs.Cmp.{nat_cmp_is}
 use Rattle.std.specs.List.{AllByRecursion}
-use Rattle.std.specs.Map.{keys_of}
 use Rattle.std.specs.Ordering.{nat_cmp, match_ordering, is_eq}
 use Rattle.std.specs.declared.cmp.Ordering.{Ordering}
 use Rattle.std.specs.declared.cmp.Ordering.TheVariants.{Equal, Greater}
@@ -25,31 +24,12 @@ module _ {T : Type 0} where
   abbrev pub AreBelow : ℕ → List (ℕ × T) → Type 0
   AreBelow tid held = AllByRecursion (λ (e : ℕ × T). e.0 < tid) held
 
-  abbrev pub AreAbove : ℕ → List (ℕ × T) → Type 0
-  AreAbove tid held = AllByRecursion (λ (e : ℕ × T). tid < e.0) held
-
-  -- they rise
-  abbrev pub IsRising : List (ℕ × T) → Type 0
-  IsRising [] = Unit {0}
-  IsRising (e ∷ held) = AreAbove e.0 held × IsRising held
-
   -- a transfer whose identifier is above all others comes last
   pub with_new-last : (tid : ℕ) (new : T) (held : List (ℕ × T)) → AreBelow tid held → with_new tid new held ≡ held ++ (tid, new) ∷ []
   with_new-last tid new [] below = refl
   with_new-last tid new (e ∷ held) below =
       ap (λ (o : Ordering). match_ordering o ((tid, new) ∷ e ∷ held) ((e.0, new) ∷ held) (e ∷ with_new tid new held)) (sym (nat_cmp_is tid e.0 Greater below.0))
       ∙ ap (λ (es : List (ℕ × T)). e ∷ es) (with_new-last tid new held below.1)
-
-  -- none is found at an identifier above all
-  pub at-above_all : (tid : ℕ) (held : List (ℕ × T)) → AreBelow tid held → at tid held ≡ None
-  at-above_all tid [] below = refl
-  at-above_all tid (e ∷ held) below =
-      ap (λ (b : Bool). cond b (Some e.1) (at tid held)) (at_other tid e.0 (let l = below.0 in let n : e.0 ≢ tid = omega arith in n)) ∙ at-above_all tid held below.1
-
-  pub at-below_all : (tid : ℕ) (held : List (ℕ × T)) → AreAbove tid held → at tid held ≡ None
-  at-below_all tid [] above = refl
-  at-below_all tid (e ∷ held) above =
-      ap (λ (b : Bool). cond b (Some e.1) (at tid held)) (at_other tid e.0 (let l = above.0 in let n : e.0 ≢ tid = omega arith in n)) ∙ at-below_all tid held above.1
 
   -- the last one is found, and every other as before
   pub at-last : (tid : ℕ) (new : T) (held : List (ℕ × T)) → AreBelow tid held → at tid (held ++ (tid, new) ∷ []) ≡ Some new
@@ -105,33 +85,6 @@ module _ {T : Type 0} where
       out_other other e held (without tid held) (is_at (nat_cmp tid) e.0)
       (λ h. at_other other e.0 (λ f. n (sym f ∙ same_at tid e.0 h))) (at-without_other tid other held n)
 
-  -- and that one no more
-  out_at : (tid : ℕ) (e : ℕ × T) (held more : List (ℕ × T)) (b : Bool) → is_at (nat_cmp tid) e.0 ≡ b → (b ≡ true → at tid held ≡ None) → at tid more ≡ None →
-      at tid (cond b held (e ∷ more)) ≡ None
-  out_at tid e held more true h none rest = none refl
-  out_at tid e held more false h none rest = ap (λ (c : Bool). cond c (Some e.1) (at tid more)) h ∙ rest
-
-  pub at-without : (tid : ℕ) (held : List (ℕ × T)) → IsRising held → at tid (without tid held) ≡ None
-  at-without tid [] rising = refl
-  at-without tid (e ∷ held) rising =
-      out_at tid e held (without tid held) (is_at (nat_cmp tid) e.0) refl
-      (λ h. at-below_all tid held (subst (λ (k : ℕ). AreAbove k held) (same_at tid e.0 h) rising.0)) (at-without tid held rising.1)
-
-  -- the identifiers
-  pub keys_of-with_new : (tid : ℕ) (new : T) (held : List (ℕ × T)) → AreBelow tid held → keys_of (with_new tid new held) ≡ keys_of held ++ tid ∷ []
-  keys_of-with_new tid new held below = ap keys_of (with_new-last tid new held below) ∙ pushed held where
-    pushed : (es : List (ℕ × T)) → keys_of (es ++ (tid, new) ∷ []) ≡ keys_of es ++ tid ∷ []
-    pushed [] = refl
-    pushed (e ∷ es) = ap (λ (ks : List ℕ). e.0 ∷ ks) (pushed es)
-
-  next_keys : (next : T) (e : ℕ × T) (held more : List (ℕ × T)) (b : Bool) → keys_of more ≡ keys_of held → keys_of (cond b ((e.0, next) ∷ held) (e ∷ more)) ≡ keys_of (e ∷ held)
-  next_keys next e held more true rest = refl
-  next_keys next e held more false rest = ap (λ (ks : List ℕ). e.0 ∷ ks) rest
-
-  pub keys_of-with_next : (tid : ℕ) (next : T) (held : List (ℕ × T)) → keys_of (with_next tid next held) ≡ keys_of held
-  keys_of-with_next tid next [] = refl
-  keys_of-with_next tid next (e ∷ held) = next_keys next e held (with_next tid next held) (is_at (nat_cmp tid) e.0) (keys_of-with_next tid next held)
-
   -- how many they are
   next_length : (next : T) (e : ℕ × T) (held more : List (ℕ × T)) (b : Bool) → length more ≡ length held → length (cond b ((e.0, next) ∷ held) (e ∷ more)) ≡ length (e ∷ held)
   next_length next e held more true rest = refl
@@ -174,32 +127,6 @@ module _ {T : Type 0} where
   pub AllKeys-without : (P : ℕ → Type 0) (tid : ℕ) (held : List (ℕ × T)) → AllByRecursion (λ (f : ℕ × T). P f.0) held → AllByRecursion (λ (f : ℕ × T). P f.0) (without tid held)
   AllKeys-without P tid [] all = tt
   AllKeys-without P tid (e ∷ held) all = all_out P e held (without tid held) (is_at (nat_cmp tid) e.0) all (AllKeys-without P tid held all.1)
-
-  -- they rise still
-  rising_pushed : (tid : ℕ) (new : T) (held : List (ℕ × T)) → IsRising held → AreBelow tid held → IsRising (held ++ (tid, new) ∷ [])
-  rising_pushed tid new [] rising below = (tt, tt)
-  rising_pushed tid new (e ∷ held) rising below = (all_pushed (λ (f : ℕ × T). e.0 < f.0) tid new held rising.0 below.0, rising_pushed tid new held rising.1 below.1)
-
-  pub IsRising-with_new : (tid : ℕ) (new : T) (held : List (ℕ × T)) → IsRising held → AreBelow tid held → IsRising (with_new tid new held)
-  IsRising-with_new tid new held rising below = subst IsRising (sym (with_new-last tid new held below)) (rising_pushed tid new held rising below)
-
-  rising_next : (next : T) (e : ℕ × T) (held more : List (ℕ × T)) (b : Bool) → IsRising (e ∷ held) → AreAbove e.0 more → IsRising more → IsRising (cond b ((e.0, next) ∷ held) (e ∷ more))
-  rising_next next e held more true rising above rest = (rising.0, rising.1)
-  rising_next next e held more false rising above rest = (above, rest)
-
-  pub IsRising-with_next : (tid : ℕ) (next : T) (held : List (ℕ × T)) → IsRising held → IsRising (with_next tid next held)
-  IsRising-with_next tid next [] rising = tt
-  IsRising-with_next tid next (e ∷ held) rising =
-      rising_next next e held (with_next tid next held) (is_at (nat_cmp tid) e.0) rising (AllKeys-with_next (λ (k : ℕ). e.0 < k) tid next held rising.0) (IsRising-with_next tid next held rising.1)
-
-  rising_out : (e : ℕ × T) (held more : List (ℕ × T)) (b : Bool) → IsRising (e ∷ held) → AreAbove e.0 more → IsRising more → IsRising (cond b held (e ∷ more))
-  rising_out e held more true rising above rest = rising.1
-  rising_out e held more false rising above rest = (above, rest)
-
-  pub IsRising-without : (tid : ℕ) (held : List (ℕ × T)) → IsRising held → IsRising (without tid held)
-  IsRising-without tid [] rising = tt
-  IsRising-without tid (e ∷ held) rising =
-      rising_out e held (without tid held) (is_at (nat_cmp tid) e.0) rising (AllKeys-without (λ (k : ℕ). e.0 < k) tid held rising.0) (IsRising-without tid held rising.1)
 
   -- below the next identifier, where below this one
   all_weaker : (P Q : ℕ → Type 0) (held : List (ℕ × T)) → ((k : ℕ) → P k → Q k) → AllByRecursion (λ (f : ℕ × T). P f.0) held → AllByRecursion (λ (f : ℕ × T). Q f.0) held

@@ -92,24 +92,9 @@ pub wire_same : (mode : Mode) (xs ys : List ℕ) → wire_text mode xs ≡ wire_
 wire_same mode xs ys e =
     both_beginnings xs ys (wire_beginning mode xs ys ([], append-nil (wire_text mode xs) ∙ e)) (wire_beginning mode ys xs ([], append-nil (wire_text mode ys) ∙ sym e))
 
--- what a receiver stored is a beginning of the file, if it and the text held back begin the wire text
-pub stored_beginning : (mode : Mode) (stored held file : List ℕ) → IsBeginningOf (wire_text mode stored ++ held) (wire_text mode file) → IsBeginningOf stored file
-stored_beginning mode stored held file h =
-    wire_beginning mode stored file (held ++ h.0, sym (append_assoc (wire_text mode stored) held h.0) ∙ h.1)
-
 -- a block goes on with what is stored of it and the text that is held back then
 pub stored_more : (mode : Mode) (stored held bytes more after : List ℕ) → held ++ bytes ≡ wire_text mode more ++ after →
     (wire_text mode stored ++ held) ++ bytes ≡ wire_text mode (stored ++ more) ++ after
 stored_more mode stored held bytes more after e =
     append_assoc (wire_text mode stored) held bytes ∙ (ap (λ (zs : List ℕ). wire_text mode stored ++ zs) e
     ∙ (sym (append_assoc (wire_text mode stored) (wire_text mode more) after) ∙ ap (λ (zs : List ℕ). zs ++ after) (sym (wire_text-append mode stored more))))
-
--- a beginning of what a block would store travels as a beginning of the text with that block
-pub stored_part : (mode : Mode) (stored held bytes more after part : List ℕ) → held ++ bytes ≡ wire_text mode more ++ after → IsBeginningOf part more →
-    IsBeginningOf (wire_text mode (stored ++ part)) ((wire_text mode stored ++ held) ++ bytes)
-stored_part mode stored held bytes more after part e h =
-    let rest = wire_text mode h.0 ++ after in
-    let joins : wire_text mode (stored ++ part) ++ rest ≡ wire_text mode (stored ++ more) ++ after =
-    sym (append_assoc (wire_text mode (stored ++ part)) (wire_text mode h.0) after)
-    ∙ ap (λ (zs : List ℕ). zs ++ after) (sym (wire_text-append mode (stored ++ part) h.0) ∙ ap (wire_text mode) (append_assoc stored part h.0 ∙ ap (λ (zs : List ℕ). stored ++ zs) h.1)) in
-    (rest, joins ∙ sym (stored_more mode stored held bytes more after e))

@@ -1,5 +1,5 @@
 -- Ends that are told of one after another, each by its port and by what is held at that port, and how many of them are open.
-use Rattle.std.proofs.Common.{◌≡◌, ◌≢◌, ℕ, suc, zero, ◌+◌, ◌<◌, ◌≤◌, Bool, true, false, List, [], ◌∷◌, ◌++◌, length, map, set, cond, count_by, Some, None, refl, sym, ap, ◌∙◌, subst, arith}
+use Rattle.std.proofs.Common.{◌≡◌, ◌≢◌, ℕ, suc, zero, ◌+◌, ◌<◌, ◌≤◌, Bool, true, false, List, [], ◌∷◌, ◌++◌, length, set, cond, count_by, Some, None, refl, sym, ap, ◌∙◌, subst, arith}
 use Rattle.std.specs.Prelude.{◌&&◌, not, slice_get, slice_set}
 use Rattle.std.proofs.lemmas.List.Sums.{sum_by-cons, sum_by_push}
 use Rattle.std.proofs.lemmas.Option.{same_Some}
@@ -174,9 +174,3 @@ rest_side (Closed terms number complete outcome) x = refl
 
 pub is_transfer-rest : (x : OpenedEnd) → is_transfer (at_rest x) ≡ is_transfer x
 is_transfer-rest x = rest_side x.state.phase x
-
-pub transfers-rest : (ends : List OpenedEnd) → open_transfers (map at_rest ends) ≡ open_transfers ends
-transfers-rest [] = refl
-transfers-rest (x ∷ ends) =
-    let same : one_if (is_transfer (at_rest x)) ≡ one_if (is_transfer x) = ap one_if (is_transfer-rest x) in
-    omega (arith, count_one is_transfer (at_rest x) (map at_rest ends), count_one is_transfer x ends, same, transfers-rest ends)

@@ -18,15 +18,14 @@ use Rattle.tftp_ends.specs.declared.error_reply.ErrorReply.TheVariants.{FileTooL
 use Rattle.tftp_ends.specs.declared.side.Side.TheVariants.{ServerRead}
 use Rattle.tftp_ends.specs.End.{EndState}
 use Rattle.tftp_wire.specs.Reading.{has_error_opcode}
-use Rattle.tftp_server.specs.State.{Held, ServerState, at, with_new}
-use Rattle.tftp_server.specs.Store.{Stored, Drafted, measured}
+use Rattle.tftp_server.specs.State.{with_new}
+use Rattle.tftp_server.specs.Store.{Drafted, measured}
 use Rattle.tftp_player.specs.Machine.{Endpoint, request_port, server_ip}
 use Rattle.tftp_player.specs.World.{WorldState, OpenedEnd, file_at, is_closed, next_port, datagram, no_report, opened_in, said_in, sent_report}
 use Rattle.tftp_player.specs.WorldSteps.{Serves}
 use Rattle.tftp_player.specs.Openings.{sending_end}
 use Rattle.tftp_server.specs.Port.{Ask, Ignores, Refuses, Reads, Service, Silent, Refused, Sends, Takes, by_file, by_length, by_name, by_packet}
 use Rattle.tftp_player.specs.Requests.{open_transfers, opened_of, served, service}
-use Rattle.tftp_player.proofs.HeldLemmas.{AreBelow, at-above_all, at-with_new}
 use Rattle.tftp_player.proofs.ServerLemmas.{IsNoWrite, held_of, PortAsking, PortLeft, PortDid}
 
 -- a file is sent where a request to read names one that is there
@@ -206,27 +205,5 @@ module _ {D : Type 0} (drafted : D → Option Drafted) (w : WorldState) (asking 
   pub port_not_opened : (service : Service) → PortDid drafted w service asking result → result.opened.tid ≡ None → PortRefused service ⊎ PortSilent service
   port_not_opened service did told = elim (port_seen service did) [
     | inl opened ↦ absurd (let f : None ≡ Some asking.tid = sym told ∙ opened.tid in cc)
-    | inr other ↦ other
-  ]
-
-  -- or by what the server holds under the identifier, where it is above all others
-  pub port_holds : (service : Service) (held : Held (List ℕ) D) → PortDid drafted w service asking result → AreBelow asking.tid asking.old.held → at asking.tid result.new.held ≡ Some held → PortOpened service
-  port_holds service held did below there = elim (port_seen service did) [
-    | inl opened ↦ opened
-    | inr other ↦ absurd (elim other [
-      | inl refused ↦ nothing refused.new
-      | inr quiet ↦ nothing quiet.new
-    ])
-  ] where
-    nothing : result.new ≡ asking.old → ⊥
-    nothing same =
-        let f : None ≡ Some held = sym (at-above_all asking.tid asking.old.held below) ∙ (ap (λ (s : ServerState Stored (List ℕ) D). at asking.tid s.held) (sym same) ∙ there) in cc
-
-  pub port_holds_none : (service : Service) → PortDid drafted w service asking result → AreBelow asking.tid asking.old.held → at asking.tid result.new.held ≡ None → PortRefused service ⊎ PortSilent service
-  port_holds_none service did below there = elim (port_seen service did) [
-    | inl opened ↦ absurd (
-        let x = sending_end w asking.from opened.mode opened.path opened.file opened.agreed in
-        let f : None ≡ Some (held_of x) = sym there ∙ (ap (λ (s : ServerState Stored (List ℕ) D). at asking.tid s.held) opened.new ∙ at-with_new asking.tid (held_of x) asking.old.held below) in cc
-        )
     | inr other ↦ other
   ]

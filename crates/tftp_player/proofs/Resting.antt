@@ -11,18 +11,12 @@ use Rattle.tftp_file.specs.Sink.{Holding}
 use Rattle.tftp_ends.specs.declared.outcome.Outcome.{Outcome}
 use Rattle.tftp_ends.specs.declared.phase.Phase.{Phase}
 use Rattle.tftp_ends.specs.declared.phase.Phase.TheVariants.{Waiting, Sending, Receiving, Dallying, Closed}
-use Rattle.tftp_ends.specs.declared.phase.Terms.{Terms}
 use Rattle.tftp_ends.specs.End.{outcome_of, record_of}
 use Rattle.tftp_ends.specs.Step.{Turn}
 use Rattle.tftp_player.specs.Shows.{EndView, IsShown}
-use Rattle.tftp_player.specs.World.{StoredFile, OpenedEnd, WorldState, is_closed, rest_terms, rest_state, at_rest, resting, closed_state, replied, end_after, world_after, opened_in, view_of_end}
+use Rattle.tftp_player.specs.World.{StoredFile, OpenedEnd, WorldState, is_closed, rest_state, at_rest, resting, closed_state, replied, end_after, world_after, opened_in, view_of_end}
 use Rattle.tftp_player.specs.WorldKept.{HeldFits, IsKeptIn, IsOk}
 use Rattle.tftp_player.proofs.EndMoves.{placed}
-
--- terms at rest are at rest
-rest_terms_twice : (terms : Option Terms) → option_map rest_terms (option_map rest_terms terms) ≡ option_map rest_terms terms
-rest_terms_twice None = refl
-rest_terms_twice (Some terms) = refl
 
 -- by the phase of an end
 twice_in : (phase : Phase) (x : OpenedEnd) → at_rest (at_rest (placed phase x)) ≡ at_rest (placed phase x)
@@ -82,11 +76,6 @@ at_rest_view x = view_in x.state.phase x
 pub at_rest_record : (x : OpenedEnd) → record_of (at_rest x).state ≡ record_of x.state
 at_rest_record x = record_in x.state.phase x
 
--- the same of all ends
-pub rest_twice : (ends : List OpenedEnd) → map at_rest (map at_rest ends) ≡ map at_rest ends
-rest_twice [] = refl
-rest_twice (x ∷ ends) = ap (λ (y : OpenedEnd). y ∷ map at_rest (map at_rest ends)) (at_rest_twice x) ∙ ap (λ (ys : List OpenedEnd). at_rest x ∷ ys) (rest_twice ends)
-
 pub rest_views : (ends : List OpenedEnd) → map view_of_end (map at_rest ends) ≡ map view_of_end ends
 rest_views [] = refl
 rest_views (x ∷ ends) = ap (λ (v : EndView). v ∷ map view_of_end (map at_rest ends)) (at_rest_view x) ∙ ap (λ (vs : List EndView). view_of_end x ∷ vs) (rest_views ends)
@@ -136,9 +125,6 @@ IsAtRest w = map at_rest w.ends ≡ w.ends
 
 pub resting_same : (w : WorldState) → IsAtRest w → resting w ≡ w
 resting_same w r = ap (λ (ends : List OpenedEnd). record w { ends = ends }) r
-
-pub resting_is : (w : WorldState) → IsAtRest (resting w)
-resting_is w = rest_twice w.ends
 
 -- a world at rest after a turn, after an opening and after a datagram that changes no end
 pub resting_after : (w : WorldState) (k : ℕ) (x : OpenedEnd) (turn : Turn) (held : Files (List ℕ) Holding) (files : List StoredFile) → IsAtRest w →

@@ -39,11 +39,10 @@ use Rattle.tftp_ends.specs.Step.{block_length, result_count_is}
 use Rattle.tftp_server.specs.Request.{Came, Nothing, An_error, A_transfer, Goes, Left, RequestStep, Sent, left_by, opened_length, supported, supported_read}
 use Rattle.tftp_server.specs.State.{Held, ServerState}
 use Rattle.tftp_server.specs.Memory.{MayRefuseOpen, memory_meaning}
-use Rattle.tftp_server.specs.Store.{Stored, Drafted, Opens, measured, file_at as file_under}
+use Rattle.tftp_server.specs.Store.{Stored, Drafted, Opens, measured}
 use Rattle.tftp_server.specs.declared.store.Opening.{Opening}
 use Rattle.tftp_player.specs.Machine.{Endpoint}
 use Rattle.tftp_player.specs.World.{WorldState, StoredFile, OpenedEnd, file_at}
-use Rattle.tftp_player.specs.WorldSteps.{never_fails}
 use Rattle.tftp_player.specs.Openings.{sending_end}
 use Rattle.tftp_server.specs.Port.{Ask, Ignores, Refuses, Reads, Writes, Service, Silent, Refused, Sends, Takes, accept_reply, asks, by_file, by_length, by_name, by_packet}
 use Rattle.tftp_player.specs.Requests.{open_transfers, opened_of, served, service}
@@ -51,10 +50,6 @@ use Rattle.tftp_player.proofs.SaidLemmas.{one_packet, none_packet}
 use Rattle.tftp_player.proofs.WaitingMoves.{agreed_size}
 use Rattle.tftp_player.proofs.WorldKeeps.{answered_values}
 use Rattle.tftp_player.proofs.Measured.{measured_whole}
-
--- a server's store finds the same file as the world
-pub same_file_at : (files : List StoredFile) (path : List ℕ) → file_under path files ≡ file_at files path
-same_file_at files path = refl
 
 -- bytes say one thing
 pub says_one : (bytes : List ℕ) (a b : Option Packet) → Decodes bytes a → Decodes bytes b → a ≡ b
@@ -235,11 +230,14 @@ module _ {D : Type 0} (drafted : D → Option Drafted) where
             elim starts [
               | inl serves ↦
                   let b = read_end w asking.from mode path file agreed m asking.old.config.retries serves.rest serves.end whole s.retries serves.serves in
-                  let x = sending_end w asking.from mode path file agreed in
-                  (file, there, ap (λ (c : PortCame). port_left c asking) (serves.opens
-                  ∙ (ap (λ (e : EndState). A_transfer (record { end = e; files = Source serves.rest; path = path }) asking.old.store) b.0
-                  ∙ (ap (λ (r : List ℕ). A_transfer (record { end = x.state; files = Source r; path = path }) asking.old.store) b.1
-                  ∙ ap (λ (p : List ℕ). A_transfer (record { end = x.state; files = Source x.left; path = p }) asking.old.store) (sym (sending_path w asking.from mode path file agreed))))))
+                  let x = sending_end w asking.from mode path file agreed in (
+                    file,
+                    there,
+                    ap (λ (c : PortCame). port_left c asking) (serves.opens
+                        ∙ (ap (λ (e : EndState). A_transfer (record { end = e; files = Source serves.rest; path = path }) asking.old.store) b.0
+                        ∙ (ap (λ (r : List ℕ). A_transfer (record { end = x.state; files = Source r; path = path }) asking.old.store) b.1
+                        ∙ ap (λ (p : List ℕ). A_transfer (record { end = x.state; files = Source x.left; path = p }) asking.old.store) (sym (sending_path w asking.from mode path file agreed))))),
+                  )
               | inr changed ↦ let c = changed.1 in absurd (cannot_be_short (wire_text mode file) m c.after c.piece whole c.answer c.reads.fills c.short c.reads.memory c.reads.read)
             ]
 

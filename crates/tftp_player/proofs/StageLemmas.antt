@@ -11,7 +11,7 @@ use Rattle.tftp_ends.specs.declared.record.Record.{Record}
 use Rattle.tftp_ends.specs.End.{EndState, is_sender, is_client, outcome_of, record_of}
 use Rattle.tftp_ends.specs.Files.{AreFilesOf, AreSame}
 use Rattle.tftp_ends.specs.Step.{Turn}
-use Rattle.tftp_server.specs.State.{at, with_next, without}
+use Rattle.tftp_server.specs.State.{at, with_next}
 use Rattle.tftp_server.specs.State as server
 use Rattle.tftp_player.specs.Clients.{server_at, left_in, holding_in, no_holding, ClientTurns}
 use Rattle.tftp_player.specs.Effect.{effect_of}

@@ -10,18 +10,15 @@ use Rattle.tftp_file.specs.Sink.{Holding}
 use Rattle.tftp_ends.specs.declared.phase.Phase.{Phase}
 use Rattle.tftp_ends.specs.End.{is_sender, is_client}
 use Rattle.tftp_ends.specs.Step.{Turn, DatagramStep, timeout_turn}
-use Rattle.tftp_player.specs.Machine.{Endpoint, Elsewhere, host_of, request_port}
-use Rattle.tftp_player.specs.World.{WorldState, OpenedEnd, StoredFile, file_at, in_the_way, is_closed, replied, files_of, end_after, has_committed, world_after, report_of, no_report, opened_in, sent_report, at_rest, resting, view_of_end}
+use Rattle.tftp_player.specs.Machine.{Endpoint, request_port}
+use Rattle.tftp_player.specs.World.{WorldState, OpenedEnd, StoredFile, file_at, in_the_way, is_closed, replied, files_of, end_after, has_committed, world_after, report_of, no_report, opened_in, sent_report, at_rest, resting}
 use Rattle.tftp_player.specs.WorldSteps.{never_fails, may_refuse_append, may_refuse_commit, FilesAfter, Turns, Arrives, At_open_end, At_closed_end, At_nobody, HasPort, IsAtPort, TimesOut, told_to_refuse, WorldStep}
-use Rattle.tftp_player.specs.WorldKept.{IsOk}
 use Rattle.tftp_player.specs.Openings.{reading_client, MayGet}
-use Rattle.tftp_player.specs.declared.datagram.Datagram.{Datagram}
-use Rattle.tftp_player.specs.declared.event.Event.TheVariants.{Get, Deliver, Timeout, RefuseStore, Stray}
+use Rattle.tftp_player.specs.declared.event.Event.TheVariants.{Get, Timeout, RefuseStore}
 use Rattle.tftp_player.specs.declared.report.Report.{Report}
 use Rattle.tftp_player.proofs.EndMoves.{placed}
 use Rattle.tftp_player.proofs.Resting.{IsAtRest, resting_same, resting_after, resting_opened}
 use Rattle.tftp_player.proofs.ServerTurns.{files_same, timeout_after}
-use Rattle.tftp_player.proofs.WorldTurns.{view_at}
 
 -- the world, after a turn of the end at place k that changed no file of the server
 abbrev pub turned : WorldState → ℕ → OpenedEnd → Turn → Files (List ℕ) Holding → WorldState
@@ -88,13 +85,6 @@ refuse_step w port k x r at =
 abbrev pub ArrivesAtRest : WorldState → Endpoint → Endpoint → List ℕ → Report → WorldState → Type 0
 ArrivesAtRest w from to bytes report new = (mid : WorldState) × Arrives w from to bytes report mid × (new ≡ resting mid)
 
-pub deliver_step : (w new : WorldState) (i : ℕ) (d : Datagram) (report : Report) → slice_get w.sent i ≡ Some d → ArrivesAtRest w d.from d.to d.bytes report new → WorldStep w (Deliver i) report new
-deliver_step w new i d report at a = (a.0, (d, at, a.1), a.2)
-
-pub stray_step : (w new : WorldState) (from to : Endpoint) (bytes : List ℕ) (report : Report) → host_of from ≡ Elsewhere → ArrivesAtRest w from to bytes report new →
-    WorldStep w (Stray from to bytes) report new
-stray_step w new from to bytes report far a = (a.0, (far, a.1), a.2)
-
 -- at an open end that heard it, and changed no file of the server
 pub open_arrives : (w : WorldState) (k : ℕ) (x : OpenedEnd) (from : Endpoint) (bytes : List ℕ) (turn : Turn) (held : Files (List ℕ) Holding) → IsAtRest w → slice_get w.ends k ≡ Some x → is_closed x ≡ false →
     DatagramStep (λ (s : List ℕ). Some s) never_fails (λ (h : Holding). Some h) may_refuse_append (may_refuse_commit (is_client x.state.side) (in_the_way w.overwrite (file_at w.files x.path))) from bytes x.state (files_of x) turn held →
@@ -111,9 +101,6 @@ closed_arrives w k x from bytes r at closed_now = (w, At_closed_end k x at refl 
 -- each end has the port of its place
 abbrev pub HasPorts : WorldState → Type 0
 HasPorts w = (k : ℕ) (x : OpenedEnd) → slice_get w.ends k ≡ Some x → x.address.port ≡ 1024 + k
-
-pub ok_ports : (strangers : Bool) (w : WorldState) → IsOk strangers w → HasPorts w
-ok_ports strangers w ok k x e = (ok.shown.3.ends k (view_of_end x) (view_at w.ends k x e)).1
 
 -- where no end has the port
 pub none_arrives : (w : WorldState) (from to : Endpoint) (bytes : List ℕ) → IsAtRest w → HasPorts w → to ≢ request_port → (to.port < 1024) ⊎ (1024 + length w.ends ≤ to.port) →

@@ -2,14 +2,13 @@
 use Rattle.std.proofs.Common.{◌≡◌, ℕ, ◌+◌, suc, arith, Bool, true, false, List, [], ◌∷◌, ◌++◌, length, Option, Some, None, refl, sym, ap, subst, ◌∙◌}
 use Rattle.std.specs.List.{Contains}
 use Rattle.std.proofs.lemmas.List.{length-append}
-use Rattle.std.proofs.lemmas.Option.{same_Some}
 use Rattle.tftp_wire.specs.declared.mode.Mode.{Mode}
 use Rattle.tftp_wire.specs.declared.mode.Mode.TheVariants.{Octet, Netascii}
 use Rattle.tftp_wire.specs.declared.packet.Packet.{Packet as WirePacket}
 use Rattle.tftp_wire.specs.declared.packet.Packet.TheVariants.{Read, Write, Data, Ack, Error, Oack}
 use Rattle.tftp_wire.specs.Spelling.{Spells}
 use Rattle.tftp_server.specs.Request.{supported, supported_read, default_read}
-use Rattle.tftp_player.specs.Machine.{Endpoint, host_of, request_port}
+use Rattle.tftp_player.specs.Machine.{Endpoint, host_of}
 use Rattle.tftp_player.specs.Machine.{Elsewhere as Far}
 use Rattle.tftp_player.specs.Rules.{message}
 use Rattle.tftp_player.specs.Said.{said}
@@ -23,7 +22,6 @@ use Rattle.tftp_player.specs.PlayedWorld.{strayed_after}
 use Rattle.std.proofs.lemmas.Bool.{true≢false}
 use Rattle.tftp_player.specs.declared.event.Event.{Event}
 use Rattle.tftp_player.specs.declared.event.Event.TheVariants.{Get, Put, Deliver, Timeout, RefuseStore, Stray}
-use Rattle.tftp_player.specs.declared.fault.WorldFault.{WorldFault}
 use Rattle.tftp_player.specs.declared.report.Report.{Report}
 use Rattle.tftp_player.proofs.Resting.{resting_ok}
 use Rattle.tftp_wire.specs.declared.packet.Request.{Request}

@@ -48,8 +48,11 @@ impl Client {
         asked: &Asked,
         config: &EndConfig,
     ) -> Result<(Client, Effect), WorldFault>
-        ensures client { IfOk result (λ opened. opened.0 ≡ asking_client (getting request_port name.now mode asked.now config.now.limits.max_file config.now.retries)) }
-        ensures effect { IfOk result (λ opened. opened.1 ≡ asking_effect port name.now mode asked.now) }
+        ensures client { IfOk result (λ opened.
+            opened.0 ≡ asking_client (getting request_port name.now mode asked.now
+            config.now.limits.max_file config.now.retries)) }
+        ensures effect { IfOk result (λ opened.
+            opened.1 ≡ asking_effect port name.now mode asked.now) }
         ensures ok { OnOk result (CanGet name.now mode asked.now) }
         ensures refused { IfErr result (AskRefuses (CanGet name.now mode asked.now)) }
     {
@@ -83,7 +86,8 @@ impl Client {
         bytes: &[u8],
     ) -> Result<(Effect, Record), WorldFault>
         requires { is_some (outcome_of self.old.end.phase) ≡ false }
-        ensures steps { IfOk result (λ r. ClientDatagramStep port from bytes.now self.old self.new r.0 r.1) }
+        ensures steps { IfOk result (λ r.
+            ClientDatagramStep port from bytes.now self.old self.new r.0 r.1) }
         ensures memory { IfErr result (λ fault. fault ≡ WorldFault.Memory) }
         ensures err { OnErr result (self.new ≡ self.old) }
     {
@@ -102,7 +106,8 @@ impl Client {
         port: u16,
     ) -> Result<(Effect, Record), WorldFault>
         requires { is_some (outcome_of self.old.end.phase) ≡ false }
-        ensures turns { IfOk result (λ r. ClientTurns port self.old self.new (timeout_turn self.old.end) self.old.files r.0 r.1) }
+        ensures turns { IfOk result (λ r.
+            ClientTurns port self.old self.new (timeout_turn self.old.end) self.old.files r.0 r.1) }
         ensures memory { IfErr result (λ fault. fault ≡ WorldFault.Memory) }
         ensures err { OnErr result (self.new ≡ self.old) }
     {

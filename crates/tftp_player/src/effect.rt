@@ -25,7 +25,12 @@ pub(crate) struct Effect {
 
 /// What a step of the end there came to, which has appended this.
 pub(crate) fn effect_of(from: Endpoint, step: Step, out: Vec<u8>) -> Effect
-    ensures { result ≡ record { from = from; to = step.to; bytes = out.items; closed = step.closed } }
+    ensures { result ≡ record {
+      from = from;
+      to = step.to;
+      bytes = out.items;
+      closed = step.closed;
+    } }
 {
     Effect {
         from,

@@ -32,8 +32,10 @@ pub fn some_run_completes()
 /// What is claimed of a peer at one of the two hosts is claimed of each peer, unless a stranger spoke.
 pub fn what_is_shown_is_safe()
     ensures start { IsShown [] [] }
-    ensures safe { (views : List EndView) (messages : List Message) → IsShown views messages → IsSafeViews views }
-    ensures home { (views : List EndView) (messages : List Message) → IsShown views messages → PeersAtHome views messages }
+    ensures safe { (views : List EndView)
+        (messages : List Message) → IsShown views messages → IsSafeViews views }
+    ensures home { (views : List EndView)
+        (messages : List Message) → IsShown views messages → PeersAtHome views messages }
 {}
 
 /// How one end handles a datagram or a timeout is shown again.

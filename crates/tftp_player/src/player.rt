@@ -41,7 +41,8 @@ impl Player {
     ) -> Result<(Effect, Record), WorldFault>
         requires kept { PlayerKept port server.old.held self.old }
         requires open { has_ended self.old ≡ false }
-        ensures turns { IfOk result (λ r. PlayerTimeoutStep port self.old self.new server.old server.new r.0 r.1) }
+        ensures turns { IfOk result (λ r.
+            PlayerTimeoutStep port self.old self.new server.old server.new r.0 r.1) }
         ensures memory { IfErr result (λ fault. fault ≡ WorldFault.Memory) }
         ensures err { OnErr result ((self.new ≡ self.old) × (server.new ≡ server.old)) }
     {
@@ -62,7 +63,9 @@ impl Player {
     ) -> Result<(Effect, Record), WorldFault>
         requires kept { PlayerKept port server.old.held self.old }
         requires open { has_ended self.old ≡ false }
-        ensures steps { IfOk result (λ r. PlayerDatagramStep port from bytes.now self.old self.new server.old server.new r.0 r.1) }
+        ensures steps { IfOk result (λ r.
+            PlayerDatagramStep port from bytes.now self.old self.new server.old server.new r.0
+            r.1) }
         ensures memory { IfErr result (λ fault. fault ≡ WorldFault.Memory) }
         ensures err { OnErr result ((self.new ≡ self.old) × (server.new ≡ server.old)) }
     {

@@ -37,7 +37,8 @@ impl Served {
         port: u16,
     ) -> Result<(Effect, Record), WorldFault>
         requires { ServedKept port self.old server.old.held }
-        ensures turns { IfOk result (λ r. ServedTimeoutStep port self.old self.new server.old server.new r.0 r.1) }
+        ensures turns { IfOk result (λ r.
+            ServedTimeoutStep port self.old self.new server.old server.new r.0 r.1) }
         ensures memory { IfErr result (λ fault. fault ≡ WorldFault.Memory) }
         ensures err { OnErr result ((self.new ≡ self.old) × (server.new ≡ server.old)) }
     {
@@ -62,7 +63,9 @@ impl Served {
         bytes: &[u8],
     ) -> Result<(Effect, Record), WorldFault>
         requires { ServedKept port self.old server.old.held }
-        ensures steps { IfOk result (λ r. ServedDatagramStep port from bytes.now self.old self.new server.old server.new r.0 r.1) }
+        ensures steps { IfOk result (λ r.
+            ServedDatagramStep port from bytes.now self.old self.new server.old server.new r.0
+            r.1) }
         ensures memory { IfErr result (λ fault. fault ≡ WorldFault.Memory) }
         ensures err { OnErr result ((self.new ≡ self.old) × SameServer server.old server.new) }
     {
@@ -80,7 +83,8 @@ impl Served {
     /// Takes it from the server if it has closed there, and tells how far it came.
     fn conclude(&mut self, server: &mut Server<MemStore>, port: u16) -> Record
         requires { IsHeld (at port server.old.held) }
-        ensures { Concludes port (at port server.old.held) self.old self.new server.old server.new result }
+        ensures { Concludes port (at port server.old.held) self.old self.new server.old server.new
+            result }
     {
         if let Some((record, _)) = server.take_closed(port) {
             self.ended = Some(record);

@@ -60,7 +60,8 @@ impl Stage {
     ) -> Result<Stage, WorldFault>
         requires paths { has_distinct_paths (contents files.items) ≡ true }
         requires config { IsConfig config }
-        ensures new { IfOk result (λ world. world ≡ new_world (in_path_order (contents files.items)) config) }
+        ensures new { IfOk result (λ world.
+            world ≡ new_world (in_path_order (contents files.items)) config) }
         ensures memory { IfErr result (λ fault. fault ≡ WorldFault.Memory) }
     {
         let Ok(store) = MemStore::new(alloc, files) else {
@@ -165,7 +166,8 @@ impl Stage {
 
     /// The receiver at this port is to refuse its next append or commit.
     fn refuse_store(&mut self, port: u16) -> Result<Report, WorldFault>
-        ensures steps { IfOk result (λ report. WorldStep self.old (RefuseStore port) report self.new) }
+        ensures steps { IfOk result (λ report.
+            WorldStep self.old (RefuseStore port) report self.new) }
         ensures refused { IfErr result (WorldRefuses self.old (RefuseStore port)) }
         ensures err { OnErr result (self.new ≡ self.old) }
     {
@@ -192,10 +194,12 @@ fn on_timeout(
 ) -> Result<Effect, WorldFault>
     requires staged { IsStaged server.old players.old.items records.old.items }
     requires place { (place < length players.old.items) × (port ≡ 1024 + place) }
-    ensures times_out { IfOk result (λ effect. StageTimeoutStep place server.old server.new players.old.items players.new.items effect) }
+    ensures times_out { IfOk result (λ effect.
+        StageTimeoutStep place server.old server.new players.old.items players.new.items effect) }
     ensures staged { IsStaged server.new players.new.items records.new.items }
     ensures memory { IfErr result (λ fault. fault ≡ WorldFault.Memory) }
-    ensures err { OnErr result ((server.new ≡ server.old) × (players.new.items ≡ players.old.items)) }
+    ensures err { OnErr result ((server.new ≡ server.old) ×
+        (players.new.items ≡ players.old.items)) }
 {
     let player = &mut players[place];
     if is_recorded_closed(records, place) {

@@ -60,7 +60,8 @@ impl Stage {
         bytes: &Bytes,
     ) -> Result<Report, WorldFault>
         requires { host_of from ≡ Elsewhere }
-        ensures steps { IfOk result (λ report. StepToday self.old (Stray from to bytes.now) report self.new) }
+        ensures steps { IfOk result (λ report.
+            StepToday self.old (Stray from to bytes.now) report self.new) }
         ensures refused { IfErr result (WorldRefuses self.old (Stray from to bytes.now)) }
         ensures err { OnErr result (self.new ≡ self.old) }
     {
@@ -74,7 +75,8 @@ impl Stage {
         to: Endpoint,
         bytes: &[u8],
     ) -> Result<Report, WorldFault>
-        ensures arrives { IfOk result (λ report. ArrivesToday self.old from to bytes.now report self.new) }
+        ensures arrives { IfOk result (λ report.
+            ArrivesToday self.old from to bytes.now report self.new) }
         ensures refused { IfErr result (ArrivalRefuses self.old to) }
         ensures err { OnErr result (self.new ≡ self.old) }
     {
@@ -126,11 +128,14 @@ fn take(
 ) -> Result<Effect, WorldFault>
     requires staged { IsStaged server.old players.old.items records.old.items }
     requires block { IsBlockSize server.old.config.limits.max_block }
-    ensures arrives { IfOk result (λ effect. StageArrives from to bytes.now server.old server.new players.old.items players.new.items effect) }
+    ensures arrives { IfOk result (λ effect.
+        StageArrives from to bytes.now server.old server.new players.old.items players.new.items
+        effect) }
     ensures staged { IsStaged server.new players.new.items records.new.items }
     ensures config { server.new.config ≡ server.old.config }
     ensures refused { IfErr result (StageRefuses to players.old.items) }
-    ensures err { OnErr result ((server.new ≡ server.old) × (players.new.items ≡ players.old.items)) }
+    ensures err { OnErr result ((server.new ≡ server.old) ×
+        (players.new.items ≡ players.old.items)) }
 {
     if !differs(to, REQUEST_PORT) {
         return ask(alloc, server, players, records, from, bytes);
@@ -154,10 +159,13 @@ fn on_datagram(
 ) -> Result<Effect, WorldFault>
     requires staged { IsStaged server.old players.old.items records.old.items }
     requires place { (place < length players.old.items) × (to.port ≡ 1024 + place) }
-    ensures steps { IfOk result (λ effect. StageDatagramStep place from to bytes.now server.old server.new players.old.items players.new.items effect) }
+    ensures steps { IfOk result (λ effect.
+        StageDatagramStep place from to bytes.now server.old server.new players.old.items
+        players.new.items effect) }
     ensures staged { IsStaged server.new players.new.items records.new.items }
     ensures memory { IfErr result (λ fault. fault ≡ WorldFault.Memory) }
-    ensures err { OnErr result ((server.new ≡ server.old) × (players.new.items ≡ players.old.items)) }
+    ensures err { OnErr result ((server.new ≡ server.old) ×
+        (players.new.items ≡ players.old.items)) }
 {
     let player = &mut players[place];
     let here = player.address(to.port);
@@ -195,11 +203,13 @@ fn ask(
 ) -> Result<Effect, WorldFault>
     requires staged { IsStaged server.old players.old.items records.old.items }
     requires block { IsBlockSize server.old.config.limits.max_block }
-    ensures asks { IfOk result (λ effect. StageAsks from bytes.now server.old server.new players.old.items players.new.items effect) }
+    ensures asks { IfOk result (λ effect.
+        StageAsks from bytes.now server.old server.new players.old.items players.new.items effect) }
     ensures staged { IsStaged server.new players.new.items records.new.items }
     ensures config { server.new.config ≡ server.old.config }
     ensures refused { IfErr result (StageRefuses request_port players.old.items) }
-    ensures err { OnErr result ((server.new ≡ server.old) × (players.new.items ≡ players.old.items)) }
+    ensures err { OnErr result ((server.new ≡ server.old) ×
+        (players.new.items ≡ players.old.items)) }
 {
     let Some(port) = port_of(players.len()) else {
         return Err(WorldFault::NoPort);

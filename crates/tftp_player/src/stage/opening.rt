@@ -25,7 +25,8 @@ impl Stage {
         mode: Mode,
         asked: &Asked,
     ) -> Result<Report, WorldFault>
-        ensures steps { IfOk result (λ report. WorldStep self.old (Get name.now mode asked.now) report self.new) }
+        ensures steps { IfOk result (λ report.
+            WorldStep self.old (Get name.now mode asked.now) report self.new) }
         ensures refused { IfErr result (RefusesToday self.old (Get name.now mode asked.now)) }
         ensures err { OnErr result (self.new ≡ self.old) }
     {
