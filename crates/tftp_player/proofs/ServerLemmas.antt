@@ -45,6 +45,7 @@ use Rattle.tftp_player.specs.Machine.{Endpoint}
 use Rattle.tftp_player.specs.World.{WorldState, StoredFile, OpenedEnd, file_at}
 use Rattle.tftp_player.specs.Openings.{sending_end}
 use Rattle.tftp_server.specs.Port.{Ask, Ignores, Refuses, Reads, Writes, Service, Silent, Refused, Sends, Takes, accept_reply, asks, by_file, by_length, by_name, by_packet}
+use Rattle.tftp_player.specs.WorldSteps.{never_fails}
 use Rattle.tftp_player.specs.Requests.{open_transfers, opened_of, served, service}
 use Rattle.tftp_player.proofs.SaidLemmas.{one_packet, none_packet}
 use Rattle.tftp_player.proofs.WaitingMoves.{agreed_size}
