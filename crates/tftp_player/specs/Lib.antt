@@ -25,3 +25,5 @@ pub mod Played
 pub mod Stage
 pub mod Today
 pub mod TodayRuns
+pub mod Straight
+pub mod Draw

@@ -48,7 +48,9 @@ impl Model for Stage {
 
     ghost view = { λ w. world_of w.config w.sent.items w.server w.players.items };
 
-    ghost invariant = { λ w. (w.server.config ≡ w.config) × IsStaged w.server w.players.items w.records.items × IsBlockSize w.config.limits.max_block };
+    ghost invariant = { λ w. (w.server.config ≡ w.config)
+        × IsStaged w.server w.players.items w.records.items
+        × IsBlockSize w.config.limits.max_block };
 }
 
 impl Stage {

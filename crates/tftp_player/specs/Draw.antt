@@ -1,0 +1,12 @@
+-- The event that random words draw: a delivery of any datagram, or a timeout of any end.
+use Rattle.std.specs.Prelude.{ℕ, ◌+◌, ◌%◌, nat_lt, nat_eq, if◌then◌else◌, length, Option, Some, None}
+use Rattle.tftp_player.specs.World.{WorldState}
+use Rattle.tftp_player.specs.declared.event.Event.{Event}
+use Rattle.tftp_player.specs.declared.event.Event.TheVariants.{Deliver, Timeout}
+
+-- six words in eight deliver a datagram, the others are a timeout; none where no end was opened
+abbrev pub drawn : WorldState → (kind place : ℕ) → Option Event
+drawn w kind place =
+    if nat_eq (length w.ends) 0 then None
+    else if nat_lt (kind % 8) 6 then Some (Deliver (place % length w.sent))
+    else Some (Timeout (1024 + place % length w.ends))
