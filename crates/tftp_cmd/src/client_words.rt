@@ -145,6 +145,7 @@ fn command<'a>(alloc: Global) -> anyhow::Result<Command<'a>> {
         ))?;
     Ok(
         Command::new(alloc, "tftp")
+            .bin_name("tftp")?
             .about("Fetches a file by TFTP (RFC 1350, RFC 2347 to 2349)")
             .version("0.1.0")
             .after_help(EXAMPLES)

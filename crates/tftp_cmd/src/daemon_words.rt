@@ -152,6 +152,7 @@ fn command<'a>(alloc: Global) -> Result<Command<'a>> {
     );
     Ok(
         Command::new(alloc, "tftpd")
+            .bin_name("tftpd")?
             .about("Serves the files of a folder by TFTP (RFC 1350, RFC 2347 to 2349)")
             .version("0.1.0")
             .after_help(EXAMPLES)

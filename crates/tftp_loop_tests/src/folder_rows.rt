@@ -1,10 +1,11 @@
 //! A store over a folder: what it opens, and how a file gets its name.
 
-use crate::scratch::scratch_folder;
+use crate::scratch::{joined, scratch_folder};
 use std::alloc::Global;
 use std::fs;
 use std::os::unix::fs::symlink;
-use std::process::{self, Command};
+use std::process::{self, Abort, Command, Processes};
+use std::rt::Runtime;
 use std::test::Fail;
 use tftp_cmd::FolderStore;
 use tftp_file::{Path, Source, StoreFault, path_of};
@@ -15,53 +16,69 @@ fn path(alloc: Global, name: &str) -> Result<Path, Fail> {
     Ok(path_of(alloc, name.as_bytes())?)
 }
 
-/// The wire text of a file, or why it is not opened.
-fn opened<S: Store>(
-    alloc: Global,
+/// A file is opened with this wire text, and its length.
+fn opens<S: Store, R: AllocGlobal + Abort>(
+    rt: &R,
     store: &S,
     name: &str,
     mode: Mode,
-) -> Result<Result<(u64, Vec<u8>), StoreFault>, Fail> {
-    let mut text = Vec::new(alloc);
-    match store.open(alloc, &path(alloc, name)?, mode) {
-        Ok(mut opening) => {
-            opening.source.fill(100, &mut text)?;
-            Ok(Ok((opening.length, text)))
-        }
-        Err(fault) => Ok(Err(fault)),
+    wanted: &[u8],
+) -> Result<(), Fail> {
+    let path = path(rt.alloc(), name)?;
+    let mut opening = store.open(rt.alloc(), &path, mode)?;
+    let mut text = Vec::new(rt.alloc());
+    opening.source.fill(100, &mut text)?;
+    assert!(rt; text.as_slice() == wanted, "{name}");
+    assert_eq!(rt; opening.length, wanted.len() as u64);
+    Ok(())
+}
+
+/// A file is not opened, for this reason.
+fn refuses<S: Store, R: AllocGlobal + Abort>(
+    rt: &R,
+    store: &S,
+    name: &str,
+    wanted: StoreFault,
+) -> Result<(), Fail> {
+    let path = path(rt.alloc(), name)?;
+    let fault = store.open(rt.alloc(), &path, Mode::Octet).err();
+    assert!(rt; fault == Some(wanted), "{name}");
+    Ok(())
+}
+
+/// Makes files, links and a FIFO.
+fn fill_folder<R: Runtime + AllocGlobal + Processes>(rt: &R, folder: &str) -> Result<(), Fail> {
+    let alloc = rt.alloc();
+    fs::create_dir_all(rt, joined(alloc, folder, "served/sub")?.as_str())?;
+    fs::write(rt, joined(alloc, folder, "served/a")?.as_str(), "A\nB")?;
+    fs::write(rt, joined(alloc, folder, "served/sub/b")?.as_str(), "BB")?;
+    fs::write(rt, joined(alloc, folder, "secret")?.as_str(), "S")?;
+    for (target, link) in [
+        ("sub/b", "served/inner"),
+        ("../secret", "served/outer"),
+        ("..", "served/up"),
+        ("nowhere", "served/dangling"),
+    ] {
+        symlink(rt, target, joined(alloc, folder, link)?.as_str())?;
     }
+    let fifo = joined(alloc, folder, "served/fifo")?;
+    Command::new(alloc, "mkfifo")?
+        .arg(fifo.as_str())?
+        .status(rt)?;
+    Ok(())
 }
 
 /// Which names of a folder are opened: regular files in it, through links that stay in it.
 #[test]
 fn opens_what_is_in_the_folder(rt: HostRuntime) -> Result<(), Fail> {
-    let alloc = rt.alloc();
     let folder = scratch_folder(&rt, process::id(rt.process()), "opens")?;
     let folder = folder.as_str();
-    let root = format!(in alloc; "{folder}/served")?;
-    let root = root.as_str();
-    fs::create_dir_all(&rt, format!(in alloc; "{root}/sub")?)?;
-    fs::write(&rt, format!(in alloc; "{root}/a")?, "A\nB")?;
-    fs::write(&rt, format!(in alloc; "{root}/sub/b")?, "BB")?;
-    fs::write(&rt, format!(in alloc; "{folder}/secret")?, "S")?;
-    symlink(&rt, "sub/b", format!(in alloc; "{root}/inner")?)?;
-    symlink(&rt, "../secret", format!(in alloc; "{root}/outer")?)?;
-    symlink(&rt, "..", format!(in alloc; "{root}/up")?)?;
-    symlink(&rt, "nowhere", format!(in alloc; "{root}/dangling")?)?;
-    let fifo = format!(in alloc; "{root}/fifo")?;
-    Command::new(alloc, "mkfifo")?.arg(&fifo)?.status(&rt)?;
-    let store = FolderStore::new(rt, alloc, root)?;
-
-    let octet = opened(alloc, &store, "a", Mode::Octet)?;
-    let (length, text) = octet.ok().ok_or("a is there")?;
-    assert_eq!(rt; (length, text.as_slice()), (3, b"A\nB".as_slice()));
-    let netascii = opened(alloc, &store, "a", Mode::Netascii)?;
-    let (length, text) = netascii.ok().ok_or("a is there")?;
-    assert_eq!(rt; (length, text.as_slice()), (4, b"A\r\nB".as_slice()));
-    let inner = opened(alloc, &store, "inner", Mode::Octet)?;
-    let (length, text) = inner.ok().ok_or("the link stays in the folder")?;
-    assert_eq!(rt; (length, text.as_slice()), (2, b"BB".as_slice()));
-
+    fill_folder(&rt, folder)?;
+    let served = joined(rt.alloc(), folder, "served")?;
+    let store = FolderStore::new(rt, rt.alloc(), served.as_str())?;
+    opens(&rt, &store, "a", Mode::Octet, b"A\nB")?;
+    opens(&rt, &store, "a", Mode::Netascii, b"A\r\nB")?;
+    opens(&rt, &store, "inner", Mode::Octet, b"BB")?;
     for (name, fault) in [
         ("none", StoreFault::Missing),
         ("a/b", StoreFault::Missing),
@@ -71,54 +88,56 @@ fn opens_what_is_in_the_folder(rt: HostRuntime) -> Result<(), Fail> {
         ("up/secret", StoreFault::Io),
         ("fifo", StoreFault::Io),
     ] {
-        let found = opened(alloc, &store, name, Mode::Octet)?.err();
-        assert_eq!(rt; found, Some(fault), "{name}");
+        refuses(&rt, &store, name, fault)?;
     }
     fs::remove_dir_all(&rt, folder)?;
     Ok(())
 }
 
-/// A file gets its name at the commit alone, and takes no other's place unless that is told.
+/// A file has these contents.
+fn holds<R: Runtime + AllocGlobal + Abort>(rt: &R, file: &str, wanted: &str) -> Result<(), Fail> {
+    let text = fs::read_to_string(rt, file)?;
+    assert_eq!(rt; text.as_str(), wanted);
+    Ok(())
+}
+
+/// A file gets its name at the commit alone, and its draft is gone then.
 #[test]
 fn names_at_the_commit(rt: HostRuntime) -> Result<(), Fail> {
     let alloc = rt.alloc();
     let folder = scratch_folder(&rt, process::id(rt.process()), "names")?;
-    let root = folder.as_str();
-    let target = format!(in alloc; "{root}/n")?;
-    let target = target.as_str();
-    let draft_name = format!(in alloc; "{root}/.tftp-4711")?;
-    let draft_name = draft_name.as_str();
-    let mut store = FolderStore::new(rt, alloc, root)?;
+    let target = joined(alloc, folder.as_str(), "n")?;
+    let name = joined(alloc, folder.as_str(), ".tftp-4711")?;
+    let mut store = FolderStore::new(rt, alloc, folder.as_str())?;
     let n = path(alloc, "n")?;
-
-    fs::write(&rt, draft_name, "left over from an older transfer")?;
+    fs::write(&rt, name.as_str(), "left over from an older transfer")?;
     store.set_port(4711);
     let mut draft = store.begin(alloc, &n, false)?;
     store.append(&mut draft, b"first")?;
-    assert!(rt; !fs::exists(&rt, target)?, "before its commit");
+    assert!(rt; !fs::exists(&rt, target.as_str())?, "before its commit");
     store.commit(&n, &mut draft, false)?;
-    assert_eq!(rt; fs::read_to_string(&rt, target)?.as_str(), "first");
-    assert!(rt; !fs::exists(&rt, draft_name)?, "after its commit");
+    holds(&rt, target.as_str(), "first")?;
+    assert!(rt; !fs::exists(&rt, name.as_str())?, "after its commit");
+    fs::remove_dir_all(&rt, folder.as_str())?;
+    Ok(())
+}
 
-    assert_eq!(rt;
-        store.begin(alloc, &n, false).err(),
-        Some(StoreFault::Exists)
-    );
+/// A file takes another's place only where that is told.
+#[test]
+fn replaces_where_told(rt: HostRuntime) -> Result<(), Fail> {
+    let alloc = rt.alloc();
+    let folder = scratch_folder(&rt, process::id(rt.process()), "replaces")?;
+    let target = joined(alloc, folder.as_str(), "n")?;
+    fs::write(&rt, target.as_str(), "first")?;
+    let mut store = FolderStore::new(rt, alloc, folder.as_str())?;
+    let n = path(alloc, "n")?;
+    assert!(rt; store.begin(alloc, &n, false).err() == Some(StoreFault::Exists));
     let mut draft = store.begin(alloc, &n, true)?;
     store.append(&mut draft, b"second")?;
-    assert_eq!(rt;
-        store.commit(&n, &mut draft, false),
-        Err(StoreFault::Exists)
-    );
-    assert_eq!(rt; fs::read_to_string(&rt, target)?.as_str(), "first");
+    assert!(rt; store.commit(&n, &mut draft, false) == Err(StoreFault::Exists));
+    holds(&rt, target.as_str(), "first")?;
     store.commit(&n, &mut draft, true)?;
-    assert_eq!(rt; fs::read_to_string(&rt, target)?.as_str(), "second");
-
-    let deep = path(alloc, "missing/n")?;
-    assert_eq!(rt;
-        store.begin(alloc, &deep, false).err(),
-        Some(StoreFault::Io)
-    );
-    fs::remove_dir_all(&rt, root)?;
+    holds(&rt, target.as_str(), "second")?;
+    fs::remove_dir_all(&rt, folder.as_str())?;
     Ok(())
 }

@@ -1,89 +1,159 @@
 //! One server and its clients, over the loopback address.
 
-use crate::programs::{program, told};
-use crate::scratch::scratch_folder;
+use crate::programs::{listening, program, told};
+use crate::scratch::{joined, scratch_folder};
+use std::alloc::Global;
 use std::fs;
-use std::io::{BufRead, BufReader, Read};
-use std::process::{self, Stdio};
+use std::io::{BufReader, Read};
+use std::process::{self, Abort, Child, Output, Processes, Stdio};
+use std::rt::Runtime;
 use std::test::Fail;
 
-/// What a client prints comes from the issue of its transfers: the lines are fixed by the command line's
-/// documentation.
+/// A client is told to get a file, and prints these lines, of which the last is its status.
+fn gets<R: Runtime + AllocGlobal + Processes + Abort>(
+    rt: &R,
+    words: &[&str],
+    wanted: &str,
+) -> Result<(), Fail> {
+    let told = told(rt, "programs::tftp", words)?;
+    let told = told.as_str();
+    assert!(rt; told.contains(wanted), "{told}");
+    Ok(())
+}
+
+/// What a server still prints has so many complete transfers.
+fn has_served<P: Read + Drop, R: AllocGlobal + Abort>(
+    rt: &R,
+    mut printed: BufReader<P>,
+    wanted: usize,
+) -> Result<(), Fail> {
+    let mut rest = String::new(rt.alloc());
+    printed.read_to_string(&mut rest)?;
+    let mut count = 0usize;
+    for line in rest.as_str().lines() {
+        if line.ends_with(" Complete") {
+            count = count.saturating_add(1);
+        }
+    }
+    assert_eq!(rt; count, wanted);
+    Ok(())
+}
+
+/// A name that is missing, a get, and a local file that is there. The lines are fixed: a client that fails
+/// tells its outcome on standard error, with status 1, and a fault of the local file with status 2.
 #[test]
 fn loopback(rt: HostRuntime) -> Result<(), Fail> {
     let alloc = rt.alloc();
     let folder = scratch_folder(&rt, process::id(rt.process()), "loopback")?;
     let folder = folder.as_str();
-    let root = format!(in alloc; "{folder}/served")?;
-    let local = format!(in alloc; "{folder}/local")?;
-    fs::create_dir_all(&rt, root.as_str())?;
-    let file = format!(in alloc; "{root}/a")?;
+    let local = joined(alloc, folder, "local")?;
+    let local = local.as_str();
+    let file = joined(alloc, folder, "a")?;
     fs::write(&rt, file.as_str(), "ABC")?;
-
-    let serving = [root.as_str(), "--listen", "127.0.0.1:0", "--rounds", "1000"];
+    let serving = [folder, "--listen", "127.0.0.1:0", "--rounds", "1000"];
     let mut server = program(&rt, "programs::tftpd", &serving)?
         .stdout(Stdio::piped())
         .spawn(&rt)?;
     let printed = server.stdout.take().ok_or("the server prints")?;
-    let mut printed = BufReader::new(alloc, printed)?;
-    let mut line = String::new(alloc);
-    printed.read_line(&mut line)?;
-    let address = line
-        .as_str()
-        .strip_prefix("listening ")
-        .ok_or("the server listens")?
-        .trim_end();
+    let (printed, address) = listening(alloc, printed)?;
+    let address = address.as_str();
 
-    let missing = told(
+    gets(
         &rt,
-        "programs::tftp",
-        &["get", address, "b", local.as_str()],
+        &["get", address, "b", local],
+        "status 1\n\ntest result: ok\ntftp: PeerError(1)\n",
     )?;
-    assert!(rt;
-        missing.as_str().contains("tftp: PeerError(1)\n"),
-        "missing: {missing}"
-    );
-    assert!(rt;
-        missing.as_str().contains("status 1\n"),
-        "missing: {missing}"
-    );
-    let got = told(
+    gets(&rt, &["get", address, "a", local], "complete 3\nstatus 0\n")?;
+    gets(
         &rt,
-        "programs::tftp",
-        &["get", address, "a", local.as_str()],
+        &["get", address, "a", local],
+        "status 2\n\ntest result: ok\ntftp: file fault\n",
     )?;
-    assert!(rt;
-        got.as_str().contains("complete 3\nstatus 0\n"),
-        "got: {got}"
-    );
-    let stored = fs::read_to_string(&rt, local.as_str())?;
+    let stored = fs::read_to_string(&rt, local)?;
     assert_eq!(rt; stored.as_str(), "ABC");
-    let again = told(
-        &rt,
-        "programs::tftp",
-        &["get", address, "a", local.as_str()],
-    )?;
-    assert!(rt;
-        again.as_str().contains("tftp: file fault\n"),
-        "again: {again}"
-    );
-    assert!(rt; again.as_str().contains("status 2\n"), "again: {again}");
-
-    let mut rest = String::new(alloc);
-    printed.read_to_string(&mut rest)?;
-    assert!(rt;
-        rest.as_str().contains(" Complete\nstatus 0\n"),
-        "server: {rest}"
-    );
+    has_served(&rt, printed, 1)?;
     server.wait()?;
     fs::remove_dir_all(&rt, folder)?;
     Ok(())
 }
 
-/// Lengths around the ends of blocks of 512 bytes.
-const LENGTHS: [usize; 16] = [
-    0, 1, 2, 511, 512, 513, 1023, 1024, 1025, 1535, 1536, 1537, 5119, 5120, 5121, 40_000,
+/// Lengths around the ends of blocks of 512 bytes, as names.
+const LENGTHS: [(&str, usize); 16] = [
+    ("0", 0),
+    ("1", 1),
+    ("2", 2),
+    ("511", 511),
+    ("512", 512),
+    ("513", 513),
+    ("1023", 1023),
+    ("1024", 1024),
+    ("1025", 1025),
+    ("1535", 1535),
+    ("1536", 1536),
+    ("1537", 1537),
+    ("5119", 5119),
+    ("5120", 5120),
+    ("5121", 5121),
+    ("40000", 40_000),
 ];
+
+/// So many bytes.
+fn bytes_of(alloc: Global, length: usize) -> Result<Vec<u8>, Fail> {
+    let mut bytes = Vec::new(alloc);
+    for at in 0..length {
+        bytes.push((at % 251) as u8)?;
+    }
+    Ok(bytes)
+}
+
+/// Puts a file of each length into a folder.
+fn write_all<R: Runtime + AllocGlobal>(rt: &R, folder: &str) -> Result<(), Fail> {
+    for (name, length) in LENGTHS {
+        let file = joined(rt.alloc(), folder, name)?;
+        let bytes = bytes_of(rt.alloc(), length)?;
+        fs::write(rt, file.as_str(), bytes.as_slice())?;
+    }
+    Ok(())
+}
+
+/// The local file of a client.
+fn local_of(alloc: Global, folder: &str, name: &str) -> Result<String, Fail> {
+    let mut local = joined(alloc, folder, name)?;
+    local.push_str(".local")?;
+    Ok(local)
+}
+
+/// Each client has stored its file.
+fn are_stored<R: Runtime + AllocGlobal + Abort>(rt: &R, folder: &str) -> Result<(), Fail> {
+    for (name, length) in LENGTHS {
+        let local = local_of(rt.alloc(), folder, name)?;
+        let stored = fs::read(rt, local.as_str())?;
+        let bytes = bytes_of(rt.alloc(), length)?;
+        assert!(rt; stored.as_slice() == bytes.as_slice(), "{name}");
+    }
+    Ok(())
+}
+
+/// A client has completed.
+fn is_complete<R: Abort>(rt: &R, output: &Output) -> Result<(), Fail> {
+    let told = str::from_utf8(output.stdout.as_slice())?;
+    assert!(rt; told.contains("status 0\n"), "{told}");
+    Ok(())
+}
+
+/// Starts a client that gets a file.
+fn started<R: Runtime + AllocGlobal + Processes>(
+    rt: &R,
+    folder: &str,
+    address: &str,
+    name: &str,
+) -> Result<Child<R::Started>, Fail> {
+    let local = local_of(rt.alloc(), folder, name)?;
+    let words = ["get", address, name, local.as_str()];
+    let mut client = program(rt, "programs::tftp", &words)?;
+    let child = client.stdout(Stdio::piped()).spawn(rt)?;
+    Ok(child)
+}
 
 /// Sixteen clients at once, each with a file of its own length.
 #[test]
@@ -91,63 +161,23 @@ fn sixteen_at_once(rt: HostRuntime) -> Result<(), Fail> {
     let alloc = rt.alloc();
     let folder = scratch_folder(&rt, process::id(rt.process()), "sixteen")?;
     let folder = folder.as_str();
-    let mut bytes = Vec::new(alloc);
-    for at in 0u32..40_000 {
-        bytes.push((at % 251) as u8)?;
-    }
-    let serving = [
-        folder,
-        "--listen",
-        "127.0.0.1:0",
-        "--transfers",
-        "16",
-        "--rounds",
-        "100000",
-    ];
+    write_all(&rt, folder)?;
+    let serving = [folder, "--listen", "127.0.0.1:0", "--transfers", "16"];
     let mut server = program(&rt, "programs::tftpd", &serving)?
         .stdout(Stdio::piped())
         .spawn(&rt)?;
     let printed = server.stdout.take().ok_or("the server prints")?;
-    let mut printed = BufReader::new(alloc, printed)?;
-    let mut line = String::new(alloc);
-    printed.read_line(&mut line)?;
-    let address = line
-        .as_str()
-        .strip_prefix("listening ")
-        .ok_or("the server listens")?
-        .trim_end();
-
+    let (printed, address) = listening(alloc, printed)?;
     let mut clients = Vec::new(alloc);
-    for length in LENGTHS {
-        let name = format!(in alloc; "{length}")?;
-        let file = format!(in alloc; "{folder}/{length}")?;
-        let local = format!(in alloc; "{folder}/{length}.local")?;
-        let text = bytes.get(..length).ok_or("there are enough bytes")?;
-        fs::write(&rt, file.as_str(), text)?;
-        let words = ["get", address, name.as_str(), local.as_str()];
-        clients.push(
-            program(&rt, "programs::tftp", &words)?
-                .stdout(Stdio::piped())
-                .spawn(&rt)?,
-        )?;
+    for (name, _) in LENGTHS {
+        clients.push(started(&rt, folder, address.as_str(), name)?)?;
     }
     for client in clients {
         let output = client.wait_with_output(alloc)?;
-        let told = str::from_utf8(output.stdout.as_slice())?;
-        assert!(rt; told.contains("status 0\n"), "{told}");
+        is_complete(&rt, &output)?;
     }
-    for length in LENGTHS {
-        let local = format!(in alloc; "{folder}/{length}.local")?;
-        let stored = fs::read(&rt, local.as_str())?;
-        assert_eq!(rt; Some(stored.as_slice()), bytes.get(..length), "{length}");
-    }
-    let mut rest = String::new(alloc);
-    printed.read_to_string(&mut rest)?;
-    let complete = rest
-        .as_str()
-        .lines()
-        .filter(|line| line.ends_with(" Complete"));
-    assert_eq!(rt; complete.count(), 16, "{rest}");
+    are_stored(&rt, folder)?;
+    has_served(&rt, printed, 16)?;
     server.wait()?;
     fs::remove_dir_all(&rt, folder)?;
     Ok(())

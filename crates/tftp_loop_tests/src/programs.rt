@@ -3,7 +3,9 @@
 //! A test knows of no file but its own program. So that program plays the others: run with the name of one
 //! of the first two tests here and further words, it is `tftp` or `tftpd` with these words.
 
+use std::alloc::Global;
 use std::env;
+use std::io::{BufRead, BufReader, Read};
 use std::process::{Command, Processes};
 use std::rt::Runtime;
 use std::test::Fail;
@@ -65,4 +67,17 @@ pub(crate) fn told<R: Runtime + AllocGlobal + Processes>(
     told.push_str(str::from_utf8(output.stdout.as_slice())?)?;
     told.push_str(str::from_utf8(output.stderr.as_slice())?)?;
     Ok(told)
+}
+
+/// Where a server listens, by the first line that it prints, and what it prints then.
+pub(crate) fn listening<P: Read + Drop>(
+    alloc: Global,
+    printed: P,
+) -> Result<(BufReader<P>, String), Fail> {
+    let mut printed = BufReader::new(alloc, printed)?;
+    let mut line = String::new(alloc);
+    printed.read_line(&mut line)?;
+    let line = line.as_str().trim_end();
+    let address = line.strip_prefix("listening ").ok_or("the server listens")?;
+    Ok((printed, String::from_str(alloc, address)?))
 }
