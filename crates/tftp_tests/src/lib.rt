@@ -27,3 +27,5 @@ mod read_rows;
 mod store_rows;
 #[cfg(test)]
 mod stream_rows;
+#[cfg(test)]
+mod write_rows;

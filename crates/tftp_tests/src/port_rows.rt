@@ -4,7 +4,7 @@
 use std::alloc::Global;
 use std::process::Abort;
 use std::test::Fail;
-use tftp_ends::{Endpoint, Outcome};
+use tftp_ends::{Endpoint, Outcome, Outgoing};
 use tftp_file::path_of;
 use tftp_server::{Config, MemStore, Opened, Server, ServerFault};
 
@@ -175,5 +175,48 @@ fn an_open_transfer_stays(rt: HostRuntime) -> Result<(), Fail> {
     let mut out = Vec::new(rt.alloc());
     let again = server.on_request(client(1027), 1027, REQUEST, &mut out);
     assert_eq!(rt; again, Err(ServerFault::TidInUse), "an identifier in use");
+    Ok(())
+}
+
+/// What comes to the request port, and whether it could open a transfer, as far as no store is asked.
+const MAY_OPEN: [(&[u8], bool); 5] = [
+    (b"\x00\x01a\x00octet\x00", true),
+    (b"\x00\x01b\x00octet\x00", true),
+    (b"\x00\x01../a\x00octet\x00", false),
+    (b"\x00\x04\x00\x00", false),
+    (b"\x00\x05", false),
+];
+
+#[test]
+fn what_could_open_a_transfer(rt: HostRuntime) -> Result<(), Fail> {
+    let server = server(&rt, rt.alloc(), Config::default())?;
+    for (bytes, want) in MAY_OPEN {
+        assert_eq!(rt; server.may_open(bytes), Ok(want), "of {bytes:?}");
+    }
+    Ok(())
+}
+
+/// A timeout lends the block that was sent.
+#[test]
+fn a_transfer_lends_its_datagram(rt: HostRuntime) -> Result<(), Fail> {
+    let mut server = busy_server(&rt, rt.alloc())?;
+    let (step, outgoing) = server.handle_timeout(1025)?;
+    assert_eq!(rt; step.to, Some(client(1025)), "to its client");
+    let bytes = server.bytes_of(1025, outgoing).ok_or("a transfer")?;
+    assert_eq!(rt; bytes, b"\x00\x03\x00\x01ABC".as_slice(), "DATA 1 again");
+    assert!(rt;
+        server.bytes_of(1040, outgoing).is_none(),
+        "no such transfer"
+    );
+    Ok(())
+}
+
+#[test]
+fn a_transfer_completes_without_a_buffer(rt: HostRuntime) -> Result<(), Fail> {
+    let mut server = busy_server(&rt, rt.alloc())?;
+    let ack = b"\x00\x04\x00\x01";
+    let (step, outgoing) = server.handle_datagram(1025, client(1025), ack)?;
+    assert_eq!(rt; step.closed, Some(Outcome::Complete), "the last ACK");
+    assert_eq!(rt; outgoing, Outgoing::Nothing, "in silence");
     Ok(())
 }
