@@ -1,8 +1,8 @@
 -- The OACK of a server is a packet: its options have bytes, and there are three at most.
-use Rattle.std.proofs.Common.{◌≡◌, ℕ, ◌+◌, ◌*◌, ◌^◌, ◌<◌, ◌≤◌, Bool, true, false, cond, List, [], ◌∷◌, ◌++◌, length, map, Result, Ok, Err, decimal, sym, refl, ap, ◌∙◌, subst, arith, inl, inr, suc}
-use Rattle.std.specs.Prelude.{◌≢◌, ◌||◌, nat_lt}
+use Rattle.std.proofs.Common.{◌≡◌, ℕ, ◌+◌, ◌*◌, ◌^◌, ◌<◌, ◌≤◌, List, [], ◌∷◌, ◌++◌, length, map, Ok, decimal, sym, refl, ap, ◌∙◌, subst, arith, inl, inr, suc}
+use Rattle.std.specs.Prelude.{◌≢◌}
 use Rattle.std.specs.List.{AllByRecursion}
-use Rattle.std.proofs.lemmas.Bool.{true≢false, cases_eq, ltb-false}
+use Rattle.std.proofs.lemmas.Bool.{cases_eq}
 use Rattle.std.proofs.lemmas.List.{length-append}
 use Rattle.std.proofs.lemmas.Fmt.{length-decimal-le, decimal-digits_of, decimal_digit}
 use Rattle.tftp_wire.specs.declared.mode.Mode.{Mode}
@@ -18,19 +18,13 @@ use Rattle.tftp_negotiate.specs.declared.known.Kind.TheVariants as kinds
 use Rattle.tftp_negotiate.specs.declared.limits.Limits.{Limits}
 use Rattle.tftp_negotiate.specs.declared.name.Name.{Name}
 use Rattle.tftp_negotiate.specs.declared.name.Name.TheVariants.{Blksize, Timeout, Tsize}
-use Rattle.tftp_negotiate.specs.declared.refusal.Refusal.{Refusal}
-use Rattle.tftp_negotiate.specs.declared.refusal.Refusal.TheVariants.{Repeated}
-use Rattle.tftp_negotiate.specs.Agreed.{agreed_options, known_option, count_of}
-use Rattle.tftp_negotiate.specs.Answer.{answer, answered_option}
+use Rattle.tftp_negotiate.specs.Agreed.{agreed_options, known_option}
+use Rattle.tftp_negotiate.specs.Answer.{answer}
 use Rattle.tftp_negotiate.specs.Laws.{IsWithinRequest, Requests}
-use Rattle.tftp_negotiate.specs.Negotiation.{repeats, places_of, each_judged}
 use Rattle.tftp_negotiate.specs.Options.{name_text}
 use Rattle.tftp_negotiate.specs.Asked.{option_of}
 use Rattle.tftp_negotiate.specs.Ranges.{IsBlockSize}
-use Rattle.tftp_negotiate.proofs.LawsLemmas.{answers_within_request}
-use Rattle.tftp_negotiate.proofs.NegotiationLemmas.{counts, count_of-cons}
-use Rattle.tftp_negotiate.proofs.OptionsLemmas.{decimal-number_of}
-use Rattle.tftp_negotiate.proofs.PolicyLemmas.{answered_option-Keeps}
+use Rattle.tftp_negotiate.proofs.LawsLemmas.{numbers_are_printed, answers_within_request, answers_may_be_agreed, agreements_are_short}
 
 -- the digits of a number are no zero bytes
 digits_text : (digits : List ℕ) → IsText (map (λ d. 48 + d) digits)
@@ -91,7 +85,7 @@ spelled_all (k ∷ ks) h =
 
 -- the numbers of an answer fit
 word_of : (options : List RawOption) (name : Name) (n : ℕ) → Requests options name n → n < 2 ^ 64
-word_of options name n r = (decimal-number_of r.0.value n r.3).1
+word_of options name n r = ((numbers_are_printed r.0.value n).0 r.3).1
 
 fits_word : (options : List RawOption) (kind : Kind) (told : ℕ) (limits : Limits) (k : Known) → told < 2 ^ 64 → IsBlockSize limits.max_block → IsWithinRequest options kind told limits k → Fits_word k
 fits_word options kind told limits (known.Blksize n) f ok h = let a = h.0 in let b = ok.1 in omega (arith, a, b)
@@ -104,48 +98,10 @@ fit_words options kind told limits [] f ok h = tt
 fit_words options kind told limits (k ∷ ks) f ok h = (fits_word options kind told limits k f ok h.0, fit_words options kind told limits ks f ok h.1)
 
 -- each name stands once, so that there are three at most
-by_names : (ks : List Known) → length ks ≡ count_of Blksize ks + count_of Timeout ks + count_of Tsize ks
-by_names [] = refl
-by_names (known.Blksize n ∷ ks) =
-    let e = by_names ks in
-    let a = count_of-cons Blksize (known.Blksize n) ks in
-    let b = count_of-cons Timeout (known.Blksize n) ks in
-    let c = count_of-cons Tsize (known.Blksize n) ks in omega (arith, e, a, b, c)
-by_names (known.Timeout n ∷ ks) =
-    let e = by_names ks in
-    let a = count_of-cons Blksize (known.Timeout n) ks in
-    let b = count_of-cons Timeout (known.Timeout n) ks in
-    let c = count_of-cons Tsize (known.Timeout n) ks in omega (arith, e, a, b, c)
-by_names (known.Tsize n ∷ ks) =
-    let e = by_names ks in
-    let a = count_of-cons Blksize (known.Tsize n) ks in
-    let b = count_of-cons Timeout (known.Tsize n) ks in
-    let c = count_of-cons Tsize (known.Tsize n) ks in omega (arith, e, a, b, c)
-
-none_of : (a b c : Bool) → (a || (b || c)) ≡ false → (a ≡ false) × (b ≡ false) × (c ≡ false)
-none_of true b c e = absurd (true≢false e)
-none_of false true c e = absurd (true≢false e)
-none_of false false c e = (refl, refl, e)
-
-negotiated_once : (b : Bool) (r : Result (List Known) Refusal) (ks : List Known) → cond b (Err Repeated) r ≡ Ok ks → (b ≡ false) × (r ≡ Ok ks)
-negotiated_once true r ks e = cc
-negotiated_once false r ks e = (refl, e)
-
 three_at_most : (kind : Kind) (mode : Mode) (told : ℕ) (limits : Limits) (options : List RawOption) (ks : List Known) → IsBlockSize limits.max_block →
     answer options kind mode told limits ≡ Ok ks → length ks ≤ 3
 three_at_most kind mode told limits options ks ok e =
-    let judgement = answered_option kind mode told limits in
-    let keeps = answered_option-Keeps kind mode told limits ok in
-    let h = negotiated_once (repeats options) (each_judged judgement options) ks e in
-    let n = none_of (nat_lt 1 (places_of Blksize options)) (nat_lt 1 (places_of Timeout options)) (nat_lt 1 (places_of Tsize options)) h.0 in
-    let a = ltb-false 1 (places_of Blksize options) n.0 in
-    let b = ltb-false 1 (places_of Timeout options) n.1 in
-    let c = ltb-false 1 (places_of Tsize options) n.2 in
-    let i = counts judgement keeps Blksize options ks h.1 in
-    let j = counts judgement keeps Timeout options ks h.1 in
-    let k = counts judgement keeps Tsize options ks h.1 in
-    let l = by_names ks in
-    omega (arith, a, b, c, i, j, k, l)
+    agreements_are_short ks (answers_may_be_agreed options kind mode told limits ks ok e)
 
 some_options : (ks : List Known) → ks ≢ [] → agreed_options ks ≢ []
 some_options [] s e = s refl

@@ -26,7 +26,7 @@ use Rattle.tftp_negotiate.specs.Negotiation.{repeats, kept_before, each_judged}
 use Rattle.tftp_negotiate.specs.Agreed.{size, IsAgreeable, agreed_options}
 use Rattle.tftp_negotiate.specs.Agreement.{agreement, taken, taken_option, taken_blksize, taken_timeout, taken_tsize}
 use Rattle.tftp_negotiate.specs.Asked.{asked_tsize}
-use Rattle.tftp_negotiate.proofs.OptionsLemmas.{number_of-decimal}
+use Rattle.tftp_negotiate.proofs.LawsLemmas.{numbers_are_printed}
 use Rattle.tftp_player.specs.Said.{told_as, told_options, oack_size}
 
 -- bytes spell one packet at most
@@ -80,7 +80,7 @@ own_oack [] h = refl
 own_oack (known.Blksize n ∷ agreed) h =
     let fits : n < 2 ^ 64 = let l = h.0.1 in omega arith in
     ap (λ (name : Option Name). size (option_to_list (told_as name (number_of (decimal n))) ++ told_options (agreed_options agreed))) (name_of-own Blksize)
-    ∙ ap (λ (value : Option ℕ). size (option_to_list (told_as (Some Blksize) value) ++ told_options (agreed_options agreed))) (number_of-decimal n fits)
+    ∙ ap (λ (value : Option ℕ). size (option_to_list (told_as (Some Blksize) value) ++ told_options (agreed_options agreed))) ((numbers_are_printed (decimal n) n).1 (refl, fits))
 own_oack (known.Timeout n ∷ agreed) h =
     ap (λ (name : Option Name). size (option_to_list (told_as name (number_of (decimal n))) ++ told_options (agreed_options agreed))) (name_of-own Timeout)
     ∙ (no_size Timeout (number_of (decimal n)) (told_options (agreed_options agreed)) (λ e. cc) ∙ own_oack agreed h.1)

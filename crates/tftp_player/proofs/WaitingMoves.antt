@@ -16,11 +16,9 @@ use Rattle.tftp_negotiate.specs.declared.known.Known.TheVariants.{Blksize, Timeo
 use Rattle.tftp_negotiate.specs.declared.refusal.Refusal.{Refusal}
 use Rattle.tftp_negotiate.specs.declared.refusal.Refusal.TheVariants as refusals
 use Rattle.tftp_negotiate.specs.Agreed.{size, IsAgreeable}
-use Rattle.tftp_negotiate.specs.Agreement.{agreement, taken_option}
+use Rattle.tftp_negotiate.specs.Agreement.{agreement}
 use Rattle.tftp_negotiate.specs.Asked.{IsAskable}
-use Rattle.tftp_negotiate.specs.Negotiation.{repeats, each_judged}
-use Rattle.tftp_negotiate.proofs.NegotiationLemmas.{values}
-use Rattle.tftp_negotiate.proofs.PolicyLemmas.{taken_option-Keeps}
+use Rattle.tftp_negotiate.proofs.LawsLemmas.{taken_may_be_agreed}
 use Rattle.tftp_file.specs.declared.fault.StoreFault.{StoreFault}
 use Rattle.tftp_file.specs.Block.{block, block_count, Fits}
 use Rattle.tftp_file.specs.Netascii.{wire_text}
@@ -48,7 +46,7 @@ use Rattle.tftp_player.specs.World.{OpenedEnd, files_of, holding_of, in_state, r
 use Rattle.tftp_player.specs.WorldSteps.{never_fails, may_refuse_append}
 use Rattle.tftp_player.specs.WorldKept.{EndKept, sent_text}
 use Rattle.tftp_player.proofs.Actions.{Stands, IsWaiting, stores_first, refuses_first, accepts, sends_first, sends_first_with}
-use Rattle.tftp_player.proofs.SaidLemmas.{data_of, spells_own, taken_oack, negotiated_each}
+use Rattle.tftp_player.proofs.SaidLemmas.{data_of, spells_own, taken_oack}
 use Rattle.tftp_player.proofs.EndMoves.{Goes, placed, from_response, gives_up, refuses_now}
 use Rattle.tftp_player.proofs.SourceMoves.{text_if, data_turn, data_end, data_goes, data_kept, valid_data}
 use Rattle.tftp_player.proofs.SinkMoves.{Receives, told, block_goes, refused_goes}
@@ -65,8 +63,7 @@ agreed_size (Tsize n ∷ known) h = agreed_size known h.1
 pub taken_size : (asked : Asked) (kind : Kind) (options : List RawOption) (mode : Mode) (limit : ℕ) (known : List Known) → IsAskable asked → agreement asked kind mode options limit ≡ Ok known →
     (0 < size known) × (size known ≤ 65464)
 taken_size asked kind options mode limit known askable e =
-    agreed_size known (values (taken_option asked kind mode limit) (taken_option-Keeps asked kind mode limit askable) options known
-    (negotiated_each (repeats options) (each_judged (taken_option asked kind mode limit) options) known e))
+    agreed_size known (taken_may_be_agreed asked kind mode options limit known askable e).values
 
 module _ (views : List EndView) (messages : List Message) (k : ℕ) (x0 : OpenedEnd) (asked : Asked) (limit : ℕ)
     (s : Stands views messages k (view_of_end (placed (Waiting asked limit) x0))) (kept : EndKept (placed (Waiting asked limit) x0))

@@ -19,11 +19,9 @@ use Rattle.tftp_negotiate.specs.declared.known.Known.{Known}
 use Rattle.tftp_negotiate.specs.declared.limits.Limits.{Limits}
 use Rattle.tftp_negotiate.specs.declared.refusal.Refusal.{Refusal}
 use Rattle.tftp_negotiate.specs.Agreed.{size, IsAgreeable, agreed_options}
-use Rattle.tftp_negotiate.specs.Answer.{answer, answered_option}
-use Rattle.tftp_negotiate.specs.Negotiation.{repeats, each_judged}
+use Rattle.tftp_negotiate.specs.Answer.{answer}
 use Rattle.tftp_negotiate.specs.Ranges.{IsBlockSize}
-use Rattle.tftp_negotiate.proofs.NegotiationLemmas.{values}
-use Rattle.tftp_negotiate.proofs.PolicyLemmas.{answered_option-Keeps}
+use Rattle.tftp_negotiate.proofs.LawsLemmas.{answers_may_be_agreed}
 use Rattle.tftp_file.specs.declared.path.PathFault.{PathFault}
 use Rattle.tftp_file.specs.Block.{block, block_count, Fits}
 use Rattle.tftp_file.specs.Netascii.{wire_text}
@@ -46,7 +44,7 @@ use Rattle.tftp_player.specs.WorldSteps.{Stays, Serves, Opens}
 use Rattle.tftp_player.specs.WorldKept.{HeldFits, IsOk}
 use Rattle.tftp_player.specs.declared.report.Report.{Report}
 use Rattle.tftp_player.proofs.Actions.{host_server, host_client, asks, serves_plainly, serves_with, says_error}
-use Rattle.tftp_player.proofs.SaidLemmas.{spells_own, own_oack, negotiated_each}
+use Rattle.tftp_player.proofs.SaidLemmas.{spells_own, own_oack}
 use Rattle.tftp_player.proofs.EndMoves.{valid_error}
 use Rattle.tftp_player.proofs.SourceMoves.{valid_data}
 use Rattle.tftp_player.proofs.WaitingMoves.{agreed_size}
@@ -106,8 +104,7 @@ writing_keeps strangers w v name mode asked file report ok may o =
 pub answered_values : (kind : Kind) (mode : Mode) (told : ℕ) (limits : Limits) (options : List RawOption) (known : List Known) → IsBlockSize limits.max_block →
     answer options kind mode told limits ≡ Ok known → AllByRecursion IsAgreeable known
 answered_values kind mode told limits options known ok e =
-    values (answered_option kind mode told limits) (answered_option-Keeps kind mode told limits ok) options known
-    (negotiated_each (repeats options) (each_judged (answered_option kind mode told limits) options) known e)
+    (answers_may_be_agreed options kind mode told limits known ok e).values
 
 -- a read is served
 sending_keeps : (strangers : Bool) (w v : WorldState) (from : Endpoint) (request : Request) (path file : List ℕ) (agreed : List Known) (report : Report) (ok : IsOk strangers w) →
