@@ -126,7 +126,8 @@ impl End {
 
     /// How the end handles a packet from its peer, or from the server while it has none.
     fn packet_action(&self, from: Endpoint, decoded: &Option<PacketRef<'_>>) -> Action
-        ensures action { result ≡ packet_action self.now from (option_map owned decoded.now) self.now.phase }
+        ensures action { result
+            ≡ packet_action self.now from (option_map owned decoded.now) self.now.phase }
         ensures fits { ActionFits self.now result }
     {
         match self.phase {
@@ -150,7 +151,8 @@ impl End {
 
     /// How the end handles a datagram: first from whom it is, then whether it may be answered.
     fn datagram_action(&self, from: Endpoint, bytes: &[u8]) -> Action
-        ensures action { (decoded : Option Packet) × Decodes bytes.now decoded × (result ≡ datagram_action self.now from bytes.now decoded) }
+        ensures action { (decoded : Option Packet) × Decodes bytes.now decoded
+            × (result ≡ datagram_action self.now from bytes.now decoded) }
         ensures fits { ActionFits self.now result }
     {
         let decoded = decode_packet(bytes);
@@ -230,11 +232,15 @@ impl End {
     ) -> Result<(Step, Outgoing), EndFault>
         requires { AreFilesOf self.old.side files.old }
         ensures steps { IfOk result (λ answer. (turn : Turn)
-            × DatagramStep S.left S.may_fail K.held K.may_refuse_append K.may_refuse_commit from bytes.now self.old files.old turn files.new
+            × DatagramStep S.left S.may_fail K.held K.may_refuse_append K.may_refuse_commit
+            from bytes.now self.old files.old turn files.new
             × Lends turn self.new answer.0.to answer.1 × (answer.0 ≡ told self.old turn)) }
         ensures closed { IsErrOf result EndFault.Closed ↔ IsSome (outcome_of self.old.phase) }
-        ensures memory { IsErrOf result EndFault.Memory → (decoded : Option Packet) × Decodes bytes.now decoded × UsesFile (datagram_action self.old from bytes.now decoded) }
-        ensures err { OnErr result ((self.new ≡ self.old) × KeepsFiles S.left K.held files.old files.new) }
+        ensures memory { IsErrOf result EndFault.Memory → (decoded : Option Packet)
+            × Decodes bytes.now decoded
+            × UsesFile (datagram_action self.old from bytes.now decoded) }
+        ensures err { OnErr result ((self.new ≡ self.old)
+            × KeepsFiles S.left K.held files.old files.new) }
         ensures same { AreSame S.is_same K.is_same files.old files.new }
         ensures files { AreFilesOf self.new.side files.new }
     {
@@ -250,7 +256,8 @@ impl End {
     /// Takes a timeout, and tells what goes out. It takes no memory: its one fault is `Closed`, after
     /// which nothing has changed.
     pub fn handle_timeout(&mut self) -> Result<(Step, Outgoing), EndFault>
-        ensures steps { IfOk result (λ answer. Lends (timeout_turn self.old) self.new answer.0.to answer.1
+        ensures steps { IfOk result (λ answer.
+            Lends (timeout_turn self.old) self.new answer.0.to answer.1
             × (answer.0 ≡ told self.old (timeout_turn self.old))) }
         ensures closed { IsErrOf result EndFault.Closed ↔ IsSome (outcome_of self.old.phase) }
         ensures memory { IsErrOf result EndFault.Memory → ⊥ }
@@ -290,11 +297,16 @@ impl End {
     ) -> Result<Step, EndFault>
         requires { AreFilesOf self.old.side files.old }
         ensures steps { IfOk result (λ step. (turn : Turn)
-            × DatagramStep S.left S.may_fail K.held K.may_refuse_append K.may_refuse_commit from bytes.now self.old files.old turn files.new
-            × Carries turn self.new step.to out.old.items out.new.items × (step ≡ told self.old turn)) }
+            × DatagramStep S.left S.may_fail K.held K.may_refuse_append K.may_refuse_commit
+            from bytes.now self.old files.old turn files.new
+            × Carries turn self.new step.to out.old.items out.new.items
+            × (step ≡ told self.old turn)) }
         ensures closed { IsErrOf result EndFault.Closed ↔ IsSome (outcome_of self.old.phase) }
-        ensures memory { IsErrOf result EndFault.Memory → (decoded : Option Packet) × Decodes bytes.now decoded × IsAnswered (datagram_action self.old from bytes.now decoded) }
-        ensures err { OnErr result ((self.new ≡ self.old) × (out.new.items ≡ out.old.items) × KeepsFiles S.left K.held files.old files.new) }
+        ensures memory { IsErrOf result EndFault.Memory → (decoded : Option Packet)
+            × Decodes bytes.now decoded
+            × IsAnswered (datagram_action self.old from bytes.now decoded) }
+        ensures err { OnErr result ((self.new ≡ self.old) × (out.new.items ≡ out.old.items)
+            × KeepsFiles S.left K.held files.old files.new) }
         ensures same { AreSame S.is_same K.is_same files.old files.new }
         ensures files { AreFilesOf self.new.side files.new }
     {
@@ -315,10 +327,12 @@ impl End {
     /// At most one datagram is appended to `out`; [`Step::to`] says where it goes. After `Closed` and
     /// after `Memory` nothing has changed.
     pub fn on_timeout(&mut self, out: &mut Vec<u8>) -> Result<Step, EndFault>
-        ensures steps { IfOk result (λ step. Carries (timeout_turn self.old) self.new step.to out.old.items out.new.items
+        ensures steps { IfOk result (λ step.
+            Carries (timeout_turn self.old) self.new step.to out.old.items out.new.items
             × (step ≡ told self.old (timeout_turn self.old))) }
         ensures closed { IsErrOf result EndFault.Closed ↔ IsSome (outcome_of self.old.phase) }
-        ensures memory { IsErrOf result EndFault.Memory → IsAnswered (timeout_action self.old.retries_left self.old.phase) }
+        ensures memory { IsErrOf result EndFault.Memory
+            → IsAnswered (timeout_action self.old.retries_left self.old.phase) }
         ensures err { OnErr result ((self.new ≡ self.old) × (out.new.items ≡ out.old.items)) }
         ensures side { self.new.side ≡ self.old.side }
     {

@@ -58,7 +58,8 @@ pub(crate) fn receiver_action(
     stored: u16,
     decoded: &Option<PacketRef<'_>>,
 ) -> Action
-    ensures action { result ≡ receiver_action (is_client side) Octet [] terms stored (option_map owned decoded.now) }
+    ensures action { result
+        ≡ receiver_action (is_client side) Octet [] terms stored (option_map owned decoded.now) }
     ensures fits { FitsReceiver result }
 {
     match decoded {

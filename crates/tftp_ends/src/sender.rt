@@ -68,7 +68,8 @@ pub(crate) fn sender_action(
     requires size { 0 < terms.size }
     requires fits { length < 65535 * terms.size }
     ensures fits { FitsSender length result }
-    ensures action { result ≡ sender_action (is_client side) length terms number (option_map owned decoded.now) }
+    ensures action { result
+        ≡ sender_action (is_client side) length terms number (option_map owned decoded.now) }
 {
     match decoded {
         Some(PacketRef::Ack { block }) => acked_action(length, terms, number, *block),

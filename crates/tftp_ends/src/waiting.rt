@@ -119,7 +119,8 @@ pub(crate) fn reader_action(
     decoded: &Option<PacketRef<'_>>,
 ) -> Action
     requires { IsAskable asked.now }
-    ensures action { result ≡ reader_action Octet asked.now limit from (option_map owned decoded.now) }
+    ensures action { result ≡ reader_action Octet asked.now limit from (option_map owned
+        decoded.now) }
     ensures fits { FitsReceiver result }
 {
     match decoded {
@@ -145,7 +146,8 @@ pub(crate) fn writer_action(
     decoded: &Option<PacketRef<'_>>,
 ) -> Action
     requires { IsAskable asked.now }
-    ensures action { result ≡ writer_action Octet asked.now limit length from (option_map owned decoded.now) }
+    ensures action { result ≡ writer_action Octet asked.now limit length from (option_map owned
+        decoded.now) }
     ensures fits { FitsSender length result }
 {
     match decoded {

@@ -44,7 +44,9 @@ impl End {
     /// Goes into a phase and acknowledges its block. It takes no memory.
     pub(crate) fn acknowledge(&mut self, phase: Phase, from: Endpoint) -> Outgoing
         requires { PhaseFits self.old phase }
-        ensures state { self.new ≡ having_sent (record { to = from; bytes = ack_bytes (number_of phase) }) (in_phase phase self.old) }
+        ensures state { self.new
+            ≡ having_sent (record { to = from; bytes = ack_bytes (number_of phase) })
+            (in_phase phase self.old) }
         ensures sent { result ≡ Outgoing.LastSent }
     {
         self.last_sent.clear();
@@ -141,11 +143,14 @@ impl End {
         requires action { ActionFits self.old action }
         requires files { AreFilesOf self.old.side files.old }
         ensures acts { IfOk result (λ answer. (turn : Turn)
-            × Acts S.left S.may_fail K.held K.may_refuse_append K.may_refuse_commit action from bytes.now self.old files.old turn files.new
+            × Acts S.left S.may_fail K.held K.may_refuse_append K.may_refuse_commit
+            action from bytes.now self.old files.old turn files.new
             × Lends turn self.new answer.0 answer.1) }
-        ensures room { IfOk result (λ answer. length (lent answer.1 self.new) ≤ room_of self.old action) }
+        ensures room { IfOk result (λ answer.
+            length (lent answer.1 self.new) ≤ room_of self.old action) }
         ensures uses { OnErr result (UsesFile action) }
-        ensures err { OnErr result ((self.new ≡ self.old) × KeepsFiles S.left K.held files.old files.new) }
+        ensures err { OnErr result ((self.new ≡ self.old)
+            × KeepsFiles S.left K.held files.old files.new) }
         ensures same { AreSame S.is_same K.is_same files.old files.new }
         ensures files { AreFilesOf self.new.side files.new }
     {

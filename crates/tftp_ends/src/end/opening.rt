@@ -54,7 +54,8 @@ fn can_ask(name: &[u8], mode: Mode, asked: &Asked) -> bool
 
 /// The request to read a file in octet, without options.
 fn read_request(alloc: Global, name: &[u8]) -> Result<Vec<u8>, AllocError>
-    ensures ok { IfOk result (λ v. v.items ≡ canonical (Read (request_of name.now Octet nothing_asked))) }
+    ensures ok { IfOk result (λ v. v.items ≡
+        canonical (Read (request_of name.now Octet nothing_asked))) }
     ensures room { IfOk result (λ v. 4 ≤ vec_capacity v) }
 {
     let mut bytes = Vec::new(alloc);
@@ -65,7 +66,8 @@ fn read_request(alloc: Global, name: &[u8]) -> Result<Vec<u8>, AllocError>
 
 /// The request to write a file in octet, without options.
 fn write_request(alloc: Global, name: &[u8]) -> Result<Vec<u8>, AllocError>
-    ensures ok { IfOk result (λ v. v.items ≡ canonical (Write (request_of name.now Octet nothing_asked))) }
+    ensures ok { IfOk result (λ v. v.items ≡
+        canonical (Write (request_of name.now Octet nothing_asked))) }
     ensures room { IfOk result (λ v. 4 ≤ vec_capacity v) }
 {
     let mut bytes = Vec::new(alloc);
@@ -90,13 +92,18 @@ impl End {
         config: &EndConfig,
         out: &mut Vec<u8>,
     ) -> Result<(End, Step), OpenFault>
-        ensures end { IfOk result (λ opened. opened.0 ≡ getting to name.now mode asked.now config.now.limits.max_file config.now.retries) }
+        ensures end { IfOk result (λ opened. opened.0 ≡ getting to name.now mode asked.now
+            config.now.limits.max_file config.now.retries) }
         ensures step { IfOk result (λ opened. opened.1 ≡ opening_step to) }
-        ensures sent { OnOk result (out.new.items ≡ out.old.items ++ canonical (Read (request_of name.now mode asked.now))) }
+        ensures sent { OnOk result (out.new.items ≡ out.old.items
+            ++ canonical (Read (request_of name.now mode asked.now))) }
         ensures ok { OnOk result (CanGet name.now mode asked.now) }
-        ensures bad_request { IsErrOf result OpenFault.BadRequest → CanGet name.now mode asked.now → ⊥ }
+        ensures bad_request { IsErrOf result OpenFault.BadRequest
+            → CanGet name.now mode asked.now → ⊥ }
         ensures memory { IsErrOf result OpenFault.Memory → CanGet name.now mode asked.now }
-        ensures err { IfErr result (λ fault. ((fault ≡ OpenFault.BadRequest) ⊎ (fault ≡ OpenFault.Memory)) × (out.new.items ≡ out.old.items)) }
+        ensures err { IfErr result (λ fault.
+            ((fault ≡ OpenFault.BadRequest) ⊎ (fault ≡ OpenFault.Memory))
+            × (out.new.items ≡ out.old.items)) }
     {
         if !can_ask(name, mode, asked) {
             return Err(OpenFault::BadRequest);
@@ -142,7 +149,8 @@ impl End {
         ensures sent { OnOk result (out.new.items
             ≡ out.old.items ++ canonical (Write (request_of name.now mode asked.now))) }
         ensures ok { OnOk result (CanPut name.now mode asked.now length) }
-        ensures bad_request { IsErrOf result OpenFault.BadRequest → CanAskPut name.now mode asked.now length → ⊥ }
+        ensures bad_request { IsErrOf result OpenFault.BadRequest
+            → CanAskPut name.now mode asked.now length → ⊥ }
         ensures too_large { IsErrOf result OpenFault.TooLarge →
             CanAskPut name.now mode asked.now length × (65535 * asked_size asked.now.blksize ≤ length) }
         ensures memory { IsErrOf result OpenFault.Memory → CanPut name.now mode asked.now length }

@@ -79,8 +79,10 @@ impl End {
         ensures sends { IfOk result (λ outgoing. (turn : Turn)
             × Sends S.left S.may_fail terms number from self.old source.old turn source.new
             × Lends turn self.new (Some from) outgoing) }
-        ensures room { IfOk result (λ outgoing. length (lent outgoing self.new) ≤ room_of self.old (Action.Send terms number)) }
-        ensures err { OnErr result ((self.new ≡ self.old) × (S.left source.new ≡ S.left source.old)) }
+        ensures room { IfOk result (λ outgoing.
+            length (lent outgoing self.new) ≤ room_of self.old (Action.Send terms number)) }
+        ensures err { OnErr result ((self.new ≡ self.old)
+            × (S.left source.new ≡ S.left source.old)) }
         ensures same { S.is_same source.old source.new }
         ensures side { self.new.side ≡ self.old.side }
     {

@@ -42,10 +42,14 @@ impl End {
             × (out.new.items ≡ out.old.items ++ opened.0.last_sent)) }
         ensures step { IfOk result (λ opened. opened.1 ≡ opening_step peer) }
         ensures ok { OnOk result (CanServe mode agreed.now length) }
-        ensures bad_request { IsErrOf result OpenFault.BadRequest → IsSupported mode agreed.now → ⊥ }
-        ensures too_large { IsErrOf result OpenFault.TooLarge → IsSupported mode agreed.now × (65535 * size agreed.now ≤ length) }
-        ensures source { IsErrOf result OpenFault.SourceFault → CanServe mode agreed.now length × FilesCannotStart S.left S.may_fail length files.old }
-        ensures memory { IsErrOf result OpenFault.Memory → CanServe mode agreed.now length × KeepsFiles S.left K.held files.old files.new }
+        ensures bad_request { IsErrOf result OpenFault.BadRequest
+            → IsSupported mode agreed.now → ⊥ }
+        ensures too_large { IsErrOf result OpenFault.TooLarge → IsSupported mode agreed.now
+            × (65535 * size agreed.now ≤ length) }
+        ensures source { IsErrOf result OpenFault.SourceFault → CanServe mode agreed.now length
+            × FilesCannotStart S.left S.may_fail length files.old }
+        ensures memory { IsErrOf result OpenFault.Memory → CanServe mode agreed.now length
+            × KeepsFiles S.left K.held files.old files.new }
         ensures err { OnErr result (out.new.items ≡ out.old.items) }
         ensures same { AreSame S.is_same K.is_same files.old files.new }
         ensures files { IfOk result (λ opened. AreFilesOf opened.0.side files.new) }
@@ -103,9 +107,12 @@ impl End {
             × (out.new.items ≡ out.old.items ++ opened.0.last_sent)) }
         ensures step { IfOk result (λ opened. opened.1 ≡ opening_step peer) }
         ensures ok { OnOk result (IsSupported mode agreed.now) }
-        ensures bad_request { IsErrOf result OpenFault.BadRequest → IsSupported mode agreed.now → ⊥ }
+        ensures bad_request { IsErrOf result OpenFault.BadRequest
+            → IsSupported mode agreed.now → ⊥ }
         ensures memory { IsErrOf result OpenFault.Memory → IsSupported mode agreed.now }
-        ensures err { IfErr result (λ fault. ((fault ≡ OpenFault.BadRequest) ⊎ (fault ≡ OpenFault.Memory)) × (out.new.items ≡ out.old.items)) }
+        ensures err { IfErr result (λ fault.
+            ((fault ≡ OpenFault.BadRequest) ⊎ (fault ≡ OpenFault.Memory))
+            × (out.new.items ≡ out.old.items)) }
     {
         if mode != Mode::Octet || !agreed.is_empty() {
             return Err(OpenFault::BadRequest);

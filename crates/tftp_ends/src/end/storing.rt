@@ -28,7 +28,8 @@ enum BlockStored {
 
 /// Hands a block's bytes to the sink, if there are any.
 fn append_block<K: Sink>(sink: &mut K, piece: &[u8]) -> Result<(), StoreFault>
-    ensures appended { Appended K.held K.may_refuse_append K.may_refuse_commit piece.now sink.old sink.new result }
+    ensures appended { Appended K.held K.may_refuse_append K.may_refuse_commit
+        piece.now sink.old sink.new result }
     ensures same { K.is_same sink.old sink.new }
 {
     match piece {
@@ -51,7 +52,8 @@ fn commit_reply(fault: StoreFault) -> ErrorReply
 
 /// Has the whole committed.
 fn commit<K: Sink>(sink: &mut K) -> BlockStored
-    ensures takes { StoresLast K.held K.may_refuse_append K.may_refuse_commit sink.old sink.new result }
+    ensures takes { StoresLast K.held K.may_refuse_append K.may_refuse_commit
+        sink.old sink.new result }
     ensures same { K.is_same sink.old sink.new }
 {
     match sink.commit() {
@@ -66,7 +68,9 @@ fn store_block<K: Sink>(
     piece: &[u8],
     is_last: bool,
 ) -> Result<BlockStored, AllocError>
-    ensures takes { IfOk result (λ block_stored. StoresBlock K.held K.may_refuse_append K.may_refuse_commit piece.now is_last sink.old sink.new block_stored) }
+    ensures takes { IfOk result (λ block_stored.
+        StoresBlock K.held K.may_refuse_append K.may_refuse_commit
+        piece.now is_last sink.old sink.new block_stored) }
     ensures err { OnErr result (KeepsHolding (K.held sink.old) (K.held sink.new)) }
     ensures same { K.is_same sink.old sink.new }
 {
@@ -99,10 +103,12 @@ impl End {
         requires receiver { is_sender self.old.side ≡ false }
         requires octet { self.old.mode ≡ Mode.Octet }
         ensures stores { IfOk result (λ outgoing. (turn : Turn)
-            × Stores K.held K.may_refuse_append K.may_refuse_commit terms number from piece.now self.old sink.old turn sink.new
+            × Stores K.held K.may_refuse_append K.may_refuse_commit
+            terms number from piece.now self.old sink.old turn sink.new
             × Lends turn self.new (Some from) outgoing) }
         ensures room { IfOk result (λ outgoing. length (lent outgoing self.new) ≤ 24) }
-        ensures err { OnErr result ((self.new ≡ self.old) × KeepsHolding (K.held sink.old) (K.held sink.new)) }
+        ensures err { OnErr result ((self.new ≡ self.old)
+            × KeepsHolding (K.held sink.old) (K.held sink.new)) }
         ensures same { K.is_same sink.old sink.new }
         ensures side { self.new.side ≡ self.old.side }
     {
