@@ -1,0 +1,19 @@
+//! The tests of packets, options and the file layer, over their public calls.
+#![tactic(auto)]
+
+#[cfg(test)]
+mod append_rows;
+#[cfg(test)]
+mod fault_rows;
+#[cfg(test)]
+mod memory_rows;
+#[cfg(test)]
+mod netascii_rows;
+#[cfg(test)]
+mod option_rows;
+#[cfg(test)]
+mod packet_rows;
+#[cfg(test)]
+mod path_rows;
+#[cfg(test)]
+mod stream_rows;
