@@ -1,4 +1,5 @@
 pub mod OptionsLemmas
 pub mod NegotiationLemmas
+pub mod SpellingLemmas
 pub mod PolicyLemmas
 pub mod LawsLemmas

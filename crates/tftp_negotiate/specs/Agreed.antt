@@ -17,6 +17,12 @@ name_of_known (Blksize n) = name.Blksize
 name_of_known (Timeout n) = name.Timeout
 name_of_known (Tsize n) = name.Tsize
 
+-- its value
+abbrev pub value_of_known : Known → ℕ
+value_of_known (Blksize n) = n
+value_of_known (Timeout n) = n
+value_of_known (Tsize n) = n
+
 -- the value may be agreed
 abbrev pub IsAgreeable : Known → Type 0
 IsAgreeable (Blksize n) = IsBlockSize n

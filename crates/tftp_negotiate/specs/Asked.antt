@@ -5,6 +5,7 @@ use Rattle.tftp_wire.specs.declared.mode.Mode.{Mode}
 use Rattle.tftp_wire.specs.declared.mode.Mode.TheVariants.{Octet, Netascii}
 use Rattle.tftp_negotiate.specs.declared.known.Kind.{Kind}
 use Rattle.tftp_negotiate.specs.declared.known.Kind.TheVariants.{Read, Write}
+use Rattle.tftp_negotiate.specs.declared.known.Known.{Known}
 use Rattle.tftp_negotiate.specs.declared.asked.Asked.{Asked}
 use Rattle.tftp_negotiate.specs.declared.name.Name.{Name}
 use Rattle.tftp_negotiate.specs.declared.name.Name.TheVariants.{Blksize, Timeout, Tsize}
@@ -46,6 +47,11 @@ option_of name n = record { name = name_text name; value = decimal n }
 abbrev pub option_if : Name → Option ℕ → List RawOption
 option_if name None = []
 option_if name (Some n) = option_of name n ∷ []
+
+-- an option as a list of one, or of none
+abbrev pub known_if : Option Known → List Known
+known_if None = []
+known_if (Some known) = known ∷ []
 
 -- the options of a client's request, in the order in which this project sends them
 abbrev pub asked_options : Asked → Mode → List RawOption

@@ -1,8 +1,9 @@
 -- What holds of every negotiation, whatever the program does.
-use Rattle.std.specs.Prelude.{ℕ, ◌≡◌, ◌↔◌, ◌^◌, ◌<◌, ◌≤◌, List, Some, Option, Ok, Contains, IsSome, decimal, length}
+use Rattle.std.specs.Prelude.{ℕ, ◌≡◌, ◌↔◌, ◌*◌, ◌^◌, ◌<◌, ◌≤◌, List, Some, Option, Ok, Contains, IsSome, decimal, length}
 use Rattle.std.specs.List.{AllByRecursion}
 use Rattle.tftp_wire.specs.declared.options.RawOption.{RawOption}
 use Rattle.tftp_wire.specs.declared.mode.Mode.{Mode}
+use Rattle.tftp_wire.specs.Options.{IsOption, options_bytes}
 use Rattle.tftp_negotiate.specs.declared.asked.Asked.{Asked}
 use Rattle.tftp_negotiate.specs.declared.known.Kind.{Kind}
 use Rattle.tftp_negotiate.specs.declared.known.Kind.TheVariants.{Read, Write}
@@ -15,7 +16,7 @@ use Rattle.tftp_negotiate.specs.declared.name.Name.TheVariants as name
 use Rattle.tftp_negotiate.specs.Options.{name_of, number_of}
 use Rattle.tftp_negotiate.specs.Ranges.{IsBlockSize}
 use Rattle.tftp_negotiate.specs.Asked.{IsAskable, IsFor, asked_value, asked_options}
-use Rattle.tftp_negotiate.specs.Agreed.{IsAgreement, size, agreed_options}
+use Rattle.tftp_negotiate.specs.Agreed.{IsAgreement, size, value_of_known, agreed_options}
 use Rattle.tftp_negotiate.specs.Answer.{answer}
 use Rattle.tftp_negotiate.specs.Agreement.{agreement}
 
@@ -104,3 +105,18 @@ AgreementsAreShort = (known : List Known) → IsAgreement known → length known
 -- the block size of an agreement is in its range, also where it is the default
 abbrev pub AgreementsHaveBlockSizes : Type 0
 AgreementsHaveBlockSizes = (known : List Known) → IsAgreement known → IsBlockSize (size known)
+
+-- the value of a known option fits 64 bits
+abbrev pub HasWord : Known → Type 0
+HasWord known = value_of_known known < 2 ^ 64
+
+-- known options whose values fit 64 bits are options of a packet, each of 29 bytes at most: a name of seven
+-- letters, twenty digits and two zero bytes
+abbrev pub KnownAreOptions : Type 0
+KnownAreOptions = (known : List Known) → AllByRecursion HasWord known
+    → AllByRecursion IsOption (agreed_options known) × (length (options_bytes (agreed_options known)) ≤ 29 * length known)
+
+-- what may be asked for is spelled by options of a packet
+abbrev pub AskedAreOptions : Type 0
+AskedAreOptions = (asked : Asked) (kind : Kind) (mode : Mode) (length : ℕ) → length < 2 ^ 64
+    → IsFor asked kind mode length → AllByRecursion IsOption (asked_options asked mode)

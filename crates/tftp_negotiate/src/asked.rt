@@ -1,10 +1,13 @@
 //! What a client asks of a server.
 
-ghost use Rattle.std.specs.Prelude.{◌≡◌, ◌↔◌, IsTrue};
-ghost use Rattle.tftp_negotiate.specs.Asked.{IsAskable, IsFor, asked_tsize};
+ghost use Rattle.std.specs.Prelude.{◌≡◌, ◌↔◌, ◌++◌, ◌<◌, ◌+◌, IsTrue};
+ghost use Rattle.arrayvec.specs.ArrayVec.{array_vec_len};
+ghost use Rattle.tftp_negotiate.specs.Agreed.{agreed_options};
+ghost use Rattle.tftp_negotiate.specs.Asked.{IsAskable, IsFor, asked_tsize, asked_options, known_if};
 
-use crate::known::Kind;
+use crate::known::{Kind, Known};
 use crate::limits::{is_block_size, is_timeout};
+use arrayvec::ArrayVec;
 use tftp_wire::Mode;
 
 /// The options that a client asks, each with its value. Without any, no option is sent.
@@ -46,6 +49,16 @@ impl Asked {
                 .is_none_or(|seconds| is_timeout(u64::from(seconds)))
     }
 
+    /// The options that are asked in this mode, in the order in which a request spells them.
+    pub fn options(&self, mode: Mode) -> ArrayVec<Known, 3>
+        ensures { agreed_options result.items ≡ asked_options self.now mode }
+    {
+        let none = ArrayVec::new();
+        let sized = with_option(none, self.blksize.map(Known::Blksize));
+        let timed = with_option(sized, self.timeout.map(Known::Timeout));
+        with_option(timed, self.tsize_in(mode).map(Known::Tsize))
+    }
+
     /// The `tsize` that is asked in this mode: in netascii there is none.
     pub fn tsize_in(&self, mode: Mode) -> Option<u64>
         ensures { result ≡ asked_tsize mode self.now }
@@ -54,5 +67,20 @@ impl Asked {
             Mode::Octet => self.tsize,
             Mode::Netascii => None,
         }
+    }
+}
+
+/// The options and one more, if there is one, at their end.
+fn with_option(mut options: ArrayVec<Known, 3>, option: Option<Known>) -> ArrayVec<Known, 3>
+    requires { array_vec_len options < 3 }
+    ensures items { result.items ≡ options.items ++ known_if option }
+    ensures len { array_vec_len result < array_vec_len options + 2 }
+{
+    match option {
+        Some(known) => {
+            options.push(known);
+            options
+        }
+        None => options,
     }
 }

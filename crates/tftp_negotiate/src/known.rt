@@ -1,5 +1,10 @@
 //! The options that are known, each with its value, and the two kinds of transfer.
 
+ghost use Rattle.std.specs.Prelude.{◌≡◌};
+ghost use Rattle.tftp_negotiate.specs.Agreed.{name_of_known, value_of_known};
+
+use crate::name::Name;
+
 /// Which way the file goes.
 #[derive(Clone, Copy, Debug, PartialEq, Eq)]
 pub enum Kind {
@@ -20,6 +25,30 @@ pub enum Known {
     /// The length of the file in bytes of wire text; 0 in the request of a read
     /// (RFC 2349, "Transfer Size Option Specification").
     Tsize(u64),
+}
+
+impl Known {
+    /// Which option it is.
+    pub fn name(self) -> Name
+        ensures { result ≡ name_of_known self }
+    {
+        match self {
+            Known::Blksize(_) => Name::Blksize,
+            Known::Timeout(_) => Name::Timeout,
+            Known::Tsize(_) => Name::Tsize,
+        }
+    }
+
+    /// Its value, which a packet spells in decimal digits.
+    pub fn value(self) -> u64
+        ensures { result ≡ value_of_known self }
+    {
+        match self {
+            Known::Blksize(size) => u64::from(size),
+            Known::Timeout(seconds) => u64::from(seconds),
+            Known::Tsize(length) => length,
+        }
+    }
 }
 
 impl Default for Known {

@@ -1,6 +1,6 @@
 //! Laws of negotiation: their contracts speak of the definitions alone, and their bodies are empty.
 
-ghost use Rattle.tftp_negotiate.specs.Laws.{NumbersArePrinted, EndsAgree, AnswersWithinRequest, TakesNothingUnasked, AnswersMayBeAgreed, TakenMayBeAgreed, AgreementsAreShort, AgreementsHaveBlockSizes};
+ghost use Rattle.tftp_negotiate.specs.Laws.{NumbersArePrinted, EndsAgree, AnswersWithinRequest, TakesNothingUnasked, AnswersMayBeAgreed, TakenMayBeAgreed, AgreementsAreShort, AgreementsHaveBlockSizes, KnownAreOptions, AskedAreOptions};
 
 /// A value is a number exactly if it is the number's decimal digits, without a leading zero.
 pub fn numbers_are_printed()
@@ -31,4 +31,11 @@ pub fn agreements()
     ensures taken { TakenMayBeAgreed }
     ensures short { AgreementsAreShort }
     ensures sized { AgreementsHaveBlockSizes }
+{}
+
+/// Known options are options of a packet, three of which take 87 bytes at most; and so are those that
+/// a client may ask (RFC 2347, "Packet Formats").
+pub fn options_are_spelled()
+    ensures known { KnownAreOptions }
+    ensures asked { AskedAreOptions }
 {}

@@ -1,7 +1,7 @@
 //! Which known option a name means.
 
 ghost use Rattle.std.specs.Prelude.{◌≡◌, not, false};
-ghost use Rattle.tftp_negotiate.specs.Options.{name_of};
+ghost use Rattle.tftp_negotiate.specs.Options.{name_of, name_text};
 ghost use Rattle.tftp_negotiate.specs.Names.{has, has_name, with_name};
 
 use std::mem;
@@ -18,6 +18,17 @@ pub enum Name {
 }
 
 impl Name {
+    /// The name as this project spells it, in lower case.
+    pub fn text(self) -> &'static str
+        ensures { result.now ≡ name_text self }
+    {
+        match self {
+            Name::Blksize => "blksize",
+            Name::Timeout => "timeout",
+            Name::Tsize => "tsize",
+        }
+    }
+
     /// The known option that a name means, whatever the case of its letters
     /// (RFC 2347, "Packet Formats").
     pub fn of(text: &[u8]) -> Option<Name>
