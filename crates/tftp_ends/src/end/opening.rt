@@ -4,7 +4,8 @@ ghost use Rattle.std.specs.Prelude.{ℕ, ◌≡◌, ◌↔◌, ◌++◌, ◌*◌
 ghost use Rattle.tftp_wire.specs.Spelling.{canonical};
 ghost use Rattle.tftp_wire.specs.declared.mode.Mode.TheVariants.{Octet};
 ghost use Rattle.tftp_wire.specs.declared.packet.Packet.TheVariants.{Read, Write};
-ghost use Rattle.tftp_ends.specs.Opening.{CanGet, CanPut, CanAskPut, getting, putting, opening_step, request_of, nothing_asked, asked_size};
+ghost use Rattle.tftp_ends.specs.Opening.{CanGet, CanPut, CanAskPut, getting, putting, opened, opening_step, request_of, nothing_asked, asked_size};
+ghost use Rattle.tftp_ends.specs.Sound.{IsSound};
 
 use crate::config::EndConfig;
 use crate::end::End;
@@ -77,6 +78,34 @@ fn write_request(alloc: Global, name: &[u8]) -> Result<Vec<u8>, AllocError>
 }
 
 impl End {
+    /// An end as it opens: with all its retries, after this was sent.
+    pub(crate) fn opened(
+        alloc: Global,
+        side: Side,
+        mode: Mode,
+        length: u64,
+        retries: u8,
+        phase: Phase,
+        to: Endpoint,
+        last_sent: Vec<u8>,
+    ) -> End
+        requires sound { IsSound (opened side mode length retries phase to last_sent.items) }
+        requires room { HEADER ≤ vec_capacity last_sent }
+        ensures { result ≡ opened side mode length retries phase to last_sent.items }
+    {
+        End {
+            side,
+            mode,
+            length,
+            retries,
+            retries_left: retries,
+            last_sent,
+            spare: Vec::new(alloc),
+            last_sent_to: to,
+            phase,
+        }
+    }
+
     /// Opens a client that reads: its request is appended to `out`, for `to`.
     ///
     /// It retries `config.retries` times, and takes a file of at most `config.limits.max_file` bytes
@@ -110,20 +139,21 @@ impl End {
         }
         let last_sent = read_request(alloc, name)?;
         out.extend_from_slice(&last_sent)?;
-        let end = End {
-            side: Side::ClientRead,
-            mode,
-            length: 0,
-            retries: config.retries,
-            retries_left: config.retries,
-            last_sent,
-            spare: Vec::new(alloc),
-            last_sent_to: to,
-            phase: Phase::Waiting {
-                asked: *asked,
-                limit: config.limits.max_file,
-            },
+        let phase = Phase::Waiting {
+            asked: *asked,
+            limit: config.limits.max_file,
         };
+        let retries = config.retries;
+        let end = End::opened(
+            alloc,
+            Side::ClientRead,
+            mode,
+            0,
+            retries,
+            phase,
+            to,
+            last_sent,
+        );
         Ok((end, opening_step(to)))
     }
 
@@ -165,20 +195,21 @@ impl End {
         }
         let last_sent = write_request(alloc, name)?;
         out.extend_from_slice(&last_sent)?;
-        let end = End {
-            side: Side::ClientWrite,
+        let phase = Phase::Waiting {
+            asked: *asked,
+            limit: config.limits.max_file,
+        };
+        let retries = config.retries;
+        let end = End::opened(
+            alloc,
+            Side::ClientWrite,
             mode,
             length,
-            retries: config.retries,
-            retries_left: config.retries,
+            retries,
+            phase,
+            to,
             last_sent,
-            spare: Vec::new(alloc),
-            last_sent_to: to,
-            phase: Phase::Waiting {
-                asked: *asked,
-                limit: config.limits.max_file,
-            },
-        };
+        );
         Ok((end, opening_step(to)))
     }
 }

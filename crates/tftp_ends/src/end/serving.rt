@@ -72,20 +72,20 @@ impl End {
                 let Ok(()) = out.extend_from_slice(&last_sent) else {
                     unreachable!()
                 };
-                let end = End {
-                    side: Side::ServerRead,
+                let phase = Phase::Sending {
+                    terms: default_terms(peer),
+                    number: 1,
+                };
+                let end = End::opened(
+                    alloc,
+                    Side::ServerRead,
                     mode,
                     length,
                     retries,
-                    retries_left: retries,
+                    phase,
+                    peer,
                     last_sent,
-                    spare: Vec::new(alloc),
-                    last_sent_to: peer,
-                    phase: Phase::Sending {
-                        terms: default_terms(peer),
-                        number: 1,
-                    },
-                };
+                );
                 Ok((end, opening_step(peer)))
             }
         }
@@ -121,20 +121,20 @@ impl End {
         last_sent.reserve(HEADER)?;
         append_ack(&mut last_sent, 0)?;
         out.extend_from_slice(&last_sent)?;
-        let end = End {
-            side: Side::ServerWrite,
-            mode,
-            length: 0,
-            retries,
-            retries_left: retries,
-            last_sent,
-            spare: Vec::new(alloc),
-            last_sent_to: peer,
-            phase: Phase::Receiving {
-                terms: default_terms(peer),
-                number: 0,
-            },
+        let phase = Phase::Receiving {
+            terms: default_terms(peer),
+            number: 0,
         };
+        let end = End::opened(
+            alloc,
+            Side::ServerWrite,
+            mode,
+            0,
+            retries,
+            phase,
+            peer,
+            last_sent,
+        );
         Ok((end, opening_step(peer)))
     }
 }
