@@ -65,17 +65,24 @@ fn transfer_words<'a, R: Runtime + AllocGlobal + Net, S: AsStr>(
         let error = command.error(ErrorKind::InvalidValue, message)?;
         return Ok(print_usage(rt, &error));
     };
-    match fetch(rt, &job) {
+    Ok(report(rt, fetch(rt, &job))?)
+}
+
+/// Prints how a transfer ended, and returns the status.
+fn report<R: Print + Eprint>(rt: &R, fetched: Result<u64, FetchFault>) -> io::Result<u8>
+    ensures { IfOk result (λ status. status ≤ 2) }
+{
+    match fetched {
         Ok(count) => {
             rt.println(Printed::Complete(count))?;
             Ok(0)
         }
-        Err(fault) => Ok(report(rt, fault)?),
+        Err(fault) => report_fault(rt, fault),
     }
 }
 
 /// Prints why a transfer failed, and returns the status.
-fn report<R: Eprint>(rt: &R, fault: FetchFault) -> io::Result<u8>
+fn report_fault<R: Eprint>(rt: &R, fault: FetchFault) -> io::Result<u8>
     ensures { IfOk result (λ status. status ≤ 2) }
 {
     match fault {
@@ -157,39 +164,43 @@ fn command<'a>(alloc: Global) -> anyhow::Result<Command<'a>> {
 
 /// The options of a transfer.
 fn with_options<'a>(alloc: Global, command: Command<'a>) -> anyhow::Result<Command<'a>> {
-    let blksize = number(
+    let netascii = flag(
         alloc,
-        "blksize",
-        value_parser!(u16).range(8..=65_464),
-        "Block size that is asked, in bytes, 8 to 65464; without it blocks have 512",
+        "netascii",
+        "Sends the file as text with CR LF at its line ends",
     );
-    let timeout = number(
-        alloc,
-        "timeout",
-        value_parser!(u8).range(1..=255),
-        "Timeout that is asked, in seconds, 1 to 255; without it a datagram is sent again after 1",
-    );
+    let command = command.arg(netascii)?;
+    let command = with_asked(alloc, command)?;
     let retries = number(
         alloc,
         "retries",
         value_parser!(u8).range(0..=10),
         "How often a datagram is sent again without progress, 0 to 10",
     );
-    Ok(
-        command
-            .arg(flag(
-                alloc,
-                "netascii",
-                "Sends the file as text with CR LF at its line ends",
-            ))?
-            .arg(blksize)?
-            .arg(timeout)?
-            .arg(flag(alloc, "tsize", "Asks for the length of the file"))?
-            .arg(retries.default_value("5"))?
-            .arg(flag(
-                alloc,
-                "fallback",
-                "Tries again without options where the server refuses them",
-            ))?,
-    )
+    let command = command.arg(retries.default_value("5"))?;
+    let fallback = flag(
+        alloc,
+        "fallback",
+        "Tries again without options where the server refuses them",
+    );
+    Ok(command.arg(fallback)?)
+}
+
+/// The options that are asked of the server.
+fn with_asked<'a>(alloc: Global, command: Command<'a>) -> anyhow::Result<Command<'a>> {
+    let blksize = number(
+        alloc,
+        "blksize",
+        value_parser!(u16).range(8..=65_464),
+        "Block size that is asked, in bytes, 8 to 65464; without it blocks have 512",
+    );
+    let command = command.arg(blksize)?;
+    let timeout = number(
+        alloc,
+        "timeout",
+        value_parser!(u8).range(1..=255),
+        "Timeout that is asked, in seconds, 1 to 255; without it a datagram is sent again after 1",
+    );
+    let command = command.arg(timeout)?;
+    Ok(command.arg(flag(alloc, "tsize", "Asks for the length of the file"))?)
 }

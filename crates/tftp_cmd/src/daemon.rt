@@ -113,7 +113,7 @@ pub(crate) fn serve<R: Runtime + AllocGlobal + Net>(
     let Ok(server) = Server::new(alloc, service.config, store) else {
         return Err(ServiceFault::Memory);
     };
-    let Ok((daemon, listening)) = Daemon::bind(rt, alloc, server, service.listen) else {
+    let Ok((mut daemon, listening)) = Daemon::bind(rt, alloc, server, service.listen) else {
         return Err(ServiceFault::Socket);
     };
     let line = Printed::Listening(listening);
@@ -226,7 +226,7 @@ impl<R: Files + Drop> Daemon<R> {
 
     /// Takes what comes, wait by wait.
     fn run<N: Runtime + AllocGlobal + Net>(
-        mut self,
+        &mut self,
         rt: &N,
         alloc: Global,
         service: &Service<'_>,

@@ -11,6 +11,7 @@ use clap::error::ErrorKind;
 use clap::{Arg, ArgMatches, Command, value_parser};
 use std::alloc::Global;
 use std::convert::AsStr;
+use std::io;
 use std::net::Net;
 use std::rt::Runtime;
 use tftp_negotiate::Limits;
@@ -58,7 +59,14 @@ fn serve_words<'a, R: Runtime + AllocGlobal + Net, S: AsStr>(rt: &R, words: &'a 
         let error = command.error(ErrorKind::InvalidValue, message)?;
         return Ok(print_usage(rt, &error));
     };
-    let message = match serve(rt, &service) {
+    Ok(report(rt, serve(rt, &service))?)
+}
+
+/// Prints why the server ended, unless it was done, and returns the status.
+fn report<R: Eprint>(rt: &R, served: std::result::Result<(), ServiceFault>) -> io::Result<u8>
+    ensures { IfOk result (λ status. status ≤ 2) }
+{
+    let message = match served {
         Ok(()) => return Ok(0),
         Err(ServiceFault::File) => "tftpd: file fault",
         Err(ServiceFault::Socket) => "tftpd: socket fault",
@@ -109,61 +117,74 @@ fn config(matches: &ArgMatches<'_>) -> Option<Config>
 
 /// What `tftpd` understands.
 fn command<'a>(alloc: Global) -> Result<Command<'a>> {
+    let command = Command::new(alloc, "tftpd")
+        .bin_name("tftpd")?
+        .about("Serves the files of a folder by TFTP (RFC 1350, RFC 2347 to 2349)")
+        .version("0.1.0")
+        .after_help(EXAMPLES);
+    let command = with_places(alloc, command)?;
+    let command = with_limits(alloc, command)?;
+    with_ending(alloc, command)
+}
+
+/// The folder, and where requests come to.
+fn with_places<'a>(alloc: Global, command: Command<'a>) -> Result<Command<'a>> {
     let listen = Arg::new(alloc, "listen")
         .long("listen")
         .value_name("ADDR:PORT")
         .default_value("127.0.0.1:6969")
         .help("IPv4 address and UDP port of the requests; port 0 lets the system choose");
+    let root = word(alloc, "ROOT", "The folder whose files are served");
+    Ok(command.arg(root)?.arg(listen)?)
+}
+
+/// What transfers are allowed.
+fn with_limits<'a>(alloc: Global, command: Command<'a>) -> Result<Command<'a>> {
     let block = number(
         alloc,
         "max-block",
         value_parser!(u16).range(8..=65_464),
         "Largest block size that is agreed, in bytes, 8 to 65464",
     );
+    let command = command.arg(block.default_value("1428"))?;
     let file = number(
         alloc,
         "max-file",
         value_parser!(u64),
         "Longest file that is taken, in bytes, any number below 2^64",
     );
+    let command = command.arg(file.default_value("4290183239"))?;
     let retries = number(
         alloc,
         "retries",
         value_parser!(u8).range(0..=10),
         "How often a datagram is sent again without progress, 0 to 10",
     );
+    let command = command.arg(retries.default_value("5"))?;
     let cap = number(
         alloc,
         "cap",
         value_parser!(u8).range(1..=64),
         "Transfers that are open at once, 1 to 64",
     );
+    let command = command.arg(cap.default_value("16"))?;
+    Ok(command.arg(flag(alloc, "overwrite", "A write replaces a file that is there"))?)
+}
+
+/// When the server ends.
+fn with_ending<'a>(alloc: Global, command: Command<'a>) -> Result<Command<'a>> {
     let transfers = number(
         alloc,
         "transfers",
         value_parser!(u32).range(1..=4_294_967_295),
         "Ends after so many closed transfers, 1 to 4294967295",
     );
+    let command = command.arg(transfers.default_value("1"))?;
     let rounds = number(
         alloc,
         "rounds",
         value_parser!(u32).range(1..=4_294_967_295),
         "Ends after so many waits, each of a second at most, 1 to 4294967295",
     );
-    Ok(
-        Command::new(alloc, "tftpd")
-            .bin_name("tftpd")?
-            .about("Serves the files of a folder by TFTP (RFC 1350, RFC 2347 to 2349)")
-            .version("0.1.0")
-            .after_help(EXAMPLES)
-            .arg(word(alloc, "ROOT", "The folder whose files are served"))?
-            .arg(listen)?
-            .arg(block.default_value("1428"))?
-            .arg(file.default_value("4290183239"))?
-            .arg(retries.default_value("5"))?
-            .arg(cap.default_value("16"))?
-            .arg(flag(alloc, "overwrite", "A write replaces a file that is there"))?
-            .arg(transfers.default_value("1"))?
-            .arg(rounds.default_value("1000000"))?,
-    )
+    Ok(command.arg(rounds.default_value("1000000"))?)
 }
