@@ -1,6 +1,7 @@
 -- The state of an end, and what it tells of itself.
 use Rattle.std.specs.Prelude.{ℕ, Bool, true, false, ◌&&◌, ◌||◌, not, nat_lt, List, Option, Some, None, is_some, option_map}
 use Rattle.tftp_wire.specs.declared.mode.Mode.{Mode}
+use Rattle.tftp_negotiate.specs.declared.limits.TheConstants.{DEFAULT_BLOCK}
 use Rattle.tftp_ends.specs.declared.endpoint.Endpoint.{Endpoint}
 use Rattle.tftp_ends.specs.declared.outcome.Outcome.{Outcome}
 use Rattle.tftp_ends.specs.declared.phase.Terms.{Terms}
@@ -72,9 +73,9 @@ outcome_of (Receiving terms number) = None
 outcome_of (Dallying terms number dally) = None
 outcome_of (Closed terms number complete outcome) = Some outcome
 
--- the block size, 512 while nothing is agreed
+-- the block size, the default one while nothing is agreed
 abbrev pub size_of : Option Terms → ℕ
-size_of None = 512
+size_of None = DEFAULT_BLOCK
 size_of (Some terms) = terms.size
 
 -- the agreed timeout

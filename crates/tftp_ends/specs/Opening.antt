@@ -11,6 +11,7 @@ use Rattle.tftp_negotiate.specs.Asked.{IsFor, asked_options}
 use Rattle.tftp_negotiate.specs.declared.asked.Asked.{Asked}
 use Rattle.tftp_negotiate.specs.declared.known.Kind.TheVariants as kinds
 use Rattle.tftp_negotiate.specs.declared.known.Known.{Known}
+use Rattle.tftp_negotiate.specs.declared.limits.TheConstants.{DEFAULT_BLOCK}
 use Rattle.tftp_file.specs.declared.fault.FileFault.{FileFault}
 use Rattle.tftp_file.specs.declared.files.Files.{Files}
 use Rattle.tftp_file.specs.declared.files.Files.TheVariants.{Source, Sink}
@@ -78,7 +79,7 @@ opening_step to = record { to = Some to; progress = false; closed = None }
 -- ---- when it can be
 -- the block size that is asked for, or else the plain one
 abbrev pub asked_size : Option ℕ → ℕ
-asked_size None = 512
+asked_size None = DEFAULT_BLOCK
 asked_size (Some size) = size
 
 -- a read may be asked for so: the request is a packet, and the options are for it
@@ -130,7 +131,7 @@ module _ {S : Type 0} (left : S → Option (List ℕ)) (may_fail : S → ℕ →
   abbrev pub ServesRead : List Known → Endpoint → Mode → ℕ → ℕ → S → S → EndState → Type 0
   ServesRead [] peer mode length retries source source' e =
       (piece : List ℕ)
-      × AsksFor left may_fail (block_length length 512 1) source (left source') piece (Ok (block_length length 512 1))
+      × AsksFor left may_fail (block_length length DEFAULT_BLOCK 1) source (left source') piece (Ok (block_length length DEFAULT_BLOCK 1))
       × (e ≡ serving_read [] peer mode length retries piece)
   ServesRead (known ∷ others) peer mode length retries source source' e =
       (source' ≡ source) × (e ≡ serving_read (known ∷ others) peer mode length retries [])
@@ -140,8 +141,8 @@ module _ {S : Type 0} (left : S → Option (List ℕ)) (may_fail : S → ℕ →
     pub after : Option (List ℕ)
     pub answer : Result ℕ FileFault
     pub piece : List ℕ
-    pub reads : AsksFor left may_fail (block_length length 512 1) source after piece answer
-    pub short : result_count_is (block_length length 512 1) answer ≡ false
+    pub reads : AsksFor left may_fail (block_length length DEFAULT_BLOCK 1) source after piece answer
+    pub short : result_count_is (block_length length DEFAULT_BLOCK 1) answer ≡ false
 
   -- the same, of an end's files
   abbrev pub ServesFiles : {K : Type 0} → List Known → Endpoint → Mode → ℕ → ℕ → Files S K → Files S K → EndState → Type 0

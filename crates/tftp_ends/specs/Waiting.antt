@@ -6,6 +6,7 @@ use Rattle.tftp_wire.specs.declared.packet.Packet.TheVariants.{Data, Ack, Error,
 use Rattle.tftp_negotiate.specs.declared.asked.Asked.{Asked}
 use Rattle.tftp_negotiate.specs.declared.known.Kind.TheVariants as kinds
 use Rattle.tftp_negotiate.specs.declared.known.Known.{Known}
+use Rattle.tftp_negotiate.specs.declared.limits.TheConstants.{DEFAULT_BLOCK}
 use Rattle.tftp_negotiate.specs.declared.refusal.Refusal.{Refusal}
 use Rattle.tftp_negotiate.specs.declared.refusal.Refusal.TheVariants as refusals
 use Rattle.tftp_negotiate.specs.Agreement.{agreement}
@@ -22,7 +23,7 @@ use Rattle.tftp_ends.specs.Receiver.{receiver_action}
 
 -- a first DATA or ACK agrees on nothing
 abbrev pub default_terms : Endpoint → Terms
-default_terms peer = record { peer = peer; size = 512; timeout = None; by_oack = false }
+default_terms peer = record { peer = peer; size = DEFAULT_BLOCK; timeout = None; by_oack = false }
 
 -- an OACK agrees on these options
 abbrev pub agreed_terms : Endpoint → List Known → Terms
@@ -58,7 +59,7 @@ begin_with_action from length (Err refusal) = refusal_action refusal
 abbrev pub reader_action : Mode → Asked → ℕ → Endpoint → Option Packet → Action
 reader_action mode asked limit from None = no_answer
 reader_action mode asked limit from (Some (Data number bytes)) =
-    if number == 1 && nat_le (length bytes) 512 then receiver_action true mode [] (default_terms from) 0 (Some (Data number bytes)) else no_answer
+    if number == 1 && nat_le (length bytes) DEFAULT_BLOCK then receiver_action true mode [] (default_terms from) 0 (Some (Data number bytes)) else no_answer
 reader_action mode asked limit from (Some (Oack options)) = accept_action from (agreement asked kinds.Read mode options limit)
 reader_action mode asked limit from (Some (Error code text)) = peer_error code
 reader_action mode asked limit from (Some _) = no_answer

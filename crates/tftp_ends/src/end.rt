@@ -25,6 +25,7 @@ use crate::side::Side;
 use crate::waiting::{reader_action, writer_action};
 use std::marker::Model;
 use tftp_file::{Files, Sink, Source};
+use tftp_negotiate::DEFAULT_BLOCK;
 use tftp_wire::{Mode, PacketRef, has_error_opcode};
 
 /// One end of a transfer.
@@ -76,7 +77,7 @@ impl End {
         Record {
             side: self.side,
             peer: terms.map(|terms| terms.peer),
-            size: terms.map_or(512, |terms| terms.size),
+            size: terms.map_or(DEFAULT_BLOCK, |terms| terms.size),
             timeout: terms.and_then(|terms| terms.timeout),
             number: self.phase.number(),
             complete: self.phase.is_complete(),

@@ -15,11 +15,8 @@ use crate::phase::Terms;
 use crate::receiver::receiver_action;
 use crate::sender::peer_error;
 use crate::side::Side;
-use tftp_negotiate::{Agreed, Asked, Kind, Refusal, check_oack_ref};
+use tftp_negotiate::{Agreed, Asked, DEFAULT_BLOCK, Kind, Refusal, check_oack_ref};
 use tftp_wire::{Mode, PacketRef};
-
-/// The block size where none was agreed (RFC 1350, section 2).
-pub(crate) const DEFAULT_BLOCK_SIZE: u16 = 512;
 
 /// A first DATA or ACK agrees on nothing.
 pub(crate) fn default_terms(peer: Endpoint) -> Terms
@@ -27,7 +24,7 @@ pub(crate) fn default_terms(peer: Endpoint) -> Terms
 {
     Terms {
         peer,
-        size: DEFAULT_BLOCK_SIZE,
+        size: DEFAULT_BLOCK,
         timeout: None,
         by_oack: false,
     }
@@ -124,8 +121,7 @@ pub(crate) fn reader_action(
     ensures fits { FitsReceiver result }
 {
     match decoded {
-        Some(PacketRef::Data { block: 1, bytes })
-            if bytes.len() <= usize::from(DEFAULT_BLOCK_SIZE) => {
+        Some(PacketRef::Data { block: 1, bytes }) if bytes.len() <= usize::from(DEFAULT_BLOCK) => {
             receiver_action(Side::ClientRead, default_terms(from), 0, decoded)
         }
         Some(PacketRef::Oack(options)) => accept_action(

@@ -1,5 +1,5 @@
 -- What a store and its drafts are, and what their calls leave.
-use Rattle.std.specs.Prelude.{ℕ, ◌≡◌, min, Bool, true, false, not, ◌&&◌, List, [], length, Option, Some, None, IsSome, is_some, option_map, Result, Ok, Err, ⊤}
+use Rattle.std.specs.Prelude.{ℕ, ◌≡◌, ◌+◌, min, Bool, true, false, not, ◌&&◌, List, [], length, Option, Some, None, IsSome, is_some, option_map, Result, Ok, Err, ⊤}
 use Rattle.std.specs.Cmp.Lexicographic.{slice_cmp}
 use Rattle.std.specs.Ordering.{nat_cmp}
 use Rattle.std.specs.declared.cmp.Ordering.{Ordering}
@@ -10,6 +10,7 @@ use Rattle.tftp_file.specs.Netascii.{wire_text}
 use Rattle.tftp_file.specs.Sink.{Holding}
 use Rattle.tftp_file.specs.declared.fault.StoreFault.{StoreFault}
 use Rattle.tftp_file.specs.declared.fault.StoreFault.TheVariants.{Missing, Exists, Memory}
+use Rattle.tftp_file.specs.declared.length.TheConstants.{MAX_WIRE}
 use Rattle.tftp_server.specs.declared.store.Opening.{Opening}
 
 -- files by path, in the paths' order
@@ -55,9 +56,9 @@ with_file files path bytes = insert_entry path_cmp files path bytes
 abbrev pub is_taken : Bool → List ℕ → FileList → Bool
 is_taken replace path files = not replace && is_some (file_at path files)
 
--- how long a file is on the wire, or one more than any block size carries where it is longer (65,535 blocks of 65,464 bytes, the last one short)
+-- how long a file is on the wire, or one more than any block size carries where it is longer
 abbrev pub measured : Mode → List ℕ → ℕ
-measured mode bytes = min (length (wire_text mode bytes)) 4290183240
+measured mode bytes = min (length (wire_text mode bytes)) (MAX_WIRE + 1)
 
 -- a store and one of its drafts, as a sink
 abbrev pub holding_of : Option Stored → Option Drafted → Option Holding

@@ -4,7 +4,7 @@ ghost use Rattle.std.specs.Prelude.{◌↔◌, IsTrue};
 ghost use Rattle.tftp_server.specs.Config.{IsConfig};
 
 use tftp_file::MAX_WIRE;
-use tftp_negotiate::{Limits, MAX_BLOCK, MIN_BLOCK};
+use tftp_negotiate::{Limits, is_block_size};
 
 /// Most retries of an end.
 const MAX_RETRIES: u8 = 10;
@@ -30,8 +30,7 @@ impl Config {
     pub fn is_valid(&self) -> bool
         ensures { IsTrue result ↔ IsConfig self.now }
     {
-        MIN_BLOCK <= self.limits.max_block
-            && self.limits.max_block <= MAX_BLOCK
+        is_block_size(u64::from(self.limits.max_block))
             && self.retries <= MAX_RETRIES
             && 1 <= self.cap
             && self.cap <= MAX_CAP

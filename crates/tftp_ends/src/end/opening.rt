@@ -14,9 +14,8 @@ use crate::fault::OpenFault;
 use crate::phase::Phase;
 use crate::record::Step;
 use crate::side::Side;
-use crate::waiting::DEFAULT_BLOCK_SIZE;
 use std::alloc::{AllocError, Global};
-use tftp_negotiate::Asked;
+use tftp_negotiate::{Asked, DEFAULT_BLOCK};
 use tftp_wire::{HEADER, MAX_REQUEST, Mode, append_read, append_write, is_text};
 
 /// The longest name of a request in octet without options, in bytes: with its opcode, two zero bytes
@@ -190,7 +189,7 @@ impl End {
         if !can_ask(name, mode, asked) {
             return Err(OpenFault::BadRequest);
         }
-        if length >= 65_535 * u64::from(DEFAULT_BLOCK_SIZE) {
+        if length >= 65_535 * u64::from(DEFAULT_BLOCK) {
             return Err(OpenFault::TooLarge);
         }
         let last_sent = write_request(alloc, name)?;

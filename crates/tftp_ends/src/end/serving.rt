@@ -13,10 +13,10 @@ use crate::fault::OpenFault;
 use crate::phase::Phase;
 use crate::record::Step;
 use crate::side::Side;
-use crate::waiting::{DEFAULT_BLOCK_SIZE, default_terms};
+use crate::waiting::default_terms;
 use std::alloc::Global;
 use tftp_file::{Files, Sink, Source};
-use tftp_negotiate::Agreed;
+use tftp_negotiate::{Agreed, DEFAULT_BLOCK};
 use tftp_wire::{HEADER, Mode, append_ack};
 
 impl End {
@@ -57,13 +57,13 @@ impl End {
         if mode != Mode::Octet || !agreed.is_empty() {
             return Err(OpenFault::BadRequest);
         }
-        if length >= 65_535 * u64::from(DEFAULT_BLOCK_SIZE) {
+        if length >= 65_535 * u64::from(DEFAULT_BLOCK) {
             return Err(OpenFault::TooLarge);
         }
         let Files::Source(source) = files else {
             unreachable!()
         };
-        let want = block_length(length, DEFAULT_BLOCK_SIZE, 1);
+        let want = block_length(length, DEFAULT_BLOCK, 1);
         out.reserve(HEADER + want)?;
         let mut last_sent = Vec::new(alloc);
         match read_data(source, 1, want, &mut last_sent)? {
