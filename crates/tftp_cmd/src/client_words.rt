@@ -8,12 +8,12 @@ use crate::printed::Printed;
 use crate::words::{endpoint_in, flag, number, word};
 use clap::error::ErrorKind;
 use clap::{ArgMatches, Command, value_parser};
-use std::alloc::Global;
+use std::alloc::{AllocError, Global};
 use std::convert::AsStr;
 use std::io;
 use std::net::Net;
 use std::rt::Runtime;
-use tftp_negotiate::Asked;
+use tftp_negotiate::{Asked, DEFAULT_BLOCK, MAX_BLOCK, MIN_BLOCK};
 use tftp_wire::Mode;
 
 const EXAMPLES: &str = "\
@@ -51,7 +51,8 @@ fn transfer_words<'a, R: Runtime + AllocGlobal + Net, S: AsStr>(
 ) -> anyhow::Result<u8>
     ensures { IfOk result (λ status. status ≤ 2) }
 {
-    let mut command = command(rt.alloc())?;
+    let block_help = block_help(rt.alloc())?;
+    let mut command = command(rt.alloc(), block_help.as_str())?;
     let matches = match command.try_get_matches_from_mut(words) {
         Ok(matches) => matches,
         Err(error) => return Ok(print_usage(rt, &error)),
@@ -136,7 +137,7 @@ fn job_of<'a>(matches: &ArgMatches<'a>) -> Option<Job<'a>> {
 }
 
 /// What `tftp` understands.
-fn command<'a>(alloc: Global) -> anyhow::Result<Command<'a>> {
+fn command<'a>(alloc: Global, block_help: &'a str) -> anyhow::Result<Command<'a>> {
     let get = Command::new(alloc, "get")
         .about("Fetches a file")
         .arg(word(
@@ -158,19 +159,23 @@ fn command<'a>(alloc: Global) -> anyhow::Result<Command<'a>> {
             .after_help(EXAMPLES)
             .subcommand_required(true)
             .arg_required_else_help(true)
-            .subcommand(with_options(alloc, get)?)?,
+            .subcommand(with_options(alloc, get, block_help)?)?,
     )
 }
 
 /// The options of a transfer.
-fn with_options<'a>(alloc: Global, command: Command<'a>) -> anyhow::Result<Command<'a>> {
+fn with_options<'a>(
+    alloc: Global,
+    command: Command<'a>,
+    block_help: &'a str,
+) -> anyhow::Result<Command<'a>> {
     let netascii = flag(
         alloc,
         "netascii",
         "Sends the file as text with CR LF at its line ends",
     );
     let command = command.arg(netascii)?;
-    let command = with_asked(alloc, command)?;
+    let command = with_asked(alloc, command, block_help)?;
     let retries = number(
         alloc,
         "retries",
@@ -186,13 +191,24 @@ fn with_options<'a>(alloc: Global, command: Command<'a>) -> anyhow::Result<Comma
     Ok(command.arg(fallback)?)
 }
 
+/// What is said of the block size.
+fn block_help(alloc: Global) -> Result<String, AllocError> {
+    format!(in alloc;
+        "Block size that is asked, in bytes, {MIN_BLOCK} to {MAX_BLOCK}; without it blocks have {DEFAULT_BLOCK}"
+    )
+}
+
 /// The options that are asked of the server.
-fn with_asked<'a>(alloc: Global, command: Command<'a>) -> anyhow::Result<Command<'a>> {
+fn with_asked<'a>(
+    alloc: Global,
+    command: Command<'a>,
+    block_help: &'a str,
+) -> anyhow::Result<Command<'a>> {
     let blksize = number(
         alloc,
         "blksize",
-        value_parser!(u16).range(8..=65_464),
-        "Block size that is asked, in bytes, 8 to 65464; without it blocks have 512",
+        value_parser!(u16).range(i64::from(MIN_BLOCK)..=i64::from(MAX_BLOCK)),
+        block_help,
     );
     let command = command.arg(blksize)?;
     let timeout = number(

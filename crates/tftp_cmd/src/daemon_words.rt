@@ -14,7 +14,7 @@ use std::convert::AsStr;
 use std::io;
 use std::net::Net;
 use std::rt::Runtime;
-use tftp_negotiate::Limits;
+use tftp_negotiate::{Limits, MAX_BLOCK, MIN_BLOCK};
 use tftp_server::Config;
 
 const EXAMPLES: &str = "\
@@ -49,7 +49,8 @@ pub fn tftpd_words<R: Runtime + AllocGlobal + Net, S: AsStr>(rt: &R, words: &[S]
 fn serve_words<'a, R: Runtime + AllocGlobal + Net, S: AsStr>(rt: &R, words: &'a [S]) -> Result<u8>
     ensures { IfOk result (λ status. status ≤ 2) }
 {
-    let mut command = command(rt.alloc())?;
+    let texts = Texts::new(rt.alloc(), &Config::default())?;
+    let mut command = command(rt.alloc(), &texts)?;
     let matches = match command.try_get_matches_from_mut(words) {
         Ok(matches) => matches,
         Err(error) => return Ok(print_usage(rt, &error)),
@@ -115,15 +116,40 @@ fn config(matches: &ArgMatches<'_>) -> Option<Config>
     }
 }
 
+/// What the help says of numbers that other crates own.
+#[derive(Drop)]
+struct Texts {
+    block_help: String,
+    max_block: String,
+    max_file: String,
+    retries: String,
+    cap: String,
+}
+
+impl Texts {
+    /// The range of a block size, and what a server is set to where nothing else is said.
+    fn new(alloc: Global, config: &Config) -> Result<Texts> {
+        Ok(Texts {
+            block_help: format!(in alloc;
+                "Largest block size that is agreed, in bytes, {MIN_BLOCK} to {MAX_BLOCK}"
+            )?,
+            max_block: config.limits.max_block.to_string(alloc)?,
+            max_file: config.limits.max_file.to_string(alloc)?,
+            retries: config.retries.to_string(alloc)?,
+            cap: config.cap.to_string(alloc)?,
+        })
+    }
+}
+
 /// What `tftpd` understands.
-fn command<'a>(alloc: Global) -> Result<Command<'a>> {
+fn command<'a>(alloc: Global, texts: &'a Texts) -> Result<Command<'a>> {
     let command = Command::new(alloc, "tftpd")
         .bin_name("tftpd")?
         .about("Serves the files of a folder by TFTP (RFC 1350, RFC 2347 to 2349)")
         .version("0.1.0")
         .after_help(EXAMPLES);
     let command = with_places(alloc, command)?;
-    let command = with_limits(alloc, command)?;
+    let command = with_limits(alloc, command, texts)?;
     with_ending(alloc, command)
 }
 
@@ -139,35 +165,35 @@ fn with_places<'a>(alloc: Global, command: Command<'a>) -> Result<Command<'a>> {
 }
 
 /// What transfers are allowed.
-fn with_limits<'a>(alloc: Global, command: Command<'a>) -> Result<Command<'a>> {
+fn with_limits<'a>(alloc: Global, command: Command<'a>, texts: &'a Texts) -> Result<Command<'a>> {
     let block = number(
         alloc,
         "max-block",
-        value_parser!(u16).range(8..=65_464),
-        "Largest block size that is agreed, in bytes, 8 to 65464",
+        value_parser!(u16).range(i64::from(MIN_BLOCK)..=i64::from(MAX_BLOCK)),
+        texts.block_help.as_str(),
     );
-    let command = command.arg(block.default_value("1428"))?;
+    let command = command.arg(block.default_value(texts.max_block.as_str()))?;
     let file = number(
         alloc,
         "max-file",
         value_parser!(u64),
         "Longest file that is taken, in bytes, any number below 2^64",
     );
-    let command = command.arg(file.default_value("4290183239"))?;
+    let command = command.arg(file.default_value(texts.max_file.as_str()))?;
     let retries = number(
         alloc,
         "retries",
         value_parser!(u8).range(0..=10),
         "How often a datagram is sent again without progress, 0 to 10",
     );
-    let command = command.arg(retries.default_value("5"))?;
+    let command = command.arg(retries.default_value(texts.retries.as_str()))?;
     let cap = number(
         alloc,
         "cap",
         value_parser!(u8).range(1..=64),
         "Transfers that are open at once, 1 to 64",
     );
-    let command = command.arg(cap.default_value("16"))?;
+    let command = command.arg(cap.default_value(texts.cap.as_str()))?;
     Ok(command.arg(flag(alloc, "overwrite", "A write replaces a file that is there"))?)
 }
 
