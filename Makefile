@@ -29,6 +29,8 @@ test:
 
 bench: $(PROGRAMS:%=bin/tftp-%)
 	bench/show/run.sh bin/tftp-show
+	@cd crates/tftp_ends_bench && rt run -- 512 0 1 > /dev/null
+	bench/ends/run.py crates/tftp_ends_bench/out/tftp_ends_bench
 	python3 bench/play/settled.py bin/tftp-play
 
 clean:

@@ -1,0 +1,150 @@
+//! One end against another in memory, with no socket and no world: a read is played to its end, and
+//! its count of blocks is printed. `make bench` measures it from outside.
+#![tactic(auto)]
+
+ghost use Rattle.tftp_ends.specs.Files.{AreFilesOf};
+
+use anyhow::{Result, anyhow};
+use std::alloc::Global;
+use std::process::ExitCode;
+use std::{env, io};
+use tftp_ends::{End, EndConfig, Endpoint, Outgoing};
+use tftp_file::{Files, MAX_WIRE, ReadSource, Sink, Source, WriteSink};
+use tftp_negotiate::{Agreed, Asked, DEFAULT_BLOCK, Kind, Limits, MAX_BLOCK, accept_ref};
+use tftp_wire::{Mode, PacketRef, decode_ref};
+
+const CLIENT: Endpoint = Endpoint {
+    ip: [10, 0, 0, 2],
+    port: 1024,
+};
+
+const SERVER: Endpoint = Endpoint {
+    ip: [10, 0, 0, 1],
+    port: 69,
+};
+
+const CONFIG: EndConfig = EndConfig {
+    limits: Limits {
+        max_block: MAX_BLOCK,
+        max_file: MAX_WIRE,
+    },
+    retries: 0,
+};
+
+/// A file in memory for the server, and nothing that is kept for the client.
+type BenchFiles<'a> = Files<ReadSource<&'a [u8]>, WriteSink<io::Sink>>;
+
+/// Three words: the block size in bytes, how many bytes the file has, and how often it is read.
+fn main(rt: HostRuntime) -> ExitCode {
+    match play_words(&rt) {
+        Ok(blocks) => {
+            if println!(&rt; "{blocks} blocks").is_ok() {
+                return ExitCode::SUCCESS;
+            }
+            ExitCode::FAILURE
+        }
+        Err(_) => ExitCode::FAILURE,
+    }
+}
+
+/// Plays the reads that the command line asks for, and tells their blocks.
+fn play_words(rt: &HostRuntime) -> Result<u64> {
+    let mut words = env::args(rt)?;
+    let _ = words.next();
+    let size = number(words.next())?;
+    let length = number(words.next())?;
+    let rounds = number(words.next())?;
+    let Ok(size) = u16::try_from(size) else {
+        return Err(anyhow!("no block size"));
+    };
+    let file = Vec::from_elem(rt.alloc(), 0u8, length)?;
+    let mut blocks: u64 = 0;
+    for _ in 0..rounds {
+        let count = play(rt.alloc(), size, file.as_slice())?;
+        blocks = blocks.saturating_add(u64::from(count));
+    }
+    Ok(blocks)
+}
+
+/// The number that a word spells.
+fn number(word: Option<String>) -> Result<usize> {
+    match word.and_then(|word| word.parse().ok()) {
+        Some(number) => Ok(number),
+        None => Err(anyhow!("no number")),
+    }
+}
+
+/// Plays a read of a file at a block size, and tells its blocks.
+fn play(alloc: Global, size: u16, file: &[u8]) -> Result<u16> {
+    let length = file.len() as u64;
+    let asked = Asked {
+        blksize: if size == DEFAULT_BLOCK {
+            None
+        } else {
+            Some(size)
+        },
+        timeout: None,
+        tsize: None,
+    };
+    let mut out = Vec::new(alloc);
+    let (client, _) = End::get(
+        alloc,
+        SERVER,
+        b"file",
+        Mode::Octet,
+        &asked,
+        &CONFIG,
+        &mut out,
+    )?;
+    let agreed = answer(out.as_slice(), length)?;
+    let mut file: BenchFiles<'_> = Files::Source(ReadSource::new(file, Mode::Octet));
+    let mut copy: BenchFiles<'_> = Files::Sink(WriteSink::new(io::sink()));
+    let mut first = Vec::new(alloc);
+    let (server, _) = End::serve_read(
+        alloc,
+        &mut file,
+        CLIENT,
+        Mode::Octet,
+        &agreed,
+        length,
+        0,
+        &mut first,
+    )?;
+    converse(server, &mut file, client, &mut copy)
+}
+
+/// What a server agrees to of a request for a file of that length.
+fn answer(request: &[u8], length: u64) -> Result<Agreed> {
+    match decode_ref(request) {
+        Ok(PacketRef::Read(request)) => Ok(accept_ref(
+            &request.options,
+            Kind::Read,
+            request.mode,
+            length,
+            &CONFIG.limits,
+        )?),
+        _ => Err(anyhow!("no request")),
+    }
+}
+
+/// Hands each end what the other lends, until the server's is closed, and tells its blocks.
+fn converse<S: Source, K: Sink>(
+    mut server: End,
+    file: &mut Files<S, K>,
+    mut client: End,
+    copy: &mut Files<S, K>,
+) -> Result<u16>
+    requires server { AreFilesOf server.side file.old }
+    requires client { AreFilesOf client.side copy.old }
+{
+    let mut outgoing = Outgoing::LastSent;
+    for _ in 0..=65_535 {
+        let (_, reply) = client.handle_datagram(copy, SERVER, server.bytes_of(outgoing))?;
+        let (step, next) = server.handle_datagram(file, CLIENT, client.bytes_of(reply))?;
+        if step.closed.is_some() {
+            return Ok(server.record().number);
+        }
+        outgoing = next;
+    }
+    Err(anyhow!("no end"))
+}
