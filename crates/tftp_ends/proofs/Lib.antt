@@ -1,4 +1,6 @@
+pub mod ActionLemmas
 pub mod Lending
 pub mod ReadingBlocks
 pub mod Sending
 pub mod Storing
+pub mod TextLemmas

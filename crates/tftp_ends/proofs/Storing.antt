@@ -1,13 +1,12 @@
--- A receiver's step, from what its sink made of a block in octet.
+-- A receiver's step, from what its sink made of a block.
 use Rattle.std.proofs.Common.{◌≡◌, ℕ, Bool, true, false, ltb, List, length, Option, Some, Result, Ok, Err, refl, sym, ap, subst, ◌∙◌}
-use Rattle.tftp_wire.specs.declared.mode.Mode.{Mode}
-use Rattle.tftp_wire.specs.declared.mode.Mode.TheVariants.{Octet}
 use Rattle.tftp_file.specs.Sink.{Holding}
 use Rattle.tftp_file.specs.declared.fault.StoreFault.{StoreFault}
 use Rattle.tftp_ends.specs.declared.end.storing.BlockStored.{BlockStored}
-use Rattle.tftp_ends.specs.declared.end.storing.BlockStored.TheVariants.{More, All, Refused}
+use Rattle.tftp_ends.specs.declared.end.storing.BlockStored.TheVariants.{More, All, Refused, Uncommitted}
 use Rattle.tftp_ends.specs.declared.endpoint.Endpoint.{Endpoint}
 use Rattle.tftp_ends.specs.declared.error_reply.ErrorReply.{ErrorReply}
+use Rattle.tftp_ends.specs.declared.error_reply.ErrorReply.TheVariants.{DiskFull}
 use Rattle.tftp_ends.specs.declared.outcome.Outcome.TheVariants as outcomes
 use Rattle.tftp_ends.specs.declared.outgoing.Outgoing.{Outgoing}
 use Rattle.tftp_ends.specs.declared.outgoing.Outgoing.TheVariants.{LastSent, Error}
@@ -16,35 +15,31 @@ use Rattle.tftp_ends.specs.declared.phase.Phase.TheVariants.{Receiving, Dallying
 use Rattle.tftp_ends.specs.declared.phase.Terms.{Terms}
 use Rattle.tftp_ends.specs.End.{EndState}
 use Rattle.tftp_ends.specs.Phase.{refused}
-use Rattle.tftp_ends.specs.Step.{Done, Turn, Stores, GoesOn, Lends, in_phase, having_sent, ack_bytes, sent_turn, refused_turn, committed_turn}
-use Rattle.tftp_ends.specs.BlockStored.{StoresBlock, StoresOn, committed_as}
-use Rattle.tftp_ends.specs.Text.{Decoded}
+use Rattle.tftp_ends.specs.Step.{Done, Turn, Stores, GoesOn, Lends, in_phase, having_sent, holding, ack_bytes, sent_turn, refused_turn, committed_turn}
+use Rattle.tftp_ends.specs.BlockStored.{StoresPiece, StoresOn, committed_as}
 
--- in octet the bytes stand for themselves
-octet_decoded : (mode : Mode) (held piece : List ℕ) → mode ≡ Octet → Decoded mode held piece piece held
-octet_decoded mode held piece e = subst (λ (m : Mode). Decoded m held piece piece held) (sym e) (refl, refl)
-
-module _ {K : Type 0} (held : K → Option Holding) (may_refuse_append : K → List ℕ → StoreFault → Type 0) (may_refuse_commit : K → StoreFault → Type 0) (terms : Terms) (number : ℕ) (from : Endpoint) (piece : List ℕ) (e : EndState) (octet : e.mode ≡ Octet) (sink sink' : K) where
+module _ {K : Type 0} (held : K → Option Holding) (may_refuse_append : K → List ℕ → StoreFault → Type 0) (may_refuse_commit : K → StoreFault → Type 0) (terms : Terms) (number : ℕ) (from : Endpoint) (piece : List ℕ) (e : EndState) (behind : List ℕ) (sink sink' : K) where
   -- the turn that this comes to
   abbrev pub stored_turn : BlockStored → Turn
-  stored_turn More = sent_turn (Receiving terms number) from (ack_bytes number) e
-  stored_turn All = sent_turn (Dallying terms number Fresh) from (ack_bytes number) e
-  stored_turn (Refused reply) = refused_turn terms reply outcomes.StoreFault from e
+  stored_turn More = sent_turn (Receiving terms number) from (ack_bytes number) (holding behind e)
+  stored_turn All = sent_turn (Dallying terms number Fresh) from (ack_bytes number) (holding behind e)
+  stored_turn Refused = refused_turn terms DiskFull outcomes.StoreFault from e
+  stored_turn (Uncommitted reply) = refused_turn terms reply outcomes.StoreFault from (holding behind e)
 
   -- what was made of the block
   abbrev pub StoresNext : BlockStored → Type 0
-  StoresNext block_stored = StoresBlock held may_refuse_append may_refuse_commit piece (ltb (length piece) terms.size) sink sink' block_stored
+  StoresNext block_stored = StoresPiece held may_refuse_append may_refuse_commit e.mode e.held piece (ltb (length piece) terms.size) sink sink' block_stored behind
 
   -- what a receiver does at an action that stores, and what its call lends
   abbrev pub IsStored : EndState → Outgoing → Type 0
   IsStored e' outgoing =
       (turn : Turn) × Stores held may_refuse_append may_refuse_commit terms number from piece e sink turn sink' × Lends turn e' (Some from) outgoing
 
-  committed : (answer : Result Done StoreFault) → stored_turn (committed_as held may_refuse_append may_refuse_commit answer) ≡ committed_turn terms number from e answer
+  committed : (answer : Result Done StoreFault) → stored_turn (committed_as held may_refuse_append may_refuse_commit answer) ≡ committed_turn terms number from (holding behind e) answer
   committed (Ok done) = refl
   committed (Err fault) = refl
 
-  goes_on : (last : Bool) (answer : Result Done StoreFault) (mid : K) (block_stored : BlockStored) → StoresOn held may_refuse_append may_refuse_commit last mid sink' block_stored answer → GoesOn held may_refuse_append may_refuse_commit terms number from e last e.held mid answer (stored_turn block_stored) sink'
+  goes_on : (last : Bool) (answer : Result Done StoreFault) (mid : K) (block_stored : BlockStored) → StoresOn held may_refuse_append may_refuse_commit last mid sink' block_stored answer → GoesOn held may_refuse_append may_refuse_commit terms number from e last behind mid answer (stored_turn block_stored) sink'
   goes_on true (Err fault) mid block_stored o = (ap stored_turn o.0, o.1)
   goes_on false (Err fault) mid block_stored o = (ap stored_turn o.0, o.1)
   goes_on true (Ok done) mid block_stored o =
@@ -54,24 +49,29 @@ module _ {K : Type 0} (held : K → Option Holding) (may_refuse_append : K → L
   stores : (block_stored : BlockStored) → StoresNext block_stored → Stores held may_refuse_append may_refuse_commit terms number from piece e sink (stored_turn block_stored) sink'
   stores block_stored o =
       record {
-        bytes = piece;
-        after = e.held;
-        mid = o.mid;
-        answer = o.answer;
-        decoded = octet_decoded e.mode e.held piece octet;
-        appended = o.appended;
-        memory = o.memory;
-        rest = goes_on (ltb (length piece) terms.size) o.answer o.mid block_stored o.rest;
+        bytes = o.bytes;
+        after = behind;
+        mid = o.stores.mid;
+        answer = o.stores.answer;
+        decoded = o.decoded;
+        appended = o.stores.appended;
+        memory = o.stores.memory;
+        rest = goes_on (ltb (length piece) terms.size) o.stores.answer o.stores.mid block_stored o.stores.rest;
       }
 
   -- the block was stored, and more is to come
-  pub stored_more : StoresNext More → (e' : EndState) → e' ≡ having_sent (record { to = from; bytes = ack_bytes number }) (in_phase (Receiving terms number) e) → IsStored e' LastSent
+  pub stored_more : StoresNext More → (e' : EndState) → e' ≡ having_sent (record { to = from; bytes = ack_bytes number }) (in_phase (Receiving terms number) (holding behind e)) → IsStored e' LastSent
   stored_more o e' s = (stored_turn More, stores More o, record { state = s; goes = refl; bytes = ap (λ (x : EndState). x.last_sent) s })
 
   -- the whole was stored and committed
-  pub stored_all : StoresNext All → (e' : EndState) → e' ≡ having_sent (record { to = from; bytes = ack_bytes number }) (in_phase (Dallying terms number Fresh) e) → IsStored e' LastSent
+  pub stored_all : StoresNext All → (e' : EndState) → e' ≡ having_sent (record { to = from; bytes = ack_bytes number }) (in_phase (Dallying terms number Fresh) (holding behind e)) → IsStored e' LastSent
   stored_all o e' s = (stored_turn All, stores All o, record { state = s; goes = refl; bytes = ap (λ (x : EndState). x.last_sent) s })
 
-  -- the store has refused
-  pub stored_not : (reply : ErrorReply) → StoresNext (Refused reply) → (e' : EndState) → e' ≡ in_phase (refused (Some terms) outcomes.StoreFault e.phase) e → IsStored e' (Error reply)
-  stored_not reply o e' s = (stored_turn (Refused reply), stores (Refused reply) o, record { state = s; goes = refl; bytes = refl })
+  -- the store has refused the block
+  pub stored_not : StoresNext Refused → (e' : EndState) → e' ≡ in_phase (refused (Some terms) outcomes.StoreFault e.phase) e → IsStored e' (Error DiskFull)
+  stored_not o e' s = (stored_turn Refused, stores Refused o, record { state = s; goes = refl; bytes = refl })
+
+  -- the store has refused the commit
+  pub not_committed : (reply : ErrorReply) → StoresNext (Uncommitted reply) → (e' : EndState) → e' ≡ in_phase (refused (Some terms) outcomes.StoreFault e.phase) (holding behind e) → IsStored e' (Error reply)
+  not_committed reply o e' s =
+      (stored_turn (Uncommitted reply), stores (Uncommitted reply) o, record { state = s; goes = refl; bytes = refl })

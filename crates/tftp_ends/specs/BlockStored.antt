@@ -1,12 +1,13 @@
--- What a sink made of a block in octet.
+-- What a sink made of a block.
 use Rattle.std.specs.Prelude.{◌≡◌, ◌≢◌, Bool, true, false, List, ℕ, Option, Some, None, Result, Ok, Err, IfErr}
+use Rattle.tftp_wire.specs.declared.mode.Mode.{Mode}
 use Rattle.tftp_file.specs.Sink.{Holding, Commits}
 use Rattle.tftp_file.specs.declared.fault.StoreFault.{StoreFault}
 use Rattle.tftp_file.specs.declared.fault.StoreFault.TheVariants.{Memory}
 use Rattle.tftp_ends.specs.declared.end.storing.BlockStored.{BlockStored}
-use Rattle.tftp_ends.specs.declared.end.storing.BlockStored.TheVariants.{More, All, Refused}
-use Rattle.tftp_ends.specs.declared.error_reply.ErrorReply.TheVariants.{DiskFull}
+use Rattle.tftp_ends.specs.declared.end.storing.BlockStored.TheVariants.{More, All, Refused, Uncommitted}
 use Rattle.tftp_ends.specs.Step.{Done, Appended, commit_reply}
+use Rattle.tftp_ends.specs.Text.{Decoded}
 
 -- a sink that tells what it holds holds the same
 abbrev pub KeepsHolding : Option Holding → Option Holding → Type 0
@@ -17,7 +18,7 @@ module _ {K : Type 0} (held : K → Option Holding) (may_refuse_append : K → L
   -- what a commit came to
   abbrev pub committed_as : Result Done StoreFault → BlockStored
   committed_as (Ok done) = All
-  committed_as (Err fault) = Refused (commit_reply fault)
+  committed_as (Err fault) = Uncommitted (commit_reply fault)
 
   -- a sink was asked to commit the whole, and this came of it
   pub record StoresLast (sink sink' : K) (block_stored : BlockStored) : Type 0 where
@@ -28,7 +29,7 @@ module _ {K : Type 0} (held : K → Option Holding) (may_refuse_append : K → L
 
   -- what follows an append
   abbrev pub StoresOn : Bool → K → K → BlockStored → Result Done StoreFault → Type 0
-  StoresOn is_last sink sink' block_stored (Err fault) = (block_stored ≡ Refused DiskFull) × (sink' ≡ sink)
+  StoresOn is_last sink sink' block_stored (Err fault) = (block_stored ≡ Refused) × (sink' ≡ sink)
   StoresOn true sink sink' block_stored (Ok done) = StoresLast sink sink' block_stored
   StoresOn false sink sink' block_stored (Ok done) = (block_stored ≡ More) × (sink' ≡ sink)
 
@@ -39,3 +40,9 @@ module _ {K : Type 0} (held : K → Option Holding) (may_refuse_append : K → L
     pub appended : Appended held may_refuse_append may_refuse_commit bytes sink mid answer
     pub memory : answer ≢ Err Memory
     pub rest : StoresOn is_last mid sink' block_stored answer
+
+  -- the bytes that a piece of the text stands for were appended; behind it this much is held back
+  pub record StoresPiece (mode : Mode) (text piece : List ℕ) (is_last : Bool) (sink sink' : K) (block_stored : BlockStored) (behind : List ℕ) : Type 0 where
+    pub bytes : List ℕ
+    pub decoded : Decoded mode text piece bytes behind
+    pub stores : StoresBlock bytes is_last sink sink' block_stored

@@ -1,6 +1,8 @@
 -- What holds of every end between two events, and of every action that it finds.
-use Rattle.std.specs.Prelude.{ℕ, ◌≡◌, ◌*◌, ◌<◌, ◌||◌, nat_lt, not, true, false, []}
-use Rattle.tftp_wire.specs.declared.mode.Mode.TheVariants.{Octet}
+use Rattle.std.specs.Prelude.{ℕ, ◌≡◌, ◌*◌, ◌<◌, ◌||◌, nat_lt, not, true, false, List, [], length}
+use Rattle.tftp_wire.specs.declared.mode.Mode.{Mode}
+use Rattle.tftp_wire.specs.declared.mode.Mode.TheVariants.{Octet, Netascii}
+use Rattle.tftp_file.specs.Decoding.{IsHeld}
 use Rattle.tftp_negotiate.specs.Asked.{IsAskable}
 use Rattle.tftp_ends.specs.declared.phase.Phase.{Phase}
 use Rattle.tftp_ends.specs.declared.phase.Phase.TheVariants.{Waiting, Sending, Receiving, Dallying, Closed}
@@ -11,14 +13,15 @@ use Rattle.tftp_ends.specs.declared.action.Response.TheVariants.{Retransmit, Acc
 use Rattle.tftp_ends.specs.declared.phase.Terms.{Terms}
 use Rattle.tftp_ends.specs.End.{EndState, is_sender, is_client}
 use Rattle.tftp_ends.specs.Step.{ack_bytes}
+use Rattle.tftp_ends.specs.Text.{is_readable}
 
 -- a sender's block size, whose blocks of the file can be numbered
 abbrev pub IsSending : EndState → Terms → Type 0
 IsSending e terms = (is_sender e.side ≡ true) × (0 < terms.size) × (e.length < 65535 * terms.size)
 
--- clients wait, senders send, receivers receive
+-- clients wait and have no text yet, senders send, receivers receive
 abbrev pub PhaseFits : EndState → Phase → Type 0
-PhaseFits e (Waiting asked limit) = (is_client e.side ≡ true) × IsAskable asked
+PhaseFits e (Waiting asked limit) = (is_client e.side ≡ true) × IsAskable asked × (e.held ≡ [])
 PhaseFits e (Sending terms number) = IsSending e terms
 PhaseFits e (Receiving terms number) = is_sender e.side ≡ false
 PhaseFits e (Dallying terms number dally) = is_sender e.side ≡ false
@@ -37,13 +40,16 @@ ResendsAck e (Receiving terms number) = HasAcknowledged e terms number
 ResendsAck e (Dallying terms number dally) = HasAcknowledged e terms number
 ResendsAck e (Closed terms number complete outcome) = Unit {0}
 
+-- the text that a receiver holds back: none in octet, and in netascii the CR of a pair at most (RFC 764)
+abbrev pub HeldFits : Mode → List ℕ → Type 0
+HeldFits Octet held = held ≡ []
+HeldFits Netascii held = IsHeld held
+
 -- what holds of an end between two events
 pub record IsSound (e : EndState) : Type 0 where
   pub phase : PhaseFits e e.phase
   pub resends : ResendsAck e e.phase
-  -- netascii isn't supported yet
-  pub octet : e.mode ≡ Octet
-  pub nothing_held : e.held ≡ []
+  pub held : HeldFits e.mode e.held
 
 -- a retry is spent only where one is left, and only a receiver takes an OACK by an ACK
 abbrev pub ResponseFits : EndState → Response → Type 0
@@ -55,7 +61,13 @@ ResponseFits e _ = Unit {0}
 abbrev pub ActionFits : EndState → Action → Type 0
 ActionFits e (Respond response) = ResponseFits e response
 ActionFits e (Send terms number) = IsSending e terms
-ActionFits e (Store terms number) = (is_sender e.side ≡ false) × (e.mode ≡ Octet)
+ActionFits e (Store terms number) = is_sender e.side ≡ false
+
+-- a piece that is to be stored goes on with the text
+abbrev pub StoresText : EndState → List ℕ → Action → Type 0
+StoresText e piece (Respond response) = Unit {0}
+StoresText e piece (Send terms number) = Unit {0}
+StoresText e piece (Store terms number) = is_readable e.mode e.held piece (nat_lt (length piece) terms.size) ≡ true
 
 -- what a sender does at a packet where no file is touched
 abbrev pub IsSenders : Response → Type 0

@@ -6,7 +6,7 @@ mod sending;
 mod serving;
 mod storing;
 
-ghost use Rattle.std.specs.Prelude.{◌≡◌, ◌↔◌, ◌+◌, ◌++◌, ◌≤◌, length, option_map, Option, IfOk, OnErr, IsErrOf, IsSome, is_some, vec_len, vec_capacity};
+ghost use Rattle.std.specs.Prelude.{◌≡◌, ◌↔◌, ◌+◌, ◌++◌, ◌≤◌, drop, length, option_map, Option, IfOk, OnErr, IsErrOf, IsSome, is_some, vec_len, vec_capacity};
 ghost use Rattle.tftp_wire.specs.Borrowed.{owned};
 ghost use Rattle.tftp_wire.specs.declared.packet.Packet.{Packet};
 
@@ -24,7 +24,7 @@ use crate::sender::sender_action;
 use crate::side::Side;
 use crate::waiting::{reader_action, writer_action};
 use std::marker::Model;
-use tftp_file::{Files, Sink, Source};
+use tftp_file::{Files, NetDecoder, Sink, Source};
 use tftp_negotiate::DEFAULT_BLOCK;
 use tftp_wire::{Mode, PacketRef, has_error_opcode};
 
@@ -46,25 +46,26 @@ pub struct End {
     last_sent: Vec<u8>,
     spare: Vec<u8>,
     last_sent_to: Endpoint,
+    decoder: NetDecoder,
     phase: Phase,
 }
 
 impl Model for End {
-    ghost use Rattle.std.specs.Prelude.{[], ◌≤◌, vec_capacity};
+    ghost use Rattle.std.specs.Prelude.{◌≤◌, vec_capacity};
     ghost use Rattle.tftp_ends.specs.End.{EndState};
     ghost use Rattle.tftp_ends.specs.Sound.{IsSound};
 
     ghost Value = { EndState };
 
-    ghost view = { λ e. record { side = e.side; mode = e.mode; length = e.length; retries = e.retries; retries_left = e.retries_left; last_sent = e.last_sent.items; last_sent_to = e.last_sent_to; held = []; phase = e.phase } };
+    ghost view = { λ e. record { side = e.side; mode = e.mode; length = e.length; retries = e.retries; retries_left = e.retries_left; last_sent = e.last_sent.items; last_sent_to = e.last_sent_to; held = e.decoder; phase = e.phase } };
 
-    ghost invariant = { λ e. IsSound (record { side = e.side; mode = e.mode; length = e.length; retries = e.retries; retries_left = e.retries_left; last_sent = e.last_sent.items; last_sent_to = e.last_sent_to; held = []; phase = e.phase }) × (4 ≤ vec_capacity e.last_sent) };
+    ghost invariant = { λ e. IsSound (record { side = e.side; mode = e.mode; length = e.length; retries = e.retries; retries_left = e.retries_left; last_sent = e.last_sent.items; last_sent_to = e.last_sent_to; held = e.decoder; phase = e.phase }) × (4 ≤ vec_capacity e.last_sent) };
 }
 
 impl End {
     ghost use Rattle.tftp_ends.specs.End.{record_of, outcome_of, terms_of, interval_of};
     ghost use Rattle.tftp_ends.specs.Action.{Decodes, datagram_action, packet_action, garbled_response, is_stranger, timeout_response, timeout_action};
-    ghost use Rattle.tftp_ends.specs.Sound.{ActionFits, ResponseFits, ResendsAck};
+    ghost use Rattle.tftp_ends.specs.Sound.{ActionFits, StoresText, PhaseFits, ResponseFits, ResendsAck};
     ghost use Rattle.tftp_ends.specs.Files.{AreFilesOf, KeepsFiles, AreSame};
     ghost use Rattle.tftp_ends.specs.Step.{Turn, DatagramStep, Carries, Lends, IsAnswered, UsesFile, told, timeout_turn, lent};
 
@@ -130,20 +131,26 @@ impl End {
         ensures action { result
             ≡ packet_action self.now from (option_map owned decoded.now) self.now.phase }
         ensures fits { ActionFits self.now result }
+        ensures phase { PhaseFits self.now self.now.phase }
     {
         match self.phase {
             Phase::Waiting { asked, limit } => {
                 if self.side.is_sender() {
-                    writer_action(&asked, limit, self.length, from, decoded)
+                    writer_action(self.mode, &asked, limit, self.length, from, decoded)
                 } else {
-                    reader_action(&asked, limit, from, decoded)
+                    reader_action(self.mode, &asked, limit, from, decoded)
                 }
             }
             Phase::Sending { terms, number } => {
                 sender_action(self.side, self.length, terms, number, decoded)
             }
             Phase::Receiving { terms, number } => receiver_action(
-                self.side, terms, number, decoded,
+                self.side,
+                self.mode,
+                self.decoder,
+                terms,
+                number,
+                decoded,
             ),
             Phase::Dallying { number, .. } => Action::Respond(dally_response(number, decoded)),
             Phase::Closed { .. } => Action::Respond(Response::Ignore),
@@ -155,6 +162,7 @@ impl End {
         ensures action { (decoded : Option Packet) × Decodes bytes.now decoded
             × (result ≡ datagram_action self.now from bytes.now decoded) }
         ensures fits { ActionFits self.now result }
+        ensures reads { StoresText self.now (drop 4 bytes.now) result }
     {
         let decoded = decode_packet(bytes);
         let is_error = has_error_opcode(bytes);

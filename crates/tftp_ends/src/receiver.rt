@@ -1,10 +1,10 @@
 //! How a receiver handles a packet from its peer, whether it is a client's or the server's.
 
-ghost use Rattle.std.specs.Prelude.{◌≡◌, [], length, option_map};
+ghost use Rattle.std.specs.Prelude.{◌≡◌, nat_lt, length, option_map};
 ghost use Rattle.tftp_wire.specs.Borrowed.{owned};
-ghost use Rattle.tftp_wire.specs.declared.mode.Mode.TheVariants.{Octet};
 ghost use Rattle.tftp_ends.specs.End.{is_client};
 ghost use Rattle.tftp_ends.specs.Sound.{FitsReceiver, IsReceivers};
+ghost use Rattle.tftp_ends.specs.Text.{is_readable};
 ghost use Rattle.tftp_ends.specs.Receiver.{next_action, data_action, receiver_action, dally_response};
 
 use crate::action::{Action, Response};
@@ -13,11 +13,30 @@ use crate::outcome::Outcome;
 use crate::phase::Terms;
 use crate::sender::{illegal_action, peer_error};
 use crate::side::Side;
-use tftp_wire::PacketRef;
+use tftp_file::NetDecoder;
+use tftp_wire::{Mode, PacketRef};
+
+/// Whether a piece goes on with the text so far; one that is shorter than a block ends it.
+fn is_readable(mode: Mode, decoder: NetDecoder, piece: &[u8], size: u16) -> bool
+    ensures { result ≡ is_readable mode decoder piece.now (nat_lt (length piece.now) size) }
+{
+    match mode {
+        Mode::Octet => true,
+        Mode::Netascii => match decoder.behind(piece) {
+            Ok(behind) => {
+                if piece.len() >= usize::from(size) {
+                    return true;
+                }
+                behind.finish().is_ok()
+            }
+            Err(_) => false,
+        },
+    }
+}
 
 /// The next block is stored, if it is a block of this transfer.
-fn next_action(terms: Terms, number: u16, bytes: &[u8]) -> Action
-    ensures action { result ≡ next_action Octet [] terms number bytes.now }
+fn next_action(mode: Mode, decoder: NetDecoder, terms: Terms, number: u16, bytes: &[u8]) -> Action
+    ensures action { result ≡ next_action mode decoder terms number bytes.now }
     ensures fits { FitsReceiver result }
 {
     let size = usize::from(terms.size);
@@ -31,12 +50,26 @@ fn next_action(terms: Terms, number: u16, bytes: &[u8]) -> Action
             outcome: Outcome::TooLarge,
         });
     }
+    if !is_readable(mode, decoder, bytes, terms.size) {
+        return Action::Respond(Response::Refuse {
+            terms: Some(terms),
+            reply: ErrorReply::NotNetascii,
+            outcome: Outcome::NotNetascii,
+        });
+    }
     Action::Store { terms, number }
 }
 
 /// The newest block again is acknowledged again, an older one is ignored, none may be skipped.
-fn data_action(terms: Terms, stored: u16, number: u16, bytes: &[u8]) -> Action
-    ensures action { result ≡ data_action Octet [] terms stored number bytes.now }
+fn data_action(
+    mode: Mode,
+    decoder: NetDecoder,
+    terms: Terms,
+    stored: u16,
+    number: u16,
+    bytes: &[u8],
+) -> Action
+    ensures action { result ≡ data_action mode decoder terms stored number bytes.now }
     ensures fits { FitsReceiver result }
 {
     if number == stored {
@@ -48,22 +81,28 @@ fn data_action(terms: Terms, stored: u16, number: u16, bytes: &[u8]) -> Action
     if number - stored > 1 {
         return illegal_action(terms);
     }
-    next_action(terms, number, bytes)
+    next_action(mode, decoder, terms, number, bytes)
 }
 
-/// How a receiver that has stored so many blocks handles a packet.
+/// How a receiver that has stored so many blocks, and holds back text that awaits its next byte,
+/// handles a packet.
 pub(crate) fn receiver_action(
     side: Side,
+    mode: Mode,
+    decoder: NetDecoder,
     terms: Terms,
     stored: u16,
     decoded: &Option<PacketRef<'_>>,
 ) -> Action
     ensures action { result
-        ≡ receiver_action (is_client side) Octet [] terms stored (option_map owned decoded.now) }
+        ≡ receiver_action (is_client side) mode decoder terms stored (option_map owned
+        decoded.now) }
     ensures fits { FitsReceiver result }
 {
     match decoded {
-        Some(PacketRef::Data { block, bytes }) => data_action(terms, stored, *block, bytes),
+        Some(PacketRef::Data { block, bytes }) => {
+            data_action(mode, decoder, terms, stored, *block, bytes)
+        }
         Some(PacketRef::Error { code, .. }) => peer_error(*code),
         Some(PacketRef::Oack(_)) if side.is_client() && terms.by_oack => {
             Action::Respond(if stored == 0 {

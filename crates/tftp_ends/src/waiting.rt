@@ -2,7 +2,6 @@
 
 ghost use Rattle.std.specs.Prelude.{◌≡◌, ◌<◌, ℕ, option_map};
 ghost use Rattle.tftp_wire.specs.Borrowed.{owned};
-ghost use Rattle.tftp_wire.specs.declared.mode.Mode.TheVariants.{Octet};
 ghost use Rattle.tftp_negotiate.specs.Asked.{IsAskable};
 ghost use Rattle.tftp_ends.specs.Sound.{FitsSender, FitsReceiver};
 ghost use Rattle.tftp_ends.specs.Waiting.{default_terms, agreed_terms, no_answer, refusal_action, accept_action, begin_action, begin_with_action, reader_action, writer_action};
@@ -15,6 +14,7 @@ use crate::phase::Terms;
 use crate::receiver::receiver_action;
 use crate::sender::peer_error;
 use crate::side::Side;
+use tftp_file::NetDecoder;
 use tftp_negotiate::{Agreed, Asked, DEFAULT_BLOCK, Kind, Refusal, check_oack_ref};
 use tftp_wire::{Mode, PacketRef};
 
@@ -110,23 +110,32 @@ fn begin_with_action(from: Endpoint, length: u64, answer: Result<Agreed, Refusal
 
 /// How a client that reads handles a packet from the server's address.
 pub(crate) fn reader_action(
+    mode: Mode,
     asked: &Asked,
     limit: u64,
     from: Endpoint,
     decoded: &Option<PacketRef<'_>>,
 ) -> Action
     requires { IsAskable asked.now }
-    ensures action { result ≡ reader_action Octet asked.now limit from (option_map owned
+    ensures action { result ≡ reader_action mode asked.now limit from (option_map owned
         decoded.now) }
     ensures fits { FitsReceiver result }
 {
     match decoded {
         Some(PacketRef::Data { block: 1, bytes }) if bytes.len() <= usize::from(DEFAULT_BLOCK) => {
-            receiver_action(Side::ClientRead, default_terms(from), 0, decoded)
+            let decoder = NetDecoder::new();
+            receiver_action(
+                Side::ClientRead,
+                mode,
+                decoder,
+                default_terms(from),
+                0,
+                decoded,
+            )
         }
         Some(PacketRef::Oack(options)) => accept_action(
             from,
-            check_oack_ref(asked, Kind::Read, Mode::Octet, options, limit),
+            check_oack_ref(asked, Kind::Read, mode, options, limit),
         ),
         Some(PacketRef::Error { code, .. }) => peer_error(*code),
         _ => no_answer(),
@@ -135,6 +144,7 @@ pub(crate) fn reader_action(
 
 /// How a client that writes a file of that length handles a packet from the server's address.
 pub(crate) fn writer_action(
+    mode: Mode,
     asked: &Asked,
     limit: u64,
     length: u64,
@@ -142,7 +152,7 @@ pub(crate) fn writer_action(
     decoded: &Option<PacketRef<'_>>,
 ) -> Action
     requires { IsAskable asked.now }
-    ensures action { result ≡ writer_action Octet asked.now limit length from (option_map owned
+    ensures action { result ≡ writer_action mode asked.now limit length from (option_map owned
         decoded.now) }
     ensures fits { FitsSender length result }
 {
@@ -151,7 +161,7 @@ pub(crate) fn writer_action(
         Some(PacketRef::Oack(options)) => begin_with_action(
             from,
             length,
-            check_oack_ref(asked, Kind::Write, Mode::Octet, options, limit),
+            check_oack_ref(asked, Kind::Write, mode, options, limit),
         ),
         Some(PacketRef::Error { code, .. }) => peer_error(*code),
         _ => no_answer(),

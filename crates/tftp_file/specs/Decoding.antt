@@ -1,5 +1,5 @@
 -- What a decoder of netascii takes from the pieces of a text, and where it refuses one (RFC 764).
-use Rattle.std.specs.Prelude.{◌≡◌, ◌≢◌, ℕ, ◌+◌, ◌<◌, ◌≤◌, ◌⊎◌, List, [], ◌∷◌, ◌++◌, length}
+use Rattle.std.specs.Prelude.{◌≡◌, refl, ◌≢◌, ℕ, ◌+◌, ◌<◌, ◌≤◌, ◌⊎◌, List, [], ◌∷◌, ◌++◌, length}
 use Rattle.std.specs.List.{concat}
 use Rattle.tftp_file.specs.Netascii.{netascii_text}
 use Rattle.tftp_file.specs.declared.netascii.Held.{Held}
@@ -18,6 +18,15 @@ net_fault_number Memory = 4
 abbrev pub held_bytes : Held → List ℕ
 held_bytes Nothing = []
 held_bytes CarriageReturn = 13 ∷ []
+
+-- and what they stand for
+abbrev pub held_of : List ℕ → Held
+held_of [] = Nothing
+held_of (b ∷ bytes) = CarriageReturn
+
+pub held_again : (held : Held) → held_of (held_bytes held) ≡ held
+held_again Nothing = refl
+held_again CarriageReturn = refl
 
 -- nothing is held back, or the CR that begins a pair
 abbrev pub IsHeld : List ℕ → Type 0

@@ -92,7 +92,7 @@ enum Held {
 ///
 /// A contract sees it as the bytes of wire text that it holds back: none, or the CR of a pair whose
 /// second byte is still to come.
-#[derive(Debug, Drop)]
+#[derive(Clone, Copy, Debug)]
 pub struct NetDecoder {
     held: Held,
 }
@@ -102,9 +102,13 @@ impl Model for NetDecoder {
 
     ghost Value = { List ℕ };
 
-    ghost use Rattle.tftp_file.specs.Decoding.{held_bytes};
+    ghost use Rattle.tftp_file.specs.Decoding.{held_bytes, held_of, held_again};
 
     ghost view = { λ decoder. held_bytes decoder.held };
+
+    ghost inverse = { λ bytes. record { held = held_of bytes } };
+
+    ghost inverse_ok = { λ decoder _ i. record { held = held_again decoder.held i } };
 }
 
 impl NetDecoder {
@@ -152,6 +156,23 @@ impl NetDecoder {
         append_host(rest, out);
         self.held = held;
         Ok(())
+    }
+
+    /// What the decoder is behind the piece. It takes no memory, so a piece can be judged before
+    /// there is room for its bytes.
+    ///
+    /// It is refused where a push refuses the piece for a wrong byte.
+    pub fn behind(&self, piece: &[u8]) -> Result<NetDecoder, NetFault>
+        ensures ok { IfOk result (λ decoder. (bytes : List ℕ)
+            × Decodes self.now piece.now bytes decoder) }
+        ensures refused { IfErr result (λ fault. IsWrong (self.now ++ piece.now) fault) }
+    {
+        if piece.is_empty() {
+            return Ok(*self);
+        }
+        let (_, text) = complete_pair(self.held, piece)?;
+        let held = check(text)?;
+        Ok(NetDecoder { held })
     }
 
     /// Ends the text: `EndsInCr` exactly if a CR is held back.

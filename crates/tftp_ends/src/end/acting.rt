@@ -4,7 +4,7 @@ ghost use Rattle.std.specs.Prelude.{◌≡◌, ◌≤◌, drop, length, OnErr, I
 ghost use Rattle.tftp_ends.specs.Files.{AreFilesOf, KeepsFiles, AreSame};
 ghost use Rattle.tftp_ends.specs.Step.{Turn, Acts, Lends, UsesFile, ack_bytes, having_sent, in_phase, response_turn, room_of, response_room, lent};
 ghost use Rattle.tftp_ends.specs.End.{number_of};
-ghost use Rattle.tftp_ends.specs.Sound.{PhaseFits, ActionFits, ResponseFits, ResendsAck};
+ghost use Rattle.tftp_ends.specs.Sound.{PhaseFits, ActionFits, StoresText, ResponseFits, ResendsAck};
 
 use crate::action::{Action, Response};
 use crate::end::End;
@@ -141,6 +141,7 @@ impl End {
         bytes: &[u8],
     ) -> Result<(Option<Endpoint>, Outgoing), AllocError>
         requires action { ActionFits self.old action }
+        requires reads { StoresText self.old (drop 4 bytes.now) action }
         requires files { AreFilesOf self.old.side files.old }
         ensures acts { IfOk result (λ answer. (turn : Turn)
             × Acts S.left S.may_fail K.held K.may_refuse_append K.may_refuse_commit

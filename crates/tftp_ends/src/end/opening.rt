@@ -15,6 +15,7 @@ use crate::phase::Phase;
 use crate::record::Step;
 use crate::side::Side;
 use std::alloc::{AllocError, Global};
+use tftp_file::NetDecoder;
 use tftp_negotiate::{Asked, DEFAULT_BLOCK};
 use tftp_wire::{HEADER, MAX_REQUEST, Mode, append_read, append_write, is_text};
 
@@ -101,6 +102,7 @@ impl End {
             last_sent,
             spare: Vec::new(alloc),
             last_sent_to: to,
+            decoder: NetDecoder::new(),
             phase,
         }
     }

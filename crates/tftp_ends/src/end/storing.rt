@@ -1,7 +1,9 @@
 //! The one block that a sink takes, and what is answered to it.
 
-ghost use Rattle.std.specs.Prelude.{◌≡◌, ◌≤◌, false, length, OnErr, IfOk, Some};
-ghost use Rattle.tftp_ends.specs.BlockStored.{StoresBlock, StoresLast, KeepsHolding};
+ghost use Rattle.std.specs.Prelude.{◌≡◌, ◌≤◌, ◌++◌, true, false, nat_lt, length, OnErr, IfOk, Some};
+ghost use Rattle.tftp_file.specs.Decoding.{Decodes};
+ghost use Rattle.tftp_ends.specs.BlockStored.{StoresBlock, StoresPiece, StoresLast, KeepsHolding};
+ghost use Rattle.tftp_ends.specs.Text.{begins_netascii, is_readable};
 ghost use Rattle.tftp_ends.specs.Step.{Turn, Lends, Stores, Appended, commit_reply, lent};
 ghost use Rattle.tftp_ends.specs.End.{is_sender};
 
@@ -12,7 +14,7 @@ use crate::outcome::Outcome;
 use crate::outgoing::Outgoing;
 use crate::phase::{Dally, Phase, Terms};
 use std::alloc::AllocError;
-use tftp_file::{Sink, StoreFault};
+use tftp_file::{NetDecoder, NetFault, Sink, StoreFault};
 use tftp_wire::Mode;
 
 /// What a sink made of a block.
@@ -22,8 +24,10 @@ enum BlockStored {
     More,
     /// It holds and has committed the whole.
     All,
-    /// It refused the block or the commit.
-    Refused(ErrorReply),
+    /// It refused the block.
+    Refused,
+    /// It holds the block, and refused the commit.
+    Uncommitted(ErrorReply),
 }
 
 /// Hands a block's bytes to the sink, if there are any.
@@ -58,7 +62,7 @@ fn commit<K: Sink>(sink: &mut K) -> BlockStored
 {
     match sink.commit() {
         Ok(()) => BlockStored::All,
-        Err(fault) => BlockStored::Refused(commit_reply(fault)),
+        Err(fault) => BlockStored::Uncommitted(commit_reply(fault)),
     }
 }
 
@@ -84,7 +88,57 @@ fn store_block<K: Sink>(
         }
         Err(StoreFault::Memory) => Err(AllocError),
         Err(StoreFault::Missing | StoreFault::Exists | StoreFault::Full | StoreFault::Io) => {
-            Ok(BlockStored::Refused(ErrorReply::DiskFull))
+            Ok(BlockStored::Refused)
+        }
+    }
+}
+
+/// Makes the host's bytes that a piece of netascii completes the buffer's bytes, and gives the decoder
+/// behind it.
+fn decode_into(
+    buffer: &mut Vec<u8>,
+    decoder: NetDecoder,
+    piece: &[u8],
+) -> Result<NetDecoder, AllocError>
+    requires { begins_netascii (decoder ++ piece.now) ≡ true }
+    ensures { IfOk result (λ behind. Decodes decoder piece.now buffer.new.items behind) }
+{
+    let mut behind = decoder;
+    buffer.clear();
+    match behind.push(piece, buffer) {
+        Ok(()) => Ok(behind),
+        Err(fault) => match fault {
+            NetFault::Memory => Err(AllocError),
+            _ => unreachable!(),
+        },
+    }
+}
+
+/// Hands the host's bytes of a piece to the sink, and gives the decoder behind it.
+fn store_piece<K: Sink>(
+    sink: &mut K,
+    mode: Mode,
+    decoder: NetDecoder,
+    piece: &[u8],
+    is_last: bool,
+    buffer: &mut Vec<u8>,
+) -> Result<(BlockStored, NetDecoder), AllocError>
+    requires { is_readable mode decoder piece.now is_last ≡ true }
+    ensures takes { IfOk result (λ stored.
+        StoresPiece K.held K.may_refuse_append K.may_refuse_commit
+        mode decoder piece.now is_last sink.old sink.new stored.0 stored.1) }
+    ensures err { OnErr result (KeepsHolding (K.held sink.old) (K.held sink.new)) }
+    ensures same { K.is_same sink.old sink.new }
+{
+    match mode {
+        Mode::Octet => {
+            let stored = store_block(sink, piece, is_last)?;
+            Ok((stored, decoder))
+        }
+        Mode::Netascii => {
+            let behind = decode_into(buffer, decoder, piece)?;
+            let stored = store_block(sink, buffer, is_last)?;
+            Ok((stored, behind))
         }
     }
 }
@@ -101,7 +155,8 @@ impl End {
         from: Endpoint,
     ) -> Result<Outgoing, AllocError>
         requires receiver { is_sender self.old.side ≡ false }
-        requires octet { self.old.mode ≡ Mode.Octet }
+        requires reads { is_readable self.old.mode self.old.held piece.now
+            (nat_lt (length piece.now) terms.size) ≡ true }
         ensures stores { IfOk result (λ outgoing. (turn : Turn)
             × Stores K.held K.may_refuse_append K.may_refuse_commit
             terms number from piece.now self.old sink.old turn sink.new
@@ -113,18 +168,31 @@ impl End {
         ensures side { self.new.side ≡ self.old.side }
     {
         let is_last = piece.len() < usize::from(terms.size);
-        match store_block(sink, piece, is_last)? {
-            BlockStored::More => { Ok(self.acknowledge(Phase::Receiving { terms, number }, from)) }
+        let spare = &mut self.spare;
+        let (stored, behind) = store_piece(sink, self.mode, self.decoder, piece, is_last, spare)?;
+        match stored {
+            BlockStored::More => {
+                let outgoing = self.acknowledge(Phase::Receiving { terms, number }, from);
+                self.decoder = behind;
+                Ok(outgoing)
+            }
             BlockStored::All => {
                 let phase = Phase::Dallying {
                     terms,
                     number,
                     dally: Dally::Fresh,
                 };
-                Ok(self.acknowledge(phase, from))
+                let outgoing = self.acknowledge(phase, from);
+                self.decoder = behind;
+                Ok(outgoing)
             }
-            BlockStored::Refused(reply) => {
+            BlockStored::Refused => {
                 self.go_into(self.phase.refused(Some(terms), Outcome::StoreFault));
+                Ok(Outgoing::Error(ErrorReply::DiskFull))
+            }
+            BlockStored::Uncommitted(reply) => {
+                self.go_into(self.phase.refused(Some(terms), Outcome::StoreFault));
+                self.decoder = behind;
                 Ok(Outgoing::Error(reply))
             }
         }

@@ -1,0 +1,120 @@
+-- A piece of netascii by its first wrong byte, and by what it stands for.
+use Rattle.std.proofs.Common.{◌≡◌, ◌≢◌, ℕ, Bool, true, false, List, [], ◌∷◌, ◌++◌, Result, Ok, Err, length, ltb, ◌<◌, ◌≤◌, sym, refl, ap, ◌∙◌, subst, inl, inr, append_assoc}
+use Rattle.std.specs.Prelude.{◌==◌, ◌↔◌, ◌&&◌, ◌||◌, not, if◌then◌else◌}
+use Rattle.std.proofs.lemmas.Bool.{cases_eq, eq-eqb, ne_eqb, true≢false, lt-ltb, le-ltb}
+use Rattle.std.specs.Result.{IsOk, is_ok}
+use Rattle.tftp_wire.specs.declared.mode.Mode.{Mode}
+use Rattle.tftp_wire.specs.declared.mode.Mode.TheVariants.{Octet, Netascii}
+use Rattle.tftp_file.specs.Netascii.{wire_byte, netascii_text}
+use Rattle.tftp_file.specs.Decoding.{IsHeld, Decodes, FirstWrong, IsWrong, Refuses}
+use Rattle.tftp_file.specs.declared.netascii.NetFault.{NetFault}
+use Rattle.tftp_file.specs.declared.netascii.NetFault.TheVariants.{LoneCr, LoneLf, EndsInCr, Memory}
+use Rattle.tftp_ends.specs.Text.{begins_netascii, ends_in_cr, is_readable, Decoded}
+use Rattle.tftp_ends.specs.Sound.{HeldFits}
+use Rattle.tftp_ends.specs.Step.{Done}
+
+-- a byte that travels as itself
+plain_begins : (b : ℕ) (rest : List ℕ) → (b == 10) ≡ false → (b == 13) ≡ false → begins_netascii (b ∷ rest) ≡ begins_netascii rest
+plain_begins b [] n m = rw n
+plain_begins b (c ∷ rest) n m = rw (m, n)
+
+plain_ends : (b : ℕ) (rest : List ℕ) → (b == 13) ≡ false → ends_in_cr (b ∷ rest) ≡ ends_in_cr rest
+plain_ends b [] m = m
+plain_ends b (c ∷ rest) m = refl
+
+pair_ends : (second : ℕ) (rest : List ℕ) → (second == 13) ≡ false → ends_in_cr (13 ∷ second ∷ rest) ≡ ends_in_cr rest
+pair_ends second [] m = m
+pair_ends second (c ∷ rest) m = refl
+
+-- one byte of the host in front of a text
+byte_begins : (b : ℕ) (rest : List ℕ) → (begins_netascii (wire_byte b ++ rest) ≡ begins_netascii rest) × (ends_in_cr (wire_byte b ++ rest) ≡ ends_in_cr rest)
+byte_begins b rest = elim (cases_eq b 10) [
+  | inl e ↦ rw e (refl, pair_ends 10 rest refl)
+  | inr n ↦
+      let p : (b == 10) ≡ false = ne_eqb b 10 n in
+      elim (cases_eq b 13) [
+        | inl e ↦ rw e (refl, pair_ends 0 rest refl)
+        | inr m ↦ let q : (b == 13) ≡ false = ne_eqb b 13 m in rw (p, q) (plain_begins b rest p q, plain_ends b rest q)
+      ]
+]
+
+-- some bytes of the host in front of a text
+text_begins : (bytes rest : List ℕ) → (begins_netascii (netascii_text bytes ++ rest) ≡ begins_netascii rest) × (ends_in_cr (netascii_text bytes ++ rest) ≡ ends_in_cr rest)
+text_begins [] rest = (refl, refl)
+text_begins (b ∷ bytes) rest =
+    let one = byte_begins b (netascii_text bytes ++ rest) in
+    let more = text_begins bytes rest in
+    let split : netascii_text (b ∷ bytes) ++ rest ≡ wire_byte b ++ (netascii_text bytes ++ rest) = append_assoc (wire_byte b) (netascii_text bytes) rest in
+    (ap begins_netascii split ∙ (one.0 ∙ more.0), ap ends_in_cr split ∙ (one.1 ∙ more.1))
+
+held_begins : (held : List ℕ) → IsHeld held → begins_netascii held ≡ true
+held_begins held h = elim h [
+  | inl e ↦ ap begins_netascii e
+  | inr e ↦ ap begins_netascii e
+]
+
+-- what decodes begins a wire text
+pub decoded_begins : (held piece bytes after : List ℕ) → Decodes held piece bytes after → begins_netascii (held ++ piece) ≡ true
+decoded_begins held piece bytes after d = ap begins_netascii d.1 ∙ ((text_begins bytes after).0 ∙ held_begins after d.0)
+
+-- and ends in a CR if one is held back
+pub decoded_ends : (held piece bytes after : List ℕ) → Decodes held piece bytes after → ends_in_cr (held ++ piece) ≡ ends_in_cr after
+decoded_ends held piece bytes after d = ap ends_in_cr d.1 ∙ (text_begins bytes after).1
+
+-- what has a wrong byte does not
+lone_cr : (byte : ℕ) (rest : List ℕ) → byte ≢ 10 → byte ≢ 0 → begins_netascii (13 ∷ byte ∷ rest) ≡ false
+lone_cr byte rest n m = rw (ne_eqb byte 10 n, ne_eqb byte 0 m)
+
+lone_lf : (rest : List ℕ) → begins_netascii (10 ∷ rest) ≡ false
+lone_lf [] = refl
+lone_lf (c ∷ rest) = refl
+
+pub wrong_begins : (text : List ℕ) (fault : NetFault) → IsWrong text fault → begins_netascii text ≡ false
+wrong_begins text LoneCr h = ap begins_netascii h.1.split ∙ ((text_begins h.1.bytes (13 ∷ h.1.byte ∷ h.1.rest)).0 ∙ lone_cr h.1.byte h.1.rest h.1.no_lf h.1.no_nul)
+wrong_begins text LoneLf h = ap begins_netascii h.1.split ∙ ((text_begins h.1.bytes (10 ∷ h.1.rest)).0 ∙ lone_lf h.1.rest)
+wrong_begins text EndsInCr h = absurd h.1
+wrong_begins text Memory h = absurd h.1
+
+-- a push of what begins a wire text is refused for memory alone
+pub refused_for_memory : (text : List ℕ) (fault : NetFault) → begins_netascii text ≡ true → fault ≢ Memory → Refuses text fault → ⊥
+refused_for_memory text LoneCr b n h = true≢false (sym b ∙ wrong_begins text LoneCr h)
+refused_for_memory text LoneLf b n h = true≢false (sym b ∙ wrong_begins text LoneLf h)
+refused_for_memory text EndsInCr b n h = h
+refused_for_memory text Memory b n h = n refl
+
+both_true : (a b : Bool) → (a && b) ≡ true → (a ≡ true) × (b ≡ true)
+both_true true b e = (refl, e)
+both_true false b e = absurd (true≢false (sym e))
+
+-- what is held back fits again
+pub held_fits : (mode : Mode) (held piece bytes after : List ℕ) → HeldFits mode held → Decoded mode held piece bytes after → HeldFits mode after
+held_fits Octet held piece bytes after h d = d.1 ∙ h
+held_fits Netascii held piece bytes after h d = d.0
+
+readable_by : (held piece bytes after : List ℕ) (last : Bool) → Decodes held piece bytes after → is_readable Netascii held piece last ≡ not (last && ends_in_cr after)
+readable_by held piece bytes after last d = rw (decoded_begins held piece bytes after d, decoded_ends held piece bytes after d)
+
+-- a whole block goes on with the text
+pub readable_more : (held piece bytes after : List ℕ) (size : ℕ) → Decodes held piece bytes after → size ≤ length piece → true ≡ is_readable Netascii held piece (ltb (length piece) size)
+readable_more held piece bytes after size d l =
+    sym (readable_by held piece bytes after (ltb (length piece) size) d ∙ ap (λ (b : Bool). not (b && ends_in_cr after)) (le-ltb (length piece) size l))
+
+ends_well : (after : List ℕ) (answer : Result Done NetFault) → IsHeld after → IsOk answer ↔ (after ≡ []) → is_ok answer ≡ not (ends_in_cr after)
+ends_well after (Ok done) h iff = sym (ap (λ (t : List ℕ). not (ends_in_cr t)) (iff.0 refl))
+ends_well after (Err fault) h iff = elim h [
+  | inl e ↦ absurd (true≢false (sym (iff.1 e)))
+  | inr e ↦ sym (ap (λ (t : List ℕ). not (ends_in_cr t)) e)
+]
+
+-- a last one does where no CR is held back behind it
+pub readable_last : (held piece bytes after : List ℕ) (size : ℕ) (answer : Result Done NetFault) → Decodes held piece bytes after → length piece < size → IsOk answer ↔ (after ≡ []) → is_ok answer ≡ is_readable Netascii held piece (ltb (length piece) size)
+readable_last held piece bytes after size answer d l iff =
+    ends_well after answer d.0 iff ∙ sym (readable_by held piece bytes after (ltb (length piece) size) d ∙ ap (λ (b : Bool). not (b && ends_in_cr after)) (lt-ltb (length piece) size l))
+
+-- a piece with a wrong byte does not
+pub wrong_unreadable : (held piece : List ℕ) (last : Bool) (fault : NetFault) → IsWrong (held ++ piece) fault → false ≡ is_readable Netascii held piece last
+wrong_unreadable held piece last fault w = sym (ap (λ (b : Bool). b && not (last && ends_in_cr (held ++ piece))) (wrong_begins (held ++ piece) fault w))
+
+-- what is readable begins a wire text
+pub readable_begins : (held piece : List ℕ) (last : Bool) → is_readable Netascii held piece last ≡ true → begins_netascii (held ++ piece) ≡ true
+readable_begins held piece last e = (both_true (begins_netascii (held ++ piece)) (not (last && ends_in_cr (held ++ piece))) e).0
