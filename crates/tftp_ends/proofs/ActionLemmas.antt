@@ -1,9 +1,11 @@
 -- What is known of the action that an end finds at a packet.
-use Rattle.std.proofs.Common.{◌≡◌, ℕ, Bool, true, false, List, [], length, drop, Option, Some, None, Result, Ok, Err, refl, sym, ap, subst}
+use Rattle.std.proofs.Common.{◌≡◌, ℕ, Bool, true, false, List, [], length, drop, Option, Some, None, Result, Ok, Err, refl, sym, ap, subst, ◌≤◌, arith}
 use Rattle.std.specs.Prelude.{◌==◌, ◌&&◌, ◌+◌, ◌*◌, ◌/◌, nat_lt, nat_le, if◌then◌else◌}
 use Rattle.tftp_wire.specs.declared.packet.Packet.{Packet}
 use Rattle.tftp_wire.specs.declared.packet.Packet.TheVariants.{Read, Write, Data, Ack, Error, Oack}
 use Rattle.tftp_wire.specs.Spelling.{Spells}
+use Rattle.tftp_wire.specs.declared.limits.TheConstants.{MAX_REQUEST}
+use Rattle.tftp_negotiate.specs.declared.limits.TheConstants.{DEFAULT_BLOCK}
 use Rattle.tftp_negotiate.specs.declared.asked.Asked.{Asked}
 use Rattle.tftp_negotiate.specs.declared.known.Kind.TheVariants as kinds
 use Rattle.tftp_negotiate.specs.declared.known.Known.{Known}
@@ -12,6 +14,7 @@ use Rattle.tftp_negotiate.specs.declared.refusal.Refusal.TheVariants as refusals
 use Rattle.tftp_negotiate.specs.Agreement.{agreement}
 use Rattle.tftp_ends.specs.declared.action.Action.{Action}
 use Rattle.tftp_ends.specs.declared.action.Action.TheVariants.{Respond, Send, Store}
+use Rattle.tftp_ends.specs.declared.action.Response.{Response}
 use Rattle.tftp_ends.specs.declared.action.Response.TheVariants.{Ignore, ResendReply, Refuse, Complete}
 use Rattle.tftp_ends.specs.declared.endpoint.Endpoint.{Endpoint}
 use Rattle.tftp_ends.specs.declared.error_reply.ErrorReply.TheVariants.{FileTooLarge, NotNetascii}
@@ -20,10 +23,10 @@ use Rattle.tftp_ends.specs.declared.phase.Phase.{Phase}
 use Rattle.tftp_ends.specs.declared.phase.Phase.TheVariants.{Waiting, Sending, Receiving, Dallying, Closed}
 use Rattle.tftp_ends.specs.declared.phase.Terms.{Terms}
 use Rattle.tftp_ends.specs.Action.{Decodes, packet_action}
-use Rattle.tftp_ends.specs.End.{EndState, is_sender, is_client}
-use Rattle.tftp_ends.specs.Receiver.{receiver_action, data_action, next_action}
+use Rattle.tftp_ends.specs.End.{EndState, is_sender, is_client, terms_of}
+use Rattle.tftp_ends.specs.Receiver.{receiver_action, data_action, next_action, dally_response}
 use Rattle.tftp_ends.specs.Sender.{sender_action, acked_action, illegal_action}
-use Rattle.tftp_ends.specs.Sound.{PhaseFits, StoresText}
+use Rattle.tftp_ends.specs.Sound.{IsSound, PhaseFits, PieceFits, SentFits}
 use Rattle.tftp_ends.specs.Text.{is_readable}
 use Rattle.tftp_ends.specs.Waiting.{reader_action, writer_action, accept_action, begin_action, begin_with_action, refusal_action, default_terms, agreed_terms, no_answer}
 
@@ -36,108 +39,127 @@ if_either P false r s f g = g refl
 data_behind : (number : ℕ) (piece bytes : List ℕ) → Spells (Data number piece) bytes → piece ≡ drop 4 bytes
 data_behind number piece bytes s = sym (ap (drop 4) s.whole)
 
-module _ (e : EndState) (from : Endpoint) (bytes : List ℕ) where
-  -- a piece that is to be stored goes on with the text
-  abbrev Reads : Action → Type 0
-  Reads action = StoresText e (drop 4 bytes) action
+-- terms of an end that had none allow its request
+pub sent_any : (e : EndState) (terms : Option Terms) → length e.last_sent ≤ MAX_REQUEST → SentFits e terms
+sent_any e None w = w
+sent_any e (Some terms) w = omega (arith, w)
 
-  acked_reads : (terms : Terms) (number acked : ℕ) → Reads (acked_action e.length terms number acked)
-  acked_reads terms number acked =
+module _ (e : EndState) (from : Endpoint) (bytes : List ℕ) where
+  -- what an action asks of the end and of the piece behind the header
+  abbrev Fits : Action → Type 0
+  Fits action = PieceFits e (drop 4 bytes) action
+
+  acked_fits : (terms : Terms) (number acked : ℕ) → SentFits e (Some terms) → Fits (acked_action e.length terms number acked)
+  acked_fits terms number acked s =
       let next = if nat_lt number (e.length / terms.size + 1) then Send terms (number + 1) else Respond Complete in
       let other = if nat_lt acked number then Respond Ignore else illegal_action terms in
-      if_either Reads (acked == number) next other
-      (λ _. if_either Reads (nat_lt number (e.length / terms.size + 1)) (Send terms (number + 1)) (Respond Complete) (λ _. tt) (λ _. tt))
-      (λ _. if_either Reads (nat_lt acked number) (Respond Ignore) (illegal_action terms) (λ _. tt) (λ _. tt))
+      if_either Fits (acked == number) next other
+      (λ _. if_either Fits (nat_lt number (e.length / terms.size + 1)) (Send terms (number + 1)) (Respond Complete) (λ _. s) (λ _. tt))
+      (λ _. if_either Fits (nat_lt acked number) (Respond Ignore) (illegal_action terms) (λ _. tt) (λ _. s))
 
-  sender_reads : (client : Bool) (terms : Terms) (number : ℕ) (decoded : Option Packet) → Reads (sender_action client e.length terms number decoded)
-  sender_reads client terms number None = tt
-  sender_reads client terms number (Some (Read r)) = tt
-  sender_reads client terms number (Some (Write r)) = tt
-  sender_reads client terms number (Some (Data n piece)) = tt
-  sender_reads client terms number (Some (Ack acked)) = acked_reads terms number acked
-  sender_reads client terms number (Some (Error code text)) = tt
-  sender_reads client terms number (Some (Oack options)) =
-      if_either Reads (client && terms.by_oack) (Respond Ignore) (illegal_action terms) (λ _. tt) (λ _. tt)
+  sender_fits : (client : Bool) (terms : Terms) (number : ℕ) (decoded : Option Packet) → SentFits e (Some terms) → Fits (sender_action client e.length terms number decoded)
+  sender_fits client terms number None s = s
+  sender_fits client terms number (Some (Read r)) s = s
+  sender_fits client terms number (Some (Write r)) s = s
+  sender_fits client terms number (Some (Data n piece)) s = s
+  sender_fits client terms number (Some (Ack acked)) s = acked_fits terms number acked s
+  sender_fits client terms number (Some (Error code text)) s = tt
+  sender_fits client terms number (Some (Oack options)) s =
+      if_either Fits (client && terms.by_oack) (Respond Ignore) (illegal_action terms) (λ _. tt) (λ _. s)
 
-  next_reads : (held : List ℕ) (terms : Terms) (number : ℕ) (piece : List ℕ) → e.held ≡ held → piece ≡ drop 4 bytes → Reads (next_action e.mode held terms number piece)
-  next_reads held terms number piece h p =
+  next_fits : (held : List ℕ) (terms : Terms) (number : ℕ) (piece : List ℕ) → SentFits e (Some terms) → e.held ≡ held → piece ≡ drop 4 bytes → Fits (next_action e.mode held terms number piece)
+  next_fits held terms number piece s h p =
       let last = nat_lt (length piece) terms.size in
       let store = if is_readable e.mode held piece last then Store terms number else Respond (Refuse (Some terms) NotNetascii outcomes.NotNetascii) in
       let fitting = if number == 65535 && (length piece == terms.size) then Respond (Refuse (Some terms) FileTooLarge outcomes.TooLarge) else store in
-      if_either Reads (nat_lt terms.size (length piece)) (illegal_action terms) fitting (λ _. tt)
-      (λ _. if_either Reads (number == 65535 && (length piece == terms.size)) (Respond (Refuse (Some terms) FileTooLarge outcomes.TooLarge)) store (λ _. tt)
-      (λ _. if_either Reads (is_readable e.mode held piece last) (Store terms number) (Respond (Refuse (Some terms) NotNetascii outcomes.NotNetascii))
-      (λ readable. subst (λ (t : List ℕ). is_readable e.mode t (drop 4 bytes) (nat_lt (length (drop 4 bytes)) terms.size) ≡ true) (sym h)
-      (subst (λ (t : List ℕ). is_readable e.mode held t (nat_lt (length t) terms.size) ≡ true) p readable))
-      (λ _. tt)))
+      if_either Fits (nat_lt terms.size (length piece)) (illegal_action terms) fitting (λ _. s)
+      (λ _. if_either Fits (number == 65535 && (length piece == terms.size)) (Respond (Refuse (Some terms) FileTooLarge outcomes.TooLarge)) store (λ _. s)
+      (λ _. if_either Fits (is_readable e.mode held piece last) (Store terms number) (Respond (Refuse (Some terms) NotNetascii outcomes.NotNetascii))
+      (λ readable. (
+        s,
+        subst (λ (t : List ℕ). is_readable e.mode t (drop 4 bytes) (nat_lt (length (drop 4 bytes)) terms.size) ≡ true) (sym h)
+            (subst (λ (t : List ℕ). is_readable e.mode held t (nat_lt (length t) terms.size) ≡ true) p readable),
+      ))
+      (λ _. s)))
 
-  data_reads : (held : List ℕ) (terms : Terms) (stored number : ℕ) (piece : List ℕ) → e.held ≡ held → piece ≡ drop 4 bytes → Reads (data_action e.mode held terms stored number piece)
-  data_reads held terms stored number piece h p =
+  data_fits : (held : List ℕ) (terms : Terms) (stored number : ℕ) (piece : List ℕ) → SentFits e (Some terms) → e.held ≡ held → piece ≡ drop 4 bytes → Fits (data_action e.mode held terms stored number piece)
+  data_fits held terms stored number piece s h p =
       let next = if number == stored + 1 then next_action e.mode held terms number piece else illegal_action terms in
       let other = if nat_lt number stored then Respond Ignore else next in
-      if_either Reads (number == stored) (Respond ResendReply) other (λ _. tt)
-      (λ _. if_either Reads (nat_lt number stored) (Respond Ignore) next (λ _. tt)
-      (λ _. if_either Reads (number == stored + 1) (next_action e.mode held terms number piece) (illegal_action terms)
-      (λ _. next_reads held terms number piece h p) (λ _. tt)))
+      if_either Fits (number == stored) (Respond ResendReply) other (λ _. tt)
+      (λ _. if_either Fits (nat_lt number stored) (Respond Ignore) next (λ _. tt)
+      (λ _. if_either Fits (number == stored + 1) (next_action e.mode held terms number piece) (illegal_action terms)
+      (λ _. next_fits held terms number piece s h p) (λ _. s)))
 
-  receiver_reads : (client : Bool) (held : List ℕ) (terms : Terms) (stored : ℕ) (decoded : Option Packet) → e.held ≡ held → Decodes bytes decoded → Reads (receiver_action client e.mode held terms stored decoded)
-  receiver_reads client held terms stored None h d = tt
-  receiver_reads client held terms stored (Some (Read r)) h d = tt
-  receiver_reads client held terms stored (Some (Write r)) h d = tt
-  receiver_reads client held terms stored (Some (Data number piece)) h d = data_reads held terms stored number piece h (data_behind number piece bytes d)
-  receiver_reads client held terms stored (Some (Ack acked)) h d = tt
-  receiver_reads client held terms stored (Some (Error code text)) h d = tt
-  receiver_reads client held terms stored (Some (Oack options)) h d =
+  receiver_fits : (client : Bool) (held : List ℕ) (terms : Terms) (stored : ℕ) (decoded : Option Packet) → SentFits e (Some terms) → e.held ≡ held → Decodes bytes decoded → Fits (receiver_action client e.mode held terms stored decoded)
+  receiver_fits client held terms stored None s h d = s
+  receiver_fits client held terms stored (Some (Read r)) s h d = s
+  receiver_fits client held terms stored (Some (Write r)) s h d = s
+  receiver_fits client held terms stored (Some (Data number piece)) s h d = data_fits held terms stored number piece s h (data_behind number piece bytes d)
+  receiver_fits client held terms stored (Some (Ack acked)) s h d = s
+  receiver_fits client held terms stored (Some (Error code text)) s h d = tt
+  receiver_fits client held terms stored (Some (Oack options)) s h d =
       let again = if stored == 0 then Respond ResendReply else Respond Ignore in
-      if_either Reads (client && terms.by_oack) again (illegal_action terms)
-      (λ _. if_either Reads (stored == 0) (Respond ResendReply) (Respond Ignore) (λ _. tt) (λ _. tt)) (λ _. tt)
+      if_either Fits (client && terms.by_oack) again (illegal_action terms)
+      (λ _. if_either Fits (stored == 0) (Respond ResendReply) (Respond Ignore) (λ _. tt) (λ _. tt)) (λ _. s)
 
-  refusal_reads : (refusal : Refusal) → Reads (refusal_action refusal)
-  refusal_reads refusals.Repeated = tt
-  refusal_reads refusals.TooLarge = tt
-  refusal_reads refusals.NotAsked = tt
-  refusal_reads refusals.BadValue = tt
+  refusal_fits : (refusal : Refusal) → length e.last_sent ≤ MAX_REQUEST → Fits (refusal_action refusal)
+  refusal_fits refusals.Repeated w = w
+  refusal_fits refusals.TooLarge w = w
+  refusal_fits refusals.NotAsked w = w
+  refusal_fits refusals.BadValue w = w
 
-  accept_reads : (answer : Result (List Known) Refusal) → Reads (accept_action from answer)
-  accept_reads (Ok agreed) = tt
-  accept_reads (Err refusal) = refusal_reads refusal
+  accept_fits : (answer : Result (List Known) Refusal) → length e.last_sent ≤ MAX_REQUEST → Fits (accept_action from answer)
+  accept_fits (Ok agreed) w = tt
+  accept_fits (Err refusal) w = refusal_fits refusal w
 
-  begin_reads : (length : ℕ) (terms : Terms) → Reads (begin_action length terms)
-  begin_reads length terms =
-      if_either Reads (nat_lt length (65535 * terms.size)) (Send terms 1) (Respond (Refuse None FileTooLarge outcomes.TooLarge)) (λ _. tt) (λ _. tt)
+  begin_fits : (length_now : ℕ) (terms : Terms) → length e.last_sent ≤ MAX_REQUEST → Fits (begin_action length_now terms)
+  begin_fits length_now terms w =
+      if_either Fits (nat_lt length_now (65535 * terms.size)) (Send terms 1) (Respond (Refuse None FileTooLarge outcomes.TooLarge)) (λ _. sent_any e (Some terms) w) (λ _. w)
 
-  begin_with_reads : (length : ℕ) (answer : Result (List Known) Refusal) → Reads (begin_with_action from length answer)
-  begin_with_reads length (Ok agreed) = begin_reads length (agreed_terms from agreed)
-  begin_with_reads length (Err refusal) = refusal_reads refusal
+  begin_with_fits : (length_now : ℕ) (answer : Result (List Known) Refusal) → length e.last_sent ≤ MAX_REQUEST → Fits (begin_with_action from length_now answer)
+  begin_with_fits length_now (Ok agreed) w = begin_fits length_now (agreed_terms from agreed) w
+  begin_with_fits length_now (Err refusal) w = refusal_fits refusal w
 
-  reader_reads : (asked : Asked) (limit : ℕ) (decoded : Option Packet) → e.held ≡ [] → Decodes bytes decoded → Reads (reader_action e.mode asked limit from decoded)
-  reader_reads asked limit None h d = tt
-  reader_reads asked limit (Some (Read r)) h d = tt
-  reader_reads asked limit (Some (Write r)) h d = tt
-  reader_reads asked limit (Some (Data number piece)) h d =
+  reader_fits : (asked : Asked) (limit : ℕ) (decoded : Option Packet) → length e.last_sent ≤ MAX_REQUEST → e.held ≡ [] → Decodes bytes decoded → Fits (reader_action e.mode asked limit from decoded)
+  reader_fits asked limit None w h d = w
+  reader_fits asked limit (Some (Read r)) w h d = w
+  reader_fits asked limit (Some (Write r)) w h d = w
+  reader_fits asked limit (Some (Data number piece)) w h d =
       let first = receiver_action true e.mode [] (default_terms from) 0 (Some (Data number piece)) in
-      if_either Reads (number == 1 && nat_le (length piece) 512) first no_answer
-      (λ _. receiver_reads true [] (default_terms from) 0 (Some (Data number piece)) h d) (λ _. tt)
-  reader_reads asked limit (Some (Ack acked)) h d = tt
-  reader_reads asked limit (Some (Error code text)) h d = tt
-  reader_reads asked limit (Some (Oack options)) h d = accept_reads (agreement asked kinds.Read e.mode options limit)
+      if_either Fits (number == 1 && nat_le (length piece) DEFAULT_BLOCK) first no_answer
+      (λ _. receiver_fits true [] (default_terms from) 0 (Some (Data number piece)) (sent_any e (Some (default_terms from)) w) h d) (λ _. w)
+  reader_fits asked limit (Some (Ack acked)) w h d = w
+  reader_fits asked limit (Some (Error code text)) w h d = tt
+  reader_fits asked limit (Some (Oack options)) w h d = accept_fits (agreement asked kinds.Read e.mode options limit) w
 
-  writer_reads : (asked : Asked) (limit : ℕ) (decoded : Option Packet) → Reads (writer_action e.mode asked limit e.length from decoded)
-  writer_reads asked limit None = tt
-  writer_reads asked limit (Some (Read r)) = tt
-  writer_reads asked limit (Some (Write r)) = tt
-  writer_reads asked limit (Some (Data number piece)) = tt
-  writer_reads asked limit (Some (Ack number)) =
-      if_either Reads (number == 0) (begin_action e.length (default_terms from)) no_answer (λ _. begin_reads e.length (default_terms from)) (λ _. tt)
-  writer_reads asked limit (Some (Error code text)) = tt
-  writer_reads asked limit (Some (Oack options)) = begin_with_reads e.length (agreement asked kinds.Write e.mode options limit)
+  writer_fits : (asked : Asked) (limit : ℕ) (decoded : Option Packet) → length e.last_sent ≤ MAX_REQUEST → Fits (writer_action e.mode asked limit e.length from decoded)
+  writer_fits asked limit None w = w
+  writer_fits asked limit (Some (Read r)) w = w
+  writer_fits asked limit (Some (Write r)) w = w
+  writer_fits asked limit (Some (Data number piece)) w = w
+  writer_fits asked limit (Some (Ack number)) w =
+      if_either Fits (number == 0) (begin_action e.length (default_terms from)) no_answer (λ _. begin_fits e.length (default_terms from) w) (λ _. w)
+  writer_fits asked limit (Some (Error code text)) w = tt
+  writer_fits asked limit (Some (Oack options)) w = begin_with_fits e.length (agreement asked kinds.Write e.mode options limit) w
+
+  phase_fits : (decoded : Option Packet) (phase : Phase) → PhaseFits e phase → SentFits e (terms_of phase) → Decodes bytes decoded → Fits (packet_action e from decoded phase)
+  phase_fits decoded (Waiting asked limit) fits s d =
+      if_either Fits (is_sender e.side) (writer_action e.mode asked limit e.length from decoded) (reader_action e.mode asked limit from decoded)
+      (λ _. writer_fits asked limit decoded s) (λ _. reader_fits asked limit decoded s fits.2 d)
+  phase_fits decoded (Sending terms number) fits s d = sender_fits (is_client e.side) terms number decoded s
+  phase_fits decoded (Receiving terms number) fits s d = receiver_fits (is_client e.side) e.held terms number decoded s refl d
+  phase_fits decoded (Dallying terms number dally) fits s d = dally_fits decoded where
+    dally_fits : (decoded : Option Packet) → Fits (Respond (dally_response number decoded))
+    dally_fits None = tt
+    dally_fits (Some (Read r)) = tt
+    dally_fits (Some (Write r)) = tt
+    dally_fits (Some (Data n piece)) = if_either (λ (r : Response). Fits (Respond r)) (n == number) ResendReply Ignore (λ _. tt) (λ _. tt)
+    dally_fits (Some (Ack acked)) = tt
+    dally_fits (Some (Error code text)) = tt
+    dally_fits (Some (Oack options)) = tt
+  phase_fits decoded (Closed terms number complete outcome) fits s d = tt
 
   -- whatever an end finds at a packet
-  pub packet_reads : (decoded : Option Packet) (phase : Phase) → PhaseFits e phase → Decodes bytes decoded → Reads (packet_action e from decoded phase)
-  packet_reads decoded (Waiting asked limit) fits d =
-      if_either Reads (is_sender e.side) (writer_action e.mode asked limit e.length from decoded) (reader_action e.mode asked limit from decoded)
-      (λ _. writer_reads asked limit decoded) (λ _. reader_reads asked limit decoded fits.2 d)
-  packet_reads decoded (Sending terms number) fits d = sender_reads (is_client e.side) terms number decoded
-  packet_reads decoded (Receiving terms number) fits d = receiver_reads (is_client e.side) e.held terms number decoded refl d
-  packet_reads decoded (Dallying terms number dally) fits d = tt
-  packet_reads decoded (Closed terms number complete outcome) fits d = tt
+  pub packet_fits : (decoded : Option Packet) → IsSound e → Decodes bytes decoded → Fits (packet_action e from decoded e.phase)
+  packet_fits decoded sound d = phase_fits decoded e.phase sound.phase sound.sent d

@@ -1,5 +1,5 @@
 -- The state of an end, and what it tells of itself.
-use Rattle.std.specs.Prelude.{ℕ, Bool, true, false, ◌&&◌, ◌||◌, not, nat_lt, List, Option, Some, None, is_some, option_map}
+use Rattle.std.specs.Prelude.{ℕ, Bool, true, false, ◌&&◌, ◌||◌, not, nat_lt, List, Option, Some, None, is_some, option_map, length as list_length}
 use Rattle.tftp_wire.specs.declared.mode.Mode.{Mode}
 use Rattle.tftp_negotiate.specs.declared.limits.TheConstants.{DEFAULT_BLOCK}
 use Rattle.tftp_ends.specs.declared.endpoint.Endpoint.{Endpoint}
@@ -9,6 +9,7 @@ use Rattle.tftp_ends.specs.declared.phase.Phase.{Phase}
 use Rattle.tftp_ends.specs.declared.phase.Phase.TheVariants.{Waiting, Sending, Receiving, Dallying, Closed}
 use Rattle.tftp_ends.specs.declared.side.Side.{Side}
 use Rattle.tftp_ends.specs.declared.side.Side.TheVariants.{ClientRead, ClientWrite, ServerRead, ServerWrite}
+use Rattle.tftp_ends.specs.declared.record.Held.{Held}
 use Rattle.tftp_ends.specs.declared.record.Record.{Record}
 use Rattle.tftp_ends.specs.declared.record.Step.{Step}
 
@@ -104,6 +105,10 @@ record_of e =
       complete = is_complete e.phase;
       outcome = outcome_of e.phase;
     }
+
+-- how many bytes an end keeps between two events
+abbrev pub held_by : EndState → Held
+held_by e = record { datagram = list_length e.last_sent; text = list_length e.held }
 
 -- the peer was taken, the number rose, or the end became complete
 abbrev pub is_progress : Phase → Phase → Bool

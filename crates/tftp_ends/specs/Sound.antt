@@ -1,5 +1,6 @@
 -- What holds of every end between two events, and of every action that it finds.
-use Rattle.std.specs.Prelude.{ℕ, ◌≡◌, ◌*◌, ◌<◌, ◌||◌, nat_lt, not, true, false, List, [], length}
+use Rattle.std.specs.Prelude.{ℕ, ◌≡◌, ◌+◌, ◌*◌, ◌<◌, ◌≤◌, max, ◌||◌, nat_lt, not, true, false, List, [], length, Option, Some, None}
+use Rattle.tftp_wire.specs.declared.limits.TheConstants.{HEADER, MAX_REQUEST}
 use Rattle.tftp_wire.specs.declared.mode.Mode.{Mode}
 use Rattle.tftp_wire.specs.declared.mode.Mode.TheVariants.{Octet, Netascii}
 use Rattle.tftp_file.specs.Decoding.{IsHeld}
@@ -9,9 +10,9 @@ use Rattle.tftp_ends.specs.declared.phase.Phase.TheVariants.{Waiting, Sending, R
 use Rattle.tftp_ends.specs.declared.action.Action.{Action}
 use Rattle.tftp_ends.specs.declared.action.Action.TheVariants.{Respond, Send, Store}
 use Rattle.tftp_ends.specs.declared.action.Response.{Response}
-use Rattle.tftp_ends.specs.declared.action.Response.TheVariants.{Retransmit, Accept}
+use Rattle.tftp_ends.specs.declared.action.Response.TheVariants.{Retransmit, Refuse, Accept}
 use Rattle.tftp_ends.specs.declared.phase.Terms.{Terms}
-use Rattle.tftp_ends.specs.End.{EndState, is_sender, is_client}
+use Rattle.tftp_ends.specs.End.{EndState, is_sender, is_client, terms_of}
 use Rattle.tftp_ends.specs.Step.{ack_bytes}
 use Rattle.tftp_ends.specs.Text.{is_readable}
 
@@ -45,11 +46,18 @@ abbrev pub HeldFits : Mode → List ℕ → Type 0
 HeldFits Octet held = held ≡ []
 HeldFits Netascii held = IsHeld held
 
+-- the longest datagram that an end keeps for its retransmission, in bytes: before it has taken its peer a request, and
+-- then an OACK, or a header and a block of the agreed size
+abbrev pub longest_sent : Option Terms → ℕ
+longest_sent None = MAX_REQUEST
+longest_sent (Some terms) = max MAX_REQUEST (HEADER + terms.size)
+
 -- what holds of an end between two events
 pub record IsSound (e : EndState) : Type 0 where
   pub phase : PhaseFits e e.phase
   pub resends : ResendsAck e e.phase
   pub held : HeldFits e.mode e.held
+  pub sent : length e.last_sent ≤ longest_sent (terms_of e.phase)
 
 -- a retry is spent only where one is left, and only a receiver takes an OACK by an ACK
 abbrev pub ResponseFits : EndState → Response → Type 0
@@ -63,11 +71,21 @@ ActionFits e (Respond response) = ResponseFits e response
 ActionFits e (Send terms number) = IsSending e terms
 ActionFits e (Store terms number) = is_sender e.side ≡ false
 
--- a piece that is to be stored goes on with the text
-abbrev pub StoresText : EndState → List ℕ → Action → Type 0
-StoresText e piece (Respond response) = Unit {0}
-StoresText e piece (Send terms number) = Unit {0}
-StoresText e piece (Store terms number) = is_readable e.mode e.held piece (nat_lt (length piece) terms.size) ≡ true
+-- the terms with which an end closes are those that it had, if it had any: they allow the datagram that it keeps
+abbrev pub SentFits : EndState → Option Terms → Type 0
+SentFits e terms = length e.last_sent ≤ longest_sent terms
+
+-- the same, of what an end does where no file is touched
+abbrev pub RefusalFits : EndState → Response → Type 0
+RefusalFits e (Refuse terms reply outcome) = SentFits e terms
+RefusalFits e _ = Unit {0}
+
+-- a piece that is to be stored goes on with the text, and terms are those that the end had
+abbrev pub PieceFits : EndState → List ℕ → Action → Type 0
+PieceFits e piece (Respond response) = RefusalFits e response
+PieceFits e piece (Send terms number) = SentFits e (Some terms)
+PieceFits e piece (Store terms number) =
+    SentFits e (Some terms) × (is_readable e.mode e.held piece (nat_lt (length piece) terms.size) ≡ true)
 
 -- what a sender does at a packet where no file is touched
 abbrev pub IsSenders : Response → Type 0

@@ -19,7 +19,7 @@ use crate::outcome::Outcome;
 use crate::outgoing::Outgoing;
 use crate::phase::{Dally, Phase, Terms};
 use crate::receiver::{dally_response, receiver_action};
-use crate::record::{Record, Step};
+use crate::record::{Held, Record, Step};
 use crate::sender::sender_action;
 use crate::side::Side;
 use crate::waiting::{reader_action, writer_action};
@@ -63,9 +63,9 @@ impl Model for End {
 }
 
 impl End {
-    ghost use Rattle.tftp_ends.specs.End.{record_of, outcome_of, terms_of, interval_of};
+    ghost use Rattle.tftp_ends.specs.End.{record_of, held_by, outcome_of, terms_of, interval_of};
     ghost use Rattle.tftp_ends.specs.Action.{Decodes, datagram_action, packet_action, garbled_response, is_stranger, timeout_response, timeout_action};
-    ghost use Rattle.tftp_ends.specs.Sound.{ActionFits, StoresText, PhaseFits, ResponseFits, ResendsAck};
+    ghost use Rattle.tftp_ends.specs.Sound.{IsSound, ActionFits, PieceFits, RefusalFits, ResponseFits, ResendsAck, longest_sent};
     ghost use Rattle.tftp_ends.specs.Files.{AreFilesOf, KeepsFiles, AreSame};
     ghost use Rattle.tftp_ends.specs.Step.{Turn, DatagramStep, Carries, Lends, IsAnswered, UsesFile, told, timeout_turn, lent};
 
@@ -91,6 +91,19 @@ impl End {
         ensures { result ≡ outcome_of self.now.phase }
     {
         self.phase.outcome()
+    }
+
+    /// How many bytes the end keeps between two events: of the datagram at most a header and a block
+    /// of the agreed size, or 512 for a request or an OACK, and of text one at most.
+    pub fn held(&self) -> Held
+        ensures held { result ≡ held_by self.now }
+        ensures datagram { result.datagram ≤ longest_sent (terms_of self.now.phase) }
+        ensures text { result.text ≤ 1 }
+    {
+        Held {
+            datagram: self.last_sent.len(),
+            text: self.decoder.held(),
+        }
     }
 
     /// The seconds that the caller lets pass in silence before a timeout: the agreed ones (RFC 2349,
@@ -131,7 +144,7 @@ impl End {
         ensures action { result
             ≡ packet_action self.now from (option_map owned decoded.now) self.now.phase }
         ensures fits { ActionFits self.now result }
-        ensures phase { PhaseFits self.now self.now.phase }
+        ensures sound { IsSound self.now }
     {
         match self.phase {
             Phase::Waiting { asked, limit } => {
@@ -162,7 +175,7 @@ impl End {
         ensures action { (decoded : Option Packet) × Decodes bytes.now decoded
             × (result ≡ datagram_action self.now from bytes.now decoded) }
         ensures fits { ActionFits self.now result }
-        ensures reads { StoresText self.now (drop 4 bytes.now) result }
+        ensures piece { PieceFits self.now (drop 4 bytes.now) result }
     {
         let decoded = decode_packet(bytes);
         let is_error = has_error_opcode(bytes);
@@ -183,6 +196,7 @@ impl End {
     fn timeout_response(&self) -> Response
         ensures response { result ≡ timeout_response self.now.retries_left self.now.phase }
         ensures fits { ResponseFits self.now result }
+        ensures refusal { RefusalFits self.now result }
     {
         match self.phase {
             Phase::Dallying {

@@ -34,5 +34,5 @@ pub use fault::{EndFault, OpenFault};
 pub use outcome::Outcome;
 pub use outgoing::Outgoing;
 pub use phase::{Dally, Phase, Terms};
-pub use record::{Record, Step};
+pub use record::{Held, Record, Step};
 pub use side::Side;

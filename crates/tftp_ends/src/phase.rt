@@ -1,6 +1,6 @@
 //! Where an end stands between two events.
 
-ghost use Rattle.std.specs.Prelude.{◌≡◌};
+ghost use Rattle.std.specs.Prelude.{◌≡◌, if◌then◌else◌};
 ghost use Rattle.tftp_ends.specs.End.{terms_of, number_of, is_complete, outcome_of, is_progress, step_of};
 ghost use Rattle.tftp_ends.specs.Phase.{closed, refused, completed, waited};
 
@@ -130,6 +130,16 @@ impl Phase {
         (self.terms().is_none() && next.terms().is_some())
             || self.number() < next.number()
             || (!self.is_complete() && next.is_complete())
+    }
+
+    /// How many retries are left on the way to `next`: progress gives them back.
+    pub(crate) fn retries_left(self, next: Phase, retries: u8, left: u8) -> u8
+        ensures { result ≡ (if is_progress self next then retries else left) }
+    {
+        if self.is_progress(next) {
+            return retries;
+        }
+        left
     }
 
     /// What a call tells that led from here to `next`, and sent a datagram there.

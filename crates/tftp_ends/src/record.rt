@@ -23,6 +23,15 @@ pub struct Record {
     pub outcome: Option<Outcome>,
 }
 
+/// How many bytes an end keeps between two events.
+#[derive(Clone, Copy, Debug, PartialEq, Eq)]
+pub struct Held {
+    /// The newest datagram, which a timeout sends again, in bytes.
+    pub datagram: usize,
+    /// Wire text that awaits its next byte: in netascii the CR of a pair (RFC 764).
+    pub text: usize,
+}
+
 /// What a call did.
 #[derive(Clone, Copy, Debug, PartialEq, Eq)]
 pub struct Step {

@@ -3,8 +3,8 @@
 ghost use Rattle.std.specs.Prelude.{◌≡◌, ◌≤◌, drop, length, OnErr, IfOk};
 ghost use Rattle.tftp_ends.specs.Files.{AreFilesOf, KeepsFiles, AreSame};
 ghost use Rattle.tftp_ends.specs.Step.{Turn, Acts, Lends, UsesFile, ack_bytes, having_sent, in_phase, response_turn, room_of, response_room, lent};
-ghost use Rattle.tftp_ends.specs.End.{number_of};
-ghost use Rattle.tftp_ends.specs.Sound.{PhaseFits, ActionFits, StoresText, ResponseFits, ResendsAck};
+ghost use Rattle.tftp_ends.specs.End.{number_of, terms_of};
+ghost use Rattle.tftp_ends.specs.Sound.{PhaseFits, ActionFits, PieceFits, RefusalFits, SentFits, ResponseFits, ResendsAck};
 
 use crate::action::{Action, Response};
 use crate::end::End;
@@ -33,11 +33,12 @@ impl End {
     pub(crate) fn go_into(&mut self, phase: Phase)
         requires fits { PhaseFits self.old phase }
         requires resends { ResendsAck self.old phase }
+        requires sent { SentFits self.old (terms_of phase) }
         ensures { self.new ≡ in_phase phase self.old }
     {
-        if self.phase.is_progress(phase) {
-            self.retries_left = self.retries;
-        }
+        self.retries_left = self
+            .phase
+            .retries_left(phase, self.retries, self.retries_left);
         self.phase = phase;
     }
 
@@ -54,9 +55,9 @@ impl End {
             unreachable!()
         };
         self.last_sent_to = from;
-        if self.phase.is_progress(phase) {
-            self.retries_left = self.retries;
-        }
+        self.retries_left = self
+            .phase
+            .retries_left(phase, self.retries, self.retries_left);
         self.phase = phase;
         Outgoing::LastSent
     }
@@ -91,7 +92,8 @@ impl End {
         response: Response,
         from: Endpoint,
     ) -> (Option<Endpoint>, Outgoing)
-        requires { ResponseFits self.old response }
+        requires fits { ResponseFits self.old response }
+        requires refusal { RefusalFits self.old response }
         ensures lends { Lends (response_turn response from self.old) self.new result.0 result.1 }
         ensures room { length (lent result.1 self.new) ≤ response_room self.old response }
         ensures side { self.new.side ≡ self.old.side }
@@ -141,7 +143,7 @@ impl End {
         bytes: &[u8],
     ) -> Result<(Option<Endpoint>, Outgoing), AllocError>
         requires action { ActionFits self.old action }
-        requires reads { StoresText self.old (drop 4 bytes.now) action }
+        requires piece { PieceFits self.old (drop 4 bytes.now) action }
         requires files { AreFilesOf self.old.side files.old }
         ensures acts { IfOk result (λ answer. (turn : Turn)
             × Acts S.left S.may_fail K.held K.may_refuse_append K.may_refuse_commit

@@ -4,7 +4,7 @@
 ghost use Rattle.std.specs.Prelude.{◌≡◌, ◌≤◌, ◌+◌, length, OnOk, OnErr, IfOk, Some, vec_capacity};
 ghost use Rattle.tftp_ends.specs.BlockRead.{is_whole};
 ghost use Rattle.tftp_ends.specs.Step.{Turn, Lends, Sends, ReadsData, block_length, room_of, lent};
-ghost use Rattle.tftp_ends.specs.Sound.{IsSending};
+ghost use Rattle.tftp_ends.specs.Sound.{IsSending, SentFits};
 
 use crate::action::Action;
 use crate::end::End;
@@ -75,7 +75,8 @@ impl End {
         source: &mut S,
         from: Endpoint,
     ) -> Result<Outgoing, AllocError>
-        requires { IsSending self.old terms }
+        requires sends { IsSending self.old terms }
+        requires sent { SentFits self.old (Some terms) }
         ensures sends { IfOk result (λ outgoing. (turn : Turn)
             × Sends S.left S.may_fail terms number from self.old source.old turn source.new
             × Lends turn self.new (Some from) outgoing) }
@@ -91,7 +92,11 @@ impl End {
             BlockRead::Whole => {
                 mem::swap(&mut self.last_sent, &mut self.spare);
                 self.last_sent_to = from;
-                self.go_into(Phase::Sending { terms, number });
+                let phase = Phase::Sending { terms, number };
+                self.retries_left = self
+                    .phase
+                    .retries_left(phase, self.retries, self.retries_left);
+                self.phase = phase;
                 Ok(Outgoing::LastSent)
             }
             BlockRead::Changed => {

@@ -6,6 +6,7 @@ ghost use Rattle.tftp_ends.specs.BlockStored.{StoresBlock, StoresPiece, StoresLa
 ghost use Rattle.tftp_ends.specs.Text.{begins_netascii, is_readable};
 ghost use Rattle.tftp_ends.specs.Step.{Turn, Lends, Stores, Appended, commit_reply, lent};
 ghost use Rattle.tftp_ends.specs.End.{is_sender};
+ghost use Rattle.tftp_ends.specs.Sound.{SentFits};
 
 use crate::end::End;
 use crate::endpoint::Endpoint;
@@ -155,6 +156,7 @@ impl End {
         from: Endpoint,
     ) -> Result<Outgoing, AllocError>
         requires receiver { is_sender self.old.side ≡ false }
+        requires sent { SentFits self.old (Some terms) }
         requires reads { is_readable self.old.mode self.old.held piece.now
             (nat_lt (length piece.now) terms.size) ≡ true }
         ensures stores { IfOk result (λ outgoing. (turn : Turn)
