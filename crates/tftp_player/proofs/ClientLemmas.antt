@@ -1,17 +1,20 @@
 -- A client that was opened is the end that the world says.
-use Rattle.std.proofs.Common.{◌≡◌, ℕ, false, List, [], refl, ap}
+use Rattle.std.proofs.Common.{◌≡◌, ℕ, false, List, [], length, refl, ap}
 use Rattle.tftp_wire.specs.declared.mode.Mode.{Mode}
 use Rattle.tftp_wire.specs.declared.mode.Mode.TheVariants.{Octet, Netascii}
 use Rattle.tftp_negotiate.specs.declared.asked.Asked.{Asked}
 use Rattle.tftp_file.specs.Netascii.{wire_text}
-use Rattle.tftp_ends.specs.Opening.{CanGet, getting}
+use Rattle.tftp_ends.specs.Opening.{CanGet, CanPut, getting, putting}
 use Rattle.tftp_player.specs.Machine.{client_ip, request_port}
 use Rattle.tftp_player.specs.World.{WorldState, OpenedEnd, next_port}
-use Rattle.tftp_player.specs.Openings.{MayGet, reading_client}
+use Rattle.tftp_player.specs.Openings.{MayGet, MayPut, reading_client, writing_client}
 
 -- what can be asked for may be
 pub may_read : (name : List ℕ) (mode : Mode) (asked : Asked) → CanGet name mode asked → MayGet name mode asked
 may_read name mode asked can = can.may
+
+pub may_write : (name : List ℕ) (mode : Mode) (asked : Asked) (length : ℕ) → CanPut name mode asked length → MayPut name mode asked length
+may_write name mode asked length can = record { valid = can.asks.valid; options = can.asks.options; fits = can.fits }
 
 -- an empty file has no text
 pub no_wire : (mode : Mode) → wire_text mode [] ≡ []
@@ -35,3 +38,21 @@ getting_client port name mode asked limit retries =
 pub reading_is : (w : WorldState) (name : List ℕ) (mode : Mode) (asked : Asked) →
     reading_client w name mode asked ≡ getting_client (next_port w) name mode asked w.limits.max_file w.retries
 reading_is w name mode asked = ap (λ (left : List ℕ). record (reading_client w name mode asked) { left = left }) (no_wire mode)
+
+-- a client that writes, as it opens
+abbrev pub putting_client : ℕ → List ℕ → Mode → Asked → List ℕ → ℕ → ℕ → OpenedEnd
+putting_client port name mode asked file limit retries =
+    record {
+      address = record { ip = client_ip; port = port };
+      state = putting request_port name mode asked (length (wire_text mode file)) limit retries;
+      path = [];
+      file = file;
+      left = wire_text mode file;
+      stored = [];
+      committed = false;
+      refuses = false;
+    }
+
+pub writing_is : (w : WorldState) (name : List ℕ) (mode : Mode) (asked : Asked) (file : List ℕ) →
+    writing_client w name mode asked file ≡ putting_client (next_port w) name mode asked file w.limits.max_file w.retries
+writing_is w name mode asked file = refl

@@ -20,6 +20,7 @@ pub mod EndMoves
 pub mod Resting
 pub mod Measured
 pub mod HeldLemmas
+pub mod SentLemmas
 pub mod ServerLemmas
 pub mod ServerTurns
 pub mod PortLemmas

@@ -1,40 +1,42 @@
 -- A client that opens, and an end that is told to refuse.
-use Rattle.std.proofs.Common.{◌≡◌, ℕ, suc, zero, ◌+◌, ◌<◌, ◌≤◌, true, false, List, [], ◌∷◌, ◌++◌, length, Some, refl, sym, ap, ◌∙◌, subst, arith, length-append}
+use Rattle.std.proofs.Common.{◌≡◌, ℕ, suc, zero, ◌+◌, ◌<◌, ◌≤◌, true, List, [], ◌∷◌, ◌++◌, length, Some, None, refl, sym, ap, ◌∙◌, subst, arith, length-append}
 use Rattle.tftp_player.specs.Clients.{AskRefuses}
 use Rattle.tftp_player.specs.Today.{RefusesToday, EventRefusesToday}
 use Rattle.tftp_player.specs.declared.fault.WorldFault.{WorldFault}
 use Rattle.tftp_player.specs.declared.fault.WorldFault.TheVariants.{NoSuchDatagram, NoSuchEnd, NoPort, BadRequest, Memory}
 use Rattle.tftp_wire.specs.declared.mode.Mode.{Mode}
 use Rattle.tftp_negotiate.specs.declared.asked.Asked.{Asked}
+use Rattle.tftp_file.specs.Netascii.{wire_text}
 use Rattle.tftp_ends.specs.declared.record.Record.{Record}
-use Rattle.tftp_ends.specs.End.{EndState, is_sender, is_client, record_of}
+use Rattle.tftp_ends.specs.End.{is_client, record_of}
 use Rattle.tftp_ends.specs.Files.{AreFilesOf}
-use Rattle.tftp_ends.specs.Opening.{CanGet, getting}
+use Rattle.tftp_ends.specs.Opening.{CanGet, CanPut, getting, putting}
 use Rattle.tftp_server.specs.declared.config.Config.{Config}
 use Rattle.tftp_player.specs.Machine.{request_port}
-use Rattle.tftp_player.specs.Clients.{client_at, asking_client, asking_effect}
+use Rattle.tftp_player.specs.Clients.{asking_client, asking_effect, sending_client, sending_effect}
 use Rattle.tftp_player.specs.Effect.{said_by, report_by}
 use Rattle.tftp_player.specs.PlayedClient.{PlayedClient}
-use Rattle.tftp_player.specs.Played.{client_end, end_at, ends_from, records_from, PlayerKept, AllKept}
+use Rattle.tftp_player.specs.Played.{client_end, end_at, ends_from, records_from, PlayerKept}
 use Rattle.tftp_player.specs.Requests.{open_transfers}
 use Rattle.tftp_player.specs.Serving.{PlayedServer}
-use Rattle.tftp_player.specs.Stage.{ends_of, IsStaged, world_of}
-use Rattle.tftp_player.specs.World.{WorldState, OpenedEnd, next_port, sent_report, opened_in}
+use Rattle.tftp_player.specs.Stage.{ends_of, IsStaged, Enters, world_of}
+use Rattle.tftp_player.specs.World.{WorldState, OpenedEnd, at_rest, next_port, sent_report, opened_in}
 use Rattle.tftp_player.specs.WorldSteps.{WorldStep, HasPort}
-use Rattle.tftp_player.specs.Openings.{reading_client}
+use Rattle.tftp_player.specs.Openings.{reading_client, writing_client}
 use Rattle.tftp_player.specs.declared.datagram.Datagram.{Datagram}
 use Rattle.tftp_player.specs.declared.effect.Effect.{Effect}
-use Rattle.tftp_player.specs.declared.event.Event.TheVariants.{Get}
+use Rattle.tftp_player.specs.declared.event.Event.{Event}
+use Rattle.tftp_player.specs.declared.event.Event.TheVariants.{Get, Put}
 use Rattle.tftp_player.specs.declared.player.Player.{Player}
 use Rattle.tftp_player.specs.declared.player.Player.TheVariants.{Client}
 use Rattle.tftp_player.specs.declared.report.Report.{Report}
-use Rattle.tftp_player.proofs.ClientLemmas.{may_read, getting_client, reading_is}
+use Rattle.tftp_player.proofs.ClientLemmas.{may_read, may_write, getting_client, putting_client, reading_is, writing_is}
 use Rattle.tftp_player.proofs.HeldLemmas.{AreBelow, AreBelow-more}
 use Rattle.tftp_player.proofs.PlacedEnds.{told-push, kept-push, is_transfer-rest, transfers-push_other}
 use Rattle.tftp_player.proofs.PlayLemmas.{ends_length, to_kept, from_kept, ends_rest}
-use Rattle.tftp_player.proofs.Resting.{at_rest_record}
+use Rattle.tftp_player.proofs.Resting.{IsAtRest, at_rest_record}
 use Rattle.tftp_player.proofs.StageLemmas.{kept_by_port, no_transfer}
-use Rattle.tftp_player.proofs.StepLemmas.{get_step}
+use Rattle.tftp_player.proofs.StepLemmas.{get_step, put_step}
 
 pub ends_push : (server : PlayedServer) (ps : List Player) (p : Player) → ends_of server (ps ++ p ∷ []) ≡ ends_of server ps ++ end_at (1024 + length ps) server.held p ∷ []
 ends_push server ps p = told-push end_at ends_from (λ port h. refl) (λ port h q qs. refl) 1024 server.held ps p
@@ -70,52 +72,86 @@ client_staged server ps records c port r staged is told client fits =
           ∙ ap open_transfers (sym (ends_push server ps (Client c))));
     }
 
--- a client asked
-pub get_result : (config : Config) (sent : List Datagram) (server : PlayedServer) (ps : List Player) (old : WorldState) (name : List ℕ) (mode : Mode) (asked : Asked) (c : PlayedClient) (effect : Effect) (port : ℕ)
-    (sent0 sent1 : List Datagram) (report : Report) → world_of config sent server ps ≡ old → AllKept 1024 server.held ps → port ≡ 1024 + length ps → port < 65536 → CanGet name mode asked →
-    c ≡ asking_client (getting request_port name mode asked config.limits.max_file config.retries) → effect ≡ asking_effect port name mode asked →
-    sent0 ≡ sent → sent1 ≡ sent0 ++ said_by effect.from effect.to effect.bytes → report ≡ report_by sent0 effect →
-    WorldStep old (Get name mode asked) report (world_of config sent1 server (ps ++ Client c ∷ []))
-get_result config sent server ps old name mode asked c effect port sent0 sent1 report view kept is fits can client effects same more tells =
-    let w = world_of config sent server ps in
-    let g = getting request_port name mode asked config.limits.max_file config.retries in
-    let next : 1024 + length ps ≡ next_port w = ap (λ (n : ℕ). 1024 + n) (sym (ends_length server.held ps)) in
-    let x : end_at (1024 + length ps) server.held (Client c) ≡ reading_client w name mode asked =
-    ap (λ (k : PlayedClient). end_at (1024 + length ps) server.held (Client k)) client
-    ∙ (ap (λ (n : ℕ). getting_client n name mode asked config.limits.max_file config.retries) next ∙ sym (reading_is w name mode asked)) in
-    let ends : ends_of server (ps ++ Client c ∷ []) ≡ ends_of server ps ++ reading_client w name mode asked ∷ [] = ends_push server ps (Client c) ∙ ap (λ (y : OpenedEnd). ends_of server ps ++ y ∷ []) x in
-    let asks : effect ≡ asking_effect (next_port w) name mode asked = effects ∙ ap (λ (n : ℕ). asking_effect n name mode asked) (is ∙ next) in
-    let new : world_of config sent1 server (ps ++ Client c ∷ []) ≡ opened_in w (reading_client w name mode asked) =
-    ap (λ (ds : List Datagram). world_of config ds server (ps ++ Client c ∷ [])) (more ∙ ap (λ (ds : List Datagram). ds ++ said_by effect.from effect.to effect.bytes) same)
-    ∙ (ap (λ (e : Effect). world_of config (sent ++ said_by e.from e.to e.bytes) server (ps ++ Client c ∷ [])) asks
-    ∙ ap (λ (xs : List OpenedEnd). record w { sent = sent ++ said_by (client_at (next_port w)) (Some request_port) g.last_sent; ends = xs }) ends) in
-    let report_is : report ≡ sent_report w = tells ∙ (ap (λ (ds : List Datagram). report_by ds effect) same ∙ ap (report_by sent) asks) in
-    let has : HasPort w = omega (arith, next, is, fits) in
-    subst (λ (v : WorldState). WorldStep v (Get name mode asked) report (world_of config sent1 server (ps ++ Client c ∷ []))) view
-    (subst (λ (q : Report). WorldStep w (Get name mode asked) q (world_of config sent1 server (ps ++ Client c ∷ []))) (sym report_is)
-    (subst (λ (v : WorldState). WorldStep w (Get name mode asked) (sent_report w) v) (sym new)
-    (get_step w name mode asked (ends_rest 1024 server.held ps kept) has (may_read name mode asked can))))
-
 -- and as it is told
-pub client_opened : (server : PlayedServer) (ps ps0 ps1 : List Player) (records records0 records1 : List (ℕ × Record)) (c : PlayedClient) (count port : ℕ) (r : Record) (g : EndState) →
-    IsStaged server ps records → count ≡ length ps → port ≡ 1024 + count → c ≡ asking_client g → is_client g.side ≡ true → is_sender g.side ≡ false → r ≡ record_of c.end →
+pub client_entered : (server : PlayedServer) (ps ps0 ps1 : List Player) (records records0 records1 : List (ℕ × Record)) (c : PlayedClient) (port : ℕ) (r : Record) →
+    IsStaged server ps records → port ≡ 1024 + length (ends_of server ps) → is_client c.end.side ≡ true → AreFilesOf c.end.side c.files → r ≡ record_of c.end →
     ps0 ≡ ps → ps1 ≡ ps0 ++ Client c ∷ [] → records0 ≡ records → records1 ≡ records0 ++ (port, r) ∷ [] → IsStaged server ps1 records1
-client_opened server ps ps0 ps1 records records0 records1 c count port r g staged counts is client side receives told a b d e =
+client_entered server ps ps0 ps1 records records0 records1 c port r staged is client fits told a b d e =
     subst (λ (qs : List Player). IsStaged server qs records1) (sym (b ∙ ap (λ (qs : List Player). qs ++ Client c ∷ []) a))
     (subst (λ (rs : List (ℕ × Record)). IsStaged server (ps ++ Client c ∷ []) rs) (sym (e ∙ ap (λ (rs : List (ℕ × Record)). rs ++ (port, r) ∷ []) d))
-    (client_staged server ps records c port r staged (is ∙ ap (λ (n : ℕ). 1024 + n) counts) told
-    (ap (λ (k : PlayedClient). is_client k.end.side) client ∙ side)
-    (subst (λ (k : PlayedClient). AreFilesOf k.end.side k.files) (sym client) receives)))
+    (client_staged server ps records c port r staged (is ∙ ap (λ (n : ℕ). 1024 + n) (ends_length server.held ps)) told client fits))
 
-pub got : (config : Config) (sent : List Datagram) (server : PlayedServer) (ps ps0 ps1 : List Player) (old : WorldState) (name : List ℕ) (mode : Mode) (asked : Asked) (c : PlayedClient) (effect : Effect) (count port : ℕ)
-    (sent0 sent1 : List Datagram) (report : Report) → world_of config sent server ps ≡ old → AllKept 1024 server.held ps → count ≡ length ps → port ≡ 1024 + count → port < 65536 → CanGet name mode asked →
-    c ≡ asking_client (getting request_port name mode asked config.limits.max_file config.retries) → effect ≡ asking_effect port name mode asked →
-    ps0 ≡ ps → ps1 ≡ ps0 ++ Client c ∷ [] →
+-- the world that a client entered
+pub entered : (config : Config) (sent sent0 sent1 : List Datagram) (server : PlayedServer) (ps ps0 ps1 : List Player) (old : WorldState) (c : PlayedClient) (effect : Effect) (port : ℕ) (report : Report) →
+    world_of config sent server ps ≡ old → port ≡ next_port old → ps0 ≡ ps → ps1 ≡ ps0 ++ Client c ∷ [] →
     sent0 ≡ sent → sent1 ≡ sent0 ++ said_by effect.from effect.to effect.bytes → report ≡ report_by sent0 effect →
-    WorldStep old (Get name mode asked) report (world_of config sent1 server ps1)
-got config sent server ps ps0 ps1 old name mode asked c effect count port sent0 sent1 report view kept counts is fits can client effects a b same more tells =
-    subst (λ (qs : List Player). WorldStep old (Get name mode asked) report (world_of config sent1 server qs)) (sym (b ∙ ap (λ (qs : List Player). qs ++ Client c ∷ []) a))
-    (get_result config sent server ps old name mode asked c effect port sent0 sent1 report view kept (is ∙ ap (λ (n : ℕ). 1024 + n) counts) fits can client effects same more tells)
+    Enters old port c effect report (world_of config sent1 server ps1)
+entered config sent sent0 sent1 server ps ps0 ps1 old c effect port report view at a b same more tells =
+    subst (λ (w : WorldState). Enters w port c effect report (world_of config sent1 server ps1)) view (record {
+      tells = tells ∙ ap (λ (ds : List Datagram). report_by ds effect) same;
+      is =
+          ap (λ (ds : List Datagram). world_of config ds server ps1) (more ∙ ap (λ (ds : List Datagram). ds ++ said_by effect.from effect.to effect.bytes) same)
+          ∙ (ap (λ (qs : List Player). world_of config (sent ++ said_by effect.from effect.to effect.bytes) server qs) (b ∙ ap (λ (qs : List Player). qs ++ Client c ∷ []) a)
+          ∙ ap (λ (xs : List OpenedEnd). record (world_of config sent server ps) { sent = sent ++ said_by effect.from effect.to effect.bytes; ends = xs }) ends);
+    }) where
+      here : 1024 + length ps ≡ port
+      here = ap (λ (n : ℕ). 1024 + n) (sym (ends_length server.held ps)) ∙ (ap next_port view ∙ sym at)
+
+      ends : ends_of server (ps ++ Client c ∷ []) ≡ ends_of server ps ++ at_rest (client_end port c) ∷ []
+      ends = ends_push server ps (Client c) ∙ ap (λ (n : ℕ). ends_of server ps ++ at_rest (client_end n c) ∷ []) here
+
+-- what a new end sends
+abbrev first_effect : OpenedEnd → Effect
+first_effect x = record { from = x.address; to = Some x.state.last_sent_to; bytes = x.state.last_sent; closed = None }
+
+-- a client that entered is the end that its event opens
+opens_so : (w : WorldState) (event : Event) (c : PlayedClient) (effect : Effect) (port : ℕ) (report : Report) (new : WorldState) (x : OpenedEnd) →
+    at_rest (client_end port c) ≡ x → effect ≡ first_effect x → Enters w port c effect report new → WorldStep w event (sent_report w) (opened_in w x) →
+    WorldStep w event report new
+opens_so w event c effect port report new x is effects e step =
+    subst (λ (r : Report). WorldStep w event r new) (sym (e.tells ∙ ap (report_by w.sent) effects))
+    (subst (λ (v : WorldState). WorldStep w event (sent_report w) v)
+    (sym (e.is
+    ∙ (ap (λ (f : Effect). record w { sent = w.sent ++ said_by f.from f.to f.bytes; ends = w.ends ++ at_rest (client_end port c) ∷ [] }) effects
+    ∙ ap (λ (y : OpenedEnd). record w { sent = w.sent ++ said_by x.address (Some x.state.last_sent_to) x.state.last_sent; ends = w.ends ++ y ∷ [] }) is)))
+    step)
+
+module _ (config : Config) (sent : List Datagram) (server : PlayedServer) (ps : List Player) (records : List (ℕ × Record)) (old : WorldState)
+    (view : world_of config sent server ps ≡ old) (staged : IsStaged server ps records) (name : List ℕ) (mode : Mode) (asked : Asked) (c : PlayedClient) (effect : Effect) (port : ℕ)
+    (at : port ≡ next_port old) (fits : port < 65536) (report : Report) (new : WorldState) where
+  is_at_rest : IsAtRest old
+  is_at_rest = subst IsAtRest view (ends_rest 1024 server.held ps staged.kept)
+
+  has : HasPort old
+  has = let p = at in omega (arith, p, fits)
+
+  -- a client asked to read
+  pub got : CanGet name mode asked → c ≡ asking_client (getting request_port name mode asked config.limits.max_file config.retries) → effect ≡ asking_effect port name mode asked →
+      Enters old port c effect report new → WorldStep old (Get name mode asked) report new
+  got can client effects e =
+      let x = reading_client old name mode asked in
+      let own : c ≡ asking_client (getting request_port name mode asked old.limits.max_file old.retries) =
+      subst (λ (w : WorldState). c ≡ asking_client (getting request_port name mode asked w.limits.max_file w.retries)) view client in
+      let is : at_rest (client_end port c) ≡ x =
+      ap (λ (k : PlayedClient). at_rest (client_end port k)) own
+      ∙ (ap (λ (n : ℕ). getting_client n name mode asked old.limits.max_file old.retries) at ∙ sym (reading_is old name mode asked)) in
+      opens_so old (Get name mode asked) c effect port report new x is (effects ∙ ap (λ (n : ℕ). asking_effect n name mode asked) at) e
+      (get_step old name mode asked is_at_rest has (may_read name mode asked can))
+
+  -- a client asked to write
+  pub has_put : (file : List ℕ) → CanPut name mode asked (length (wire_text mode file)) →
+      c ≡ sending_client (putting request_port name mode asked (length (wire_text mode file)) config.limits.max_file config.retries) (wire_text mode file) file →
+      effect ≡ sending_effect port name mode asked → Enters old port c effect report new → WorldStep old (Put name mode asked file) report new
+  has_put file can client effects e =
+      let text = wire_text mode file in
+      let x = writing_client old name mode asked file in
+      let own : c ≡ sending_client (putting request_port name mode asked (length text) old.limits.max_file old.retries) text file =
+      subst (λ (w : WorldState). c ≡ sending_client (putting request_port name mode asked (length text) w.limits.max_file w.retries) text file) view client in
+      let is : at_rest (client_end port c) ≡ x =
+      ap (λ (k : PlayedClient). at_rest (client_end port k)) own
+      ∙ (ap (λ (n : ℕ). putting_client n name mode asked file old.limits.max_file old.retries) at ∙ sym (writing_is old name mode asked file)) in
+      opens_so old (Put name mode asked file) c effect port report new x is (effects ∙ ap (λ (n : ℕ). sending_effect n name mode asked) at) e
+      (put_step old name mode asked file is_at_rest has (may_write name mode asked (length text) can))
 
 pub no_port : (config : Config) (sent : List Datagram) (server : PlayedServer) (ps : List Player) (old : WorldState) (count : ℕ) → world_of config sent server ps ≡ old → count ≡ length ps → 65535 < 1024 + count → 65535 < next_port old
 no_port config sent server ps old count view e h =
@@ -129,16 +165,34 @@ has_port config sent server ps old count port view e is fits =
     let l : 1024 + length (ends_of server ps) ≤ 65535 = omega (arith, n, e, is, fits) in
     subst HasPort view l
 
+-- the next port is the one that was found
+pub port_found : (config : Config) (sent : List Datagram) (server : PlayedServer) (ps : List Player) (old : WorldState) (count port : ℕ) → world_of config sent server ps ≡ old → count ≡ length ps → port ≡ 1024 + count → port ≡ next_port old
+port_found config sent server ps old count port view e is = is ∙ (ap (λ (n : ℕ). 1024 + n) (e ∙ sym (ends_length server.held ps)) ∙ ap next_port view)
+
 -- why a client did not open
-pub get_refused : (old : WorldState) (name : List ℕ) (mode : Mode) (asked : Asked) (fault : WorldFault) → HasPort old → AskRefuses (CanGet name mode asked) fault → RefusesToday old (Get name mode asked) fault
-get_refused old name mode asked BadRequest has cannot = (has, cannot)
-get_refused old name mode asked Memory has can = none where
-  none : (f : WorldFault) → EventRefusesToday old (Get name mode asked) f → ⊥
-  none NoPort h = absurd (omega (arith, h, has))
-  none BadRequest h = h.1 can
-  none Memory h = h
-  none NoSuchDatagram h = h
-  none NoSuchEnd h = h
-get_refused old name mode asked NoSuchDatagram has h = absurd h
-get_refused old name mode asked NoSuchEnd has h = absurd h
-get_refused old name mode asked NoPort has h = absurd h
+module _ (old : WorldState) (name : List ℕ) (mode : Mode) (asked : Asked) (has : HasPort old) where
+  pub get_refused : (fault : WorldFault) → AskRefuses (CanGet name mode asked) fault → RefusesToday old (Get name mode asked) fault
+  get_refused BadRequest cannot = (has, cannot)
+  get_refused Memory can = none where
+    none : (f : WorldFault) → EventRefusesToday old (Get name mode asked) f → ⊥
+    none NoPort h = absurd (omega (arith, h, has))
+    none BadRequest h = h.1 can
+    none Memory h = h
+    none NoSuchDatagram h = h
+    none NoSuchEnd h = h
+  get_refused NoSuchDatagram h = absurd h
+  get_refused NoSuchEnd h = absurd h
+  get_refused NoPort h = absurd h
+
+  pub put_refused : (file : List ℕ) (fault : WorldFault) → AskRefuses (CanPut name mode asked (length (wire_text mode file))) fault → RefusesToday old (Put name mode asked file) fault
+  put_refused file BadRequest cannot = (has, cannot)
+  put_refused file Memory can = none where
+    none : (f : WorldFault) → EventRefusesToday old (Put name mode asked file) f → ⊥
+    none NoPort h = absurd (omega (arith, h, has))
+    none BadRequest h = h.1 can
+    none Memory h = h
+    none NoSuchDatagram h = h
+    none NoSuchEnd h = h
+  put_refused file NoSuchDatagram h = absurd h
+  put_refused file NoSuchEnd h = absurd h
+  put_refused file NoPort h = absurd h

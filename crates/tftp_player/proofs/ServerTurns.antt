@@ -12,7 +12,7 @@ use Rattle.tftp_ends.specs.Action.{datagram_action}
 use Rattle.tftp_ends.specs.Step.{Turn, Acts, DatagramStep}
 use Rattle.tftp_server.specs.Steps.{ReadDatagramStep}
 use Rattle.tftp_player.specs.Machine.{Endpoint}
-use Rattle.tftp_player.specs.World.{OpenedEnd, StoredFile, datagram, in_state, files_of, holding_of, with_files, end_after}
+use Rattle.tftp_player.specs.World.{OpenedEnd, StoredFile, in_state, files_of, holding_of, with_files, end_after}
 use Rattle.tftp_player.specs.WorldSteps.{never_fails, may_refuse_append, FilesAfter}
 
 -- ---- an end that commits nothing changes no file

@@ -6,6 +6,7 @@ use Rattle.std.proofs.lemmas.Option.{same_Some, slice_get-map, slice_get_within}
 use Rattle.tftp_wire.specs.declared.mode.Mode.{Mode}
 use Rattle.tftp_negotiate.specs.declared.asked.Asked.{Asked}
 use Rattle.tftp_file.specs.declared.files.Files.{Files}
+use Rattle.tftp_file.specs.Netascii.{wire_text}
 use Rattle.tftp_file.specs.Sink.{Holding}
 use Rattle.tftp_ends.specs.declared.phase.Phase.{Phase}
 use Rattle.tftp_ends.specs.End.{is_sender, is_client}
@@ -13,8 +14,8 @@ use Rattle.tftp_ends.specs.Step.{Turn, DatagramStep, timeout_turn}
 use Rattle.tftp_player.specs.Machine.{Endpoint, request_port}
 use Rattle.tftp_player.specs.World.{WorldState, OpenedEnd, StoredFile, file_at, in_the_way, is_closed, replied, files_of, end_after, has_committed, world_after, report_of, no_report, opened_in, sent_report, at_rest, resting}
 use Rattle.tftp_player.specs.WorldSteps.{never_fails, may_refuse_append, may_refuse_commit, FilesAfter, Turns, Arrives, At_open_end, At_closed_end, At_nobody, HasPort, IsAtPort, TimesOut, told_to_refuse, WorldStep}
-use Rattle.tftp_player.specs.Openings.{reading_client, MayGet}
-use Rattle.tftp_player.specs.declared.event.Event.TheVariants.{Get, Timeout, RefuseStore}
+use Rattle.tftp_player.specs.Openings.{reading_client, writing_client, MayGet, MayPut}
+use Rattle.tftp_player.specs.declared.event.Event.TheVariants.{Get, Put, Timeout, RefuseStore}
 use Rattle.tftp_player.specs.declared.report.Report.{Report}
 use Rattle.tftp_player.proofs.EndMoves.{placed}
 use Rattle.tftp_player.proofs.Resting.{IsAtRest, resting_same, resting_after, resting_opened}
@@ -42,6 +43,12 @@ pub get_step : (w : WorldState) (name : List ℕ) (mode : Mode) (asked : Asked) 
     WorldStep w (Get name mode asked) (sent_report w) (opened_in w (reading_client w name mode asked))
 get_step w name mode asked r port may =
     let x = reading_client w name mode asked in
+    (opened_in w x, (port, may, record { tells = refl; is = refl }), sym (resting_opened w x r refl))
+
+pub put_step : (w : WorldState) (name : List ℕ) (mode : Mode) (asked : Asked) (file : List ℕ) → IsAtRest w → HasPort w → MayPut name mode asked (length (wire_text mode file)) →
+    WorldStep w (Put name mode asked file) (sent_report w) (opened_in w (writing_client w name mode asked file))
+put_step w name mode asked file r port may =
+    let x = writing_client w name mode asked file in
     (opened_in w x, (port, may, record { tells = refl; is = refl }), sym (resting_opened w x r refl))
 
 -- a timeout of an open end, and of a closed one

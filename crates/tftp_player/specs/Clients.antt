@@ -2,7 +2,7 @@
 use Rattle.std.specs.Prelude.{ℕ, ◌≡◌, true, false, if◌then◌else◌, is_some, List, [], Option, Some, None, ⊤}
 use Rattle.tftp_wire.specs.Spelling.{canonical}
 use Rattle.tftp_wire.specs.declared.mode.Mode.{Mode}
-use Rattle.tftp_wire.specs.declared.packet.Packet.TheVariants.{Read}
+use Rattle.tftp_wire.specs.declared.packet.Packet.TheVariants.{Read, Write}
 use Rattle.tftp_negotiate.specs.declared.asked.Asked.{Asked}
 use Rattle.tftp_file.specs.declared.files.Files.{Files}
 use Rattle.tftp_file.specs.declared.files.Files.TheVariants.{Source, Sink}
@@ -64,6 +64,15 @@ asking_client end = record { end = end; files = Sink no_holding; file = [] }
 abbrev pub asking_effect : ℕ → List ℕ → Mode → Asked → Effect
 asking_effect port name mode asked =
     record { from = client_at port; to = Some request_port; bytes = canonical (Read (request_of name mode asked)); closed = None }
+
+-- a client that has asked to write this file, of which this is left
+abbrev pub sending_client : EndState → List ℕ → List ℕ → PlayedClient
+sending_client end left file = record { end = end; files = Source left; file = file }
+
+-- its request
+abbrev pub sending_effect : ℕ → List ℕ → Mode → Asked → Effect
+sending_effect port name mode asked =
+    record { from = client_at port; to = Some request_port; bytes = canonical (Write (request_of name mode asked)); closed = None }
 
 -- what a receiver has stored
 abbrev pub stored_by : Files (List ℕ) Holding → Option (List ℕ)

@@ -1,5 +1,5 @@
 -- What the struct that plays a world keeps.
-use Rattle.std.specs.Prelude.{◌≡◌, Bool, true, false, ◌||◌}
+use Rattle.std.specs.Prelude.{◌≡◌, ◌≤◌, length, Bool, true, false, ◌||◌}
 use Rattle.tftp_player.specs.World.{WorldState}
 use Rattle.tftp_player.specs.WorldSafety.{HasPeersAtHome}
 use Rattle.tftp_player.specs.declared.event.Event.{Event}
@@ -9,6 +9,10 @@ use Rattle.tftp_player.specs.declared.event.Event.TheVariants.{Stray}
 pub record PlayedWorld : Type 0 where
   pub state : WorldState
   pub strayed : Bool
+
+-- each end that was opened has sent a datagram
+abbrev pub HasSentEach : WorldState → Type 0
+HasSentEach w = length w.ends ≤ length w.sent
 
 -- the event is a datagram of neither host
 abbrev pub is_stray : Event → Bool

@@ -1,13 +1,14 @@
 -- The ends of a world and the server that plays some of them, together, and what an event does there.
 use Rattle.std.specs.List.{AllByRecursion}
-use Rattle.std.specs.Prelude.{ℕ, ◌+◌, ◌<◌, length, ◌≡◌, ◌≢◌, ◌⊎◌, ◌&&◌, not, ◌-◌, nat_lt, if◌then◌else◌, Bool, true, false, List, slice_get, slice_set, Option, Some, None, is_some, option_map, option_and_then, unwrap_or}
+use Rattle.std.specs.Prelude.{ℕ, ◌+◌, ◌<◌, length, ◌≡◌, ◌≢◌, ◌⊎◌, ◌&&◌, not, ◌-◌, nat_lt, if◌then◌else◌, Bool, true, false, List, [], ◌∷◌, ◌++◌, slice_get, slice_set, Option, Some, None, is_some, option_map, option_and_then, unwrap_or}
 use Rattle.tftp_file.specs.declared.files.Files.{Files}
 use Rattle.tftp_file.specs.Sink.{Holding}
 use Rattle.tftp_ends.specs.declared.record.Record.{Record}
 use Rattle.tftp_ends.specs.End.{is_sender, is_client}
 use Rattle.tftp_ends.specs.Step.{Turn, DatagramStep, timeout_turn}
-use Rattle.tftp_player.specs.Effect.{effect_of, no_effect}
-use Rattle.tftp_player.specs.Played.{ends_from, records_from, AllKept}
+use Rattle.tftp_player.specs.Effect.{effect_of, no_effect, said_by, report_by}
+use Rattle.tftp_player.specs.Played.{client_end, ends_from, records_from, AllKept}
+use Rattle.tftp_player.specs.PlayedClient.{PlayedClient}
 use Rattle.tftp_player.specs.Serving.{PlayedServer, Transfer}
 use Rattle.tftp_player.specs.Requests.{open_transfers}
 use Rattle.tftp_player.specs.Machine.{Endpoint}
@@ -17,6 +18,7 @@ use Rattle.tftp_server.specs.declared.config.Config.{Config}
 use Rattle.tftp_player.specs.declared.datagram.Datagram.{Datagram}
 use Rattle.tftp_player.specs.declared.effect.Effect.{Effect}
 use Rattle.tftp_player.specs.declared.player.Player.{Player}
+use Rattle.tftp_player.specs.declared.report.Report.{Report}
 
 -- the ends
 abbrev pub ends_of : PlayedServer → List Player → List OpenedEnd
@@ -89,6 +91,14 @@ world_of config sent server players =
       cap = config.cap;
       overwrite = config.overwrite;
     }
+
+-- a client more, at this port, and what it sent
+pub record Enters (old : WorldState) (port : ℕ) (c : PlayedClient) (effect : Effect) (report : Report) (new : WorldState) : Type 0 where
+  pub tells : report ≡ report_by old.sent effect
+  pub is : new ≡ record old {
+    sent = old.sent ++ said_by effect.from effect.to effect.bytes;
+    ends = old.ends ++ at_rest (client_end port c) ∷ [];
+  }
 
 -- a datagram came to an end of this place and was taken; the server's files stay
 pub record DatagramAt (place : ℕ) (x : OpenedEnd) (from : Endpoint) (bytes : List ℕ) (overwrite : Bool) (files : List StoredFile) (ends ends' : List OpenedEnd) (effect : Effect) : Type 0 where

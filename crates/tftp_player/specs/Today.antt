@@ -1,7 +1,8 @@
 -- What is supported so far of what may happen in a world, and how its calls are refused today.
 use Rattle.std.specs.Prelude.{ℕ, ◌≡◌, ◌≢◌, ◌+◌, ◌<◌, ⊤, List, ◌++◌, length, slice_get, Option, Some}
 use Rattle.tftp_wire.specs.declared.packet.Packet.{Packet}
-use Rattle.tftp_ends.specs.Opening.{CanGet}
+use Rattle.tftp_file.specs.Netascii.{wire_text}
+use Rattle.tftp_ends.specs.Opening.{CanGet, CanPut}
 use Rattle.tftp_ends.specs.Action.{Decodes}
 use Rattle.tftp_server.specs.Request.{supported}
 use Rattle.tftp_player.specs.Effect.{said_by, report_by}
@@ -10,7 +11,7 @@ use Rattle.tftp_player.specs.Machine.{Elsewhere as Far}
 use Rattle.tftp_player.specs.Requests.{service}
 use Rattle.tftp_player.specs.Serving.{PlayedServer}
 use Rattle.tftp_player.specs.Stage.{world_of}
-use Rattle.tftp_player.specs.World.{WorldState, next_port, resting}
+use Rattle.tftp_player.specs.World.{WorldState, resting}
 use Rattle.tftp_player.specs.WorldSteps.{HasPort, LacksPort, EventRefuses, MemoryLast, WorldStep, Serves, Arrives}
 use Rattle.tftp_player.specs.declared.datagram.Datagram.{Datagram}
 use Rattle.tftp_player.specs.declared.effect.Effect.{Effect}
@@ -21,10 +22,10 @@ use Rattle.tftp_player.specs.declared.event.Event.TheVariants.{Get, Put, Deliver
 use Rattle.tftp_player.specs.declared.fault.WorldFault.{WorldFault}
 use Rattle.tftp_player.specs.declared.fault.WorldFault.TheVariants.{NoPort, BadRequest, Memory}
 
--- why an event is refused today, memory aside: a client reads in octet without options alone, and writes nothing
+-- why an event is refused today, memory aside: a client asks in octet and without options alone
 abbrev pub EventRefusesToday : WorldState → Event → WorldFault → Type 0
 EventRefusesToday w (Get name mode asked) BadRequest = HasPort w × (CanGet name mode asked → ⊥)
-EventRefusesToday w (Put name mode asked bytes) BadRequest = HasPort w
+EventRefusesToday w (Put name mode asked bytes) BadRequest = HasPort w × (CanPut name mode asked (length (wire_text mode bytes)) → ⊥)
 EventRefusesToday w event fault = EventRefuses w event fault
 
 -- why an event is refused today

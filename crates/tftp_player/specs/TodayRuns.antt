@@ -4,7 +4,6 @@ use Rattle.tftp_player.specs.Today.{StepToday, RefusesToday}
 use Rattle.tftp_player.specs.World.{WorldState}
 use Rattle.tftp_player.specs.WorldKept.{IsOk}
 use Rattle.tftp_player.specs.WorldRuns.{MayHappen}
-use Rattle.tftp_player.specs.WorldSafety.{IsSafe}
 use Rattle.tftp_player.specs.declared.event.Event.{Event}
 use Rattle.tftp_player.specs.declared.event.Event.TheVariants.{Deliver}
 use Rattle.tftp_player.specs.declared.fault.WorldFault.{WorldFault}

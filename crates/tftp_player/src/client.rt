@@ -1,11 +1,12 @@
 //! A client of a world: its end, and the file that it sends or receives.
 
-ghost use Rattle.std.specs.Prelude.{◌≡◌, ◌++◌, [], false, is_some, option_map, IfOk, IfErr, OnOk, OnErr};
+ghost use Rattle.std.specs.Prelude.{◌≡◌, ◌++◌, [], false, length, is_some, option_map, IfOk, IfErr, OnOk, OnErr};
 ghost use Rattle.tftp_ends.specs.End.{record_of, outcome_of};
-ghost use Rattle.tftp_ends.specs.Opening.{CanGet, getting};
+ghost use Rattle.tftp_file.specs.Netascii.{wire_text};
+ghost use Rattle.tftp_ends.specs.Opening.{CanGet, CanPut, getting, putting};
 ghost use Rattle.tftp_ends.specs.Step.{timeout_turn};
 ghost use Rattle.tftp_player.specs.Machine.{request_port};
-ghost use Rattle.tftp_player.specs.Clients.{ClientTurns, ClientDatagramStep, asking_client, stored_by, told_client, client_at, holding_in, asking_effect, open_fault, AskRefuses};
+ghost use Rattle.tftp_player.specs.Clients.{ClientTurns, ClientDatagramStep, asking_client, sending_client, stored_by, told_client, client_at, holding_in, asking_effect, sending_effect, open_fault, AskRefuses};
 
 use crate::effect::{Effect, effect_of};
 use crate::fault::WorldFault;
@@ -14,7 +15,7 @@ use crate::shelf::Shelf;
 use std::alloc::Global;
 use std::marker::Model;
 use tftp_ends::{End, EndConfig, EndFault, Endpoint, OpenFault, Record};
-use tftp_file::{Files, MemSource};
+use tftp_file::{Files, MAX_WIRE, MemSource, wire_length_within};
 use tftp_negotiate::Asked;
 use tftp_wire::{Bytes, Mode};
 
@@ -66,6 +67,55 @@ impl Client {
                 },
                 effect_of(client_at(port), step, out),
             )),
+            Err(fault) => Err(open_fault(fault)),
+        }
+    }
+
+    /// A client that sends this file to the server, and its request.
+    pub(crate) fn put(
+        alloc: Global,
+        port: u16,
+        name: &[u8],
+        mode: Mode,
+        asked: &Asked,
+        file: Bytes,
+        config: &EndConfig,
+    ) -> Result<(Client, Effect), WorldFault>
+        ensures client { IfOk result (λ opened.
+            opened.0 ≡ sending_client (putting request_port name.now mode asked.now
+            (length (wire_text mode file)) config.now.limits.max_file config.now.retries)
+            (wire_text mode file) file) }
+        ensures effect { IfOk result (λ opened.
+            opened.1 ≡ sending_effect port name.now mode asked.now) }
+        ensures ok { OnOk result (CanPut name.now mode asked.now (length (wire_text mode file))) }
+        ensures refused { IfErr result
+            (AskRefuses (CanPut name.now mode asked.now (length (wire_text mode file)))) }
+    {
+        let length = wire_length_within(file.as_slice(), mode, MAX_WIRE + 1);
+        let mut out = Vec::new(alloc);
+        match End::put(
+            alloc,
+            REQUEST_PORT,
+            name,
+            mode,
+            asked,
+            length,
+            config,
+            &mut out,
+        ) {
+            Ok((end, step)) => {
+                let Ok(source) = MemSource::new(alloc, file.as_slice(), mode) else {
+                    return Err(WorldFault::Memory);
+                };
+                Ok((
+                    Client {
+                        end,
+                        files: Files::Source(source),
+                        file,
+                    },
+                    effect_of(client_at(port), step, out),
+                ))
+            }
             Err(fault) => Err(open_fault(fault)),
         }
     }

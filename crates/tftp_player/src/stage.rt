@@ -132,7 +132,12 @@ impl Stage {
     {
         match event {
             Event::Get { name, mode, asked } => self.get(name.as_slice(), mode, &asked),
-            Event::Put { .. } => self.put(),
+            Event::Put {
+                name,
+                mode,
+                asked,
+                bytes,
+            } => self.put(name.as_slice(), mode, &asked, bytes),
             Event::Deliver(place) => self.deliver(place),
             Event::Timeout(port) => self.timeout(port),
             Event::RefuseStore(port) => self.refuse_store(port),

@@ -5,7 +5,7 @@ ghost use Rattle.tftp_server.specs.Config.{IsConfig};
 ghost use Rattle.tftp_server.specs.Memory.{contents, has_distinct_paths, in_path_order};
 ghost use Rattle.tftp_player.specs.Machine.{host_of, Elsewhere};
 ghost use Rattle.tftp_player.specs.Played.{records_from};
-ghost use Rattle.tftp_player.specs.PlayedWorld.{strayed_after, IsHome};
+ghost use Rattle.tftp_player.specs.PlayedWorld.{strayed_after, HasSentEach, IsHome};
 ghost use Rattle.tftp_player.specs.Stage.{stored_at, committed_at};
 ghost use Rattle.tftp_player.specs.Today.{StepToday, RefusesToday, IsPlayable};
 ghost use Rattle.tftp_player.specs.TodayRuns.{Settled, StopsAt};
@@ -42,14 +42,14 @@ pub struct World {
 }
 
 impl Model for World {
-    ghost use Rattle.tftp_player.specs.PlayedWorld.{PlayedWorld};
+    ghost use Rattle.tftp_player.specs.PlayedWorld.{PlayedWorld, HasSentEach};
     ghost use Rattle.tftp_player.specs.WorldKept.{IsOk};
 
     ghost Value = { PlayedWorld };
 
     ghost view = { λ w. record { state = w.stage; strayed = w.strayed } };
 
-    ghost invariant = { λ w. IsOk w.strayed w.stage };
+    ghost invariant = { λ w. IsOk w.strayed w.stage × HasSentEach w.stage };
 }
 
 impl World {
@@ -82,9 +82,10 @@ impl World {
         is_foreign(endpoint)
     }
 
-    /// All that was ever sent, in order.
+    /// All that was ever sent, in order. Each end sent a datagram when it opened.
     pub fn sent(&self) -> &[Datagram]
-        ensures { result.now ≡ self.now.state.sent }
+        ensures sent { result.now ≡ self.now.state.sent }
+        ensures each { HasSentEach self.now.state }
     {
         self.stage.sent()
     }
@@ -121,7 +122,8 @@ impl World {
     ///
     /// `NoSuchDatagram` and `NoSuchEnd` where an event names what was never sent or opened; `NoPort`
     /// where an end could open and no port is left; `BadRequest` where the client refuses to ask
-    /// this, and today for every `Put`. The sender of a stray is foreign ([`World::is_foreign`]).
+    /// this, as an option that its transfer has no use for, or a file too long for its blocks to be
+    /// numbered. The sender of a stray is foreign ([`World::is_foreign`]).
     ///
     /// It copies a datagram's bytes once, since an end keeps the last one that it sent; its look-ups
     /// take a time that grows with the logarithm of the open transfers, and a request that is served

@@ -1,21 +1,22 @@
-//! How the ends of a world open.
+//! How the clients of a world open.
 
-ghost use Rattle.std.specs.Prelude.{ℕ, List, ◌≡◌, IsErr, IfOk, IfErr, OnErr};
+ghost use Rattle.std.specs.Prelude.{◌≡◌, true, IfOk, IfErr, OnErr};
+ghost use Rattle.tftp_ends.specs.End.{is_client};
+ghost use Rattle.tftp_player.specs.Stage.{Enters};
 ghost use Rattle.tftp_player.specs.Today.{RefusesToday};
+ghost use Rattle.tftp_player.specs.World.{next_port};
 ghost use Rattle.tftp_player.specs.WorldSteps.{WorldStep};
 ghost use Rattle.tftp_player.specs.declared.event.Event.TheVariants.{Get, Put};
-ghost use Rattle.tftp_wire.specs.declared.mode.Mode.{Mode};
-ghost use Rattle.tftp_negotiate.specs.declared.asked.Asked.{Asked};
 
 use crate::client::Client;
-use crate::effect::write_down;
+use crate::effect::{Effect, write_down};
 use crate::hosts::port_of;
 use crate::player::Player;
 use crate::stage::Stage;
 use crate::{Report, WorldFault};
 use tftp_ends::EndConfig;
 use tftp_negotiate::Asked;
-use tftp_wire::Mode;
+use tftp_wire::{Bytes, Mode};
 
 impl Stage {
     /// A client asks for a file.
@@ -38,34 +39,57 @@ impl Stage {
             retries: self.config.retries,
         };
         match Client::get(self.alloc, port, name, mode, asked, &config) {
-            Ok((client, effect)) => {
-                let Ok(()) = self.sent.reserve(1) else {
-                    return Err(WorldFault::Memory);
-                };
-                let Ok(()) = self.players.reserve(1) else {
-                    return Err(WorldFault::Memory);
-                };
-                let Ok(()) = self.records.reserve(1) else {
-                    return Err(WorldFault::Memory);
-                };
-                self.records.push_reserved((port, client.record()));
-                self.players.push_reserved(Player::Client(client));
-                Ok(write_down(&mut self.sent, effect))
-            }
+            Ok((client, effect)) => self.enter(port, client, effect),
             Err(fault) => Err(fault),
         }
     }
 
-    /// A client that would send a file: not carried yet.
-    pub(super) fn put(&mut self) -> Result<Report, WorldFault>
-        ensures fails { IsErr result }
-        ensures refused { (name : List ℕ) (mode : Mode) (asked : Asked) (bytes : List ℕ) →
-            IfErr result (RefusesToday self.old (Put name mode asked bytes)) }
-        ensures err { self.new ≡ self.old }
+    /// A client asks to write a file.
+    pub(super) fn put(
+        &mut self,
+        name: &[u8],
+        mode: Mode,
+        asked: &Asked,
+        file: Bytes,
+    ) -> Result<Report, WorldFault>
+        ensures steps { IfOk result (λ report.
+            WorldStep self.old (Put name.now mode asked.now file) report self.new) }
+        ensures refused { IfErr result (RefusesToday self.old (Put name.now mode asked.now file)) }
+        ensures err { OnErr result (self.new ≡ self.old) }
     {
-        let Some(_) = port_of(self.players.len()) else {
+        let Some(port) = port_of(self.players.len()) else {
             return Err(WorldFault::NoPort);
         };
-        Err(WorldFault::BadRequest)
+        let config = EndConfig {
+            limits: self.config.limits,
+            retries: self.config.retries,
+        };
+        match Client::put(self.alloc, port, name, mode, asked, file, &config) {
+            Ok((client, effect)) => self.enter(port, client, effect),
+            Err(fault) => Err(fault),
+        }
+    }
+
+    /// A client more, at the next port, and its request.
+    fn enter(&mut self, port: u16, client: Client, effect: Effect) -> Result<Report, WorldFault>
+        requires port { port ≡ next_port self.old }
+        requires client { is_client client.end.side ≡ true }
+        ensures enters { IfOk result (λ report.
+            Enters self.old port client effect report self.new) }
+        ensures memory { IfErr result (λ fault. fault ≡ WorldFault.Memory) }
+        ensures err { OnErr result (self.new ≡ self.old) }
+    {
+        let Ok(()) = self.sent.reserve(1) else {
+            return Err(WorldFault::Memory);
+        };
+        let Ok(()) = self.players.reserve(1) else {
+            return Err(WorldFault::Memory);
+        };
+        let Ok(()) = self.records.reserve(1) else {
+            return Err(WorldFault::Memory);
+        };
+        self.records.push_reserved((port, client.record()));
+        self.players.push_reserved(Player::Client(client));
+        Ok(write_down(&mut self.sent, effect))
     }
 }

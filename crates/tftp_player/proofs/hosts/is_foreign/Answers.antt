@@ -1,7 +1,7 @@
 -- What the two tests of an address tell.
 use Rattle.std.proofs.Common.{◌≡◌, Bool, ap, sym, ◌∙◌, subst}
 use Rattle.std.specs.Prelude.{IsTrue, ◌&&◌, ◌↔◌, not}
-use Rattle.tftp_player.specs.Machine.{Elsewhere, host_of, server_ip, client_ip, is_same_ip}
+use Rattle.tftp_player.specs.Machine.{Elsewhere, host_of, client_ip, is_same_ip}
 use Rattle.tftp_player.proofs.Endpoints.{foreign_by}
 use Rattle.tftp_player.proofs.hosts.is_foreign.Goals as goal
 

@@ -1,6 +1,11 @@
-use Rattle.std.proofs.Common.{◌≡◌, length, refl, rules}
-use Rattle.tftp_player.specs.declared.fault.WorldFault.TheVariants.{Memory}
-use Rattle.tftp_player.proofs.OpenedLemmas.{client_opened, got, no_port, has_port, get_refused}
+use Rattle.std.proofs.Common.{◌≡◌, length, subst, sym, rules}
+use Rattle.std.proofs.lemmas.Result.{IfOk-weaker, IfErr-weaker}
+use Rattle.tftp_ends.specs.Opening.{CanGet}
+use Rattle.tftp_player.specs.Clients.{AskRefuses}
+use Rattle.tftp_player.specs.declared.fault.WorldFault.{WorldFault}
+use Rattle.tftp_player.specs.World.{next_port}
+use Rattle.tftp_player.specs.WorldSteps.{HasPort}
+use Rattle.tftp_player.proofs.OpenedLemmas.{got, no_port, has_port, port_found, get_refused}
 use Rattle.tftp_player.proofs.stage.Stage.get.Goals as goal
 
 pub returns-in_default-clause-refused : goal.returns-in_default-clause-refused
@@ -8,43 +13,31 @@ returns-in_default-clause-refused c =
     let count : c.len.result ≡ length c.self.inside.players.items = search rules in
     no_port c.self.inside.config c.self.inside.sent.items c.self.inside.server c.self.inside.players.items _ c.len.result c.self.view_is count c.in_default.ensures.none
 
-pub invariant_of-self-in-Ok : goal.invariant_of-self-in-Ok
-invariant_of-self-in-Ok c =
-    let count : c.len.result ≡ length c.self.inside.players.items = search rules in (
-      c.self.invariant.0,
-      client_opened c.self.inside.server c.self.inside.players.items c.reserve-in-Ok.new.self.items _ c.self.inside.records.items c.reserve-in-Ok-2.new.self.items _ c.in-Ok.client c.len.result c.in-Some.port c.record.result _
-          c.self.invariant.1 count c.in-Some.ensures.some c.in-Ok.ensures.client refl refl c.record.ensures c.in-Ok-reserve-2.ensures.items c.push_reserved-in-Ok.ensures.items c.in-Ok-reserve-3.ensures.items c.push_reserved.ensures.items,
-      c.self.invariant.2,
-    )
-
-pub returns-in-Ok-reserve-3-clause-steps : goal.returns-in-Ok-reserve-3-clause-steps
-returns-in-Ok-reserve-3-clause-steps c =
+pub enter-requires-clause-port : goal.enter-requires-clause-port
+enter-requires-clause-port c =
     let count : c.len.result ≡ length c.self.inside.players.items = search rules in
-    got c.self.inside.config c.self.inside.sent.items c.self.inside.server c.self.inside.players.items c.reserve-in-Ok.new.self.items _ c.args.self.now c.args.name.now c.args.mode c.args.asked.now c.in-Ok.client c.in-Ok.effect c.len.result c.in-Some.port
-    c.reserve.new.self.items _ c.write_down.result c.self.view_is c.self.invariant.1.kept count c.in-Some.ensures.some c.in-Some.ensures.fits c.in-Ok.ensures.ok c.in-Ok.ensures.client c.in-Ok.ensures.effect
-    c.in-Ok-reserve-2.ensures.items c.push_reserved-in-Ok.ensures.items c.in-Ok-reserve.ensures.items c.write_down.ensures.sent c.write_down.ensures.report
+    port_found c.self.inside.config c.self.inside.sent.items c.self.inside.server c.self.inside.players.items _ c.len.result c.in-Some.port c.self.view_is count c.in-Some.ensures.some
 
-pub returns-in_default-reserve-clause-refused : goal.returns-in_default-reserve-clause-refused
-returns-in_default-reserve-clause-refused c =
+pub returns-in-Ok-clause-steps : goal.returns-in-Ok-clause-steps
+returns-in-Ok-clause-steps c =
     let count : c.len.result ≡ length c.self.inside.players.items = search rules in
-    get_refused c.args.self.now c.args.name.now c.args.mode c.args.asked.now Memory
-    (has_port c.self.inside.config c.self.inside.sent.items c.self.inside.server c.self.inside.players.items c.args.self.now c.len.result c.in-Some.port c.self.view_is count c.in-Some.ensures.some c.in-Some.ensures.fits) c.in-Ok.ensures.ok
+    let at : c.in-Some.port ≡ next_port c.args.self.now = port_found c.self.inside.config c.self.inside.sent.items c.self.inside.server c.self.inside.players.items c.args.self.now c.len.result c.in-Some.port c.self.view_is count c.in-Some.ensures.some in
+    IfOk-weaker c.enter.result _ _
+    (λ report e. got c.self.inside.config c.self.inside.sent.items c.self.inside.server c.self.inside.players.items c.self.inside.records.items c.args.self.now c.self.view_is c.self.invariant.1 c.args.name.now c.args.mode c.args.asked.now c.in-Ok.client c.in-Ok.effect c.in-Some.port
+    at c.in-Some.ensures.fits report c.enter.new.self c.in-Ok.ensures.ok c.in-Ok.ensures.client c.in-Ok.ensures.effect e)
+    c.enter.ensures.enters
 
-pub returns-in_default-reserve-2-clause-refused : goal.returns-in_default-reserve-2-clause-refused
-returns-in_default-reserve-2-clause-refused c =
+pub returns-in-Ok-clause-refused : goal.returns-in-Ok-clause-refused
+returns-in-Ok-clause-refused c =
     let count : c.len.result ≡ length c.self.inside.players.items = search rules in
-    get_refused c.args.self.now c.args.name.now c.args.mode c.args.asked.now Memory
-    (has_port c.self.inside.config c.self.inside.sent.items c.self.inside.server c.self.inside.players.items c.args.self.now c.len.result c.in-Some.port c.self.view_is count c.in-Some.ensures.some c.in-Some.ensures.fits) c.in-Ok.ensures.ok
-
-pub returns-in_default-reserve-3-clause-refused : goal.returns-in_default-reserve-3-clause-refused
-returns-in_default-reserve-3-clause-refused c =
-    let count : c.len.result ≡ length c.self.inside.players.items = search rules in
-    get_refused c.args.self.now c.args.name.now c.args.mode c.args.asked.now Memory
-    (has_port c.self.inside.config c.self.inside.sent.items c.self.inside.server c.self.inside.players.items c.args.self.now c.len.result c.in-Some.port c.self.view_is count c.in-Some.ensures.some c.in-Some.ensures.fits) c.in-Ok.ensures.ok
+    let has : HasPort c.args.self.now = has_port c.self.inside.config c.self.inside.sent.items c.self.inside.server c.self.inside.players.items c.args.self.now c.len.result c.in-Some.port c.self.view_is count c.in-Some.ensures.some c.in-Some.ensures.fits in
+    IfErr-weaker c.enter.result _ _
+    (λ fault e. get_refused c.args.self.now c.args.name.now c.args.mode c.args.asked.now has fault (subst (λ (f : WorldFault). AskRefuses (CanGet c.args.name.now c.args.mode c.args.asked.now) f) (sym e) c.in-Ok.ensures.ok))
+    c.enter.ensures.memory
 
 pub returns-in-Err-clause-refused : goal.returns-in-Err-clause-refused
 returns-in-Err-clause-refused c =
     let count : c.len.result ≡ length c.self.inside.players.items = search rules in
-    get_refused c.args.self.now c.args.name.now c.args.mode c.args.asked.now c.in-Err.fault
-    (has_port c.self.inside.config c.self.inside.sent.items c.self.inside.server c.self.inside.players.items c.args.self.now c.len.result c.in-Some.port c.self.view_is count c.in-Some.ensures.some c.in-Some.ensures.fits)
+    get_refused c.args.self.now c.args.name.now c.args.mode c.args.asked.now
+    (has_port c.self.inside.config c.self.inside.sent.items c.self.inside.server c.self.inside.players.items c.args.self.now c.len.result c.in-Some.port c.self.view_is count c.in-Some.ensures.some c.in-Some.ensures.fits) c.in-Err.fault
     c.in-Err.ensures.refused

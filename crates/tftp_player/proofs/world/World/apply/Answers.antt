@@ -2,25 +2,28 @@
 use Rattle.std.proofs.Common.{Bool, subst, sym}
 use Rattle.tftp_player.specs.World.{WorldState}
 use Rattle.tftp_player.specs.WorldKept.{IsOk}
+use Rattle.tftp_player.proofs.SentLemmas.{sends_each}
 use Rattle.tftp_player.proofs.TodayKeeps.{home_of, played_keeps}
 use Rattle.tftp_player.proofs.WorldSafe.{kept_is_safe}
 use Rattle.tftp_player.proofs.world.World.apply.Goals as goal
 
 pub invariant_of-self : goal.invariant_of-self
-invariant_of-self c =
-    subst (λ (strayed : Bool). IsOk strayed c.step.new.self) (sym c.strayed_after-strayed.ensures)
-    (played_keeps c.self.inside.strayed c.self.inside.stage c.step.new.self c.args.event c.in-Ok.report c.self.invariant c.in-Ok.ensures.steps)
+invariant_of-self c = (
+  subst (λ (strayed : Bool). IsOk strayed c.step.new.self) (sym c.strayed_after-strayed.ensures)
+      (played_keeps c.self.inside.strayed c.self.inside.stage c.step.new.self c.args.event c.in-Ok.report c.self.invariant.0 c.in-Ok.ensures.steps),
+  sends_each c.self.inside.stage c.step.new.self c.args.event c.in-Ok.report c.in-Ok.ensures.steps c.self.invariant.1,
+)
 
 pub returns-in-Ok-clause-safe : goal.returns-in-Ok-clause-safe
-returns-in-Ok-clause-safe c = kept_is_safe c.strayed_after-strayed.result c.step.new.self (invariant_of-self c)
+returns-in-Ok-clause-safe c = kept_is_safe c.strayed_after-strayed.result c.step.new.self (invariant_of-self c).0
 
 pub returns-in-Ok-clause-home : goal.returns-in-Ok-clause-home
-returns-in-Ok-clause-home c = home_of c.strayed_after-strayed.result c.step.new.self (invariant_of-self c)
+returns-in-Ok-clause-home c = home_of c.strayed_after-strayed.result c.step.new.self (invariant_of-self c).0
 
 pub returns-in-Err-clause-safe : goal.returns-in-Err-clause-safe
 returns-in-Err-clause-safe c =
-    kept_is_safe c.self.inside.strayed c.step.new.self (subst (λ (w : WorldState). IsOk c.self.inside.strayed w) (sym c.in-Err.ensures.err) c.self.invariant)
+    kept_is_safe c.self.inside.strayed c.step.new.self (subst (λ (w : WorldState). IsOk c.self.inside.strayed w) (sym c.in-Err.ensures.err) c.self.invariant.0)
 
 pub returns-in-Err-clause-home : goal.returns-in-Err-clause-home
 returns-in-Err-clause-home c =
-    home_of c.self.inside.strayed c.step.new.self (subst (λ (w : WorldState). IsOk c.self.inside.strayed w) (sym c.in-Err.ensures.err) c.self.invariant)
+    home_of c.self.inside.strayed c.step.new.self (subst (λ (w : WorldState). IsOk c.self.inside.strayed w) (sym c.in-Err.ensures.err) c.self.invariant.0)

@@ -1,16 +1,19 @@
 -- A world in which nothing has happened is kept.
-use Rattle.std.proofs.Common.{false, subst, sym}
+use Rattle.std.proofs.Common.{false, subst, sym, arith}
 use Rattle.tftp_server.specs.Memory.{contents, in_path_order}
-use Rattle.tftp_player.specs.World.{WorldState, new_world}
+use Rattle.tftp_player.specs.World.{WorldState}
+use Rattle.tftp_player.specs.PlayedWorld.{HasSentEach}
 use Rattle.tftp_player.specs.WorldKept.{IsOk}
 use Rattle.tftp_player.proofs.WorldRuns.{new_ok}
 use Rattle.tftp_player.proofs.WorldSafe.{kept_is_safe}
 use Rattle.tftp_player.proofs.world.World.new.Goals as goal
 
 pub invariant_of-result : goal.invariant_of-result
-invariant_of-result c =
-    subst (λ (w : WorldState). IsOk false w) (sym c.in_ok-stage.ensures.new)
-    (new_ok false (in_path_order (contents c.args.files.items)) c.args.config c.requires.config.max_block)
+invariant_of-result c = (
+  subst (λ (w : WorldState). IsOk false w) (sym c.in_ok-stage.ensures.new)
+      (new_ok false (in_path_order (contents c.args.files.items)) c.args.config c.requires.config.max_block),
+  subst HasSentEach (sym c.in_ok-stage.ensures.new) (omega arith),
+)
 
 pub returns-clause-safe : goal.returns-clause-safe
-returns-clause-safe c = kept_is_safe false c.in_ok-stage.stage (invariant_of-result c)
+returns-clause-safe c = kept_is_safe false c.in_ok-stage.stage (invariant_of-result c).0

@@ -12,8 +12,8 @@ loop-count-init c = record {
   delivered = search rules;
   bounded = search rules;
   strayed = refl;
-  safe = subst (λ (w : PlayedWorld). IsSafe w.state) c.self.view_is (kept_is_safe c.self.inside.strayed c.self.inside.stage c.self.invariant);
-  home = subst IsHome c.self.view_is (home_of c.self.inside.strayed c.self.inside.stage c.self.invariant);
+  safe = subst (λ (w : PlayedWorld). IsSafe w.state) c.self.view_is (kept_is_safe c.self.inside.strayed c.self.inside.stage c.self.invariant.0);
+  home = subst IsHome c.self.view_is (home_of c.self.inside.strayed c.self.inside.stage c.self.invariant.0);
 }
 
 pub loop-count-preserved : goal.loop-count-preserved

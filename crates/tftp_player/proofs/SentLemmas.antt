@@ -1,0 +1,112 @@
+-- Each end that was opened has sent a datagram.
+use Rattle.std.proofs.Common.{◌≡◌, ℕ, ◌+◌, ◌<◌, ◌≤◌, suc, zero, Bool, true, false, List, [], ◌∷◌, ◌++◌, length, map, sym, subst, ap, ◌∙◌, refl, arith, length-append}
+use Rattle.std.specs.Prelude.{◌%◌, slice_index_or, slice_set, nat_lt, if◌then◌else◌, Option, Some, None}
+use Rattle.std.proofs.Math.ListN.{length-set}
+use Rattle.std.proofs.lemmas.Bool.{eq-eqb, ne_eqb, ltb-true}
+use Rattle.std.proofs.lemmas.List.{length-map}
+use Rattle.tftp_ends.specs.declared.record.Record.{Record}
+use Rattle.tftp_ends.specs.Step.{Turn}
+use Rattle.tftp_file.specs.declared.files.Files.{Files}
+use Rattle.tftp_file.specs.Sink.{Holding}
+use Rattle.tftp_server.specs.Port.{Service, Silent, Refused, Sends, Takes}
+use Rattle.rand_pcg.specs.Lcg.{Lcg}
+use Rattle.rand_pcg.specs.Pcg.{pcg32}
+use Rattle.tftp_player.specs.Draw.{drawn, words_drawn}
+use Rattle.tftp_player.specs.Machine.{Endpoint}
+use Rattle.tftp_player.specs.Played.{records_from}
+use Rattle.tftp_player.specs.PlayedWorld.{HasSentEach}
+use Rattle.tftp_player.specs.Today.{StepToday, ArrivesToday, At_port, Elsewhere}
+use Rattle.tftp_player.specs.World.{WorldState, OpenedEnd, at_rest, resting, replied, end_after}
+use Rattle.tftp_player.specs.WorldSteps.{Serves, Arrives, At_request_port, At_open_end, At_closed_end, At_nobody, Opens, Stays, Turns, TimesOut, told_to_refuse}
+use Rattle.tftp_player.specs.declared.event.Event.{Event}
+use Rattle.tftp_player.specs.declared.event.Event.TheVariants.{Get, Put, Deliver, Timeout, RefuseStore, Stray}
+use Rattle.tftp_player.specs.declared.report.Report.{Report}
+
+-- closed ends go to rest
+rested : (mid new : WorldState) → new ≡ resting mid → HasSentEach mid → HasSentEach new
+rested mid new e h = subst HasSentEach (sym e) (let n = length-map mid.ends at_rest in let l : length (map at_rest mid.ends) ≤ length mid.sent = omega (arith, n, h) in l)
+
+-- an end opened, and sent
+opens : (old new : WorldState) (x : OpenedEnd) (report : Report) → Opens old x report new → HasSentEach old → HasSentEach new
+opens old new x report o h =
+    subst HasSentEach (sym o.is)
+    (let a = length-append old.ends (x ∷ []) in let b = length-append old.sent (record { from = x.address; to = x.state.last_sent_to; bytes = x.state.last_sent } ∷ []) in
+    let l : length (old.ends ++ x ∷ []) ≤ length (old.sent ++ record { from = x.address; to = x.state.last_sent_to; bytes = x.state.last_sent } ∷ []) = omega (arith, a, b, h) in l)
+
+-- nothing happened
+stays : (old new : WorldState) (report : Report) → Stays old report new → HasSentEach old → HasSentEach new
+stays old new report s h = subst HasSentEach (sym s.is) h
+
+-- an end made a turn
+turns : (old new : WorldState) (k : ℕ) (x : OpenedEnd) (turn : Turn) (held : Files (List ℕ) Holding) (report : Report) → Turns old k x turn held report new → HasSentEach old → HasSentEach new
+turns old new k x turn held report t h =
+    subst HasSentEach (sym t.is)
+    (let a = length-set old.ends k (end_after x turn held) in let b = length-append old.sent (replied x.address turn.reply) in
+    let l : length (slice_set old.ends k (end_after x turn held)) ≤ length (old.sent ++ replied x.address turn.reply) = omega (arith, a, b, h) in l)
+
+-- the request port was asked
+serves : (service : Service) (old new : WorldState) (from : Endpoint) (report : Report) → Serves service old from report new → HasSentEach old → HasSentEach new
+serves Silent old new from report s h = stays old new report s h
+serves (Refused reply) old new from report s h =
+    subst HasSentEach (sym s.1) (let b = length-append old.sent in let l : length old.ends ≤ length (old.sent ++ _) = omega (arith, h, b) in l)
+serves (Sends path mode length agreed) old new from report s h = opens old new _ report s.2 h
+serves (Takes path mode agreed) old new from report s h = opens old new _ report s h
+
+arrives : (old new : WorldState) (from to : Endpoint) (bytes : List ℕ) (report : Report) → Arrives old from to bytes report new → HasSentEach old → HasSentEach new
+arrives old new from to bytes report (At_request_port here port decoded says served) h = serves _ old new from report served h
+arrives old new from to bytes report (At_open_end k x there at open_now takes) h = turns old new k x takes.turn takes.held report takes.turns h
+arrives old new from to bytes report (At_closed_end k x there at closed_now s) h = stays old new report s h
+arrives old new from to bytes report (At_nobody away nobody s) h = stays old new report s h
+
+arrives_today : (old new : WorldState) (from to : Endpoint) (bytes : List ℕ) (report : Report) → ArrivesToday old from to bytes report new → HasSentEach old → HasSentEach new
+arrives_today old new from to bytes report (At_port here port decoded says mid served is) h = rested mid new is (serves _ old mid from report served h)
+arrives_today old new from to bytes report (Elsewhere away mid a is) h = rested mid new is (arrives old mid from to bytes report a h)
+
+times_out : (b : Bool) (old new : WorldState) (k : ℕ) (x : OpenedEnd) (report : Report) → TimesOut b old k x report new → HasSentEach old → HasSentEach new
+times_out true old new k x report s h = stays old new report s h
+times_out false old new k x report t h = turns old new k x _ _ report t h
+
+pub sends_each : (old new : WorldState) (event : Event) (report : Report) → StepToday old event report new → HasSentEach old → HasSentEach new
+sends_each old new (Get name mode asked) report s h = rested s.0 new s.2 (opens old s.0 _ report s.1.2 h)
+sends_each old new (Put name mode asked bytes) report s h = rested s.0 new s.2 (opens old s.0 _ report s.1.2 h)
+sends_each old new (Deliver i) report s h = arrives_today old new _ _ _ report s.2 h
+sends_each old new (Timeout port) report s h = rested s.0 new s.2 (times_out _ old s.0 _ _ report s.1.3 h)
+sends_each old new (RefuseStore port) report s h =
+    rested s.0 new s.2 (subst HasSentEach (sym s.1.4) (let a = length-set old.ends s.1.0 (told_to_refuse s.1.1) in let l : length (slice_set old.ends s.1.0 (told_to_refuse s.1.1)) ≤ length old.sent = omega (arith, a, h) in l))
+sends_each old new (Stray from to bytes) report s h = arrives_today old new _ _ _ report s.1 h
+
+-- the port of the end at a place is recorded there
+pub record_port : (port : ℕ) (ends : List OpenedEnd) (k : ℕ) (d : ℕ × Record) → k < length ends → (slice_index_or (records_from port ends) k d).0 ≡ port + k
+record_port port [] k d within = absurd (let h : k < 0 = within in omega (arith, h))
+record_port port (x ∷ ends) zero d within = omega arith
+record_port port (x ∷ ends) (suc k) d within = let n = record_port (port + 1) ends k d (omega (arith, within)) in omega (arith, n)
+
+records_count : (port : ℕ) (ends : List OpenedEnd) → length (records_from port ends) ≡ length ends
+records_count port [] = refl
+records_count port (x ∷ ends) = ap suc (records_count (port + 1) ends)
+
+-- ---- what is drawn
+module _ (w : WorldState) (kind place : ℕ) where
+  abbrev by_count : Bool → Option Event
+  by_count none = if none then None else if nat_lt (kind % 8) 6 then Some (Deliver (place % length w.sent)) else Some (Timeout (1024 + place % length w.ends))
+
+  pub draws_none : (records : List (ℕ × Record)) → records ≡ records_from 1024 w.ends → length records ≡ 0 → None ≡ drawn w kind place
+  draws_none records are none = ap by_count (sym (eq-eqb (length w.ends) 0 (sym (records_count 1024 w.ends) ∙ (ap length (sym are) ∙ none))))
+
+  pub draws_timeout : (records : List (ℕ × Record)) (d : ℕ × Record) → records ≡ records_from 1024 w.ends → (length records ≡ 0 → ⊥) → 6 ≤ kind % 8 →
+      Some (Timeout (slice_index_or records (place % length records) d).0) ≡ drawn w kind place
+  draws_timeout records d are some high =
+      let n : length records ≡ length w.ends = ap length are ∙ records_count 1024 w.ends in
+      let within : place % length w.ends < length w.ends = omega (arith, n, some) in
+      ap (λ (rs : List (ℕ × Record)). Some (Timeout (slice_index_or rs (place % length rs) d).0)) are
+      ∙ (ap (λ (m : ℕ). Some (Timeout (slice_index_or (records_from 1024 w.ends) (place % m) d).0)) (records_count 1024 w.ends)
+      ∙ (ap (λ (p : ℕ). Some (Timeout p)) (record_port 1024 w.ends (place % length w.ends) d within)
+      ∙ (ap (λ (b : Bool). if b then Some (Deliver (place % length w.sent)) else Some (Timeout (1024 + place % length w.ends))) (sym (not_low (nat_lt (kind % 8) 6) refl))
+      ∙ ap by_count (sym (ne_eqb (length w.ends) 0 (λ e. some (n ∙ e))))))) where
+        not_low : (b : Bool) → nat_lt (kind % 8) 6 ≡ b → nat_lt (kind % 8) 6 ≡ false
+        not_low true e = absurd (let l = ltb-true (kind % 8) 6 e in omega (arith, l, high))
+        not_low false e = e
+
+pub no_words : (w : WorldState) (g : Lcg) (records : List (ℕ × Record)) → records ≡ records_from 1024 w.ends → length records ≡ 0 → g ≡ words_drawn w g
+no_words w g records are none =
+    ap (λ (b : Bool). if b then g else (pcg32 (pcg32 g).1).1) (sym (eq-eqb (length w.ends) 0 (sym (records_count 1024 w.ends) ∙ (ap length (sym are) ∙ none))))

@@ -1,0 +1,34 @@
+//! What random words draw.
+
+ghost use Rattle.std.specs.Prelude.{◌≡◌};
+ghost use Rattle.rand_pcg.specs.Pcg.{pcg32};
+ghost use Rattle.tftp_player.specs.Draw.{drawn, words_drawn};
+
+use crate::event::Event;
+use crate::world::World;
+use rand_core::utils::NextWord;
+use rand_pcg::Pcg32;
+
+/// Draws an event: in six cases of eight the delivery of any datagram that was sent, else a timeout
+/// of any end that was opened.
+///
+/// It takes two words, the second of which chooses the datagram or the end, and no memory. While no
+/// end was opened there is nothing to draw, and it takes no word.
+pub fn draw(rng: &mut Pcg32, world: &World) -> Option<Event>
+    ensures event { result ≡ drawn world.now.state (pcg32 rng.old).0
+        (pcg32 (pcg32 rng.old).1).0 }
+    ensures words { rng.new ≡ words_drawn world.now.state rng.old }
+{
+    let sent = world.sent();
+    let records = world.records();
+    if records.is_empty() {
+        return None;
+    }
+    let kind = rng.next_word();
+    let place = rng.next_word() as usize;
+    if kind % 8 < 6 {
+        return Some(Event::Deliver(place % sent.len()));
+    }
+    let (port, _) = records[place % records.len()];
+    Some(Event::Timeout(port))
+}
