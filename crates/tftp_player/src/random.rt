@@ -1,8 +1,9 @@
 //! What random words draw.
 
-ghost use Rattle.std.specs.Prelude.{◌≡◌};
+ghost use Rattle.std.specs.Prelude.{◌≡◌, IfSome};
 ghost use Rattle.rand_pcg.specs.Pcg.{pcg32};
 ghost use Rattle.tftp_player.specs.Draw.{drawn, words_drawn};
+ghost use Rattle.tftp_player.specs.Today.{IsPlayable};
 
 use crate::event::Event;
 use crate::world::World;
@@ -17,6 +18,7 @@ use rand_pcg::Pcg32;
 pub fn draw(rng: &mut Pcg32, world: &World) -> Option<Event>
     ensures event { result ≡ drawn world.now.state (pcg32 rng.old).0
         (pcg32 (pcg32 rng.old).1).0 }
+    ensures playable { IfSome result (λ event. IsPlayable event) }
     ensures words { rng.new ≡ words_drawn world.now.state rng.old }
 {
     let sent = world.sent();

@@ -28,7 +28,10 @@ fn a_client_asks_to_write(rt: HostRuntime) -> Result<(), Fail> {
     let mut world = World::new(alloc, Vec::new(alloc), Config::default())?;
     put(&mut world, alloc)?;
     assert_eq!(rt; world.sent().len(), 1);
-    assert_eq!(rt; world.sent()[0].bytes.as_slice(), b"\x00\x02n\x00octet\x00");
+    assert_eq!(rt;
+        world.sent()[0].bytes.as_slice(),
+        b"\x00\x02n\x00octet\x00".as_slice()
+    );
     assert_eq!(rt; world.records().len(), 1);
     assert_eq!(rt; world.records()[0].1.side, Side::ClientWrite);
     Ok(())

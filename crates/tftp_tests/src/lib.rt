@@ -2,6 +2,8 @@
 #![tactic(auto)]
 
 #[cfg(test)]
+mod drawn_rows;
+#[cfg(test)]
 mod end_rows;
 #[cfg(test)]
 mod lending_rows;
