@@ -13,4 +13,5 @@ pub mod BlockRead
 pub mod BlockStored
 pub mod Files
 pub mod Opening
+pub mod Run
 pub mod Endpoint

@@ -14,6 +14,7 @@ mod end;
 mod endpoint;
 mod error_reply;
 mod fault;
+pub mod laws;
 mod outcome;
 mod outgoing;
 mod phase;

@@ -1,0 +1,105 @@
+-- A run of an end: its opening and its steps, one after another, whatever files it works on.
+use Rattle.std.specs.Prelude.{ℕ, ◌≡◌, ◌+◌, ◌*◌, ◌<◌, ◌==◌, ◌&&◌, ◌||◌, Bool, true, false, if◌then◌else◌, List, [], ◌∷◌, Option, Some, None, is_some}
+use Rattle.tftp_wire.specs.declared.mode.Mode.{Mode}
+use Rattle.tftp_negotiate.specs.Agreed.{size}
+use Rattle.tftp_negotiate.specs.declared.asked.Asked.{Asked}
+use Rattle.tftp_negotiate.specs.declared.known.Known.{Known}
+use Rattle.tftp_file.specs.Sink.{Holding}
+use Rattle.tftp_file.specs.declared.fault.StoreFault.{StoreFault}
+use Rattle.tftp_file.specs.declared.files.Files.{Files}
+use Rattle.tftp_ends.specs.declared.endpoint.Endpoint.{Endpoint}
+use Rattle.tftp_ends.specs.End.{EndState, outcome_of, is_progress}
+use Rattle.tftp_ends.specs.Opening.{getting, putting, serving_read, serving_write}
+use Rattle.tftp_ends.specs.Step.{Reply, Turn, DatagramStep, timeout_turn}
+
+-- an end as it opens, in one of its four ways; of one that sends, the blocks of its file can be numbered
+pub data IsOpening (e : EndState) : Type 0 where
+  Gets : (to : Endpoint) (name : List ℕ) (mode : Mode) (asked : Asked) (limit retries : ℕ) → e ≡ getting to name mode asked limit retries → IsOpening e
+  Puts : (to : Endpoint) (name : List ℕ) (mode : Mode) (asked : Asked) (length limit retries : ℕ) → e ≡ putting to name mode asked length limit retries → IsOpening e
+  Serves_read : (agreed : List Known) (peer : Endpoint) (mode : Mode) (length retries : ℕ) (piece : List ℕ) → length < 65535 * size agreed → e ≡ serving_read agreed peer mode length retries piece → IsOpening e
+  Serves_write : (agreed : List Known) (peer : Endpoint) (mode : Mode) (retries : ℕ) → e ≡ serving_write agreed peer mode retries → IsOpening e
+
+-- what an end takes: a datagram of these bytes from there, or a timeout
+pub data Event : Type 0 where
+  Datagram : Endpoint → List ℕ → Event
+  Timeout : Event
+
+-- an event, and the end and its answer behind it
+pub record Taken : Type 0 where
+  pub event : Event
+  pub turn : Turn
+
+-- the end behind some steps
+abbrev pub end_behind : EndState → List Taken → EndState
+end_behind e [] = e
+end_behind e (taken ∷ run) = end_behind taken.turn.end run
+
+-- the end is open
+abbrev pub IsOpen : EndState → Type 0
+IsOpen e = is_some (outcome_of e.phase) ≡ false
+
+-- a datagram has this opcode
+abbrev pub has_opcode : ℕ → List ℕ → Bool
+has_opcode opcode (high ∷ low ∷ rest) = high == 0 && (low == opcode)
+has_opcode opcode (high ∷ []) = false
+has_opcode opcode [] = false
+
+-- an answer is a DATA, or it is an OACK
+abbrev pub is_data : Option Reply → Bool
+is_data None = false
+is_data (Some reply) = has_opcode 3 reply.bytes
+
+abbrev pub is_oack : Option Reply → Bool
+is_oack None = false
+is_oack (Some reply) = has_opcode 6 reply.bytes
+
+module _ {S K : Type 0} (left : S → Option (List ℕ)) (may_fail : S → ℕ → Type 0) (held : K → Option Holding) (may_refuse_append : K → List ℕ → StoreFault → Type 0) (may_refuse_commit : K → StoreFault → Type 0) where
+  -- one step
+  abbrev pub Takes : EndState → Event → Turn → Type 0
+  Takes e (Datagram from bytes) turn =
+      (files : Files S K) × (files' : Files S K)
+      × DatagramStep left may_fail held may_refuse_append may_refuse_commit from bytes e files turn files'
+  Takes e Timeout turn = turn ≡ timeout_turn e
+
+  -- steps of which each begins, at an open end, where the one before it ended
+  abbrev pub IsRun : EndState → List Taken → Type 0
+  IsRun e [] = Unit {0}
+  IsRun e (taken ∷ run) = IsOpen e × Takes e taken.event taken.turn × IsRun taken.turn.end run
+
+  -- it answers a datagram by DATA only where that is progress, and never by an OACK
+  abbrev pub AnswersByProgress : EndState → Type 0
+  AnswersByProgress e = (from : Endpoint) (bytes : List ℕ) (turn : Turn) → Takes e (Datagram from bytes) turn →
+      (is_oack turn.reply ≡ false) × (is_data turn.reply ≡ true → is_progress e.phase turn.end.phase ≡ true)
+
+-- one, where it holds
+abbrev pub count_if : Bool → ℕ
+count_if true = 1
+count_if false = 0
+
+-- how many steps were progress
+abbrev pub progress_count : EndState → List Taken → ℕ
+progress_count e [] = 0
+progress_count e (taken ∷ run) = count_if (is_progress e.phase taken.turn.end.phase) + progress_count taken.turn.end run
+
+abbrev pub is_timeout : Event → Bool
+is_timeout (Datagram from bytes) = false
+is_timeout Timeout = true
+
+-- how many were timeouts
+abbrev pub timeout_count : List Taken → ℕ
+timeout_count [] = 0
+timeout_count (taken ∷ run) = count_if (is_timeout taken.event) + timeout_count run
+
+-- how many answers were one or the other
+abbrev pub data_count : List Taken → ℕ
+data_count [] = 0
+data_count (taken ∷ run) = count_if (is_data taken.turn.reply || is_oack taken.turn.reply) + data_count run
+
+-- whether the datagram that opened an end was
+abbrev pub opened_by_data : EndState → Bool
+opened_by_data e = has_opcode 3 e.last_sent || has_opcode 6 e.last_sent
+
+-- how many datagrams went out
+abbrev pub datagram_count : List Taken → ℕ
+datagram_count [] = 0
+datagram_count (taken ∷ run) = count_if (is_some taken.turn.reply) + datagram_count run

@@ -1,0 +1,38 @@
+//! What holds of every run of an end, over the definitions of its steps alone. That the calls of an
+//! [`End`](crate::End) are such steps their contracts say.
+
+ghost use Rattle.std.specs.Prelude.{◌≡◌, ◌+◌, ◌*◌, ◌≤◌, ℕ, List, length, true};
+ghost use Rattle.tftp_ends.specs.End.{EndState, is_sender};
+ghost use Rattle.tftp_ends.specs.Run.{IsOpening, IsOpen, IsRun, AnswersByProgress, Taken, end_behind, progress_count, timeout_count, data_count, datagram_count, count_if, opened_by_data};
+
+use tftp_file::{Sink, Source};
+
+/// Every run of an end is bounded, whatever its peer and strangers send, and however often it times
+/// out.
+///
+/// A sender answers a datagram by DATA only where it makes progress, and never by an OACK: so a
+/// repeated ACK causes none (RFC 1123, section 4.2.3.1). Over its life it sends at most one DATA or
+/// OACK at its opening, and one for each step with progress and for each timeout. There are at most
+/// 65,536 steps with progress. An end that is still open has had at most as many timeouts as it has
+/// retries, once and again for each step with progress, and one more while it dallies: the next one
+/// closes it or finds it closed. A step has one answer at most.
+pub fn run_bounds<S: Source, K: Sink>()
+    ensures progress { (e : EndState) (run : List Taken) → IsOpening e
+        → IsRun S.left S.may_fail K.held K.may_refuse_append K.may_refuse_commit e run
+        → progress_count e run ≤ 65536 }
+    ensures timeouts { (e : EndState) (run : List Taken) → IsOpening e
+        → IsRun S.left S.may_fail K.held K.may_refuse_append K.may_refuse_commit e run
+        → IsOpen (end_behind e run)
+        → timeout_count run ≤ e.retries * (progress_count e run + 1) + 1 }
+    ensures sent { (e : EndState) (run : List Taken) → IsOpening e
+        → IsRun S.left S.may_fail K.held K.may_refuse_append K.may_refuse_commit e run
+        → is_sender e.side ≡ true
+        → count_if (opened_by_data e) + data_count run
+        ≤ 1 + progress_count e run + timeout_count run }
+    ensures answers { (e : EndState) (run : List Taken) → IsOpening e
+        → IsRun S.left S.may_fail K.held K.may_refuse_append K.may_refuse_commit e run
+        → IsOpen (end_behind e run) → is_sender e.side ≡ true
+        → AnswersByProgress S.left S.may_fail K.held K.may_refuse_append K.may_refuse_commit
+        (end_behind e run) }
+    ensures datagrams { (run : List Taken) → datagram_count run ≤ length run }
+{}
