@@ -1,12 +1,12 @@
 -- A piece of netascii by its first wrong byte, and by what it stands for.
-use Rattle.std.proofs.Common.{◌≡◌, ◌≢◌, ℕ, Bool, true, false, List, [], ◌∷◌, ◌++◌, Result, Ok, Err, length, ltb, ◌<◌, ◌≤◌, sym, refl, ap, ◌∙◌, subst, inl, inr, append_assoc}
-use Rattle.std.specs.Prelude.{◌==◌, ◌↔◌, ◌&&◌, ◌||◌, not, if◌then◌else◌}
-use Rattle.std.proofs.lemmas.Bool.{cases_eq, eq-eqb, ne_eqb, true≢false, lt-ltb, le-ltb}
+use Rattle.std.proofs.Common.{◌≡◌, ◌≢◌, ℕ, Bool, true, false, List, [], ◌∷◌, ◌++◌, Result, Ok, Err, length, ltb, ◌<◌, ◌≤◌, sym, refl, ap, ◌∙◌, inl, inr, append_assoc}
+use Rattle.std.specs.Prelude.{◌==◌, ◌↔◌, ◌&&◌, not}
+use Rattle.std.proofs.lemmas.Bool.{cases_eq, ne_eqb, true≢false, lt-ltb, le-ltb}
 use Rattle.std.specs.Result.{IsOk, is_ok}
 use Rattle.tftp_wire.specs.declared.mode.Mode.{Mode}
 use Rattle.tftp_wire.specs.declared.mode.Mode.TheVariants.{Octet, Netascii}
 use Rattle.tftp_file.specs.Netascii.{wire_byte, netascii_text}
-use Rattle.tftp_file.specs.Decoding.{IsHeld, Decodes, FirstWrong, IsWrong, Refuses}
+use Rattle.tftp_file.specs.Decoding.{IsHeld, Decodes, IsWrong, Refuses}
 use Rattle.tftp_file.specs.declared.netascii.NetFault.{NetFault}
 use Rattle.tftp_file.specs.declared.netascii.NetFault.TheVariants.{LoneCr, LoneLf, EndsInCr, Memory}
 use Rattle.tftp_ends.specs.Text.{begins_netascii, ends_in_cr, is_readable, Decoded}

@@ -93,33 +93,26 @@ pub record MayPut (name : List ℕ) (mode : Mode) (asked : Asked) (length : ℕ)
   pub options : IsFor asked kinds.Write mode length
   pub fits : length < 65535 * asked_size asked.blksize
 
--- no option is asked
-abbrev pub nothing_asked : Asked
-nothing_asked = record { blksize = None; timeout = None; tsize = None }
-
--- a read that may be asked for, in octet and without options: the others aren't supported yet
+-- a read that may be asked for, in octet: netascii isn't supported yet
 pub record CanGet (name : List ℕ) (mode : Mode) (asked : Asked) : Type 0 where
   pub may : MayGet name mode asked
   pub octet : mode ≡ Octet
-  pub plain : asked ≡ nothing_asked
 
--- a write can be asked for, as far as its request goes: the request is a packet, and the options are for it; netascii and
--- options aren't supported yet
+-- a write can be asked for, as far as its request goes: the request is a packet, and the options are for it; netascii
+-- isn't supported yet
 pub record CanAskPut (name : List ℕ) (mode : Mode) (asked : Asked) (length : ℕ) : Type 0 where
   pub valid : IsValid (Write (request_of name mode asked))
   pub options : IsFor asked kinds.Write mode length
   pub octet : mode ≡ Octet
-  pub plain : asked ≡ nothing_asked
 
 -- a write of that length can be asked for: its blocks can be numbered, too
 pub record CanPut (name : List ℕ) (mode : Mode) (asked : Asked) (length : ℕ) : Type 0 where
   pub asks : CanAskPut name mode asked length
   pub fits : length < 65535 * asked_size asked.blksize
 
--- a transfer is in octet and without options: the others aren't supported yet
+-- a transfer is in octet: netascii isn't supported yet
 pub record IsSupported (mode : Mode) (agreed : List Known) : Type 0 where
   pub octet : mode ≡ Octet
-  pub plain : agreed ≡ []
 
 -- a read can be served: it is supported, and its blocks can be numbered
 pub record CanServe (mode : Mode) (agreed : List Known) (length : ℕ) : Type 0 where

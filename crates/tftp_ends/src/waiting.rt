@@ -1,6 +1,6 @@
 //! How a client handles the first answer to its request.
 
-ghost use Rattle.std.specs.Prelude.{◌≡◌, ◌<◌, ℕ, option_map};
+ghost use Rattle.std.specs.Prelude.{◌≡◌, ◌<◌, ◌*◌, ◌↔◌, ℕ, IsTrue, option_map};
 ghost use Rattle.tftp_wire.specs.Borrowed.{owned};
 ghost use Rattle.tftp_negotiate.specs.Asked.{IsAskable};
 ghost use Rattle.tftp_ends.specs.Sound.{FitsSender, FitsReceiver};
@@ -17,6 +17,13 @@ use crate::side::Side;
 use tftp_file::NetDecoder;
 use tftp_negotiate::{Agreed, Asked, DEFAULT_BLOCK, Kind, Refusal, check_oack_ref};
 use tftp_wire::{Mode, PacketRef};
+
+/// Whether the blocks of a file of that length can be numbered in two bytes (RFC 1350, section 5).
+pub(crate) fn can_be_numbered(length: u64, size: u16) -> bool
+    ensures { IsTrue result ↔ (length < 65535 * size) }
+{
+    length < 65_535 * u64::from(size)
+}
 
 /// A first DATA or ACK agrees on nothing.
 pub(crate) fn default_terms(peer: Endpoint) -> Terms
@@ -81,13 +88,13 @@ fn accept_action(from: Endpoint, answer: Result<Agreed, Refusal>) -> Action
     }
 }
 
-/// A writer begins, if the file's blocks can be numbered in two bytes.
+/// A writer begins, if the file's blocks can be numbered.
 fn begin_action(length: u64, terms: Terms) -> Action
     requires { 0 < terms.size }
     ensures action { result ≡ begin_action length terms }
     ensures fits { FitsSender length result }
 {
-    if length < 65_535 * u64::from(terms.size) {
+    if can_be_numbered(length, terms.size) {
         Action::Send { terms, number: 1 }
     } else {
         Action::Respond(Response::Refuse {

@@ -4,7 +4,7 @@ ghost use Rattle.std.specs.Prelude.{ℕ, ◌≡◌, ◌↔◌, ◌++◌, ◌*◌
 ghost use Rattle.tftp_wire.specs.Spelling.{canonical};
 ghost use Rattle.tftp_wire.specs.declared.mode.Mode.TheVariants.{Octet};
 ghost use Rattle.tftp_wire.specs.declared.packet.Packet.TheVariants.{Read, Write};
-ghost use Rattle.tftp_ends.specs.Opening.{CanGet, CanPut, CanAskPut, getting, putting, opened, opening_step, request_of, nothing_asked, asked_size};
+ghost use Rattle.tftp_ends.specs.Opening.{CanGet, CanPut, CanAskPut, getting, putting, opened, opening_step, request_of, asked_size};
 ghost use Rattle.tftp_ends.specs.Sound.{IsSound};
 
 use crate::config::EndConfig;
@@ -13,15 +13,13 @@ use crate::endpoint::Endpoint;
 use crate::fault::OpenFault;
 use crate::phase::Phase;
 use crate::record::Step;
+use crate::request::{can_ask_put, can_get, read_request, write_request};
 use crate::side::Side;
-use std::alloc::{AllocError, Global};
+use crate::waiting::can_be_numbered;
+use std::alloc::Global;
 use tftp_file::NetDecoder;
 use tftp_negotiate::{Asked, DEFAULT_BLOCK};
-use tftp_wire::{HEADER, MAX_REQUEST, Mode, append_read, append_write, is_text};
-
-/// The longest name of a request in octet without options, in bytes: with its opcode, two zero bytes
-/// and the five letters of its mode it makes the longest request.
-const MAX_NAME: usize = MAX_REQUEST - 9;
+use tftp_wire::{HEADER, Mode};
 
 /// What an opening tells: one datagram, which is no progress yet.
 pub(crate) fn opening_step(to: Endpoint) -> Step
@@ -32,49 +30,6 @@ pub(crate) fn opening_step(to: Endpoint) -> Step
         progress: false,
         closed: None,
     }
-}
-
-fn is_nothing(asked: &Asked) -> bool
-    ensures { IsTrue result ↔ (asked.now ≡ nothing_asked) }
-{
-    asked.blksize.is_none() && asked.timeout.is_none() && asked.tsize.is_none()
-}
-
-/// Whether a transfer of that name can be asked for. Whether a file's blocks can be numbered is
-/// another question.
-fn can_ask(name: &[u8], mode: Mode, asked: &Asked) -> bool
-    ensures get { IsTrue result ↔ CanGet name.now mode asked.now }
-    ensures put { (length : ℕ) → IsTrue result ↔ CanAskPut name.now mode asked.now length }
-{
-    !name.is_empty()
-        && is_text(name)
-        && name.len() <= MAX_NAME
-        && mode == Mode::Octet
-        && is_nothing(asked)
-}
-
-/// The request to read a file in octet, without options.
-fn read_request(alloc: Global, name: &[u8]) -> Result<Vec<u8>, AllocError>
-    ensures ok { IfOk result (λ v. v.items ≡
-        canonical (Read (request_of name.now Octet nothing_asked))) }
-    ensures room { IfOk result (λ v. 4 ≤ vec_capacity v) }
-{
-    let mut bytes = Vec::new(alloc);
-    append_read(&mut bytes, name, Mode::Octet)?;
-    bytes.reserve(HEADER)?;
-    Ok(bytes)
-}
-
-/// The request to write a file in octet, without options.
-fn write_request(alloc: Global, name: &[u8]) -> Result<Vec<u8>, AllocError>
-    ensures ok { IfOk result (λ v. v.items ≡
-        canonical (Write (request_of name.now Octet nothing_asked))) }
-    ensures room { IfOk result (λ v. 4 ≤ vec_capacity v) }
-{
-    let mut bytes = Vec::new(alloc);
-    append_write(&mut bytes, name, Mode::Octet)?;
-    bytes.reserve(HEADER)?;
-    Ok(bytes)
 }
 
 impl End {
@@ -111,8 +66,8 @@ impl End {
     ///
     /// It retries `config.retries` times, and takes a file of at most `config.limits.max_file` bytes
     /// where the server tells the length. `BadRequest` comes where the name is empty, holds a zero
-    /// byte or makes the request longer than 512 bytes (RFC 2347), and today for netascii and for
-    /// any option. After an error `out` is unchanged.
+    /// byte or makes the request longer than 512 bytes (RFC 2347), where an option is out of its range
+    /// or not for a read, and today for netascii. After an error `out` is unchanged.
     pub fn get(
         alloc: Global,
         to: Endpoint,
@@ -135,10 +90,10 @@ impl End {
             ((fault ≡ OpenFault.BadRequest) ⊎ (fault ≡ OpenFault.Memory))
             × (out.new.items ≡ out.old.items)) }
     {
-        if !can_ask(name, mode, asked) {
+        if !can_get(name, mode, asked) {
             return Err(OpenFault::BadRequest);
         }
-        let last_sent = read_request(alloc, name)?;
+        let last_sent = read_request(alloc, name, mode, asked)?;
         out.extend_from_slice(&last_sent)?;
         let phase = Phase::Waiting {
             asked: *asked,
@@ -161,9 +116,10 @@ impl End {
     /// Opens a client that writes a file of that length, in bytes of wire text: its request is
     /// appended to `out`, for `to`.
     ///
-    /// It retries `config.retries` times. `BadRequest` comes where [`End::get`] answers it, and then
-    /// `TooLarge` where the file's blocks cannot be numbered at the size that is asked, or at 512
-    /// bytes. After an error `out` is unchanged.
+    /// It retries `config.retries` times. `BadRequest` comes where [`End::get`] answers it, with
+    /// `length` as the `tsize` that can be asked, and then `TooLarge` where the file's blocks cannot be
+    /// numbered at the size that is asked, or at 512 bytes where none is. After an error `out` is
+    /// unchanged.
     pub fn put(
         alloc: Global,
         to: Endpoint,
@@ -188,13 +144,13 @@ impl End {
         ensures never { IsErrOf result OpenFault.SourceFault → ⊥ }
         ensures err { OnErr result (out.new.items ≡ out.old.items) }
     {
-        if !can_ask(name, mode, asked) {
+        if !can_ask_put(name, mode, asked, length) {
             return Err(OpenFault::BadRequest);
         }
-        if length >= 65_535 * u64::from(DEFAULT_BLOCK) {
+        if !can_be_numbered(length, asked.blksize.unwrap_or(DEFAULT_BLOCK)) {
             return Err(OpenFault::TooLarge);
         }
-        let last_sent = write_request(alloc, name)?;
+        let last_sent = write_request(alloc, name, mode, asked)?;
         out.extend_from_slice(&last_sent)?;
         let phase = Phase::Waiting {
             asked: *asked,

@@ -1,8 +1,10 @@
 //! How a server's end opens: by its first answer.
 
-ghost use Rattle.std.specs.Prelude.{◌≡◌, ◌++◌, ◌*◌, ◌≤◌, ◌⊎◌, IfOk, IfErr, OnOk, OnErr, IsErrOf};
+ghost use Rattle.std.specs.Prelude.{◌≡◌, ◌++◌, ◌*◌, ◌≤◌, ◌<◌, ◌⊎◌, not, true, [], IfOk, IfErr, OnOk, OnErr, IsErrOf, vec_capacity};
 ghost use Rattle.tftp_ends.specs.Files.{AreFilesOf, KeepsFiles, AreSame};
-ghost use Rattle.tftp_ends.specs.Opening.{CanServe, IsSupported, ServesFiles, FilesCannotStart, serving_write, opening_step};
+ghost use Rattle.tftp_ends.specs.Opening.{CanServe, IsSupported, ServesFiles, FilesCannotStart, serving_write, opened, opening_step, oack_bytes};
+ghost use Rattle.tftp_ends.specs.Step.{ack_bytes};
+ghost use Rattle.tftp_ends.specs.Waiting.{default_terms, agreed_terms};
 ghost use Rattle.tftp_negotiate.specs.Agreed.{size};
 
 use crate::end::End;
@@ -10,22 +12,45 @@ use crate::end::opening::opening_step;
 use crate::end::sending::{BlockRead, block_length, read_data};
 use crate::endpoint::Endpoint;
 use crate::fault::OpenFault;
-use crate::phase::Phase;
+use crate::options::append_options;
+use crate::phase::{Phase, Terms};
 use crate::record::Step;
 use crate::side::Side;
-use crate::waiting::default_terms;
-use std::alloc::Global;
+use crate::waiting::{agreed_terms, can_be_numbered, default_terms};
+use std::alloc::{AllocError, Global};
 use tftp_file::{Files, Sink, Source};
 use tftp_negotiate::{Agreed, DEFAULT_BLOCK};
-use tftp_wire::{HEADER, Mode, append_ack};
+use tftp_wire::{HEADER, Mode, append_ack, append_oack_header};
+
+/// ACK 0.
+fn first_ack(alloc: Global) -> Result<Vec<u8>, AllocError>
+    ensures ok { IfOk result (λ v. v.items ≡ ack_bytes 0) }
+    ensures room { IfOk result (λ v. HEADER ≤ vec_capacity v) }
+{
+    let mut bytes = Vec::with_capacity(alloc, HEADER)?;
+    append_ack(&mut bytes, 0)?;
+    Ok(bytes)
+}
+
+/// The OACK of the options that are agreed.
+fn oack(alloc: Global, agreed: &Agreed) -> Result<Vec<u8>, AllocError>
+    ensures ok { IfOk result (λ v. v.items ≡ oack_bytes agreed.now) }
+    ensures room { IfOk result (λ v. HEADER ≤ vec_capacity v) }
+{
+    let mut bytes = Vec::with_capacity(alloc, HEADER)?;
+    append_oack_header(&mut bytes)?;
+    append_options(&mut bytes, agreed.as_slice())?;
+    Ok(bytes)
+}
 
 impl End {
     /// Opens a server's end that sends a file of that length, in bytes of wire text, to a client.
     ///
-    /// DATA 1 is appended to `out`, for `peer` (RFC 1350, section 4). `TooLarge` comes where the
-    /// file's blocks cannot be numbered, `SourceFault` where the first one cannot be read to the
-    /// measured length, and today `BadRequest` for netascii and for agreed options. After an error
-    /// `out` is unchanged; after `Memory` the source is, too.
+    /// What is appended to `out`, for `peer`, is the OACK of the options that are agreed (RFC 2347,
+    /// "Negotiation Protocol"), or DATA 1 where none is (RFC 1350, section 4). `TooLarge` comes where
+    /// the file's blocks cannot be numbered, `SourceFault` where DATA 1 cannot be read to the measured
+    /// length, and today `BadRequest` for netascii. After an error `out` is unchanged; after `Memory`
+    /// the source is, too.
     pub fn serve_read<S: Source, K: Sink>(
         alloc: Global,
         files: &mut Files<S, K>,
@@ -48,18 +73,52 @@ impl End {
             × (65535 * size agreed.now ≤ length) }
         ensures source { IsErrOf result OpenFault.SourceFault → CanServe mode agreed.now length
             × FilesCannotStart S.left S.may_fail length files.old }
+        ensures plain { IsErrOf result OpenFault.SourceFault → agreed.now ≡ [] }
         ensures memory { IsErrOf result OpenFault.Memory → CanServe mode agreed.now length
             × KeepsFiles S.left K.held files.old files.new }
         ensures err { OnErr result (out.new.items ≡ out.old.items) }
         ensures same { AreSame S.is_same K.is_same files.old files.new }
         ensures files { IfOk result (λ opened. AreFilesOf opened.0.side files.new) }
     {
-        if mode != Mode::Octet || !agreed.is_empty() {
+        if mode != Mode::Octet {
             return Err(OpenFault::BadRequest);
         }
-        if length >= 65_535 * u64::from(DEFAULT_BLOCK) {
+        if !can_be_numbered(length, agreed.block_size()) {
             return Err(OpenFault::TooLarge);
         }
+        if agreed.is_empty() {
+            return End::send_first(alloc, files, peer, mode, length, retries, out);
+        }
+        Ok(End::send_oack(alloc, peer, mode, agreed, length, retries, out)?)
+    }
+
+    /// Opens a server's end that sends, by DATA 1.
+    fn send_first<S: Source, K: Sink>(
+        alloc: Global,
+        files: &mut Files<S, K>,
+        peer: Endpoint,
+        mode: Mode,
+        length: u64,
+        retries: u8,
+        out: &mut Vec<u8>,
+    ) -> Result<(End, Step), OpenFault>
+        requires files { AreFilesOf Side.ServerRead files.old }
+        requires octet { mode ≡ Mode.Octet }
+        requires fits { length < 65535 * DEFAULT_BLOCK }
+        ensures serves { IfOk result (λ opened.
+            ServesFiles S.left S.may_fail [] peer mode length retries files.old files.new opened.0
+            × (out.new.items ≡ out.old.items ++ opened.0.last_sent)) }
+        ensures step { IfOk result (λ opened. opened.1 ≡ opening_step peer) }
+        ensures source { IsErrOf result OpenFault.SourceFault
+            → FilesCannotStart S.left S.may_fail length files.old }
+        ensures memory { IsErrOf result OpenFault.Memory
+            → KeepsFiles S.left K.held files.old files.new }
+        ensures err { IfErr result (λ fault.
+            ((fault ≡ OpenFault.SourceFault) ⊎ (fault ≡ OpenFault.Memory))
+            × (out.new.items ≡ out.old.items)) }
+        ensures same { AreSame S.is_same K.is_same files.old files.new }
+        ensures files { IfOk result (λ opened. AreFilesOf opened.0.side files.new) }
+    {
         let Files::Source(source) = files else {
             unreachable!()
         };
@@ -91,10 +150,48 @@ impl End {
         }
     }
 
+    /// Opens a server's end that sends, by the OACK of what is agreed.
+    fn send_oack(
+        alloc: Global,
+        peer: Endpoint,
+        mode: Mode,
+        agreed: &Agreed,
+        length: u64,
+        retries: u8,
+        out: &mut Vec<u8>,
+    ) -> Result<(End, Step), AllocError>
+        requires octet { mode ≡ Mode.Octet }
+        requires fits { length < 65535 * size agreed.now }
+        ensures end { IfOk result (λ o. (o.0 ≡ opened Side.ServerRead mode length retries
+            (Phase.Sending (agreed_terms peer agreed.now) 0) peer (oack_bytes agreed.now))
+            × (out.new.items ≡ out.old.items ++ oack_bytes agreed.now)) }
+        ensures step { IfOk result (λ o. o.1 ≡ opening_step peer) }
+        ensures err { OnErr result (out.new.items ≡ out.old.items) }
+    {
+        let last_sent = oack(alloc, agreed)?;
+        out.extend_from_slice(&last_sent)?;
+        let phase = Phase::Sending {
+            terms: agreed_terms(peer, agreed),
+            number: 0,
+        };
+        let end = End::opened(
+            alloc,
+            Side::ServerRead,
+            mode,
+            length,
+            retries,
+            phase,
+            peer,
+            last_sent,
+        );
+        Ok((end, opening_step(peer)))
+    }
+
     /// Opens a server's end that receives a file from a client.
     ///
-    /// ACK 0 is appended to `out`, for `peer` (RFC 1350, section 4). Today `BadRequest` comes for
-    /// netascii and for agreed options. After an error `out` is unchanged.
+    /// What is appended to `out`, for `peer`, is the OACK of the options that are agreed (RFC 2347,
+    /// "Negotiation Protocol"), or ACK 0 where none is (RFC 1350, section 4). Today `BadRequest` comes
+    /// for netascii. After an error `out` is unchanged.
     pub fn serve_write(
         alloc: Global,
         peer: Endpoint,
@@ -114,17 +211,37 @@ impl End {
             ((fault ≡ OpenFault.BadRequest) ⊎ (fault ≡ OpenFault.Memory))
             × (out.new.items ≡ out.old.items)) }
     {
-        if mode != Mode::Octet || !agreed.is_empty() {
+        if mode != Mode::Octet {
             return Err(OpenFault::BadRequest);
         }
-        let mut last_sent = Vec::new(alloc);
-        last_sent.reserve(HEADER)?;
-        append_ack(&mut last_sent, 0)?;
-        out.extend_from_slice(&last_sent)?;
-        let phase = Phase::Receiving {
-            terms: default_terms(peer),
-            number: 0,
-        };
+        if agreed.is_empty() {
+            let ack = first_ack(alloc)?;
+            return Ok(End::receive(alloc, default_terms(peer), mode, retries, ack, out)?);
+        }
+        let oack = oack(alloc, agreed)?;
+        Ok(End::receive(alloc, agreed_terms(peer, agreed), mode, retries, oack, out)?)
+    }
+
+    /// Opens a server's end that receives, by this answer.
+    fn receive(
+        alloc: Global,
+        terms: Terms,
+        mode: Mode,
+        retries: u8,
+        answer: Vec<u8>,
+        out: &mut Vec<u8>,
+    ) -> Result<(End, Step), AllocError>
+        requires octet { mode ≡ Mode.Octet }
+        requires resends { not terms.by_oack ≡ true → answer.items ≡ ack_bytes 0 }
+        requires room { HEADER ≤ vec_capacity answer }
+        ensures end { IfOk result (λ o. (o.0 ≡ opened Side.ServerWrite mode 0 retries
+            (Phase.Receiving terms 0) terms.peer answer.items)
+            × (out.new.items ≡ out.old.items ++ answer.items)) }
+        ensures step { IfOk result (λ o. o.1 ≡ opening_step terms.peer) }
+        ensures err { OnErr result (out.new.items ≡ out.old.items) }
+    {
+        out.extend_from_slice(&answer)?;
+        let phase = Phase::Receiving { terms, number: 0 };
         let end = End::opened(
             alloc,
             Side::ServerWrite,
@@ -132,9 +249,9 @@ impl End {
             0,
             retries,
             phase,
-            peer,
-            last_sent,
+            terms.peer,
+            answer,
         );
-        Ok((end, opening_step(peer)))
+        Ok((end, opening_step(terms.peer)))
     }
 }

@@ -1,0 +1,8 @@
+-- The length so far is that of the options passed.
+use Rattle.std.proofs.Common.{◌≡◌, ◌-◌, ◌^◌, min, length, take}
+use Rattle.tftp_wire.specs.Options.{options_bytes}
+use Rattle.tftp_negotiate.specs.Agreed.{agreed_options}
+use Rattle.tftp_ends.proofs.options.options_len.Given as goal
+
+abbrev pub invariant-loop-option : goal.invariant-loop-option
+invariant-loop-option l = l.len ≡ min (length (options_bytes (agreed_options (take l.option-index l.options)))) (2 ^ 64 - 1)

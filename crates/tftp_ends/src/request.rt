@@ -1,0 +1,91 @@
+//! The requests of a client: which can be asked for, and their bytes.
+
+ghost use Rattle.std.specs.Prelude.{◌≡◌, ◌≤◌, ◌-◌, ◌^◌, ◌↔◌, length, min, IsTrue, IfOk, vec_capacity};
+ghost use Rattle.std.specs.List.{AllByRecursion};
+ghost use Rattle.tftp_wire.specs.Options.{IsOption};
+ghost use Rattle.tftp_wire.specs.Spelling.{IsValid, canonical};
+ghost use Rattle.tftp_wire.specs.declared.packet.Packet.TheVariants.{Read, Write};
+ghost use Rattle.tftp_negotiate.specs.Asked.{asked_options};
+ghost use Rattle.tftp_ends.specs.Opening.{CanGet, CanAskPut, request_of};
+
+use crate::options::{append_options, options_len};
+use std::alloc::{AllocError, Global};
+use tftp_negotiate::{Asked, Kind};
+use tftp_wire::{HEADER, MAX_REQUEST, Mode, append_read, append_write, is_text};
+
+/// How many bytes the request takes, or the greatest `usize` where they are more.
+fn request_len(name: &[u8], mode: Mode, asked: &Asked) -> usize
+    ensures { result
+        ≡ min (length (canonical (Read (request_of name.now mode asked.now)))) (2 ^ 64 - 1) }
+{
+    // An opcode and two zero bytes stand round the name and the mode.
+    options_len(asked.options(mode).as_slice())
+        .saturating_add(name.len())
+        .saturating_add(mode.word().len())
+        .saturating_add(4)
+}
+
+/// Whether the request is a packet: the name is not empty and holds no zero byte, and there are at
+/// most 512 bytes (RFC 2347, "Packet Formats").
+fn is_packet(name: &[u8], mode: Mode, asked: &Asked) -> bool
+    requires { AllByRecursion IsOption (asked_options asked.now mode) }
+    ensures read { IsTrue result ↔ IsValid (Read (request_of name.now mode asked.now)) }
+    ensures write { IsTrue result ↔ IsValid (Write (request_of name.now mode asked.now)) }
+{
+    !name.is_empty() && is_text(name) && request_len(name, mode, asked) <= MAX_REQUEST
+}
+
+/// Whether a file can be asked for so.
+pub(crate) fn can_get(name: &[u8], mode: Mode, asked: &Asked) -> bool
+    ensures { IsTrue result ↔ CanGet name.now mode asked.now }
+{
+    if mode != Mode::Octet || !asked.is_for(Kind::Read, mode, 0) {
+        return false;
+    }
+    is_packet(name, mode, asked)
+}
+
+/// Whether a file of that length can be offered so. Whether its blocks can be numbered is another
+/// question.
+pub(crate) fn can_ask_put(name: &[u8], mode: Mode, asked: &Asked, length: u64) -> bool
+    ensures { IsTrue result ↔ CanAskPut name.now mode asked.now length }
+{
+    if mode != Mode::Octet || !asked.is_for(Kind::Write, mode, length) {
+        return false;
+    }
+    is_packet(name, mode, asked)
+}
+
+/// The request to read a file.
+pub(crate) fn read_request(
+    alloc: Global,
+    name: &[u8],
+    mode: Mode,
+    asked: &Asked,
+) -> Result<Vec<u8>, AllocError>
+    ensures ok { IfOk result (λ v. v.items ≡
+        canonical (Read (request_of name.now mode asked.now))) }
+    ensures room { IfOk result (λ v. HEADER ≤ vec_capacity v) }
+{
+    let mut bytes = Vec::with_capacity(alloc, HEADER)?;
+    append_read(&mut bytes, name, mode)?;
+    append_options(&mut bytes, asked.options(mode).as_slice())?;
+    Ok(bytes)
+}
+
+/// The request to write a file.
+pub(crate) fn write_request(
+    alloc: Global,
+    name: &[u8],
+    mode: Mode,
+    asked: &Asked,
+) -> Result<Vec<u8>, AllocError>
+    ensures ok { IfOk result (λ v. v.items ≡
+        canonical (Write (request_of name.now mode asked.now))) }
+    ensures room { IfOk result (λ v. HEADER ≤ vec_capacity v) }
+{
+    let mut bytes = Vec::with_capacity(alloc, HEADER)?;
+    append_write(&mut bytes, name, mode)?;
+    append_options(&mut bytes, asked.options(mode).as_slice())?;
+    Ok(bytes)
+}
