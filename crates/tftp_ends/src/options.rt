@@ -1,6 +1,6 @@
 //! Known options as a packet spells them.
 
-ghost use Rattle.std.specs.Prelude.{◌≡◌, ◌≤◌, ◌-◌, ◌^◌, ◌++◌, length, min, OnOk, vec_capacity};
+ghost use Rattle.std.specs.Prelude.{◌≡◌, ◌≤◌, ◌-◌, ◌*◌, ◌^◌, ◌++◌, length, min, OnOk, vec_capacity};
 ghost use Rattle.tftp_wire.specs.Options.{option_bytes, options_bytes};
 ghost use Rattle.tftp_negotiate.specs.Agreed.{agreed_options, known_option};
 
@@ -29,10 +29,12 @@ pub(crate) fn options_len(options: &[Known]) -> usize
     len
 }
 
-/// Appends an option. It fails only when out of memory.
+/// Appends an option: a name of seven letters at most, decimal digits and two zero bytes. It fails
+/// only when out of memory.
 fn append_known(out: &mut Vec<u8>, option: Known) -> Result<(), AllocError>
     ensures ok { OnOk result
         (out.new.items ≡ out.old.items ++ option_bytes (known_option option)) }
+    ensures short { length (option_bytes (known_option option)) ≤ 49 }
     ensures capacity { vec_capacity out.old ≤ vec_capacity out.new }
 {
     let mut digits = Buffer::new();
@@ -44,6 +46,8 @@ fn append_known(out: &mut Vec<u8>, option: Known) -> Result<(), AllocError>
 pub(crate) fn append_options(out: &mut Vec<u8>, options: &[Known]) -> Result<(), AllocError>
     ensures ok { OnOk result
         (out.new.items ≡ out.old.items ++ options_bytes (agreed_options options.now)) }
+    ensures short { OnOk result
+        (length (options_bytes (agreed_options options.now)) ≤ 49 * length options.now) }
     ensures capacity { vec_capacity out.old ≤ vec_capacity out.new }
 {
     for option in options {

@@ -1,6 +1,6 @@
 //! How a server's end opens: by its first answer.
 
-ghost use Rattle.std.specs.Prelude.{◌≡◌, ◌++◌, ◌*◌, ◌≤◌, ◌<◌, ◌⊎◌, not, true, [], IfOk, IfErr, OnOk, OnErr, IsErrOf, vec_capacity};
+ghost use Rattle.std.specs.Prelude.{◌≡◌, ◌++◌, ◌*◌, ◌≤◌, ◌<◌, ◌⊎◌, not, true, [], length, IfOk, IfErr, OnOk, OnErr, IsErrOf, vec_capacity};
 ghost use Rattle.tftp_ends.specs.Files.{AreFilesOf, KeepsFiles, AreSame};
 ghost use Rattle.tftp_ends.specs.Opening.{CanServe, IsSupported, ServesFiles, FilesCannotStart, serving_write, opened, opening_step, oack_bytes};
 ghost use Rattle.tftp_ends.specs.Step.{ack_bytes};
@@ -20,7 +20,7 @@ use crate::waiting::{agreed_terms, can_be_numbered, default_terms};
 use std::alloc::{AllocError, Global};
 use tftp_file::{Files, Sink, Source};
 use tftp_negotiate::{Agreed, DEFAULT_BLOCK};
-use tftp_wire::{HEADER, Mode, append_ack, append_oack_header};
+use tftp_wire::{HEADER, MAX_REQUEST, Mode, append_ack, append_oack_header};
 
 /// ACK 0.
 fn first_ack(alloc: Global) -> Result<Vec<u8>, AllocError>
@@ -35,6 +35,7 @@ fn first_ack(alloc: Global) -> Result<Vec<u8>, AllocError>
 /// The OACK of the options that are agreed.
 fn oack(alloc: Global, agreed: &Agreed) -> Result<Vec<u8>, AllocError>
     ensures ok { IfOk result (λ v. v.items ≡ oack_bytes agreed.now) }
+    ensures short { IfOk result (λ v. length v.items ≤ MAX_REQUEST) }
     ensures room { IfOk result (λ v. HEADER ≤ vec_capacity v) }
 {
     let mut bytes = Vec::with_capacity(alloc, HEADER)?;
@@ -233,6 +234,7 @@ impl End {
     ) -> Result<(End, Step), AllocError>
         requires octet { mode ≡ Mode.Octet }
         requires resends { not terms.by_oack ≡ true → answer.items ≡ ack_bytes 0 }
+        requires short { length answer.items ≤ MAX_REQUEST }
         requires room { HEADER ≤ vec_capacity answer }
         ensures end { IfOk result (λ o. (o.0 ≡ opened Side.ServerWrite mode 0 retries
             (Phase.Receiving terms 0) terms.peer answer.items)

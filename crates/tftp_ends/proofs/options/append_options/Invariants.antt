@@ -1,5 +1,5 @@
 -- The bytes so far are those of the options passed.
-use Rattle.std.proofs.Common.{◌≡◌, ◌≤◌, ◌++◌, take, vec_capacity}
+use Rattle.std.proofs.Common.{◌≡◌, ◌≤◌, ◌*◌, ◌++◌, length, take, vec_capacity}
 use Rattle.tftp_wire.specs.Options.{options_bytes}
 use Rattle.tftp_negotiate.specs.Agreed.{agreed_options}
 use Rattle.tftp_ends.proofs.options.append_options.Given as goal
@@ -7,5 +7,6 @@ use Rattle.tftp_ends.proofs.options.append_options.Given as goal
 abbrev pub invariant-loop-option : goal.invariant-loop-option
 invariant-loop-option l = record {
   written : l.out.items ≡ l.initial.out.items ++ options_bytes (agreed_options (take l.option-index l.options));
+  short : length (options_bytes (agreed_options (take l.option-index l.options))) ≤ 49 * l.option-index;
   grown : vec_capacity l.initial.out ≤ vec_capacity l.out;
 }
