@@ -1,5 +1,7 @@
+pub mod ClientEnd
 pub mod Fallback
 pub mod Play
 pub mod Printed
+pub mod Progress
 pub mod Show
 pub mod Watch

@@ -1,5 +1,5 @@
--- What the programs over UDP print (own).
-use Rattle.std.specs.Prelude.{ℕ, List, [], ◌∷◌, ◌++◌, codes}
+-- What `tftpd` prints (own).
+use Rattle.std.specs.Prelude.{ℕ, List, ◌∷◌, ◌++◌, codes}
 use Rattle.std.specs.Fmt.{decimal}
 use Rattle.tftp_ends.specs.Endpoint.{endpoint_text}
 use Rattle.tftp_ends.specs.Outcome.{outcome_text}
@@ -10,5 +10,3 @@ use Rattle.tftp_cmd.specs.declared.printed.Printed.TheVariants as line
 abbrev pub line_text : Printed → List ℕ
 line_text (line.Listening endpoint) = codes "listening " ++ endpoint_text endpoint
 line_text (line.Closed port peer outcome) = decimal port ++ (32 ∷ (decimal peer ++ (32 ∷ outcome_text outcome)))
-line_text (line.Complete count) = codes "complete " ++ decimal count
-line_text (line.Failed outcome) = codes "tftp: " ++ outcome_text outcome

@@ -119,6 +119,7 @@ fn config(matches: &ArgMatches<'_>) -> Option<Config>
 /// What the help says of numbers that other crates own.
 #[derive(Drop)]
 struct Texts {
+    block_range: String,
     block_help: String,
     max_block: String,
     max_file: String,
@@ -130,6 +131,7 @@ impl Texts {
     /// The range of a block size, and what a server is set to where nothing else is said.
     fn new(alloc: Global, config: &Config) -> Result<Texts> {
         Ok(Texts {
+            block_range: format!(in alloc; "{MIN_BLOCK}..{MAX_BLOCK}")?,
             block_help: format!(in alloc;
                 "Largest block size that is agreed, in bytes, {MIN_BLOCK} to {MAX_BLOCK}"
             )?,
@@ -169,6 +171,7 @@ fn with_limits<'a>(alloc: Global, command: Command<'a>, texts: &'a Texts) -> Res
     let block = number(
         alloc,
         "max-block",
+        texts.block_range.as_str(),
         value_parser!(u16).range(i64::from(MIN_BLOCK)..=i64::from(MAX_BLOCK)),
         texts.block_help.as_str(),
     );
@@ -176,6 +179,7 @@ fn with_limits<'a>(alloc: Global, command: Command<'a>, texts: &'a Texts) -> Res
     let file = number(
         alloc,
         "max-file",
+        "0..2^64-1",
         value_parser!(u64),
         "Longest file that is taken, in bytes, any number below 2^64",
     );
@@ -183,6 +187,7 @@ fn with_limits<'a>(alloc: Global, command: Command<'a>, texts: &'a Texts) -> Res
     let retries = number(
         alloc,
         "retries",
+        "0..10",
         value_parser!(u8).range(0..=10),
         "How often a datagram is sent again without progress, 0 to 10",
     );
@@ -190,6 +195,7 @@ fn with_limits<'a>(alloc: Global, command: Command<'a>, texts: &'a Texts) -> Res
     let cap = number(
         alloc,
         "cap",
+        "1..64",
         value_parser!(u8).range(1..=64),
         "Transfers that are open at once, 1 to 64",
     );
@@ -202,6 +208,7 @@ fn with_ending<'a>(alloc: Global, command: Command<'a>) -> Result<Command<'a>> {
     let transfers = number(
         alloc,
         "transfers",
+        "1..4294967295",
         value_parser!(u32).range(1..=4_294_967_295),
         "Ends after so many closed transfers, 1 to 4294967295",
     );
@@ -209,6 +216,7 @@ fn with_ending<'a>(alloc: Global, command: Command<'a>) -> Result<Command<'a>> {
     let rounds = number(
         alloc,
         "rounds",
+        "1..4294967295",
         value_parser!(u32).range(1..=4_294_967_295),
         "Ends after so many waits, each of a second at most, 1 to 4294967295",
     );

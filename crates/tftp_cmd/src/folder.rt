@@ -3,12 +3,13 @@
 ghost use Rattle.std.specs.Prelude.{◌≢◌};
 ghost use Rattle.tftp_file.specs.declared.fault.StoreFault.TheVariants.{Memory};
 
+use crate::local::length_on_wire;
 use std::alloc::Global;
 use std::fs::{self, Metadata, OpenFile, OpenOptions};
-use std::io::{self, BufReader, BufWriter, ErrorKind, Seek, SeekFrom, Write};
+use std::io::{self, BufReader, BufWriter, ErrorKind, Write};
 use std::os::unix::fs::MetadataExt;
 use std::rt::Files;
-use tftp_file::{FileFault, MAX_WIRE, Path, ReadSource, StoreFault, wire_length};
+use tftp_file::{FileFault, Path, ReadSource, StoreFault};
 use tftp_server::{Opening, Store};
 use tftp_wire::Mode;
 
@@ -201,27 +202,6 @@ fn write_fault(error: &io::Error) -> StoreFault
     }
 }
 
-/// The length of a file on the wire, or one more than any block size can carry. In netascii the file is
-/// read once for it.
-fn length_on_wire<F: io::Read + Seek>(
-    file: &mut F,
-    mode: Mode,
-    length: u64,
-) -> Result<u64, StoreFault> {
-    match mode {
-        Mode::Octet => Ok(length.min(MAX_WIRE + 1)),
-        Mode::Netascii => {
-            let Ok(measured) = wire_length(&mut *file, mode) else {
-                return Err(StoreFault::Io);
-            };
-            match file.seek(SeekFrom::Start(0)) {
-                Ok(_) => Ok(measured),
-                Err(_) => Err(StoreFault::Io),
-            }
-        }
-    }
-}
-
 impl<R: Files + Drop> Store for FolderStore<R> {
     ghost use Rattle.std.specs.Prelude.{None};
 
@@ -240,7 +220,9 @@ impl<R: Files + Drop> Store for FolderStore<R> {
         mode: Mode,
     ) -> Result<Opening<ReadSource<BufReader<R::File>>>, StoreFault> {
         let (mut file, length) = self.open_file(alloc, path)?;
-        let length = length_on_wire(&mut file, mode, length)?;
+        let Ok(length) = length_on_wire(&mut file, mode, length) else {
+            return Err(StoreFault::Io);
+        };
         let Ok(reader) = BufReader::with_capacity(alloc, BUFFER, file) else {
             return Err(StoreFault::Memory);
         };

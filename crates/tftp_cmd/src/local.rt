@@ -1,16 +1,109 @@
-//! The file that a client fetches: written under another name, and named at the commit.
+//! The local file of a client: one that is fetched is written under another name, and named at the commit; one
+//! that is sent is measured first.
 
-ghost use Rattle.std.specs.Prelude.{◌≢◌};
+ghost use Rattle.std.specs.Prelude.{◌≡◌, ◌≢◌, ◌+◌, min, Ok};
+ghost use Rattle.tftp_wire.specs.declared.mode.Mode.TheVariants.{Octet};
 ghost use Rattle.tftp_file.specs.declared.fault.StoreFault.TheVariants.{Memory};
 
 use std::alloc::Global;
 use std::fs;
-use std::io::{self, BufWriter, ErrorKind, Write};
+use std::io::{self, BufReader, BufWriter, ErrorKind, Read, Seek, SeekFrom, Write};
 use std::rt::Files;
-use tftp_file::{Sink, StoreFault};
+use tftp_file::{FileFault, MAX_WIRE, ReadSource, Sink, StoreFault, wire_length};
+use tftp_wire::Mode;
 
-/// The bytes that are written at once. Blocks of this size and more pass the buffer.
+/// The bytes that are read or written at once. Blocks of this size and more pass the buffer.
 const BUFFER: usize = 65_536;
+
+/// The length of a file on the wire, or `MAX_WIRE + 1` where it is greater: so many host bytes in octet, and
+/// in netascii what reading it once counts. The file is then at its front again.
+pub(crate) fn length_on_wire<F: Read + Seek>(
+    file: &mut F,
+    mode: Mode,
+    length: u64,
+) -> Result<u64, FileFault>
+    ensures { mode ≡ Octet → result ≡ Ok (min length (MAX_WIRE + 1)) }
+{
+    match mode {
+        Mode::Octet => Ok(length.min(MAX_WIRE + 1)),
+        Mode::Netascii => {
+            let measured = wire_length(&mut *file, mode)?;
+            match file.seek(SeekFrom::Start(0)) {
+                Ok(_) => Ok(measured),
+                Err(_) => Err(FileFault::Read),
+            }
+        }
+    }
+}
+
+/// A reader that keeps its newest error.
+#[derive(Drop)]
+pub(crate) struct ErrorKeeper<F> {
+    reader: F,
+    error: Option<io::Error>,
+}
+
+impl<F: Read> Read for ErrorKeeper<F> {
+    fn read(&mut self, buffer: &mut [u8]) -> io::Result<usize> {
+        match self.reader.read(buffer) {
+            Ok(count) => Ok(count),
+            Err(error) => {
+                let kind = error.kind();
+                self.error = Some(error);
+                Err(io::Error::from(kind))
+            }
+        }
+    }
+}
+
+/// The source of a file that is sent.
+pub(crate) type LocalSource<F> = ReadSource<BufReader<ErrorKeeper<F>>>;
+
+/// A file that is sent, and its lengths.
+#[derive(Drop)]
+pub(crate) struct Outbound<F: Read + Drop> {
+    pub(crate) source: LocalSource<F>,
+    /// The bytes of the file.
+    pub(crate) host_bytes: u64,
+    /// The bytes of its text on the wire, or `MAX_WIRE + 1` where they are more.
+    pub(crate) wire_bytes: u64,
+}
+
+impl<F: Read + Seek + Drop> Outbound<F> {
+    /// Opens a regular file to be sent. What is no regular file is refused before it is opened, since
+    /// opening a FIFO would wait.
+    pub(crate) fn open<R: Files<File = F>>(
+        files: &R,
+        alloc: Global,
+        local: &str,
+        mode: Mode,
+    ) -> io::Result<Outbound<F>> {
+        let found = fs::metadata(files, local)?;
+        if !found.is_file() {
+            return Err(io::Error::from(ErrorKind::InvalidInput));
+        }
+        let mut file = fs::open(files, local)?;
+        let host_bytes = found.len();
+        let Ok(wire_bytes) = length_on_wire(&mut file, mode, host_bytes) else {
+            return Err(io::Error::from(ErrorKind::InvalidData));
+        };
+        let reader = ErrorKeeper {
+            reader: file,
+            error: None,
+        };
+        let reader = BufReader::with_capacity(alloc, BUFFER, reader)?;
+        Ok(Outbound {
+            source: ReadSource::new(reader, mode),
+            host_bytes,
+            wire_bytes,
+        })
+    }
+}
+
+/// Why a file could not be read further, once it could not.
+pub(crate) fn read_error<F: Read + Drop>(source: LocalSource<F>) -> Option<io::Error> {
+    source.into_inner().into_inner().error
+}
 
 /// A file `LOCAL` that is being fetched, as `LOCAL.part`. It gets its name at the commit, and stays as
 /// it is if there is none.
@@ -21,6 +114,7 @@ pub(crate) struct LocalFile<R: Files + Drop> {
     local: String,
     part: String,
     count: u64,
+    error: Option<io::Error>,
 }
 
 impl<R: Files + Drop> LocalFile<R> {
@@ -37,12 +131,27 @@ impl<R: Files + Drop> LocalFile<R> {
             local: String::from_str(alloc, local)?,
             part,
             count: 0,
+            error: None,
         })
     }
 
     /// The bytes that were stored.
     pub(crate) fn count(&self) -> u64 {
         self.count
+    }
+
+    /// Why the newest bytes were not stored, or the file was not named.
+    pub(crate) fn into_error(self) -> Option<io::Error> {
+        self.error
+    }
+
+    /// Keeps why a call failed, and tells its fault.
+    fn keep(&mut self, error: io::Error) -> StoreFault
+        ensures { result ≢ Memory }
+    {
+        let fault = store_fault(&error);
+        self.error = Some(error);
+        fault
     }
 
     /// Names the file, if no file has the name. A hard link never takes the place of one; where the
@@ -95,17 +204,17 @@ impl<R: Files + Drop> Sink for LocalFile<R> {
                 self.count = self.count.saturating_add(bytes.len() as u64);
                 Ok(())
             }
-            Err(error) => Err(store_fault(&error)),
+            Err(error) => Err(self.keep(error)),
         }
     }
 
     fn commit(&mut self) -> Result<(), StoreFault> {
         if let Err(error) = self.writer.flush() {
-            return Err(store_fault(&error));
+            return Err(self.keep(error));
         }
         match self.name() {
             Ok(()) => Ok(()),
-            Err(error) => Err(store_fault(&error)),
+            Err(error) => Err(self.keep(error)),
         }
     }
 }

@@ -1,9 +1,9 @@
-//! The lines that the programs over UDP print.
+//! The lines that `tftpd` prints.
 
 use std::fmt;
 use tftp_ends::{Endpoint, Outcome};
 
-/// A line that a program prints.
+/// A line that `tftpd` prints on standard output.
 #[derive(Clone, Copy, Debug, PartialEq, Eq)]
 pub enum Printed {
     /// A server waits for requests here.
@@ -14,10 +14,6 @@ pub enum Printed {
         peer: u16,
         outcome: Outcome,
     },
-    /// A client's transfer completed; the host bytes of the file.
-    Complete(u64),
-    /// A client's transfer did not.
-    Failed(Outcome),
 }
 
 impl fmt::Display for Printed {
@@ -34,8 +30,6 @@ impl fmt::Display for Printed {
                 peer,
                 outcome,
             } => write!(f, "{port} {peer} {outcome}"),
-            Printed::Complete(count) => write!(f, "complete {count}"),
-            Printed::Failed(outcome) => write!(f, "tftp: {outcome}"),
         }
     }
 }

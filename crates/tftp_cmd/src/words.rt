@@ -19,16 +19,18 @@ pub(crate) fn word<'a>(alloc: Global, name: &'a str, help: &'a str) -> Arg<'a> {
     Arg::new(alloc, name).required(true).help(help)
 }
 
-/// An option `--name N` with a number.
+/// An option `--name N` with a number. Its range stands in the place of its value, so that the help and each
+/// fault name it.
 pub(crate) fn number<'a>(
     alloc: Global,
     name: &'a str,
+    range: &'a str,
     parser: ValueParser<'a>,
     help: &'a str,
 ) -> Arg<'a> {
     Arg::new(alloc, name)
         .long(name)
-        .value_name("N")
+        .value_name(range)
         .value_parser(parser)
         .help(help)
 }

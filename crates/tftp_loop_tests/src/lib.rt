@@ -8,4 +8,8 @@ mod loopback;
 #[cfg(test)]
 mod programs;
 #[cfg(test)]
+mod put_rows;
+#[cfg(test)]
 mod scratch;
+#[cfg(test)]
+mod test_server;

@@ -98,7 +98,7 @@ const LENGTHS: [(&str, usize); 16] = [
 ];
 
 /// So many bytes.
-fn bytes_of(alloc: Global, length: usize) -> Result<Vec<u8>, Fail> {
+pub(crate) fn bytes_of(alloc: Global, length: usize) -> Result<Vec<u8>, Fail> {
     let mut bytes = Vec::new(alloc);
     for at in 0..length {
         bytes.push((at % 251) as u8)?;

@@ -1,8 +1,8 @@
-//! `tftp` fetches a file by TFTP.
+//! `tftp` transfers a file by TFTP.
 #![tactic(auto)]
 
 use std::process::ExitCode;
 
 fn main(rt: HostRuntime) -> ExitCode {
-    ExitCode::from(tftp_cmd::tftp_command(&rt))
+    ExitCode::from(tftp_cmd::tftp_command(&rt, &rt.stderr()))
 }

@@ -1,5 +1,4 @@
-use Rattle.std.proofs.Common.{length, ◌≡◌, ◌==◌, ◌≤◌, ◌-◌, map, position, All, ℕ, ◌+◌, ◌*◌, ◌<◌}
-use Rattle.tftp_cmd.specs.Watch.{wait_of}
+use Rattle.std.proofs.Common.{length}
 use Rattle.tftp_cmd.proofs.port.+wait_for.Given as goal
 
 -- proposed from what the function passes where it calls itself
