@@ -20,6 +20,11 @@ pub mod EndMoves
 pub mod Resting
 pub mod Measured
 pub mod HeldLemmas
+pub mod StrangerLemmas
+pub mod Witness
+pub mod ReadWitness
+pub mod WriteWitness
+pub mod NetasciiWitness
 pub mod SentLemmas
 pub mod ServerLemmas
 pub mod ServerTurns

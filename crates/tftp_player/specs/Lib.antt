@@ -25,5 +25,7 @@ pub mod Played
 pub mod Stage
 pub mod Today
 pub mod TodayRuns
+pub mod Strangers
+pub mod Completing
 pub mod Straight
 pub mod Draw

@@ -1,7 +1,10 @@
 //! What every run of the guarded machine keeps, and what every run of a world keeps, over the
 //! definitions alone.
 
-ghost use Rattle.std.specs.Prelude.{List, []};
+ghost use Rattle.std.specs.Prelude.{List, [], ◌∷◌};
+ghost use Rattle.tftp_wire.specs.declared.mode.Mode.TheVariants.{Octet, Netascii};
+ghost use Rattle.tftp_player.specs.Completing.{Transfers, nothing_asked};
+ghost use Rattle.tftp_player.specs.declared.event.Event.TheVariants.{Get, Put};
 ghost use Rattle.tftp_player.specs.Facts.{Holds};
 ghost use Rattle.tftp_player.specs.Kept.{EndsGoOn, EndsOpen, DatagramsAreAdded};
 ghost use Rattle.tftp_player.specs.Machine.{Endpoint, Message};
@@ -9,6 +12,7 @@ ghost use Rattle.tftp_player.specs.MachineSafety.{IsSafeMachine, IsCompleted};
 ghost use Rattle.tftp_player.specs.Recorded.{AreRecorded};
 ghost use Rattle.tftp_player.specs.Rules.{Rule, IsLegal, run, start};
 ghost use Rattle.tftp_player.specs.Shows.{EndView, IsShown};
+ghost use Rattle.tftp_player.specs.Strangers.{StraysChangeNoRecord, ClientsHaveServers};
 ghost use Rattle.tftp_player.specs.ViewSafety.{IsSafeViews, PeersAtHome};
 ghost use Rattle.tftp_player.specs.TodayRuns.{TodayKeeps};
 ghost use Rattle.tftp_player.specs.WorldRuns.{WorldsAreSafe, PeersStayHome, StepsKeep, KeptIsSafe};
@@ -62,10 +66,26 @@ pub fn every_world_is_safe()
     ensures home { PeersStayHome }
 {}
 
+/// The definitions are not empty: in a world some events transfer a file of one byte by a read and
+/// by a write in octet, and by a read in netascii, where it is a line end. Both ends are complete
+/// then, and the receiver has the file.
+pub fn some_worlds_transfer()
+    ensures read { Transfers (Get (97 ∷ []) Octet nothing_asked) (65 ∷ []) }
+    ensures write { Transfers (Put (97 ∷ []) Octet nothing_asked (65 ∷ [])) (65 ∷ []) }
+    ensures netascii { Transfers (Get (97 ∷ []) Netascii nothing_asked) (10 ∷ []) }
+{}
+
 /// What makes a world safe is kept by each event, in both modes, for reads and for writes; so it is by
 /// what an event comes to today.
 pub fn a_step_keeps_a_world()
     ensures kept { StepsKeep }
     ensures today { TodayKeeps }
     ensures safe { KeptIsSafe }
+{}
+
+/// A datagram of neither host changes no record, but of an end whose peer is a stranger: an end that
+/// a stranger's own request opened. A client's peer is at the server.
+pub fn a_stray_changes_no_record()
+    ensures records { StraysChangeNoRecord }
+    ensures clients { ClientsHaveServers }
 {}

@@ -1,0 +1,130 @@
+-- What a datagram of neither host leaves of the ends of a world.
+use Rattle.std.proofs.Common.{◌≡◌, ◌≢◌, ℕ, Bool, true, false, List, set, Some, refl, sym, ap, ◌∙◌, subst, inl, inr}
+use Rattle.std.specs.Prelude.{◌⊎◌, not, is_some, is_none, ◌&&◌, if◌then◌else◌, slice_get, option_map}
+use Rattle.std.proofs.lemmas.Bool.{true≢false}
+use Rattle.std.proofs.lemmas.Bool.Decides.{eqb_tells}
+use Rattle.std.proofs.lemmas.Option.{same_Some, slice_get-map}
+use Rattle.tftp_wire.specs.Reading.{has_error_opcode}
+use Rattle.tftp_file.specs.declared.files.Files.{Files}
+use Rattle.tftp_file.specs.declared.files.Files.TheVariants.{Source, Sink}
+use Rattle.tftp_file.specs.Sink.{Holding}
+use Rattle.tftp_ends.specs.declared.action.Action.{Action}
+use Rattle.tftp_ends.specs.declared.action.Action.TheVariants.{Respond}
+use Rattle.tftp_ends.specs.declared.action.Response.TheVariants.{Ignore, Stranger}
+use Rattle.tftp_ends.specs.declared.phase.Phase.{Phase}
+use Rattle.tftp_ends.specs.declared.phase.Phase.TheVariants.{Waiting, Sending, Receiving, Dallying, Closed}
+use Rattle.tftp_ends.specs.End.{is_client, terms_of, outcome_of, record_of}
+use Rattle.tftp_ends.specs.Action.{same_address, same_endpoint, is_stranger, garbled_response, packet_action}
+use Rattle.tftp_ends.specs.Step.{Turn, Acts}
+use Rattle.tftp_player.specs.Machine.{Endpoint, At_server, Elsewhere, host_of, request_port}
+use Rattle.tftp_player.specs.Strangers.{HasNoStranger, IsRecordedSo, StraysChangeNoRecord, ClientsHaveServers}
+use Rattle.tftp_player.specs.World.{WorldState, OpenedEnd, file_at, in_the_way, files_of, end_after, at_rest, resting, peer_of, view_of_end}
+use Rattle.tftp_player.specs.WorldKept.{PhaseKept, IsOk}
+use Rattle.tftp_player.specs.WorldSteps.{never_fails, may_refuse_append, may_refuse_commit, Serves, Arrives, At_request_port, At_open_end, At_closed_end, At_nobody, Opens, OnDatagram}
+use Rattle.tftp_server.specs.Port.{Service, Silent, Refused, Sends, Takes}
+use Rattle.tftp_player.specs.declared.report.Report.{Report}
+use Rattle.tftp_player.proofs.EndMoves.{placed}
+use Rattle.tftp_player.proofs.PhaseMoves.{same_ips, same_endpoints}
+use Rattle.tftp_player.proofs.Places.{slice_get-set_same, slice_get-set_other, slice_get-push_old}
+use Rattle.tftp_player.proofs.Resting.{at_rest_record}
+use Rattle.tftp_player.proofs.WorldTurns.{view_at}
+
+-- a test that cannot hold
+fails : (b : Bool) → (b ≡ true → ⊥) → not b ≡ true
+fails true cannot = absurd (cannot refl)
+fails false cannot = refl
+
+-- a stranger is not at the server
+not_server : (from : Endpoint) → host_of from ≡ Elsewhere → from.ip ≡ request_port.ip → ⊥
+unfolding host_of
+not_server from far same =
+    let e : At_server ≡ Elsewhere = subst (λ (ip : List ℕ). host_of (record from { ip = ip }) ≡ Elsewhere) same far in cc
+
+-- to an open end whose peer is no stranger
+is_strange : (phase : Phase) (x0 : OpenedEnd) (from : Endpoint) → PhaseKept (placed phase x0) phase → host_of from ≡ Elsewhere → ((p : Endpoint) → peer_of phase ≡ Some p → host_of p ≢ Elsewhere) →
+    is_some (outcome_of phase) ≡ false → is_stranger (terms_of phase) x0.state.last_sent_to from ≡ true
+is_strange (Waiting asked limit) x0 from kept far home o =
+    fails (same_address x0.state.last_sent_to from) (λ e. not_server from far (sym (same_ips x0.state.last_sent_to from e) ∙ ap (λ (p : Endpoint). p.ip) kept.2))
+is_strange (Sending terms n) x0 from kept far home o =
+    fails (same_endpoint terms.peer from) (λ e. home terms.peer refl (ap host_of (same_endpoints terms.peer from e) ∙ far))
+is_strange (Receiving terms n) x0 from kept far home o =
+    fails (same_endpoint terms.peer from) (λ e. home terms.peer refl (ap host_of (same_endpoints terms.peer from e) ∙ far))
+is_strange (Dallying terms n dally) x0 from kept far home o =
+    fails (same_endpoint terms.peer from) (λ e. home terms.peer refl (ap host_of (same_endpoints terms.peer from e) ∙ far))
+is_strange (Closed terms n complete outcome) x0 from kept far home o = absurd (true≢false o)
+
+-- such an end is as it was
+module _ (w : WorldState) (k : ℕ) (x : OpenedEnd) (from : Endpoint) (bytes : List ℕ) (report : Report) (v : WorldState) (t : OnDatagram w k x from bytes report v) where
+  abbrev Acts_at : Action → Type 0
+  Acts_at action = Acts (λ (s : List ℕ). Some s) never_fails (λ (h : Holding). Some h) may_refuse_append (may_refuse_commit (is_client x.state.side) (in_the_way w.overwrite (file_at w.files x.path))) action from bytes x.state (files_of x) t.turn t.held
+
+  stays_by : (b : Bool) → Acts_at (if b then Respond Ignore else Respond Stranger) → t.turn.end ≡ x.state
+  stays_by true h = ap (λ (u : Turn). u.end) h.0
+  stays_by false h = ap (λ (u : Turn). u.end) h.0
+
+  strange_same : is_stranger (terms_of x.state.phase) x.state.last_sent_to from ≡ true → t.turn.end ≡ x.state
+  strange_same strange =
+      let near = if has_error_opcode bytes && is_none t.steps.decoded then Respond (garbled_response x.state.phase) else packet_action x.state from t.steps.decoded x.state.phase in
+      stays_by (has_error_opcode bytes)
+      (subst (λ (b : Bool). Acts_at (if b then (if has_error_opcode bytes then Respond Ignore else Respond Stranger) else near)) strange t.steps.acts)
+
+-- what is recorded of an end whose state stayed
+after_state : (x : OpenedEnd) (turn : Turn) (held : Files (List ℕ) Holding) → turn.end ≡ x.state → record_of (end_after x turn held).state ≡ record_of x.state
+after_state x turn (Source left) same = ap record_of same
+after_state x turn (Sink holding) same = ap record_of same
+
+equal_or_not : (a b : ℕ) → (a ≡ b) ⊎ (a ≢ b)
+equal_or_not a b = elim (eqb_tells a b) [
+  | inl h ↦ inl h.1
+  | inr h ↦ inr h.1
+]
+
+-- closed ends go to rest
+rests : (w : WorldState) (k : ℕ) (x : OpenedEnd) → IsRecordedSo w k x → IsRecordedSo (resting w) k x
+rests w k x r = (at_rest r.0, slice_get-map at_rest w.ends k ∙ ap (option_map at_rest) r.1, at_rest_record r.0 ∙ r.2)
+
+-- as it is
+as_is : (old new : WorldState) (k : ℕ) (x : OpenedEnd) → new.ends ≡ old.ends → slice_get old.ends k ≡ Some x → IsRecordedSo new k x
+as_is old new k x e there = (x, ap (λ (ends : List OpenedEnd). slice_get ends k) e ∙ there, refl)
+
+opened_more : (old new : WorldState) (y : OpenedEnd) (report : Report) (k : ℕ) (x : OpenedEnd) → Opens old y report new → slice_get old.ends k ≡ Some x → IsRecordedSo new k x
+opened_more old new y report k x o there =
+    (x, ap (λ (w : WorldState). slice_get w.ends k) o.is ∙ slice_get-push_old old.ends k y x there, refl)
+
+served : (service : Service) (old new : WorldState) (from : Endpoint) (report : Report) (k : ℕ) (x : OpenedEnd) → Serves service old from report new → slice_get old.ends k ≡ Some x → IsRecordedSo new k x
+served Silent old new from report k x s there = as_is old new k x (ap (λ (w : WorldState). w.ends) s.is) there
+served (Refused reply) old new from report k x s there = as_is old new k x (ap (λ (w : WorldState). w.ends) s.1) there
+served (Sends path mode length agreed) old new from report k x s there = opened_more old new _ report k x s.2 there
+served (Takes path mode agreed) old new from report k x s there = opened_more old new _ report k x s there
+
+same_place : (old new : WorldState) (k j : ℕ) (x y z : OpenedEnd) → new.ends ≡ set old.ends j z → slice_get old.ends j ≡ Some y → slice_get old.ends k ≡ Some x → (k ≡ j → record_of z.state ≡ record_of x.state) →
+    (k ≡ j) ⊎ (k ≢ j) → IsRecordedSo new k x
+same_place old new k j x y z e at there same (inl here) =
+    (z, ap (λ (ends : List OpenedEnd). slice_get ends k) e ∙ (ap (slice_get (set old.ends j z)) here ∙ slice_get-set_same old.ends j z y at), same here)
+same_place old new k j x y z e at there same (inr away) =
+    (x, ap (λ (ends : List OpenedEnd). slice_get ends k) e ∙ (slice_get-set_other old.ends j k z away ∙ there), refl)
+
+arrived : (strangers : Bool) (old new : WorldState) (from to : Endpoint) (bytes : List ℕ) (report : Report) (k : ℕ) (x : OpenedEnd) → IsOk strangers old → host_of from ≡ Elsewhere →
+    Arrives old from to bytes report new → slice_get old.ends k ≡ Some x → HasNoStranger x → IsRecordedSo new k x
+arrived strangers old new from to bytes report k x ok far (At_request_port here port decoded says s) there home = served _ old new from report k x s there
+arrived strangers old new from to bytes report k x ok far (At_open_end j y at address open_now t) there home =
+    same_place old new k j x y (end_after y t.turn t.held) (ap (λ (w : WorldState). w.ends) t.turns.is) at there
+    (λ here. let e : y ≡ x = same_Some y x (sym at ∙ (ap (slice_get old.ends) (sym here) ∙ there)) in
+    let own : HasNoStranger y = subst HasNoStranger (sym e) home in
+    let same = strange_same old j y from bytes report new t (is_strange y.state.phase y from (ok.ends j y at).kept.phase far own open_now) in
+    after_state y t.turn t.held same ∙ ap (λ (z : OpenedEnd). record_of z.state) e)
+    (equal_or_not k j)
+arrived strangers old new from to bytes report k x ok far (At_closed_end j y at address closed_now s) there home = as_is old new k x (ap (λ (w : WorldState). w.ends) s.is) there
+arrived strangers old new from to bytes report k x ok far (At_nobody away nobody s) there home = as_is old new k x (ap (λ (w : WorldState). w.ends) s.is) there
+
+pub strays_change_no_record : StraysChangeNoRecord
+strays_change_no_record strangers old new from to bytes report k x ok s there home =
+    subst (λ (w : WorldState). IsRecordedSo w k x) (sym s.2) (rests s.0 k x (arrived strangers old s.0 from to bytes report k x ok s.1.0 s.1.1 there home))
+
+pub clients_have_servers : ClientsHaveServers
+clients_have_servers strangers w x p ok i client peer =
+    let shows = ok.shown.3 in
+    let m = ok.shown.0 in
+    let h = shows.ends i.0 (view_of_end x) (view_at w.ends i.0 x i.1) in
+    let party = m.party x.address in
+    ((ok.shown.1.ends x.address h.0.is_open).serving (h.0.client ∙ client) p (h.0.peer ∙ peer)).0

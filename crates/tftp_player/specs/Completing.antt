@@ -1,0 +1,34 @@
+-- The definitions are not empty: some events transfer a file in a world.
+use Rattle.std.specs.Prelude.{◌≡◌, ℕ, true, List, ◌∷◌, None}
+use Rattle.tftp_negotiate.specs.declared.asked.Asked.{Asked}
+use Rattle.tftp_ends.specs.End.{is_sender}
+use Rattle.tftp_server.specs.declared.config.Config.{Config}
+use Rattle.tftp_player.specs.World.{WorldState, OpenedEnd, StoredFile, new_world}
+use Rattle.tftp_player.specs.WorldRuns.{Runs}
+use Rattle.tftp_player.specs.WorldSafety.{IsIn, IsReceiver, HasPeer, IsComplete}
+use Rattle.tftp_player.specs.declared.event.Event.{Event}
+
+-- no option is asked
+abbrev pub nothing_asked : Asked
+nothing_asked = record { blksize = None; timeout = None; tsize = None }
+
+-- two ends are each other's peers and complete, and the receiver has stored the sender's file, which is this
+pub record IsTransferred (w : WorldState) (bytes : List ℕ) : Type 0 where
+  pub sender : OpenedEnd
+  pub receiver : OpenedEnd
+  pub sender_in : IsIn w sender
+  pub receiver_in : IsIn w receiver
+  pub sends : is_sender sender.state.side ≡ true
+  pub receives : IsReceiver receiver
+  pub sender_peer : HasPeer sender receiver.address
+  pub receiver_peer : HasPeer receiver sender.address
+  pub sender_done : IsComplete sender
+  pub receiver_done : IsComplete receiver
+  pub file : sender.file ≡ bytes
+  pub stored : receiver.stored ≡ bytes
+
+-- some events, of which this is the first, transfer these bytes in some world
+abbrev pub Transfers : Event → List ℕ → Type 0
+Transfers opening bytes =
+    (files : List StoredFile) × (config : Config) × (events : List Event) × (w : WorldState)
+    × Runs (new_world files config) (opening ∷ events) w × IsTransferred w bytes
