@@ -25,6 +25,7 @@ pub mod Witness
 pub mod ReadWitness
 pub mod WriteWitness
 pub mod NetasciiWitness
+pub mod OptionsWitness
 pub mod SentLemmas
 pub mod ServerLemmas
 pub mod ServerTurns

@@ -1,5 +1,5 @@
 -- The definitions are not empty: some events transfer a file in a world.
-use Rattle.std.specs.Prelude.{◌≡◌, ℕ, true, List, ◌∷◌, None}
+use Rattle.std.specs.Prelude.{◌≡◌, ℕ, true, List, ◌∷◌, Some, None}
 use Rattle.tftp_negotiate.specs.declared.asked.Asked.{Asked}
 use Rattle.tftp_ends.specs.End.{is_sender}
 use Rattle.tftp_server.specs.declared.config.Config.{Config}
@@ -11,6 +11,10 @@ use Rattle.tftp_player.specs.declared.event.Event.{Event}
 -- no option is asked
 abbrev pub nothing_asked : Asked
 nothing_asked = record { blksize = None; timeout = None; tsize = None }
+
+-- blocks of 8 bytes are asked
+abbrev pub blocks_of_8 : Asked
+blocks_of_8 = record { blksize = Some 8; timeout = None; tsize = None }
 
 -- two ends are each other's peers and complete, and the receiver has stored the sender's file, which is this
 pub record IsTransferred (w : WorldState) (bytes : List ℕ) : Type 0 where

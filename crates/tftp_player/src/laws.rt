@@ -3,7 +3,7 @@
 
 ghost use Rattle.std.specs.Prelude.{List, [], ◌∷◌};
 ghost use Rattle.tftp_wire.specs.declared.mode.Mode.TheVariants.{Octet, Netascii};
-ghost use Rattle.tftp_player.specs.Completing.{Transfers, nothing_asked};
+ghost use Rattle.tftp_player.specs.Completing.{Transfers, nothing_asked, blocks_of_8};
 ghost use Rattle.tftp_player.specs.declared.event.Event.TheVariants.{Get, Put};
 ghost use Rattle.tftp_player.specs.Facts.{Holds};
 ghost use Rattle.tftp_player.specs.Kept.{EndsGoOn, EndsOpen, DatagramsAreAdded};
@@ -67,12 +67,13 @@ pub fn every_world_is_safe()
 {}
 
 /// The definitions are not empty: in a world some events transfer a file of one byte by a read and
-/// by a write in octet, and by a read in netascii, where it is a line end. Both ends are complete
-/// then, and the receiver has the file.
+/// by a write in octet, by a read in netascii, where it is a line end, and by a read in blocks of 8
+/// bytes. Both ends are complete then, and the receiver has the file.
 pub fn some_worlds_transfer()
     ensures read { Transfers (Get (97 ∷ []) Octet nothing_asked) (65 ∷ []) }
     ensures write { Transfers (Put (97 ∷ []) Octet nothing_asked (65 ∷ [])) (65 ∷ []) }
     ensures netascii { Transfers (Get (97 ∷ []) Netascii nothing_asked) (10 ∷ []) }
+    ensures options { Transfers (Get (97 ∷ []) Octet blocks_of_8) (65 ∷ []) }
 {}
 
 /// What makes a world safe is kept by each event, in both modes, for reads and for writes; so it is by
