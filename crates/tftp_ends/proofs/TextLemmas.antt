@@ -118,3 +118,8 @@ wrong_unreadable held piece last fault w = sym (ap (λ (b : Bool). b && not (las
 -- what is readable begins a wire text
 pub readable_begins : (held piece : List ℕ) (last : Bool) → is_readable Netascii held piece last ≡ true → begins_netascii (held ++ piece) ≡ true
 readable_begins held piece last e = (both_true (begins_netascii (held ++ piece)) (not (last && ends_in_cr (held ++ piece))) e).0
+
+-- an end that opens holds nothing back
+pub nothing_held : (mode : Mode) → HeldFits mode []
+nothing_held Octet = refl
+nothing_held Netascii = inl refl

@@ -3,7 +3,6 @@
 use Rattle.std.specs.Prelude.{ℕ, ◌≡◌, ◌*◌, ◌<◌, false, List, [], ◌∷◌, Option, Some, None, Result, Ok}
 use Rattle.tftp_wire.specs.Spelling.{IsValid, canonical}
 use Rattle.tftp_wire.specs.declared.mode.Mode.{Mode}
-use Rattle.tftp_wire.specs.declared.mode.Mode.TheVariants.{Octet}
 use Rattle.tftp_wire.specs.declared.packet.Packet.TheVariants.{Read, Write, Oack}
 use Rattle.tftp_wire.specs.declared.packet.Request.{Request}
 use Rattle.tftp_negotiate.specs.Agreed.{size, agreed_options}
@@ -87,37 +86,16 @@ pub record MayGet (name : List ℕ) (mode : Mode) (asked : Asked) : Type 0 where
   pub valid : IsValid (Read (request_of name mode asked))
   pub options : IsFor asked kinds.Read mode 0
 
--- a write may be asked for so: its blocks can be numbered, too, whatever is agreed on
+-- a write may be asked for so, as far as its request goes: the request is a packet, and the options are for it
+pub record MayAskPut (name : List ℕ) (mode : Mode) (asked : Asked) (length : ℕ) : Type 0 where
+  pub valid : IsValid (Write (request_of name mode asked))
+  pub options : IsFor asked kinds.Write mode length
+
+-- a write may be asked for so: its blocks can be numbered, too, at the size that is asked for
 pub record MayPut (name : List ℕ) (mode : Mode) (asked : Asked) (length : ℕ) : Type 0 where
   pub valid : IsValid (Write (request_of name mode asked))
   pub options : IsFor asked kinds.Write mode length
   pub fits : length < 65535 * asked_size asked.blksize
-
--- a read that may be asked for, in octet: netascii isn't supported yet
-pub record CanGet (name : List ℕ) (mode : Mode) (asked : Asked) : Type 0 where
-  pub may : MayGet name mode asked
-  pub octet : mode ≡ Octet
-
--- a write can be asked for, as far as its request goes: the request is a packet, and the options are for it; netascii
--- isn't supported yet
-pub record CanAskPut (name : List ℕ) (mode : Mode) (asked : Asked) (length : ℕ) : Type 0 where
-  pub valid : IsValid (Write (request_of name mode asked))
-  pub options : IsFor asked kinds.Write mode length
-  pub octet : mode ≡ Octet
-
--- a write of that length can be asked for: its blocks can be numbered, too
-pub record CanPut (name : List ℕ) (mode : Mode) (asked : Asked) (length : ℕ) : Type 0 where
-  pub asks : CanAskPut name mode asked length
-  pub fits : length < 65535 * asked_size asked.blksize
-
--- a transfer is in octet: netascii isn't supported yet
-pub record IsSupported (mode : Mode) (agreed : List Known) : Type 0 where
-  pub octet : mode ≡ Octet
-
--- a read can be served: it is supported, and its blocks can be numbered
-pub record CanServe (mode : Mode) (agreed : List Known) (length : ℕ) : Type 0 where
-  pub supported : IsSupported mode agreed
-  pub fits : length < 65535 * size agreed
 
 module _ {S : Type 0} (left : S → Option (List ℕ)) (may_fail : S → ℕ → Type 0) where
   -- a read is served: where no option is agreed the source gave the first piece, and else it wasn't asked

@@ -6,7 +6,7 @@ ghost use Rattle.tftp_wire.specs.Options.{IsOption};
 ghost use Rattle.tftp_wire.specs.Spelling.{IsValid, canonical};
 ghost use Rattle.tftp_wire.specs.declared.packet.Packet.TheVariants.{Read, Write};
 ghost use Rattle.tftp_negotiate.specs.Asked.{asked_options};
-ghost use Rattle.tftp_ends.specs.Opening.{CanGet, CanAskPut, request_of};
+ghost use Rattle.tftp_ends.specs.Opening.{MayGet, MayAskPut, request_of};
 
 use crate::options::{append_options, options_len};
 use std::alloc::{AllocError, Global};
@@ -36,24 +36,18 @@ fn is_packet(name: &[u8], mode: Mode, asked: &Asked) -> bool
 }
 
 /// Whether a file can be asked for so.
-pub(crate) fn can_get(name: &[u8], mode: Mode, asked: &Asked) -> bool
-    ensures { IsTrue result ↔ CanGet name.now mode asked.now }
+pub(crate) fn may_get(name: &[u8], mode: Mode, asked: &Asked) -> bool
+    ensures { IsTrue result ↔ MayGet name.now mode asked.now }
 {
-    if mode != Mode::Octet || !asked.is_for(Kind::Read, mode, 0) {
-        return false;
-    }
-    is_packet(name, mode, asked)
+    asked.is_for(Kind::Read, mode, 0) && is_packet(name, mode, asked)
 }
 
 /// Whether a file of that length can be offered so. Whether its blocks can be numbered is another
 /// question.
-pub(crate) fn can_ask_put(name: &[u8], mode: Mode, asked: &Asked, length: u64) -> bool
-    ensures { IsTrue result ↔ CanAskPut name.now mode asked.now length }
+pub(crate) fn may_ask_put(name: &[u8], mode: Mode, asked: &Asked, length: u64) -> bool
+    ensures { IsTrue result ↔ MayAskPut name.now mode asked.now length }
 {
-    if mode != Mode::Octet || !asked.is_for(Kind::Write, mode, length) {
-        return false;
-    }
-    is_packet(name, mode, asked)
+    asked.is_for(Kind::Write, mode, length) && is_packet(name, mode, asked)
 }
 
 /// The request to read a file.

@@ -4,17 +4,10 @@ use Rattle.tftp_wire.specs.declared.mode.Mode.{Mode}
 use Rattle.tftp_wire.specs.declared.mode.Mode.TheVariants.{Octet, Netascii}
 use Rattle.tftp_negotiate.specs.declared.asked.Asked.{Asked}
 use Rattle.tftp_file.specs.Netascii.{wire_text}
-use Rattle.tftp_ends.specs.Opening.{CanGet, CanPut, getting, putting}
+use Rattle.tftp_ends.specs.Opening.{getting, putting}
 use Rattle.tftp_player.specs.Machine.{client_ip, request_port}
 use Rattle.tftp_player.specs.World.{WorldState, OpenedEnd, next_port}
-use Rattle.tftp_player.specs.Openings.{MayGet, MayPut, reading_client, writing_client}
-
--- what can be asked for may be
-pub may_read : (name : List ℕ) (mode : Mode) (asked : Asked) → CanGet name mode asked → MayGet name mode asked
-may_read name mode asked can = can.may
-
-pub may_write : (name : List ℕ) (mode : Mode) (asked : Asked) (length : ℕ) → CanPut name mode asked length → MayPut name mode asked length
-may_write name mode asked length can = record { valid = can.asks.valid; options = can.asks.options; fits = can.fits }
+use Rattle.tftp_player.specs.Openings.{reading_client, writing_client}
 
 -- an empty file has no text
 pub no_wire : (mode : Mode) → wire_text mode [] ≡ []

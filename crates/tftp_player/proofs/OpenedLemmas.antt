@@ -10,7 +10,7 @@ use Rattle.tftp_file.specs.Netascii.{wire_text}
 use Rattle.tftp_ends.specs.declared.record.Record.{Record}
 use Rattle.tftp_ends.specs.End.{is_client, record_of}
 use Rattle.tftp_ends.specs.Files.{AreFilesOf}
-use Rattle.tftp_ends.specs.Opening.{CanGet, CanPut, getting, putting}
+use Rattle.tftp_ends.specs.Opening.{MayGet, MayPut, getting, putting}
 use Rattle.tftp_server.specs.declared.config.Config.{Config}
 use Rattle.tftp_player.specs.Machine.{request_port}
 use Rattle.tftp_player.specs.Clients.{asking_client, asking_effect, sending_client, sending_effect}
@@ -30,7 +30,7 @@ use Rattle.tftp_player.specs.declared.event.Event.TheVariants.{Get, Put}
 use Rattle.tftp_player.specs.declared.player.Player.{Player}
 use Rattle.tftp_player.specs.declared.player.Player.TheVariants.{Client}
 use Rattle.tftp_player.specs.declared.report.Report.{Report}
-use Rattle.tftp_player.proofs.ClientLemmas.{may_read, may_write, getting_client, putting_client, reading_is, writing_is}
+use Rattle.tftp_player.proofs.ClientLemmas.{getting_client, putting_client, reading_is, writing_is}
 use Rattle.tftp_player.proofs.HeldLemmas.{AreBelow, AreBelow-more}
 use Rattle.tftp_player.proofs.PlacedEnds.{told-push, kept-push, is_transfer-rest, transfers-push_other}
 use Rattle.tftp_player.proofs.PlayLemmas.{ends_length, to_kept, from_kept, ends_rest}
@@ -126,7 +126,7 @@ module _ (config : Config) (sent : List Datagram) (server : PlayedServer) (ps : 
   has = let p = at in omega (arith, p, fits)
 
   -- a client asked to read
-  pub got : CanGet name mode asked → c ≡ asking_client (getting request_port name mode asked config.limits.max_file config.retries) → effect ≡ asking_effect port name mode asked →
+  pub got : MayGet name mode asked → c ≡ asking_client (getting request_port name mode asked config.limits.max_file config.retries) → effect ≡ asking_effect port name mode asked →
       Enters old port c effect report new → WorldStep old (Get name mode asked) report new
   got can client effects e =
       let x = reading_client old name mode asked in
@@ -136,10 +136,10 @@ module _ (config : Config) (sent : List Datagram) (server : PlayedServer) (ps : 
       ap (λ (k : PlayedClient). at_rest (client_end port k)) own
       ∙ (ap (λ (n : ℕ). getting_client n name mode asked old.limits.max_file old.retries) at ∙ sym (reading_is old name mode asked)) in
       opens_so old (Get name mode asked) c effect port report new x is (effects ∙ ap (λ (n : ℕ). asking_effect n name mode asked) at) e
-      (get_step old name mode asked is_at_rest has (may_read name mode asked can))
+      (get_step old name mode asked is_at_rest has can)
 
   -- a client asked to write
-  pub has_put : (file : List ℕ) → CanPut name mode asked (length (wire_text mode file)) →
+  pub has_put : (file : List ℕ) → MayPut name mode asked (length (wire_text mode file)) →
       c ≡ sending_client (putting request_port name mode asked (length (wire_text mode file)) config.limits.max_file config.retries) (wire_text mode file) file →
       effect ≡ sending_effect port name mode asked → Enters old port c effect report new → WorldStep old (Put name mode asked file) report new
   has_put file can client effects e =
@@ -151,7 +151,7 @@ module _ (config : Config) (sent : List Datagram) (server : PlayedServer) (ps : 
       ap (λ (k : PlayedClient). at_rest (client_end port k)) own
       ∙ (ap (λ (n : ℕ). putting_client n name mode asked file old.limits.max_file old.retries) at ∙ sym (writing_is old name mode asked file)) in
       opens_so old (Put name mode asked file) c effect port report new x is (effects ∙ ap (λ (n : ℕ). sending_effect n name mode asked) at) e
-      (put_step old name mode asked file is_at_rest has (may_write name mode asked (length text) can))
+      (put_step old name mode asked file is_at_rest has can)
 
 pub no_port : (config : Config) (sent : List Datagram) (server : PlayedServer) (ps : List Player) (old : WorldState) (count : ℕ) → world_of config sent server ps ≡ old → count ≡ length ps → 65535 < 1024 + count → 65535 < next_port old
 no_port config sent server ps old count view e h =
@@ -171,7 +171,7 @@ port_found config sent server ps old count port view e is = is ∙ (ap (λ (n : 
 
 -- why a client did not open
 module _ (old : WorldState) (name : List ℕ) (mode : Mode) (asked : Asked) (has : HasPort old) where
-  pub get_refused : (fault : WorldFault) → AskRefuses (CanGet name mode asked) fault → RefusesToday old (Get name mode asked) fault
+  pub get_refused : (fault : WorldFault) → AskRefuses (MayGet name mode asked) fault → RefusesToday old (Get name mode asked) fault
   get_refused BadRequest cannot = (has, cannot)
   get_refused Memory can = none where
     none : (f : WorldFault) → EventRefusesToday old (Get name mode asked) f → ⊥
@@ -184,7 +184,7 @@ module _ (old : WorldState) (name : List ℕ) (mode : Mode) (asked : Asked) (has
   get_refused NoSuchEnd h = absurd h
   get_refused NoPort h = absurd h
 
-  pub put_refused : (file : List ℕ) (fault : WorldFault) → AskRefuses (CanPut name mode asked (length (wire_text mode file))) fault → RefusesToday old (Put name mode asked file) fault
+  pub put_refused : (file : List ℕ) (fault : WorldFault) → AskRefuses (MayPut name mode asked (length (wire_text mode file))) fault → RefusesToday old (Put name mode asked file) fault
   put_refused file BadRequest cannot = (has, cannot)
   put_refused file Memory can = none where
     none : (f : WorldFault) → EventRefusesToday old (Put name mode asked file) f → ⊥

@@ -2,7 +2,7 @@
 use Rattle.std.specs.Prelude.{ℕ, ◌≡◌, ◌≢◌, ◌+◌, ◌<◌, ⊤, List, ◌++◌, length, slice_get, Option, Some}
 use Rattle.tftp_wire.specs.declared.packet.Packet.{Packet}
 use Rattle.tftp_file.specs.Netascii.{wire_text}
-use Rattle.tftp_ends.specs.Opening.{CanGet, CanPut}
+use Rattle.tftp_ends.specs.Opening.{MayGet, MayPut}
 use Rattle.tftp_ends.specs.Action.{Decodes}
 use Rattle.tftp_server.specs.Request.{supported}
 use Rattle.tftp_player.specs.Effect.{said_by, report_by}
@@ -22,10 +22,10 @@ use Rattle.tftp_player.specs.declared.event.Event.TheVariants.{Get, Put, Deliver
 use Rattle.tftp_player.specs.declared.fault.WorldFault.{WorldFault}
 use Rattle.tftp_player.specs.declared.fault.WorldFault.TheVariants.{NoPort, BadRequest, Memory}
 
--- why an event is refused today, memory aside: a client asks in octet and without options alone
+-- why an event is refused, memory aside
 abbrev pub EventRefusesToday : WorldState → Event → WorldFault → Type 0
-EventRefusesToday w (Get name mode asked) BadRequest = HasPort w × (CanGet name mode asked → ⊥)
-EventRefusesToday w (Put name mode asked bytes) BadRequest = HasPort w × (CanPut name mode asked (length (wire_text mode bytes)) → ⊥)
+EventRefusesToday w (Get name mode asked) BadRequest = HasPort w × (MayGet name mode asked → ⊥)
+EventRefusesToday w (Put name mode asked bytes) BadRequest = HasPort w × (MayPut name mode asked (length (wire_text mode bytes)) → ⊥)
 EventRefusesToday w event fault = EventRefuses w event fault
 
 -- why an event is refused today

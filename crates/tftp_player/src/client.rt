@@ -3,7 +3,7 @@
 ghost use Rattle.std.specs.Prelude.{◌≡◌, ◌++◌, [], false, length, is_some, option_map, IfOk, IfErr, OnOk, OnErr};
 ghost use Rattle.tftp_ends.specs.End.{record_of, outcome_of};
 ghost use Rattle.tftp_file.specs.Netascii.{wire_text};
-ghost use Rattle.tftp_ends.specs.Opening.{CanGet, CanPut, getting, putting};
+ghost use Rattle.tftp_ends.specs.Opening.{MayGet, MayPut, getting, putting};
 ghost use Rattle.tftp_ends.specs.Step.{timeout_turn};
 ghost use Rattle.tftp_player.specs.Machine.{request_port};
 ghost use Rattle.tftp_player.specs.Clients.{ClientTurns, ClientDatagramStep, asking_client, sending_client, stored_by, told_client, client_at, holding_in, asking_effect, sending_effect, open_fault, AskRefuses};
@@ -54,8 +54,8 @@ impl Client {
             config.now.limits.max_file config.now.retries)) }
         ensures effect { IfOk result (λ opened.
             opened.1 ≡ asking_effect port name.now mode asked.now) }
-        ensures ok { OnOk result (CanGet name.now mode asked.now) }
-        ensures refused { IfErr result (AskRefuses (CanGet name.now mode asked.now)) }
+        ensures ok { OnOk result (MayGet name.now mode asked.now) }
+        ensures refused { IfErr result (AskRefuses (MayGet name.now mode asked.now)) }
     {
         let mut out = Vec::new(alloc);
         match End::get(alloc, REQUEST_PORT, name, mode, asked, config, &mut out) {
@@ -87,9 +87,9 @@ impl Client {
             (wire_text mode file) file) }
         ensures effect { IfOk result (λ opened.
             opened.1 ≡ sending_effect port name.now mode asked.now) }
-        ensures ok { OnOk result (CanPut name.now mode asked.now (length (wire_text mode file))) }
+        ensures ok { OnOk result (MayPut name.now mode asked.now (length (wire_text mode file))) }
         ensures refused { IfErr result
-            (AskRefuses (CanPut name.now mode asked.now (length (wire_text mode file)))) }
+            (AskRefuses (MayPut name.now mode asked.now (length (wire_text mode file)))) }
     {
         let length = wire_length_within(file.as_slice(), mode, MAX_WIRE + 1);
         let mut out = Vec::new(alloc);

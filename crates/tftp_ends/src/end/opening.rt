@@ -2,10 +2,10 @@
 
 ghost use Rattle.std.specs.Prelude.{ℕ, ◌≡◌, ◌↔◌, ◌++◌, ◌*◌, ◌≤◌, ◌⊎◌, IsTrue, IfOk, IfErr, OnOk, OnErr, IsErrOf, vec_capacity};
 ghost use Rattle.tftp_wire.specs.Spelling.{canonical};
-ghost use Rattle.tftp_wire.specs.declared.mode.Mode.TheVariants.{Octet};
 ghost use Rattle.tftp_wire.specs.declared.packet.Packet.TheVariants.{Read, Write};
-ghost use Rattle.tftp_ends.specs.Opening.{CanGet, CanPut, CanAskPut, getting, putting, opened, opening_step, request_of, asked_size};
-ghost use Rattle.tftp_ends.specs.Sound.{IsSound};
+ghost use Rattle.tftp_ends.specs.Opening.{MayGet, MayPut, MayAskPut, getting, putting, opened, opening_step, request_of, asked_size};
+ghost use Rattle.tftp_ends.specs.End.{terms_of};
+ghost use Rattle.tftp_ends.specs.Sound.{PhaseFits, ResendsAck, SentFits};
 
 use crate::config::EndConfig;
 use crate::end::End;
@@ -13,7 +13,7 @@ use crate::endpoint::Endpoint;
 use crate::fault::OpenFault;
 use crate::phase::Phase;
 use crate::record::Step;
-use crate::request::{can_ask_put, can_get, read_request, write_request};
+use crate::request::{may_ask_put, may_get, read_request, write_request};
 use crate::side::Side;
 use crate::waiting::can_be_numbered;
 use std::alloc::Global;
@@ -44,7 +44,11 @@ impl End {
         to: Endpoint,
         last_sent: Vec<u8>,
     ) -> End
-        requires sound { IsSound (opened side mode length retries phase to last_sent.items) }
+        requires phase { PhaseFits (opened side mode length retries phase to last_sent.items) phase }
+        requires resends { ResendsAck
+            (opened side mode length retries phase to last_sent.items) phase }
+        requires sent { SentFits
+            (opened side mode length retries phase to last_sent.items) (terms_of phase) }
         requires room { HEADER ≤ vec_capacity last_sent }
         ensures { result ≡ opened side mode length retries phase to last_sent.items }
     {
@@ -66,8 +70,8 @@ impl End {
     ///
     /// It retries `config.retries` times, and takes a file of at most `config.limits.max_file` bytes
     /// where the server tells the length. `BadRequest` comes where the name is empty, holds a zero
-    /// byte or makes the request longer than 512 bytes (RFC 2347), where an option is out of its range
-    /// or not for a read, and today for netascii. After an error `out` is unchanged.
+    /// byte or makes the request longer than 512 bytes (RFC 2347), or where an option is out of its
+    /// range or not for a read. After an error `out` is unchanged.
     pub fn get(
         alloc: Global,
         to: Endpoint,
@@ -82,15 +86,15 @@ impl End {
         ensures step { IfOk result (λ opened. opened.1 ≡ opening_step to) }
         ensures sent { OnOk result (out.new.items ≡ out.old.items
             ++ canonical (Read (request_of name.now mode asked.now))) }
-        ensures ok { OnOk result (CanGet name.now mode asked.now) }
+        ensures ok { OnOk result (MayGet name.now mode asked.now) }
         ensures bad_request { IsErrOf result OpenFault.BadRequest
-            → CanGet name.now mode asked.now → ⊥ }
-        ensures memory { IsErrOf result OpenFault.Memory → CanGet name.now mode asked.now }
+            → MayGet name.now mode asked.now → ⊥ }
+        ensures memory { IsErrOf result OpenFault.Memory → MayGet name.now mode asked.now }
         ensures err { IfErr result (λ fault.
             ((fault ≡ OpenFault.BadRequest) ⊎ (fault ≡ OpenFault.Memory))
             × (out.new.items ≡ out.old.items)) }
     {
-        if !can_get(name, mode, asked) {
+        if !may_get(name, mode, asked) {
             return Err(OpenFault::BadRequest);
         }
         let last_sent = read_request(alloc, name, mode, asked)?;
@@ -135,16 +139,16 @@ impl End {
         ensures step { IfOk result (λ opened. opened.1 ≡ opening_step to) }
         ensures sent { OnOk result (out.new.items
             ≡ out.old.items ++ canonical (Write (request_of name.now mode asked.now))) }
-        ensures ok { OnOk result (CanPut name.now mode asked.now length) }
+        ensures ok { OnOk result (MayPut name.now mode asked.now length) }
         ensures bad_request { IsErrOf result OpenFault.BadRequest
-            → CanAskPut name.now mode asked.now length → ⊥ }
+            → MayAskPut name.now mode asked.now length → ⊥ }
         ensures too_large { IsErrOf result OpenFault.TooLarge →
-            CanAskPut name.now mode asked.now length × (65535 * asked_size asked.now.blksize ≤ length) }
-        ensures memory { IsErrOf result OpenFault.Memory → CanPut name.now mode asked.now length }
+            MayAskPut name.now mode asked.now length × (65535 * asked_size asked.now.blksize ≤ length) }
+        ensures memory { IsErrOf result OpenFault.Memory → MayPut name.now mode asked.now length }
         ensures never { IsErrOf result OpenFault.SourceFault → ⊥ }
         ensures err { OnErr result (out.new.items ≡ out.old.items) }
     {
-        if !can_ask_put(name, mode, asked, length) {
+        if !may_ask_put(name, mode, asked, length) {
             return Err(OpenFault::BadRequest);
         }
         if !can_be_numbered(length, asked.blksize.unwrap_or(DEFAULT_BLOCK)) {

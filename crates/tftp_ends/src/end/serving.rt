@@ -2,7 +2,7 @@
 
 ghost use Rattle.std.specs.Prelude.{◌≡◌, ◌++◌, ◌*◌, ◌≤◌, ◌<◌, ◌⊎◌, not, true, [], length, IfOk, IfErr, OnOk, OnErr, IsErrOf, vec_capacity};
 ghost use Rattle.tftp_ends.specs.Files.{AreFilesOf, KeepsFiles, AreSame};
-ghost use Rattle.tftp_ends.specs.Opening.{CanServe, IsSupported, ServesFiles, FilesCannotStart, serving_write, opened, opening_step, oack_bytes};
+ghost use Rattle.tftp_ends.specs.Opening.{ServesFiles, FilesCannotStart, serving_write, opened, opening_step, oack_bytes};
 ghost use Rattle.tftp_ends.specs.Step.{ack_bytes};
 ghost use Rattle.tftp_ends.specs.Waiting.{default_terms, agreed_terms};
 ghost use Rattle.tftp_negotiate.specs.Agreed.{size};
@@ -50,8 +50,7 @@ impl End {
     /// What is appended to `out`, for `peer`, is the OACK of the options that are agreed (RFC 2347,
     /// "Negotiation Protocol"), or DATA 1 where none is (RFC 1350, section 4). `TooLarge` comes where
     /// the file's blocks cannot be numbered, `SourceFault` where DATA 1 cannot be read to the measured
-    /// length, and today `BadRequest` for netascii. After an error `out` is unchanged; after `Memory`
-    /// the source is, too.
+    /// length, `BadRequest` never. After an error `out` is unchanged; after `Memory` the source is, too.
     pub fn serve_read<S: Source, K: Sink>(
         alloc: Global,
         files: &mut Files<S, K>,
@@ -67,23 +66,18 @@ impl End {
             ServesFiles S.left S.may_fail agreed.now peer mode length retries files.old files.new opened.0
             × (out.new.items ≡ out.old.items ++ opened.0.last_sent)) }
         ensures step { IfOk result (λ opened. opened.1 ≡ opening_step peer) }
-        ensures ok { OnOk result (CanServe mode agreed.now length) }
-        ensures bad_request { IsErrOf result OpenFault.BadRequest
-            → IsSupported mode agreed.now → ⊥ }
-        ensures too_large { IsErrOf result OpenFault.TooLarge → IsSupported mode agreed.now
-            × (65535 * size agreed.now ≤ length) }
-        ensures source { IsErrOf result OpenFault.SourceFault → CanServe mode agreed.now length
+        ensures ok { OnOk result (length < 65535 * size agreed.now) }
+        ensures bad_request { IsErrOf result OpenFault.BadRequest → ⊥ }
+        ensures too_large { IsErrOf result OpenFault.TooLarge → 65535 * size agreed.now ≤ length }
+        ensures source { IsErrOf result OpenFault.SourceFault → (length < 65535 * size agreed.now)
             × FilesCannotStart S.left S.may_fail length files.old }
         ensures plain { IsErrOf result OpenFault.SourceFault → agreed.now ≡ [] }
-        ensures memory { IsErrOf result OpenFault.Memory → CanServe mode agreed.now length
+        ensures memory { IsErrOf result OpenFault.Memory → (length < 65535 * size agreed.now)
             × KeepsFiles S.left K.held files.old files.new }
         ensures err { OnErr result (out.new.items ≡ out.old.items) }
         ensures same { AreSame S.is_same K.is_same files.old files.new }
         ensures files { IfOk result (λ opened. AreFilesOf opened.0.side files.new) }
     {
-        if mode != Mode::Octet {
-            return Err(OpenFault::BadRequest);
-        }
         if !can_be_numbered(length, agreed.block_size()) {
             return Err(OpenFault::TooLarge);
         }
@@ -104,7 +98,6 @@ impl End {
         out: &mut Vec<u8>,
     ) -> Result<(End, Step), OpenFault>
         requires files { AreFilesOf Side.ServerRead files.old }
-        requires octet { mode ≡ Mode.Octet }
         requires fits { length < 65535 * DEFAULT_BLOCK }
         ensures serves { IfOk result (λ opened.
             ServesFiles S.left S.may_fail [] peer mode length retries files.old files.new opened.0
@@ -161,7 +154,6 @@ impl End {
         retries: u8,
         out: &mut Vec<u8>,
     ) -> Result<(End, Step), AllocError>
-        requires octet { mode ≡ Mode.Octet }
         requires fits { length < 65535 * size agreed.now }
         ensures end { IfOk result (λ o. (o.0 ≡ opened Side.ServerRead mode length retries
             (Phase.Sending (agreed_terms peer agreed.now) 0) peer (oack_bytes agreed.now))
@@ -191,8 +183,8 @@ impl End {
     /// Opens a server's end that receives a file from a client.
     ///
     /// What is appended to `out`, for `peer`, is the OACK of the options that are agreed (RFC 2347,
-    /// "Negotiation Protocol"), or ACK 0 where none is (RFC 1350, section 4). Today `BadRequest` comes
-    /// for netascii. After an error `out` is unchanged.
+    /// "Negotiation Protocol"), or ACK 0 where none is (RFC 1350, section 4). It fails with `Memory`
+    /// alone, and then `out` is unchanged.
     pub fn serve_write(
         alloc: Global,
         peer: Endpoint,
@@ -204,17 +196,9 @@ impl End {
         ensures end { IfOk result (λ opened. (opened.0 ≡ serving_write agreed.now peer mode retries)
             × (out.new.items ≡ out.old.items ++ opened.0.last_sent)) }
         ensures step { IfOk result (λ opened. opened.1 ≡ opening_step peer) }
-        ensures ok { OnOk result (IsSupported mode agreed.now) }
-        ensures bad_request { IsErrOf result OpenFault.BadRequest
-            → IsSupported mode agreed.now → ⊥ }
-        ensures memory { IsErrOf result OpenFault.Memory → IsSupported mode agreed.now }
-        ensures err { IfErr result (λ fault.
-            ((fault ≡ OpenFault.BadRequest) ⊎ (fault ≡ OpenFault.Memory))
+        ensures err { IfErr result (λ fault. (fault ≡ OpenFault.Memory)
             × (out.new.items ≡ out.old.items)) }
     {
-        if mode != Mode::Octet {
-            return Err(OpenFault::BadRequest);
-        }
         if agreed.is_empty() {
             let ack = first_ack(alloc)?;
             return Ok(End::receive(alloc, default_terms(peer), mode, retries, ack, out)?);
@@ -232,7 +216,6 @@ impl End {
         answer: Vec<u8>,
         out: &mut Vec<u8>,
     ) -> Result<(End, Step), AllocError>
-        requires octet { mode ≡ Mode.Octet }
         requires resends { not terms.by_oack ≡ true → answer.items ≡ ack_bytes 0 }
         requires short { length answer.items ≤ MAX_REQUEST }
         requires room { HEADER ≤ vec_capacity answer }

@@ -1,6 +1,6 @@
 use Rattle.std.proofs.Common.{◌≡◌, length, subst, sym, rules}
 use Rattle.std.proofs.lemmas.Result.{IfOk-weaker, IfErr-weaker}
-use Rattle.tftp_ends.specs.Opening.{CanGet}
+use Rattle.tftp_ends.specs.Opening.{MayGet}
 use Rattle.tftp_player.specs.Clients.{AskRefuses}
 use Rattle.tftp_player.specs.declared.fault.WorldFault.{WorldFault}
 use Rattle.tftp_player.specs.World.{next_port}
@@ -32,7 +32,7 @@ returns-in-Ok-clause-refused c =
     let count : c.len.result ≡ length c.self.inside.players.items = search rules in
     let has : HasPort c.args.self.now = has_port c.self.inside.config c.self.inside.sent.items c.self.inside.server c.self.inside.players.items c.args.self.now c.len.result c.in-Some.port c.self.view_is count c.in-Some.ensures.some c.in-Some.ensures.fits in
     IfErr-weaker c.enter.result _ _
-    (λ fault e. get_refused c.args.self.now c.args.name.now c.args.mode c.args.asked.now has fault (subst (λ (f : WorldFault). AskRefuses (CanGet c.args.name.now c.args.mode c.args.asked.now) f) (sym e) c.in-Ok.ensures.ok))
+    (λ fault e. get_refused c.args.self.now c.args.name.now c.args.mode c.args.asked.now has fault (subst (λ (f : WorldFault). AskRefuses (MayGet c.args.name.now c.args.mode c.args.asked.now) f) (sym e) c.in-Ok.ensures.ok))
     c.enter.ensures.memory
 
 pub returns-in-Err-clause-refused : goal.returns-in-Err-clause-refused

@@ -1,7 +1,7 @@
 use Rattle.std.proofs.Common.{◌≡◌, length, subst, sym, rules}
 use Rattle.std.proofs.lemmas.Result.{IfOk-weaker, IfErr-weaker}
 use Rattle.tftp_file.specs.Netascii.{wire_text}
-use Rattle.tftp_ends.specs.Opening.{CanPut}
+use Rattle.tftp_ends.specs.Opening.{MayPut}
 use Rattle.tftp_player.specs.Clients.{AskRefuses}
 use Rattle.tftp_player.specs.declared.fault.WorldFault.{WorldFault}
 use Rattle.tftp_player.specs.World.{next_port}
@@ -33,7 +33,7 @@ returns-in-Ok-clause-refused c =
     let count : c.len.result ≡ length c.self.inside.players.items = search rules in
     let has : HasPort c.args.self.now = has_port c.self.inside.config c.self.inside.sent.items c.self.inside.server c.self.inside.players.items c.args.self.now c.len.result c.in-Some.port c.self.view_is count c.in-Some.ensures.some c.in-Some.ensures.fits in
     IfErr-weaker c.enter.result _ _
-    (λ fault e. put_refused c.args.self.now c.args.name.now c.args.mode c.args.asked.now has c.args.file fault (subst (λ (f : WorldFault). AskRefuses (CanPut c.args.name.now c.args.mode c.args.asked.now (length (wire_text c.args.mode c.args.file))) f) (sym e) c.in-Ok.ensures.ok))
+    (λ fault e. put_refused c.args.self.now c.args.name.now c.args.mode c.args.asked.now has c.args.file fault (subst (λ (f : WorldFault). AskRefuses (MayPut c.args.name.now c.args.mode c.args.asked.now (length (wire_text c.args.mode c.args.file))) f) (sym e) c.in-Ok.ensures.ok))
     c.enter.ensures.memory
 
 pub returns-in-Err-clause-refused : goal.returns-in-Err-clause-refused

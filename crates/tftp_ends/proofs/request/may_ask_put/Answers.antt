@@ -2,7 +2,7 @@
 use Rattle.std.proofs.Common.{rules, arith}
 use Rattle.tftp_negotiate.specs.declared.known.Kind.TheVariants.{Write}
 use Rattle.tftp_negotiate.proofs.SpellingLemmas.{asked_are_options}
-use Rattle.tftp_ends.proofs.request.can_ask_put.Goals as goal
+use Rattle.tftp_ends.proofs.request.may_ask_put.Goals as goal
 
 pub is_packet-requires : goal.is_packet-requires
 is_packet-requires c =
