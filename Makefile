@@ -2,36 +2,35 @@
 # make test: the gate, every proof from nothing
 # make bench: the benchmarks of bench/, which are no tests
 
-PROGRAMS := show play
+PROGRAMS := bin/tftp-show bin/tftp-play bin/tftp bin/tftpd
 SOURCES := $(shell find crates -path '*/out' -prune -o \( -name '*.rt' -o -name '*.antt' \) -print) crates.txt
 
 .PHONY: run test bench clean
 # one after another: each crate is proved by as many processors as there are
 .NOTPARALLEL:
 
-run: $(PROGRAMS:%=bin/tftp-%) bin/tftp bin/tftpd
+run: $(PROGRAMS)
 	bin/tftp-show < examples/packets.hex; test $$? -le 1 # 1: some lines of the sample are faults
 	bin/tftp-play examples/lossy.script
 	examples/loopback.sh bin/tftpd bin/tftp
 
-bin/tftp-%: $(SOURCES) tools/build.sh
-	@tools/build.sh tftp_$*_main
+# one run builds all four
+$(PROGRAMS) &: $(SOURCES) tools/build.sh
+	@tools/build.sh tftp_show_main tftp_play_main tftp_main tftpd_main
 	@mkdir -p bin
-	@cp crates/tftp_$*_main/out/tftp_$*_main $@
-
-bin/tftp bin/tftpd: bin/%: $(SOURCES) tools/build.sh
-	@tools/build.sh $*_main
-	@mkdir -p bin
-	@cp crates/$*_main/out/$*_main $@
+	@cp crates/tftp_show_main/out/tftp_show_main bin/tftp-show
+	@cp crates/tftp_play_main/out/tftp_play_main bin/tftp-play
+	@cp crates/tftp_main/out/tftp_main bin/tftp
+	@cp crates/tftpd_main/out/tftpd_main bin/tftpd
 
 test:
 	rt ci
 
-bench: $(PROGRAMS:%=bin/tftp-%)
+bench: $(PROGRAMS)
 	bench/show/run.sh bin/tftp-show
 	@cd crates/tftp_ends_bench && rt run -- 512 0 1 > /dev/null
 	bench/ends/run.py crates/tftp_ends_bench/out/tftp_ends_bench
-	python3 bench/play/settled.py bin/tftp-play
+	python3 bench/play/plays.py bin/tftp-play
 
 clean:
 	rm -rf bin out crates/*/out

@@ -1,14 +1,16 @@
 #!/bin/sh
-# Proves and builds a program and the crates below it, lowest first. Usage: build.sh CRATE
+# Proves and builds programs and the crates below them. Usage: build.sh CRATE..
+# The libraries are built one after another, lowest first, each by as many processors as there are, and then the
+# programs side by side.
 # Prints a line for each crate that it proves: its name, how many functions it has, and the seconds that this took.
 # The prover's own log of a crate is out/CRATE.log, and its end is printed where the crate fails.
 set -u
 cd "$(dirname "$0")/.." || exit 2
 mkdir -p out
 
-# the repository's crates below this one and the crate itself, each after those that it uses
+# these crates and the repository's crates below them, each after those that it uses
 crates_of() {
-    awk -v top="$1" '
+    awk -v tops="$*" '
         function visit(name, deps, count, i) {
             if (!(name in uses) || seen[name]++) return
             count = split(uses[name], deps, " ")
@@ -17,18 +19,25 @@ crates_of() {
         }
         { sub(/#.*/, "") }
         NF { name = $1; sub(/:.*/, "", name); deps = $0; sub(/^[^:]*:?/, "", deps); uses[name] = deps }
-        END { visit(top) }
+        END {
+            last = split(tops, names, " ")
+            for (place = 1; place <= last; place++) visit(names[place])
+        }
     ' crates.txt
 }
 
-# proves and builds one crate
+is_program() {
+    test -f "crates/$1/src/main.rt"
+}
+
+# proves and builds one crate of the repository at this folder
 build() {
     log=$PWD/out/$1.log
     verb=lib
     # a program runs once it is built: it only prints its help
-    test -f "crates/$1/src/main.rt" && verb="run -- --help"
+    is_program "$1" && verb="run -- --help"
     start=$(date +%s)
-    (cd "crates/$1" && rt $verb) < /dev/null > "$log.new" 2>&1
+    (cd "$2/crates/$1" && rt $verb) < /dev/null > "$log.new" 2>&1
     status=$?
     # rt says little of a crate that it finds proved: the log of the proof stays
     functions=$(sed -n 's/^logic=proved functions=\([0-9]*\).*/\1/p' "$log.new" | tail -n 1)
@@ -40,11 +49,48 @@ build() {
     if test "$status" != 0; then
         tail -n 40 "$log"
         echo "$1: failed; the whole log is out/$1.log" >&2
-        exit 1
+        return 1
     fi
     test -z "$functions" || echo "$1: $functions functions, $(($(date +%s) - start)) s"
 }
 
-for crate in $(crates_of "$1"); do
-    build "$crate"
+# proves and builds a program beside others: rt lets in one run at a time to a crate and those below it, so this run has
+# a repository of hard links of its own
+build_apart() {
+    room=$PWD/out/$1.room
+    rm -rf "$room"
+    mkdir -p "$room/crates"
+    cp HANDLES "$room"
+    for crate in $(crates_of "$1"); do
+        grep "^$crate:" crates.txt >> "$room/crates.txt"
+        mkdir -p "$room/crates/$crate/out"
+        for part in src specs proofs out/rlib; do
+            test ! -d "crates/$crate/$part" || cp -al "crates/$crate/$part" "$room/crates/$crate/$part"
+        done
+    done
+    # what earlier runs kept of the program
+    test ! -d "crates/$1/out" || cp -al "crates/$1/out/." "$room/crates/$1/out"
+    build "$1" "$room"
+    built=$?
+    rm -rf "crates/$1/out"
+    mv "$room/crates/$1/out" "crates/$1/out"
+    rm -rf "$room"
+    return $built
+}
+
+crates=$(crates_of "$@")
+for crate in $crates; do
+    is_program "$crate" || build "$crate" . || exit 1
 done
+jobs=
+for crate in $crates; do
+    if is_program "$crate"; then
+        build_apart "$crate" &
+        jobs="$jobs $!"
+    fi
+done
+failed=0
+for job in $jobs; do
+    wait "$job" || failed=1
+done
+exit $failed
