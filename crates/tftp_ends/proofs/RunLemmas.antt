@@ -1,5 +1,5 @@
 -- What a run of an end comes to.
-use Rattle.std.proofs.Common.{◌≡◌, ◌≢◌, ℕ, ◌+◌, ◌*◌, ◌<◌, ◌≤◌, ◌-◌, Bool, true, false, List, [], ◌∷◌, length, Option, Some, None, refl, sym, ap, ◌∙◌, subst, arith, inl, inr, mul-add}
+use Rattle.std.proofs.Common.{◌≡◌, ℕ, ◌+◌, ◌*◌, ◌<◌, ◌≤◌, Bool, true, false, List, [], ◌∷◌, length, Option, refl, sym, ap, ◌∙◌, subst, arith, inl, inr, mul-add}
 use Rattle.std.specs.Prelude.{◌==◌, ◌||◌, if◌then◌else◌, is_some}
 use Rattle.std.proofs.lemmas.Bool.{true≢false, cases_eq, eq-eqb, ne_eqb}
 use Rattle.tftp_negotiate.specs.Agreed.{size}
@@ -7,7 +7,6 @@ use Rattle.tftp_negotiate.specs.declared.known.Known.{Known}
 use Rattle.tftp_wire.specs.declared.mode.Mode.{Mode}
 use Rattle.tftp_file.specs.Sink.{Holding}
 use Rattle.tftp_file.specs.declared.fault.StoreFault.{StoreFault}
-use Rattle.tftp_ends.specs.declared.action.Response.{Response}
 use Rattle.tftp_ends.specs.declared.action.Response.TheVariants.{Retransmit, Close}
 use Rattle.tftp_ends.specs.declared.endpoint.Endpoint.{Endpoint}
 use Rattle.tftp_ends.specs.declared.outcome.Outcome.{Outcome}
@@ -17,11 +16,11 @@ use Rattle.tftp_ends.specs.declared.phase.Phase.{Phase}
 use Rattle.tftp_ends.specs.declared.phase.Phase.TheVariants.{Waiting, Sending, Receiving, Dallying, Closed}
 use Rattle.tftp_ends.specs.declared.side.Side.{Side}
 use Rattle.tftp_ends.specs.End.{EndState, is_sender, is_progress, outcome_of, terms_of}
-use Rattle.tftp_ends.specs.Opening.{getting, putting, serving_read, serving_write}
+use Rattle.tftp_ends.specs.Opening.{serving_read, serving_write}
 use Rattle.tftp_ends.specs.Phase.{closed}
 use Rattle.tftp_ends.specs.Run.{IsOpening, Gets, Puts, Serves_read, Serves_write, Event, Datagram, Timeout, Taken, IsOpen, Takes, IsRun, AnswersByProgress, end_behind, count_if, is_timeout, is_data, is_oack, progress_count, timeout_count, data_count, datagram_count, opened_by_data}
 use Rattle.tftp_ends.specs.Step.{Turn, response_turn, timeout_turn}
-use Rattle.tftp_ends.proofs.RunSteps.{Kept, rank, waits, Moves, datagram_moves, one_at_most, not_below_itself, no_progress, waits_at_most, number_kept, refused_rises}
+use Rattle.tftp_ends.proofs.RunSteps.{Kept, rank, waits, datagram_moves, one_at_most, not_below_itself, no_progress, waits_at_most, number_kept, refused_rises}
 
 -- ---- what a timeout leaves
 pub record Waits (e : EndState) (turn : Turn) : Type 0 where
