@@ -1,7 +1,7 @@
 -- A client that opens, and an end that is told to refuse.
 use Rattle.std.proofs.Common.{◌≡◌, ℕ, suc, zero, ◌+◌, ◌<◌, ◌≤◌, true, List, [], ◌∷◌, ◌++◌, length, Some, None, refl, sym, ap, ◌∙◌, subst, arith, length-append}
 use Rattle.tftp_player.specs.Clients.{AskRefuses}
-use Rattle.tftp_player.specs.Today.{RefusesToday, EventRefusesToday}
+use Rattle.tftp_player.specs.WorldSteps.{EventRefuses, WorldRefuses}
 use Rattle.tftp_player.specs.declared.fault.WorldFault.{WorldFault}
 use Rattle.tftp_player.specs.declared.fault.WorldFault.TheVariants.{NoSuchDatagram, NoSuchEnd, NoPort, BadRequest, Memory}
 use Rattle.tftp_wire.specs.declared.mode.Mode.{Mode}
@@ -171,10 +171,10 @@ port_found config sent server ps old count port view e is = is ∙ (ap (λ (n : 
 
 -- why a client did not open
 module _ (old : WorldState) (name : List ℕ) (mode : Mode) (asked : Asked) (has : HasPort old) where
-  pub get_refused : (fault : WorldFault) → AskRefuses (MayGet name mode asked) fault → RefusesToday old (Get name mode asked) fault
+  pub get_refused : (fault : WorldFault) → AskRefuses (MayGet name mode asked) fault → WorldRefuses old (Get name mode asked) fault
   get_refused BadRequest cannot = (has, cannot)
   get_refused Memory can = none where
-    none : (f : WorldFault) → EventRefusesToday old (Get name mode asked) f → ⊥
+    none : (f : WorldFault) → EventRefuses old (Get name mode asked) f → ⊥
     none NoPort h = absurd (omega (arith, h, has))
     none BadRequest h = h.1 can
     none Memory h = h
@@ -184,10 +184,10 @@ module _ (old : WorldState) (name : List ℕ) (mode : Mode) (asked : Asked) (has
   get_refused NoSuchEnd h = absurd h
   get_refused NoPort h = absurd h
 
-  pub put_refused : (file : List ℕ) (fault : WorldFault) → AskRefuses (MayPut name mode asked (length (wire_text mode file))) fault → RefusesToday old (Put name mode asked file) fault
+  pub put_refused : (file : List ℕ) (fault : WorldFault) → AskRefuses (MayPut name mode asked (length (wire_text mode file))) fault → WorldRefuses old (Put name mode asked file) fault
   put_refused file BadRequest cannot = (has, cannot)
   put_refused file Memory can = none where
-    none : (f : WorldFault) → EventRefusesToday old (Put name mode asked file) f → ⊥
+    none : (f : WorldFault) → EventRefuses old (Put name mode asked file) f → ⊥
     none NoPort h = absurd (omega (arith, h, has))
     none BadRequest h = h.1 can
     none Memory h = h

@@ -1,8 +1,6 @@
--- What is supported so far of what may happen in a world, and how its calls are refused today.
+-- What is supported so far of what may happen in a world.
 use Rattle.std.specs.Prelude.{ℕ, ◌≡◌, ◌≢◌, ◌+◌, ◌<◌, ⊤, List, ◌++◌, length, slice_get, Option, Some}
 use Rattle.tftp_wire.specs.declared.packet.Packet.{Packet}
-use Rattle.tftp_file.specs.Netascii.{wire_text}
-use Rattle.tftp_ends.specs.Opening.{MayGet, MayPut}
 use Rattle.tftp_ends.specs.Action.{Decodes}
 use Rattle.tftp_server.specs.Request.{supported}
 use Rattle.tftp_player.specs.Effect.{said_by, report_by}
@@ -12,25 +10,15 @@ use Rattle.tftp_player.specs.Requests.{service}
 use Rattle.tftp_player.specs.Serving.{PlayedServer}
 use Rattle.tftp_player.specs.Stage.{world_of}
 use Rattle.tftp_player.specs.World.{WorldState, resting}
-use Rattle.tftp_player.specs.WorldSteps.{HasPort, LacksPort, EventRefuses, MemoryLast, WorldStep, Serves, Arrives}
+use Rattle.tftp_player.specs.WorldSteps.{HasPort, LacksPort, WorldStep, Serves, Arrives}
 use Rattle.tftp_player.specs.declared.datagram.Datagram.{Datagram}
 use Rattle.tftp_player.specs.declared.effect.Effect.{Effect}
 use Rattle.tftp_player.specs.declared.player.Player.{Player}
 use Rattle.tftp_player.specs.declared.report.Report.{Report}
 use Rattle.tftp_player.specs.declared.event.Event.{Event}
-use Rattle.tftp_player.specs.declared.event.Event.TheVariants.{Get, Put, Deliver, Stray}
+use Rattle.tftp_player.specs.declared.event.Event.TheVariants.{Deliver, Stray}
 use Rattle.tftp_player.specs.declared.fault.WorldFault.{WorldFault}
-use Rattle.tftp_player.specs.declared.fault.WorldFault.TheVariants.{NoPort, BadRequest, Memory}
-
--- why an event is refused, memory aside
-abbrev pub EventRefusesToday : WorldState → Event → WorldFault → Type 0
-EventRefusesToday w (Get name mode asked) BadRequest = HasPort w × (MayGet name mode asked → ⊥)
-EventRefusesToday w (Put name mode asked bytes) BadRequest = HasPort w × (MayPut name mode asked (length (wire_text mode bytes)) → ⊥)
-EventRefusesToday w event fault = EventRefuses w event fault
-
--- why an event is refused today
-abbrev pub RefusesToday : WorldState → Event → WorldFault → Type 0
-RefusesToday w event fault = MemoryLast (EventRefusesToday w event) fault
+use Rattle.tftp_player.specs.declared.fault.WorldFault.TheVariants.{NoPort, Memory}
 
 -- what arrived where, as far as the request port supports it, and then closed ends at rest
 pub data ArrivesToday (old : WorldState) (from to : Endpoint) (bytes : List ℕ) (report : Report) (new : WorldState) : Type 0 where

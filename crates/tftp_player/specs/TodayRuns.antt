@@ -1,6 +1,7 @@
 -- How an event handles a world today keeps it safe.
 use Rattle.std.specs.Prelude.{ℕ, ◌≡◌, ◌+◌, ◌<◌, ◌≤◌, ◌⊎◌, Bool, List, [], ◌∷◌, length}
-use Rattle.tftp_player.specs.Today.{StepToday, RefusesToday}
+use Rattle.tftp_player.specs.Today.{StepToday}
+use Rattle.tftp_player.specs.WorldSteps.{WorldRefuses}
 use Rattle.tftp_player.specs.World.{WorldState}
 use Rattle.tftp_player.specs.WorldKept.{IsOk}
 use Rattle.tftp_player.specs.WorldRuns.{MayHappen}
@@ -35,4 +36,4 @@ pub record StopsAt (old : WorldState) (from most : ℕ) (fault : WorldFault) (ne
   pub delivered : Delivered old from reports new
   pub fewer : length reports < most
   pub left : from + length reports < length new.sent
-  pub refused : RefusesToday new (Deliver (from + length reports)) fault
+  pub refused : WorldRefuses new (Deliver (from + length reports)) fault

@@ -7,7 +7,8 @@ ghost use Rattle.tftp_player.specs.Machine.{host_of, Elsewhere};
 ghost use Rattle.tftp_player.specs.Played.{records_from};
 ghost use Rattle.tftp_player.specs.PlayedWorld.{strayed_after, HasSentEach, IsHome};
 ghost use Rattle.tftp_player.specs.Stage.{stored_at, committed_at};
-ghost use Rattle.tftp_player.specs.Today.{StepToday, RefusesToday, IsPlayable};
+ghost use Rattle.tftp_player.specs.Today.{StepToday, IsPlayable};
+ghost use Rattle.tftp_player.specs.WorldSteps.{WorldRefuses};
 ghost use Rattle.tftp_player.specs.TodayRuns.{Settled, StopsAt};
 ghost use Rattle.tftp_player.specs.World.{new_world, file_at};
 ghost use Rattle.tftp_player.specs.WorldSafety.{IsSafe};
@@ -134,7 +135,7 @@ impl World {
         ensures steps { IfOk result (λ report.
             StepToday self.old.state event report self.new.state) }
         ensures strayed { OnOk result (self.new.strayed ≡ strayed_after self.old.strayed event) }
-        ensures refused { IfErr result (RefusesToday self.old.state event) }
+        ensures refused { IfErr result (WorldRefuses self.old.state event) }
         ensures err { OnErr result (self.new ≡ self.old) }
         // what it leaves is safe, and without strays every peer is at one of the two hosts
         ensures safe { IsSafe self.new.state }

@@ -3,7 +3,7 @@
 ghost use Rattle.std.specs.Prelude.{◌≡◌, true, IfOk, IfErr, OnErr};
 ghost use Rattle.tftp_ends.specs.End.{is_client};
 ghost use Rattle.tftp_player.specs.Stage.{Enters};
-ghost use Rattle.tftp_player.specs.Today.{RefusesToday};
+ghost use Rattle.tftp_player.specs.WorldSteps.{WorldRefuses};
 ghost use Rattle.tftp_player.specs.World.{next_port};
 ghost use Rattle.tftp_player.specs.WorldSteps.{WorldStep};
 ghost use Rattle.tftp_player.specs.declared.event.Event.TheVariants.{Get, Put};
@@ -28,7 +28,7 @@ impl Stage {
     ) -> Result<Report, WorldFault>
         ensures steps { IfOk result (λ report.
             WorldStep self.old (Get name.now mode asked.now) report self.new) }
-        ensures refused { IfErr result (RefusesToday self.old (Get name.now mode asked.now)) }
+        ensures refused { IfErr result (WorldRefuses self.old (Get name.now mode asked.now)) }
         ensures err { OnErr result (self.new ≡ self.old) }
     {
         let Some(port) = port_of(self.players.len()) else {
@@ -54,7 +54,7 @@ impl Stage {
     ) -> Result<Report, WorldFault>
         ensures steps { IfOk result (λ report.
             WorldStep self.old (Put name.now mode asked.now file) report self.new) }
-        ensures refused { IfErr result (RefusesToday self.old (Put name.now mode asked.now file)) }
+        ensures refused { IfErr result (WorldRefuses self.old (Put name.now mode asked.now file)) }
         ensures err { OnErr result (self.new ≡ self.old) }
     {
         let Some(port) = port_of(self.players.len()) else {
