@@ -110,14 +110,15 @@ file empty -
 get \xff= netascii tsize timeout=255 blksize=65464
 deliver 18446744073709551615
 timeout 65535
-settle 0
+settle 9
 ";
 
-/// Today no client asks in netascii.
+/// In netascii no `tsize` is sent, and beyond the last datagram nothing is settled.
 const WHOLE_OUTPUT: &str = "\
-refused BadRequest
+#0 10.0.0.2:1024 > 10.0.0.1:69 RRQ %ff%3d netascii blksize=65464 timeout=255
 refused NoSuchDatagram
 refused NoSuchEnd
+end 1024 client-read peer=none size=512 number=0 complete=no open
 ";
 
 fn plays(
@@ -142,7 +143,7 @@ fn plays(
 
 #[test]
 fn whole_scripts(rt: HostRuntime) -> Result<(), Fail> {
-    plays(&rt, rt.alloc(), WHOLE, WHOLE_OUTPUT, 0)
+    plays(&rt, rt.alloc(), WHOLE, WHOLE_OUTPUT, 1)
 }
 
 /// What the lines before the first event set, as far as it shows in a run.
