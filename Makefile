@@ -1,11 +1,12 @@
 # make run: proves the programs, builds them into bin/ and runs the main job on a small sample
 # make test: the gate, every proof from nothing
 # make bench: the benchmarks of bench/, which are no tests
+# make bench-udp: tftpd and tftp beside the other servers and clients that are installed
 
 PROGRAMS := bin/tftp-show bin/tftp-play bin/tftp bin/tftpd
 SOURCES := $(shell find crates -path '*/out' -prune -o \( -name '*.rt' -o -name '*.antt' \) -print) crates.txt
 
-.PHONY: run test bench clean
+.PHONY: run test bench bench-udp clean
 # one after another: each crate is proved by as many processors as there are
 .NOTPARALLEL:
 
@@ -31,6 +32,9 @@ bench: $(PROGRAMS)
 	@cd crates/tftp_ends_bench && rt run -- 512 0 1 > /dev/null
 	bench/ends/run.py crates/tftp_ends_bench/out/tftp_ends_bench
 	python3 bench/play/plays.py bin/tftp-play
+
+bench-udp: bin/tftpd bin/tftp
+	python3 bench/udp/run.py bin/tftpd bin/tftp
 
 clean:
 	rm -rf bin out crates/*/out
