@@ -27,5 +27,6 @@ pub mod Today
 pub mod TodayRuns
 pub mod Strangers
 pub mod Completing
+pub mod OneAtMost
 pub mod Straight
 pub mod Draw

@@ -1,0 +1,70 @@
+-- What an event adds to all that was sent.
+use Rattle.std.proofs.Common.{◌≡◌, ℕ, ◌≤◌, Bool, true, false, List, [], ◌∷◌, length, Option, Some, None, sym, ap, ◌∙◌, arith}
+use Rattle.std.proofs.lemmas.List.{append-nil}
+use Rattle.tftp_ends.specs.Step.{Turn, Reply}
+use Rattle.tftp_file.specs.declared.files.Files.{Files}
+use Rattle.tftp_file.specs.Sink.{Holding}
+use Rattle.tftp_server.specs.Port.{Service, Silent, Refused, Sends, Takes}
+use Rattle.tftp_player.specs.Machine.{Endpoint}
+use Rattle.tftp_player.specs.OneAtMost.{AddsOneAtMost, EventsAddOneAtMost}
+use Rattle.tftp_player.specs.World.{WorldState, OpenedEnd, replied}
+use Rattle.tftp_player.specs.WorldSteps.{Serves, Arrives, At_request_port, At_open_end, At_closed_end, At_nobody, Opens, Stays, Turns, TimesOut, EventStep}
+use Rattle.tftp_player.specs.declared.event.Event.{Event}
+use Rattle.tftp_player.specs.declared.event.Event.TheVariants.{Get, Put, Deliver, Timeout, RefuseStore, Stray}
+use Rattle.tftp_player.specs.declared.report.Report.{Report}
+
+-- nothing was sent
+none : (old new : WorldState) → new.sent ≡ old.sent → AddsOneAtMost old new
+none old new e = record { said = []; few = omega arith; sent = e ∙ sym (append-nil old.sent) }
+
+stays : (old new : WorldState) (report : Report) → Stays old report new → AddsOneAtMost old new
+stays old new report s = none old new (ap (λ (w : WorldState). w.sent) s.is)
+
+-- an end opened
+opens : (old new : WorldState) (x : OpenedEnd) (report : Report) → Opens old x report new → AddsOneAtMost old new
+opens old new x report o = record {
+  said = record { from = x.address; to = x.state.last_sent_to; bytes = x.state.last_sent } ∷ [];
+  few = omega arith;
+  sent = ap (λ (w : WorldState). w.sent) o.is;
+}
+
+-- an end made a turn
+few_replied : (at : Endpoint) (reply : Option Reply) → length (replied at reply) ≤ 1
+few_replied at None = omega arith
+few_replied at (Some reply) = omega arith
+
+turns : (old new : WorldState) (k : ℕ) (x : OpenedEnd) (turn : Turn) (held : Files (List ℕ) Holding) (report : Report) → Turns old k x turn held report new → AddsOneAtMost old new
+turns old new k x turn held report t = record {
+  said = replied x.address turn.reply;
+  few = few_replied x.address turn.reply;
+  sent = ap (λ (w : WorldState). w.sent) t.is;
+}
+
+serves : (service : Service) (old new : WorldState) (from : Endpoint) (report : Report) → Serves service old from report new → AddsOneAtMost old new
+serves Silent old new from report s = stays old new report s
+serves (Refused reply) old new from report s = record { said = _; few = omega arith; sent = ap (λ (w : WorldState). w.sent) s.1 }
+serves (Sends path mode length agreed) old new from report s = opens old new _ report s.2
+serves (Takes path mode agreed) old new from report s = opens old new _ report s
+
+arrives : (old new : WorldState) (from to : Endpoint) (bytes : List ℕ) (report : Report) → Arrives old from to bytes report new → AddsOneAtMost old new
+arrives old new from to bytes report (At_request_port here port decoded says served) = serves _ old new from report served
+arrives old new from to bytes report (At_open_end k x there at open_now takes) = turns old new k x takes.turn takes.held report takes.turns
+arrives old new from to bytes report (At_closed_end k x there at closed_now s) = stays old new report s
+arrives old new from to bytes report (At_nobody away nobody s) = stays old new report s
+
+times_out : (b : Bool) (old new : WorldState) (k : ℕ) (x : OpenedEnd) (report : Report) → TimesOut b old k x report new → AddsOneAtMost old new
+times_out true old new k x report s = stays old new report s
+times_out false old new k x report t = turns old new k x _ _ report t
+
+happens : (old new : WorldState) (event : Event) (report : Report) → EventStep old event report new → AddsOneAtMost old new
+happens old new (Get name mode asked) report s = opens old new _ report s.2
+happens old new (Put name mode asked bytes) report s = opens old new _ report s.2
+happens old new (Deliver i) report s = arrives old new _ _ _ report s.2
+happens old new (Timeout port) report s = times_out _ old new _ _ report s.3
+happens old new (RefuseStore port) report s = none old new (ap (λ (w : WorldState). w.sent) s.4)
+happens old new (Stray from to bytes) report s = arrives old new _ _ _ report s.1
+
+pub events_add_one_at_most : EventsAddOneAtMost
+events_add_one_at_most old new event report s =
+    let a = happens old s.0 event report s.1 in
+    record { said = a.said; few = a.few; sent = ap (λ (w : WorldState). w.sent) s.2 ∙ a.sent }

@@ -1,0 +1,18 @@
+-- What an event adds to all that was sent.
+use Rattle.std.specs.Prelude.{◌≡◌, ◌≤◌, List, ◌++◌, length}
+use Rattle.tftp_player.specs.World.{WorldState}
+use Rattle.tftp_player.specs.WorldSteps.{WorldStep}
+use Rattle.tftp_player.specs.declared.datagram.Datagram.{Datagram}
+use Rattle.tftp_player.specs.declared.event.Event.{Event}
+use Rattle.tftp_player.specs.declared.report.Report.{Report}
+
+-- one datagram at most was added behind all that was sent, of which nothing is taken off
+pub record AddsOneAtMost (old new : WorldState) : Type 0 where
+  pub said : List Datagram
+  pub few : length said ≤ 1
+  pub sent : new.sent ≡ old.sent ++ said
+
+-- so does each event
+abbrev pub EventsAddOneAtMost : Type 0
+EventsAddOneAtMost =
+    (old new : WorldState) (event : Event) (report : Report) → WorldStep old event report new → AddsOneAtMost old new
