@@ -8,6 +8,8 @@ mod end_rows;
 #[cfg(test)]
 mod lending_rows;
 #[cfg(test)]
+mod netascii_end_rows;
+#[cfg(test)]
 mod port_rows;
 #[cfg(test)]
 mod read_rows;
@@ -15,3 +17,5 @@ mod read_rows;
 mod store_rows;
 #[cfg(test)]
 mod write_rows;
+#[cfg(test)]
+mod wrong_rows;
