@@ -1,3 +1,4 @@
 pub mod ScriptLemmas
 pub mod ShowLemmas
 pub mod DigitsLemmas
+pub mod PlayableLemmas

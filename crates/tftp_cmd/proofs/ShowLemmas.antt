@@ -1,18 +1,18 @@
 -- The lines of an input, taken one by one, and what is printed for them.
-use Rattle.std.proofs.Common.{ℕ, suc, ◌≡◌, ◌<◌, ◌-◌, Bool, true, false, cond, ◌&&◌, eqb, refl, ap, sym, subst, ◌∙◌, arith, lt-ltb, List, [], ◌∷◌, ◌++◌, length, append_assoc, append-nil, Option, Some, None, codes}
+use Rattle.std.proofs.Common.{ℕ, suc, ◌≡◌, ◌<◌, ◌-◌, Bool, true, false, cond, ◌&&◌, eqb, refl, ap, sym, subst, ◌∙◌, arith, lt-ltb, List, [], ◌∷◌, ◌++◌, length, append_assoc, Option, Some, None}
 use Rattle.std.specs.Prelude.{⊤, MatchResult, IfOk, IsErrAnd, IfSome}
-use Rattle.std.proofs.Math.Bool.{and_assoc, and-true}
+use Rattle.std.proofs.Math.Bool.{and_assoc}
 use Rattle.std.specs.declared.result.Result.{Result}
 use Rattle.std.specs.declared.result.Result.TheVariants.{Ok, Err}
 use Rattle.std.specs.Io.BufRead.{take_through, drop_through, strip_last, DropsThrough}
-use Rattle.std.specs.Io.KnownBytes.{Keeps, Appends, IsAtEnd}
+use Rattle.std.specs.Io.KnownBytes.{Appends}
 use Rattle.hex.specs.Hex.{decode_of}
 use Rattle.hex.specs.declared.error.FromHexError.{FromHexError}
 use Rattle.tftp_wire.specs.declared.packet.Packet.{Packet}
 use Rattle.tftp_wire.specs.Line.{line}
 use Rattle.tftp_wire.specs.Parts.{packet_in}
 use Rattle.tftp_wire.specs.Reading.{first_fault}
-use Rattle.tftp_cmd.specs.Show.{onto_first, lines_of, datagram_shown, decoded_shown, line_shown, spells_packet, Decodes, are_packets, input_shown}
+use Rattle.tftp_cmd.specs.Show.{onto_first, lines_of, datagram_shown, line_shown, spells_packet, Decodes, are_packets, input_shown}
 
 by_test : {G : Type 0} (b : Bool) → (b ≡ true → G) → (b ≡ false → G) → G
 by_test true holds fails = holds refl
@@ -28,11 +28,6 @@ packet_shown p bytes none found = sym (ap (datagram_shown bytes) none ∙ ap lin
 pub is_decoded : (d : Result (List ℕ) FromHexError) (b : Bool) (new : List ℕ) → Decodes d b new → b ≡ true → d ≡ Ok new
 is_decoded (Ok bytes) b new h e = ap Ok (sym h.1)
 is_decoded (Err f) b new h e = absurd (cc)
-
--- digits that are not
-pub no_packet : (d : Result (List ℕ) FromHexError) (b : Bool) (new : List ℕ) → Decodes d b new → b ≡ false → (false ≡ spells_packet d) × (codes "not hex" ≡ decoded_shown d)
-no_packet (Ok bytes) b new h e = absurd (cc)
-no_packet (Err f) b new h e = (refl, refl)
 
 -- another error in the place of one
 pub kept_ok : {E D : Type 0} (r : Result Bool E) (s : Result Bool D) (Q : E → D → Type 0) (P : Bool → Type 0) → MatchResult r (λ x. s ≡ Ok x) (λ e. IsErrAnd s (Q e)) → IfOk r P → IfOk s P
@@ -91,12 +86,6 @@ GoesOn None left start now packets = ⊤
 GoesOn (Some all) None start now packets = ⊥
 GoesOn (Some all) (Some left) start now packets = ((packets && are_packets left) ≡ are_packets all) × Owes start now left all
 
--- before the first line
-pub begins : (input output : Option (List ℕ)) → GoesOn input input output output true
-begins None output = tt
-begins (Some all) None = (refl, tt)
-begins (Some all) (Some start) = (refl, refl)
-
 -- what was read of some bytes is a line only if there are some
 some_left : (left : List ℕ) → 0 < length (take_through 10 left) → 0 < length left
 some_left [] h = h
@@ -131,21 +120,3 @@ goes_on (Some all) (Some left) left' start now now' packets is_packet read text 
           ∙ g.0,
       owed_after start now now' left all text h' (e ∙ ap (λ l. line_shown (strip_last 10 l) ++ 10 ∷ []) r) g.1 a,
     )
-
-written_all : (start now now' : Option (List ℕ)) (all : List ℕ) → Owes start now [] all → Keeps now now' → Appends start now' (input_shown all)
-written_all None now now' all o k = tt
-written_all (Some start) None now' all o k = absurd o
-written_all (Some start) (Some now) None all o k = absurd k
-written_all (Some start) (Some now) (Some now') all o k = k ∙ sym (append-nil now) ∙ o
-
--- at the end of the input, all of it is written
-pub ends_written : (input left start now now' : Option (List ℕ)) (packets : Bool) → GoesOn input left start now packets → IsAtEnd left → Keeps now now' → IfSome input (λ all. Appends start now' (input_shown all))
-ends_written None left start now now' packets g e k = tt
-ends_written (Some all) None start now now' packets g e k = absurd g
-ends_written (Some all) (Some left) start now now' packets g e k = written_all start now now' all (subst (λ l. Owes start now l all) e g.1) k
-
--- and it is known whether all lines were packets
-pub ends_known : (input left start now : Option (List ℕ)) (packets : Bool) → GoesOn input left start now packets → IsAtEnd left → IfSome input (λ all. packets ≡ are_packets all)
-ends_known None left start now packets g e = tt
-ends_known (Some all) None start now packets g e = absurd g
-ends_known (Some all) (Some left) start now packets g e = sym (and-true packets) ∙ ap (λ l. packets && are_packets l) (sym e) ∙ g.0

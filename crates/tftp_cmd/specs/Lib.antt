@@ -1,6 +1,7 @@
 pub mod ClientEnd
 pub mod Fallback
 pub mod Play
+pub mod Playable
 pub mod Printed
 pub mod Progress
 pub mod Show

@@ -6,14 +6,14 @@ ghost use Rattle.tftp_server.specs.Memory.{contents, has_distinct_paths};
 
 mod keyword;
 mod line;
+mod statement;
 mod word;
 
 use line::LineFault;
+pub(crate) use statement::{Playable, Statement};
 use std::alloc::Global;
 use tftp_file::Path;
-use tftp_negotiate::Asked;
 use tftp_server::Config;
-use tftp_wire::{Bytes, Mode};
 
 /// What a script says: how the server is set, which files it has, and what then happens.
 #[derive(Drop)]
@@ -26,23 +26,6 @@ pub(crate) struct Script {
     pub statements: Vec<Statement>,
     ghost valid: { IsConfig config },
     ghost distinct: { has_distinct_paths (contents files.items) ≡ true },
-}
-
-/// A line on which something happens.
-#[derive(Drop)]
-pub(crate) enum Statement {
-    /// A client asks for the server's file of this name.
-    Get {
-        name: Bytes,
-        mode: Mode,
-        asked: Asked,
-    },
-    /// The datagram at this place of all that was sent arrives.
-    Deliver(usize),
-    /// The end at this port has waited long enough.
-    Timeout(u16),
-    /// The datagram at this place arrives, then the next, and so on, new ones too.
-    Settle(usize),
 }
 
 /// Why a script cannot be played.

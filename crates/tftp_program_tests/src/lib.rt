@@ -8,8 +8,12 @@ mod faulty_streams;
 #[cfg(test)]
 mod play_rows;
 #[cfg(test)]
+mod playing;
+#[cfg(test)]
 mod script_rows;
 #[cfg(test)]
 mod show_rows;
+#[cfg(test)]
+mod stray_rows;
 #[cfg(test)]
 mod waiting_rows;

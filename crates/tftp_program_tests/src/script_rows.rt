@@ -6,7 +6,7 @@ use std::test::Fail;
 use tftp_cmd::play_run;
 
 /// Scripts, and the number of their first faulty line.
-const FAULTS: [(&[u8], usize); 58] = [
+const FAULTS: [(&[u8], usize); 82] = [
     // lines and words
     (b"#", 1),
     (b"\n# no end", 2),
@@ -20,7 +20,6 @@ const FAULTS: [(&[u8], usize); 58] = [
     (b"deliver 0\r\n", 1),
     (b"\r\n", 1),
     (b"deliver 0\nstop\nstop\n", 2),
-    (b"put a octet 41\n", 1),
     (b"\xff\n", 1),
     // numbers
     (b"deliver 00\n", 1),
@@ -40,7 +39,9 @@ const FAULTS: [(&[u8], usize); 58] = [
     (b"set max-block 7\n", 1),
     (b"set max-block 65465\n", 1),
     (b"set max-file 18446744073709551616\n", 1),
-    (b"set overwrite yes\n", 1),
+    (b"set overwrite no\n", 1),
+    (b"set overwrite\n", 1),
+    (b"refuse 1\nset overwrite yes\n", 2),
     (b"settle 0\nset cap 1\n", 2),
     (b"timeout 1\nset retries 5\n", 2),
     // files
@@ -70,6 +71,33 @@ const FAULTS: [(&[u8], usize); 58] = [
     (b"get a octet timeout=256\n", 1),
     (b"get a octet tsize=0\n", 1),
     (b"get a octet tsize tsize\n", 1),
+    // writes
+    (b"put a octet\n", 1),
+    (b"put a mail 41\n", 1),
+    (b"put a octet 4\n", 1),
+    (b"put a octet 41*0\n", 1),
+    (b"put a octet 41 blksize=65465\n", 1),
+    (b"put a octet 41 tsize=1\n", 1),
+    // stores that refuse
+    (b"refuse\n", 1),
+    (b"refuse 65536\n", 1),
+    // drawn events
+    (b"random 1\n", 1),
+    (b"random -1 1\n", 1),
+    (b"random 1 18446744073709551616\n", 1),
+    // strays, of neither host
+    (b"stray 10.0.0.9:1 10.0.0.1:69\n", 1),
+    (b"stray 10.0.0.9:1 10.0.0.1:69 -\n", 1),
+    (b"stray 10.0.0.9:1 10.0.0.1:69 000\n", 1),
+    (b"stray 10.0.0.9:1 10.0.0.1:69 00*2\n", 1),
+    (b"stray 10.0.0.9 10.0.0.1:69 00\n", 1),
+    (b"stray 10.0.0.9:01 10.0.0.1:69 00\n", 1),
+    (b"stray 10.0.0.9:65536 10.0.0.1:69 00\n", 1),
+    (b"stray 10.0.0.09:1 10.0.0.1:69 00\n", 1),
+    (b"stray 10.0.9:1 10.0.0.1:69 00\n", 1),
+    (b"stray 10.0.0.9:1 host:69 00\n", 1),
+    (b"stray 10.0.0.1:1 10.0.0.1:69 00\n", 1),
+    (b"stray 10.0.0.2:1 10.0.0.1:69 00\n", 1),
 ];
 
 fn is_faulty(rt: &impl Abort, alloc: Global, script: &[u8], number: usize) -> Result<(), Fail> {

@@ -1,17 +1,20 @@
 //! The run of a script: its statements are events of a world, and what they did is printed.
 
 ghost use Rattle.std.specs.Prelude.{◌≡◌, true};
+ghost use Rattle.tftp_player.specs.Today.{IsPlayable};
 ghost use Rattle.tftp_server.specs.Config.{IsConfig};
 ghost use Rattle.tftp_server.specs.Memory.{contents, has_distinct_paths};
 
 use crate::play::PlayFault;
-use crate::script::Statement;
+use crate::script::{Playable, Statement};
 use crate::show::show_datagram;
+use rand_core::SeedableRng;
+use rand_pcg::Pcg32;
 use std::alloc::{AllocError, Global};
 use std::io::{BufWriter, Write};
 use tftp_ends::{Record, Side};
 use tftp_file::Path;
-use tftp_player::{Event, Report, World, WorldFault};
+use tftp_player::{Event, Report, World, WorldFault, draw};
 use tftp_server::Config;
 
 /// Most deliveries of one settling.
@@ -44,16 +47,32 @@ impl<W: Write + Drop> ScriptRun<W> {
     }
 
     /// Executes a statement, and writes what it did.
+    #[tactic(auto, using(crate::proofs::PlayableLemmas::played))]
     pub(crate) fn execute(&mut self, statement: Statement) -> Result<(), PlayFault> {
-        let effect = match statement {
-            Statement::Get { name, mode, asked } => {
-                self.world.apply(Event::Get { name, mode, asked })
-            }
-            Statement::Deliver(place) => self.world.apply(Event::Deliver(place)),
-            Statement::Timeout(port) => self.world.apply(Event::Timeout(port)),
-            Statement::Settle(place) => return self.settle(place),
-        };
+        match statement {
+            Statement::Event(Playable { event }) => self.play(event),
+            Statement::Settle(place) => self.settle(place),
+            Statement::Random { seed, count } => self.play_drawn(seed, count),
+        }
+    }
+
+    /// Plays an event, and writes what it did.
+    fn play(&mut self, event: Event) -> Result<(), PlayFault>
+        requires { IsPlayable event }
+    {
+        let effect = self.world.apply(event);
         self.write_effect(effect)
+    }
+
+    /// Plays so many events that the generator of this seed draws, none while no end was opened.
+    fn play_drawn(&mut self, seed: u64, count: u64) -> Result<(), PlayFault> {
+        let mut rng = Pcg32::seed_from_u64(seed);
+        for _ in 0..count {
+            if let Some(event) = draw(&mut rng, &self.world) {
+                self.play(event)?;
+            }
+        }
+        Ok(())
     }
 
     /// Writes how far each end came, and answers whether every client is complete.

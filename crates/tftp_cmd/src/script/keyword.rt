@@ -12,12 +12,20 @@ pub(crate) enum Keyword {
     File,
     /// A client that asks for a file.
     Get,
+    /// A client that sends a file.
+    Put,
     /// A datagram that arrives.
     Deliver,
     /// An end that has waited long enough.
     Timeout,
+    /// A receiver whose store is to refuse.
+    Refuse,
     /// Datagrams that arrive one after another.
     Settle,
+    /// Events that are drawn.
+    Random,
+    /// A datagram of neither host.
+    Stray,
 }
 
 impl Keyword {
@@ -27,9 +35,13 @@ impl Keyword {
             "set" => Ok(Keyword::Set),
             "file" => Ok(Keyword::File),
             "get" => Ok(Keyword::Get),
+            "put" => Ok(Keyword::Put),
             "deliver" => Ok(Keyword::Deliver),
             "timeout" => Ok(Keyword::Timeout),
+            "refuse" => Ok(Keyword::Refuse),
             "settle" => Ok(Keyword::Settle),
+            "random" => Ok(Keyword::Random),
+            "stray" => Ok(Keyword::Stray),
             _ => Err(LineFault::Faulty),
         }
     }

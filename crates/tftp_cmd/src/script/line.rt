@@ -1,18 +1,20 @@
 //! What one line of a script says.
 
-ghost use Rattle.std.specs.Prelude.{◌≡◌, ◌≢◌, is_some};
+ghost use Rattle.std.specs.Prelude.{◌≡◌, ◌≢◌, is_some, true};
+ghost use Rattle.tftp_cmd.specs.Playable.{is_playable};
 ghost use Rattle.tftp_cmd.specs.declared.script.line.LineFault.TheVariants.{Faulty, Memory};
 ghost use Rattle.tftp_file.specs.declared.path.PathFault.TheVariants as path_faults;
 ghost use Rattle.tftp_server.specs.Memory.{contents};
 ghost use Rattle.tftp_server.specs.Store.{file_at};
 
 use crate::script::keyword::Keyword;
-use crate::script::word::{asked, content, mode, number, text};
-use crate::script::{Script, Statement};
+use crate::script::statement::{get, put, random, stray};
+use crate::script::word::{content, number, text, yes};
+use crate::script::{Playable, Script, Statement};
 use std::alloc::{AllocError, AllocFailed, Global};
 use std::str::FromStr;
 use tftp_file::{Path, PathFault, path_of};
-use tftp_wire::Bytes;
+use tftp_player::Event;
 
 /// Why a line is refused.
 #[derive(Clone, Copy)]
@@ -49,9 +51,13 @@ impl Script {
             Keyword::Set => self.parse_setting(arguments),
             Keyword::File => self.parse_file(alloc, arguments),
             Keyword::Get => self.push(get(alloc, arguments)?),
-            Keyword::Deliver => self.push(Statement::Deliver(only_number(arguments)?)),
-            Keyword::Timeout => self.push(Statement::Timeout(only_number(arguments)?)),
+            Keyword::Put => self.push(put(alloc, arguments)?),
+            Keyword::Deliver => self.push_event(Event::Deliver(only_number(arguments)?)),
+            Keyword::Timeout => self.push_event(Event::Timeout(only_number(arguments)?)),
+            Keyword::Refuse => self.push_event(Event::RefuseStore(only_number(arguments)?)),
             Keyword::Settle => self.push(Statement::Settle(only_number(arguments)?)),
+            Keyword::Random => self.push(random(arguments)?),
+            Keyword::Stray => self.push(stray(alloc, arguments)?),
         }
     }
 
@@ -66,6 +72,7 @@ impl Script {
             "max-block" => config.limits.max_block = number(value)?,
             "max-file" => config.limits.max_file = number(value)?,
             "cap" => config.cap = number(value)?,
+            "overwrite" => config.overwrite = yes(value)?,
             _ => return Err(LineFault::Faulty),
         }
         if !config.is_valid() {
@@ -92,21 +99,16 @@ impl Script {
         Ok(())
     }
 
+    fn push_event(&mut self, event: Event) -> Result<(), LineFault>
+        requires { is_playable event ≡ true }
+    {
+        self.push(Statement::Event(Playable { event }))
+    }
+
     fn push(&mut self, statement: Statement) -> Result<(), LineFault> {
         self.statements.push(statement)?;
         Ok(())
     }
-}
-
-/// `get NAME MODE OPTIONS`: a client asks for a file.
-fn get(alloc: Global, arguments: &[&[u8]]) -> Result<Statement, LineFault> {
-    let [name, word, options @ ..] = arguments else {
-        return Err(LineFault::Faulty);
-    };
-    let mode = mode(word)?;
-    let asked = asked(options)?;
-    let name = Bytes::from_slice(alloc, name)?;
-    Ok(Statement::Get { name, mode, asked })
 }
 
 /// The number that is the only argument.

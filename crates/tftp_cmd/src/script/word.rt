@@ -9,9 +9,11 @@ ghost use Rattle.tftp_wire.specs.Modes.{mode_word};
 use crate::script::line::LineFault;
 use hex::FromHexError;
 use std::alloc::Global;
+use std::net::Ipv4Addr;
 use std::str::FromStr;
+use tftp_ends::Endpoint;
 use tftp_negotiate::Asked;
-use tftp_wire::Mode;
+use tftp_wire::{Bytes, Mode};
 
 /// Most bytes of a file.
 const MAX_CONTENT: usize = 100_000_000;
@@ -39,8 +41,9 @@ pub(crate) fn mode(word: &[u8]) -> Result<Mode, LineFault>
     }
 }
 
-/// The options of a read: `blksize=N`, `timeout=N` and `tsize`, each at most once and in its range.
-pub(crate) fn asked(options: &[&[u8]]) -> Result<Asked, LineFault>
+/// The options of a request: `blksize=N`, `timeout=N` and `tsize`, each at most once and in its range;
+/// `tsize` stands for this length, in bytes.
+pub(crate) fn asked(options: &[&[u8]], length: u64) -> Result<Asked, LineFault>
     ensures { IfOk result IsAskable }
 {
     let mut asked = Asked::default();
@@ -53,7 +56,7 @@ pub(crate) fn asked(options: &[&[u8]]) -> Result<Asked, LineFault>
             Some(("timeout", seconds)) if asked.timeout.is_none() => {
                 asked.timeout = Some(number(seconds.as_bytes())?);
             }
-            None if option == "tsize" && asked.tsize.is_none() => asked.tsize = Some(0),
+            None if option == "tsize" && asked.tsize.is_none() => asked.tsize = Some(length),
             _ => return Err(LineFault::Faulty),
         }
     }
@@ -87,11 +90,30 @@ fn repeated(alloc: Global, digits: &str, count: usize) -> Result<Vec<u8>, LineFa
     if length == 0 || length > MAX_CONTENT {
         return Err(LineFault::Faulty);
     }
-    let mut content = Vec::with_capacity(alloc, length)?;
-    for _ in 0..count {
-        content.extend_from_slice(bytes.as_slice())?;
+    Ok(bytes.as_slice().repeat(alloc, count)?)
+}
+
+/// The bytes that hexadecimal digits stand for.
+pub(crate) fn bytes(alloc: Global, word: &[u8]) -> Result<Bytes, LineFault> {
+    Ok(Bytes::from(hex::decode(alloc, text(word)?)?))
+}
+
+/// An IPv4 address and a UDP port, `A.B.C.D:PORT`.
+pub(crate) fn endpoint(word: &[u8]) -> Result<Endpoint, LineFault> {
+    let (address, port) = text(word)?.split_once(':').ok_or(LineFault::Faulty)?;
+    let address: Ipv4Addr = address.parse().map_err(|_| LineFault::Faulty)?;
+    Ok(Endpoint {
+        ip: address.octets(),
+        port: number(port.as_bytes())?,
+    })
+}
+
+/// The word `yes`, which turns on what is off without it.
+pub(crate) fn yes(word: &[u8]) -> Result<bool, LineFault> {
+    match text(word)? {
+        "yes" => Ok(true),
+        _ => Err(LineFault::Faulty),
     }
-    Ok(content)
 }
 
 /// The word as text.
