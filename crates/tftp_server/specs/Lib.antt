@@ -1,5 +1,6 @@
 pub mod Config
 pub mod Fault
+pub mod FaultStore
 pub mod Table
 pub mod Store
 pub mod Memory

@@ -9,6 +9,7 @@
 
 mod config;
 mod fault;
+mod fault_store;
 mod memory;
 mod opened;
 mod server;
@@ -18,6 +19,7 @@ mod transfer;
 
 pub use config::Config;
 pub use fault::ServerFault;
+pub use fault_store::{FaultStore, OpenedSource};
 pub use memory::{MemDraft, MemStore};
 pub use opened::Opened;
 pub use server::Server;

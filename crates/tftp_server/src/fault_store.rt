@@ -1,0 +1,250 @@
+//! A store that fails at calls of its maker's choice.
+
+ghost use Rattle.std.specs.Prelude.{◌≡◌, not, Some};
+ghost use Rattle.tftp_server.specs.FaultStore.{after_call, is_due, IsInjected};
+
+use crate::store::{Opening, Store};
+use std::alloc::Global;
+use std::marker::Model;
+use tftp_file::{FileFault, Path, Source, StoreFault};
+use tftp_wire::Mode;
+
+/// A store over another one that is made to fail: what a full disk or a broken one does.
+///
+/// Of its calls of `begin`, `append` and `commit` it refuses one, and passes on every other to the
+/// inner store. It may refuse every `open`, too, and the sources that it opens may fail. What it
+/// refuses changes neither the inner store nor a draft.
+///
+/// It tells the inner store's files. That the inner store was told to refuse a call it does not
+/// tell: such a refusal is one of the faults that its calls may answer.
+#[derive(Drop)]
+pub struct FaultStore<S> {
+    inner: S,
+    calls_left: Option<u64>,
+    fault: StoreFault,
+    refuses_open: bool,
+    fails_fill: bool,
+}
+
+impl<S> Model for FaultStore<S> {
+    ghost use Rattle.tftp_server.specs.FaultStore.{FaultStoreState, IsInjected};
+
+    ghost Value = { FaultStoreState S };
+
+    ghost view = { λ s. record {
+      inner = s.inner;
+      calls_left = s.calls_left;
+      fault = s.fault;
+      refuses_open = s.refuses_open;
+      fails_fill = s.fails_fill;
+    } };
+
+    ghost invariant = { λ s. IsInjected s.fault };
+}
+
+impl<S> FaultStore<S> {
+    /// A store over the inner one. Of the calls of `begin`, `append` and `commit` it refuses the
+    /// one numbered `at`, from 0, and no other; made to `refuse_open`, it refuses every `open`. A
+    /// call that it refuses answers `fault`, which is `Full` or `Io`. Made to `fail_fill`, every
+    /// `fill` of a source that it opens answers `Read`.
+    pub fn new(
+        inner: S,
+        at: u64,
+        fault: StoreFault,
+        refuse_open: bool,
+        fail_fill: bool,
+    ) -> FaultStore<S>
+        requires fault { IsInjected fault }
+        ensures { result ≡ record {
+          inner = inner;
+          calls_left = Some at;
+          fault = fault;
+          refuses_open = refuse_open;
+          fails_fill = fail_fill;
+        } }
+    {
+        FaultStore {
+            inner,
+            calls_left: Some(at),
+            fault,
+            refuses_open: refuse_open,
+            fails_fill: fail_fill,
+        }
+    }
+
+    /// The inner store.
+    pub fn get_ref(&self) -> &S
+        ensures { result.now ≡ self.now.inner }
+    {
+        &self.inner
+    }
+}
+
+/// Counts one call. Whether it is not the one that is refused; after that one nothing is counted.
+fn passes_on(calls_left: &mut Option<u64>) -> bool
+    ensures due { result ≡ not (is_due calls_left.old) }
+    ensures counts { calls_left.new ≡ after_call calls_left.old }
+{
+    match *calls_left {
+        None => true,
+        Some(0) => {
+            *calls_left = None;
+            false
+        }
+        Some(calls) => {
+            *calls_left = Some(calls - 1);
+            true
+        }
+    }
+}
+
+impl<S: Store> Store for FaultStore<S> {
+    ghost use Rattle.std.specs.Prelude.{◌≡◌, ◌≢◌, Err, IfErr, IfOk, true};
+    ghost use Rattle.tftp_file.specs.Sink.{Appends, Commits};
+    ghost use Rattle.tftp_server.specs.Store.{Opens, Begins, holding_of, files_of, Puts};
+    ghost use Rattle.tftp_server.specs.FaultStore.{Counts, MayAnswer, is_due, never_told};
+
+    type Source = OpenedSource<S::Source>;
+
+    type Draft = S::Draft;
+
+    ghost stored = { λ s. never_told (S.stored s.inner) };
+
+    ghost drafted = { S.drafted };
+
+    ghost may_refuse_open = { λ s path fault. MayAnswer s.refuses_open s.fault fault
+        (S.may_refuse_open s.inner path fault) };
+
+    ghost may_refuse_begin = { λ s path replace fault. MayAnswer (is_due s.calls_left) s.fault fault
+        (S.may_refuse_begin s.inner path replace fault) };
+
+    ghost may_refuse_append = { λ s draft bytes fault. MayAnswer (is_due s.calls_left) s.fault fault
+        (S.may_refuse_append s.inner draft bytes fault) };
+
+    ghost may_refuse_commit = { λ s path draft replace fault. MayAnswer (is_due s.calls_left)
+        s.fault fault (S.may_refuse_commit s.inner path draft replace fault) };
+
+    fn open(
+        &self,
+        alloc: Global,
+        path: &Path,
+        mode: Mode,
+    ) -> Result<Opening<OpenedSource<S::Source>>, StoreFault>
+        ensures opens { Opens (λ s. S.Source.left s.source) (never_told (S.stored self.now.inner))
+            path.now mode result }
+        ensures refused { IfErr result (λ fault. MayAnswer self.now.refuses_open self.now.fault
+            fault (S.may_refuse_open self.now.inner path.now fault)) }
+        ensures fails { self.now.refuses_open ≡ true → result ≡ Err self.now.fault }
+        ensures source { IfOk result (λ file. file.source.fails ≡ self.now.fails_fill) }
+    {
+        if self.refuses_open {
+            return Err(self.fault);
+        }
+        let opening = self.inner.open(alloc, path, mode)?;
+        Ok(Opening {
+            source: OpenedSource {
+                source: opening.source,
+                fails: self.fails_fill,
+            },
+            length: opening.length,
+        })
+    }
+
+    fn begin(&mut self, alloc: Global, path: &Path, replace: bool) -> Result<S::Draft, StoreFault>
+        ensures begins { Begins S.drafted (never_told (S.stored self.old.inner))
+            (never_told (S.stored self.new.inner)) path.now replace result }
+        ensures refused { IfErr result (λ fault. MayAnswer (is_due self.old.calls_left)
+            self.old.fault fault (S.may_refuse_begin self.old.inner path.now replace fault)) }
+        ensures counts { Counts self.old self.new result }
+    {
+        if passes_on(&mut self.calls_left) {
+            return self.inner.begin(alloc, path, replace);
+        }
+        Err(self.fault)
+    }
+
+    fn append(&mut self, draft: &mut S::Draft, bytes: &[u8]) -> Result<(), StoreFault>
+        ensures appends { Appends (holding_of (never_told (S.stored self.old.inner)) (S.drafted
+            draft.old)) (holding_of (never_told (S.stored self.new.inner)) (S.drafted draft.new))
+            bytes.now result }
+        ensures files { files_of (never_told (S.stored self.new.inner))
+            ≡ files_of (never_told (S.stored self.old.inner)) }
+        ensures refused { IfErr result (λ fault. MayAnswer (is_due self.old.calls_left)
+            self.old.fault fault (S.may_refuse_append self.old.inner draft.old bytes.now fault)) }
+        ensures counts { Counts self.old self.new result }
+        ensures draft { is_due self.old.calls_left ≡ true → draft.new ≡ draft.old }
+    {
+        if passes_on(&mut self.calls_left) {
+            return self.inner.append(draft, bytes);
+        }
+        Err(self.fault)
+    }
+
+    fn commit(&mut self, path: &Path, draft: &mut S::Draft, replace: bool) -> Result<(), StoreFault>
+        ensures commits { Commits (holding_of (never_told (S.stored self.old.inner)) (S.drafted
+            draft.old)) (holding_of (never_told (S.stored self.new.inner)) (S.drafted draft.new))
+            result }
+        ensures files { Puts (never_told (S.stored self.old.inner)) (never_told (S.stored
+            self.new.inner)) (S.drafted draft.old) path.now replace result }
+        ensures refused { IfErr result (λ fault. MayAnswer (is_due self.old.calls_left)
+            self.old.fault fault (S.may_refuse_commit self.old.inner path.now draft.old
+            replace fault)) }
+        ensures not_memory { result ≢ Err StoreFault.Memory }
+        ensures counts { Counts self.old self.new result }
+        ensures draft { is_due self.old.calls_left ≡ true → draft.new ≡ draft.old }
+    {
+        if passes_on(&mut self.calls_left) {
+            return self.inner.commit(path, draft, replace);
+        }
+        Err(self.fault)
+    }
+}
+
+/// A source that a [`FaultStore`] opened: it gives what the inner store's source gives, or it was
+/// made to fail, and then every `fill` answers `Read`.
+#[derive(Drop)]
+pub struct OpenedSource<F> {
+    source: F,
+    fails: bool,
+}
+
+impl<F> Model for OpenedSource<F> {
+    ghost use Rattle.tftp_server.specs.FaultStore.{OpenedSourceState};
+
+    ghost Value = { OpenedSourceState F };
+
+    ghost view = { λ s. record { source = s.source; fails = s.fails } };
+}
+
+impl<F: Source> Source for OpenedSource<F> {
+    ghost use Rattle.std.specs.Prelude.{◌≡◌, ◌≤◌, ◌⊎◌, true, Err, vec_capacity};
+    ghost use Rattle.tftp_file.specs.Source.{Fills};
+    ghost use Rattle.tftp_file.specs.declared.fault.FileFault.TheVariants.{Read};
+
+    ghost left = { λ s. F.left s.source };
+
+    ghost may_fail = { λ s want. (s.fails ≡ true) ⊎ F.may_fail s.source want };
+
+    /// The inner store's source is the same.
+    ghost is_same = { λ s t. F.is_same s.source t.source };
+
+    ghost stays = { λ a. F.stays a.source };
+
+    ghost joins = { λ a b c p q. F.joins a.source b.source c.source p q };
+
+    fn fill(&mut self, want: usize, out: &mut Vec<u8>) -> Result<usize, FileFault>
+        ensures fills { Fills (F.left self.old.source) (F.left self.new.source) want
+            out.old.items out.new.items result }
+        ensures read { result ≡ Err FileFault.Read → (self.old.fails ≡ true)
+            ⊎ F.may_fail self.old.source want }
+        ensures capacity { vec_capacity out.old ≤ vec_capacity out.new }
+        ensures same { F.is_same self.old.source self.new.source }
+        ensures made { self.new.fails ≡ self.old.fails }
+        ensures fails { self.old.fails ≡ true → result ≡ Err FileFault.Read }
+    {
+        if self.fails {
+            return Err(FileFault::Read);
+        }
+        self.source.fill(want, out)
+    }
+}
