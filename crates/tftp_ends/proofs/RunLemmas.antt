@@ -146,8 +146,8 @@ module _ {S K : Type 0} (left : S → Option (List ℕ)) (may_fail : S → ℕ �
   open_before [] e r o = o
   open_before (taken ∷ run) e r o = r.0
 
-  spent_all : (ct T lf w l1 w1 l R R1 cp P wf : ℕ) → R1 ≡ R → T + lf + w1 ≤ l1 + R1 * P + wf → ct + l1 + w ≤ l + R * cp + w1 → ct + T + lf + w ≤ l + R * (cp + P) + wf
-  spent_all ct T lf w l1 w1 l R R1 cp P wf e h g =
+  spent_all : (ct T lf w l1 w1 l R R' cp P wf : ℕ) → R' ≡ R → T + lf + w1 ≤ l1 + R' * P + wf → ct + l1 + w ≤ l + R * cp + w1 → ct + T + lf + w ≤ l + R * (cp + P) + wf
+  spent_all ct T lf w l1 w1 l R R' cp P wf e h g =
       let k : T + lf + w1 ≤ l1 + R * P + wf = subst (λ (r : ℕ). T + lf + w1 ≤ l1 + r * P + wf) e h in
       let d : R * (cp + P) ≡ R * cp + R * P = mul-add R cp P in
       omega arith

@@ -89,9 +89,6 @@ pub one_at_most : (b : Bool) → count_if b ≤ 1
 one_at_most true = omega arith
 one_at_most false = omega arith
 
-zero_of_false : (b : Bool) → b ≡ false → count_if b ≡ 0
-zero_of_false b e = ap count_if e
-
 pub not_below_itself : (n : ℕ) → nat_lt n n ≡ false
 not_below_itself n = le-ltb n n (omega arith)
 
@@ -122,13 +119,6 @@ stays e reply kept quiet =
       oack = λ s. (quiet s).0;
       sends = λ s d. absurd (true≢false (sym d ∙ (quiet s).1));
     }
-
--- no answer, and an ERROR
-none_quiet : (is_oack None ≡ false) × (is_data None ≡ false)
-none_quiet = (refl, refl)
-
-error_quiet : (to : Endpoint) (reply : ErrorReply) → (is_oack (Some (record { to = to; bytes = error_bytes reply })) ≡ false) × (is_data (Some (record { to = to; bytes = error_bytes reply })) ≡ false)
-error_quiet to reply = (refl, refl)
 
 -- ---- an end that closes
 pub waits_at_most : (p : Phase) → waits p ≤ 1

@@ -86,11 +86,6 @@ both_true : (a b : Bool) → (a && b) ≡ true → (a ≡ true) × (b ≡ true)
 both_true true b e = (refl, e)
 both_true false b e = absurd (true≢false (sym e))
 
--- what is held back fits again
-pub held_fits : (mode : Mode) (held piece bytes after : List ℕ) → HeldFits mode held → Decoded mode held piece bytes after → HeldFits mode after
-held_fits Octet held piece bytes after h d = d.1 ∙ h
-held_fits Netascii held piece bytes after h d = d.0
-
 readable_by : (held piece bytes after : List ℕ) (last : Bool) → Decodes held piece bytes after → is_readable Netascii held piece last ≡ not (last && ends_in_cr after)
 readable_by held piece bytes after last d = rw (decoded_begins held piece bytes after d, decoded_ends held piece bytes after d)
 

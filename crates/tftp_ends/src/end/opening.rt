@@ -44,7 +44,8 @@ impl End {
         to: Endpoint,
         last_sent: Vec<u8>,
     ) -> End
-        requires phase { PhaseFits (opened side mode length retries phase to last_sent.items) phase }
+        requires phase { PhaseFits
+            (opened side mode length retries phase to last_sent.items) phase }
         requires resends { ResendsAck
             (opened side mode length retries phase to last_sent.items) phase }
         requires sent { SentFits
