@@ -7,10 +7,10 @@ ghost use Rattle.tftp_ends.specs.Files.{AreFilesOf};
 use std::alloc::Global;
 use std::process::Abort;
 use std::test::Fail;
-use tftp_ends::{End, EndConfig, Endpoint, Held, Outcome, Step};
+use tftp_ends::{End, EndConfig, Endpoint, Held, Outcome, Step, decode_packet};
 use tftp_file::{Files, MemSink, MemSource, wire_length};
-use tftp_negotiate::{Agreed, Asked, Limits};
-use tftp_wire::Mode;
+use tftp_negotiate::{Agreed, Asked, Kind, Limits, accept_ref};
+use tftp_wire::{Mode, PacketRef};
 
 const SERVER: Endpoint = Endpoint {
     ip: [10, 0, 0, 1],
@@ -310,4 +310,31 @@ fn files_travel_as_wire_text(rt: HostRuntime) -> Result<(), Fail> {
     is_got(&rt, rt.alloc(), &[b'\n'; 256], 256, 5)?;
     let line = long_line(rt.alloc())?;
     is_got(&rt, rt.alloc(), &line, 511, 5)
+}
+
+/// A server's end answers a request to read an empty file by this datagram.
+fn is_answered(rt: &impl Abort, alloc: Global, request: &[u8], answer: &[u8]) -> Result<(), Fail> {
+    let Some(PacketRef::Read(asks)) = decode_packet(request) else {
+        return Err(Fail::from("a request to read"));
+    };
+    let limits = CONFIG.limits;
+    let agreed = accept_ref(&asks.options, Kind::Read, asks.mode, 0, &limits);
+    let agreed = agreed.ok().ok_or("the options are answered")?;
+    let source = MemSource::new(alloc, b"", asks.mode)?;
+    let mut files: Files<MemSource, MemSink> = Files::Source(source);
+    let mut out = Vec::new(alloc);
+    End::serve_read(
+        alloc, &mut files, CLIENT, asks.mode, &agreed, 0, 5, &mut out,
+    )?;
+    assert_eq!(rt; out.as_slice(), answer, "the answer to {request:?}");
+    Ok(())
+}
+
+/// The length is told in octet alone: in netascii `tsize` is left out, and DATA 1 answers.
+#[test]
+fn a_length_is_told_in_octet(rt: HostRuntime) -> Result<(), Fail> {
+    let octet = b"\x00\x01a\x00octet\x00tsize\x000\x00".as_slice();
+    is_answered(&rt, rt.alloc(), octet, b"\x00\x06tsize\x000\x00")?;
+    let netascii = b"\x00\x01a\x00netascii\x00tsize\x000\x00".as_slice();
+    is_answered(&rt, rt.alloc(), netascii, b"\x00\x03\x00\x01")
 }

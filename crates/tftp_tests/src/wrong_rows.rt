@@ -8,10 +8,10 @@ ghost use Rattle.tftp_ends.specs.Files.{AreFilesOf};
 use std::alloc::Global;
 use std::process::Abort;
 use std::test::Fail;
-use tftp_ends::{End, EndConfig, Endpoint, Outcome, Step};
+use tftp_ends::{End, EndConfig, Endpoint, Outcome, Step, decode_packet};
 use tftp_file::{FaultSource, Files, MemSink, MemSource, Sink, Source};
-use tftp_negotiate::{Agreed, Asked, Limits};
-use tftp_wire::Mode;
+use tftp_negotiate::{Agreed, Asked, Kind, Limits, accept_ref};
+use tftp_wire::{Mode, PacketRef};
 
 const SERVER: Endpoint = Endpoint {
     ip: [10, 0, 0, 1],
@@ -84,11 +84,40 @@ fn storer(alloc: Global, out: &mut Vec<u8>) -> Result<(End, Files<MemSource, Mem
     Ok((end, Files::Sink(MemSink::new(alloc, 100, false))))
 }
 
-/// Who the end is, and what it has got so far.
+/// A request with an option.
+const RRQ_8: &[u8] = b"\x00\x01a\x00octet\x00blksize\x008\x00";
+
+/// A server's end that has answered a read by an OACK.
+fn server(alloc: Global, out: &mut Vec<u8>) -> Result<(End, Files<MemSource, MemSink>), Fail>
+    ensures { IfOk result (λ opened. AreFilesOf opened.0.side opened.1) }
+{
+    let Some(PacketRef::Read(asks)) = decode_packet(RRQ_8) else {
+        return Err(Fail::from("a request to read"));
+    };
+    let limits = CONFIG.limits;
+    let agreed = accept_ref(&asks.options, Kind::Read, Mode::Octet, 3, &limits);
+    let agreed = agreed.ok().ok_or("the options are answered")?;
+    let mut files = Files::Source(MemSource::new(alloc, b"ABC", Mode::Octet)?);
+    let opened = End::serve_read(
+        alloc,
+        &mut files,
+        SERVER_END,
+        Mode::Octet,
+        &agreed,
+        3,
+        5,
+        out,
+    );
+    let (end, _) = opened?;
+    Ok((end, files))
+}
+
+/// Which end it is.
 #[derive(Clone, Copy, Debug)]
 enum Role {
     Reader,
     Writer,
+    Server,
     Storer,
 }
 
@@ -103,15 +132,17 @@ fn opened(
     match role {
         Role::Reader => reader(alloc, out),
         Role::Writer => writer(alloc, out),
+        Role::Server => server(alloc, out),
         Role::Storer => storer(alloc, out),
     }
 }
 
-/// States by what led to them: a waiting reader and writer; a sender behind its first block and behind
+/// States by what led to them: a waiting reader and writer; a sender behind its OACK, its first block and
 /// its last; a receiver with no block, with one block of eight bytes, and one that dallies.
-const STATES: [(Role, &[u8], &[u8]); 7] = [
+const STATES: [(Role, &[u8], &[u8]); 8] = [
     (Role::Reader, b"", b""),
     (Role::Writer, b"", b""),
+    (Role::Server, b"", b""),
     (Role::Writer, OACK_8, b""),
     (Role::Writer, OACK_8, b"\x00\x04\x00\x01"),
     (Role::Storer, b"", b""),
