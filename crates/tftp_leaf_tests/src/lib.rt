@@ -4,6 +4,8 @@
 #[cfg(test)]
 mod append_rows;
 #[cfg(test)]
+mod cut_rows;
+#[cfg(test)]
 mod fault_rows;
 #[cfg(test)]
 mod memory_rows;
