@@ -1,8 +1,15 @@
 //! `tftpd`: a server over UDP, in one thread.
 
+mod transfer_port;
+
 ghost use Rattle.tftp_server.specs.Config.{IsConfig};
 
+use crate::daemon::transfer_port::{
+    MOST_AT_ONCE, Told, TransferSocket, Turn, data_length, shown, take_datagrams, take_timeout,
+    timeout_of,
+};
 use crate::folder::FolderStore;
+use crate::log_line::LogLine;
 use crate::port::{Port, place_of, wait_for};
 use crate::printed::Printed;
 use crate::udp::{DATAGRAM_BUFFER, address_of, read_clock, receive, send};
@@ -20,10 +27,6 @@ use tftp_server::{Config, Server, Store};
 /// The token of the request port; a transfer's is its port, which is never 0.
 const REQUESTS: Token = Token(0);
 
-/// The most requests of one wake-up, and the most datagrams of one transfer in it: a flood at one port
-/// does not starve the others.
-const MOST_AT_ONCE: usize = 32;
-
 /// The most events that one wait reports.
 const MOST_EVENTS: usize = 128;
 
@@ -40,6 +43,8 @@ pub(crate) struct Service<'a> {
     pub(crate) transfers: u32,
     /// After how many waits it ends.
     pub(crate) rounds: u32,
+    /// Each request and each close is a line on standard error.
+    pub(crate) logs: bool,
 }
 
 /// Why `tftpd` did not serve, or stopped.
@@ -68,19 +73,6 @@ struct Spare {
     socket: UdpSocket,
 }
 
-/// What came of the datagrams at a transfer's port.
-#[derive(Clone, Copy, Debug, PartialEq, Eq)]
-enum Turn {
-    /// Nothing more is there.
-    Empty,
-    /// The transfer went on. What may be left is received at the next readiness, or before a timeout.
-    Onward,
-    /// More may be there.
-    Unfinished,
-    /// The transfer closed.
-    Closed,
-}
-
 /// A server with its sockets.
 #[derive(Drop)]
 struct Daemon<R: Files + Drop> {
@@ -89,11 +81,13 @@ struct Daemon<R: Files + Drop> {
     requests: UdpSocket,
     is_ready: bool,
     spare: Option<Spare>,
-    ports: Vec<Port<UdpSocket>>,
+    ports: Vec<Port<TransferSocket>>,
     watch: Watch,
     out: Vec<u8>,
     tids: Vec<u16>,
     ip: [u8; 4],
+    logs: bool,
+    alloc: Global,
 }
 
 /// Serves until so many transfers have closed, or so many waits are over.
@@ -113,7 +107,7 @@ pub(crate) fn serve<R: Runtime + AllocGlobal + Net>(
     let Ok(server) = Server::new(alloc, service.config, store) else {
         return Err(ServiceFault::Memory);
     };
-    let Ok((mut daemon, listening)) = Daemon::bind(rt, alloc, server, service.listen) else {
+    let Ok((mut daemon, listening)) = Daemon::bind(rt, alloc, server, service) else {
         return Err(ServiceFault::Socket);
     };
     let line = Printed::Listening(listening);
@@ -137,67 +131,15 @@ fn bind_spare<N: Net>(net: &N, ip: [u8; 4]) -> Option<Spare> {
     })
 }
 
-/// Takes datagrams from a transfer's port, until one takes the transfer onward or none is left.
-fn take_datagrams<S: Store>(
-    server: &mut Server<S>,
-    port: &mut Port<UdpSocket>,
-    now: u64,
-    buffer: &mut [u8],
-    out: &mut Vec<u8>,
-) -> Turn {
-    for _ in 0..MOST_AT_ONCE {
-        let Some((from, count)) = receive(&port.socket, buffer) else {
-            return Turn::Empty;
-        };
-        out.clear();
-        let Ok(step) = server.on_datagram(port.tid, from, &buffer[..count], out) else {
-            continue;
-        };
-        if let Some(to) = step.to {
-            send(&port.socket, to, out.as_slice());
-        }
-        if step.closed.is_some() {
-            return Turn::Closed;
-        }
-        if step.progress {
-            port.due = deadline(now, timeout_of(server, port.tid));
-            return Turn::Onward;
-        }
-    }
-    Turn::Unfinished
-}
-
-/// The agreed timeout of a transfer, in seconds.
-fn timeout_of<S: Store>(server: &Server<S>, tid: u16) -> Option<u8> {
-    server.record(tid).and_then(|record| record.timeout)
-}
-
-/// Tells a transfer that it waited long enough, and answers whether that closed it.
-fn take_timeout<S: Store>(
-    server: &mut Server<S>,
-    port: &mut Port<UdpSocket>,
-    now: u64,
-    out: &mut Vec<u8>,
-) -> bool {
-    port.due = deadline(now, timeout_of(server, port.tid));
-    out.clear();
-    let Ok(step) = server.on_timeout(port.tid, out) else {
-        return false;
-    };
-    if let Some(to) = step.to {
-        send(&port.socket, to, out.as_slice());
-    }
-    step.closed.is_some()
-}
-
 impl<R: Files + Drop> Daemon<R> {
     /// Binds the request port, and tells where it is.
     fn bind<N: Net + Clock>(
         rt: &N,
         alloc: Global,
         server: Server<FolderStore<R>>,
-        listen: Endpoint,
+        service: &Service<'_>,
     ) -> io::Result<(Daemon<R>, Endpoint)> {
+        let listen = service.listen;
         let mut requests = UdpSocket::bind(rt, address_of(listen))?;
         let port = requests.local_addr()?.port();
         let poll = Poll::new(rt)?;
@@ -214,6 +156,8 @@ impl<R: Files + Drop> Daemon<R> {
             out: Vec::new(alloc),
             tids: Vec::new(alloc),
             ip: listen.ip,
+            logs: service.logs,
+            alloc,
         };
         Ok((
             daemon,
@@ -236,7 +180,7 @@ impl<R: Files + Drop> Daemon<R> {
         let mut left = service.transfers;
         for _ in 0..service.rounds {
             self.wait(rt, &mut events);
-            self.take_requests(buffer.as_mut_slice());
+            self.take_requests(rt, buffer.as_mut_slice());
             left = self.take_transfers(rt, left, buffer.as_mut_slice())?;
             left = self.take_timeouts(rt, left, buffer.as_mut_slice())?;
             if left == 0 {
@@ -248,11 +192,7 @@ impl<R: Files + Drop> Daemon<R> {
 
     /// Waits until a datagram is there or a transfer is due, and a second at most.
     fn wait<N: Net + Clock>(&mut self, rt: &N, events: &mut Events) {
-        if self.spare.is_none() {
-            self.spare = bind_spare(rt, self.ip);
-        }
-        let may_take = self.is_ready && self.spare.is_some();
-        let wait = if may_take || self.ports.iter().any(|port| port.is_ready) {
+        let wait = if self.is_ready || self.ports.iter().any(|port| port.is_ready) {
             0
         } else {
             wait_for(self.watch.now, self.ports.as_slice())
@@ -282,51 +222,75 @@ impl<R: Files + Drop> Daemon<R> {
         }
     }
 
-    /// Takes the requests that are there, as far as there is a port for a transfer. The server is asked
-    /// before a transfer gets the port, so what opens none uses up no socket.
-    fn take_requests(&mut self, buffer: &mut [u8]) {
+    /// Takes requests that are there, as many as a wake-up takes.
+    fn take_requests<N: Net + Eprint>(&mut self, rt: &N, buffer: &mut [u8]) {
         for _ in 0..MOST_AT_ONCE {
             if !self.is_ready || self.ports.try_reserve(1).is_err() {
                 return;
             }
-            let Some(spare) = self.spare.take() else {
+            let Some((from, count)) = receive(&self.requests, buffer) else {
+                self.is_ready = false;
                 return;
             };
-            self.spare = self.take_request(spare, buffer);
+            self.take_request(rt, from, &buffer[..count]);
         }
     }
 
-    /// Takes a request for which this port is there, and gives the port back if no transfer got it.
-    fn take_request(&mut self, spare: Spare, buffer: &mut [u8]) -> Option<Spare> {
-        let Some((from, count)) = receive(&self.requests, buffer) else {
-            self.is_ready = false;
-            return Some(spare);
-        };
+    /// Takes a datagram that came to the request port. One that may open a transfer is lost where no port
+    /// can be bound for it.
+    fn take_request<N: Net + Eprint>(&mut self, rt: &N, from: Endpoint, bytes: &[u8]) {
+        // A port is bound only where the server may open a transfer; else no identifier is used.
+        let mut tid = 0;
+        if let Ok(true) = self.server.may_open(bytes) {
+            let Some(port) = self.spare_port(rt) else {
+                return;
+            };
+            tid = port;
+        }
         self.out.clear();
-        self.server.store_mut().set_port(spare.tid);
-        let bytes = &buffer[..count];
-        let Ok(opened) = self
-            .server
-            .on_request(from, spare.tid, bytes, &mut self.out)
-        else {
-            return Some(spare);
+        self.server.store_mut().set_port(tid);
+        let Ok(opened) = self.server.on_request(from, tid, bytes, &mut self.out) else {
+            return;
         };
-        if opened.tid.is_none() {
-            if let Some(to) = opened.to {
-                send(&self.requests, to, self.out.as_slice());
-            }
-            return Some(spare);
+        if opened.tid.is_some() {
+            self.open(rt, from, bytes);
+            return;
         }
         if let Some(to) = opened.to {
-            send(&spare.socket, to, self.out.as_slice());
+            send(&self.requests, to, self.out.as_slice());
         }
-        self.open(spare);
-        None
+        if self.logs {
+            self.log_unopened(rt, from, bytes);
+        }
     }
 
-    /// Gives the port to the transfer that opened. There is room in the list.
-    fn open(&mut self, spare: Spare) {
-        let Spare { tid, mut socket } = spare;
+    /// The port that waits for the next transfer, which is bound if none is.
+    fn spare_port<N: Net>(&mut self, net: &N) -> Option<u16> {
+        if self.spare.is_none() {
+            self.spare = bind_spare(net, self.ip);
+        }
+        match &self.spare {
+            Some(spare) => Some(spare.tid),
+            None => None,
+        }
+    }
+
+    /// Gives the spare port to the transfer that opened, and sends its first datagram. There is room in the
+    /// list.
+    fn open<E: Eprint>(&mut self, rt: &E, from: Endpoint, bytes: &[u8]) {
+        let Some(Spare { tid, mut socket }) = self.spare.take() else {
+            return;
+        };
+        let first = self.out.as_slice();
+        send(&socket, from, first);
+        let told = if self.logs {
+            let told = Told::new(self.alloc, from, bytes, first, self.watch.now);
+            let line = told.opened(tid);
+            let _ = eprintln!(rt; "{line}");
+            Some(told)
+        } else {
+            None
+        };
         // Without readiness the transfer's datagrams are received before its timeouts.
         let _ = self
             .poll
@@ -337,12 +301,35 @@ impl<R: Files + Drop> Daemon<R> {
             tid,
             due,
             is_ready: false,
-            socket,
+            socket: TransferSocket {
+                udp: socket,
+                bytes: data_length(self.out.as_slice()),
+                told,
+            },
         });
     }
 
+    /// Writes the line of a datagram that opened no transfer.
+    fn log_unopened<E: Eprint>(&self, rt: &E, peer: Endpoint, bytes: &[u8]) {
+        let request = shown(self.alloc, bytes);
+        let answer = shown(self.alloc, self.out.as_slice());
+        let line = if self.out.is_empty() {
+            LogLine::Ignored {
+                peer,
+                request: request.as_str(),
+            }
+        } else {
+            LogLine::Refused {
+                peer,
+                request: request.as_str(),
+                answer: answer.as_str(),
+            }
+        };
+        let _ = eprintln!(rt; "{line}");
+    }
+
     /// Takes what came to the ports of transfers. `left` counts the transfers that are yet to close.
-    fn take_transfers<P: Print>(
+    fn take_transfers<P: Print + Eprint>(
         &mut self,
         rt: &P,
         left: u32,
@@ -358,7 +345,7 @@ impl<R: Files + Drop> Daemon<R> {
                 continue;
             }
             let now = self.watch.now;
-            let turn = take_datagrams(&mut self.server, port, now, buffer, &mut self.out);
+            let turn = take_datagrams(&mut self.server, port, now, buffer);
             port.is_ready = turn == Turn::Unfinished;
             if turn == Turn::Closed {
                 self.close(rt, place)?;
@@ -369,7 +356,7 @@ impl<R: Files + Drop> Daemon<R> {
     }
 
     /// Tells the transfers that are due, by their identifiers, once nothing is left at their ports.
-    fn take_timeouts<P: Print>(
+    fn take_timeouts<P: Print + Eprint>(
         &mut self,
         rt: &P,
         left: u32,
@@ -408,17 +395,15 @@ impl<R: Files + Drop> Daemon<R> {
         if !is_due(now, port.due) {
             return false;
         }
-        match take_datagrams(&mut self.server, port, now, buffer, &mut self.out) {
+        match take_datagrams(&mut self.server, port, now, buffer) {
             Turn::Closed => true,
             Turn::Onward => false,
-            Turn::Empty | Turn::Unfinished => {
-                take_timeout(&mut self.server, port, now, &mut self.out)
-            }
+            Turn::Empty | Turn::Unfinished => { take_timeout(&mut self.server, port, now) }
         }
     }
 
     /// Takes a closed transfer out of the server, with its port, and prints how it ended.
-    fn close<P: Print>(&mut self, rt: &P, place: usize) -> Result<(), ServiceFault> {
+    fn close<P: Print + Eprint>(&mut self, rt: &P, place: usize) -> Result<(), ServiceFault> {
         if place >= self.ports.len() {
             return Ok(());
         }
@@ -434,6 +419,10 @@ impl<R: Files + Drop> Daemon<R> {
         else {
             return Ok(());
         };
+        if let Some(told) = &port.socket.told {
+            let line = told.closed(port.tid, port.socket.bytes, self.watch.now, outcome);
+            let _ = eprintln!(rt; "{line}");
+        }
         let line = Printed::Closed {
             port: port.tid,
             peer: peer.port,

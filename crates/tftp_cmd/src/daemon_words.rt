@@ -93,6 +93,7 @@ fn service<'a>(matches: &ArgMatches<'a>) -> Option<Service<'a>>
         config,
         transfers,
         rounds,
+        logs: matches.get_flag("log"),
     })
 }
 
@@ -203,7 +204,7 @@ fn with_limits<'a>(alloc: Global, command: Command<'a>, texts: &'a Texts) -> Res
     Ok(command.arg(flag(alloc, "overwrite", "A write replaces a file that is there"))?)
 }
 
-/// When the server ends.
+/// When the server ends, and what it tells.
 fn with_ending<'a>(alloc: Global, command: Command<'a>) -> Result<Command<'a>> {
     let transfers = number(
         alloc,
@@ -220,5 +221,11 @@ fn with_ending<'a>(alloc: Global, command: Command<'a>) -> Result<Command<'a>> {
         value_parser!(u32).range(1..=4_294_967_295),
         "Ends after so many waits, each of a second at most, 1 to 4294967295",
     );
-    Ok(command.arg(rounds.default_value("1000000"))?)
+    let command = command.arg(rounds.default_value("1000000"))?;
+    let log = flag(
+        alloc,
+        "log",
+        "Writes a line on standard error for each request and each close",
+    );
+    Ok(command.arg(log)?)
 }

@@ -2,11 +2,19 @@
 #![tactic(auto)]
 
 #[cfg(test)]
+mod fallback_rows;
+#[cfg(test)]
 mod folder_rows;
+#[cfg(test)]
+mod log_rows;
 #[cfg(test)]
 mod loopback;
 #[cfg(test)]
 mod programs;
+#[cfg(test)]
+mod proxy;
+#[cfg(test)]
+mod proxy_rows;
 #[cfg(test)]
 mod put_rows;
 #[cfg(test)]

@@ -16,4 +16,6 @@ mod show_rows;
 #[cfg(test)]
 mod stray_rows;
 #[cfg(test)]
+mod udp_lines;
+#[cfg(test)]
 mod waiting_rows;

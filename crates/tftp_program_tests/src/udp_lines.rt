@@ -1,0 +1,123 @@
+//! What the programs over UDP print, as lines.
+
+use std::fmt::Display;
+use std::process::Abort;
+use std::test::Fail;
+use tftp_cmd::{ClientEnd, LineClock, LogLine, Progress};
+use tftp_ends::{Endpoint, OpenFault, Outcome};
+
+/// A value prints this.
+fn prints<R: AllocGlobal + Abort, D: Display>(rt: &R, value: &D, wanted: &str) -> Result<(), Fail> {
+    let text = value.to_string(rt.alloc())?;
+    assert_eq!(rt; text.as_str(), wanted);
+    Ok(())
+}
+
+/// How `tftp` ends: 0 for a complete transfer, 1 for one that failed, and 2 where none was opened.
+#[test]
+fn client_ends(rt: HostRuntime) -> Result<(), Fail> {
+    prints(&rt, &ClientEnd::Complete(3), "complete 3")?;
+    prints(
+        &rt,
+        &ClientEnd::Failed(Outcome::PeerError(1)),
+        "tftp: PeerError(1)",
+    )?;
+    prints(&rt, &ClientEnd::FileFault, "tftp: file fault")?;
+    prints(&rt, &ClientEnd::SocketFault, "tftp: socket fault")?;
+    prints(
+        &rt,
+        &ClientEnd::NotOpened(OpenFault::BadRequest),
+        "tftp: BadRequest",
+    )?;
+    assert_eq!(rt; ClientEnd::Complete(0).status(), 0, "complete");
+    assert_eq!(rt; ClientEnd::Failed(Outcome::TimedOut).status(), 1, "silence");
+    assert_eq!(rt;
+        ClientEnd::NotOpened(OpenFault::TooLarge).status(),
+        2,
+        "not opened"
+    );
+    Ok(())
+}
+
+/// How far a transfer came: a megabyte in 80 ms is 12.5 MB/s.
+#[test]
+fn progress_lines(rt: HostRuntime) -> Result<(), Fail> {
+    let told = |bytes: u64, total: Option<u64>, millis: u64| Progress {
+        bytes,
+        total,
+        millis,
+    };
+    prints(&rt, &told(1_000_000, None, 80), "1000000 bytes, 12.5 MB/s")?;
+    prints(
+        &rt,
+        &told(999, Some(1_000), 1_000),
+        "999 bytes, 99%, 0.0 MB/s",
+    )?;
+    prints(&rt, &told(0, Some(0), 0), "0 bytes, 100%, 0.0 MB/s")?;
+    Ok(())
+}
+
+/// Times in milliseconds, and whether a line is due: ten a second at most.
+const LINES: [(u64, bool); 6] = [
+    (5, true),
+    (6, false),
+    (104, false),
+    (105, true),
+    (105, false),
+    (900, true),
+];
+
+#[test]
+fn lines_are_rare(rt: HostRuntime) {
+    let mut clock = LineClock::default();
+    for (now, is_due) in LINES {
+        assert_eq!(rt; clock.take_due(now), is_due, "at {now}");
+    }
+}
+
+/// The lines of a log.
+#[test]
+fn log_lines(rt: HostRuntime) -> Result<(), Fail> {
+    let peer = Endpoint {
+        ip: [10, 0, 0, 2],
+        port: 1024,
+    };
+    let opened = LogLine::Opened {
+        port: 1025,
+        peer,
+        request: "RRQ a octet",
+        answer: "DATA 1 3",
+    };
+    prints(
+        &rt,
+        &opened,
+        "opened 1025 10.0.0.2:1024 RRQ a octet: DATA 1 3",
+    )?;
+    let refused = LogLine::Refused {
+        peer,
+        request: "RRQ b octet",
+        answer: "ERROR 1 (file not found)",
+    };
+    prints(
+        &rt,
+        &refused,
+        "refused 10.0.0.2:1024 RRQ b octet: ERROR 1 (file not found)",
+    )?;
+    let ignored = LogLine::Ignored {
+        peer,
+        request: "ERROR 0 (stop)",
+    };
+    prints(&rt, &ignored, "ignored 10.0.0.2:1024 ERROR 0 (stop)")?;
+    let closed = LogLine::Closed {
+        port: 1025,
+        peer,
+        request: "RRQ a octet",
+        answer: "DATA 1 3",
+        bytes: 3,
+        millis: 12,
+        outcome: Outcome::Complete,
+    };
+    let wanted = "closed 1025 10.0.0.2:1024 RRQ a octet: DATA 1 3, 3 bytes, 12 ms, Complete";
+    prints(&rt, &closed, wanted)?;
+    Ok(())
+}
