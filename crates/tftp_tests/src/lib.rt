@@ -12,6 +12,8 @@ mod netascii_end_rows;
 #[cfg(test)]
 mod port_rows;
 #[cfg(test)]
+mod random_rows;
+#[cfg(test)]
 mod read_rows;
 #[cfg(test)]
 mod store_rows;
