@@ -241,7 +241,7 @@ impl<R: Files + Drop> Daemon<R> {
     fn take_request<N: Net + Eprint>(&mut self, rt: &N, from: Endpoint, bytes: &[u8]) {
         // A port is bound only where the server may open a transfer; else no identifier is used.
         let mut tid = 0;
-        if let Ok(true) = self.server.may_open(bytes) {
+        if let Ok(true) = self.server.may_open(from, bytes) {
             let Some(port) = self.spare_port(rt) else {
                 return;
             };

@@ -1,5 +1,5 @@
 -- How the request port handles a world, from what the server did.
-use Rattle.std.proofs.Common.{◌≡◌, ◌≢◌, ℕ, ◌+◌, ◌<◌, ◌≤◌, true, List, [], ◌∷◌, ◌++◌, length, get_or, Option, Some, None, refl, sym, ap, ◌∙◌, subst, arith, inl, inr, length-append}
+use Rattle.std.proofs.Common.{◌≡◌, ◌≢◌, ℕ, Bool, ◌+◌, ◌<◌, ◌≤◌, true, List, [], ◌∷◌, ◌++◌, length, get_or, Option, Some, None, refl, sym, ap, ◌∙◌, subst, arith, inl, inr, length-append}
 use Rattle.std.specs.Prelude.{◌⊎◌, ◌&&◌, not, option_map}
 use Rattle.tftp_wire.specs.declared.mode.Mode.{Mode}
 use Rattle.tftp_wire.specs.declared.mode.Mode.TheVariants.{Octet, Netascii}
@@ -53,8 +53,8 @@ abbrev pub untold : MemSinkState → Option Drafted
 untold draft = None
 
 -- who asked, and for which identifier
-abbrev asking : PlayedServer → Endpoint → ℕ → PortAsking untold
-asking before from port = record { old = before; from = from; tid = port }
+abbrev asking : PlayedServer → Endpoint → List ℕ → ℕ → PortAsking untold
+asking before from bytes port = record { old = before; from = from; bytes = bytes; tid = port }
 
 -- ---- where an end opens
 -- what is supported asks for the same end
@@ -75,10 +75,10 @@ supported_requests files (Some (Error code text)) request e = absurd (no_request
 supported_requests files (Some (Oack options)) request e = absurd (no_request request e)
 
 -- the end that opens is the one that was wanted
-pub requested_is : (w : WorldState) (bytes : List ℕ) (decoded : Option Packet) (path file : List ℕ) (mode : Mode) (length : ℕ) (agreed : List Known) (o : Option Served) → Decodes bytes decoded →
-    file_at w.files path ≡ Some file → service w bytes (supported decoded) ≡ Sends path mode length agreed → IsRequested w.files bytes o → o ≡ Some (record { mode = mode; path = path; file = file; ended = None })
-requested_is w bytes decoded path file mode length agreed o says there sends requests =
-    let r = service_sends w path mode length agreed file bytes (supported decoded) (carries_no_write decoded) there sends in
+pub requested_is : (w : WorldState) (repeated : Bool) (bytes : List ℕ) (decoded : Option Packet) (path file : List ℕ) (mode : Mode) (length : ℕ) (agreed : List Known) (o : Option Served) → Decodes bytes decoded →
+    file_at w.files path ≡ Some file → service w repeated bytes (supported decoded) ≡ Sends path mode length agreed → IsRequested w.files bytes o → o ≡ Some (record { mode = mode; path = path; file = file; ended = None })
+requested_is w repeated bytes decoded path file mode length agreed o says there sends requests =
+    let r = service_sends w path mode length agreed repeated file bytes (supported decoded) (carries_no_write decoded) there sends in
     requests.2
     ∙ (ap (requested_by w.files) (says_one bytes requests.0 decoded requests.1 says)
     ∙ (supported_requests w.files decoded r.request r.decoded_is
@@ -101,19 +101,19 @@ module _ (from : Endpoint) (bytes : List ℕ) (before : PlayedServer) (ps : List
   said = says_something bytes range
 
   did : (sent : List Datagram) (after : PlayedServer) (opened : Opened) (out : List ℕ) →
-      RequestStep (memory_meaning untold) before from supported bytes port (record { new = after; opened = opened; sent = out }) →
-      PortDid untold (w sent) (service (w sent) bytes (supported said.0)) (asking before from port) (record { new = after; opened = opened; sent = out })
-  did sent after opened out h = supported_did untold (w sent) (asking before from port) (record { new = after; opened = opened; sent = out }) (is_server sent) max bytes said.0 said.1 h
+      (h : RequestStep (memory_meaning untold) before from bytes supported port (record { new = after; opened = opened; sent = out })) →
+      PortDid untold (w sent) (service (w sent) h.repeated bytes (supported said.0)) (asking before from bytes port) (record { new = after; opened = opened; sent = out })
+  did sent after opened out h = supported_did untold (w sent) (asking before from bytes port) (record { new = after; opened = opened; sent = out }) (is_server sent) max said.0 said.1 h
 
   module _ (after : PlayedServer) (opened : Opened) (out : List ℕ)
-      (h : RequestStep (memory_meaning untold) before from supported bytes port (record { new = after; opened = opened; sent = out }))
+      (h : RequestStep (memory_meaning untold) before from bytes supported port (record { new = after; opened = opened; sent = out }))
       (none : opened.tid ≡ None) where
     abbrev result : PortLeft untold
     result = record { new = after; opened = opened; sent = out }
 
     seen : (sent : List Datagram) →
-        PortRefused untold (w sent) (asking before from port) result (service (w sent) bytes (supported said.0)) ⊎ PortSilent untold (w sent) (asking before from port) result (service (w sent) bytes (supported said.0))
-    seen sent = port_not_opened untold (w sent) (asking before from port) result (service (w sent) bytes (supported said.0)) (did sent after opened out h) none
+        PortRefused untold (w sent) (asking before from bytes port) result (service (w sent) h.repeated bytes (supported said.0)) ⊎ PortSilent untold (w sent) (asking before from bytes port) result (service (w sent) h.repeated bytes (supported said.0))
+    seen sent = port_not_opened untold (w sent) (asking before from bytes port) result (service (w sent) h.repeated bytes (supported said.0)) (did sent after opened out h) none
 
     -- where nothing opened the server is as before
     pub not_opened_same : after ≡ before
@@ -131,7 +131,7 @@ module _ (from : Endpoint) (bytes : List ℕ) (before : PlayedServer) (ps : List
           ap (λ (to : Option Endpoint). world_of before.config (sent ++ said_by request_port to out) after ps) refused.to
           ∙ ap (λ (v : PlayedServer). world_of before.config (sent ++ d ∷ []) v ps) refused.new in
           subst (λ (r : Report). ArrivesToday (w sent) from request_port bytes r (world_of before.config (sent ++ said_by request_port opened.to out) after ps)) (sym report)
-          (At_port refl (has sent) said.0 said.1 (said_in (w sent) d) refused.serves (new ∙ sym (resting_same (said_in (w sent) d) (ends_rest 1024 before.held ps staged.kept))))
+          (At_port refl (has sent) said.0 said.1 h.repeated (said_in (w sent) d) refused.serves (new ∙ sym (resting_same (said_in (w sent) d) (ends_rest 1024 before.held ps staged.kept))))
       | inr quiet ↦
           let report : report_by sent effect ≡ no_report = ap (λ (to : Option Endpoint). report_by sent (record effect { to = to })) quiet.to in
           let new : world_of before.config (sent ++ said_by request_port opened.to out) after ps ≡ w sent =
@@ -139,7 +139,7 @@ module _ (from : Endpoint) (bytes : List ℕ) (before : PlayedServer) (ps : List
           ∙ (ap (λ (ds : List Datagram). world_of before.config ds after ps) (append-nil sent)
           ∙ ap (λ (v : PlayedServer). world_of before.config sent v ps) quiet.new) in
           subst (λ (r : Report). ArrivesToday (w sent) from request_port bytes r (world_of before.config (sent ++ said_by request_port opened.to out) after ps)) (sym report)
-          (At_port refl (has sent) said.0 said.1 (w sent) quiet.serves (new ∙ sym (resting_same (w sent) (ends_rest 1024 before.held ps staged.kept))))
+          (At_port refl (has sent) said.0 said.1 h.repeated (w sent) quiet.serves (new ∙ sym (resting_same (w sent) (ends_rest 1024 before.held ps staged.kept))))
     ]
 
     -- as it is told
@@ -156,13 +156,13 @@ module _ (from : Endpoint) (bytes : List ℕ) (before : PlayedServer) (ps : List
         (subst (λ (qs : List Player). IsStaged before qs records0) (sym a) (subst (λ (rs : List (ℕ × Record)). IsStaged before ps rs) (sym b) staged))
 
   module _ (after : PlayedServer) (opened : Opened) (out : List ℕ)
-      (h : RequestStep (memory_meaning untold) before from supported bytes port (record { new = after; opened = opened; sent = out }))
+      (h : RequestStep (memory_meaning untold) before from bytes supported port (record { new = after; opened = opened; sent = out }))
       (t : ℕ) (told : opened.tid ≡ Some t) (o : Option Served) (requests : IsRequested before.store.files bytes o) where
     abbrev result' : PortLeft untold
     result' = record { new = after; opened = opened; sent = out }
 
-    q : (sent : List Datagram) → PortOpened untold (w sent) (asking before from port) result' (service (w sent) bytes (supported said.0))
-    q sent = port_opened untold (w sent) (asking before from port) result' (service (w sent) bytes (supported said.0)) t (did sent after opened out h) told
+    q : (sent : List Datagram) → PortOpened untold (w sent) (asking before from bytes port) result' (service (w sent) h.repeated bytes (supported said.0))
+    q sent = port_opened untold (w sent) (asking before from bytes port) result' (service (w sent) h.repeated bytes (supported said.0)) t (did sent after opened out h) told
 
     abbrev x : List Datagram → OpenedEnd
     x sent = sending_end (w sent) from (q sent).mode (q sent).path (q sent).file (q sent).agreed
@@ -171,7 +171,7 @@ module _ (from : Endpoint) (bytes : List ℕ) (before : PlayedServer) (ps : List
     own sent = record { mode = (q sent).mode; path = (q sent).path; file = (q sent).file; ended = None }
 
     requested_own : (sent : List Datagram) → o ≡ Some (own sent)
-    requested_own sent = requested_is (w sent) bytes said.0 (q sent).path (q sent).file (q sent).mode (q sent).length (q sent).agreed o said.1 (q sent).there (q sent).service_is requests
+    requested_own sent = requested_is (w sent) h.repeated bytes said.0 (q sent).path (q sent).file (q sent).mode (q sent).length (q sent).agreed o said.1 (q sent).there (q sent).service_is requests
 
     port_next : port ≡ 1024 + length ps
     port_next = is ∙ ap (λ (n : ℕ). 1024 + n) counts
@@ -179,8 +179,8 @@ module _ (from : Endpoint) (bytes : List ℕ) (before : PlayedServer) (ps : List
     below : AreBelow port before.held
     below = subst (λ (n : ℕ). AreBelow n before.held) (sym port_next) staged.below
 
-    found : (sent : List Datagram) → at port after.held ≡ Some (held_of (x sent))
-    found sent = ap (λ (s : PlayedServer). at port s.held) (q sent).new ∙ at-with_new port (held_of (x sent)) before.held below
+    found : (sent : List Datagram) → at port after.held ≡ Some (held_of bytes (x sent))
+    found sent = ap (λ (s : PlayedServer). at port s.held) (q sent).new ∙ at-with_new port (held_of bytes (x sent)) before.held below
 
     -- it was wanted, and it is held
     pub opened_requested : o ≡ None → ⊥
@@ -191,7 +191,7 @@ module _ (from : Endpoint) (bytes : List ℕ) (before : PlayedServer) (ps : List
 
     end_is : (sent : List Datagram) → end_at port after.held (Server (own sent)) ≡ x sent
     end_is sent =
-        served_is port (own sent) after.held (held_of (x sent)) (x sent).left refl (found sent) refl
+        served_is port (own sent) after.held (held_of bytes (x sent)) (x sent).left refl (found sent) refl
         ∙ (ap (λ (n : ℕ). new_sender n (x sent).state (q sent).path (q sent).file (x sent).left) (port_next ∙ ap (λ (n : ℕ). 1024 + n) (sym (ends_length before.held ps)))
         ∙ sym (sending_is (w sent) from (q sent).mode (q sent).path (q sent).file (q sent).agreed))
 
@@ -201,13 +201,13 @@ module _ (from : Endpoint) (bytes : List ℕ) (before : PlayedServer) (ps : List
     others : (other : ℕ) → 1024 ≤ other → other < 1024 + length ps → at other after.held ≡ at other before.held
     others other low high =
         let n : other ≢ port = omega (arith, port_next, high) in
-        ap (λ (s : PlayedServer). at other s.held) (q []).new ∙ at-with_new_other port other (held_of (x [])) before.held below n
+        ap (λ (s : PlayedServer). at other s.held) (q []).new ∙ at-with_new_other port other (held_of bytes (x [])) before.held below n
 
     new_kept : PlayerKept port after.held (Server (own []))
     new_kept =
         let side = sending_side (w []) from (q []).mode (q []).path (q []).file (q []).agreed in
         record {
-          transfer = held_of (x []);
+          transfer = held_of bytes (x []);
           left = (x []).left;
           found = found [];
           is_open = sending_open (w []) from (q []).mode (q []).path (q []).file (q []).agreed;
@@ -229,8 +229,8 @@ module _ (from : Endpoint) (bytes : List ℕ) (before : PlayedServer) (ps : List
         ∙ (ap (λ (n : ℕ). ends_of before ps ++ end_at n after.held (Server (own sent)) ∷ []) (sym port_next)
         ∙ ap (λ (y : OpenedEnd). ends_of before ps ++ y ∷ []) (end_is sent)))
 
-    held_now : after.held ≡ before.held ++ (port, held_of (x [])) ∷ []
-    held_now = ap (λ (s : PlayedServer). s.held) (q []).new ∙ with_new-last port (held_of (x [])) before.held below
+    held_now : after.held ≡ before.held ++ (port, held_of bytes (x [])) ∷ []
+    held_now = ap (λ (s : PlayedServer). s.held) (q []).new ∙ with_new-last port (held_of bytes (x [])) before.held below
 
     staged_now : IsStaged after (ps ++ Server (own []) ∷ []) (records ++ (port, record_of (x []).state) ∷ [])
     staged_now = record {
@@ -242,12 +242,12 @@ module _ (from : Endpoint) (bytes : List ℕ) (before : PlayedServer) (ps : List
           ∙ (sym (records_push 1024 (ends_of before ps) (x [])) ∙ ap (records_from 1024) (sym (ends_now []))));
       below =
           let n : port + 1 ≡ 1024 + length (ps ++ Server (own []) ∷ []) = omega (arith, port_next, length-append ps (Server (own []) ∷ [])) in
-          subst (λ (m : ℕ). AreBelow m after.held) n (subst (AreBelow (port + 1)) (sym (ap (λ (s : PlayedServer). s.held) (q []).new)) (AreBelow-with_new port (held_of (x [])) before.held below));
+          subst (λ (m : ℕ). AreBelow m after.held) n (subst (AreBelow (port + 1)) (sym (ap (λ (s : PlayedServer). s.held) (q []).new)) (AreBelow-with_new port (held_of bytes (x [])) before.held below));
       count =
-          let a : length after.held ≡ length (before.held ++ (port, held_of (x [])) ∷ []) = ap length held_now in
+          let a : length after.held ≡ length (before.held ++ (port, held_of bytes (x [])) ∷ []) = ap length held_now in
           let b = transfers-push (ends_of before ps) (x []) (open_x []) in
           let e = staged.count in
-          let n : length after.held ≡ open_transfers (ends_of before ps ++ x [] ∷ []) = omega (arith, a, length-append before.held ((port, held_of (x [])) ∷ []), b, e) in
+          let n : length after.held ≡ open_transfers (ends_of before ps ++ x [] ∷ []) = omega (arith, a, length-append before.held ((port, held_of bytes (x [])) ∷ []), b, e) in
           n ∙ ap open_transfers (sym (ends_now []));
     }
 
@@ -281,5 +281,5 @@ module _ (from : Endpoint) (bytes : List ℕ) (before : PlayedServer) (ps : List
         ∙ (ap (λ (qs : List Player). record (w sent) { sent = sent ++ d ∷ []; ends = ends_of after qs }) players
         ∙ ap (λ (xs : List OpenedEnd). record (w sent) { sent = sent ++ d ∷ []; ends = xs }) (ends_now sent))))) in
         subst (λ (r : Report). ArrivesToday (w sent) from request_port bytes r (world_of before.config (sent ++ said_by here opened.to given) after ps1)) (sym report)
-        (At_port refl (has sent) said.0 said.1 (opened_in (w sent) (x sent)) (q sent).serves
+        (At_port refl (has sent) said.0 said.1 h.repeated (opened_in (w sent) (x sent)) (q sent).serves
         (new ∙ sym (resting_opened (w sent) (x sent) (ends_rest 1024 before.held ps staged.kept) (sending_open (w sent) from (q sent).mode (q sent).path (q sent).file (q sent).agreed))))

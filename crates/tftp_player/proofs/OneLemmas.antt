@@ -47,7 +47,7 @@ serves (Sends path mode length agreed) old new from report s = opens old new _ r
 serves (Takes path mode agreed) old new from report s = opens old new _ report s
 
 arrives : (old new : WorldState) (from to : Endpoint) (bytes : List ℕ) (report : Report) → Arrives old from to bytes report new → AddsOneAtMost old new
-arrives old new from to bytes report (At_request_port here port decoded says served) = serves _ old new from report served
+arrives old new from to bytes report (At_request_port here port decoded says repeated served) = serves _ old new from report served
 arrives old new from to bytes report (At_open_end k x there at open_now takes) = turns old new k x takes.turn takes.held report takes.turns
 arrives old new from to bytes report (At_closed_end k x there at closed_now s) = stays old new report s
 arrives old new from to bytes report (At_nobody away nobody s) = stays old new report s

@@ -131,7 +131,7 @@ opens : WorldStep w1 (Deliver 0) (sent_report w1) w2
 unfolding places_of name_of answered_option
 opens = (
   w2,
-  (d0, refl, At_request_port refl (omega arith) (Some (packet_in d0.bytes)) request_spelled (rw (eight, read_8) (file, refl, record { tells = refl; is = rw eight refl }))),
+  (d0, refl, At_request_port refl (omega arith) (Some (packet_in d0.bytes)) request_spelled false (rw (eight, read_8) (file, refl, record { tells = refl; is = rw eight refl }))),
   sym (resting_opened w1 server refl refl),
 )
 

@@ -82,19 +82,21 @@ module _ (w : WorldState) (path : List ℕ) (mode : Mode) (length : ℕ) (agreed
         mode_is = sym b.1;
       }
 
-  by_asked : (file : List ℕ) (decoded : Option Packet) → IsNoWrite decoded → file_at w.files path ≡ Some file → Is_asked (by_packet w.cap (open_transfers w.ends) w.limits decoded) → ReadServed w decoded path file mode
-  by_asked file None no_write there h = absurd (refuses_none _ h)
-  by_asked file (Some (Read request)) no_write there h = by_named file request (path_of_name request.name) there refl h
-  by_asked file (Some (Write request)) no_write there h = absurd no_write
-  by_asked file (Some (Data number bytes)) no_write there h = absurd (refuses_none _ h)
-  by_asked file (Some (Ack number)) no_write there h = absurd (refuses_none _ h)
-  by_asked file (Some (Error code text)) no_write there h = absurd (refuses_none _ h)
-  by_asked file (Some (Oack options)) no_write there h = absurd (refuses_none _ h)
+  by_asked : (file : List ℕ) (repeated : Bool) (decoded : Option Packet) → IsNoWrite decoded → file_at w.files path ≡ Some file → Is_asked (by_packet w.cap (open_transfers w.ends) repeated w.limits decoded) → ReadServed w decoded path file mode
+  by_asked file repeated None no_write there h = absurd (refuses_none _ h)
+  by_asked file repeated (Some (Read request)) no_write there h =
+      by_named file request (path_of_name request.name) there refl
+      (other_way repeated Ignores (by_name w.cap (open_transfers w.ends) (λ p. Reads p request.mode request.options) (path_of_name request.name)) ignores_none h)
+  by_asked file repeated (Some (Write request)) no_write there h = absurd no_write
+  by_asked file repeated (Some (Data number bytes)) no_write there h = absurd (refuses_none _ h)
+  by_asked file repeated (Some (Ack number)) no_write there h = absurd (refuses_none _ h)
+  by_asked file repeated (Some (Error code text)) no_write there h = absurd (refuses_none _ h)
+  by_asked file repeated (Some (Oack options)) no_write there h = absurd (refuses_none _ h)
 
   -- what was asked for where the server sends a file
-  pub service_sends : (file bytes : List ℕ) (decoded : Option Packet) → IsNoWrite decoded → file_at w.files path ≡ Some file → service w bytes decoded ≡ Sends path mode length agreed → ReadServed w decoded path file mode
-  service_sends file bytes decoded no_write there h =
-      by_asked file decoded no_write there (other_way (has_error_opcode bytes) Ignores (by_packet w.cap (open_transfers w.ends) w.limits decoded) ignores_none h)
+  pub service_sends : (repeated : Bool) (file bytes : List ℕ) (decoded : Option Packet) → IsNoWrite decoded → file_at w.files path ≡ Some file → service w repeated bytes decoded ≡ Sends path mode length agreed → ReadServed w decoded path file mode
+  service_sends repeated file bytes decoded no_write there h =
+      by_asked file repeated decoded no_write there (other_way (has_error_opcode bytes) Ignores (by_packet w.cap (open_transfers w.ends) repeated w.limits decoded) ignores_none h)
 
 pub sending_open : (w : WorldState) (peer : Endpoint) (mode : Mode) (path file : List ℕ) (agreed : List Known) → is_closed (sending_end w peer mode path file agreed) ≡ false
 sending_open w peer mode path file [] = refl
@@ -143,7 +145,7 @@ module _ {D : Type 0} (drafted : D → Option Drafted) (w : WorldState) (asking 
     pub tid : result.opened.tid ≡ Some asking.tid
     pub to : result.opened.to ≡ Some asking.from
     pub sent : result.sent ≡ (sending_end w asking.from mode path file agreed).state.last_sent
-    pub new : result.new ≡ record asking.old { held = with_new asking.tid (held_of (sending_end w asking.from mode path file agreed)) asking.old.held }
+    pub new : result.new ≡ record asking.old { held = with_new asking.tid (held_of asking.bytes (sending_end w asking.from mode path file agreed)) asking.old.held }
     pub serves : Serves service w asking.from (sent_report w) (opened_in w (sending_end w asking.from mode path file agreed))
 
   -- an ERROR went out from the request port, and nothing opened

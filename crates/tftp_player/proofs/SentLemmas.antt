@@ -53,13 +53,13 @@ serves (Sends path mode length agreed) old new from report s h = opens old new _
 serves (Takes path mode agreed) old new from report s h = opens old new _ report s h
 
 arrives : (old new : WorldState) (from to : Endpoint) (bytes : List ℕ) (report : Report) → Arrives old from to bytes report new → HasSentEach old → HasSentEach new
-arrives old new from to bytes report (At_request_port here port decoded says served) h = serves _ old new from report served h
+arrives old new from to bytes report (At_request_port here port decoded says repeated served) h = serves _ old new from report served h
 arrives old new from to bytes report (At_open_end k x there at open_now takes) h = turns old new k x takes.turn takes.held report takes.turns h
 arrives old new from to bytes report (At_closed_end k x there at closed_now s) h = stays old new report s h
 arrives old new from to bytes report (At_nobody away nobody s) h = stays old new report s h
 
 arrives_today : (old new : WorldState) (from to : Endpoint) (bytes : List ℕ) (report : Report) → ArrivesToday old from to bytes report new → HasSentEach old → HasSentEach new
-arrives_today old new from to bytes report (At_port here port decoded says mid served is) h = rested mid new is (serves _ old mid from report served h)
+arrives_today old new from to bytes report (At_port here port decoded says repeated mid served is) h = rested mid new is (serves _ old mid from report served h)
 arrives_today old new from to bytes report (Elsewhere away mid a is) h = rested mid new is (arrives old mid from to bytes report a h)
 
 times_out : (b : Bool) (old new : WorldState) (k : ℕ) (x : OpenedEnd) (report : Report) → TimesOut b old k x report new → HasSentEach old → HasSentEach new

@@ -44,7 +44,7 @@ use Rattle.tftp_server.specs.declared.store.Opening.{Opening}
 use Rattle.tftp_player.specs.Machine.{Endpoint}
 use Rattle.tftp_player.specs.World.{WorldState, StoredFile, OpenedEnd, file_at}
 use Rattle.tftp_player.specs.Openings.{sending_end}
-use Rattle.tftp_server.specs.Port.{Ask, Ignores, Refuses, Reads, Writes, Service, Silent, Refused, Sends, Takes, accept_reply, asks, by_file, by_length, by_name, by_packet}
+use Rattle.tftp_server.specs.Port.{Ask, Ignores, Refuses, Reads, Writes, Service, Silent, Refused, Sends, Takes, accept_reply, asks, by_file, by_length, by_name, by_packet, by_repeat}
 use Rattle.tftp_player.specs.WorldSteps.{never_fails}
 use Rattle.tftp_player.specs.Requests.{open_transfers, opened_of, served, service}
 use Rattle.tftp_player.proofs.SaidLemmas.{one_packet, none_packet}
@@ -123,8 +123,8 @@ IsNoWrite (Some (Write request)) = ⊥
 IsNoWrite decoded = Unit {0}
 
 -- the transfer that a sender of the world is at its server
-abbrev pub held_of : {D : Type 0} → OpenedEnd → Held (List ℕ) D
-held_of x = record { end = x.state; files = Source x.left; path = x.path }
+abbrev pub held_of : {D : Type 0} → List ℕ → OpenedEnd → Held (List ℕ) D
+held_of request x = record { end = x.state; files = Source x.left; path = x.path; request = request }
 
 -- no request to write is supported
 carries_no_write_in : (name : List ℕ) (mode : Mode) → IsNoWrite (supported_read name mode)
@@ -152,26 +152,33 @@ reads_no_draft cap count mode options (Ok path) = by (nat_le cap count) where
   by true = tt
   by false = tt
 
-packet_no_draft : (cap count : ℕ) (limits : Limits) (decoded : Option Packet) → IsNoWrite decoded → AsksNoDraft (by_packet cap count limits decoded)
-packet_no_draft cap count limits None no_write = tt
-packet_no_draft cap count limits (Some (Read request)) no_write = reads_no_draft cap count request.mode request.options (path_of_name request.name)
-packet_no_draft cap count limits (Some (Write request)) no_write = absurd no_write
-packet_no_draft cap count limits (Some (Data number bytes)) no_write = tt
-packet_no_draft cap count limits (Some (Ack number)) no_write = tt
-packet_no_draft cap count limits (Some (Error code text)) no_write = tt
-packet_no_draft cap count limits (Some (Oack options)) no_write = tt
+-- nor where a request is repeated
+unless_repeated : (repeated : Bool) (ask : Ask) → AsksNoDraft ask → AsksNoDraft (by_repeat repeated ask)
+unless_repeated true ask h = tt
+unless_repeated false ask h = h
 
-asks_no_draft : (cap count : ℕ) (limits : Limits) (bytes : List ℕ) (decoded : Option Packet) → IsNoWrite decoded → AsksNoDraft (asks cap count limits bytes decoded)
-asks_no_draft cap count limits bytes decoded no_write = by (has_error_opcode bytes) where
-  by : (b : Bool) → AsksNoDraft (if b then Ignores else by_packet cap count limits decoded)
+packet_no_draft : (cap count : ℕ) (repeated : Bool) (limits : Limits) (decoded : Option Packet) → IsNoWrite decoded → AsksNoDraft (by_packet cap count repeated limits decoded)
+packet_no_draft cap count repeated limits None no_write = tt
+packet_no_draft cap count repeated limits (Some (Read request)) no_write =
+    unless_repeated repeated (by_name cap count (λ p. Reads p request.mode request.options) (path_of_name request.name)) (reads_no_draft cap count request.mode request.options (path_of_name request.name))
+packet_no_draft cap count repeated limits (Some (Write request)) no_write = absurd no_write
+packet_no_draft cap count repeated limits (Some (Data number bytes)) no_write = tt
+packet_no_draft cap count repeated limits (Some (Ack number)) no_write = tt
+packet_no_draft cap count repeated limits (Some (Error code text)) no_write = tt
+packet_no_draft cap count repeated limits (Some (Oack options)) no_write = tt
+
+asks_no_draft : (cap count : ℕ) (repeated : Bool) (limits : Limits) (bytes : List ℕ) (decoded : Option Packet) → IsNoWrite decoded → AsksNoDraft (asks cap count repeated limits bytes decoded)
+asks_no_draft cap count repeated limits bytes decoded no_write = by (has_error_opcode bytes) where
+  by : (b : Bool) → AsksNoDraft (if b then Ignores else by_packet cap count repeated limits decoded)
   by true = tt
-  by false = packet_no_draft cap count limits decoded no_write
+  by false = packet_no_draft cap count repeated limits decoded no_write
 
 module _ {D : Type 0} (drafted : D → Option Drafted) where
   -- what a request is answered from, where the store and the sources tell what they hold
   pub record PortAsking : Type 0 where
     pub old : ServerState Stored (List ℕ) D
     pub from : Endpoint
+    pub bytes : List ℕ
     pub tid : ℕ
 
   abbrev pub PortLeft : Type 0
@@ -189,7 +196,7 @@ module _ {D : Type 0} (drafted : D → Option Drafted) where
   PortDid w (Refused reply) asking result = result ≡ port_left (An_error reply asking.old.store) asking
   PortDid w (Sends path mode length agreed) asking result =
       (file : List ℕ) × (file_at w.files path ≡ Some file)
-      × (result ≡ port_left (A_transfer (held_of (sending_end w asking.from mode path file agreed)) asking.old.store) asking)
+      × (result ≡ port_left (A_transfer (held_of asking.bytes (sending_end w asking.from mode path file agreed)) asking.old.store) asking)
   PortDid w (Takes path mode agreed) asking result = ⊥
 
   -- the server is set to what the world is, holds its files and as many transfers
@@ -205,7 +212,7 @@ module _ {D : Type 0} (drafted : D → Option Drafted) where
     Did service = PortDid w service asking (port_left came asking)
 
     abbrev Has_sent : Service → Opening (List ℕ) → Type 0
-    Has_sent service file = Sent (memory_meaning drafted) asking.old asking.from service (Ok file) came
+    Has_sent service file = Sent (memory_meaning drafted) asking.old asking.from asking.bytes service (Ok file) came
 
     refused : (reply : ErrorReply) → came ≡ An_error reply asking.old.store → Did (Refused reply)
     refused reply h = ap (λ (c : PortCame). port_left c asking) h
@@ -235,9 +242,9 @@ module _ {D : Type 0} (drafted : D → Option Drafted) where
                     file,
                     there,
                     ap (λ (c : PortCame). port_left c asking) (serves.opens
-                        ∙ (ap (λ (e : EndState). A_transfer (record { end = e; files = Source serves.rest; path = path }) asking.old.store) b.0
-                        ∙ (ap (λ (r : List ℕ). A_transfer (record { end = x.state; files = Source r; path = path }) asking.old.store) b.1
-                        ∙ ap (λ (p : List ℕ). A_transfer (record { end = x.state; files = Source x.left; path = p }) asking.old.store) (sym (sending_path w asking.from mode path file agreed))))),
+                        ∙ (ap (λ (e : EndState). A_transfer (record { end = e; files = Source serves.rest; path = path; request = asking.bytes }) asking.old.store) b.0
+                        ∙ (ap (λ (r : List ℕ). A_transfer (record { end = x.state; files = Source r; path = path; request = asking.bytes }) asking.old.store) b.1
+                        ∙ ap (λ (p : List ℕ). A_transfer (record { end = x.state; files = Source x.left; path = p; request = asking.bytes }) asking.old.store) (sym (sending_path w asking.from mode path file agreed))))),
                   )
               | inr changed ↦ let c = changed.1 in absurd (cannot_be_short (wire_text mode file) m c.after c.piece whole c.answer c.reads.fills c.short c.reads.memory c.reads.read)
             ]
@@ -245,7 +252,7 @@ module _ {D : Type 0} (drafted : D → Option Drafted) where
     -- the file was opened, or is not there
     by_store : (path : List ℕ) (mode : Mode) (options : List RawOption) (file : Result (Opening (List ℕ)) StoreFault) (there : Option (List ℕ)) → file_at w.files path ≡ there →
         Opens (λ (s : List ℕ). Some s) (Some asking.old.store) path mode file → IfErr file (MayRefuseOpen asking.old.store path) → file ≢ Err store_faults.Memory →
-        Sent (memory_meaning drafted) asking.old asking.from (by_file asking.old.config.limits path mode options (opened_length file)) file came → Did (by_file w.limits path mode options (opened_of mode there))
+        Sent (memory_meaning drafted) asking.old asking.from asking.bytes (by_file asking.old.config.limits path mode options (opened_length file)) file came → Did (by_file w.limits path mode options (opened_of mode there))
     by_store path mode options (Ok opened) None e opens may memory h =
         absurd (let f : None ≡ Some opens.0 = sym e ∙ (ap (λ (files : List StoredFile). file_at files path) (sym s.files) ∙ opens.1) in cc)
     by_store path mode options (Ok opened) (Some file) e opens may memory h =
@@ -265,23 +272,25 @@ module _ {D : Type 0} (drafted : D → Option Drafted) where
     by_store path mode options (Err store_faults.Io) there e opens may memory h = absurd may
 
     -- what the port asked came to what it comes to in the world
-    port_did : (ask : Ask) → AsksNoDraft ask → Goes (memory_meaning drafted) asking.old asking.from ask came → Did (served w ask)
+    port_did : (ask : Ask) → AsksNoDraft ask → Goes (memory_meaning drafted) asking.old asking.from asking.bytes ask came → Did (served w ask)
     port_did Ignores none h = ap (λ (c : PortCame). port_left c asking) h
     port_did (Refuses reply) none h = refused reply h
     port_did (Reads path mode options) none h = by_store path mode options h.file (file_at w.files path) refl h.opens h.refused h.memory h.goes_on
     port_did (Writes path mode agreed) none h = absurd none
 
   -- the port did at a datagram as the world's server does, where only what is supported so far has a place
-  pub supported_did : (w : WorldState) (asking : PortAsking) (result : PortLeft) (s : IsServerOf w asking.old) (max : IsBlockSize w.limits.max_block) (bytes : List ℕ) (decoded : Option Packet) → Decodes bytes decoded →
-      RequestStep (memory_meaning drafted) asking.old asking.from supported bytes asking.tid result → PortDid w (service w bytes (supported decoded)) asking result
-  supported_did w asking result s max bytes decoded says h =
+  pub supported_did : (w : WorldState) (asking : PortAsking) (result : PortLeft) (s : IsServerOf w asking.old) (max : IsBlockSize w.limits.max_block) (decoded : Option Packet) → Decodes asking.bytes decoded →
+      (h : RequestStep (memory_meaning drafted) asking.old asking.from asking.bytes supported asking.tid result) → PortDid w (service w h.repeated asking.bytes (supported decoded)) asking result
+  supported_did w asking result s max decoded says h =
+      let bytes = asking.bytes in
+      let repeated = h.repeated in
       let packet = supported decoded in
-      let same : asks asking.old.config.cap (length asking.old.held) asking.old.config.limits bytes (supported h.decoded) ≡ asks w.cap (open_transfers w.ends) w.limits bytes packet =
-      ap (λ (p : Option Packet). asks asking.old.config.cap (length asking.old.held) asking.old.config.limits bytes (supported p)) (says_one bytes h.decoded decoded h.says says)
-      ∙ (ap (λ (n : ℕ). asks n (length asking.old.held) asking.old.config.limits bytes packet) s.cap
-      ∙ (ap (λ (n : ℕ). asks w.cap n asking.old.config.limits bytes packet) s.count
-      ∙ ap (λ (l : Limits). asks w.cap (open_transfers w.ends) l bytes packet) s.limits)) in
-      let ask = asks w.cap (open_transfers w.ends) w.limits bytes packet in
-      subst (λ (r : PortLeft). PortDid w (service w bytes packet) asking r) (sym h.left)
-      (port_did w asking h.came s max ask (asks_no_draft w.cap (open_transfers w.ends) w.limits bytes packet (carries_no_write decoded))
-      (subst (λ (a : Ask). Goes (memory_meaning drafted) asking.old asking.from a h.came) same h.goes))
+      let same : asks asking.old.config.cap (length asking.old.held) repeated asking.old.config.limits bytes (supported h.decoded) ≡ asks w.cap (open_transfers w.ends) repeated w.limits bytes packet =
+      ap (λ (p : Option Packet). asks asking.old.config.cap (length asking.old.held) repeated asking.old.config.limits bytes (supported p)) (says_one bytes h.decoded decoded h.says says)
+      ∙ (ap (λ (n : ℕ). asks n (length asking.old.held) repeated asking.old.config.limits bytes packet) s.cap
+      ∙ (ap (λ (n : ℕ). asks w.cap n repeated asking.old.config.limits bytes packet) s.count
+      ∙ ap (λ (l : Limits). asks w.cap (open_transfers w.ends) repeated l bytes packet) s.limits)) in
+      let ask = asks w.cap (open_transfers w.ends) repeated w.limits bytes packet in
+      subst (λ (r : PortLeft). PortDid w (service w repeated bytes packet) asking r) (sym h.left)
+      (port_did w asking h.came s max ask (asks_no_draft w.cap (open_transfers w.ends) repeated w.limits bytes packet (carries_no_write decoded))
+      (subst (λ (a : Ask). Goes (memory_meaning drafted) asking.old asking.from asking.bytes a h.came) same h.goes))

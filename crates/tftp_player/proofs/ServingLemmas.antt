@@ -38,16 +38,17 @@ effect_is at e e' turn step start out none c tells =
     ∙ ap (λ (bytes : List ℕ). record { from = at; to = (told e turn).to; bytes = bytes; closed = outcome_of turn.end.phase }) (c.appended ∙ ap (λ (s : List ℕ). s ++ reply_bytes turn.reply) none)
 
 -- what it left at the server, where it was taken out if it has closed
-pub turns_served : (port : ℕ) (old new : Served) (before mid after : PlayedServer) (next : Transfer) (turn : Turn) (left path : List ℕ) (effect : Effect) (r : Record) →
-    next ≡ record { end = turn.end; files = Source left; path = path } →
+pub turns_served : (port : ℕ) (old new : Served) (before mid after : PlayedServer) (next : Transfer) (turn : Turn) (left path request : List ℕ) (effect : Effect) (r : Record) →
+    next ≡ record { end = turn.end; files = Source left; path = path; request = request } →
     at port mid.held ≡ Some next → mid ≡ record before { held = with_next port next before.held } →
     Concludes port (at port mid.held) old new mid after r → effect ≡ effect_of (server_at port) turn →
     ServedTurns port old new before after turn left effect r
-turns_served port old new before mid after next turn left path effect r is found server c effects =
+turns_served port old new before mid after next turn left path request effect r is found server c effects =
     let d : Concludes port (Some next) old new mid after r = subst (λ (o : Option Transfer). Concludes port o old new mid after r) found c in
     let closed : is_closed next ≡ is_some (outcome_of turn.end.phase) = ap is_closed is in
     record {
       path = path;
+      request = request;
       effects = effects;
       recorded = d.0 ∙ ap (λ (h : Transfer). record_of h.end) is;
       served = d.1.0 ∙ ap (λ (b : Bool). rested_served b r old) closed;
@@ -71,8 +72,8 @@ served_times_out port old new before mid after step start out effect r none kept
       kept.left,
       t.found,
       files,
-      turns_served port old new before mid after next (timeout_turn t.transfer.end) kept.left t.transfer.path effect r
-          (ap (λ (e : EndState). record t.transfer { end = e }) t.carries.state ∙ ap (λ (f : Files (List ℕ) MemSinkState). record { end = (timeout_turn t.transfer.end).end; files = f; path = t.transfer.path }) files)
+      turns_served port old new before mid after next (timeout_turn t.transfer.end) kept.left t.transfer.path t.transfer.request effect r
+          (ap (λ (e : EndState). record t.transfer { end = e }) t.carries.state ∙ ap (λ (f : Files (List ℕ) MemSinkState). record { end = (timeout_turn t.transfer.end).end; files = f; path = t.transfer.path; request = t.transfer.request }) files)
           (ap (at port) t.held ∙ at-with_next port t.transfer next before.held t.found)
           (rest ∙ ap (λ (held : List (ℕ × Transfer)). record before { held = held }) t.held)
           c
@@ -95,12 +96,13 @@ decoded_read from bytes e left turn files (Source left') is h =
 decoded_read from bytes e left turn files (Sink sink) is h =
     absurd (subst (λ (f : Files (List ℕ) MemSinkState). DatagramStepIn (λ (s : List ℕ). Some s) never_fails from bytes e f turn (Sink sink)) is h)
 
-transfer_is : (next : Transfer) (end : EndState) (left path : List ℕ) → next.end ≡ end → next.files ≡ Source left → next.path ≡ path →
-    next ≡ record { end = end; files = Source left; path = path }
-transfer_is next end left path a b c =
-    ap (λ (e : EndState). record { end = e; files = next.files; path = next.path }) a
-    ∙ (ap (λ (f : Files (List ℕ) MemSinkState). record { end = end; files = f; path = next.path }) b
-    ∙ ap (λ (p : List ℕ). record { end = end; files = Source left; path = p }) c)
+transfer_is : (next : Transfer) (end : EndState) (left path request : List ℕ) → next.end ≡ end → next.files ≡ Source left → next.path ≡ path → next.request ≡ request →
+    next ≡ record { end = end; files = Source left; path = path; request = request }
+transfer_is next end left path request a b c d =
+    ap (λ (e : EndState). record { end = e; files = next.files; path = next.path; request = next.request }) a
+    ∙ (ap (λ (f : Files (List ℕ) MemSinkState). record { end = end; files = f; path = next.path; request = next.request }) b
+    ∙ (ap (λ (p : List ℕ). record { end = end; files = Source left; path = p; request = next.request }) c
+    ∙ ap (λ (q : List ℕ). record { end = end; files = Source left; path = path; request = q }) d))
 
 pub served_steps : (port : ℕ) (from : Endpoint) (bytes : List ℕ) (old new : Served) (before mid after : PlayedServer) (step : Step) (start out : List ℕ) (effect : Effect) (r : Record) → start ≡ [] →
     ServedKept port old before.held → TakesDatagram (λ (s : List ℕ). Some s) never_fails port from bytes before.held mid.held step start out → mid ≡ record before { held = mid.held } →
@@ -117,8 +119,8 @@ served_steps port from bytes old new before mid after step start out effect r no
       t.found,
       files,
       decoded.2,
-      turns_served port old new before mid after t.next t.takes.turn decoded.0 t.next.path effect r
-          (transfer_is t.next t.takes.turn.end decoded.0 t.next.path t.takes.carries.state decoded.1 refl)
+      turns_served port old new before mid after t.next t.takes.turn decoded.0 t.next.path t.next.request effect r
+          (transfer_is t.next t.takes.turn.end decoded.0 t.next.path t.next.request t.takes.carries.state decoded.1 refl refl)
           (ap (at port) t.held ∙ at-with_next port t.transfer t.next before.held t.found)
           (rest ∙ ap (λ (held : List (ℕ × Transfer)). record before { held = held }) t.held)
           c
@@ -151,7 +153,7 @@ not_decoded port s before after kept rest k =
     subst (λ (o : Option Transfer). KeepsHeld (λ (s : List ℕ). Some s) never_fails port o before.held after.held) kept.found k in
     let files : h.0.files ≡ kept.transfer.files = kept_files kept.left kept.transfer.files h.0.files kept.sends h.1.files in
     let same : h.0 ≡ kept.transfer =
-    transfer_is h.0 kept.transfer.end kept.left kept.transfer.path h.1.end (files ∙ kept.sends) h.1.path
-    ∙ sym (transfer_is kept.transfer kept.transfer.end kept.left kept.transfer.path refl kept.sends refl) in
+    transfer_is h.0 kept.transfer.end kept.left kept.transfer.path kept.transfer.request h.1.end (files ∙ kept.sends) h.1.path h.1.request
+    ∙ sym (transfer_is kept.transfer kept.transfer.end kept.left kept.transfer.path kept.transfer.request refl kept.sends refl refl) in
     rest ∙ ap (λ (held : List (ℕ × Transfer)). record before { held = held })
     (h.2 ∙ (ap (λ (n : Transfer). with_next port n before.held) same ∙ next_same port kept.transfer before.held kept.found))

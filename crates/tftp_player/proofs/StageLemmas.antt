@@ -160,10 +160,10 @@ some_of : {A : Type 0} (o : Option A) → is_some o ≡ true → (a : A) × (o �
 some_of None e = absurd (true≢false (sym e))
 some_of (Some a) e = (a, refl)
 
-module _ (port : ℕ) (s : Served) (before : PlayedServer) (h : Transfer) (left : List ℕ) (turn : Turn) (left' path : List ℕ) (effect : Effect) (r : Record)
+module _ (port : ℕ) (s : Served) (before : PlayedServer) (h : Transfer) (left : List ℕ) (turn : Turn) (left' path request : List ℕ) (effect : Effect) (r : Record)
     (found : at port before.held ≡ Some h) (open_now : is_some s.ended ≡ false) (kept : ServedKept port s before.held) (keeps : KeepsKind h.end turn.end) (recorded : r ≡ record_of turn.end) where
   abbrev next : Transfer
-  next = record { end = turn.end; files = Source left'; path = path }
+  next = record { end = turn.end; files = Source left'; path = path; request = request }
 
   abbrev x0 : OpenedEnd
   x0 = sending_served port s h.end left
@@ -263,4 +263,4 @@ served_steps port s s' before after h left turn left' effect r found sends open_
     subst (λ (x : OpenedEnd). Stepped port x (Server s') before after turn (Source left') effect r) (sym (served_is port s before.held h left open_now found sends))
     (subst (λ (q : Served). Stepped port (sending_served port s h.end left) (Server q) before after turn (Source left') effect r) (sym t.served)
     (subst (λ (v : PlayedServer). Stepped port (sending_served port s h.end left) (Server (rested_served (is_some (outcome_of turn.end.phase)) r s)) before v turn (Source left') effect r) (sym t.server)
-    (stepped_so port s before h left turn left' t.path effect r found open_now (served_kept port s before.held open_now kept) keeps t.recorded t.effects)))
+    (stepped_so port s before h left turn left' t.path t.request effect r found open_now (served_kept port s before.held open_now kept) keeps t.recorded t.effects)))

@@ -106,7 +106,7 @@ same_place old new k j x y z e at there same (inr away) =
 
 arrived : (strangers : Bool) (old new : WorldState) (from to : Endpoint) (bytes : List ℕ) (report : Report) (k : ℕ) (x : OpenedEnd) → IsOk strangers old → host_of from ≡ Elsewhere →
     Arrives old from to bytes report new → slice_get old.ends k ≡ Some x → HasNoStranger x → IsRecordedSo new k x
-arrived strangers old new from to bytes report k x ok far (At_request_port here port decoded says s) there home = served _ old new from report k x s there
+arrived strangers old new from to bytes report k x ok far (At_request_port here port decoded says repeated s) there home = served _ old new from report k x s there
 arrived strangers old new from to bytes report k x ok far (At_open_end j y at address open_now t) there home =
     same_place old new k j x y (end_after y t.turn t.held) (ap (λ (w : WorldState). w.ends) t.turns.is) at there
     (λ here. let e : y ≡ x = same_Some y x (sym at ∙ (ap (slice_get old.ends) (sym here) ∙ there)) in

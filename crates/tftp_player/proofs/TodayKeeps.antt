@@ -54,9 +54,9 @@ rested strangers mid v e ok = subst (λ (z : WorldState). IsOk strangers z) (sym
 arrival_keeps : (strangers : Bool) (w v : WorldState) (ok : IsOk strangers w) (report : Report) (from to : Endpoint) (bytes : List ℕ) →
     ((p : WirePacket) → Spells p bytes → Contains ok.messages (message from to (said p))) →
     ArrivesToday w from to bytes report v → IsOk strangers v
-arrival_keeps strangers w v ok report from to bytes come (At_port here port decoded says mid served new) =
+arrival_keeps strangers w v ok report from to bytes come (At_port here port decoded says repeated mid served new) =
     rested strangers mid v new
-    (serving_keeps strangers w mid from report ok bytes (supported decoded)
+    (serving_keeps strangers w mid from report ok repeated bytes (supported decoded)
     (λ write r e. let q = supported_asked decoded write r e in
     let was = asked_so ok.messages from decoded (λ p f. subst (λ (a : Endpoint). Contains ok.messages (message from a (said p))) here (come p (says_spelled bytes decoded says p f))) write q.0 q.2 in
     (was.0, was.1 ∙ q.1, was.2)) served)
@@ -66,9 +66,9 @@ arrival_keeps strangers w v ok report from to bytes come (Elsewhere away mid arr
 -- a stranger's datagram that came
 strange_arrival_keeps : (w v : WorldState) (ok : IsOk true w) (report : Report) (from to : Endpoint) (bytes : List ℕ) → host_of from ≡ Far →
     ArrivesToday w from to bytes report v → IsOk true v
-strange_arrival_keeps w v ok report from to bytes far (At_port here port decoded says mid served new) =
+strange_arrival_keeps w v ok report from to bytes far (At_port here port decoded says repeated mid served new) =
     let h = with_decoded w ok from to bytes decoded far says in
-    arrival_keeps true w v h.0 report from to bytes h.1 (At_port here port decoded says mid served new)
+    arrival_keeps true w v h.0 report from to bytes h.1 (At_port here port decoded says repeated mid served new)
 strange_arrival_keeps w v ok report from to bytes far (Elsewhere away mid arrives new) =
     rested true mid v new (stray_keeps w mid ok report from to bytes far arrives)
 

@@ -38,7 +38,7 @@ use Rattle.tftp_player.specs.Said.{said}
 use Rattle.tftp_player.specs.Shows.{IsShown}
 use Rattle.tftp_player.specs.World.{WorldState, OpenedEnd, file_at, in_the_way, datagram, said_in, view_of_end}
 use Rattle.tftp_player.specs.Openings.{request_of, reading_client, writing_client, MayGet, MayPut, sending_end, receiving_end}
-use Rattle.tftp_server.specs.Port.{Ask, Ignores, Refuses, Reads, Service, Refused, Sends, accept_reply, by_draft, by_file, by_length, by_name, by_options, by_packet}
+use Rattle.tftp_server.specs.Port.{Ask, Ignores, Refuses, Reads, Service, Refused, Sends, accept_reply, by_draft, by_file, by_length, by_name, by_options, by_packet, by_repeat}
 use Rattle.tftp_player.specs.Requests.{open_transfers, opened_of, begun_of, served, service}
 use Rattle.tftp_player.specs.WorldSteps.{Stays, Serves, Opens}
 use Rattle.tftp_player.specs.WorldKept.{HeldFits, IsOk}
@@ -239,21 +239,26 @@ module _ (strangers : Bool) (w v : WorldState) (from : Endpoint) (report : Repor
   named_served next each (Ok path) =
       if_served Kept_asking (nat_le w.cap (open_transfers w.ends)) (Refuses ServerBusy) (next path) (λ b. refused ServerBusy) (λ b. each path)
 
-  by_request : (decoded : Option WirePacket) → ((write : Bool) (r : Request) → decoded ≡ Some (request_packet write r) → WasAsked ok.messages from write r.mode) → Kept_asking (by_packet w.cap (open_transfers w.ends) w.limits decoded)
-  by_request None come = refused IllegalOperation
-  by_request (Some (Read r)) come =
-      named_served (λ path. Reads path r.mode r.options) (λ path. reading_served path r.mode r.options (file_at w.files path) (come false r refl) refl) (path_of_name r.name)
-  by_request (Some (Write r)) come =
-      named_served (λ path. by_options path r.mode (answer r.options kinds.Write r.mode 0 w.limits))
-      (λ path. writing_served path r.mode r.options (answer r.options kinds.Write r.mode 0 w.limits) (come true r refl) refl) (path_of_name r.name)
-  by_request (Some (Data number bytes)) come = refused IllegalOperation
-  by_request (Some (Ack number)) come = refused IllegalOperation
-  by_request (Some (Error code text)) come = refused IllegalOperation
-  by_request (Some (Oack options)) come = refused IllegalOperation
+  unless_repeated : (repeated : Bool) (ask : Ask) → Kept_asking ask → Kept_asking (by_repeat repeated ask)
+  unless_repeated repeated ask kept = if_served Kept_asking repeated Ignores ask (λ b h. stays_ok strangers w v report ok h) (λ b. kept)
+
+  by_request : (repeated : Bool) (decoded : Option WirePacket) → ((write : Bool) (r : Request) → decoded ≡ Some (request_packet write r) → WasAsked ok.messages from write r.mode) → Kept_asking (by_packet w.cap (open_transfers w.ends) repeated w.limits decoded)
+  by_request repeated None come = refused IllegalOperation
+  by_request repeated (Some (Read r)) come =
+      unless_repeated repeated (by_name w.cap (open_transfers w.ends) (λ path. Reads path r.mode r.options) (path_of_name r.name))
+      (named_served (λ path. Reads path r.mode r.options) (λ path. reading_served path r.mode r.options (file_at w.files path) (come false r refl) refl) (path_of_name r.name))
+  by_request repeated (Some (Write r)) come =
+      unless_repeated repeated (by_name w.cap (open_transfers w.ends) (λ path. by_options path r.mode (answer r.options kinds.Write r.mode 0 w.limits)) (path_of_name r.name))
+      (named_served (λ path. by_options path r.mode (answer r.options kinds.Write r.mode 0 w.limits))
+      (λ path. writing_served path r.mode r.options (answer r.options kinds.Write r.mode 0 w.limits) (come true r refl) refl) (path_of_name r.name))
+  by_request repeated (Some (Data number bytes)) come = refused IllegalOperation
+  by_request repeated (Some (Ack number)) come = refused IllegalOperation
+  by_request repeated (Some (Error code text)) come = refused IllegalOperation
+  by_request repeated (Some (Oack options)) come = refused IllegalOperation
 
   -- the request port keeps the world
-  pub serving_keeps : (bytes : List ℕ) (decoded : Option WirePacket) → ((write : Bool) (r : Request) → decoded ≡ Some (request_packet write r) → WasAsked ok.messages from write r.mode) → Kept_by (service w bytes decoded)
-  serving_keeps bytes decoded come =
-      if_served Kept_asking (has_error_opcode bytes) Ignores (by_packet w.cap (open_transfers w.ends) w.limits decoded)
+  pub serving_keeps : (repeated : Bool) (bytes : List ℕ) (decoded : Option WirePacket) → ((write : Bool) (r : Request) → decoded ≡ Some (request_packet write r) → WasAsked ok.messages from write r.mode) → Kept_by (service w repeated bytes decoded)
+  serving_keeps repeated bytes decoded come =
+      if_served Kept_asking (has_error_opcode bytes) Ignores (by_packet w.cap (open_transfers w.ends) repeated w.limits decoded)
       (λ b h. stays_ok strangers w v report ok h)
-      (λ b. by_request decoded come)
+      (λ b. by_request repeated decoded come)

@@ -96,7 +96,7 @@ opens : WorldStep w1 (Deliver 0) (sent_report w1) w2
 unfolding places_of
 opens = (
   w2,
-  (d0, refl, At_request_port refl (omega arith) (Some (packet_in d0.bytes)) (fine_spells d0.bytes (bytes_below d0.bytes refl) refl) (record { tells = refl; is = refl })),
+  (d0, refl, At_request_port refl (omega arith) (Some (packet_in d0.bytes)) (fine_spells d0.bytes (bytes_below d0.bytes refl) refl) false (record { tells = refl; is = refl })),
   sym (resting_opened w1 server refl refl),
 )
 

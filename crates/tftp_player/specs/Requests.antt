@@ -1,5 +1,5 @@
 -- What the request port of a world's server does: the server's tests, over the world's files.
-use Rattle.std.specs.Prelude.{ℕ, ◌&&◌, not, List, count_by, Option, Some, None, Result, Ok, Err}
+use Rattle.std.specs.Prelude.{ℕ, Bool, ◌&&◌, not, List, count_by, Option, Some, None, Result, Ok, Err}
 use Rattle.tftp_wire.specs.declared.mode.Mode.{Mode}
 use Rattle.tftp_wire.specs.declared.packet.Packet.{Packet}
 use Rattle.tftp_file.specs.declared.fault.StoreFault.{StoreFault}
@@ -29,6 +29,6 @@ abbrev pub served : WorldState → Ask → Service
 served w ask =
     answered w.limits (λ path mode. opened_of mode (file_at w.files path)) (λ path. begun_of (in_the_way w.overwrite (file_at w.files path))) ask
 
--- what comes of a datagram
-abbrev pub service : WorldState → List ℕ → Option Packet → Service
-service w bytes decoded = served w (asks w.cap (open_transfers w.ends) w.limits bytes decoded)
+-- what comes of a datagram, whether it repeats the request of an open transfer or not
+abbrev pub service : WorldState → Bool → List ℕ → Option Packet → Service
+service w repeated bytes decoded = served w (asks w.cap (open_transfers w.ends) repeated w.limits bytes decoded)

@@ -47,10 +47,11 @@ rested_held false port held = held
 -- an end of the server made a turn, and has this left of its file
 pub record ServedTurns (port : ℕ) (old new : Served) (before after : PlayedServer) (turn : Turn) (left : List ℕ) (effect : Effect) (r : Record) : Type 0 where
   pub path : List ℕ
+  pub request : List ℕ
   pub effects : effect ≡ effect_of (server_at port) turn
   pub recorded : r ≡ record_of turn.end
   pub served : new ≡ rested_served (is_some (outcome_of turn.end.phase)) r old
-  pub server : after ≡ record before { held = rested_held (is_some (outcome_of turn.end.phase)) port (with_next port (record { end = turn.end; files = Source left; path = path }) before.held) }
+  pub server : after ≡ record before { held = rested_held (is_some (outcome_of turn.end.phase)) port (with_next port (record { end = turn.end; files = Source left; path = path; request = request }) before.held) }
 
 -- a timeout did
 abbrev pub ServedTimeoutStep : ℕ → Served → Served → PlayedServer → PlayedServer → Effect → Record → Type 0

@@ -1,5 +1,5 @@
 -- What is supported so far of what may happen in a world.
-use Rattle.std.specs.Prelude.{ℕ, ◌≡◌, ◌≢◌, ◌+◌, ◌<◌, ⊤, List, ◌++◌, length, slice_get, Option, Some}
+use Rattle.std.specs.Prelude.{ℕ, Bool, ◌≡◌, ◌≢◌, ◌+◌, ◌<◌, ⊤, List, ◌++◌, length, slice_get, Option, Some}
 use Rattle.tftp_wire.specs.declared.packet.Packet.{Packet}
 use Rattle.tftp_ends.specs.Action.{Decodes}
 use Rattle.tftp_server.specs.Request.{supported}
@@ -23,8 +23,8 @@ use Rattle.tftp_player.specs.declared.fault.WorldFault.TheVariants.{NoPort, Memo
 -- what arrived where, as far as the request port supports it, and then closed ends at rest
 pub data ArrivesToday (old : WorldState) (from to : Endpoint) (bytes : List ℕ) (report : Report) (new : WorldState) : Type 0 where
   -- at the request port, which serves today what is supported of a packet
-  At_port : (to ≡ request_port) → HasPort old → (decoded : Option Packet) → Decodes bytes decoded → (mid : WorldState) →
-      Serves (service old bytes (supported decoded)) old from report mid → (new ≡ resting mid) → ArrivesToday old from to bytes report new
+  At_port : (to ≡ request_port) → HasPort old → (decoded : Option Packet) → Decodes bytes decoded → (repeated : Bool) → (mid : WorldState) →
+      Serves (service old repeated bytes (supported decoded)) old from report mid → (new ≡ resting mid) → ArrivesToday old from to bytes report new
   -- anywhere else
   Elsewhere : (to ≢ request_port) → (mid : WorldState) → Arrives old from to bytes report mid → (new ≡ resting mid) → ArrivesToday old from to bytes report new
 

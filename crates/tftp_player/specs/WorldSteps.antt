@@ -88,9 +88,9 @@ pub record OnDatagram (old : WorldState) (k : ℕ) (x : OpenedEnd) (from : Endpo
 
 -- what a datagram did where it came to
 pub data Arrives (old : WorldState) (from to : Endpoint) (bytes : List ℕ) (report : Report) (new : WorldState) : Type 0 where
-  -- at the request port
-  At_request_port : (to ≡ request_port) → HasPort old → (decoded : Option Packet) → Decodes bytes decoded →
-      Serves (service old bytes decoded) old from report new → Arrives old from to bytes report new
+  -- at the request port; the server says whether the request repeats that of an open transfer
+  At_request_port : (to ≡ request_port) → HasPort old → (decoded : Option Packet) → Decodes bytes decoded → (repeated : Bool) →
+      Serves (service old repeated bytes decoded) old from report new → Arrives old from to bytes report new
   -- at an open end
   At_open_end : (k : ℕ) (x : OpenedEnd) → slice_get old.ends k ≡ Some x → x.address ≡ to → is_closed x ≡ false →
       OnDatagram old k x from bytes report new → Arrives old from to bytes report new

@@ -69,17 +69,19 @@ end 1025 server-read peer=1024 size=512 number=2 complete=no open
 ",
         1,
     ),
-    // a request that comes twice opens two transfers, and the client takes one (RFC 1350, section 4)
+    // a request that comes twice opens one transfer, and another behind its close (RFC 1350, section 4)
     (
-        "file a 414243\nget a octet\ndeliver 0\ndeliver 0\ndeliver 1\ndeliver 2\ndeliver 4\ndeliver 3\n",
+        "file a 414243\nget a octet\ndeliver 0\ndeliver 0\ndeliver 1\ndeliver 2\n\
+         deliver 0\ndeliver 3\ndeliver 4\n",
         "\
 #0 10.0.0.2:1024 > 10.0.0.1:69 RRQ a octet
 #1 10.0.0.1:1025 > 10.0.0.2:1024 DATA 1 3
-#2 10.0.0.1:1026 > 10.0.0.2:1024 DATA 1 3
-#3 10.0.0.2:1024 > 10.0.0.1:1025 ACK 1
+-
+#2 10.0.0.2:1024 > 10.0.0.1:1025 ACK 1
+closed 1025 Complete
+#3 10.0.0.1:1026 > 10.0.0.2:1024 DATA 1 3
 #4 10.0.0.2:1024 > 10.0.0.1:1026 ERROR 5 (unknown transfer id)
 closed 1026 PeerError(5)
-closed 1025 Complete
 end 1024 client-read peer=1025 size=512 number=1 complete=yes open
 end 1025 server-read peer=1024 size=512 number=1 complete=yes Complete
 end 1026 server-read peer=1024 size=512 number=1 complete=no PeerError(5)

@@ -2,3 +2,4 @@ pub mod MemoryLemmas
 pub mod StepsLemmas
 pub mod TableLemmas
 mod RequestLemmas
+mod RepeatLemmas

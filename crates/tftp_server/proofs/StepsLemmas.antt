@@ -73,18 +73,19 @@ module _ {F K : Type 0} (left : F → Option (List ℕ)) (may_fail : F → ℕ �
         × gives r turn e' (step_in r).to × (step_in r ≡ told e turn)
 
     -- a transfer that reads makes this step
-    pub takes_in : (from : Endpoint) (bytes : List ℕ) (e e' : EndState) (files files' : Files F K) (path : List ℕ) (same_source : F → F → Type 0) (same_sink : K → K → Type 0) (result : Result R EndFault) → IsRead files → AreSame same_source same_sink files files' → IfOk result (HasDecoded from bytes e e' files files') → IfOk result (λ r. TakesBy left may_fail (gives r) from bytes (record { end = e; files = files; path = path }) (record { end = e'; files = files'; path = path }) (step_in r))
-    takes_in from bytes e e' (Source s) (Source s') path ss sk (Ok r) read same h =
+    pub takes_in : (from : Endpoint) (bytes : List ℕ) (e e' : EndState) (files files' : Files F K) (path request : List ℕ) (same_source : F → F → Type 0) (same_sink : K → K → Type 0) (result : Result R EndFault) → IsRead files → AreSame same_source same_sink files files' → IfOk result (HasDecoded from bytes e e' files files') → IfOk result (λ r. TakesBy left may_fail (gives r) from bytes (record { end = e; files = files; path = path; request = request }) (record { end = e'; files = files'; path = path; request = request }) (step_in r))
+    takes_in from bytes e e' (Source s) (Source s') path request ss sk (Ok r) read same h =
         record {
           turn = h.0;
           steps = record { decoded = h.1.decoded; says = h.1.says; acts = acts_read (datagram_action e from bytes h.1.decoded) from bytes e s s' h.0 h.1.acts };
           carries = h.2;
           tells = h.3;
           path = refl;
+          request = refl;
         }
-    takes_in from bytes e e' (Source s) (Sink k) path ss sk result read same h = absurd same
-    takes_in from bytes e e' (Sink k) files' path ss sk result read same h = absurd read
-    takes_in from bytes e e' (Source s) (Source s') path ss sk (Err fault) read same h = tt
+    takes_in from bytes e e' (Source s) (Sink k) path request ss sk result read same h = absurd same
+    takes_in from bytes e e' (Sink k) files' path request ss sk result read same h = absurd read
+    takes_in from bytes e e' (Source s) (Source s') path request ss sk (Err fault) read same h = tt
 
     module _ (state : (r : R) (turn : Turn) (e : EndState) (to : Option Endpoint) → gives r turn e to → e ≡ turn.end) where
       decoded_side : (from : Endpoint) (bytes : List ℕ) (e e' : EndState) (s s' : F) (P : Type 0) (same : P → e' ≡ e) (result : Result R EndFault) → IfOk result (HasDecoded from bytes e e' (Source s) (Source s')) → OnErr result P → e'.side ≡ e.side
@@ -105,13 +106,13 @@ module _ {F K : Type 0} (left : F → Option (List ℕ)) (may_fail : F → ℕ �
   kept_as (Sink k) (Source s) h = h
   kept_as (Sink k) (Sink k') h = tt
 
-  pub stays_lent : {R : Type 0} (e e' : EndState) (files files' : Files F K) (path : List ℕ) (result : Result R EndFault) → OnErr result ((e' ≡ e) × KeepsFiles left held files files') → OnErr result (StaysAs left may_fail (record { end = e; files = files; path = path }) (record { end = e'; files = files'; path = path }))
-  stays_lent e e' files files' path (Ok r) h = tt
-  stays_lent e e' files files' path (Err fault) h = record { end = h.0; path = refl; files = kept_as files files' h.1 }
+  pub stays_lent : {R : Type 0} (e e' : EndState) (files files' : Files F K) (path request : List ℕ) (result : Result R EndFault) → OnErr result ((e' ≡ e) × KeepsFiles left held files files') → OnErr result (StaysAs left may_fail (record { end = e; files = files; path = path; request = request }) (record { end = e'; files = files'; path = path; request = request }))
+  stays_lent e e' files files' path request (Ok r) h = tt
+  stays_lent e e' files files' path request (Err fault) h = record { end = h.0; path = refl; request = refl; files = kept_as files files' h.1 }
 
-  pub stays_as : (e e' : EndState) (files files' : Files F K) (path before after : List ℕ) (result : Result Step EndFault) → OnErr result ((e' ≡ e) × (after ≡ before) × KeepsFiles left held files files') → OnErr result (StaysAs left may_fail (record { end = e; files = files; path = path }) (record { end = e'; files = files'; path = path }) × (after ≡ before))
-  stays_as e e' files files' path before after (Ok step) h = tt
-  stays_as e e' files files' path before after (Err fault) h = (record { end = h.0; path = refl; files = kept_as files files' h.2 }, h.1)
+  pub stays_as : (e e' : EndState) (files files' : Files F K) (path request before after : List ℕ) (result : Result Step EndFault) → OnErr result ((e' ≡ e) × (after ≡ before) × KeepsFiles left held files files') → OnErr result (StaysAs left may_fail (record { end = e; files = files; path = path; request = request }) (record { end = e'; files = files'; path = path; request = request }) × (after ≡ before))
+  stays_as e e' files files' path request before after (Ok step) h = tt
+  stays_as e e' files files' path request before after (Err fault) h = (record { end = h.0; path = refl; request = refl; files = kept_as files files' h.2 }, h.1)
 
 -- ---- why an event was not taken
 different : {R : Type 0} (fault : EndFault) → fault ≡ ends.Memory → IsErrOf {T = R} (Err fault) ends.Closed → ⊥

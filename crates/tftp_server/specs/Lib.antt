@@ -1,10 +1,10 @@
 pub mod Config
 pub mod Fault
 pub mod FaultStore
-pub mod Table
 pub mod Store
 pub mod Memory
 pub mod State
+pub mod Table
 pub mod Steps
 pub mod Port
 pub mod Request

@@ -64,6 +64,10 @@ abbrev pub by_options : List ℕ → Mode → Result (List Known) Refusal → As
 by_options path mode (Err refusal) = Refuses (accept_reply refusal)
 by_options path mode (Ok agreed) = Writes path mode agreed
 
+-- a request that was received before is let be
+abbrev pub by_repeat : Bool → Ask → Ask
+by_repeat repeated ask = if repeated then Ignores else ask
+
 module _ (cap count : ℕ) where
   -- the table must have room
   abbrev pub by_room : (List ℕ → Ask) → List ℕ → Ask
@@ -74,16 +78,17 @@ module _ (cap count : ℕ) where
   by_name next (Err fault) = Refuses AccessViolation
   by_name next (Ok path) = by_room next path
 
-  -- only a request has a place here
-  abbrev pub by_packet : Limits → Option Packet → Ask
-  by_packet limits (Some (Read r)) = by_name (λ path. Reads path r.mode r.options) (path_of_name r.name)
-  by_packet limits (Some (Write r)) =
-      by_name (λ path. by_options path r.mode (answer r.options kinds.Write r.mode 0 limits)) (path_of_name r.name)
-  by_packet limits _ = Refuses IllegalOperation
+  -- only a request has a place here, and one that opened a transfer which is still open opens no other
+  abbrev pub by_packet : Bool → Limits → Option Packet → Ask
+  by_packet repeated limits (Some (Read r)) =
+      by_repeat repeated (by_name (λ path. Reads path r.mode r.options) (path_of_name r.name))
+  by_packet repeated limits (Some (Write r)) =
+      by_repeat repeated (by_name (λ path. by_options path r.mode (answer r.options kinds.Write r.mode 0 limits)) (path_of_name r.name))
+  by_packet repeated limits _ = Refuses IllegalOperation
 
   -- what begins as an ERROR is never answered
-  abbrev pub asks : Limits → List ℕ → Option Packet → Ask
-  asks limits bytes packet = if has_error_opcode bytes then Ignores else by_packet limits packet
+  abbrev pub asks : Bool → Limits → List ℕ → Option Packet → Ask
+  asks repeated limits bytes packet = if has_error_opcode bytes then Ignores else by_packet repeated limits packet
 
 -- the store is asked
 abbrev pub asks_store : Ask → Bool
@@ -120,6 +125,6 @@ module _ {D : Type 0} (limits : Limits) (opened : List ℕ → Mode → Result �
   answered (Reads path mode options) = by_file limits path mode options (opened path mode)
   answered (Writes path mode agreed) = by_draft path mode agreed (begun path)
 
-  -- the whole, where the table holds so many transfers
-  abbrev pub service : (cap count : ℕ) → List ℕ → Option Packet → Service
-  service cap count bytes packet = answered (asks cap count limits bytes packet)
+  -- the whole, where the table holds so many transfers, and one of them was opened so or not
+  abbrev pub service : (cap count : ℕ) → Bool → List ℕ → Option Packet → Service
+  service cap count repeated bytes packet = answered (asks cap count repeated limits bytes packet)

@@ -1,5 +1,5 @@
 -- How the request port handles a datagram, and what it leaves (RFC 1350, section 4; RFC 2347, "Negotiation Protocol").
-use Rattle.std.specs.Prelude.{ℕ, ◌≡◌, ◌≢◌, List, [], ◌⊎◌, length, Option, Some, None, Result, Ok, Err, IfErr}
+use Rattle.std.specs.Prelude.{ℕ, Bool, ◌≡◌, ◌≢◌, List, [], ◌⊎◌, length, Option, Some, None, Result, Ok, Err, IfErr}
 use Rattle.tftp_wire.specs.declared.mode.Mode.{Mode}
 use Rattle.tftp_wire.specs.declared.mode.Mode.TheVariants.{Octet, Netascii}
 use Rattle.tftp_wire.specs.declared.options.RawOption.{RawOption}
@@ -24,7 +24,7 @@ use Rattle.tftp_server.specs.declared.server.request.Asked.TheVariants as asked
 use Rattle.tftp_server.specs.declared.server.request.Decision.{Decision}
 use Rattle.tftp_server.specs.declared.server.request.Decision.TheVariants.{Refuse, Open}
 use Rattle.tftp_server.specs.declared.store.Opening.{Opening}
-use Rattle.tftp_server.specs.State.{Held, ServerState, with_new}
+use Rattle.tftp_server.specs.State.{Held, ServerState, IsRepeated, with_new}
 use Rattle.tftp_server.specs.Port.{Ask, Ignores, Refuses, Reads, Writes, Service, Refused, Sends, Takes, asks, by_file, by_draft}
 use Rattle.tftp_server.specs.Store.{StoreMeaning, Opens, Begins}
 
@@ -85,13 +85,13 @@ module _ {S F D : Type 0} where
         sent = held.end.last_sent;
       }
 
-module _ {S F D : Type 0} (meaning : StoreMeaning S F D) (old : ServerState S F D) (from : Endpoint) where
+module _ {S F D : Type 0} (meaning : StoreMeaning S F D) (old : ServerState S F D) (from : Endpoint) (bytes : List ℕ) where
   -- the end of a read opens with DATA 1 or the OACK
   pub record Serves (path : List ℕ) (mode : Mode) (length : ℕ) (agreed : List Known) (source : F) (came : Came S F D) : Type 0 where
     pub rest : F
     pub end : EndState
     pub serves : ServesRead meaning.left meaning.may_fail agreed from mode length old.config.retries source rest end
-    pub opens : came ≡ A_transfer (record { end = end; files = Source rest; path = path }) old.store
+    pub opens : came ≡ A_transfer (record { end = end; files = Source rest; path = path; request = bytes }) old.store
 
   -- or, where no option is agreed and DATA 1 can't be had, the file has changed
   abbrev pub Starts : List ℕ → Mode → ℕ → List Known → F → Came S F D → Type 0
@@ -117,7 +117,7 @@ module _ {S F D : Type 0} (meaning : StoreMeaning S F D) (old : ServerState S F 
   abbrev pub Taken : Service → Result D StoreFault → S → Came S F D → Type 0
   Taken (Refused reply) draft store came = came ≡ An_error reply store
   Taken (Takes path mode agreed) (Ok draft) store came =
-      came ≡ A_transfer (record { end = serving_write agreed from mode old.config.retries; files = Sink draft; path = path }) store
+      came ≡ A_transfer (record { end = serving_write agreed from mode old.config.retries; files = Sink draft; path = path; request = bytes }) store
   Taken service draft store came = ⊥
 
   -- a write: the store is asked for a draft
@@ -137,11 +137,13 @@ module _ {S F D : Type 0} (meaning : StoreMeaning S F D) (old : ServerState S F 
   Goes (Writes path mode agreed) came = AsksToWrite path mode agreed came
 
   -- how the request port handles a datagram, where so much of what it says is supported
-  pub record RequestStep (supports : Option Packet → Option Packet) (bytes : List ℕ) (tid : ℕ) (result : Left S F D) : Type 0 where
+  pub record RequestStep (supports : Option Packet → Option Packet) (tid : ℕ) (result : Left S F D) : Type 0 where
     pub decoded : Option Packet
     pub says : Decodes bytes decoded
+    pub repeated : Bool
+    pub repeats : IsRepeated repeated from decoded old.held
     pub came : Came S F D
-    pub goes : Goes (asks old.config.cap (length old.held) old.config.limits bytes (supports decoded)) came
+    pub goes : Goes (asks old.config.cap (length old.held) repeated old.config.limits bytes (supports decoded)) came
     pub left : result ≡ left_by came old from tid
 
 -- what the port asks, as the code has it

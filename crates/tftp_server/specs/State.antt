@@ -1,19 +1,23 @@
 -- The state of a server: what it is set to, its store, and the transfers that it holds.
-use Rattle.std.specs.Prelude.{ℕ, Bool, false, not, List, Option, Some, None, is_some, if◌then◌else◌}
+use Rattle.std.specs.Prelude.{ℕ, ◌≡◌, ◌⊎◌, ◌↔◌, IsTrue, Bool, false, not, List, [], ◌∷◌, Option, Some, None, is_some, if◌then◌else◌}
 use Rattle.std.specs.BTreeMap.{insert_entry, is_at}
 use Rattle.std.specs.Ordering.{nat_cmp}
 use Rattle.std.specs.Map.{lookup, remove_entry, set_value}
+use Rattle.tftp_wire.specs.Spelling.{Spells}
+use Rattle.tftp_wire.specs.declared.packet.Packet.{Packet}
 use Rattle.tftp_file.specs.declared.files.Files.{Files}
 use Rattle.tftp_file.specs.declared.files.Files.TheVariants.{Source, Sink}
+use Rattle.tftp_ends.specs.declared.endpoint.Endpoint.{Endpoint}
 use Rattle.tftp_ends.specs.declared.record.Record.{Record}
 use Rattle.tftp_ends.specs.End.{EndState, record_of, outcome_of}
 use Rattle.tftp_server.specs.declared.config.Config.{Config}
 
--- a held transfer: its end, its source or draft, and the path of the file
+-- a held transfer: its end, its source or draft, the path of the file, and the datagram that asked for it
 pub record Held (F D : Type 0) : Type 0 where
   pub end : EndState
   pub files : Files F D
   pub path : List ℕ
+  pub request : List ℕ
 
 -- all of a server; the transfers stand in rising order of their identifiers
 pub record ServerState (S F D : Type 0) : Type 0 where
@@ -40,6 +44,24 @@ module _ {F D : Type 0} where
   abbrev pub taken_of : {K : Type 0} → Option (Held F D) → Option (Record × Option K)
   taken_of None = None
   taken_of (Some held) = if is_closed held then Some (record_of held.end, None) else None
+
+module _ {F D : Type 0} where
+  -- an open transfer was asked for from there by a datagram that spells this packet; the case of the mode's letters is
+  -- no part of a packet
+  pub record Repeats (from : Endpoint) (packet : Packet) (held : Held F D) : Type 0 where
+    pub still : is_closed held ≡ false
+    pub peer : (record_of held.end).peer ≡ Some from
+    pub same : Spells packet held.request
+
+  -- one of the transfers was
+  abbrev pub AnyRepeats : Endpoint → Packet → List (ℕ × Held F D) → Type 0
+  AnyRepeats from packet [] = ⊥
+  AnyRepeats from packet (e ∷ held) = Repeats from packet e.1 ⊎ AnyRepeats from packet held
+
+  -- whether a datagram repeats the request of an open transfer
+  abbrev pub IsRepeated : Bool → Endpoint → Option Packet → List (ℕ × Held F D) → Type 0
+  IsRepeated repeated from None held = repeated ≡ false
+  IsRepeated repeated from (Some packet) held = IsTrue repeated ↔ AnyRepeats from packet held
 
 module _ {T : Type 0} where
   -- the transfer at an identifier

@@ -86,6 +86,7 @@ module _ {F D : Type 0} (left : F → Option (List ℕ)) (may_fail : F → ℕ �
     pub carries : gives turn next.end step.to
     pub tells : step ≡ told transfer.end turn
     pub path : next.path ≡ transfer.path
+    pub request : next.request ≡ transfer.request
 
   -- the transfer at the identifier made the step of a datagram, which gave this, and every other is as before
   pub record TakesDatagramBy (gives : Gives) (tid : ℕ) (from : Endpoint) (bytes : List ℕ) (old new : List (ℕ × Held F D)) (step : Step) : Type 0 where
@@ -109,6 +110,7 @@ module _ {F D : Type 0} (left : F → Option (List ℕ)) (may_fail : F → ℕ �
   pub record StaysAs (transfer next : Held F D) : Type 0 where
     pub end : next.end ≡ transfer.end
     pub path : next.path ≡ transfer.path
+    pub request : next.request ≡ transfer.request
     pub files : KeepsFiles left (λ (draft : D). None) transfer.files next.files
 
   -- nothing has changed; the file of the transfer at the identifier tells the same

@@ -2,7 +2,7 @@
 
 mod request;
 
-ghost use Rattle.std.specs.Prelude.{◌≡◌, ◌↔◌, ◌⊎◌, ◌++◌, List, ℕ, [], length, Option, None, Some, option_map, is_some, IsSome, if◌then◌else◌, false, IfOk, IfErr, IsErrOf, OnOk, OnErr};
+ghost use Rattle.std.specs.Prelude.{◌≡◌, ◌↔◌, ◌⊎◌, ◌++◌, List, ℕ, [], length, Bool, Option, None, Some, option_map, is_some, IsSome, if◌then◌else◌, false, IfOk, IfErr, IsErrOf, OnOk, OnErr};
 ghost use Rattle.std.specs.Map.{keys_of};
 ghost use Rattle.tftp_ends.specs.End.{record_of};
 ghost use Rattle.tftp_file.specs.Memory.{MemSinkState};
@@ -13,7 +13,7 @@ ghost use Rattle.tftp_ends.specs.Step.{error_bytes, lent};
 ghost use Rattle.tftp_wire.specs.declared.packet.Packet.{Packet};
 ghost use Rattle.tftp_ends.specs.Action.{Decodes};
 ghost use Rattle.tftp_server.specs.Port.{asks, asks_store};
-ghost use Rattle.tftp_server.specs.State.{at, is_open, taken_of, without};
+ghost use Rattle.tftp_server.specs.State.{IsRepeated, at, is_open, taken_of, without};
 ghost use Rattle.tftp_server.specs.Steps.{TimesOut, TimesOutLent, TimeoutFault, TakesDatagram, TakesDatagramLent, DatagramFault, DatagramFaultLent, KeepsHeld};
 ghost use Rattle.std.specs.Borrow.{Lends, sem};
 
@@ -196,16 +196,17 @@ impl<S: Store> Server<S> {
         }
     }
 
-    /// Whether a datagram to the port of requests could open a transfer, by the tests that ask no
-    /// store, so that no socket has to be made where it could not: [`Server::on_request`] then opens
+    /// Whether a datagram from there to the port of requests could open a transfer, by the tests that
+    /// ask no store, so that no socket has to be made where it could not: [`Server::on_request`] then opens
     /// none, whatever the identifier. It fails only when out of memory.
-    pub fn may_open(&self, bytes: &[u8]) -> Result<bool, ServerFault>
-        ensures asks { IfOk result (λ may. (decoded : Option Packet) × Decodes bytes.now decoded
-            × (may ≡ asks_store (asks self.now.config.cap (length self.now.held)
+    pub fn may_open(&self, from: Endpoint, bytes: &[u8]) -> Result<bool, ServerFault>
+        ensures asks { IfOk result (λ may. (decoded : Option Packet) × (repeated : Bool)
+            × Decodes bytes.now decoded × IsRepeated repeated from decoded self.now.held
+            × (may ≡ asks_store (asks self.now.config.cap (length self.now.held) repeated
             self.now.config.limits bytes.now (supported decoded)))) }
         ensures memory { IfErr result (λ fault. fault ≡ ServerFault.Memory) }
     {
-        match self.asked(bytes) {
+        match self.asked(from, bytes) {
             Ok(Asked::Nothing) => Ok(false),
             Ok(Asked::Refuse(_)) => Ok(false),
             Ok(Asked::Read(_)) => Ok(true),
@@ -236,7 +237,7 @@ impl<S: Store> Server<S> {
               may_fail = S.Source.may_fail;
               may_refuse_open = S.may_refuse_open;
               may_refuse_begin = S.may_refuse_begin;
-            }) self.old from supported bytes.now tid
+            }) self.old from bytes.now supported tid
             (record { new = self.new; opened = opened; sent = sent })) }
         ensures in_use { IsErrOf result ServerFault.TidInUse ↔ IsSome (at tid self.old.held) }
         ensures fault { IfErr result (λ fault. (fault ≡ ServerFault.TidInUse) ⊎
@@ -246,13 +247,13 @@ impl<S: Store> Server<S> {
         if self.table.contains(tid) {
             return Err(ServerFault::TidInUse);
         }
-        match self.asked(bytes) {
+        match self.asked(from, bytes) {
             Ok(Asked::Nothing) => Ok(Opened {
                 tid: None,
                 to: None,
             }),
             Ok(Asked::Refuse(reply)) => refuse(reply, from, out),
-            Ok(Asked::Read(path)) => self.read_from(from, tid, path, out),
+            Ok(Asked::Read(path)) => self.read_from(from, tid, path, bytes, out),
             Err(_) => Err(ServerFault::Memory),
         }
     }
@@ -263,6 +264,7 @@ impl<S: Store> Server<S> {
         from: Endpoint,
         tid: u16,
         path: Path,
+        bytes: &[u8],
         out: &mut Vec<u8>,
     ) -> Result<Opened, ServerFault>
         requires { at tid self.old.held ≡ None }
@@ -275,7 +277,7 @@ impl<S: Store> Server<S> {
               may_fail = S.Source.may_fail;
               may_refuse_open = S.may_refuse_open;
               may_refuse_begin = S.may_refuse_begin;
-            }) self.old from path Octet [] came
+            }) self.old from bytes.now path Octet [] came
             × (out.new.items ≡ out.old.items ++ sent) × (record {
               new = self.new;
               opened = opened;
@@ -285,7 +287,7 @@ impl<S: Store> Server<S> {
         ensures err { OnErr result ((self.new ≡ self.old) × (out.new.items ≡ out.old.items)) }
     {
         let start = out.len();
-        match self.read(from, path, out) {
+        match self.read(from, path, bytes, out) {
             Ok(Decision::Refuse(reply)) => refuse(reply, from, out),
             Ok(Decision::Open(transfer)) => {
                 let Ok(()) = self.table.insert(tid, transfer) else {

@@ -1,17 +1,22 @@
 //! The transfers of a server by their identifiers.
 
-ghost use Rattle.std.specs.Prelude.{◌≡◌, ◌++◌, [], length, option_copied, is_some, None, OnOk, OnErr};
+ghost use Rattle.std.specs.Prelude.{◌≡◌, ◌↔◌, ◌++◌, [], map, length, option_copied, option_map, is_some, None, IsTrue, OnOk, OnErr};
+ghost use Rattle.tftp_wire.specs.Borrowed.{owned};
+ghost use Rattle.tftp_server.specs.State.{IsRepeated};
 ghost use Rattle.std.specs.Map.{lookup, keys_of, remove_entry, set_value};
 ghost use Rattle.std.specs.Borrow.{LendsIf, sem};
 ghost use Rattle.std.specs.Option.{option_copied_mut};
-ghost use Rattle.tftp_server.specs.Table.{IsKeyFor};
+ghost use Rattle.tftp_server.specs.Table.{IsKeyFor, AnyKeyRepeats};
 ghost use Rattle.std.specs.BTreeMap.{insert_entry, is_at};
 ghost use Rattle.std.specs.Ordering.{nat_cmp};
 
+use crate::transfer::Transfer;
 use slab::Slab;
 use std::alloc::{AllocError, Global};
 use std::collections::BTreeMap;
 use std::marker::Model;
+use tftp_ends::Endpoint;
+use tftp_wire::PacketRef;
 
 /// Values by identifier. Contracts see the list of them in rising order of identifier.
 #[derive(Drop)]
@@ -85,6 +90,40 @@ impl<T> Table<T> {
     {
         self.index.contains_key(&tid)
     }
+}
+
+impl<F> Table<Transfer<F>> {
+    /// Whether one of them is open and was asked for from there by this packet.
+    pub(crate) fn is_repeated(&self, from: Endpoint, decoded: &Option<PacketRef<'_>>) -> bool
+        ensures { IsRepeated result from (option_map owned decoded.now) self.now }
+    {
+        match decoded {
+            Some(packet) => any_repeats(&self.index, &self.slots, from, packet),
+            None => false,
+        }
+    }
+}
+
+/// Whether one of the transfers under the keys is open and was asked for from there by this packet.
+fn any_repeats<F>(
+    index: &BTreeMap<u16, usize>,
+    slots: &Slab<Transfer<F>>,
+    from: Endpoint,
+    packet: &PacketRef<'_>,
+) -> bool
+    ensures { IsTrue result ↔ AnyKeyRepeats from (owned packet.now) slots.now (map (λ e. e.1)
+        index.now.entries) }
+{
+    for key in index.values() {
+        let is_repeated = match slots.get(*key) {
+            Some(transfer) => transfer.repeats(from, packet),
+            None => false,
+        };
+        if is_repeated {
+            return true;
+        }
+    }
+    false
 }
 
 impl<T: Drop> Table<T> {

@@ -1,8 +1,9 @@
-//! A transfer that a server holds: its end, its file and where that file is.
+//! A transfer that a server holds: its end, its file, where that file is and what asked for it.
 
-ghost use Rattle.std.specs.Prelude.{◌≡◌, ◌↔◌, true, IfOk, OnErr, IsErrOf, Option};
+ghost use Rattle.std.specs.Prelude.{◌≡◌, ◌↔◌, true, IsTrue, IfOk, OnErr, IsErrOf, Option};
 ghost use Rattle.tftp_ends.specs.End.{record_of};
-ghost use Rattle.tftp_server.specs.State.{is_closed, IsRead};
+ghost use Rattle.tftp_server.specs.State.{is_closed, IsRead, Repeats};
+ghost use Rattle.tftp_wire.specs.Borrowed.{owned};
 ghost use Rattle.tftp_ends.specs.Files.{AreFilesOf};
 ghost use Rattle.tftp_server.specs.Steps.{with_end, lends, TakesBy, TakesIn, StaysAs};
 ghost use Rattle.tftp_ends.specs.Action.{Decodes, datagram_action, timeout_action};
@@ -12,13 +13,16 @@ ghost use Rattle.tftp_wire.specs.declared.packet.Packet.{Packet};
 use std::marker::Model;
 use tftp_ends::{End, EndFault, Endpoint, Outgoing, Record, Step};
 use tftp_file::{Files, MemSink, Path, Source};
+use tftp_wire::PacketRef;
 
-/// A transfer: an end with its source, and the path of the file. No transfer has a sink yet.
+/// A transfer: an end with its source, the path of the file, and the datagram that asked for it. No
+/// transfer has a sink yet.
 #[derive(Drop)]
 pub(crate) struct Transfer<F> {
     end: End,
     files: Files<F, MemSink>,
     path: Path,
+    request: Vec<u8>,
 }
 
 impl<F> Model for Transfer<F> {
@@ -29,19 +33,29 @@ impl<F> Model for Transfer<F> {
 
     ghost Value = { Held F MemSinkState };
 
-    ghost view = { λ t. record { end = t.end; files = t.files; path = t.path } };
+    ghost view = { λ t. record { end = t.end; files = t.files; path = t.path; request = t.request.items } };
 
     ghost invariant = { λ t. AreFilesOf t.end.side t.files × IsRead t.files };
 }
 
 impl<F> Transfer<F> {
-    /// A transfer that reads the file at the path.
-    pub(crate) fn new(end: End, files: Files<F, MemSink>, path: Path) -> Transfer<F>
+    /// A transfer that reads the file at the path, which the datagram asked for.
+    pub(crate) fn new(
+        end: End,
+        files: Files<F, MemSink>,
+        path: Path,
+        request: Vec<u8>,
+    ) -> Transfer<F>
         requires files { AreFilesOf end.side files }
         requires read { IsRead files }
-        ensures { result ≡ record { end = end; files = files; path = path } }
+        ensures { result ≡ record { end = end; files = files; path = path; request = request.items } }
     {
-        Transfer { end, files, path }
+        Transfer {
+            end,
+            files,
+            path,
+            request,
+        }
     }
 
     /// How far its end came.
@@ -56,6 +70,16 @@ impl<F> Transfer<F> {
         ensures { result ≡ is_closed self.now }
     {
         self.end.record().outcome.is_some()
+    }
+
+    /// Whether it is open, and was asked for from there by the same packet.
+    pub(crate) fn repeats(&self, from: Endpoint, packet: &PacketRef<'_>) -> bool
+        ensures { IsTrue result ↔ Repeats from (owned packet.now) self.now }
+    {
+        let record = self.end.record();
+        record.outcome.is_none()
+            && record.peer == Some(from)
+            && packet.is_spelled(self.request.as_slice())
     }
 }
 

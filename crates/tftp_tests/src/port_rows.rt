@@ -106,6 +106,54 @@ fn open(
     Ok(())
 }
 
+/// What comes from the endpoint whose transfer is open, and the answer: a read of another file is no
+/// repeat, and the mode's letters make no difference (RFC 1350, section 5).
+const REPEATS: [(&[u8], &[u8]); 4] = [
+    (b"\x00\x01a\x00octet\x00", b""),
+    (b"\x00\x01a\x00OcTeT\x00", b""),
+    (
+        b"\x00\x01b\x00octet\x00",
+        b"\x00\x05\x00\x01file not found\x00",
+    ),
+    (
+        b"\x00\x01a\x00octet\x00blksize\x008\x00",
+        b"\x00\x03\x00\x01ABC",
+    ),
+];
+
+#[test]
+fn a_repeated_request_opens_nothing(rt: HostRuntime) -> Result<(), Fail> {
+    for (request, answer) in REPEATS {
+        let mut server = server(&rt, rt.alloc(), Config::default())?;
+        open(&rt, rt.alloc(), &mut server, 1025)?;
+        let mut out = Vec::new(rt.alloc());
+        server.on_request(client(1025), 1040, request, &mut out)?;
+        assert_eq!(rt; out.as_slice(), answer, "to {request:?}");
+    }
+    Ok(())
+}
+
+#[test]
+fn a_request_opens_anew_behind_the_close(rt: HostRuntime) -> Result<(), Fail> {
+    let mut server = server(&rt, rt.alloc(), Config::default())?;
+    open(&rt, rt.alloc(), &mut server, 1025)?;
+    assert_eq!(rt;
+        server.may_open(client(1025), REQUEST),
+        Ok(false),
+        "a repeat"
+    );
+    assert_eq!(rt;
+        server.may_open(client(1026), REQUEST),
+        Ok(true),
+        "of another client"
+    );
+    let mut out = Vec::new(rt.alloc());
+    server.on_datagram(1025, client(1025), b"\x00\x04\x00\x01", &mut out)?;
+    let opened = server.on_request(client(1025), 1026, REQUEST, &mut out)?;
+    assert_eq!(rt; opened.tid, Some(1026), "the transfer was over");
+    Ok(())
+}
+
 #[test]
 fn a_full_server_is_busy(rt: HostRuntime) -> Result<(), Fail> {
     let mut config = Config::default();
@@ -191,7 +239,11 @@ const MAY_OPEN: [(&[u8], bool); 5] = [
 fn what_could_open_a_transfer(rt: HostRuntime) -> Result<(), Fail> {
     let server = server(&rt, rt.alloc(), Config::default())?;
     for (bytes, want) in MAY_OPEN {
-        assert_eq!(rt; server.may_open(bytes), Ok(want), "of {bytes:?}");
+        assert_eq!(rt;
+            server.may_open(client(1040), bytes),
+            Ok(want),
+            "of {bytes:?}"
+        );
     }
     Ok(())
 }

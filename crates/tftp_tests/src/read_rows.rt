@@ -181,21 +181,22 @@ fn a_repeated_ack_brings_nothing(rt: HostRuntime) -> Result<(), Fail> {
     Ok(())
 }
 
-/// DATA 1 of 1025 and of 1026, ACK 1 to 1025, ERROR 5 to 1026, which gives up; then 1025 completes, and
-/// what comes to a closed end does nothing.
-const REPEATED_REQUEST: [Row; 8] = [
+/// DATA 1 of 1025, and nothing at the repeat; ACK 1, and 1025 completes. Behind that the request opens 1026,
+/// whose DATA 1 is answered by ERROR 5; what comes to a closed end does nothing.
+const REPEATED_REQUEST: [Row; 9] = [
     (Move::Deliver(0), Some(1), None),
-    (Move::Deliver(0), Some(2), None),
-    (Move::Deliver(1), Some(3), None),
-    (Move::Deliver(2), Some(4), None),
+    (Move::Deliver(0), None, None),
+    (Move::Deliver(1), Some(2), None),
+    (Move::Deliver(2), None, Some((1025, Outcome::Complete))),
+    (Move::Deliver(0), Some(3), None),
+    (Move::Deliver(3), Some(4), None),
     (Move::Deliver(4), None, Some((1026, Outcome::PeerError(5)))),
-    (Move::Deliver(3), None, Some((1025, Outcome::Complete))),
-    (Move::Deliver(3), None, None),
+    (Move::Deliver(4), None, None),
     (Move::Timeout(1026), None, None),
 ];
 
 #[test]
-fn a_repeated_request_opens_another_end(rt: HostRuntime) -> Result<(), Fail> {
+fn a_repeated_request_opens_another_end_behind_the_close(rt: HostRuntime) -> Result<(), Fail> {
     let mut world = asked_world(&rt, rt.alloc(), b"ABC")?;
     runs(&rt, &mut world, &REPEATED_REQUEST);
     assert_eq!(rt; world.stored(1024), Some(b"ABC".as_slice()), "what came");

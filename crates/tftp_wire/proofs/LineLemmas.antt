@@ -1,19 +1,17 @@
 -- How long the line of a packet is at most.
-use Rattle.std.proofs.Common.{ℕ, ◌≡◌, ◌+◌, ◌*◌, ◌<◌, ◌≤◌, ◌^◌, Bool, true, false, cond, arith, List, [], ◌∷◌, ◌++◌, length}
+use Rattle.std.proofs.Common.{ℕ, ◌+◌, ◌*◌, ◌<◌, ◌≤◌, ◌^◌, Bool, true, false, cond, arith, List, [], ◌∷◌, length}
 use Rattle.std.proofs.lemmas.Fmt.{length-decimal-le}
 use Rattle.std.proofs.lemmas.List.{length-append}
-use Rattle.std.specs.Fmt.{decimal}
 use Rattle.std.specs.List.{flat_map}
 use Rattle.tftp_wire.specs.declared.mode.Mode.{Mode}
 use Rattle.tftp_wire.specs.declared.mode.Mode.TheVariants.{Octet, Netascii}
 use Rattle.tftp_wire.specs.declared.options.RawOption.{RawOption}
 use Rattle.tftp_wire.specs.declared.packet.Packet.TheVariants.{Read, Write, Data, Ack, Error, Oack}
 use Rattle.tftp_wire.specs.declared.packet.Request.{Request}
-use Rattle.tftp_wire.specs.Line.{line, option_words, request_words, shown, shown_byte, shown_message_byte, percent, is_plain}
+use Rattle.tftp_wire.specs.Line.{line, option_words, shown, shown_byte, shown_message_byte, is_plain}
 use Rattle.tftp_wire.specs.Modes.{mode_word}
 use Rattle.tftp_wire.specs.Options.{options_bytes}
 use Rattle.tftp_wire.specs.Spelling.{canonical}
-use Rattle.tftp_wire.specs.Texts.{zero_ended}
 
 one_or_three : (b : Bool) (x y z w : ℕ) → length (cond b (x ∷ []) (y ∷ z ∷ w ∷ [])) ≤ 3
 one_or_three true x y z w = omega arith

@@ -19,6 +19,7 @@ mod options;
 mod owned;
 mod packet;
 mod reader;
+mod same;
 mod text;
 mod writer;
 

@@ -1,6 +1,6 @@
 //! Options as they stand in a request or an OACK: pairs of a name and a value, in order.
 
-ghost use Rattle.std.specs.Prelude.{◌≡◌, ◌==◌, length, IfOk};
+ghost use Rattle.std.specs.Prelude.{◌≡◌, ◌==◌, ◌↔◌, length, IfOk, IsTrue};
 ghost use Rattle.tftp_wire.specs.Borrowed.{owned_option};
 ghost use Rattle.tftp_wire.specs.Options.{options_bytes, options_in, AreOptions};
 ghost use Rattle.std.specs.Iterator.{YieldsFirstBy, item_count};
@@ -111,6 +111,13 @@ impl<'a> OptionsRef<'a> {
         ensures { result ≡ length (options_bytes self.now) }
     {
         self.bytes.len()
+    }
+
+    /// Whether the other is the same options, in the same order.
+    pub fn is_same(&self, other: &OptionsRef<'_>) -> bool
+        ensures { IsTrue result ↔ (self.now ≡ other.now) }
+    {
+        self.bytes == other.bytes
     }
 
     /// The options, from the first.

@@ -1,12 +1,13 @@
 //! The request port: its tests, one after the other.
 
-ghost use Rattle.std.specs.Prelude.{◌≡◌, ◌++◌, [], Ok, Option, None, length, option_map, IfOk, IfErr, OnErr};
+ghost use Rattle.std.specs.Prelude.{Bool, ◌≡◌, ◌++◌, [], Ok, Option, None, length, option_map, IfOk, IfErr, OnErr};
 ghost use Rattle.tftp_wire.specs.declared.mode.Mode.TheVariants.{Octet};
 ghost use Rattle.tftp_wire.specs.Borrowed.{owned};
 ghost use Rattle.tftp_wire.specs.declared.packet.Packet.{Packet};
 ghost use Rattle.tftp_file.specs.Memory.{MemSinkState};
 ghost use Rattle.tftp_file.specs.Path.{path_of_name};
 ghost use Rattle.tftp_ends.specs.Action.{Decodes};
+ghost use Rattle.tftp_server.specs.State.{IsRepeated};
 ghost use Rattle.tftp_server.specs.Port.{Reads, asks, by_name, by_room, by_length};
 ghost use Rattle.tftp_server.specs.Request.{NamesFile, AsksToRead, Sent, ask_of, came_to, supported, decided_bytes};
 
@@ -82,18 +83,25 @@ fn by_name(alloc: Global, cap: u8, count: usize, name: &[u8]) -> Result<Asked, S
 impl<S: Store> Server<S> {
     /// The tests that ask no store: only a request has a place here, and what begins as an ERROR is
     /// never answered.
-    pub(crate) fn asked(&self, bytes: &[u8]) -> Result<Asked, ServerFault>
-        ensures asks { IfOk result (λ asked. (decoded : Option Packet) × Decodes bytes.now decoded
-            × (ask_of asked ≡ asks self.now.config.cap (length self.now.held) self.now.config.limits
-            bytes.now (supported decoded))) }
+    pub(crate) fn asked(&self, from: Endpoint, bytes: &[u8]) -> Result<Asked, ServerFault>
+        ensures asks { IfOk result (λ asked. (decoded : Option Packet) × (repeated : Bool)
+            × Decodes bytes.now decoded × IsRepeated repeated from decoded self.now.held
+            × (ask_of asked ≡ asks self.now.config.cap (length self.now.held) repeated
+            self.now.config.limits bytes.now (supported decoded))) }
         ensures memory { IfErr result (λ fault. fault ≡ ServerFault.Memory) }
     {
         let decoded = decode_packet(bytes);
+        let is_repeated = self.table.is_repeated(from, &decoded);
         if has_error_opcode(bytes) {
             return Ok(Asked::Nothing);
         }
         match file_name(&decoded) {
-            Some(name) => by_name(self.alloc, self.config.cap, self.table.len(), name),
+            Some(name) => {
+                if is_repeated {
+                    return Ok(Asked::Nothing);
+                }
+                by_name(self.alloc, self.config.cap, self.table.len(), name)
+            }
             None => Ok(Asked::Refuse(ErrorReply::IllegalOperation)),
         }
     }
@@ -103,6 +111,7 @@ impl<S: Store> Server<S> {
         &self,
         from: Endpoint,
         path: Path,
+        bytes: &[u8],
         file: Opening<S::Source>,
         out: &mut Vec<u8>,
     ) -> Result<Decision<S::Source>, ServerFault>
@@ -113,7 +122,7 @@ impl<S: Store> Server<S> {
           may_fail = S.Source.may_fail;
           may_refuse_open = S.may_refuse_open;
           may_refuse_begin = S.may_refuse_begin;
-        }) self.now from
+        }) self.now from bytes.now
             (by_length path Octet file.length (Ok [])) (Ok file)
             (came_to decision self.now.store)) }
         ensures sent { IfOk result (λ decision. out.new.items ≡ out.old.items ++ decided_bytes
@@ -123,6 +132,7 @@ impl<S: Store> Server<S> {
     {
         let length = file.length;
         let retries = self.config.retries;
+        let start = out.len();
         let mut files = Files::Source(file.source);
         let opened = End::serve_read(
             self.alloc,
@@ -135,7 +145,13 @@ impl<S: Store> Server<S> {
             out,
         );
         match opened {
-            Ok((end, _)) => Ok(Decision::Open(Transfer::new(end, files, path))),
+            Ok((end, _)) => {
+                let Ok(request) = Vec::from_slice(self.alloc, bytes) else {
+                    out.truncate(start);
+                    return Err(ServerFault::Memory);
+                };
+                Ok(Decision::Open(Transfer::new(end, files, path, request)))
+            }
             Err(OpenFault::TooLarge) => Ok(Decision::Refuse(ErrorReply::FileTooLarge)),
             Err(OpenFault::SourceFault) => Ok(Decision::Refuse(ErrorReply::FileChanged)),
             Err(OpenFault::Memory) => Err(ServerFault::Memory),
@@ -148,6 +164,7 @@ impl<S: Store> Server<S> {
         &self,
         from: Endpoint,
         path: Path,
+        bytes: &[u8],
         out: &mut Vec<u8>,
     ) -> Result<Decision<S::Source>, ServerFault>
         ensures asks { IfOk result (λ decision. AsksToRead (record {
@@ -157,7 +174,7 @@ impl<S: Store> Server<S> {
           may_fail = S.Source.may_fail;
           may_refuse_open = S.may_refuse_open;
           may_refuse_begin = S.may_refuse_begin;
-        }) self.now from
+        }) self.now from bytes.now
             path Octet [] (came_to decision self.now.store)) }
         ensures sent { IfOk result (λ decision. out.new.items ≡ out.old.items ++ decided_bytes
             decision) }
@@ -165,7 +182,7 @@ impl<S: Store> Server<S> {
         ensures err { OnErr result (out.new.items ≡ out.old.items) }
     {
         match self.store.open(self.alloc, &path, Mode::Octet) {
-            Ok(file) => self.send(from, path, file, out),
+            Ok(file) => self.send(from, path, bytes, file, out),
             Err(StoreFault::Missing) => Ok(Decision::Refuse(ErrorReply::FileNotFound)),
             Err(StoreFault::Memory) => Err(ServerFault::Memory),
             Err(StoreFault::Exists | StoreFault::Full | StoreFault::Io) => {

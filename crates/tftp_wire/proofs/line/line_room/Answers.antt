@@ -1,4 +1,4 @@
-use Rattle.std.proofs.Common.{arith, ap, length, ◌≡◌, ◌≤◌, ◌<◌, ◌+◌, ◌*◌, ◌^◌, ℕ}
+use Rattle.std.proofs.Common.{arith, ap, length, ◌≡◌, ◌≤◌, ◌<◌, ◌+◌, ◌*◌, ◌^◌}
 use Rattle.tftp_wire.specs.Line.{line}
 use Rattle.tftp_wire.specs.Spelling.{canonical}
 use Rattle.tftp_wire.proofs.LineLemmas.{read_fits, write_fits, data_fits, ack_fits, error_fits, oack_fits}

@@ -1,4 +1,4 @@
-use Rattle.std.proofs.Common.{arith, ap, length, ◌≡◌, ◌≤◌, ◌<◌, ◌+◌, ◌*◌, ◌^◌, ℕ}
+use Rattle.std.proofs.Common.{arith, length, ◌≤◌, ◌+◌, ◌*◌}
 use Rattle.tftp_wire.specs.Borrowed.{owned}
 use Rattle.tftp_wire.specs.Line.{line}
 use Rattle.tftp_wire.specs.Spelling.{canonical}

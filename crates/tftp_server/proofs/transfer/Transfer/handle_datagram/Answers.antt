@@ -23,6 +23,6 @@ returns-clause-takes g c =
     (takes_in
     g.F.Source.left g.F.Source.may_fail (λ (s : MemSinkState). Some s.holding) MayRefuseAppend MayRefuseCommit
     (λ (answer : Step × Outgoing). answer.0) (λ answer. lends answer.1)
-    c.args.from c.args.bytes.now c.self.inside.end c.handle_datagram.new.self c.self.inside.files c.handle_datagram.new.files c.self.inside.path
+    c.args.from c.args.bytes.now c.self.inside.end c.handle_datagram.new.self c.self.inside.files c.handle_datagram.new.files c.self.inside.path c.self.inside.request.items
     g.F.Source.is_same (λ (s t : MemSinkState). (t.room ≡ s.room) × (t.refuses_commit ≡ s.refuses_commit))
     c.handle_datagram.result c.self.invariant.1 c.handle_datagram.ensures.same c.handle_datagram.ensures.steps)

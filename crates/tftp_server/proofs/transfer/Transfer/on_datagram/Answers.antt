@@ -22,6 +22,6 @@ returns-clause-takes g c =
     (takes_in
     g.F.Source.left g.F.Source.may_fail (λ (s : MemSinkState). Some s.holding) MayRefuseAppend MayRefuseCommit
     (λ (step : Step). step) (λ step. appends c.args.out.now.items c.on_datagram.new.out.items)
-    c.args.from c.args.bytes.now c.self.inside.end c.on_datagram.new.self c.self.inside.files c.on_datagram.new.files c.self.inside.path
+    c.args.from c.args.bytes.now c.self.inside.end c.on_datagram.new.self c.self.inside.files c.on_datagram.new.files c.self.inside.path c.self.inside.request.items
     g.F.Source.is_same (λ (s t : MemSinkState). (t.room ≡ s.room) × (t.refuses_commit ≡ s.refuses_commit))
     c.on_datagram.result c.self.invariant.1 c.on_datagram.ensures.same c.on_datagram.ensures.steps)

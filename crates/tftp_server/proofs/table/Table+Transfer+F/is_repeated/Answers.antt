@@ -1,0 +1,10 @@
+use Rattle.tftp_wire.specs.Borrowed.{owned}
+use Rattle.tftp_server.proofs.RepeatLemmas.{repeats_joined, joined_repeats}
+use Rattle.tftp_server.proofs.table.Table+Transfer+F.is_repeated.Goals as goal
+
+pub returns-in-Some : goal.returns-in-Some
+returns-in-Some g c =
+    rw (c.in-Some.is, ← c.self.view_is) (
+      λ told. repeats_joined c.args.from (owned c.in-Some.packet) c.self.inside.index.entries c.self.inside.slots c.self.invariant (c.any_repeats.ensures.0 told),
+      λ repeats. c.any_repeats.ensures.1 (joined_repeats c.args.from (owned c.in-Some.packet) c.self.inside.index.entries c.self.inside.slots c.self.invariant repeats),
+    )
