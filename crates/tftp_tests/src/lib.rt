@@ -10,6 +10,8 @@ mod lending_rows;
 #[cfg(test)]
 mod netascii_end_rows;
 #[cfg(test)]
+mod option_end_rows;
+#[cfg(test)]
 mod port_rows;
 #[cfg(test)]
 mod random_rows;
