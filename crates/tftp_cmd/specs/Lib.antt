@@ -1,5 +1,6 @@
 pub mod ClientEnd
 pub mod Fallback
+pub mod Folder
 pub mod LogLine
 pub mod Play
 pub mod Playable

@@ -1,6 +1,7 @@
 //! A store over a folder: a server's files are those in it and below it.
 
-ghost use Rattle.std.specs.Prelude.{◌≢◌};
+ghost use Rattle.std.specs.Prelude.{◌≢◌, IfErr};
+ghost use Rattle.tftp_cmd.specs.Folder.{MayNotOpen, MayNotStore, MayNotName};
 ghost use Rattle.tftp_file.specs.declared.fault.StoreFault.TheVariants.{Memory};
 
 use crate::local::length_on_wire;
@@ -72,7 +73,9 @@ impl<R: Files + Drop> FolderStore<R> {
     }
 
     /// Goes along a path, from the folder on. `Missing` if a folder on the way is.
-    fn walk(&self, alloc: Global, path: &Path) -> Result<Place, StoreFault> {
+    fn walk(&self, alloc: Global, path: &Path) -> Result<Place, StoreFault>
+        ensures { IfErr result MayNotOpen }
+    {
         let Ok(name) = str::from_utf8(path.as_bytes()) else {
             return Err(StoreFault::Missing);
         };
@@ -104,7 +107,9 @@ impl<R: Files + Drop> FolderStore<R> {
     }
 
     /// Where a path with links leads, if that is in the folder; else `Io`.
-    fn follow(&self, alloc: Global, path: &str) -> Result<Place, StoreFault> {
+    fn follow(&self, alloc: Global, path: &str) -> Result<Place, StoreFault>
+        ensures { IfErr result MayNotOpen }
+    {
         let rt = (&self.files, alloc);
         let canonical = match fs::canonicalize(&rt, path) {
             Ok(canonical) => canonical,
@@ -129,7 +134,9 @@ impl<R: Files + Drop> FolderStore<R> {
 
     /// Opens the regular file at the path, and tells its length in host bytes. A folder is `Missing`, what
     /// else is no regular file `Io`: it is looked at before it is opened, since opening a FIFO would wait.
-    fn open_file(&self, alloc: Global, path: &Path) -> Result<(R::File, u64), StoreFault> {
+    fn open_file(&self, alloc: Global, path: &Path) -> Result<(R::File, u64), StoreFault>
+        ensures { IfErr result MayNotOpen }
+    {
         let mut place = self.walk(alloc, path)?;
         if place.has_link {
             place = self.follow(alloc, place.path.as_str())?;
@@ -168,7 +175,9 @@ impl<R: Files + Drop> FolderStore<R> {
     }
 
     /// Makes the draft of the next transfer anew, in the place of an old one.
-    fn make_draft(&self, draft: &str) -> Result<R::File, StoreFault> {
+    fn make_draft(&self, draft: &str) -> Result<R::File, StoreFault>
+        ensures { IfErr result MayNotStore }
+    {
         let _ = fs::remove_file(&self.files, draft);
         match OpenOptions::new()
             .write(true)
@@ -182,7 +191,9 @@ impl<R: Files + Drop> FolderStore<R> {
 }
 
 /// Why a file was not opened.
-fn open_fault(error: &io::Error) -> StoreFault {
+fn open_fault(error: &io::Error) -> StoreFault
+    ensures { MayNotOpen result }
+{
     match error.kind() {
         ErrorKind::NotFound | ErrorKind::NotADirectory => StoreFault::Missing,
         ErrorKind::OutOfMemory => StoreFault::Memory,
@@ -192,7 +203,8 @@ fn open_fault(error: &io::Error) -> StoreFault {
 
 /// Why bytes were not stored.
 fn write_fault(error: &io::Error) -> StoreFault
-    ensures { result ≢ Memory }
+    ensures stored { MayNotStore result }
+    ensures not_memory { result ≢ Memory }
 {
     match error.kind() {
         ErrorKind::StorageFull | ErrorKind::QuotaExceeded | ErrorKind::OutOfMemory => {
@@ -202,8 +214,20 @@ fn write_fault(error: &io::Error) -> StoreFault
     }
 }
 
+/// Why a draft did not get its name.
+fn name_fault(error: &io::Error, replace: bool) -> StoreFault
+    ensures named { MayNotName replace result }
+    ensures not_memory { result ≢ Memory }
+{
+    if !replace && error.kind() == ErrorKind::AlreadyExists {
+        return StoreFault::Exists;
+    }
+    write_fault(error)
+}
+
 impl<R: Files + Drop> Store for FolderStore<R> {
     ghost use Rattle.std.specs.Prelude.{None};
+    ghost use Rattle.tftp_cmd.specs.Folder.{MayNotOpen, MayNotStore, MayNotBegin, MayNotName};
 
     type Source = ReadSource<BufReader<R::File>>;
 
@@ -212,6 +236,14 @@ impl<R: Files + Drop> Store for FolderStore<R> {
     ghost stored = { λ _. None };
 
     ghost drafted = { λ _. None };
+
+    ghost may_refuse_open = { λ _ _ fault. MayNotOpen fault };
+
+    ghost may_refuse_begin = { λ _ _ replace fault. MayNotBegin replace fault };
+
+    ghost may_refuse_append = { λ _ _ _ fault. MayNotStore fault };
+
+    ghost may_refuse_commit = { λ _ _ _ replace fault. MayNotName replace fault };
 
     fn open(
         &self,
@@ -241,8 +273,9 @@ impl<R: Files + Drop> Store for FolderStore<R> {
     ) -> Result<FolderDraft<R::File>, StoreFault> {
         let place = match self.walk(alloc, path) {
             Ok(place) => place,
-            Err(StoreFault::Missing) => return Err(StoreFault::Io),
-            Err(fault) => return Err(fault),
+            Err(StoreFault::Memory) => return Err(StoreFault::Memory),
+            // A folder that is missing is not made.
+            Err(_) => return Err(StoreFault::Io),
         };
         if place.found.is_some() && !replace {
             return Err(StoreFault::Exists);
@@ -284,8 +317,7 @@ impl<R: Files + Drop> Store for FolderStore<R> {
         }
         match self.name(draft.draft.as_str(), draft.target.as_str(), replace) {
             Ok(()) => Ok(()),
-            Err(error) if error.kind() == ErrorKind::AlreadyExists => Err(StoreFault::Exists),
-            Err(error) => Err(write_fault(&error)),
+            Err(error) => Err(name_fault(&error, replace)),
         }
     }
 }
