@@ -6,6 +6,10 @@ mod drawn_rows;
 #[cfg(test)]
 mod end_rows;
 #[cfg(test)]
+mod fault_end_rows;
+#[cfg(test)]
+mod fault_rows;
+#[cfg(test)]
 mod lending_rows;
 #[cfg(test)]
 mod netascii_end_rows;

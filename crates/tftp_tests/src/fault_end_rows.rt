@@ -1,0 +1,192 @@
+//! Ends whose file fails in the midst of a transfer, in blocks of eight bytes (RFC 2348). The ERRORs
+//! are those of RFC 1350, section 5 and appendix I.
+
+ghost use Rattle.std.specs.Prelude.{◌≡◌, ◌<◌, false, IfOk};
+ghost use Rattle.tftp_ends.specs.End.{is_sender};
+ghost use Rattle.tftp_ends.specs.Files.{AreFilesOf};
+
+use std::alloc::Global;
+use std::process::Abort;
+use std::test::Fail;
+use tftp_ends::{End, Endpoint, Outcome};
+use tftp_file::{FaultSource, Files, MemSink, MemSource};
+use tftp_negotiate::{Agreed, Kind, Limits, accept_ref};
+use tftp_wire::{Mode, PacketRef, decode_ref};
+
+const CLIENT: Endpoint = Endpoint {
+    ip: [10, 0, 0, 2],
+    port: 1024,
+};
+
+const LIMITS: Limits = Limits {
+    max_block: 1428,
+    max_file: 4_290_183_239,
+};
+
+/// What a request for blocks of eight bytes agrees on.
+fn blocks_of_eight() -> Result<Agreed, Fail> {
+    let request = b"\x00\x01a\x00octet\x00blksize\x008\x00";
+    let PacketRef::Read(read) = decode_ref(request)? else {
+        return Err(Fail::from("an RRQ"));
+    };
+    Ok(accept_ref(&read.options, Kind::Read, Mode::Octet, 36, &LIMITS)?)
+}
+
+/// The file of five blocks: four full ones, and one of four bytes.
+const FILE: &[u8] = b"aaaaaaaabbbbbbbbccccccccddddddddeeee";
+
+/// The ACKs of the OACK and of the blocks after it.
+const ACKS: [&[u8]; 6] = [
+    b"\x00\x04\x00\x00",
+    b"\x00\x04\x00\x01",
+    b"\x00\x04\x00\x02",
+    b"\x00\x04\x00\x03",
+    b"\x00\x04\x00\x04",
+    b"\x00\x04\x00\x05",
+];
+
+/// The blocks, as they are sent.
+const DATA: [&[u8]; 5] = [
+    b"\x00\x03\x00\x01aaaaaaaa",
+    b"\x00\x03\x00\x02bbbbbbbb",
+    b"\x00\x03\x00\x03cccccccc",
+    b"\x00\x03\x00\x04dddddddd",
+    b"\x00\x03\x00\x05eeee",
+];
+
+type Sending = Files<FaultSource, MemSink>;
+
+/// An end that has agreed on the blocks, and a source of so many of the file's bytes.
+fn sender(alloc: Global, give: u64, fail: bool) -> Result<(End, Sending), Fail>
+    ensures { IfOk result (λ opened. AreFilesOf opened.0.side opened.1) }
+{
+    let source = FaultSource::new(alloc, FILE, Mode::Octet, give, fail)?;
+    let mut files: Sending = Files::Source(source);
+    let mut out = Vec::new(alloc);
+    let (end, _) = End::serve_read(
+        alloc,
+        &mut files,
+        CLIENT,
+        Mode::Octet,
+        &blocks_of_eight()?,
+        36,
+        5,
+        &mut out,
+    )?;
+    Ok((end, files))
+}
+
+/// An ACK is answered by these bytes.
+fn answers(
+    rt: &impl Abort,
+    alloc: Global,
+    end: &mut End,
+    files: &mut Sending,
+    ack: &[u8],
+    answer: &[u8],
+) -> Result<Option<Outcome>, Fail>
+    requires { AreFilesOf end.old.side files.old }
+    ensures { AreFilesOf end.new.side files.new }
+{
+    let mut out = Vec::new(alloc);
+    let step = end.on_datagram(files, CLIENT, ack, &mut out)?;
+    assert_eq!(rt; out.as_slice(), answer, "the answer to {ack:?}");
+    Ok(step.closed)
+}
+
+/// So many blocks are sent; where the next one is wanted, the file has changed.
+fn breaks_off(
+    rt: &impl Abort,
+    alloc: Global,
+    sent: usize,
+    give: u64,
+    fail: bool,
+) -> Result<(), Fail>
+    requires { sent < 5 }
+{
+    let (mut end, mut files) = sender(alloc, give, fail)?;
+    for at in 0..sent {
+        answers(rt, alloc, &mut end, &mut files, ACKS[at], DATA[at])?;
+    }
+    let changed = b"\x00\x05\x00\x00file changed\x00";
+    let closed = answers(rt, alloc, &mut end, &mut files, ACKS[sent], changed)?;
+    assert_eq!(rt; closed, Some(Outcome::SourceFault), "after block {sent}");
+    assert_eq!(rt; usize::from(end.record().number), sent, "the blocks sent");
+    Ok(())
+}
+
+/// The source ends, or fails, where one of the five blocks would begin, or within it.
+#[test]
+fn a_read_breaks_off_at_each_block(rt: HostRuntime) -> Result<(), Fail> {
+    for sent in 0..5 {
+        let give = 8 * sent as u64;
+        breaks_off(&rt, rt.alloc(), sent, give, false)?;
+        breaks_off(&rt, rt.alloc(), sent, give, true)?;
+        breaks_off(&rt, rt.alloc(), sent, give + 3, false)?;
+        breaks_off(&rt, rt.alloc(), sent, give + 3, true)?;
+    }
+    Ok(())
+}
+
+/// An end that has agreed on the blocks, and takes a file.
+fn receiver(alloc: Global) -> Result<End, Fail>
+    ensures { IfOk result (λ end. is_sender end.side ≡ false) }
+{
+    let agreed = blocks_of_eight()?;
+    let mut out = Vec::new(alloc);
+    let (end, _) = End::serve_write(alloc, CLIENT, Mode::Octet, &agreed, 5, &mut out)?;
+    Ok(end)
+}
+
+/// A block is answered by these bytes.
+fn takes(
+    rt: &impl Abort,
+    alloc: Global,
+    end: &mut End,
+    sink: &mut MemSink,
+    data: &[u8],
+    answer: &[u8],
+) -> Result<Option<Outcome>, Fail>
+    requires { is_sender end.old.side ≡ false }
+    ensures { is_sender end.new.side ≡ false }
+{
+    let mut files: Files<MemSource, &mut MemSink> = Files::Sink(sink);
+    let mut out = Vec::new(alloc);
+    let step = end.on_datagram(&mut files, CLIENT, data, &mut out)?;
+    assert_eq!(rt; out.as_slice(), answer, "the answer to {data:?}");
+    Ok(step.closed)
+}
+
+/// So many blocks are stored; what the next one asks of the sink is refused.
+fn is_full(rt: &impl Abort, alloc: Global, stored: usize, next: &[u8]) -> Result<(), Fail>
+    requires { stored < 5 }
+{
+    let mut end = receiver(alloc)?;
+    let mut sink = MemSink::new(alloc, 1000, false);
+    for at in 0..stored {
+        takes(rt, alloc, &mut end, &mut sink, DATA[at], ACKS[at + 1])?;
+    }
+    sink.refuse_next(true);
+    let full = b"\x00\x05\x00\x03disk full\x00";
+    let closed = takes(rt, alloc, &mut end, &mut sink, next, full)?;
+    assert_eq!(rt; closed, Some(Outcome::StoreFault), "after block {stored}");
+    assert_eq!(rt;
+        usize::from(end.record().number),
+        stored,
+        "the blocks stored"
+    );
+    assert_eq!(rt; sink.as_bytes().len(), 8 * stored, "their bytes");
+    assert!(rt; !sink.is_committed(), "they are not committed");
+    Ok(())
+}
+
+/// A block with bytes is appended first. An empty one, the last of a file of full blocks, asks for
+/// the commit alone.
+#[test]
+fn a_write_is_refused_at_each_block(rt: HostRuntime) -> Result<(), Fail> {
+    for stored in 0..5 {
+        is_full(&rt, rt.alloc(), stored, DATA[stored])?;
+    }
+    is_full(&rt, rt.alloc(), 2, b"\x00\x03\x00\x03")?;
+    is_full(&rt, rt.alloc(), 4, b"\x00\x03\x00\x05")
+}
