@@ -1,6 +1,7 @@
 -- How the request port handles a world, from what the server did.
-use Rattle.std.proofs.Common.{◌≡◌, ◌≢◌, ℕ, Bool, ◌+◌, ◌<◌, ◌≤◌, true, List, [], ◌∷◌, ◌++◌, length, get_or, Option, Some, None, refl, sym, ap, ◌∙◌, subst, arith, inl, inr, length-append}
-use Rattle.std.specs.Prelude.{◌⊎◌, ◌&&◌, not, option_map}
+use Rattle.std.proofs.Common.{◌≡◌, ◌≢◌, ℕ, Bool, ◌+◌, ◌<◌, ◌≤◌, true, false, List, [], ◌∷◌, ◌++◌, length, get_or, Option, Some, None, refl, sym, ap, ◌∙◌, subst, arith, inl, inr, length-append}
+use Rattle.std.specs.Prelude.{◌⊎◌, ◌↔◌, IsTrue, ◌&&◌, not, option_map}
+use Rattle.std.proofs.lemmas.Bool.{true≢false}
 use Rattle.tftp_wire.specs.declared.mode.Mode.{Mode}
 use Rattle.tftp_wire.specs.declared.mode.Mode.TheVariants.{Octet, Netascii}
 use Rattle.tftp_wire.specs.declared.packet.Packet.TheVariants.{Read, Write, Data, Ack, Error, Oack}
@@ -20,9 +21,9 @@ use Rattle.tftp_server.specs.Store.{Stored, Drafted, FileList}
 use Rattle.tftp_player.specs.Machine.{Endpoint, request_port}
 use Rattle.tftp_player.specs.Effect.{said_by, report_by}
 use Rattle.tftp_player.specs.Played.{PlayerKept, end_at, ends_from, records_from}
-use Rattle.tftp_player.specs.Requests.{service, open_transfers}
-use Rattle.tftp_server.specs.Port.{Sends}
-use Rattle.tftp_player.specs.Requested.{IsRequested, requested_by, requested_at}
+use Rattle.tftp_player.specs.Requests.{served, service, open_transfers}
+use Rattle.tftp_server.specs.Port.{Ask, Ignores, Refuses, Reads, Writes, Silent, Refused, Sends, asks, asks_store}
+use Rattle.tftp_player.specs.Requested.{IsRequested, OpensNone, IsWanted, requested_by, requested_at}
 use Rattle.tftp_player.specs.declared.served.Served.{Served}
 use Rattle.tftp_player.specs.Serving.{PlayedServer, Transfer}
 use Rattle.tftp_player.specs.Stage.{IsStaged, ends_of, world_of}
@@ -44,7 +45,7 @@ use Rattle.tftp_player.specs.Clients.{server_at}
 use Rattle.tftp_ends.specs.declared.side.Side.{Side}
 use Rattle.tftp_player.proofs.StageLemmas.{served_is, by_port, kept_by_port}
 use Rattle.tftp_player.specs.Openings.{sending_end}
-use Rattle.tftp_server.specs.State.{at}
+use Rattle.tftp_server.specs.State.{IsRepeated, at}
 use Rattle.tftp_ends.specs.End.{is_sender, is_client, record_of}
 use Rattle.tftp_player.specs.declared.player.Player.TheVariants.{Server}
 
@@ -73,6 +74,24 @@ supported_requests files (Some (Data number bytes)) request e = absurd (no_reque
 supported_requests files (Some (Ack number)) request e = absurd (no_request request e)
 supported_requests files (Some (Error code text)) request e = absurd (no_request request e)
 supported_requests files (Some (Oack options)) request e = absurd (no_request request e)
+
+-- two answers to whether it repeats a request are one
+both_or_none : {P : Type 0} (a b : Bool) → (IsTrue a ↔ P) → (IsTrue b ↔ P) → a ≡ b
+both_or_none {P = P} true true f g = refl
+both_or_none {P = P} false false f g = refl
+both_or_none {P = P} true false f g = absurd (true≢false (sym (g.1 (f.0 refl))))
+both_or_none {P = P} false true f g = absurd (true≢false (sym (f.1 (g.0 refl))))
+
+same_repeated : (from : Endpoint) (decoded : Option Packet) (held : List (ℕ × Transfer)) (a b : Bool) → IsRepeated a from decoded held → IsRepeated b from decoded held → a ≡ b
+same_repeated from None held a b f g = f ∙ sym g
+same_repeated from (Some packet) held a b f g = both_or_none a b f g
+
+-- a read opens an end only where the store was asked
+sends_asks : (w : WorldState) (ask : Ask) (path : List ℕ) (mode : Mode) (length : ℕ) (agreed : List Known) → served w ask ≡ Sends path mode length agreed → asks_store ask ≡ true
+sends_asks w Ignores path mode length agreed e = absurd (let f : Silent ≡ Sends path mode length agreed = e in cc)
+sends_asks w (Refuses reply) path mode length agreed e = absurd (let f : Refused reply ≡ Sends path mode length agreed = e in cc)
+sends_asks w (Reads p m options) path mode length agreed e = refl
+sends_asks w (Writes p m known) path mode length agreed e = refl
 
 -- the end that opens is the one that was wanted
 pub requested_is : (w : WorldState) (repeated : Bool) (bytes : List ℕ) (decoded : Option Packet) (path file : List ℕ) (mode : Mode) (length : ℕ) (agreed : List Known) (o : Option Served) → Decodes bytes decoded →
@@ -157,12 +176,33 @@ module _ (from : Endpoint) (bytes : List ℕ) (before : PlayedServer) (ps : List
 
   module _ (after : PlayedServer) (opened : Opened) (out : List ℕ)
       (h : RequestStep (memory_meaning untold) before from bytes supported port (record { new = after; opened = opened; sent = out }))
-      (t : ℕ) (told : opened.tid ≡ Some t) (o : Option Served) (requests : IsRequested before.store.files bytes o) where
+      (t : ℕ) (told : opened.tid ≡ Some t) (o : Option Served) (wanted : IsWanted before from bytes o) where
     abbrev result' : PortLeft untold
     result' = record { new = after; opened = opened; sent = out }
 
     q : (sent : List Datagram) → PortOpened untold (w sent) (asking before from bytes port) result' (service (w sent) h.repeated bytes (supported said.0))
     q sent = port_opened untold (w sent) (asking before from bytes port) result' (service (w sent) h.repeated bytes (supported said.0)) t (did sent after opened out h) told
+
+    -- the port's tests that ask no store let it pass
+    is_let_in : OpensNone before from bytes → ⊥
+    is_let_in none =
+        let one : none.0 ≡ said.0 = says_one bytes none.0 said.0 none.2 said.1 in
+        let same : h.decoded ≡ said.0 = says_one bytes h.decoded said.0 h.says said.1 in
+        let repeated : none.1 ≡ h.repeated =
+        same_repeated from said.0 before.held none.1 h.repeated (subst (λ (d : Option Packet). IsRepeated none.1 from d before.held) one none.3) (subst (λ (d : Option Packet). IsRepeated h.repeated from d before.held) same h.repeats) in
+        let ask = asks before.config.cap (length before.held) h.repeated before.config.limits bytes (supported said.0) in
+        let shut : asks_store ask ≡ false =
+        ap (λ (d : Option Packet). asks_store (asks before.config.cap (length before.held) h.repeated before.config.limits bytes (supported d))) (sym one)
+        ∙ (ap (λ (b : Bool). asks_store (asks before.config.cap (length before.held) b before.config.limits bytes (supported none.0))) (sym repeated) ∙ none.4) in
+        let sends : served (w []) ask ≡ Sends (q []).path (q []).mode (q []).length (q []).agreed =
+        ap (λ (n : ℕ). served (w []) (asks before.config.cap n h.repeated before.config.limits bytes (supported said.0))) staged.count ∙ (q []).service_is in
+        true≢false (sym (sends_asks (w []) ask (q []).path (q []).mode (q []).length (q []).agreed sends) ∙ shut)
+
+    requests : IsRequested before.store.files bytes o
+    requests = elim wanted [
+      | inl r ↦ r
+      | inr none ↦ absurd (is_let_in none.1)
+    ]
 
     abbrev x : List Datagram → OpenedEnd
     x sent = sending_end (w sent) from (q sent).mode (q sent).path (q sent).file (q sent).agreed

@@ -9,7 +9,7 @@ ghost use Rattle.tftp_player.specs.Facts.{Holds};
 ghost use Rattle.tftp_player.specs.Kept.{EndsGoOn, EndsOpen, DatagramsAreAdded};
 ghost use Rattle.tftp_player.specs.Machine.{Endpoint, Message};
 ghost use Rattle.tftp_player.specs.MachineSafety.{IsSafeMachine, IsCompleted};
-ghost use Rattle.tftp_player.specs.OneAtMost.{EventsAddOneAtMost};
+ghost use Rattle.tftp_player.specs.OneAtMost.{EventsAddOneAtMost, TodayAddsOneAtMost};
 ghost use Rattle.tftp_player.specs.Recorded.{AreRecorded};
 ghost use Rattle.tftp_player.specs.Rules.{Rule, IsLegal, run, start};
 ghost use Rattle.tftp_player.specs.Shows.{EndView, IsShown};
@@ -85,9 +85,11 @@ pub fn a_step_keeps_a_world()
     ensures safe { KeptIsSafe }
 {}
 
-/// Each event adds one datagram at most behind all that was sent, and takes none off.
+/// Each event adds one datagram at most behind all that was sent, and takes none off; so does what it
+/// comes to today, and with that each call of `World::apply`.
 pub fn an_event_sends_one_datagram_at_most()
-    ensures { EventsAddOneAtMost }
+    ensures events { EventsAddOneAtMost }
+    ensures today { TodayAddsOneAtMost }
 {}
 
 /// A datagram of neither host changes no record, but of an end whose peer is a stranger: an end that

@@ -3,7 +3,7 @@
 ghost use Rattle.std.specs.Prelude.{◌≡◌, false, Some, Ok, IfOk, IfErr, OnErr};
 ghost use Rattle.tftp_wire.specs.Borrowed.{owned};
 ghost use Rattle.tftp_file.specs.Path.{path_of_name};
-ghost use Rattle.tftp_player.specs.Requested.{IsRequested, requested_by, requested_at};
+ghost use Rattle.tftp_player.specs.Requested.{IsRequested, IsWanted, requested_by, requested_at};
 ghost use Rattle.tftp_ends.specs.Step.{timeout_turn};
 ghost use Rattle.tftp_server.specs.State.{at};
 ghost use Rattle.tftp_player.specs.Serving.{ServedKept, ServedTimeoutStep, ServedDatagramStep, Concludes, IsHeld, SameServer};
@@ -97,9 +97,26 @@ impl Served {
     }
 }
 
-/// What a datagram to the request port asks for: the end that may open, with its own copy of the
-/// file that is there. Only reads are served today.
-pub(crate) fn requested_end(
+/// What a datagram to the request port asks for, where the port's tests that ask no store let it
+/// pass: only then the file is looked up and copied.
+pub(crate) fn wanted_end(
+    alloc: Global,
+    server: &Server<MemStore>,
+    from: Endpoint,
+    bytes: &[u8],
+) -> Result<Option<Served>, WorldFault>
+    ensures { IfOk result (IsWanted server.now from bytes.now) }
+{
+    match server.may_open(from, bytes) {
+        Ok(true) => requested_end(alloc, server.store(), bytes),
+        Ok(false) => Ok(None),
+        Err(_) => Err(WorldFault::Memory),
+    }
+}
+
+/// What a datagram asks for: the end that may open, with its own copy of the file that is there. Only
+/// reads are served today.
+fn requested_end(
     alloc: Global,
     store: &MemStore,
     bytes: &[u8],

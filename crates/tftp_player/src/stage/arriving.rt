@@ -11,7 +11,7 @@ ghost use Rattle.tftp_player.specs.declared.event.Event.TheVariants.{Deliver, St
 use crate::effect::{Effect, no_effect, write_down};
 use crate::hosts::{REQUEST_PORT, place_of, port_of, server_at};
 use crate::player::Player;
-use crate::served::requested_end;
+use crate::served::wanted_end;
 use crate::stage::{Stage, is_recorded_closed};
 use crate::{Report, WorldFault};
 use std::alloc::Global;
@@ -220,7 +220,7 @@ fn ask(
     let Ok(()) = records.reserve(1) else {
         return Err(WorldFault::Memory);
     };
-    let Ok(requested_end) = requested_end(alloc, server.store(), bytes) else {
+    let Ok(wanted) = wanted_end(alloc, server, from, bytes) else {
         return Err(WorldFault::Memory);
     };
     let mut out = Vec::new(alloc);
@@ -235,9 +235,7 @@ fn ask(
             closed: None,
         });
     };
-    let Some(served) = requested_end else {
-        unreachable!()
-    };
+    let Some(served) = wanted else { unreachable!() };
     let Some(record) = server.record(port) else {
         unreachable!()
     };
