@@ -15,7 +15,7 @@ use Rattle.tftp_file.specs.Memory.{MemSinkState}
 use Rattle.tftp_ends.specs.declared.record.Record.{Record}
 use Rattle.tftp_ends.specs.Action.{Decodes}
 use Rattle.tftp_server.specs.declared.opened.Opened.{Opened}
-use Rattle.tftp_server.specs.Request.{RequestStep, supported, supported_read, default_read}
+use Rattle.tftp_server.specs.Request.{RequestStep, supported}
 use Rattle.tftp_server.specs.Memory.{memory_meaning}
 use Rattle.tftp_server.specs.Store.{Stored, Drafted, FileList}
 use Rattle.tftp_player.specs.Machine.{Endpoint, request_port}
@@ -58,17 +58,15 @@ abbrev asking : PlayedServer → Endpoint → List ℕ → ℕ → PortAsking un
 asking before from bytes port = record { old = before; from = from; bytes = bytes; tid = port }
 
 -- ---- where an end opens
--- what is supported asks for the same end
-supported_requests_in : (files : FileList) (name : List ℕ) (m : Mode) (request : Request) → supported_read name m ≡ Some (Read request) → requested_at files m (path_of_name name) ≡ requested_at files request.mode (path_of_name request.name)
-supported_requests_in files name Octet request e = let f : default_read name ≡ request = cc in ap (λ (r : Request). requested_at files r.mode (path_of_name r.name)) f
-supported_requests_in files name Netascii request e = absurd (let f : None ≡ Some (Read request) = e in cc)
-
 no_request : (request : Request) → None ≡ Some (Read request) → ⊥
 no_request request e = cc
 
+-- what is supported asks for the same end
 supported_requests : (files : FileList) (decoded : Option Packet) (request : Request) → supported decoded ≡ Some (Read request) → requested_by files decoded ≡ requested_at files request.mode (path_of_name request.name)
 supported_requests files None request e = absurd (no_request request e)
-supported_requests files (Some (Read r)) request e = supported_requests_in files r.name r.mode request e
+supported_requests files (Some (Read r)) request e =
+    let f : Some (Read r) ≡ Some (Read request) = e in
+    let same : r ≡ request = cc in ap (λ (q : Request). requested_at files q.mode (path_of_name q.name)) same
 supported_requests files (Some (Write r)) request e = absurd (no_request request e)
 supported_requests files (Some (Data number bytes)) request e = absurd (no_request request e)
 supported_requests files (Some (Ack number)) request e = absurd (no_request request e)

@@ -36,7 +36,7 @@ use Rattle.tftp_ends.specs.End.{EndState}
 use Rattle.tftp_ends.specs.Opening.{ServesRead, serving_read}
 use Rattle.tftp_ends.specs.Action.{Decodes}
 use Rattle.tftp_ends.specs.Step.{block_length, result_count_is}
-use Rattle.tftp_server.specs.Request.{Came, Nothing, An_error, A_transfer, Goes, Left, RequestStep, Sent, left_by, opened_length, supported, supported_read}
+use Rattle.tftp_server.specs.Request.{Came, Nothing, An_error, A_transfer, Goes, Left, RequestStep, Sent, left_by, opened_length, supported}
 use Rattle.tftp_server.specs.State.{Held, ServerState}
 use Rattle.tftp_server.specs.Memory.{MayRefuseOpen, memory_meaning}
 use Rattle.tftp_server.specs.Store.{Stored, Drafted, Opens, measured}
@@ -127,13 +127,9 @@ abbrev pub held_of : {D : Type 0} → List ℕ → OpenedEnd → Held (List ℕ)
 held_of request x = record { end = x.state; files = Source x.left; path = x.path; request = request }
 
 -- no request to write is supported
-carries_no_write_in : (name : List ℕ) (mode : Mode) → IsNoWrite (supported_read name mode)
-carries_no_write_in name Octet = tt
-carries_no_write_in name Netascii = tt
-
 pub carries_no_write : (decoded : Option Packet) → IsNoWrite (supported decoded)
 carries_no_write None = tt
-carries_no_write (Some (Read request)) = carries_no_write_in request.name request.mode
+carries_no_write (Some (Read request)) = tt
 carries_no_write (Some (Write request)) = tt
 carries_no_write (Some (Data number bytes)) = tt
 carries_no_write (Some (Ack number)) = tt

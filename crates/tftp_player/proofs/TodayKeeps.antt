@@ -7,7 +7,7 @@ use Rattle.tftp_wire.specs.declared.mode.Mode.TheVariants.{Octet, Netascii}
 use Rattle.tftp_wire.specs.declared.packet.Packet.{Packet as WirePacket}
 use Rattle.tftp_wire.specs.declared.packet.Packet.TheVariants.{Read, Write, Data, Ack, Error, Oack}
 use Rattle.tftp_wire.specs.Spelling.{Spells}
-use Rattle.tftp_server.specs.Request.{supported, supported_read, default_read}
+use Rattle.tftp_server.specs.Request.{supported}
 use Rattle.tftp_player.specs.Machine.{Endpoint, host_of}
 use Rattle.tftp_player.specs.Machine.{Elsewhere as Far}
 use Rattle.tftp_player.specs.Rules.{message}
@@ -28,18 +28,13 @@ use Rattle.tftp_wire.specs.declared.packet.Request.{Request}
 use Rattle.tftp_player.proofs.WorldKeeps.{serving_keeps, asked_so, request_packet}
 use Rattle.tftp_player.proofs.WorldRuns.{arrives_keeps, come_from, contains_at, ok_at_home, says_spelled, step_keeps, stray_keeps, with_decoded}
 
--- what is supported of a packet is a read in the mode that the packet asks for
-supported_mode : (name : List ℕ) (mode : Mode) (write : Bool) (r : Request) → supported_read name mode ≡ Some (request_packet write r) → (write ≡ false) × (mode ≡ r.mode)
-supported_mode name Octet true r e = absurd (let f : Some (Read (default_read name)) ≡ Some (Write r) = e in cc)
-supported_mode name Octet false r e = let f : Some (Read (default_read name)) ≡ Some (Read r) = e in let same : default_read name ≡ r = cc in (refl, ap (λ (q : Request). q.mode) same)
-supported_mode name Netascii write r e = absurd (let f : None ≡ Some (request_packet write r) = e in cc)
-
+-- what is supported of a packet is that packet
 supported_asked : (decoded : Option WirePacket) (write : Bool) (r : Request) → supported decoded ≡ Some (request_packet write r) →
     (q : Request) × (q.mode ≡ r.mode) × (decoded ≡ Some (request_packet write q))
 supported_asked None write r e = absurd (let f : None ≡ Some (request_packet write r) = e in cc)
-supported_asked (Some (Read q)) write r e =
-    let same = supported_mode q.name q.mode write r e in
-    (q, same.1, subst (λ (b : Bool). Some (Read q) ≡ Some (request_packet b q)) (sym same.0) refl)
+supported_asked (Some (Read q)) true r e = absurd (let f : Some (Read q) ≡ Some (Write r) = e in cc)
+supported_asked (Some (Read q)) false r e =
+    let f : Some (Read q) ≡ Some (Read r) = e in let same : q ≡ r = cc in (q, ap (λ (x : Request). x.mode) same, refl)
 supported_asked (Some (Write q)) write r e = absurd (let f : None ≡ Some (request_packet write r) = e in cc)
 supported_asked (Some (Data number bytes)) write r e = absurd (let f : None ≡ Some (request_packet write r) = e in cc)
 supported_asked (Some (Ack number)) write r e = absurd (let f : None ≡ Some (request_packet write r) = e in cc)

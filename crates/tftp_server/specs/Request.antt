@@ -1,7 +1,6 @@
 -- How the request port handles a datagram, and what it leaves (RFC 1350, section 4; RFC 2347, "Negotiation Protocol").
 use Rattle.std.specs.Prelude.{ℕ, Bool, ◌≡◌, ◌≢◌, List, [], ◌⊎◌, length, Option, Some, None, Result, Ok, Err, IfErr}
 use Rattle.tftp_wire.specs.declared.mode.Mode.{Mode}
-use Rattle.tftp_wire.specs.declared.mode.Mode.TheVariants.{Octet, Netascii}
 use Rattle.tftp_wire.specs.declared.options.RawOption.{RawOption}
 use Rattle.tftp_wire.specs.declared.packet.Packet.{Packet}
 use Rattle.tftp_wire.specs.declared.packet.Packet.TheVariants.{Read}
@@ -28,25 +27,16 @@ use Rattle.tftp_server.specs.State.{Held, ServerState, IsRepeated, with_new}
 use Rattle.tftp_server.specs.Port.{Ask, Ignores, Refuses, Reads, Writes, Service, Refused, Sends, Takes, asks, by_file, by_draft}
 use Rattle.tftp_server.specs.Store.{StoreMeaning, Opens, Begins}
 
--- a request to read in octet, without options
-abbrev pub default_read : List ℕ → Request
-default_read name = record { name = name; mode = Octet; options = [] }
-
--- what is supported of a request to read so far: in octet it is answered without its options, as RFC 2347 allows
-abbrev pub supported_read : List ℕ → Mode → Option Packet
-supported_read name Octet = Some (Read (default_read name))
-supported_read name Netascii = None
-
--- what is supported of a packet so far; a request to write has no place yet
+-- what is supported of a packet so far: a request to write has no place yet
 abbrev pub supported : Option Packet → Option Packet
-supported (Some (Read request)) = supported_read request.name request.mode
+supported (Some (Read request)) = Some (Read request)
 supported _ = None
 
--- the name in what is supported
-abbrev pub NamesFile : Option Packet → Option (List ℕ) → Type 0
-NamesFile (Some (Read request)) (Some name) = request ≡ default_read name
-NamesFile None None = Unit {0}
-NamesFile _ _ = ⊥
+-- the request in what is supported
+abbrev pub SupportsRead : Option Packet → Option Request → Type 0
+SupportsRead (Some (Read request)) (Some r) = request ≡ r
+SupportsRead None None = Unit {0}
+SupportsRead _ _ = ⊥
 
 -- the length of a file that was opened
 abbrev pub opened_length : {F : Type 0} → Result (Opening F) StoreFault → Result ℕ StoreFault
@@ -150,7 +140,7 @@ module _ {S F D : Type 0} (meaning : StoreMeaning S F D) (old : ServerState S F 
 abbrev pub ask_of : Asked → Ask
 ask_of asked.Nothing = Ignores
 ask_of (asked.Refuse reply) = Refuses reply
-ask_of (asked.Read path) = Reads path Octet []
+ask_of (asked.Read path request) = Reads path request.mode request.options
 
 -- what a decision comes to
 abbrev pub came_to : {S F : Type 0} → Decision F → S → Came S F MemSinkState

@@ -8,7 +8,6 @@ ghost use Rattle.tftp_ends.specs.End.{record_of};
 ghost use Rattle.tftp_file.specs.Memory.{MemSinkState};
 ghost use Rattle.tftp_server.specs.Config.{IsConfig};
 ghost use Rattle.tftp_server.specs.Request.{AsksToRead, Came, RequestStep, left_by, supported};
-ghost use Rattle.tftp_wire.specs.declared.mode.Mode.TheVariants.{Octet};
 ghost use Rattle.tftp_ends.specs.Step.{error_bytes, lent};
 ghost use Rattle.tftp_wire.specs.declared.packet.Packet.{Packet};
 ghost use Rattle.tftp_ends.specs.Action.{Decodes};
@@ -28,6 +27,7 @@ use std::alloc::Global;
 use std::marker::Model;
 use tftp_ends::{Endpoint, ErrorReply, Outgoing, Record, Step};
 use tftp_file::Path;
+use tftp_wire::RequestRef;
 
 /// A server: what it is set to, its store and the transfers that it holds.
 ///
@@ -209,7 +209,7 @@ impl<S: Store> Server<S> {
         match self.asked(from, bytes) {
             Ok(Asked::Nothing) => Ok(false),
             Ok(Asked::Refuse(_)) => Ok(false),
-            Ok(Asked::Read(_)) => Ok(true),
+            Ok(Asked::Read(..)) => Ok(true),
             Err(_) => Err(ServerFault::Memory),
         }
     }
@@ -218,9 +218,9 @@ impl<S: Store> Server<S> {
     /// identifier `tid`, the port from which its datagrams go out (RFC 1350, section 4). At most one
     /// datagram is appended to `out`, for where [`Opened::to`] says.
     ///
-    /// Today a read in octet is served, and its options are left unanswered, as RFC 2347 allows; any
-    /// other request has no place yet (ERROR 4). `TidInUse` where a transfer has the identifier;
-    /// `Memory`. After a fault nothing has changed.
+    /// Today a read is served, in both modes and with options; a request to write has no place yet
+    /// (ERROR 4). `TidInUse` where a transfer has the identifier; `Memory`. After a fault nothing has
+    /// changed.
     pub fn on_request(
         &mut self,
         from: Endpoint,
@@ -253,7 +253,9 @@ impl<S: Store> Server<S> {
                 to: None,
             }),
             Ok(Asked::Refuse(reply)) => refuse(reply, from, out),
-            Ok(Asked::Read(path)) => self.read_from(from, tid, path, bytes, out),
+            Ok(Asked::Read(path, request)) => {
+                self.read_from(from, tid, path, bytes, &request, out)
+            },
             Err(_) => Err(ServerFault::Memory),
         }
     }
@@ -265,6 +267,7 @@ impl<S: Store> Server<S> {
         tid: u16,
         path: Path,
         bytes: &[u8],
+        request: &RequestRef<'_>,
         out: &mut Vec<u8>,
     ) -> Result<Opened, ServerFault>
         requires { at tid self.old.held ≡ None }
@@ -277,7 +280,7 @@ impl<S: Store> Server<S> {
               may_fail = S.Source.may_fail;
               may_refuse_open = S.may_refuse_open;
               may_refuse_begin = S.may_refuse_begin;
-            }) self.old from bytes.now path Octet [] came
+            }) self.old from bytes.now path request.now.mode request.now.options came
             × (out.new.items ≡ out.old.items ++ sent) × (record {
               new = self.new;
               opened = opened;
@@ -287,7 +290,7 @@ impl<S: Store> Server<S> {
         ensures err { OnErr result ((self.new ≡ self.old) × (out.new.items ≡ out.old.items)) }
     {
         let start = out.len();
-        match self.read(from, path, bytes, out) {
+        match self.read(from, path, bytes, request, out) {
             Ok(Decision::Refuse(reply)) => refuse(reply, from, out),
             Ok(Decision::Open(transfer)) => {
                 let Ok(()) = self.table.insert(tid, transfer) else {

@@ -1,15 +1,14 @@
 //! The request port: its tests, one after the other.
 
 ghost use Rattle.std.specs.Prelude.{Bool, ◌≡◌, ◌++◌, [], Ok, Option, None, length, option_map, IfOk, IfErr, OnErr};
-ghost use Rattle.tftp_wire.specs.declared.mode.Mode.TheVariants.{Octet};
-ghost use Rattle.tftp_wire.specs.Borrowed.{owned};
+ghost use Rattle.tftp_wire.specs.Borrowed.{owned, owned_request};
 ghost use Rattle.tftp_wire.specs.declared.packet.Packet.{Packet};
 ghost use Rattle.tftp_file.specs.Memory.{MemSinkState};
 ghost use Rattle.tftp_file.specs.Path.{path_of_name};
 ghost use Rattle.tftp_ends.specs.Action.{Decodes};
 ghost use Rattle.tftp_server.specs.State.{IsRepeated};
-ghost use Rattle.tftp_server.specs.Port.{Reads, asks, by_name, by_room, by_length};
-ghost use Rattle.tftp_server.specs.Request.{NamesFile, AsksToRead, Sent, ask_of, came_to, supported, decided_bytes};
+ghost use Rattle.tftp_server.specs.Port.{Reads, accept_reply, asks, by_file, by_name, by_room, by_length};
+ghost use Rattle.tftp_server.specs.Request.{SupportsRead, AsksToRead, Sent, ask_of, came_to, supported, decided_bytes};
 
 use crate::fault::ServerFault;
 use crate::server::Server;
@@ -18,18 +17,18 @@ use crate::transfer::Transfer;
 use std::alloc::Global;
 use tftp_ends::{End, Endpoint, ErrorReply, OpenFault, decode_packet};
 use tftp_file::{Files, Path, PathFault, StoreFault, path_of};
-use tftp_negotiate::Agreed;
-use tftp_wire::{Mode, PacketRef, has_error_opcode};
+use tftp_negotiate::{Agreed, Kind, Refusal, accept_ref};
+use tftp_wire::{Mode, PacketRef, RequestRef, has_error_opcode};
 
 /// What the request port does before it asks its store.
 #[derive(Drop)]
-pub(crate) enum Asked {
+pub(crate) enum Asked<'a> {
     /// Nothing.
     Nothing,
     /// An ERROR goes out.
     Refuse(ErrorReply),
-    /// The store is asked for the file at this path, to be read in octet and without options.
-    Read(Path),
+    /// The store is asked for the file at this path, which this request names.
+    Read(Path, RequestRef<'a>),
 }
 
 /// What is to be done at a request.
@@ -41,38 +40,42 @@ pub(crate) enum Decision<F> {
     Open(Transfer<F>),
 }
 
-/// The name in a request to read in octet.
-fn file_name<'a>(decoded: &Option<PacketRef<'a>>) -> Option<&'a [u8]>
-    ensures { NamesFile (supported (option_map owned decoded.now)) (option_map
-        (λ name. name.now) result) }
+/// The request to read, if it is one.
+fn read_request<'a>(decoded: Option<PacketRef<'a>>) -> Option<RequestRef<'a>>
+    ensures { SupportsRead (supported (option_map owned decoded.entry)) (option_map
+        owned_request result) }
 {
     match decoded {
-        Some(PacketRef::Read(request)) => match request.mode {
-            Mode::Octet => Some(request.name),
-            Mode::Netascii => None,
-        },
+        Some(PacketRef::Read(request)) => Some(request),
         _ => None,
     }
 }
 
 /// The table must have room.
-fn by_room(cap: u8, count: usize, path: Path) -> Asked
-    ensures { ask_of result ≡ by_room cap count (λ p. Reads p Octet []) path }
+fn by_room<'a>(cap: u8, count: usize, path: Path, request: RequestRef<'a>) -> Asked<'a>
+    ensures { ask_of result ≡ by_room cap count (λ p. Reads p request.entry.mode
+        request.entry.options) path }
 {
     if count >= usize::from(cap) {
         return Asked::Refuse(ErrorReply::ServerBusy);
     }
-    Asked::Read(path)
+    Asked::Read(path, request)
 }
 
 /// The name must be a path.
-fn by_name(alloc: Global, cap: u8, count: usize, name: &[u8]) -> Result<Asked, ServerFault>
-    ensures named { IfOk result (λ asked. ask_of asked ≡ by_name cap count (λ p. Reads p Octet [])
-        (path_of_name name.now)) }
+fn by_name<'a>(
+    alloc: Global,
+    cap: u8,
+    count: usize,
+    request: RequestRef<'a>,
+) -> Result<Asked<'a>, ServerFault>
+    ensures named { IfOk result (λ asked. ask_of asked ≡ by_name cap count
+        (λ p. Reads p request.entry.mode request.entry.options)
+        (path_of_name request.entry.name.now)) }
     ensures memory { IfErr result (λ fault. fault ≡ ServerFault.Memory) }
 {
-    match path_of(alloc, name) {
-        Ok(path) => Ok(by_room(cap, count, path)),
+    match path_of(alloc, request.name) {
+        Ok(path) => Ok(by_room(cap, count, path, request)),
         Err(PathFault::Memory) => Err(ServerFault::Memory),
         Err(PathFault::Empty | PathFault::Segment | PathFault::Depth | PathFault::Length) => {
             Ok(Asked::Refuse(ErrorReply::AccessViolation))
@@ -80,10 +83,24 @@ fn by_name(alloc: Global, cap: u8, count: usize, name: &[u8]) -> Result<Asked, S
     }
 }
 
+/// The ERROR for options that are refused.
+fn accept_reply(refusal: Refusal) -> ErrorReply
+    ensures { result ≡ accept_reply refusal }
+{
+    match refusal {
+        Refusal::TooLarge => ErrorReply::DiskFull,
+        Refusal::Repeated | Refusal::NotAsked | Refusal::BadValue => ErrorReply::OptionRefused,
+    }
+}
+
 impl<S: Store> Server<S> {
     /// The tests that ask no store: only a request has a place here, and what begins as an ERROR is
     /// never answered.
-    pub(crate) fn asked(&self, from: Endpoint, bytes: &[u8]) -> Result<Asked, ServerFault>
+    pub(crate) fn asked<'a>(
+        &self,
+        from: Endpoint,
+        bytes: &'a [u8],
+    ) -> Result<Asked<'a>, ServerFault>
         ensures asks { IfOk result (λ asked. (decoded : Option Packet) × (repeated : Bool)
             × Decodes bytes.now decoded × IsRepeated repeated from decoded self.now.held
             × (ask_of asked ≡ asks self.now.config.cap (length self.now.held) repeated
@@ -95,27 +112,30 @@ impl<S: Store> Server<S> {
         if has_error_opcode(bytes) {
             return Ok(Asked::Nothing);
         }
-        match file_name(&decoded) {
-            Some(name) => {
+        match read_request(decoded) {
+            Some(request) => {
                 if is_repeated {
                     return Ok(Asked::Nothing);
                 }
-                by_name(self.alloc, self.config.cap, self.table.len(), name)
+                by_name(self.alloc, self.config.cap, self.table.len(), request)
             }
             None => Ok(Asked::Refuse(ErrorReply::IllegalOperation)),
         }
     }
 
-    /// Opens a transfer of the file, if its blocks can be numbered and the first can be read.
-    fn send(
+    /// Opens a transfer of the file with these options, if its blocks can be numbered and, without
+    /// options, the first can be read.
+    fn open_end(
         &self,
         from: Endpoint,
         path: Path,
         bytes: &[u8],
+        mode: Mode,
+        agreed: &Agreed,
         file: Opening<S::Source>,
         out: &mut Vec<u8>,
     ) -> Result<Decision<S::Source>, ServerFault>
-        ensures sends { IfOk result (λ decision. Sent (record {
+        ensures opens { IfOk result (λ decision. Sent (record {
           stored = S.stored;
           left = S.Source.left;
           drafted = λ (draft : MemSinkState). None;
@@ -123,7 +143,7 @@ impl<S: Store> Server<S> {
           may_refuse_open = S.may_refuse_open;
           may_refuse_begin = S.may_refuse_begin;
         }) self.now from bytes.now
-            (by_length path Octet file.length (Ok [])) (Ok file)
+            (by_length path mode file.length (Ok agreed.now)) (Ok file)
             (came_to decision self.now.store)) }
         ensures sent { IfOk result (λ decision. out.new.items ≡ out.old.items ++ decided_bytes
             decision) }
@@ -135,14 +155,7 @@ impl<S: Store> Server<S> {
         let start = out.len();
         let mut files = Files::Source(file.source);
         let opened = End::serve_read(
-            self.alloc,
-            &mut files,
-            from,
-            Mode::Octet,
-            &Agreed::new(),
-            length,
-            retries,
-            out,
+            self.alloc, &mut files, from, mode, agreed, length, retries, out,
         );
         match opened {
             Ok((end, _)) => {
@@ -159,12 +172,46 @@ impl<S: Store> Server<S> {
         }
     }
 
+    /// Answers the options of a request for a file that was opened.
+    fn send(
+        &self,
+        from: Endpoint,
+        path: Path,
+        bytes: &[u8],
+        request: &RequestRef<'_>,
+        file: Opening<S::Source>,
+        out: &mut Vec<u8>,
+    ) -> Result<Decision<S::Source>, ServerFault>
+        ensures sends { IfOk result (λ decision. Sent (record {
+          stored = S.stored;
+          left = S.Source.left;
+          drafted = λ (draft : MemSinkState). None;
+          may_fail = S.Source.may_fail;
+          may_refuse_open = S.may_refuse_open;
+          may_refuse_begin = S.may_refuse_begin;
+        }) self.now from bytes.now
+            (by_file self.now.config.limits path request.now.mode request.now.options
+            (Ok file.length)) (Ok file) (came_to decision self.now.store)) }
+        ensures sent { IfOk result (λ decision. out.new.items ≡ out.old.items ++ decided_bytes
+            decision) }
+        ensures memory { IfErr result (λ fault. fault ≡ ServerFault.Memory) }
+        ensures err { OnErr result (out.new.items ≡ out.old.items) }
+    {
+        let limits = self.config.limits;
+        let mode = request.mode;
+        match accept_ref(&request.options, Kind::Read, mode, file.length, &limits) {
+            Ok(agreed) => self.open_end(from, path, bytes, mode, &agreed, file, out),
+            Err(refusal) => Ok(Decision::Refuse(accept_reply(refusal))),
+        }
+    }
+
     /// Opens the file at the path, if there is one and it can be opened.
     pub(crate) fn read(
         &self,
         from: Endpoint,
         path: Path,
         bytes: &[u8],
+        request: &RequestRef<'_>,
         out: &mut Vec<u8>,
     ) -> Result<Decision<S::Source>, ServerFault>
         ensures asks { IfOk result (λ decision. AsksToRead (record {
@@ -175,14 +222,14 @@ impl<S: Store> Server<S> {
           may_refuse_open = S.may_refuse_open;
           may_refuse_begin = S.may_refuse_begin;
         }) self.now from bytes.now
-            path Octet [] (came_to decision self.now.store)) }
+            path request.now.mode request.now.options (came_to decision self.now.store)) }
         ensures sent { IfOk result (λ decision. out.new.items ≡ out.old.items ++ decided_bytes
             decision) }
         ensures memory { IfErr result (λ fault. fault ≡ ServerFault.Memory) }
         ensures err { OnErr result (out.new.items ≡ out.old.items) }
     {
-        match self.store.open(self.alloc, &path, Mode::Octet) {
-            Ok(file) => self.send(from, path, bytes, file, out),
+        match self.store.open(self.alloc, &path, request.mode) {
+            Ok(file) => self.send(from, path, bytes, request, file, out),
             Err(StoreFault::Missing) => Ok(Decision::Refuse(ErrorReply::FileNotFound)),
             Err(StoreFault::Memory) => Err(ServerFault::Memory),
             Err(StoreFault::Exists | StoreFault::Full | StoreFault::Io) => {

@@ -18,5 +18,5 @@ returns-in-Ok-Refuse-clause-steps g c =
 pub returns-in-Ok-Read-clause-steps : goal.returns-in-Ok-Read-clause-steps
 returns-in-Ok-Read-clause-steps g c =
     reads (record { stored = g.S.Store.stored; left = g.S.Source.Source.left; drafted = λ (draft : MemSinkState). None; may_fail = g.S.Source.Source.may_fail; may_refuse_open = g.S.Store.may_refuse_open; may_refuse_begin = g.S.Store.may_refuse_begin })
-    c.args.self.now c.args.from c.args.bytes.now c.args.tid c.in-Ok-Read.path c.args.out.now.items c.read_from.new.out.items c.read_from.new.self c.read_from.result
-    (asked_as (record { stored = g.S.Store.stored; left = g.S.Source.Source.left; drafted = λ (draft : MemSinkState). None; may_fail = g.S.Source.Source.may_fail; may_refuse_open = g.S.Store.may_refuse_open; may_refuse_begin = g.S.Store.may_refuse_begin }) c.args.self.now c.args.from c.args.bytes.now c.in-Ok-Read.field-0 (asked.Read c.in-Ok-Read.path) c.in-Ok-Read.field-0-is c.in-Ok-Read.ensures.asks) c.read_from.ensures.reads
+    c.args.self.now c.args.from c.args.bytes.now c.args.tid c.in-Ok-Read.path c.in-Ok-Read.request.mode c.in-Ok-Read.request.options c.args.out.now.items c.read_from.new.out.items c.read_from.new.self c.read_from.result
+    (asked_as (record { stored = g.S.Store.stored; left = g.S.Source.Source.left; drafted = λ (draft : MemSinkState). None; may_fail = g.S.Source.Source.may_fail; may_refuse_open = g.S.Store.may_refuse_open; may_refuse_begin = g.S.Store.may_refuse_begin }) c.args.self.now c.args.from c.args.bytes.now c.in-Ok-Read.field-0 (asked.Read c.in-Ok-Read.path c.in-Ok-Read.request) c.in-Ok-Read.field-0-is c.in-Ok-Read.ensures.asks) c.read_from.ensures.reads

@@ -8,4 +8,4 @@ pub returns-in-Ok-clause-asks : goal.returns-in-Ok-clause-asks
 returns-in-Ok-clause-asks g c =
     let same : c.self.inside.store ≡ c.args.self.now.store = ap (λ (s : ServerState g.row.S.Denot g.row.S-Source.Denot MemSinkState). s.store) c.self.view_is in
     asks_to_read (record { stored = g.S.Store.stored; left = g.S.Source.Source.left; drafted = λ (draft : MemSinkState). None; may_fail = g.S.Source.Source.may_fail; may_refuse_open = g.S.Store.may_refuse_open; may_refuse_begin = g.S.Store.may_refuse_begin })
-    c.args.self.now c.args.from c.args.bytes.now c.args.path c.in-Ok.file c.send.result (rw (← same) c.in-Ok.ensures.opens) c.send.ensures.sends
+    c.args.self.now c.args.from c.args.bytes.now c.args.path c.args.request.now.mode c.args.request.now.options c.in-Ok.file c.send.result (rw (← same) c.in-Ok.ensures.opens) c.send.ensures.sends
