@@ -29,7 +29,7 @@ fn server(rt: &impl Abort, alloc: Global, config: Config) -> Result<Server<MemSt
 const REQUEST: &[u8] = b"\x00\x01a\x00octet\x00";
 
 /// What comes to the request port, the answer to it, and whether a transfer opens.
-const ROWS: [(&str, &[u8], &[u8], bool); 9] = [
+const ROWS: [(&str, &[u8], &[u8], bool); 10] = [
     ("begins as an ERROR", b"\x00\x05", b"", false),
     ("an ERROR", b"\x00\x05\x00\x01no\x00", b"", false),
     (
@@ -69,9 +69,15 @@ const ROWS: [(&str, &[u8], &[u8], bool); 9] = [
         false,
     ),
     (
+        "a read, with an option twice",
+        b"\x00\x01a\x00octet\x00blksize\x008\x00BLKSIZE\x009\x00",
+        b"\x00\x05\x00\x08option refused\x00",
+        false,
+    ),
+    (
         "a read, with an option",
         b"\x00\x01/a\x00OCTET\x00blksize\x008\x00",
-        b"\x00\x03\x00\x01ABC",
+        b"\x00\x06blksize\x008\x00",
         true,
     ),
 ];
@@ -85,6 +91,52 @@ fn port_rows(rt: HostRuntime) -> Result<(), Fail> {
         assert_eq!(rt; out.as_slice(), answer, "{what}");
         assert_eq!(rt; opened.to.is_some(), !answer.is_empty(), "{what}: where to");
         assert_eq!(rt; opened.tid.is_some(), opens, "{what}: a transfer");
+    }
+    Ok(())
+}
+
+/// Reads of the file, and what opens each: an OACK of the options that the server takes, in their
+/// order, or DATA 1 where there are none (RFC 2347, RFC 2348, RFC 2349).
+const READS: [(&[u8], &[u8]); 8] = [
+    (b"\x00\x01a\x00netascii\x00", b"\x00\x03\x00\x01ABC"),
+    (
+        b"\x00\x01a\x00octet\x00tsize\x000\x00",
+        b"\x00\x06tsize\x003\x00",
+    ),
+    (
+        b"\x00\x01a\x00netascii\x00tsize\x000\x00",
+        b"\x00\x03\x00\x01ABC",
+    ),
+    (
+        b"\x00\x01a\x00octet\x00tsize\x000\x00blksize\x008\x00",
+        b"\x00\x06tsize\x003\x00blksize\x008\x00",
+    ),
+    (
+        b"\x00\x01a\x00octet\x00blksize\x001429\x00",
+        b"\x00\x06blksize\x001428\x00",
+    ),
+    (
+        b"\x00\x01a\x00octet\x00timeout\x00255\x00",
+        b"\x00\x06timeout\x00255\x00",
+    ),
+    (
+        b"\x00\x01a\x00octet\x00timeout\x00256\x00",
+        b"\x00\x03\x00\x01ABC",
+    ),
+    (
+        b"\x00\x01a\x00octet\x00windowsize\x004\x00",
+        b"\x00\x03\x00\x01ABC",
+    ),
+];
+
+#[test]
+fn reads_are_answered_with_their_options(rt: HostRuntime) -> Result<(), Fail> {
+    for (request, answer) in READS {
+        let mut server = server(&rt, rt.alloc(), Config::default())?;
+        let mut out = Vec::new(rt.alloc());
+        let opened = server.on_request(client(2000), 1025, request, &mut out)?;
+        assert_eq!(rt; out.as_slice(), answer, "to {request:?}");
+        assert_eq!(rt; opened.tid, Some(1025), "a transfer for {request:?}");
     }
     Ok(())
 }
@@ -117,7 +169,7 @@ const REPEATS: [(&[u8], &[u8]); 4] = [
     ),
     (
         b"\x00\x01a\x00octet\x00blksize\x008\x00",
-        b"\x00\x03\x00\x01ABC",
+        b"\x00\x06blksize\x008\x00",
     ),
 ];
 
