@@ -25,7 +25,7 @@ end 1025 server-read peer=1024 size=512 number=1 complete=yes Complete
 }
 
 /// Scripts of reads, with what they print and their status.
-const READS: [(&str, &str, u8); 6] = [
+const READS: [(&str, &str, u8); 5] = [
     // an empty file is one empty block (RFC 1350, section 6)
     (
         "file empty -\nget empty octet\nsettle 0\n",
@@ -69,25 +69,6 @@ end 1025 server-read peer=1024 size=512 number=2 complete=no open
 ",
         1,
     ),
-    // a request that comes twice opens one transfer, and another behind its close (RFC 1350, section 4)
-    (
-        "file a 414243\nget a octet\ndeliver 0\ndeliver 0\ndeliver 1\ndeliver 2\n\
-         deliver 0\ndeliver 3\ndeliver 4\n",
-        "\
-#0 10.0.0.2:1024 > 10.0.0.1:69 RRQ a octet
-#1 10.0.0.1:1025 > 10.0.0.2:1024 DATA 1 3
--
-#2 10.0.0.2:1024 > 10.0.0.1:1025 ACK 1
-closed 1025 Complete
-#3 10.0.0.1:1026 > 10.0.0.2:1024 DATA 1 3
-#4 10.0.0.2:1024 > 10.0.0.1:1026 ERROR 5 (unknown transfer id)
-closed 1026 PeerError(5)
-end 1024 client-read peer=1025 size=512 number=1 complete=yes open
-end 1025 server-read peer=1024 size=512 number=1 complete=yes Complete
-end 1026 server-read peer=1024 size=512 number=1 complete=no PeerError(5)
-",
-        0,
-    ),
     // the last ACK is lost, and the reader waits for the block again (RFC 1350, section 6)
     (
         "file a 414243\nget a octet\ndeliver 0\ndeliver 1\n\
@@ -130,6 +111,34 @@ end 1025 server-read peer=1024 size=512 number=1 complete=no TimedOut
 #[test]
 fn read_rows(rt: HostRuntime) -> Result<(), Fail> {
     for (script, want, status) in READS {
+        plays(&rt, rt.alloc(), script, want, status)?;
+    }
+    Ok(())
+}
+
+/// A request that comes twice opens one transfer, and another behind its close (RFC 1350, section 4).
+const REPEATS: [(&str, &str, u8); 1] = [(
+    "file a 414243\nget a octet\ndeliver 0\ndeliver 0\ndeliver 1\ndeliver 2\n\
+         deliver 0\ndeliver 3\ndeliver 4\n",
+    "\
+#0 10.0.0.2:1024 > 10.0.0.1:69 RRQ a octet
+#1 10.0.0.1:1025 > 10.0.0.2:1024 DATA 1 3
+-
+#2 10.0.0.2:1024 > 10.0.0.1:1025 ACK 1
+closed 1025 Complete
+#3 10.0.0.1:1026 > 10.0.0.2:1024 DATA 1 3
+#4 10.0.0.2:1024 > 10.0.0.1:1026 ERROR 5 (unknown transfer id)
+closed 1026 PeerError(5)
+end 1024 client-read peer=1025 size=512 number=1 complete=yes open
+end 1025 server-read peer=1024 size=512 number=1 complete=yes Complete
+end 1026 server-read peer=1024 size=512 number=1 complete=no PeerError(5)
+",
+    0,
+)];
+
+#[test]
+fn repeat_rows(rt: HostRuntime) -> Result<(), Fail> {
+    for (script, want, status) in REPEATS {
         plays(&rt, rt.alloc(), script, want, status)?;
     }
     Ok(())
