@@ -15,6 +15,7 @@ mod script_rows;
 mod show_rows;
 #[cfg(test)]
 mod stray_rows;
+#[cfg(test)]
 mod transfer_rows;
 #[cfg(test)]
 mod udp_lines;
