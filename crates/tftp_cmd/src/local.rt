@@ -198,6 +198,8 @@ impl<R: Files + Drop> Sink for LocalFile<R> {
 
     ghost joins = { λ _ _ _ _ _. tt };
 
+    ghost unmoved = { λ _. tt };
+
     fn append(&mut self, bytes: &[u8]) -> Result<(), StoreFault> {
         match self.writer.write_all(bytes) {
             Ok(()) => {

@@ -1,11 +1,11 @@
 -- The files of an end, seen by what they tell.
-use Rattle.std.specs.Prelude.{◌≡◌, true, false, List, ℕ, Option}
+use Rattle.std.specs.Prelude.{◌≡◌, Bool, true, false, List, ℕ, Option}
 use Rattle.tftp_file.specs.Sink.{Holding}
 use Rattle.tftp_file.specs.declared.files.Files.{Files}
 use Rattle.tftp_file.specs.declared.files.Files.TheVariants.{Source, Sink}
 use Rattle.tftp_ends.specs.declared.side.Side.{Side}
 use Rattle.tftp_ends.specs.End.{is_sender}
-use Rattle.tftp_ends.specs.BlockStored.{KeepsHolding}
+use Rattle.tftp_ends.specs.BlockStored.{KeepsSink}
 
 module _ {S K : Type 0} where
   -- a source for a sender, a sink for a receiver
@@ -13,12 +13,12 @@ module _ {S K : Type 0} where
   AreFilesOf side (Source source) = is_sender side ≡ true
   AreFilesOf side (Sink sink) = is_sender side ≡ false
 
-  -- the files tell the same as before
-  abbrev pub KeepsFiles : (S → Option (List ℕ)) → (K → Option Holding) → Files S K → Files S K → Type 0
-  KeepsFiles left held (Source old) (Source new) = left new ≡ left old
-  KeepsFiles left held (Sink old) (Sink new) = KeepsHolding (held old) (held new)
-  KeepsFiles left held (Source old) (Sink new) = ⊥
-  KeepsFiles left held (Sink old) (Source new) = ⊥
+  -- the files tell the same as before, and a sink has left all else as where nothing was committed
+  abbrev pub KeepsFiles : (S → Option (List ℕ)) → (K → Option Holding) → (K → K → Bool → Type 0) → Files S K → Files S K → Type 0
+  KeepsFiles left held becomes (Source old) (Source new) = left new ≡ left old
+  KeepsFiles left held becomes (Sink old) (Sink new) = KeepsSink held becomes old new
+  KeepsFiles left held becomes (Source old) (Sink new) = ⊥
+  KeepsFiles left held becomes (Sink old) (Source new) = ⊥
 
   -- the same files, over the same borrows
   abbrev pub AreSame : (S → S → Type 0) → (K → K → Type 0) → Files S K → Files S K → Type 0

@@ -53,12 +53,12 @@ abbrev pub is_oack : Option Reply → Bool
 is_oack None = false
 is_oack (Some reply) = has_opcode 6 reply.bytes
 
-module _ {S K : Type 0} (left : S → Option (List ℕ)) (may_fail : S → ℕ → Type 0) (held : K → Option Holding) (may_refuse_append : K → List ℕ → StoreFault → Type 0) (may_refuse_commit : K → StoreFault → Type 0) where
+module _ {S K : Type 0} (left : S → Option (List ℕ)) (may_fail : S → ℕ → Type 0) (held : K → Option Holding) (may_refuse_append : K → List ℕ → StoreFault → Type 0) (may_refuse_commit : K → StoreFault → Type 0) (becomes : K → K → Bool → Type 0) where
   -- one step
   abbrev pub Takes : EndState → Event → Turn → Type 0
   Takes e (Datagram from bytes) turn =
       (files : Files S K) × (files' : Files S K)
-      × DatagramStep left may_fail held may_refuse_append may_refuse_commit from bytes e files turn files'
+      × DatagramStep left may_fail held may_refuse_append may_refuse_commit becomes from bytes e files turn files'
   Takes e Timeout turn = turn ≡ timeout_turn e
 
   -- steps of which each begins, at an open end, where the one before it ended

@@ -1,5 +1,5 @@
 -- What an end is after an event, and what it answers.
-use Rattle.std.specs.Prelude.{ℕ, ◌≡◌, ◌≢◌, ◌≤◌, ◌+◌, ◌-◌, ◌*◌, min, nat_lt, ◌==◌, Bool, true, false, if◌then◌else◌, List, [], ◌∷◌, ◌++◌, length, drop, Option, Some, None, Result, Ok, Err, IfErr, option_map}
+use Rattle.std.specs.Prelude.{ℕ, ◌≡◌, ◌≢◌, ◌≤◌, ◌+◌, ◌-◌, ◌*◌, min, nat_lt, ◌==◌, Bool, true, false, if◌then◌else◌, List, [], ◌∷◌, ◌++◌, length, drop, Option, Some, None, Result, Ok, Err, IfErr, is_ok, option_map}
 use Rattle.tftp_wire.specs.declared.packet.Packet.{Packet}
 use Rattle.tftp_wire.specs.declared.packet.Packet.TheVariants.{Data, Ack}
 use Rattle.tftp_wire.specs.Spelling.{canonical}
@@ -154,18 +154,19 @@ module _ {S : Type 0} (left : S → Option (List ℕ)) (may_fail : S → ℕ →
     pub reads : AsksFor (block_length e.length terms.size number) source (left source') piece answer
     pub answers : turn ≡ filled_turn terms number from piece e answer
 
-module _ {K : Type 0} (held : K → Option Holding) (may_refuse_append : K → List ℕ → StoreFault → Type 0) (may_refuse_commit : K → StoreFault → Type 0) where
+module _ {K : Type 0} (held : K → Option Holding) (may_refuse_append : K → List ℕ → StoreFault → Type 0) (may_refuse_commit : K → StoreFault → Type 0) (becomes : K → K → Bool → Type 0) where
   -- a sink took the bytes of a block, or wasn't asked where there are none
   abbrev pub Appended : List ℕ → K → K → Result Done StoreFault → Type 0
   Appended [] sink sink' answer = (answer ≡ Ok tt) × (sink' ≡ sink)
   Appended (b ∷ bytes) sink sink' answer =
-      Appends (held sink) (held sink') (b ∷ bytes) answer × IfErr answer (may_refuse_append sink (b ∷ bytes))
+      Appends (held sink) (held sink') (b ∷ bytes) answer × IfErr answer (may_refuse_append sink (b ∷ bytes)) × becomes sink sink' false
 
   -- a sink was asked to commit the whole
   pub record Committed (terms : Terms) (number : ℕ) (from : Endpoint) (e : EndState) (sink : K) (turn : Turn) (sink' : K) : Type 0 where
     pub answer : Result Done StoreFault
     pub commits : Commits (held sink) (held sink') answer
     pub refused : IfErr answer (may_refuse_commit sink)
+    pub leaves : becomes sink sink' (is_ok answer)
     pub answers : turn ≡ committed_turn terms number from e answer
 
   -- what follows an append: the last block is committed and then acknowledged, another is acknowledged
@@ -188,7 +189,7 @@ module _ {K : Type 0} (held : K → Option Holding) (may_refuse_append : K → L
     pub memory : answer ≢ Err store_faults.Memory
     pub rest : GoesOn terms number from e (nat_lt (length piece) terms.size) after mid answer turn sink'
 
-module _ {S K : Type 0} (left : S → Option (List ℕ)) (may_fail : S → ℕ → Type 0) (held : K → Option Holding) (may_refuse_append : K → List ℕ → StoreFault → Type 0) (may_refuse_commit : K → StoreFault → Type 0) where
+module _ {S K : Type 0} (left : S → Option (List ℕ)) (may_fail : S → ℕ → Type 0) (held : K → Option Holding) (may_refuse_append : K → List ℕ → StoreFault → Type 0) (may_refuse_commit : K → StoreFault → Type 0) (becomes : K → K → Bool → Type 0) where
   -- DATA is sent from a source
   abbrev pub SendsFrom : Terms → ℕ → Endpoint → EndState → Files S K → Turn → Files S K → Type 0
   SendsFrom terms number from e (Source source) turn (Source source') = Sends left may_fail terms number from e source turn source'
@@ -196,7 +197,7 @@ module _ {S K : Type 0} (left : S → Option (List ℕ)) (may_fail : S → ℕ �
 
   -- a block is stored in a sink
   abbrev pub StoresIn : Terms → ℕ → Endpoint → List ℕ → EndState → Files S K → Turn → Files S K → Type 0
-  StoresIn terms number from piece e (Sink sink) turn (Sink sink') = Stores held may_refuse_append may_refuse_commit terms number from piece e sink turn sink'
+  StoresIn terms number from piece e (Sink sink) turn (Sink sink') = Stores held may_refuse_append may_refuse_commit becomes terms number from piece e sink turn sink'
   StoresIn terms number from piece e _ turn _ = ⊥
 
   -- what an end does at an action, where a datagram of these bytes came from there

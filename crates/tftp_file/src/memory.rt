@@ -160,6 +160,8 @@ impl Sink for MemSink {
 
     ghost joins = { λ _ _ _ p q. (q.0 ∙ p.0, q.1 ∙ p.1) };
 
+    ghost unmoved = { λ _. tt };
+
     /// What has room of the bytes is held, and where that is not all of them the answer is `Full`.
     /// Where none of them has room, it takes no memory.
     fn append(&mut self, bytes: &[u8]) -> Result<(), StoreFault>

@@ -1,6 +1,6 @@
 //! What a receiver writes to: a file that is appended to, and then committed.
 
-ghost use Rattle.std.specs.Prelude.{◌≡◌, ◌≢◌, Err, IfErr, List, ℕ, Option};
+ghost use Rattle.std.specs.Prelude.{◌≡◌, ◌≢◌, Err, IfErr, is_ok, Bool, false, List, ℕ, Option};
 ghost use Rattle.tftp_file.specs.Sink.{Appends, Commits, Holding};
 ghost use Rattle.tftp_file.specs.declared.fault.StoreFault.{StoreFault};
 
@@ -26,6 +26,10 @@ pub trait Sink {
     /// borrow an implementation may say what never changes, or nothing.
     ghost is_same: { Self → Self → Type 0 };
 
+    /// What an append or a commit makes of all that the sink has beside what it holds: `true` behind a
+    /// commit that succeeded, `false` behind every other call.
+    ghost becomes: { Self → Self → Bool → Type 0 } = { λ _ _ _. Unit {0} };
+
     /// Puts the bytes at the end of what is held.
     ///
     /// After `Memory` nothing has changed. After another fault either nothing has changed, or a
@@ -33,6 +37,7 @@ pub trait Sink {
     fn append(&mut self, bytes: &[u8]) -> Result<(), StoreFault>
         ensures appends { Appends (held self.old) (held self.new) bytes.now result }
         ensures refused { IfErr result (may_refuse_append self.old bytes.now) }
+        ensures leaves { becomes self.old self.new false }
         ensures same { is_same self.old self.new };
 
     /// Makes what is held the file's contents for good.
@@ -42,6 +47,7 @@ pub trait Sink {
     fn commit(&mut self) -> Result<(), StoreFault>
         ensures commits { Commits (held self.old) (held self.new) result }
         ensures refused { IfErr result (may_refuse_commit self.old) }
+        ensures leaves { becomes self.old self.new (is_ok result) }
         ensures not_memory { result ≢ Err StoreFault.Memory }
         ensures same { is_same self.old self.new };
 
@@ -50,6 +56,9 @@ pub trait Sink {
 
     /// What is the same after one call and after the next is the same after both.
     ghost joins: { (a b c : Self) → is_same a b → is_same b c → is_same a c };
+
+    /// A sink that no call has changed has all that it had.
+    ghost unmoved: { (a : Self) → becomes a a false };
 }
 
 impl<K: Sink> Sink for &mut K {
@@ -64,9 +73,13 @@ impl<K: Sink> Sink for &mut K {
 
     ghost is_same = { λ k l. (l.ghost_name ≡ k.ghost_name) × K.is_same k.now l.now };
 
+    ghost becomes = { λ k l committed. K.becomes k.now l.now committed };
+
     ghost stays = { λ a. (refl, K.stays a.now) };
 
     ghost joins = { λ a b c p q. (q.0 ∙ p.0, K.joins a.now b.now c.now p.1 q.1) };
+
+    ghost unmoved = { λ a. K.unmoved a.now };
 
     fn append(&mut self, bytes: &[u8]) -> Result<(), StoreFault> {
         Sink::append(&mut **self, bytes)

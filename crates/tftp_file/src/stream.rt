@@ -309,6 +309,8 @@ impl<W: Write> Sink for WriteSink<W> {
 
     ghost joins = { λ _ _ _ _ _. tt };
 
+    ghost unmoved = { λ _. tt };
+
     fn append(&mut self, bytes: &[u8]) -> Result<(), StoreFault> {
         self.is_committed = false;
         write_pieces(&mut self.writer, bytes)

@@ -72,6 +72,8 @@ impl Sink for Shelf {
 
     ghost joins = { λ _ _ _ _ _. tt };
 
+    ghost unmoved = { λ _. tt };
+
     fn append(&mut self, bytes: &[u8]) -> Result<(), StoreFault> {
         let _held = self.sink.as_bytes();
         self.sink.append(bytes)

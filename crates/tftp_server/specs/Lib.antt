@@ -2,6 +2,7 @@ pub mod Config
 pub mod Fault
 pub mod FaultStore
 pub mod Store
+pub mod Draft
 pub mod Memory
 pub mod State
 pub mod Table

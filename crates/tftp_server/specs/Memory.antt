@@ -50,14 +50,16 @@ MayRefuseCommit stored path draft replace Exists = (stored.refuses ≡ false) ×
 MayRefuseCommit stored path draft replace Full = (stored.refuses ≡ true) ⊎ (is_taken replace path stored.files ≡ false)
 MayRefuseCommit stored path draft replace _ = ⊥
 
--- what a store in memory tells of itself, with drafts that tell this
-abbrev pub memory_meaning : {D : Type 0} → (D → Option Drafted) → StoreMeaning Stored (List ℕ) D
-memory_meaning drafted =
+-- what a store in memory tells of itself
+abbrev pub memory_meaning : StoreMeaning Stored (List ℕ) Drafted
+memory_meaning =
     record {
       stored = λ s. Some s;
       left = λ source. Some source;
-      drafted = drafted;
+      drafted = λ draft. Some draft;
       may_fail = λ source want. ⊥;
       may_refuse_open = MayRefuseOpen;
       may_refuse_begin = MayRefuseBegin;
+      may_refuse_append = MayRefuseAppend;
+      may_refuse_commit = MayRefuseCommit;
     }

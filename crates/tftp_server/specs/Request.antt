@@ -3,8 +3,6 @@ use Rattle.std.specs.Prelude.{ℕ, Bool, ◌≡◌, ◌≢◌, List, [], ◌⊎�
 use Rattle.tftp_wire.specs.declared.mode.Mode.{Mode}
 use Rattle.tftp_wire.specs.declared.options.RawOption.{RawOption}
 use Rattle.tftp_wire.specs.declared.packet.Packet.{Packet}
-use Rattle.tftp_wire.specs.declared.packet.Packet.TheVariants.{Read}
-use Rattle.tftp_wire.specs.declared.packet.Request.{Request}
 use Rattle.tftp_negotiate.specs.declared.known.Known.{Known}
 use Rattle.tftp_file.specs.declared.fault.StoreFault.{StoreFault}
 use Rattle.tftp_file.specs.declared.fault.StoreFault.TheVariants.{Memory}
@@ -16,7 +14,6 @@ use Rattle.tftp_ends.specs.End.{EndState}
 use Rattle.tftp_ends.specs.Opening.{ServesRead, CannotStart, serving_write}
 use Rattle.tftp_ends.specs.Action.{Decodes}
 use Rattle.tftp_ends.specs.Step.{error_bytes}
-use Rattle.tftp_file.specs.Memory.{MemSinkState}
 use Rattle.tftp_server.specs.declared.opened.Opened.{Opened}
 use Rattle.tftp_server.specs.declared.server.request.Asked.{Asked}
 use Rattle.tftp_server.specs.declared.server.request.Asked.TheVariants as asked
@@ -25,18 +22,7 @@ use Rattle.tftp_server.specs.declared.server.request.Decision.TheVariants.{Refus
 use Rattle.tftp_server.specs.declared.store.Opening.{Opening}
 use Rattle.tftp_server.specs.State.{Held, ServerState, IsRepeated, with_new}
 use Rattle.tftp_server.specs.Port.{Ask, Ignores, Refuses, Reads, Writes, Service, Refused, Sends, Takes, asks, by_file, by_draft}
-use Rattle.tftp_server.specs.Store.{StoreMeaning, Opens, Begins}
-
--- what is supported of a packet so far: a request to write has no place yet
-abbrev pub supported : Option Packet → Option Packet
-supported (Some (Read request)) = Some (Read request)
-supported _ = None
-
--- the request in what is supported
-abbrev pub SupportsRead : Option Packet → Option Request → Type 0
-SupportsRead (Some (Read request)) (Some r) = request ≡ r
-SupportsRead None None = Unit {0}
-SupportsRead _ _ = ⊥
+use Rattle.tftp_server.specs.Store.{Stored, StoreMeaning, Opens, Begins}
 
 -- the length of a file that was opened
 abbrev pub opened_length : {F : Type 0} → Result (Opening F) StoreFault → Result ℕ StoreFault
@@ -126,28 +112,35 @@ module _ {S F D : Type 0} (meaning : StoreMeaning S F D) (old : ServerState S F 
   Goes (Reads path mode options) came = AsksToRead path mode options came
   Goes (Writes path mode agreed) came = AsksToWrite path mode agreed came
 
-  -- how the request port handles a datagram, where so much of what it says is supported
-  pub record RequestStep (supports : Option Packet → Option Packet) (tid : ℕ) (result : Left S F D) : Type 0 where
+  -- how the request port handles a datagram
+  pub record RequestStep (tid : ℕ) (result : Left S F D) : Type 0 where
     pub decoded : Option Packet
     pub says : Decodes bytes decoded
     pub repeated : Bool
     pub repeats : IsRepeated repeated from decoded old.held
     pub came : Came S F D
-    pub goes : Goes (asks old.config.cap (length old.held) repeated old.config.limits bytes (supports decoded)) came
+    pub goes : Goes (asks old.config.cap (length old.held) repeated old.config.limits bytes decoded) came
     pub left : result ≡ left_by came old from tid
+
+-- the port has refused a datagram: nothing has changed, as far as the store tells
+pub record KeepsServer {S F D : Type 0} (stored : S → Option Stored) (before after : ServerState S F D) : Type 0 where
+  pub config : after.config ≡ before.config
+  pub held : after.held ≡ before.held
+  pub store : stored after.store ≡ stored before.store
 
 -- what the port asks, as the code has it
 abbrev pub ask_of : Asked → Ask
 ask_of asked.Nothing = Ignores
 ask_of (asked.Refuse reply) = Refuses reply
 ask_of (asked.Read path request) = Reads path request.mode request.options
+ask_of (asked.Write path mode agreed) = Writes path mode agreed
 
 -- what a decision comes to
-abbrev pub came_to : {S F : Type 0} → Decision F → S → Came S F MemSinkState
+abbrev pub came_to : {S F D : Type 0} → Decision F D → S → Came S F D
 came_to (Refuse reply) store = An_error reply store
 came_to (Open held) store = A_transfer held store
 
 -- what a decision has sent so far
-abbrev pub decided_bytes : {F : Type 0} → Decision F → List ℕ
+abbrev pub decided_bytes : {F D : Type 0} → Decision F D → List ℕ
 decided_bytes (Refuse reply) = []
 decided_bytes (Open held) = held.end.last_sent

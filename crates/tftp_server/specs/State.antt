@@ -35,15 +35,19 @@ module _ {F D : Type 0} where
   is_open None = false
   is_open (Some held) = not (is_closed held)
 
-  -- a file that is read
-  abbrev pub IsRead : Files F D → Type 0
-  IsRead (Source source) = Unit {0}
-  IsRead (Sink draft) = ⊥
+  -- the draft of a transfer that stores, and of one that is held
+  abbrev pub draft_of : Files F D → Option D
+  draft_of (Source source) = None
+  draft_of (Sink draft) = Some draft
 
-  -- what is handed out of a transfer that is taken: no transfer has a draft yet
-  abbrev pub taken_of : {K : Type 0} → Option (Held F D) → Option (Record × Option K)
+  abbrev pub draft_at : Option (Held F D) → Option D
+  draft_at None = None
+  draft_at (Some held) = draft_of held.files
+
+  -- what is handed out of a transfer that is taken
+  abbrev pub taken_of : Option (Held F D) → Option (Record × Option D)
   taken_of None = None
-  taken_of (Some held) = if is_closed held then Some (record_of held.end, None) else None
+  taken_of (Some held) = if is_closed held then Some (record_of held.end, draft_of held.files) else None
 
 module _ {F D : Type 0} where
   -- an open transfer was asked for from there by a datagram that spells this packet; the case of the mode's letters is

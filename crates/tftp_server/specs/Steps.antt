@@ -1,24 +1,20 @@
 -- How an event handles the transfer that it is for.
-use Rattle.std.specs.Prelude.{ℕ, ◌≡◌, false, List, Option, Some, None}
+use Rattle.std.specs.Prelude.{ℕ, ◌≡◌, Bool, false, List, Option, Some, None, ⊤}
 use Rattle.tftp_wire.specs.declared.packet.Packet.{Packet}
 use Rattle.tftp_file.specs.declared.files.Files.{Files}
-use Rattle.tftp_file.specs.declared.files.Files.TheVariants.{Source}
 use Rattle.tftp_ends.specs.declared.endpoint.Endpoint.{Endpoint}
 use Rattle.tftp_ends.specs.declared.record.Step.{Step}
 use Rattle.tftp_ends.specs.End.{EndState}
-use Rattle.tftp_ends.specs.Files.{KeepsFiles}
+use Rattle.tftp_ends.specs.Files.{KeepsFiles, AreSame}
 use Rattle.tftp_ends.specs.Action.{Decodes, datagram_action, timeout_action}
 use Rattle.tftp_ends.specs.Step.{Turn, DatagramStep, Carries, Lends, IsAnswered, UsesFile, timeout_turn, told}
 use Rattle.tftp_ends.specs.declared.action.Action.{Action}
 use Rattle.tftp_ends.specs.declared.outgoing.Outgoing.{Outgoing}
 use Rattle.tftp_server.specs.declared.fault.ServerFault.{ServerFault}
 use Rattle.tftp_server.specs.declared.fault.ServerFault.TheVariants.{NoSuchTid, Memory}
-use Rattle.tftp_server.specs.State.{Held, at, is_open, is_closed, with_next}
-
--- an end that sends a file does this at a datagram
-abbrev pub ReadDatagramStep : {F : Type 0} → (F → Option (List ℕ)) → (F → ℕ → Type 0) → Endpoint → List ℕ → EndState → F → Turn → F → Type 0
-ReadDatagramStep left may_fail from bytes e source turn source' =
-    DatagramStep left may_fail (λ (sink : Unit {0}). None) (λ sink piece fault. Unit {0}) (λ sink fault. Unit {0}) from bytes e (Source source) turn (Source source')
+use Rattle.tftp_server.specs.Draft.{Drafting, files_in, drafting_holds, MayRefuseAppend, MayRefuseCommit, DraftingBecomes, KeepsStore}
+use Rattle.tftp_server.specs.State.{Held, ServerState, at, is_open, is_closed, with_next}
+use Rattle.tftp_server.specs.Store.{StoreMeaning}
 
 -- what a call gives of a turn, by the end that it leaves and where the answer goes
 abbrev pub Gives : Type 1
@@ -73,47 +69,51 @@ module _ {F D : Type 0} where
   abbrev pub DatagramFaultLent : Endpoint → List ℕ → Option (Held F D) → ServerFault → Type 0
   DatagramFaultLent from bytes transfer fault = DatagramFaultBy UsesFile from bytes transfer fault
 
-module _ {F D : Type 0} (left : F → Option (List ℕ)) (may_fail : F → ℕ → Type 0) where
-  -- what an end does at a datagram with the file of its transfer
-  abbrev pub DatagramStepIn : Endpoint → List ℕ → EndState → Files F D → Turn → Files F D → Type 0
-  DatagramStepIn from bytes e (Source source) turn (Source source') = ReadDatagramStep left may_fail from bytes e source turn source'
-  DatagramStepIn from bytes e _ turn _ = ⊥
+module _ {S F D : Type 0} (meaning : StoreMeaning S F D) where
+  -- what an end does at a datagram with the file of its transfer, which is a source or a draft of the store
+  abbrev pub StepIn : Endpoint → List ℕ → EndState → Files F (Drafting S D) → Turn → Files F (Drafting S D) → Type 0
+  StepIn from bytes e files turn files' =
+      DatagramStep meaning.left meaning.may_fail (drafting_holds meaning) (MayRefuseAppend meaning) (MayRefuseCommit meaning) (DraftingBecomes meaning) from bytes e files turn files'
 
-  -- the transfer made the step of a datagram, which gave this
-  pub record TakesBy (gives : Gives) (from : Endpoint) (bytes : List ℕ) (transfer next : Held F D) (step : Step) : Type 0 where
+  -- the transfer made the step of a datagram, which gave this, and the store has become that
+  pub record TakesBy (gives : Gives) (replace : Bool) (from : Endpoint) (bytes : List ℕ) (store store' : S) (transfer next : Held F D) (step : Step) : Type 0 where
     pub turn : Turn
-    pub steps : DatagramStepIn from bytes transfer.end transfer.files turn next.files
+    pub steps : StepIn from bytes transfer.end (files_in store transfer.path replace transfer.files) turn (files_in store' next.path replace next.files)
     pub carries : gives turn next.end step.to
     pub tells : step ≡ told transfer.end turn
+    pub stays : KeepsStore transfer.files store store'
+    pub kind : AreSame (λ (a b : F). ⊤) (λ (a b : D). ⊤) transfer.files next.files
     pub path : next.path ≡ transfer.path
     pub request : next.request ≡ transfer.request
 
   -- the transfer at the identifier made the step of a datagram, which gave this, and every other is as before
-  pub record TakesDatagramBy (gives : Gives) (tid : ℕ) (from : Endpoint) (bytes : List ℕ) (old new : List (ℕ × Held F D)) (step : Step) : Type 0 where
+  pub record TakesDatagramBy (gives : Gives) (tid : ℕ) (from : Endpoint) (bytes : List ℕ) (old new : ServerState S F D) (step : Step) : Type 0 where
     pub transfer : Held F D
     pub next : Held F D
-    pub found : at tid old ≡ Some transfer
-    pub takes : TakesBy gives from bytes transfer next step
-    pub held : new ≡ with_next tid next old
+    pub found : at tid old.held ≡ Some transfer
+    pub takes : TakesBy gives old.config.overwrite from bytes old.store new.store transfer next step
+    pub held : new.held ≡ with_next tid next old.held
 
   -- its answer was appended, or is lent
-  abbrev pub TakesIn : Endpoint → List ℕ → Held F D → Held F D → Step → List ℕ → List ℕ → Type 0
-  TakesIn from bytes transfer next step before after = TakesBy (appends before after) from bytes transfer next step
+  abbrev pub TakesIn : Bool → Endpoint → List ℕ → S → S → Held F D → Held F D → Step → List ℕ → List ℕ → Type 0
+  TakesIn replace from bytes store store' transfer next step before after = TakesBy (appends before after) replace from bytes store store' transfer next step
 
-  abbrev pub TakesDatagram : ℕ → Endpoint → List ℕ → List (ℕ × Held F D) → List (ℕ × Held F D) → Step → List ℕ → List ℕ → Type 0
+  abbrev pub TakesDatagram : ℕ → Endpoint → List ℕ → ServerState S F D → ServerState S F D → Step → List ℕ → List ℕ → Type 0
   TakesDatagram tid from bytes old new step before after = TakesDatagramBy (appends before after) tid from bytes old new step
 
-  abbrev pub TakesDatagramLent : ℕ → Endpoint → List ℕ → List (ℕ × Held F D) → List (ℕ × Held F D) → Step → Outgoing → Type 0
+  abbrev pub TakesDatagramLent : ℕ → Endpoint → List ℕ → ServerState S F D → ServerState S F D → Step → Outgoing → Type 0
   TakesDatagramLent tid from bytes old new step outgoing = TakesDatagramBy (lends outgoing) tid from bytes old new step
 
-  -- the transfer is as it was, and its file tells the same
-  pub record StaysAs (transfer next : Held F D) : Type 0 where
+  -- the transfer is as it was; its file tells the same, and so does the store
+  pub record StaysAs (replace : Bool) (store store' : S) (transfer next : Held F D) : Type 0 where
     pub end : next.end ≡ transfer.end
     pub path : next.path ≡ transfer.path
     pub request : next.request ≡ transfer.request
-    pub files : KeepsFiles left (λ (draft : D). None) transfer.files next.files
+    pub stays : KeepsStore transfer.files store store'
+    pub files : KeepsFiles meaning.left (drafting_holds meaning) (DraftingBecomes meaning) (files_in store transfer.path replace transfer.files) (files_in store' next.path replace next.files)
 
-  -- nothing has changed; the file of the transfer at the identifier tells the same
-  abbrev pub KeepsHeld : ℕ → Option (Held F D) → List (ℕ × Held F D) → List (ℕ × Held F D) → Type 0
+  -- nothing has changed; the file of the transfer at the identifier tells the same, and so does the store
+  abbrev pub KeepsHeld : ℕ → Option (Held F D) → ServerState S F D → ServerState S F D → Type 0
   KeepsHeld tid None old new = new ≡ old
-  KeepsHeld tid (Some transfer) old new = (next : Held F D) × StaysAs transfer next × (new ≡ with_next tid next old)
+  KeepsHeld tid (Some transfer) old new =
+      (next : Held F D) × StaysAs old.config.overwrite old.store new.store transfer next × (new.held ≡ with_next tid next old.held)

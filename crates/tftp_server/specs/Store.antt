@@ -35,6 +35,24 @@ pub record StoreMeaning (S F D : Type 0) : Type 1 where
   pub may_fail : F → ℕ → Type 0
   pub may_refuse_open : S → List ℕ → StoreFault → Type 0
   pub may_refuse_begin : S → List ℕ → Bool → StoreFault → Type 0
+  pub may_refuse_append : S → D → List ℕ → StoreFault → Type 0
+  pub may_refuse_commit : S → List ℕ → D → Bool → StoreFault → Type 0
+
+-- the meaning of a store by its parts
+abbrev pub meaning_by : {S F D : Type 0} → (S → Option Stored) → (F → Option (List ℕ)) → (D → Option Drafted) →
+    (F → ℕ → Type 0) → (S → List ℕ → StoreFault → Type 0) → (S → List ℕ → Bool → StoreFault → Type 0) →
+    (S → D → List ℕ → StoreFault → Type 0) → (S → List ℕ → D → Bool → StoreFault → Type 0) → StoreMeaning S F D
+meaning_by stored left drafted may_fail may_refuse_open may_refuse_begin may_refuse_append may_refuse_commit =
+    record {
+      stored = stored;
+      left = left;
+      drafted = drafted;
+      may_fail = may_fail;
+      may_refuse_open = may_refuse_open;
+      may_refuse_begin = may_refuse_begin;
+      may_refuse_append = may_refuse_append;
+      may_refuse_commit = may_refuse_commit;
+    }
 
 -- a draft as it begins
 abbrev pub new_draft : Drafted

@@ -2,17 +2,17 @@
 
 mod request;
 
-ghost use Rattle.std.specs.Prelude.{◌≡◌, ◌↔◌, ◌⊎◌, ◌++◌, List, ℕ, [], length, Bool, Option, None, Some, option_map, is_some, IsSome, if◌then◌else◌, false, IfOk, IfErr, IsErrOf, OnOk, OnErr};
+ghost use Rattle.std.specs.Prelude.{◌≡◌, ◌↔◌, ◌⊎◌, ◌++◌, List, ℕ, [], length, Bool, Option, None, Some, option_copied, option_map, is_some, IsSome, if◌then◌else◌, false, IfOk, IfErr, IsErrOf, OnOk, OnErr};
 ghost use Rattle.std.specs.Map.{keys_of};
 ghost use Rattle.tftp_ends.specs.End.{record_of};
-ghost use Rattle.tftp_file.specs.Memory.{MemSinkState};
 ghost use Rattle.tftp_server.specs.Config.{IsConfig};
-ghost use Rattle.tftp_server.specs.Request.{AsksToRead, Came, RequestStep, left_by, supported};
+ghost use Rattle.tftp_server.specs.Request.{AsksToRead, AsksToWrite, Came, KeepsServer, RequestStep, left_by};
 ghost use Rattle.tftp_ends.specs.Step.{error_bytes, lent};
 ghost use Rattle.tftp_wire.specs.declared.packet.Packet.{Packet};
 ghost use Rattle.tftp_ends.specs.Action.{Decodes};
 ghost use Rattle.tftp_server.specs.Port.{asks, asks_store};
-ghost use Rattle.tftp_server.specs.State.{IsRepeated, at, is_open, taken_of, without};
+ghost use Rattle.tftp_server.specs.State.{IsRepeated, at, draft_at, is_open, taken_of, without};
+ghost use Rattle.tftp_server.specs.Store.{meaning_by};
 ghost use Rattle.tftp_server.specs.Steps.{TimesOut, TimesOutLent, TimeoutFault, TakesDatagram, TakesDatagramLent, DatagramFault, DatagramFaultLent, KeepsHeld};
 ghost use Rattle.std.specs.Borrow.{Lends, sem};
 
@@ -27,7 +27,8 @@ use std::alloc::Global;
 use std::marker::Model;
 use tftp_ends::{Endpoint, ErrorReply, Outgoing, Record, Step};
 use tftp_file::Path;
-use tftp_wire::RequestRef;
+use tftp_negotiate::Agreed;
+use tftp_wire::{Mode, RequestRef};
 
 /// A server: what it is set to, its store and the transfers that it holds.
 ///
@@ -37,15 +38,14 @@ pub struct Server<S: Store> {
     alloc: Global,
     config: Config,
     store: S,
-    table: Table<Transfer<S::Source>>,
+    table: Table<Transfer<S::Source, S::Draft>>,
 }
 
 impl<S: Store> Model for Server<S> {
     ghost use Rattle.tftp_server.specs.State.{ServerState};
     ghost use Rattle.tftp_server.specs.Config.{IsConfig};
-    ghost use Rattle.tftp_file.specs.Memory.{MemSinkState};
 
-    ghost Value = { ServerState S S.Source MemSinkState };
+    ghost Value = { ServerState S S.Source S.Draft };
 
     ghost view = { λ s. record { config = s.config; store = s.store; held = s.table } };
 
@@ -77,6 +77,16 @@ impl<S: Store> Server<S> {
     {
         match self.table.get(tid) {
             Some(transfer) => Some(transfer.record()),
+            None => None,
+        }
+    }
+
+    /// The draft of the transfer at the identifier, closed or not, if one is held that stores.
+    pub fn draft(&self, tid: u16) -> Option<&S::Draft>
+        ensures { option_copied result ≡ draft_at (at tid self.now.held) }
+    {
+        match self.table.get(tid) {
+            Some(transfer) => transfer.draft(),
             None => None,
         }
     }
@@ -116,19 +126,22 @@ impl<S: Store> Server<S> {
         bytes: &[u8],
         out: &mut Vec<u8>,
     ) -> Result<Step, ServerFault>
-        ensures takes { IfOk result (λ step. TakesDatagram S.Source.left S.Source.may_fail tid from
-            bytes.now self.old.held self.new.held step out.old.items out.new.items) }
-        ensures rest { self.new ≡ record self.old { held = self.new.held } }
+        ensures takes { IfOk result (λ step. TakesDatagram (meaning_by S.stored S.Source.left S.drafted S.Source.may_fail S.may_refuse_open
+            S.may_refuse_begin S.may_refuse_append S.may_refuse_commit) tid from bytes.now
+            self.old self.new step out.old.items out.new.items) }
+        ensures rest { self.new ≡ record self.old { store = self.new.store; held = self.new.held } }
         ensures no_such_tid { IsErrOf result ServerFault.NoSuchTid
             ↔ (is_open (at tid self.old.held) ≡ false) }
         ensures fault { IfErr result (DatagramFault from bytes.now (at tid self.old.held)) }
-        ensures err { OnErr result (KeepsHeld S.Source.left S.Source.may_fail tid
-            (at tid self.old.held) self.old.held self.new.held × (out.new.items ≡ out.old.items)) }
+        ensures err { OnErr result (KeepsHeld (meaning_by S.stored S.Source.left S.drafted S.Source.may_fail S.may_refuse_open
+            S.may_refuse_begin S.may_refuse_append S.may_refuse_commit) tid (at tid self.old.held) self.old self.new
+            × (out.new.items ≡ out.old.items)) }
     {
         let Some(transfer) = self.table.get_mut(tid) else {
             return Err(ServerFault::NoSuchTid);
         };
-        match transfer.on_datagram(from, bytes, out) {
+        let replace = self.config.overwrite;
+        match transfer.on_datagram(&mut self.store, replace, from, bytes, out) {
             Ok(step) => Ok(step),
             Err(fault) => Err(ServerFault::from(fault)),
         }
@@ -167,19 +180,22 @@ impl<S: Store> Server<S> {
         from: Endpoint,
         bytes: &[u8],
     ) -> Result<(Step, Outgoing), ServerFault>
-        ensures takes { IfOk result (λ answer. TakesDatagramLent S.Source.left S.Source.may_fail tid
-            from bytes.now self.old.held self.new.held answer.0 answer.1) }
-        ensures rest { self.new ≡ record self.old { held = self.new.held } }
+        ensures takes { IfOk result (λ answer. TakesDatagramLent (meaning_by S.stored S.Source.left S.drafted S.Source.may_fail S.may_refuse_open
+            S.may_refuse_begin S.may_refuse_append S.may_refuse_commit) tid from bytes.now
+            self.old self.new answer.0 answer.1) }
+        ensures rest { self.new ≡ record self.old { store = self.new.store; held = self.new.held } }
         ensures no_such_tid { IsErrOf result ServerFault.NoSuchTid
             ↔ (is_open (at tid self.old.held) ≡ false) }
         ensures fault { IfErr result (DatagramFaultLent from bytes.now (at tid self.old.held)) }
-        ensures err { OnErr result (KeepsHeld S.Source.left S.Source.may_fail tid
-            (at tid self.old.held) self.old.held self.new.held) }
+        ensures err { OnErr result (KeepsHeld (meaning_by S.stored S.Source.left S.drafted S.Source.may_fail S.may_refuse_open
+            S.may_refuse_begin S.may_refuse_append S.may_refuse_commit) tid (at tid self.old.held) self.old
+            self.new) }
     {
         let Some(transfer) = self.table.get_mut(tid) else {
             return Err(ServerFault::NoSuchTid);
         };
-        match transfer.handle_datagram(from, bytes) {
+        let replace = self.config.overwrite;
+        match transfer.handle_datagram(&mut self.store, replace, from, bytes) {
             Ok(answer) => Ok(answer),
             Err(fault) => Err(ServerFault::from(fault)),
         }
@@ -203,13 +219,14 @@ impl<S: Store> Server<S> {
         ensures asks { IfOk result (λ may. (decoded : Option Packet) × (repeated : Bool)
             × Decodes bytes.now decoded × IsRepeated repeated from decoded self.now.held
             × (may ≡ asks_store (asks self.now.config.cap (length self.now.held) repeated
-            self.now.config.limits bytes.now (supported decoded)))) }
+            self.now.config.limits bytes.now decoded))) }
         ensures memory { IfErr result (λ fault. fault ≡ ServerFault.Memory) }
     {
         match self.asked(from, bytes) {
             Ok(Asked::Nothing) => Ok(false),
             Ok(Asked::Refuse(_)) => Ok(false),
             Ok(Asked::Read(..)) => Ok(true),
+            Ok(Asked::Write(..)) => Ok(true),
             Err(_) => Err(ServerFault::Memory),
         }
     }
@@ -218,9 +235,9 @@ impl<S: Store> Server<S> {
     /// identifier `tid`, the port from which its datagrams go out (RFC 1350, section 4). At most one
     /// datagram is appended to `out`, for where [`Opened::to`] says.
     ///
-    /// Today a read is served, in both modes and with options; a request to write has no place yet
-    /// (ERROR 4). `TidInUse` where a transfer has the identifier; `Memory`. After a fault nothing has
-    /// changed.
+    /// A request to read has the store open the file; one to write has it begin a draft. `TidInUse`
+    /// where a transfer has the identifier; `Memory`. After a fault nothing has changed, as far as the
+    /// store tells.
     pub fn on_request(
         &mut self,
         from: Endpoint,
@@ -230,19 +247,14 @@ impl<S: Store> Server<S> {
     ) -> Result<Opened, ServerFault>
         ensures steps { IfOk result (λ opened. (sent : List ℕ)
             × (out.new.items ≡ out.old.items ++ sent)
-            × RequestStep (record {
-              stored = S.stored;
-              left = S.Source.left;
-              drafted = λ (draft : MemSinkState). None;
-              may_fail = S.Source.may_fail;
-              may_refuse_open = S.may_refuse_open;
-              may_refuse_begin = S.may_refuse_begin;
-            }) self.old from bytes.now supported tid
+            × RequestStep (meaning_by S.stored S.Source.left S.drafted S.Source.may_fail S.may_refuse_open
+            S.may_refuse_begin S.may_refuse_append S.may_refuse_commit) self.old from bytes.now tid
             (record { new = self.new; opened = opened; sent = sent })) }
         ensures in_use { IsErrOf result ServerFault.TidInUse ↔ IsSome (at tid self.old.held) }
         ensures fault { IfErr result (λ fault. (fault ≡ ServerFault.TidInUse) ⊎
             (fault ≡ ServerFault.Memory)) }
-        ensures err { OnErr result ((self.new ≡ self.old) × (out.new.items ≡ out.old.items)) }
+        ensures err { OnErr result (KeepsServer S.stored self.old self.new
+            × (out.new.items ≡ out.old.items)) }
     {
         if self.table.contains(tid) {
             return Err(ServerFault::TidInUse);
@@ -255,7 +267,10 @@ impl<S: Store> Server<S> {
             Ok(Asked::Refuse(reply)) => refuse(reply, from, out),
             Ok(Asked::Read(path, request)) => {
                 self.read_from(from, tid, path, bytes, &request, out)
-            },
+            }
+            Ok(Asked::Write(path, mode, agreed)) => {
+                self.write_from(from, tid, path, mode, &agreed, bytes, out)
+            }
             Err(_) => Err(ServerFault::Memory),
         }
     }
@@ -271,16 +286,10 @@ impl<S: Store> Server<S> {
         out: &mut Vec<u8>,
     ) -> Result<Opened, ServerFault>
         requires { at tid self.old.held ≡ None }
-        ensures reads { IfOk result (λ opened. (came : Came S S.Source MemSinkState)
+        ensures reads { IfOk result (λ opened. (came : Came S S.Source S.Draft)
             × (sent : List ℕ)
-            × AsksToRead (record {
-              stored = S.stored;
-              left = S.Source.left;
-              drafted = λ (draft : MemSinkState). None;
-              may_fail = S.Source.may_fail;
-              may_refuse_open = S.may_refuse_open;
-              may_refuse_begin = S.may_refuse_begin;
-            }) self.old from bytes.now path request.now.mode request.now.options came
+            × AsksToRead (meaning_by S.stored S.Source.left S.drafted S.Source.may_fail S.may_refuse_open
+            S.may_refuse_begin S.may_refuse_append S.may_refuse_commit) self.old from bytes.now path request.now.mode request.now.options came
             × (out.new.items ≡ out.old.items ++ sent) × (record {
               new = self.new;
               opened = opened;
@@ -304,6 +313,35 @@ impl<S: Store> Server<S> {
             }
             Err(_) => Err(ServerFault::Memory),
         }
+    }
+
+    /// Opens a transfer that stores under the path, by an identifier that none has. The store is asked
+    /// last, when nothing else can be refused.
+    fn write_from(
+        &mut self,
+        from: Endpoint,
+        tid: u16,
+        path: Path,
+        mode: Mode,
+        agreed: &Agreed,
+        bytes: &[u8],
+        out: &mut Vec<u8>,
+    ) -> Result<Opened, ServerFault>
+        requires { at tid self.old.held ≡ None }
+        ensures writes { IfOk result (λ opened. (came : Came S S.Source S.Draft)
+            × (sent : List ℕ)
+            × AsksToWrite (meaning_by S.stored S.Source.left S.drafted S.Source.may_fail S.may_refuse_open
+            S.may_refuse_begin S.may_refuse_append S.may_refuse_commit) self.old from bytes.now path mode agreed.now came
+            × (out.new.items ≡ out.old.items ++ sent) × (record {
+              new = self.new;
+              opened = opened;
+              sent = sent;
+            } ≡ left_by came self.old from tid)) }
+        ensures memory { IfErr result (λ fault. fault ≡ ServerFault.Memory) }
+        ensures err { OnErr result (KeepsServer S.stored self.old self.new
+            × (out.new.items ≡ out.old.items)) }
+    {
+        unreachable!()
     }
 
     /// Appends the identifiers of all transfers that are held, in rising order, closed ones among
@@ -352,7 +390,7 @@ impl<S: Store + Drop> Server<S> {
         let Some(transfer) = self.table.remove(tid) else {
             unreachable!()
         };
-        Some((transfer.record(), None))
+        Some((transfer.record(), transfer.into_draft()))
     }
 }
 

@@ -73,7 +73,7 @@ impl End {
             × FilesCannotStart S.left S.may_fail length files.old }
         ensures plain { IsErrOf result OpenFault.SourceFault → agreed.now ≡ [] }
         ensures memory { IsErrOf result OpenFault.Memory → (length < 65535 * size agreed.now)
-            × KeepsFiles S.left K.held files.old files.new }
+            × KeepsFiles S.left K.held K.becomes files.old files.new }
         ensures err { OnErr result (out.new.items ≡ out.old.items) }
         ensures same { AreSame S.is_same K.is_same files.old files.new }
         ensures files { IfOk result (λ opened. AreFilesOf opened.0.side files.new) }
@@ -106,7 +106,7 @@ impl End {
         ensures source { IsErrOf result OpenFault.SourceFault
             → FilesCannotStart S.left S.may_fail length files.old }
         ensures memory { IsErrOf result OpenFault.Memory
-            → KeepsFiles S.left K.held files.old files.new }
+            → KeepsFiles S.left K.held K.becomes files.old files.new }
         ensures err { IfErr result (λ fault.
             ((fault ≡ OpenFault.SourceFault) ⊎ (fault ≡ OpenFault.Memory))
             × (out.new.items ≡ out.old.items)) }

@@ -2,7 +2,7 @@
 
 ghost use Rattle.std.specs.Prelude.{◌≡◌, ◌≤◌, ◌++◌, true, false, nat_lt, length, OnErr, IfOk, Some};
 ghost use Rattle.tftp_file.specs.Decoding.{Decodes};
-ghost use Rattle.tftp_ends.specs.BlockStored.{StoresBlock, StoresPiece, StoresLast, KeepsHolding};
+ghost use Rattle.tftp_ends.specs.BlockStored.{StoresBlock, StoresPiece, StoresLast, KeepsSink};
 ghost use Rattle.tftp_ends.specs.Text.{begins_netascii, is_readable};
 ghost use Rattle.tftp_ends.specs.Step.{Turn, Lends, Stores, Appended, commit_reply, lent};
 ghost use Rattle.tftp_ends.specs.End.{is_sender};
@@ -33,7 +33,7 @@ enum BlockStored {
 
 /// Hands a block's bytes to the sink, if there are any.
 fn append_block<K: Sink>(sink: &mut K, piece: &[u8]) -> Result<(), StoreFault>
-    ensures appended { Appended K.held K.may_refuse_append K.may_refuse_commit
+    ensures appended { Appended K.held K.may_refuse_append K.may_refuse_commit K.becomes
         piece.now sink.old sink.new result }
     ensures same { K.is_same sink.old sink.new }
 {
@@ -57,7 +57,7 @@ fn commit_reply(fault: StoreFault) -> ErrorReply
 
 /// Has the whole committed.
 fn commit<K: Sink>(sink: &mut K) -> BlockStored
-    ensures takes { StoresLast K.held K.may_refuse_append K.may_refuse_commit
+    ensures takes { StoresLast K.held K.may_refuse_append K.may_refuse_commit K.becomes
         sink.old sink.new result }
     ensures same { K.is_same sink.old sink.new }
 {
@@ -74,9 +74,9 @@ fn store_block<K: Sink>(
     is_last: bool,
 ) -> Result<BlockStored, AllocError>
     ensures takes { IfOk result (λ block_stored.
-        StoresBlock K.held K.may_refuse_append K.may_refuse_commit
+        StoresBlock K.held K.may_refuse_append K.may_refuse_commit K.becomes
         piece.now is_last sink.old sink.new block_stored) }
-    ensures err { OnErr result (KeepsHolding (K.held sink.old) (K.held sink.new)) }
+    ensures err { OnErr result (KeepsSink K.held K.becomes sink.old sink.new) }
     ensures same { K.is_same sink.old sink.new }
 {
     match append_block(sink, piece) {
@@ -126,9 +126,9 @@ fn store_piece<K: Sink>(
 ) -> Result<(BlockStored, NetDecoder), AllocError>
     requires { is_readable mode decoder piece.now is_last ≡ true }
     ensures takes { IfOk result (λ stored.
-        StoresPiece K.held K.may_refuse_append K.may_refuse_commit
+        StoresPiece K.held K.may_refuse_append K.may_refuse_commit K.becomes
         mode decoder piece.now is_last sink.old sink.new stored.0 stored.1) }
-    ensures err { OnErr result (KeepsHolding (K.held sink.old) (K.held sink.new)) }
+    ensures err { OnErr result (KeepsSink K.held K.becomes sink.old sink.new) }
     ensures same { K.is_same sink.old sink.new }
 {
     match mode {
@@ -160,12 +160,12 @@ impl End {
         requires reads { is_readable self.old.mode self.old.held piece.now
             (nat_lt (length piece.now) terms.size) ≡ true }
         ensures stores { IfOk result (λ outgoing. (turn : Turn)
-            × Stores K.held K.may_refuse_append K.may_refuse_commit
+            × Stores K.held K.may_refuse_append K.may_refuse_commit K.becomes
             terms number from piece.now self.old sink.old turn sink.new
             × Lends turn self.new (Some from) outgoing) }
         ensures room { IfOk result (λ outgoing. length (lent outgoing self.new) ≤ 24) }
         ensures err { OnErr result ((self.new ≡ self.old)
-            × KeepsHolding (K.held sink.old) (K.held sink.new)) }
+            × KeepsSink K.held K.becomes sink.old sink.new) }
         ensures same { K.is_same sink.old sink.new }
         ensures side { self.new.side ≡ self.old.side }
     {

@@ -29,15 +29,17 @@ pub(crate) enum Asked<'a> {
     Refuse(ErrorReply),
     /// The store is asked for the file at this path, which this request names.
     Read(Path, RequestRef<'a>),
+    /// The store is asked for a draft for this path, in this mode and with these options.
+    Write(Path, Mode, Agreed),
 }
 
 /// What is to be done at a request.
 #[derive(Drop)]
-pub(crate) enum Decision<F> {
+pub(crate) enum Decision<F, D> {
     /// An ERROR goes out from the request port.
     Refuse(ErrorReply),
     /// A transfer opens; its first datagram has been appended.
-    Open(Transfer<F>),
+    Open(Transfer<F, D>),
 }
 
 /// The request to read, if it is one.
