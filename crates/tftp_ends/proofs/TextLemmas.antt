@@ -9,7 +9,7 @@ use Rattle.tftp_file.specs.Netascii.{wire_byte, netascii_text}
 use Rattle.tftp_file.specs.Decoding.{IsHeld, Decodes, IsWrong, Refuses}
 use Rattle.tftp_file.specs.declared.netascii.NetFault.{NetFault}
 use Rattle.tftp_file.specs.declared.netascii.NetFault.TheVariants.{LoneCr, LoneLf, EndsInCr, Memory}
-use Rattle.tftp_ends.specs.Text.{begins_netascii, ends_in_cr, is_readable, Decoded}
+use Rattle.tftp_ends.specs.Text.{begins_netascii, ends_in_cr, is_readable}
 use Rattle.tftp_ends.specs.Sound.{HeldFits}
 use Rattle.tftp_ends.specs.Step.{Done}
 

@@ -12,6 +12,7 @@ pub mod Sound
 pub mod BlockRead
 pub mod BlockStored
 pub mod Files
+pub mod OtherSinks
 pub mod Opening
 pub mod Run
 pub mod Endpoint
