@@ -21,3 +21,5 @@ mod transfer_rows;
 mod udp_lines;
 #[cfg(test)]
 mod waiting_rows;
+#[cfg(test)]
+mod write_rows;
