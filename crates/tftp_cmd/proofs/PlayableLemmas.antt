@@ -1,7 +1,7 @@
 -- An event that a script may hold is one that a world plays.
 use Rattle.std.proofs.Common.{◌≡◌, Bool, true, false, refl}
 use Rattle.tftp_player.specs.Machine.{Host, host_of, At_server, At_client, Elsewhere}
-use Rattle.tftp_player.specs.Today.{IsPlayable}
+use Rattle.tftp_player.specs.Arriving.{IsPlayable}
 use Rattle.tftp_player.specs.declared.event.Event.{Event}
 use Rattle.tftp_player.specs.declared.event.Event.TheVariants.{Get, Put, Deliver, Timeout, RefuseStore, Stray}
 use Rattle.tftp_cmd.specs.Playable.{is_elsewhere, is_playable}

@@ -24,6 +24,8 @@ mod random_rows;
 #[cfg(test)]
 mod read_rows;
 #[cfg(test)]
+mod server_write_rows;
+#[cfg(test)]
 mod store_rows;
 #[cfg(test)]
 mod write_rows;

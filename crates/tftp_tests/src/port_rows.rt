@@ -29,7 +29,7 @@ fn server(rt: &impl Abort, alloc: Global, config: Config) -> Result<Server<MemSt
 const REQUEST: &[u8] = b"\x00\x01a\x00octet\x00";
 
 /// What comes to the request port, the answer to it, and whether a transfer opens.
-const ROWS: [(&str, &[u8], &[u8], bool); 10] = [
+const ROWS: [(&str, &[u8], &[u8], bool); 12] = [
     ("begins as an ERROR", b"\x00\x05", b"", false),
     ("an ERROR", b"\x00\x05\x00\x01no\x00", b"", false),
     (
@@ -63,9 +63,21 @@ const ROWS: [(&str, &[u8], &[u8], bool); 10] = [
         false,
     ),
     (
-        "a write",
-        b"\x00\x02b\x00octet\x00",
-        b"\x00\x05\x00\x04illegal operation\x00",
+        "a write of a file that is there",
+        b"\x00\x02/a\x00octet\x00",
+        b"\x00\x05\x00\x06file exists\x00",
+        false,
+    ),
+    (
+        "a write, with an option twice",
+        b"\x00\x02a\x00netascii\x00tsize\x008\x00TSIZE\x00x\x00",
+        b"\x00\x05\x00\x08option refused\x00",
+        false,
+    ),
+    (
+        "a write of more than the server takes",
+        b"\x00\x02a\x00octet\x00tsize\x004290183240\x00",
+        b"\x00\x05\x00\x03disk full\x00",
         false,
     ),
     (
@@ -279,9 +291,12 @@ fn an_open_transfer_stays(rt: HostRuntime) -> Result<(), Fail> {
 }
 
 /// What comes to the request port, and whether it could open a transfer, as far as no store is asked.
-const MAY_OPEN: [(&[u8], bool); 5] = [
+const MAY_OPEN: [(&[u8], bool); 8] = [
     (b"\x00\x01a\x00octet\x00", true),
     (b"\x00\x01b\x00octet\x00", true),
+    (b"\x00\x02a\x00octet\x00", true),
+    (b"\x00\x02n\x00netascii\x00", true),
+    (b"\x00\x02n\x00octet\x00tsize\x004290183240\x00", false),
     (b"\x00\x01../a\x00octet\x00", false),
     (b"\x00\x04\x00\x00", false),
     (b"\x00\x05", false),

@@ -1,7 +1,7 @@
 //! The run of a script: its statements are events of a world, and what they did is printed.
 
 ghost use Rattle.std.specs.Prelude.{◌≡◌, true};
-ghost use Rattle.tftp_player.specs.Today.{IsPlayable};
+ghost use Rattle.tftp_player.specs.Arriving.{IsPlayable};
 ghost use Rattle.tftp_server.specs.Config.{IsConfig};
 ghost use Rattle.tftp_server.specs.Memory.{contents, has_distinct_paths};
 
