@@ -10,6 +10,8 @@ BLOCKS = 65_535
 # a play: its name, the lines before the settling, the length of the file in bytes, and the datagrams that are sent
 PLAYS = [
     ("read, plain", "file a 61*{length}\nget a octet\n", BLOCKS * 512 - 1, 1 + 2 * BLOCKS),
+    ("read, blocks of 8", "file a 61*{length}\nget a octet blksize=8\n", BLOCKS * 8 - 1, 3 + 2 * BLOCKS),
+    ("write, plain", "put a octet 61*{length}\n", BLOCKS * 512 - 1, 2 + 2 * BLOCKS),
 ]
 RUNS = 3
 
