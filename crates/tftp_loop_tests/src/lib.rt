@@ -20,4 +20,6 @@ mod put_rows;
 #[cfg(test)]
 mod scratch;
 #[cfg(test)]
+mod size_rows;
+#[cfg(test)]
 mod test_server;

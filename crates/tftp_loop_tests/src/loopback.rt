@@ -22,7 +22,7 @@ fn gets<R: Runtime + AllocGlobal + Processes + Abort>(
 }
 
 /// What a server still prints has so many complete transfers.
-fn has_served<P: Read + Drop, R: AllocGlobal + Abort>(
+pub(crate) fn has_served<P: Read + Drop, R: AllocGlobal + Abort>(
     rt: &R,
     mut printed: BufReader<P>,
     wanted: usize,
@@ -135,7 +135,7 @@ fn are_stored<R: Runtime + AllocGlobal + Abort>(rt: &R, folder: &str) -> Result<
 }
 
 /// A client has completed.
-fn is_complete<R: Abort>(rt: &R, output: &Output) -> Result<(), Fail> {
+pub(crate) fn is_complete<R: Abort>(rt: &R, output: &Output) -> Result<(), Fail> {
     let told = str::from_utf8(output.stdout.as_slice())?;
     assert!(rt; told.contains("status 0\n"), "{told}");
     Ok(())
