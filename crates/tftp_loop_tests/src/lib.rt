@@ -20,6 +20,8 @@ mod put_rows;
 #[cfg(test)]
 mod scratch;
 #[cfg(test)]
+mod served_put_rows;
+#[cfg(test)]
 mod size_rows;
 #[cfg(test)]
 mod test_server;

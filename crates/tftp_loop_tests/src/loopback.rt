@@ -9,8 +9,8 @@ use std::process::{self, Abort, Child, Output, Processes, Stdio};
 use std::rt::Runtime;
 use std::test::Fail;
 
-/// A client is told to get a file, and prints these lines, of which the last is its status.
-fn gets<R: Runtime + AllocGlobal + Processes + Abort>(
+/// A client is told to get or put a file, and prints these lines, of which the last is its status.
+fn tells<R: Runtime + AllocGlobal + Processes + Abort>(
     rt: &R,
     words: &[&str],
     wanted: &str,
@@ -39,7 +39,7 @@ pub(crate) fn has_served<P: Read + Drop, R: AllocGlobal + Abort>(
     Ok(())
 }
 
-/// A name that is missing, a get, and a local file that is there. The lines are fixed: a client that fails
+/// A name that is missing, a put of one that is there, a get, and a local file that is there. The lines are fixed: a client that fails
 /// tells its outcome on standard error, with status 1, and a fault of the local file with status 2.
 #[test]
 fn loopback(rt: HostRuntime) -> Result<(), Fail> {
@@ -58,13 +58,18 @@ fn loopback(rt: HostRuntime) -> Result<(), Fail> {
     let (printed, address) = listening(alloc, printed)?;
     let address = address.as_str();
 
-    gets(
+    tells(
         &rt,
         &["get", address, "b", local],
         "status 1\n\ntest result: ok\ntftp: PeerError(1)\n",
     )?;
-    gets(&rt, &["get", address, "a", local], "complete 3\nstatus 0\n")?;
-    gets(
+    tells(
+        &rt,
+        &["put", address, file.as_str(), "a"],
+        "status 1\n\ntest result: ok\ntftp: PeerError(6)\n",
+    )?;
+    tells(&rt, &["get", address, "a", local], "complete 3\nstatus 0\n")?;
+    tells(
         &rt,
         &["get", address, "a", local],
         "status 2\n\ntest result: ok\ntftp: file fault\n",

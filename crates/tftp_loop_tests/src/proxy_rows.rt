@@ -46,6 +46,79 @@ fn gets_through<R: Runtime + AllocGlobal + Processes + Net + Abort>(
     Ok(())
 }
 
+/// A put through a proxy with this seed: the file is there whole or not at all, and whole where the client
+/// reports that it is complete. Whether it does.
+fn puts_through<R: Runtime + AllocGlobal + Processes + Net + Abort>(
+    rt: &R,
+    folder: &str,
+    server: &str,
+    seed: u64,
+) -> Result<bool, Fail> {
+    let alloc = rt.alloc();
+    let mut proxy = Proxy::new(rt, alloc, server, seed)?;
+    let address = address_of(alloc, proxy.requests())?;
+    let local = joined(alloc, folder, "file")?;
+    let name = format!(in alloc; "put-{seed}")?;
+    let words = [
+        "put",
+        address.as_str(),
+        local.as_str(),
+        name.as_str(),
+        "--retries",
+        "10",
+    ];
+    let mut client = program(rt, "programs::tftp", &words)?
+        .stdout(Stdio::piped())
+        .spawn(rt)?;
+    proxy.run(&mut client)?;
+    let output = client.wait_with_output(alloc)?;
+    let told = str::from_utf8(output.stdout.as_slice())?;
+    let is_complete = told.contains("complete 2500\nstatus 0\n");
+    let stored = joined(alloc, folder, name.as_str())?;
+    match fs::read(rt, stored.as_str()) {
+        Ok(stored) => {
+            let wanted = bytes_of(alloc, 2_500)?;
+            let is_whole = stored.as_slice() == wanted.as_slice();
+            assert!(rt; is_whole, "the bytes with {seed}");
+        }
+        Err(_) => assert!(rt; !is_complete, "a file with {seed}"),
+    }
+    Ok(is_complete)
+}
+
+/// Three seeds. The server may have gone when its last ACK was lost twice, but not each time.
+#[test]
+fn puts_survive(rt: HostRuntime) -> Result<(), Fail> {
+    let alloc = rt.alloc();
+    let folder = scratch_folder(&rt, process::id(rt.process()), "proxy-puts")?;
+    let folder = folder.as_str();
+    let local = joined(alloc, folder, "file")?;
+    fs::write(&rt, local.as_str(), bytes_of(alloc, 2_500)?.as_slice())?;
+    let serving = [
+        folder,
+        "--listen",
+        "127.0.0.1:0",
+        "--retries",
+        "10",
+        "--transfers",
+        "9",
+    ];
+    let mut server = program(&rt, "programs::tftpd", &serving)?
+        .stdout(Stdio::piped())
+        .spawn(&rt)?;
+    let printed = server.stdout.take().ok_or("the server prints")?;
+    let (_printed, address) = listening(alloc, printed)?;
+    let mut some_complete = false;
+    for seed in [4, 5, 6] {
+        some_complete |= puts_through(&rt, folder, address.as_str(), seed)?;
+    }
+    assert!(rt; some_complete, "no put is complete");
+    server.kill()?;
+    server.wait()?;
+    fs::remove_dir_all(&rt, folder)?;
+    Ok(())
+}
+
 /// Three seeds. After ten retries nothing is lost for good.
 #[test]
 fn gets_survive(rt: HostRuntime) -> Result<(), Fail> {
