@@ -1,5 +1,6 @@
 pub mod MemoryLemmas
 pub mod StepsLemmas
 pub mod TableLemmas
+pub mod OneFileLemmas
 mod RequestLemmas
 mod RepeatLemmas

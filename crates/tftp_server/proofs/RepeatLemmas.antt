@@ -1,5 +1,5 @@
 -- What repeats a request, by the keys of an index and by the transfers that they lead to.
-use Rattle.std.proofs.Common.{◌≡◌, ℕ, List, [], ◌∷◌, map, Option, Some, None, IsSome, inl, inr}
+use Rattle.std.proofs.Common.{ℕ, List, [], ◌∷◌, map, Option, Some, None, IsSome, inl, inr}
 use Rattle.std.specs.Prelude.{◌⊎◌}
 use Rattle.slab.specs.Slab.{Slab, get}
 use Rattle.tftp_wire.specs.declared.packet.Packet.{Packet}

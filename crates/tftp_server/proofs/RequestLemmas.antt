@@ -1,108 +1,156 @@
 -- What the request port decides, from the calls that it makes.
-use Rattle.std.proofs.Common.{◌≡◌, ℕ, Bool, false, List, [], ◌++◌, Option, Some, None, Result, Ok, Err, IfOk, OnOk, length, refl, sym, ap, subst, ◌∙◌}
+use Rattle.std.proofs.Common.{◌≡◌, ◌≢◌, ℕ, Bool, false, List, [], ◌++◌, Option, Some, None, Result, Ok, Err, IfOk, OnOk, OnErr, length, take, refl, sym, ap, subst, ◌∙◌}
 use Rattle.std.specs.Prelude.{true, if◌then◌else◌}
 use Rattle.tftp_wire.specs.declared.mode.Mode.{Mode}
 use Rattle.tftp_wire.specs.declared.options.RawOption.{RawOption}
 use Rattle.tftp_wire.specs.declared.packet.Packet.{Packet}
 use Rattle.tftp_wire.specs.declared.packet.Packet.TheVariants.{Read, Write, Data, Ack, Error, Oack}
 use Rattle.tftp_wire.specs.declared.packet.Request.{Request}
-use Rattle.tftp_negotiate.specs.Negotiation.{places_of}
-use Rattle.tftp_negotiate.specs.Answer.{answer}
 use Rattle.tftp_negotiate.specs.declared.known.Kind.{Kind}
-use Rattle.tftp_negotiate.specs.declared.known.Kind.TheVariants as kinds
 use Rattle.tftp_negotiate.specs.declared.limits.Limits.{Limits}
+use Rattle.tftp_negotiate.specs.declared.known.Known.{Known}
 use Rattle.tftp_file.specs.Path.{path_of_name}
-use Rattle.tftp_file.specs.Memory.{MemSinkState}
+use Rattle.tftp_file.specs.declared.fault.StoreFault.{StoreFault}
+use Rattle.tftp_file.specs.declared.fault.StoreFault.TheVariants.{Memory}
+use Rattle.tftp_file.specs.declared.files.Files.TheVariants.{Sink}
+use Rattle.tftp_ends.specs.End.{EndState}
+use Rattle.tftp_ends.specs.Opening.{serving_write}
 use Rattle.tftp_ends.specs.Action.{Decodes}
 use Rattle.tftp_wire.specs.Reading.{has_error_opcode}
 use Rattle.tftp_ends.specs.Step.{error_bytes}
 use Rattle.tftp_ends.specs.declared.endpoint.Endpoint.{Endpoint}
 use Rattle.tftp_ends.specs.declared.error_reply.ErrorReply.{ErrorReply}
+use Rattle.tftp_ends.specs.declared.error_reply.ErrorReply.TheVariants.{IllegalOperation}
+use Rattle.std.proofs.Math.Seq.{take-append_seam}
 use Rattle.std.proofs.lemmas.List.{append-nil}
 use Rattle.tftp_server.specs.declared.fault.ServerFault.{ServerFault}
 use Rattle.tftp_server.specs.declared.opened.Opened.{Opened}
 use Rattle.tftp_server.specs.declared.server.request.Asked.{Asked}
 use Rattle.tftp_server.specs.declared.server.request.Decision.{Decision}
+use Rattle.tftp_server.specs.declared.server.request.Decision.TheVariants.{Refuse}
 use Rattle.tftp_server.specs.declared.store.Opening.{Opening}
-use Rattle.tftp_server.specs.Port.{Ask, Ignores, Refuses, Reads, asks, by_packet, by_repeat, by_name, by_file}
-use Rattle.tftp_server.specs.Request.{Came, Nothing, An_error, SupportsRead, AsksToRead, Goes, RequestStep, Sent, Left, ask_of, came_to, left_by, supported}
+use Rattle.tftp_server.specs.Port.{Ask, Ignores, Refuses, asks, by_packet, by_repeat, by_name, by_kind, by_file, begin_reply}
+use Rattle.tftp_server.specs.Request.{Came, Nothing, An_error, A_transfer, IsRequest, AsksToRead, AsksToWrite, Goes, RequestStep, Sent, Left, ask_of, came_to, decided_bytes, left_by}
 use Rattle.tftp_server.specs.State.{Held, ServerState, IsRepeated}
-use Rattle.tftp_server.specs.Store.{StoreMeaning, Opens}
+use Rattle.tftp_server.specs.Store.{StoreMeaning, Opens, Begins}
+
+-- what was appended is cut off again
+cut_back : (before sent all cut : List ℕ) (start : ℕ) → start ≡ length before → all ≡ before ++ sent → cut ≡ take start all → cut ≡ before
+cut_back before sent all cut start s a c = c ∙ (ap (λ (n : ℕ). take n all) s ∙ (ap (take (length before)) a ∙ take-append_seam before sent))
+
+-- where no draft is begun, nothing has been sent
+pub refused_bytes : {F D E : Type 0} (reply : ErrorReply) (P : Type 0) (before sent all cut : List ℕ) (start : ℕ) (r : Result (Decision F D) E) → start ≡ length before → all ≡ before ++ sent → cut ≡ take start all →
+    IfOk r (λ d. (d ≡ Refuse reply) × P) → IfOk r (λ d. cut ≡ before ++ decided_bytes d)
+refused_bytes reply P before sent all cut start (Err e) s a c h = tt
+refused_bytes reply P before sent all cut start (Ok d) s a c h =
+    cut_back before sent all cut start s a c ∙ sym (ap (λ d. before ++ decided_bytes d) h.0 ∙ append-nil before)
+
+pub cut_on_err : {T E : Type 0} (before sent all cut : List ℕ) (start : ℕ) (r : Result T E) → start ≡ length before → all ≡ before ++ sent → cut ≡ take start all → OnErr r (cut ≡ before)
+cut_on_err before sent all cut start (Ok d) s a c = tt
+cut_on_err before sent all cut start (Err e) s a c = cut_back before sent all cut start s a c
 
 module _ (cap count : ℕ) (limits : Limits) where
-  -- what is asked of the name in a request to read
-  abbrev pub named : Request → Ask
-  named r = by_name cap count (λ path. Reads path r.mode r.options) (path_of_name r.name)
+  -- what is asked of the name in a request
+  abbrev pub named : Kind → Request → Ask
+  named kind r = by_name cap count (by_kind kind r.mode r.options limits) (path_of_name r.name)
 
-  -- the port goes on with the name of what is supported
-  packet_named : (packet : Option Packet) (repeated : Bool) (r : Request) → SupportsRead packet (Some r) →
-      by_packet cap count repeated limits packet ≡ by_repeat repeated (named r)
-  packet_named (Some (Read request)) repeated r h = ap (λ (q : Request). by_packet cap count repeated limits (Some (Read q))) h
-  packet_named (Some (Write request)) repeated r h = absurd h
-  packet_named (Some (Data number bytes)) repeated r h = absurd h
-  packet_named (Some (Ack number)) repeated r h = absurd h
-  packet_named (Some (Error code text)) repeated r h = absurd h
-  packet_named (Some (Oack options)) repeated r h = absurd h
-  packet_named None repeated r h = absurd h
+  abbrev asked_of : Bool → Option (Kind × Request) → Ask
+  asked_of repeated None = Refuses IllegalOperation
+  asked_of repeated (Some asked) = by_repeat repeated (named asked.0 asked.1)
+
+  -- the port goes on with the name in a request, and refuses every other packet
+  packet_named : (packet : Option Packet) (repeated : Bool) (asked : Option (Kind × Request)) → IsRequest packet asked →
+      by_packet cap count repeated limits packet ≡ asked_of repeated asked
+  packet_named (Some (Read request)) repeated asked h = sym (ap (asked_of repeated) h)
+  packet_named (Some (Write request)) repeated asked h = sym (ap (asked_of repeated) h)
+  packet_named (Some (Data number bytes)) repeated asked h = sym (ap (asked_of repeated) h)
+  packet_named (Some (Ack number)) repeated asked h = sym (ap (asked_of repeated) h)
+  packet_named (Some (Error code text)) repeated asked h = sym (ap (asked_of repeated) h)
+  packet_named (Some (Oack options)) repeated asked h = sym (ap (asked_of repeated) h)
+  packet_named None repeated asked h = sym (ap (asked_of repeated) h)
 
   -- what the port asks is what is asked of the name, unless the request is repeated
-  asks_named : (bytes : List ℕ) (r : Request) (decoded : Option Packet) (repeated : Bool) → has_error_opcode bytes ≡ false → SupportsRead (supported decoded) (Some r) →
-      by_repeat repeated (named r) ≡ asks cap count repeated limits bytes (supported decoded)
-  asks_named bytes r decoded repeated test reads =
-      sym (packet_named (supported decoded) repeated r reads) ∙ ap (λ (b : Bool). if b then Ignores else by_packet cap count repeated limits (supported decoded)) (sym test)
+  asks_named : (bytes : List ℕ) (asked : Option (Kind × Request)) (decoded : Option Packet) (repeated : Bool) → has_error_opcode bytes ≡ false → IsRequest decoded asked →
+      asked_of repeated asked ≡ asks cap count repeated limits bytes decoded
+  asks_named bytes asked decoded repeated test is =
+      sym (packet_named decoded repeated asked is) ∙ ap (λ (b : Bool). if b then Ignores else by_packet cap count repeated limits decoded) (sym test)
 
   -- the tests of a name are those of the datagram
-  pub asked_by_name : {E : Type 0} {F D : Type 0} (from : Endpoint) (held : List (ℕ × Held F D)) (bytes : List ℕ) (request : Request) (decoded : Option Packet) (repeated : Bool) (r : Result Asked E) → has_error_opcode bytes ≡ false → Decodes bytes decoded → SupportsRead (supported decoded) (Some request) →
+  pub asked_by_name : {E : Type 0} {F D : Type 0} (from : Endpoint) (held : List (ℕ × Held F D)) (bytes : List ℕ) (kind : Kind) (request : Request) (decoded : Option Packet) (repeated : Bool) (r : Result Asked E) → has_error_opcode bytes ≡ false → Decodes bytes decoded → IsRequest decoded (Some (kind, request)) →
       IsRepeated repeated from decoded held → repeated ≡ false →
-      IfOk r (λ asked. ask_of asked ≡ named request) →
-      IfOk r (λ asked. (decoded : Option Packet) × (repeated : Bool) × Decodes bytes decoded × IsRepeated repeated from decoded held × (ask_of asked ≡ asks cap count repeated limits bytes (supported decoded)))
-  asked_by_name from held bytes request decoded repeated (Ok asked) test says reads repeats new h =
-      (decoded, repeated, says, repeats, h ∙ (ap (λ (b : Bool). by_repeat b (named request)) (sym new) ∙ asks_named bytes request decoded repeated test reads))
-  asked_by_name from held bytes request decoded repeated (Err fault) test says reads repeats new h = tt
+      IfOk r (λ asked. ask_of asked ≡ named kind request) →
+      IfOk r (λ asked. (decoded : Option Packet) × (repeated : Bool) × Decodes bytes decoded × IsRepeated repeated from decoded held × (ask_of asked ≡ asks cap count repeated limits bytes decoded))
+  asked_by_name from held bytes kind request decoded repeated (Ok asked) test says is repeats new h =
+      (decoded, repeated, says, repeats, h ∙ (ap (λ (b : Bool). by_repeat b (named kind request)) (sym new) ∙ asks_named bytes (Some (kind, request)) decoded repeated test is))
+  asked_by_name from held bytes kind request decoded repeated (Err fault) test says is repeats new h = tt
 
   -- a request that is repeated is let be
-  pub asked_again : {F D : Type 0} (from : Endpoint) (held : List (ℕ × Held F D)) (bytes : List ℕ) (request : Request) (decoded : Option Packet) (repeated : Bool) → has_error_opcode bytes ≡ false → Decodes bytes decoded → SupportsRead (supported decoded) (Some request) →
+  pub asked_again : {F D : Type 0} (from : Endpoint) (held : List (ℕ × Held F D)) (bytes : List ℕ) (kind : Kind) (request : Request) (decoded : Option Packet) (repeated : Bool) → has_error_opcode bytes ≡ false → Decodes bytes decoded → IsRequest decoded (Some (kind, request)) →
       IsRepeated repeated from decoded held → repeated ≡ true →
-      (decoded : Option Packet) × (repeated : Bool) × Decodes bytes decoded × IsRepeated repeated from decoded held × (Ignores ≡ asks cap count repeated limits bytes (supported decoded))
-  asked_again from held bytes request decoded repeated test says reads repeats again =
-      (decoded, repeated, says, repeats, ap (λ (b : Bool). by_repeat b (named request)) (sym again) ∙ asks_named bytes request decoded repeated test reads)
+      (decoded : Option Packet) × (repeated : Bool) × Decodes bytes decoded × IsRepeated repeated from decoded held × (Ignores ≡ asks cap count repeated limits bytes decoded)
+  asked_again from held bytes kind request decoded repeated test says is repeats again =
+      (decoded, repeated, says, repeats, ap (λ (b : Bool). by_repeat b (named kind request)) (sym again) ∙ asks_named bytes (Some (kind, request)) decoded repeated test is)
 
-module _ {S F : Type 0} (meaning : StoreMeaning S F MemSinkState) (old : ServerState S F MemSinkState) (from : Endpoint) (bytes : List ℕ) where
+  -- what is no request has no place here
+  pub asked_nothing : {F D : Type 0} (from : Endpoint) (held : List (ℕ × Held F D)) (bytes : List ℕ) (decoded : Option Packet) (repeated : Bool) → has_error_opcode bytes ≡ false → Decodes bytes decoded → IsRequest decoded None →
+      IsRepeated repeated from decoded held →
+      (decoded : Option Packet) × (repeated : Bool) × Decodes bytes decoded × IsRepeated repeated from decoded held × (Refuses IllegalOperation ≡ asks cap count repeated limits bytes decoded)
+  asked_nothing from held bytes decoded repeated test says is repeats = (decoded, repeated, says, repeats, asks_named bytes None decoded repeated test is)
+
+module _ {S F D : Type 0} (meaning : StoreMeaning S F D) (old : ServerState S F D) (from : Endpoint) (bytes : List ℕ) where
   -- the file was opened, and this was decided of it
-  pub asks_to_read : {E : Type 0} (path : List ℕ) (mode : Mode) (options : List RawOption) (file : Opening F) (r : Result (Decision F) E) → Opens meaning.left (meaning.stored old.store) path mode (Ok file) →
+  pub asks_to_read : {E : Type 0} (path : List ℕ) (mode : Mode) (options : List RawOption) (file : Opening F) (r : Result (Decision F D) E) → Opens meaning.left (meaning.stored old.store) path mode (Ok file) →
       IfOk r (λ d. Sent meaning old from bytes (by_file old.config.limits path mode options (Ok file.length)) (Ok file) (came_to d old.store)) →
       IfOk r (λ d. AsksToRead meaning old from bytes path mode options (came_to d old.store))
   asks_to_read path mode options file (Ok d) o h =
       record { file = Ok file; opens = o; refused = tt; memory = λ e. cc; goes_on = h }
   asks_to_read path mode options file (Err e) o h = tt
 
+  -- a draft was begun
+  pub asks_to_write : (path : List ℕ) (mode : Mode) (agreed : List Known) (store : S) (draft : D) (end : EndState) (request : List ℕ) (held : Held F D) → Begins meaning.drafted (meaning.stored old.store) (meaning.stored store) path old.config.overwrite (Ok draft) →
+      end ≡ serving_write agreed from mode old.config.retries → request ≡ bytes →
+      held ≡ record { end = end; files = Sink draft; path = path; request = request } →
+      AsksToWrite meaning old from bytes path mode agreed (A_transfer held store)
+  asks_to_write path mode agreed store draft end request held begins opens copies is =
+      let held-is : held ≡ record { end = serving_write agreed from mode old.config.retries; files = Sink draft; path = path; request = bytes } = rw (← opens, ← copies) is in
+      record { store = store; draft = Ok draft; begins = begins; refused = tt; memory = λ e. cc; goes_on = ap (λ (h : Held F D). A_transfer h store) held-is }
+
+  -- or none was, which is answered by an ERROR
+  pub refused_to_write : {E : Type 0} (path : List ℕ) (mode : Mode) (agreed : List Known) (store : S) (fault : StoreFault) (r : Result (Decision F D) E) → Begins {K = D} meaning.drafted (meaning.stored old.store) (meaning.stored store) path old.config.overwrite (Err fault) →
+      meaning.may_refuse_begin old.store path old.config.overwrite fault →
+      IfOk r (λ d. (d ≡ Refuse (begin_reply fault)) × (fault ≢ Memory)) →
+      IfOk r (λ d. AsksToWrite meaning old from bytes path mode agreed (came_to d store))
+  refused_to_write path mode agreed store fault (Err e) begins may h = tt
+  refused_to_write path mode agreed store fault (Ok d) begins may h =
+      record { store = store; draft = Err fault; begins = begins; refused = may; memory = λ e. h.1 (cc); goes_on = ap (λ (d : Decision F D). came_to d store) h.0 }
+
   -- the port has asked for this
   abbrev pub IsAsked : Ask → Type 0
   IsAsked ask =
       (decoded : Option Packet) × (repeated : Bool) × Decodes bytes decoded × IsRepeated repeated from decoded old.held
-      × (ask ≡ asks old.config.cap (length old.held) repeated old.config.limits bytes (supported decoded))
+      × (ask ≡ asks old.config.cap (length old.held) repeated old.config.limits bytes decoded)
 
   pub asked_as : (a b : Asked) → a ≡ b → IsAsked (ask_of a) → IsAsked (ask_of b)
   asked_as a b e h = subst (λ (x : Asked). IsAsked (ask_of x)) e h
 
   -- what the port asks, and what came of it, is its step
-  request_step : (tid : ℕ) (ask : Ask) (came : Came S F MemSinkState) (result : Left S F MemSinkState) →
+  request_step : (tid : ℕ) (ask : Ask) (came : Came S F D) (result : Left S F D) →
       IsAsked ask →
-      Goes meaning old from bytes ask came → result ≡ left_by came old from tid → RequestStep meaning old from bytes supported tid result
+      Goes meaning old from bytes ask came → result ≡ left_by came old from tid → RequestStep meaning old from bytes tid result
   request_step tid ask came result asked goes left =
       record { decoded = asked.0; says = asked.2; repeated = asked.1; repeats = asked.3; came = came; goes = subst (λ (a : Ask). Goes meaning old from bytes a came) asked.4 goes; left = left }
 
   -- nothing comes of it
   pub stays_silent : (tid : ℕ) (out : List ℕ) →
       IsAsked Ignores →
-      (sent : List ℕ) × (out ≡ out ++ sent) × RequestStep meaning old from bytes supported tid (record { new = old; opened = record { tid = None; to = None }; sent = sent })
+      (sent : List ℕ) × (out ≡ out ++ sent) × RequestStep meaning old from bytes tid (record { new = old; opened = record { tid = None; to = None }; sent = sent })
   stays_silent tid out asked = ([], sym (append-nil out), request_step tid Ignores Nothing _ asked refl refl)
 
   -- an ERROR went out
   pub refuses : (tid : ℕ) (reply : ErrorReply) (before after : List ℕ) (r : Result Opened ServerFault) →
       IsAsked (Refuses reply) →
       IfOk r (λ opened. opened ≡ record { tid = None; to = Some from }) → OnOk r (after ≡ before ++ error_bytes reply) →
-      IfOk r (λ opened. (sent : List ℕ) × (after ≡ before ++ sent) × RequestStep meaning old from bytes supported tid (record { new = old; opened = opened; sent = sent }))
+      IfOk r (λ opened. (sent : List ℕ) × (after ≡ before ++ sent) × RequestStep meaning old from bytes tid (record { new = old; opened = opened; sent = sent }))
   refuses tid reply before after (Ok opened) asked tells ok = (
     error_bytes reply,
     ok,
@@ -111,11 +159,11 @@ module _ {S F : Type 0} (meaning : StoreMeaning S F MemSinkState) (old : ServerS
   )
   refuses tid reply before after (Err fault) asked tells ok = tt
 
-  -- the store was asked for a file
-  pub reads : (tid : ℕ) (path : List ℕ) (mode : Mode) (options : List RawOption) (before after : List ℕ) (new : ServerState S F MemSinkState) (r : Result Opened ServerFault) →
-      IsAsked (Reads path mode options) →
-      IfOk r (λ opened. (came : Came S F MemSinkState) × (sent : List ℕ) × AsksToRead meaning old from bytes path mode options came
+  -- the store was asked for a file or a draft
+  pub goes_on : (tid : ℕ) (ask : Ask) (before after : List ℕ) (new : ServerState S F D) (r : Result Opened ServerFault) →
+      IsAsked ask →
+      IfOk r (λ opened. (came : Came S F D) × (sent : List ℕ) × Goes meaning old from bytes ask came
       × (after ≡ before ++ sent) × (record { new = new; opened = opened; sent = sent } ≡ left_by came old from tid)) →
-      IfOk r (λ opened. (sent : List ℕ) × (after ≡ before ++ sent) × RequestStep meaning old from bytes supported tid (record { new = new; opened = opened; sent = sent }))
-  reads tid path mode options before after new (Ok opened) asked h = (h.1, h.3, request_step tid (Reads path mode options) h.0 _ asked h.2 h.4)
-  reads tid path mode options before after new (Err fault) asked h = tt
+      IfOk r (λ opened. (sent : List ℕ) × (after ≡ before ++ sent) × RequestStep meaning old from bytes tid (record { new = new; opened = opened; sent = sent }))
+  goes_on tid ask before after new (Ok opened) asked h = (h.1, h.3, request_step tid ask h.0 _ asked h.2 h.4)
+  goes_on tid ask before after new (Err fault) asked h = tt

@@ -1,5 +1,5 @@
--- How an end that sends a file handles a datagram, whatever holds its source, and why an event was not taken.
-use Rattle.std.proofs.Common.{◌≡◌, ◌↔◌, ℕ, Bool, true, false, List, cond, Option, Some, None, Result, Ok, Err, IfOk, OnErr, refl, sym, ap, subst, ◌∙◌}
+-- How a transfer handles a datagram with its file, and why an event was not taken.
+use Rattle.std.proofs.Common.{◌≡◌, ◌↔◌, ℕ, Bool, true, false, List, Option, Some, Result, Ok, Err, IfOk, refl, sym, ap, subst, ◌∙◌}
 use Rattle.std.specs.Prelude.{not, IsErrOf}
 use Rattle.std.proofs.lemmas.Map.Steps.{set_value_same}
 use Rattle.std.specs.BTreeMap.{is_at}
@@ -13,106 +13,91 @@ use Rattle.tftp_ends.specs.declared.fault.EndFault.{EndFault}
 use Rattle.tftp_ends.specs.declared.fault.EndFault.TheVariants as ends
 use Rattle.tftp_ends.specs.declared.record.Step.{Step}
 use Rattle.tftp_ends.specs.declared.action.Action.{Action}
-use Rattle.tftp_ends.specs.declared.action.Action.TheVariants.{Respond, Send, Store}
-use Rattle.tftp_ends.specs.declared.action.Response.{Response}
-use Rattle.tftp_ends.specs.declared.action.Response.TheVariants.{Ignore, Stranger, ResendReply, Retransmit, Wait, Close, Refuse, Accept, Complete}
-use Rattle.tftp_ends.specs.End.{EndState, is_sender}
-use Rattle.tftp_ends.specs.Files.{AreFilesOf, AreSame, KeepsFiles}
-use Rattle.tftp_ends.specs.Action.{Decodes, datagram_action}
-use Rattle.tftp_ends.specs.Step.{Turn, Acts, DatagramStep, response_turn, block_length, result_count_is, IsAnswered, told, timeout_turn}
-use Rattle.tftp_ends.specs.Action.{timeout_action}
+use Rattle.tftp_ends.specs.Action.{Decodes, datagram_action, timeout_action}
+use Rattle.tftp_ends.specs.End.{EndState}
+use Rattle.tftp_ends.specs.OtherSinks.{source_step_as, sink_step_as}
+use Rattle.tftp_ends.specs.Step.{IsAnswered, told, timeout_turn}
 use Rattle.tftp_wire.specs.declared.packet.Packet.{Packet}
+use Rattle.tftp_server.specs.declared.draft_sink.DraftSink.{DraftSink}
 use Rattle.tftp_server.specs.declared.fault.ServerFault.{ServerFault}
+use Rattle.tftp_server.specs.Draft.{Drafting, drafting_holds, MayRefuseAppend, MayRefuseCommit, DraftingBecomes}
 use Rattle.tftp_server.specs.Fault.{of_end}
-use Rattle.tftp_server.specs.State.{Held, IsRead, is_closed, at, with_next}
-use Rattle.tftp_server.specs.Steps.{Gives, TakesBy, TakesDatagramBy, TimesOutBy, StaysAs, KeepsHeld, TimeoutFault, DatagramFaultBy, with_end}
+use Rattle.tftp_server.specs.State.{Held, ServerState, is_closed, at, with_next}
+use Rattle.tftp_server.specs.Steps.{Gives, MakesStep, StepIn, TakesBy, TakesDatagramBy, TimesOutBy, StaysAs, KeepsHeld, TimeoutFault, DatagramFaultBy, with_end}
+use Rattle.tftp_server.specs.Store.{StoreMeaning}
 
--- an end's side stays where no file is touched, and over a fill
-response_side : (response : Response) (from : Endpoint) (e : EndState) → (response_turn response from e).end.side ≡ e.side
-response_side Ignore from e = refl
-response_side Stranger from e = refl
-response_side ResendReply from e = refl
-response_side Retransmit from e = refl
-response_side Wait from e = refl
-response_side (Close outcome) from e = refl
-response_side (Refuse terms reply outcome) from e = refl
-response_side (Accept terms) from e = refl
-response_side Complete from e = refl
+-- a draft sink by its values
+abbrev pub drafting_of : {S F D : Type 0} → DraftSink S F D → Drafting S D
+drafting_of k = record { store = k.store.now; draft = k.draft.now; path = k.path.now; replace = k.replace }
 
-cond_side : (b : Bool) (t u : Turn) (e : EndState) → t.end.side ≡ e.side → u.end.side ≡ e.side → (cond b t u).end.side ≡ e.side
-cond_side true t u e p q = p
-cond_side false t u e p q = q
+-- behind a call it is a draft of what the store and the draft have become
+pub drafting_now : {S F D : Type 0} (k : DraftSink S F D) (store : S) (path : List ℕ) (replace : Bool) → store ≡ k.store.now → k.path.now ≡ path → k.replace ≡ replace →
+    drafting_of k ≡ record { store = store; draft = k.draft.now; path = path; replace = replace }
+drafting_now {S = S} {D = D} k store path replace s p r =
+    let step-1 : drafting_of k ≡ record { store = store; draft = k.draft.now; path = k.path.now; replace = k.replace } = ap (λ (x : S). record { store = x; draft = k.draft.now; path = k.path.now; replace = k.replace }) (sym s) in
+    let step-2 : ◌≡◌ {A = Drafting S D} (record { store = store; draft = k.draft.now; path = k.path.now; replace = k.replace }) (record { store = store; draft = k.draft.now; path = path; replace = k.replace }) = ap (λ (x : List ℕ). record { store = store; draft = k.draft.now; path = x; replace = k.replace }) p in
+    let step-3 : ◌≡◌ {A = Drafting S D} (record { store = store; draft = k.draft.now; path = path; replace = k.replace }) (record { store = store; draft = k.draft.now; path = path; replace = replace }) = ap (λ (x : Bool). record { store = store; draft = k.draft.now; path = path; replace = x }) r in
+    step-1 ∙ step-2 ∙ step-3
 
-module _ {F K : Type 0} (left : F → Option (List ℕ)) (may_fail : F → ℕ → Type 0) (held : K → Option Holding) (may_refuse_append : K → List ℕ → StoreFault → Type 0) (may_refuse_commit : K → StoreFault → Type 0) where
-  -- the source alone
-  abbrev source_of : F → Files F K → Files F (Unit {0})
-  source_of other (Source source) = Source source
-  source_of other (Sink sink) = Source other
+module _ {S F D : Type 0} (meaning : StoreMeaning S F D) (gives : Gives) where
+  -- a transfer that reads makes this step, whatever sinks there are
+  pub takes_from_source : {K : Type 0} (held : K → Option Holding) (may_refuse_append : K → List ℕ → StoreFault → Type 0) (may_refuse_commit : K → StoreFault → Type 0) (becomes : K → K → Bool → Type 0) (replace : Bool) (from : Endpoint) (bytes : List ℕ) (store : S) (e e' : EndState) (s s' : F) (path request : List ℕ) (step : Step) →
+      MakesStep meaning.left meaning.may_fail held may_refuse_append may_refuse_commit becomes gives from bytes e e' (Source s) (Source s') step →
+      TakesBy meaning gives replace from bytes store store (record { end = e; files = Source s; path = path; request = request }) (record { end = e'; files = Source s'; path = path; request = request }) step
+  takes_from_source held may_refuse_append may_refuse_commit becomes replace from bytes store e e' s s' path request step h =
+      record {
+        turn = h.turn;
+        steps =
+            source_step_as meaning.left meaning.may_fail held may_refuse_append may_refuse_commit becomes meaning.left meaning.may_fail (drafting_holds meaning) (MayRefuseAppend meaning) (MayRefuseCommit meaning) (DraftingBecomes meaning)
+            (λ s. s) (record { tells = λ s. refl; fails = λ s want f. f }) from bytes e s h.turn s' h.steps;
+        carries = h.carries;
+        tells = h.tells;
+        stays = refl;
+        kind = tt;
+        path = refl;
+        request = refl;
+      }
 
-  abbrev DecodedAs : Action → Endpoint → List ℕ → EndState → F → Turn → F → Type 0
-  DecodedAs action from bytes e source turn source' =
-      Acts left may_fail (λ (sink : Unit {0}). None) (λ sink piece fault. Unit {0}) (λ sink fault. Unit {0}) action from bytes e (Source source) turn (Source source')
+  -- a transfer that stores makes this step, where the sink is a draft of the store
+  pub takes_into_draft : {K : Type 0} (as_drafting : K → Drafting S D) (replace : Bool) (from : Endpoint) (bytes : List ℕ) (store store' : S) (e e' : EndState) (k k' : K) (draft draft' : D) (path request : List ℕ) (step : Step) →
+      as_drafting k ≡ record { store = store; draft = draft; path = path; replace = replace } → as_drafting k' ≡ record { store = store'; draft = draft'; path = path; replace = replace } →
+      MakesStep meaning.left meaning.may_fail (λ k. drafting_holds meaning (as_drafting k)) (λ k piece fault. MayRefuseAppend meaning (as_drafting k) piece fault) (λ k fault. MayRefuseCommit meaning (as_drafting k) fault) (λ k l committed. DraftingBecomes meaning (as_drafting k) (as_drafting l) committed) gives from bytes e e' (Sink k) (Sink k') step →
+      TakesBy meaning gives replace from bytes store store' (record { end = e; files = Sink draft; path = path; request = request }) (record { end = e'; files = Sink draft'; path = path; request = request }) step
+  takes_into_draft as_drafting replace from bytes store store' e e' k k' draft draft' path request step was is h =
+      let steps =
+      sink_step_as meaning.left meaning.may_fail (λ k. drafting_holds meaning (as_drafting k)) (λ k piece fault. MayRefuseAppend meaning (as_drafting k) piece fault) (λ k fault. MayRefuseCommit meaning (as_drafting k) fault) (λ k l committed. DraftingBecomes meaning (as_drafting k) (as_drafting l) committed)
+      meaning.left meaning.may_fail (drafting_holds meaning) (MayRefuseAppend meaning) (MayRefuseCommit meaning) (DraftingBecomes meaning)
+      as_drafting (λ k. Unit {0}) (record { tells = λ k. refl; keeps = λ k l p b. tt; appends = λ k piece fault p f. f; commits = λ k fault p f. f; leaves = λ k l committed p b. b }) from bytes e k h.turn k' tt h.steps in
+      let last = subst (λ (d : Drafting S D). StepIn meaning from bytes e (Sink (as_drafting k)) h.turn (Sink d)) is steps in
+      record {
+        turn = h.turn;
+        steps = subst (λ (d : Drafting S D). StepIn meaning from bytes e (Sink d) h.turn (Sink (record { store = store'; draft = draft'; path = path; replace = replace }))) was last;
+        carries = h.carries;
+        tells = h.tells;
+        stays = tt;
+        kind = tt;
+        path = refl;
+        request = refl;
+      }
 
-  acts_read : (action : Action) (from : Endpoint) (bytes : List ℕ) (e : EndState) (source source' : F) (turn : Turn) → Acts left may_fail held may_refuse_append may_refuse_commit action from bytes e (Source source) turn (Source source') → DecodedAs action from bytes e source turn source'
-  acts_read (Respond response) from bytes e source source' turn h = (h.0, ap (source_of source) h.1)
-  acts_read (Send terms number) from bytes e source source' turn h = h
-  acts_read (Store terms number) from bytes e source source' turn h = absurd h
+module _ {S F D R : Type 0} (meaning : StoreMeaning S F D) (step_in : R → Step) (gives : R → Gives) where
+  -- a call was answered, over a source or over a draft
+  pub source_taken : {K : Type 0} (held : K → Option Holding) (may_refuse_append : K → List ℕ → StoreFault → Type 0) (may_refuse_commit : K → StoreFault → Type 0) (becomes : K → K → Bool → Type 0) (replace : Bool) (from : Endpoint) (bytes : List ℕ) (store : S) (e e' : EndState) (files : Files F D) (s s' : F) (path request : List ℕ) (result : Result R EndFault) → files ≡ Source s →
+      IfOk result (λ r. MakesStep meaning.left meaning.may_fail held may_refuse_append may_refuse_commit becomes (gives r) from bytes e e' (Source s) (Source s') (step_in r)) →
+      IfOk result (λ r. TakesBy meaning (gives r) replace from bytes store store (record { end = e; files = files; path = path; request = request }) (record { end = e'; files = Source s'; path = path; request = request }) (step_in r))
+  source_taken held may_refuse_append may_refuse_commit becomes replace from bytes store e e' files s s' path request (Err fault) is h = tt
+  source_taken held may_refuse_append may_refuse_commit becomes replace from bytes store e e' files s s' path request (Ok r) is h =
+      subst (λ (f : Files F D). TakesBy meaning (gives r) replace from bytes store store (record { end = e; files = f; path = path; request = request }) (record { end = e'; files = Source s'; path = path; request = request }) (step_in r)) (sym is)
+      (takes_from_source meaning (gives r) held may_refuse_append may_refuse_commit becomes replace from bytes store e e' s s' path request (step_in r) h)
 
-  acts_side : (action : Action) (from : Endpoint) (bytes : List ℕ) (e : EndState) (source source' : F) (turn : Turn) → Acts left may_fail held may_refuse_append may_refuse_commit action from bytes e (Source source) turn (Source source') → turn.end.side ≡ e.side
-  acts_side (Respond response) from bytes e source source' turn h = ap (λ (t : Turn). t.end.side) h.0 ∙ response_side response from e
-  acts_side (Send terms number) from bytes e source source' turn h =
-      ap (λ (t : Turn). t.end.side) h.answers
-      ∙ cond_side (result_count_is (block_length e.length terms.size number) h.answer) _ _ e refl refl
-  acts_side (Store terms number) from bytes e source source' turn h = absurd h
-
-  module _ {R : Type 0} (step_in : R → Step) (gives : R → Gives) where
-    -- what a call of an end at a datagram ensures where it has taken it
-    abbrev pub HasDecoded : Endpoint → List ℕ → EndState → EndState → Files F K → Files F K → R → Type 0
-    HasDecoded from bytes e e' files files' r =
-        (turn : Turn) × DatagramStep left may_fail held may_refuse_append may_refuse_commit from bytes e files turn files'
-        × gives r turn e' (step_in r).to × (step_in r ≡ told e turn)
-
-    -- a transfer that reads makes this step
-    pub takes_in : (from : Endpoint) (bytes : List ℕ) (e e' : EndState) (files files' : Files F K) (path request : List ℕ) (same_source : F → F → Type 0) (same_sink : K → K → Type 0) (result : Result R EndFault) → IsRead files → AreSame same_source same_sink files files' → IfOk result (HasDecoded from bytes e e' files files') → IfOk result (λ r. TakesBy left may_fail (gives r) from bytes (record { end = e; files = files; path = path; request = request }) (record { end = e'; files = files'; path = path; request = request }) (step_in r))
-    takes_in from bytes e e' (Source s) (Source s') path request ss sk (Ok r) read same h =
-        record {
-          turn = h.0;
-          steps = record { decoded = h.1.decoded; says = h.1.says; acts = acts_read (datagram_action e from bytes h.1.decoded) from bytes e s s' h.0 h.1.acts };
-          carries = h.2;
-          tells = h.3;
-          path = refl;
-          request = refl;
-        }
-    takes_in from bytes e e' (Source s) (Sink k) path request ss sk result read same h = absurd same
-    takes_in from bytes e e' (Sink k) files' path request ss sk result read same h = absurd read
-    takes_in from bytes e e' (Source s) (Source s') path request ss sk (Err fault) read same h = tt
-
-    module _ (state : (r : R) (turn : Turn) (e : EndState) (to : Option Endpoint) → gives r turn e to → e ≡ turn.end) where
-      decoded_side : (from : Endpoint) (bytes : List ℕ) (e e' : EndState) (s s' : F) (P : Type 0) (same : P → e' ≡ e) (result : Result R EndFault) → IfOk result (HasDecoded from bytes e e' (Source s) (Source s')) → OnErr result P → e'.side ≡ e.side
-      decoded_side from bytes e e' s s' P same (Ok r) h kept =
-          ap (λ (x : EndState). x.side) (state r h.0 e' (step_in r).to h.2) ∙ acts_side (datagram_action e from bytes h.1.decoded) from bytes e s s' h.0 h.1.acts
-      decoded_side from bytes e e' s s' P same (Err fault) h kept = ap (λ (x : EndState). x.side) (same kept)
-
-      -- and its end still has the file that it wants
-      pub still_reads : (from : Endpoint) (bytes : List ℕ) (e e' : EndState) (files files' : Files F K) (P : Type 0) (stays : P → e' ≡ e) (same_source : F → F → Type 0) (same_sink : K → K → Type 0) (result : Result R EndFault) → AreFilesOf e.side files × IsRead files → AreSame same_source same_sink files files' → IfOk result (HasDecoded from bytes e e' files files') → OnErr result P → AreFilesOf e'.side files' × IsRead files'
-      still_reads from bytes e e' (Source s) (Source s') P stays ss sk result fits same h kept =
-          (ap is_sender (decoded_side from bytes e e' s s' P stays result h kept) ∙ fits.0, tt)
-      still_reads from bytes e e' (Source s) (Sink k) P stays ss sk result fits same h kept = absurd same
-      still_reads from bytes e e' (Sink k) files' P stays ss sk result fits same h kept = absurd fits.1
-
-  kept_as : (files files' : Files F K) → KeepsFiles left held files files' → KeepsFiles left (λ (k : K). None) files files'
-  kept_as (Source s) (Source s') h = h
-  kept_as (Source s) (Sink k) h = h
-  kept_as (Sink k) (Source s) h = h
-  kept_as (Sink k) (Sink k') h = tt
-
-  pub stays_lent : {R : Type 0} (e e' : EndState) (files files' : Files F K) (path request : List ℕ) (result : Result R EndFault) → OnErr result ((e' ≡ e) × KeepsFiles left held files files') → OnErr result (StaysAs left may_fail (record { end = e; files = files; path = path; request = request }) (record { end = e'; files = files'; path = path; request = request }))
-  stays_lent e e' files files' path request (Ok r) h = tt
-  stays_lent e e' files files' path request (Err fault) h = record { end = h.0; path = refl; request = refl; files = kept_as files files' h.1 }
-
-  pub stays_as : (e e' : EndState) (files files' : Files F K) (path request before after : List ℕ) (result : Result Step EndFault) → OnErr result ((e' ≡ e) × (after ≡ before) × KeepsFiles left held files files') → OnErr result (StaysAs left may_fail (record { end = e; files = files; path = path; request = request }) (record { end = e'; files = files'; path = path; request = request }) × (after ≡ before))
-  stays_as e e' files files' path request before after (Ok step) h = tt
-  stays_as e e' files files' path request before after (Err fault) h = (record { end = h.0; path = refl; request = refl; files = kept_as files files' h.2 }, h.1)
+  pub draft_taken : (replace : Bool) (from : Endpoint) (bytes : List ℕ) (store store' : S) (e e' : EndState) (files : Files F D) (k k' : DraftSink S F D) (draft draft' : D) (path request : List ℕ) (result : Result R EndFault) → files ≡ Sink draft →
+      drafting_of k ≡ record { store = store; draft = draft; path = path; replace = replace } → drafting_of k' ≡ record { store = store'; draft = draft'; path = path; replace = replace } →
+      IfOk result (λ r. MakesStep meaning.left meaning.may_fail (λ k. drafting_holds meaning (drafting_of k)) (λ k piece fault. MayRefuseAppend meaning (drafting_of k) piece fault) (λ k fault. MayRefuseCommit meaning (drafting_of k) fault) (λ k l committed. DraftingBecomes meaning (drafting_of k) (drafting_of l) committed) (gives r) from bytes e e' (Sink k) (Sink k') (step_in r)) →
+      IfOk result (λ r. TakesBy meaning (gives r) replace from bytes store store' (record { end = e; files = files; path = path; request = request }) (record { end = e'; files = Sink draft'; path = path; request = request }) (step_in r))
+  draft_taken replace from bytes store store' e e' files k k' draft draft' path request (Err fault) is was now h = tt
+  draft_taken replace from bytes store store' e e' files k k' draft draft' path request (Ok r) is was now h =
+      subst (λ (f : Files F D). TakesBy meaning (gives r) replace from bytes store store' (record { end = e; files = f; path = path; request = request }) (record { end = e'; files = Sink draft'; path = path; request = request }) (step_in r)) (sym is)
+      (takes_into_draft meaning (gives r) drafting_of replace from bytes store store' e e' k k' draft draft' path request (step_in r) was now h)
 
 -- ---- why an event was not taken
 different : {R : Type 0} (fault : EndFault) → fault ≡ ends.Memory → IsErrOf {T = R} (Err fault) ends.Closed → ⊥
@@ -157,20 +142,21 @@ module _ {F D : Type 0} where
         held = ap (λ (t : Held F D). with_next tid t table) h.2 ∙ ap (with_next tid (with_end next.end transfer)) same;
       }
 
-  pub takes_datagram : (left : F → Option (List ℕ)) (may_fail : F → ℕ → Type 0) (gives : Gives) (tid : ℕ) (from : Endpoint) (bytes : List ℕ) (table now : List (ℕ × Held F D)) (transfer next : Held F D) (step : Step) → table ≡ now → Some transfer ≡ at tid table → TakesBy left may_fail gives from bytes transfer next step → TakesDatagramBy left may_fail gives tid from bytes now (with_next tid next table) step
-  takes_datagram left may_fail gives tid from bytes table now transfer next step same found h =
-      record {
-        transfer = transfer;
-        next = next;
-        found = found_now tid table now transfer same found;
-        takes = h;
-        held = ap (with_next tid next) same;
-      }
-
   -- a transfer that is written back as it was changes nothing
   pub nothing_written : (tid : ℕ) (table : List (ℕ × Held F D)) (transfer next : Held F D) → Some transfer ≡ at tid table → next ≡ transfer → with_next tid next table ≡ table
   nothing_written tid table transfer next found same = ap (λ (t : Held F D). with_next tid t table) same ∙ set_value_same (is_at (nat_cmp tid)) table transfer (sym found)
 
-  pub keeps_held : (left : F → Option (List ℕ)) (may_fail : F → ℕ → Type 0) (tid : ℕ) (table now : List (ℕ × Held F D)) (transfer next : Held F D) → table ≡ now → Some transfer ≡ at tid table → StaysAs left may_fail transfer next → KeepsHeld left may_fail tid (at tid now) now (with_next tid next table)
-  keeps_held left may_fail tid table now transfer next same found h =
-      subst (λ (t : Option (Held F D)). KeepsHeld left may_fail tid t now (with_next tid next table)) (sym (found_now tid table now transfer same found)) (next, h, ap (with_next tid next) same)
+module _ {S F D : Type 0} (meaning : StoreMeaning S F D) (tid : ℕ) (old new : ServerState S F D) (table : List (ℕ × Held F D)) (transfer next : Held F D) (same : table ≡ old.held) (found : Some transfer ≡ at tid table) (written : new.held ≡ with_next tid next table) where
+  pub takes_datagram : (gives : Gives) (from : Endpoint) (bytes : List ℕ) (step : Step) → TakesBy meaning gives old.config.overwrite from bytes old.store new.store transfer next step → TakesDatagramBy meaning gives tid from bytes old new step
+  takes_datagram gives from bytes step h =
+      record {
+        transfer = transfer;
+        next = next;
+        found = found_now tid table old.held transfer same found;
+        takes = h;
+        held = written ∙ ap (with_next tid next) same;
+      }
+
+  pub keeps_held : StaysAs meaning old.config.overwrite old.store new.store transfer next → KeepsHeld meaning tid (at tid old.held) old new
+  keeps_held h =
+      subst (λ (t : Option (Held F D)). KeepsHeld meaning tid t old new) (sym (found_now tid table old.held transfer same found)) (next, h, written ∙ ap (with_next tid next) same)

@@ -6,6 +6,7 @@ use Rattle.tftp_wire.specs.declared.packet.Packet.{Packet}
 use Rattle.tftp_wire.specs.declared.packet.Packet.TheVariants.{Read, Write}
 use Rattle.tftp_negotiate.specs.Agreed.{size}
 use Rattle.tftp_negotiate.specs.Answer.{answer}
+use Rattle.tftp_negotiate.specs.declared.known.Kind.{Kind}
 use Rattle.tftp_negotiate.specs.declared.known.Kind.TheVariants as kinds
 use Rattle.tftp_negotiate.specs.declared.known.Known.{Known}
 use Rattle.tftp_negotiate.specs.declared.limits.Limits.{Limits}
@@ -64,6 +65,11 @@ abbrev pub by_options : List ℕ → Mode → Result (List Known) Refusal → As
 by_options path mode (Err refusal) = Refuses (accept_reply refusal)
 by_options path mode (Ok agreed) = Writes path mode agreed
 
+-- a read goes to the store, a write first to its options
+abbrev pub by_kind : Kind → Mode → List RawOption → Limits → List ℕ → Ask
+by_kind kinds.Read mode options limits path = Reads path mode options
+by_kind kinds.Write mode options limits path = by_options path mode (answer options kinds.Write mode 0 limits)
+
 -- a request that was received before is let be
 abbrev pub by_repeat : Bool → Ask → Ask
 by_repeat repeated ask = if repeated then Ignores else ask
@@ -81,9 +87,9 @@ module _ (cap count : ℕ) where
   -- only a request has a place here, and one that opened a transfer which is still open opens no other
   abbrev pub by_packet : Bool → Limits → Option Packet → Ask
   by_packet repeated limits (Some (Read r)) =
-      by_repeat repeated (by_name (λ path. Reads path r.mode r.options) (path_of_name r.name))
+      by_repeat repeated (by_name (by_kind kinds.Read r.mode r.options limits) (path_of_name r.name))
   by_packet repeated limits (Some (Write r)) =
-      by_repeat repeated (by_name (λ path. by_options path r.mode (answer r.options kinds.Write r.mode 0 limits)) (path_of_name r.name))
+      by_repeat repeated (by_name (by_kind kinds.Write r.mode r.options limits) (path_of_name r.name))
   by_packet repeated limits _ = Refuses IllegalOperation
 
   -- what begins as an ERROR is never answered

@@ -2,7 +2,13 @@
 use Rattle.std.specs.Prelude.{ℕ, Bool, ◌≡◌, ◌≢◌, List, [], ◌⊎◌, length, Option, Some, None, Result, Ok, Err, IfErr}
 use Rattle.tftp_wire.specs.declared.mode.Mode.{Mode}
 use Rattle.tftp_wire.specs.declared.options.RawOption.{RawOption}
+use Rattle.tftp_wire.specs.Borrowed.{owned_request}
 use Rattle.tftp_wire.specs.declared.packet.Packet.{Packet}
+use Rattle.tftp_wire.specs.declared.packet.Packet.TheVariants as packets
+use Rattle.tftp_wire.specs.declared.packet.Request.{Request}
+use Rattle.tftp_wire.specs.declared.packet.RequestRef.{RequestRef}
+use Rattle.tftp_negotiate.specs.declared.known.Kind.{Kind}
+use Rattle.tftp_negotiate.specs.declared.known.Kind.TheVariants as kinds
 use Rattle.tftp_negotiate.specs.declared.known.Known.{Known}
 use Rattle.tftp_file.specs.declared.fault.StoreFault.{StoreFault}
 use Rattle.tftp_file.specs.declared.fault.StoreFault.TheVariants.{Memory}
@@ -122,11 +128,26 @@ module _ {S F D : Type 0} (meaning : StoreMeaning S F D) (old : ServerState S F 
     pub goes : Goes (asks old.config.cap (length old.held) repeated old.config.limits bytes decoded) came
     pub left : result ≡ left_by came old from tid
 
+-- a store that tells what it holds tells the same
+abbrev pub KeepsStored : Option Stored → Option Stored → Type 0
+KeepsStored None after = Unit {0}
+KeepsStored (Some before) after = after ≡ Some before
+
 -- the port has refused a datagram: nothing has changed, as far as the store tells
 pub record KeepsServer {S F D : Type 0} (stored : S → Option Stored) (before after : ServerState S F D) : Type 0 where
   pub config : after.config ≡ before.config
   pub held : after.held ≡ before.held
-  pub store : stored after.store ≡ stored before.store
+  pub store : KeepsStored (stored before.store) (stored after.store)
+
+-- a request that came is one of this kind
+abbrev pub IsRequest : Option Packet → Option (Kind × Request) → Type 0
+IsRequest (Some (packets.Read r)) asked = asked ≡ Some (kinds.Read, r)
+IsRequest (Some (packets.Write r)) asked = asked ≡ Some (kinds.Write, r)
+IsRequest packet asked = asked ≡ None
+
+-- a kind with a request, as the code has it
+abbrev pub kind_and_request : Kind × RequestRef → Kind × Request
+kind_and_request asked = (asked.0, owned_request asked.1)
 
 -- what the port asks, as the code has it
 abbrev pub ask_of : Asked → Ask

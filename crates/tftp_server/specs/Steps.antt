@@ -1,6 +1,8 @@
 -- How an event handles the transfer that it is for.
 use Rattle.std.specs.Prelude.{ℕ, ◌≡◌, Bool, false, List, Option, Some, None, ⊤}
 use Rattle.tftp_wire.specs.declared.packet.Packet.{Packet}
+use Rattle.tftp_file.specs.Sink.{Holding}
+use Rattle.tftp_file.specs.declared.fault.StoreFault.{StoreFault}
 use Rattle.tftp_file.specs.declared.files.Files.{Files}
 use Rattle.tftp_ends.specs.declared.endpoint.Endpoint.{Endpoint}
 use Rattle.tftp_ends.specs.declared.record.Step.{Step}
@@ -27,6 +29,15 @@ appends before after turn e to = Carries turn e to before after
 -- the answer, which the end lends
 abbrev pub lends : Outgoing → Gives
 lends outgoing turn e to = Lends turn e to outgoing
+
+-- an end with its file makes the step of a datagram, which gives this
+pub record MakesStep {S K : Type 0} (left : S → Option (List ℕ)) (may_fail : S → ℕ → Type 0) (held : K → Option Holding)
+    (may_refuse_append : K → List ℕ → StoreFault → Type 0) (may_refuse_commit : K → StoreFault → Type 0) (becomes : K → K → Bool → Type 0)
+    (gives : Gives) (from : Endpoint) (bytes : List ℕ) (e e' : EndState) (files files' : Files S K) (step : Step) : Type 0 where
+  pub turn : Turn
+  pub steps : DatagramStep left may_fail held may_refuse_append may_refuse_commit becomes from bytes e files turn files'
+  pub carries : gives turn e' step.to
+  pub tells : step ≡ told e turn
 
 module _ {F D : Type 0} where
   -- the transfer with another state of its end

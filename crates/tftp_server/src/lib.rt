@@ -8,9 +8,11 @@
 #![tactic(auto)]
 
 mod config;
+mod draft_sink;
 mod fault;
 mod fault_store;
 mod memory;
+mod one_file;
 mod opened;
 mod server;
 mod store;

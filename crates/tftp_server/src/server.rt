@@ -315,8 +315,7 @@ impl<S: Store> Server<S> {
         }
     }
 
-    /// Opens a transfer that stores under the path, by an identifier that none has. The store is asked
-    /// last, when nothing else can be refused.
+    /// Opens a transfer that stores under the path, by an identifier that none has.
     fn write_from(
         &mut self,
         from: Endpoint,
@@ -341,7 +340,21 @@ impl<S: Store> Server<S> {
         ensures err { OnErr result (KeepsServer S.stored self.old self.new
             × (out.new.items ≡ out.old.items)) }
     {
-        unreachable!()
+        let start = out.len();
+        match self.write(from, path, mode, agreed, bytes, out) {
+            Ok(Decision::Refuse(reply)) => refuse(reply, from, out),
+            Ok(Decision::Open(transfer)) => {
+                let Ok(()) = self.table.insert(tid, transfer) else {
+                    out.truncate(start);
+                    return Err(ServerFault::Memory);
+                };
+                Ok(Opened {
+                    tid: Some(tid),
+                    to: Some(from),
+                })
+            }
+            Err(_) => Err(ServerFault::Memory),
+        }
     }
 
     /// Appends the identifiers of all transfers that are held, in rising order, closed ones among

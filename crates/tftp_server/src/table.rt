@@ -92,7 +92,7 @@ impl<T> Table<T> {
     }
 }
 
-impl<F> Table<Transfer<F>> {
+impl<F, D> Table<Transfer<F, D>> {
     /// Whether one of them is open and was asked for from there by this packet.
     pub(crate) fn is_repeated(&self, from: Endpoint, decoded: &Option<PacketRef<'_>>) -> bool
         ensures { IsRepeated result from (option_map owned decoded.now) self.now }
@@ -105,9 +105,9 @@ impl<F> Table<Transfer<F>> {
 }
 
 /// Whether one of the transfers under the keys is open and was asked for from there by this packet.
-fn any_repeats<F>(
+fn any_repeats<F, D>(
     index: &BTreeMap<u16, usize>,
-    slots: &Slab<Transfer<F>>,
+    slots: &Slab<Transfer<F, D>>,
     from: Endpoint,
     packet: &PacketRef<'_>,
 ) -> bool

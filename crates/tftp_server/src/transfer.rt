@@ -1,53 +1,51 @@
 //! A transfer that a server holds: its end, its file, where that file is and what asked for it.
 
-ghost use Rattle.std.specs.Prelude.{◌≡◌, ◌↔◌, true, IsTrue, IfOk, OnErr, IsErrOf, Option};
+ghost use Rattle.std.specs.Prelude.{◌≡◌, ◌↔◌, true, IsTrue, IfOk, OnErr, IsErrOf, Option, option_copied};
 ghost use Rattle.tftp_ends.specs.End.{record_of};
-ghost use Rattle.tftp_server.specs.State.{is_closed, IsRead, Repeats};
+ghost use Rattle.tftp_server.specs.State.{is_closed, draft_of, Repeats};
 ghost use Rattle.tftp_wire.specs.Borrowed.{owned};
 ghost use Rattle.tftp_ends.specs.Files.{AreFilesOf};
+ghost use Rattle.tftp_server.specs.Store.{meaning_by};
 ghost use Rattle.tftp_server.specs.Steps.{with_end, lends, TakesBy, TakesIn, StaysAs};
 ghost use Rattle.tftp_ends.specs.Action.{Decodes, datagram_action, timeout_action};
 ghost use Rattle.tftp_ends.specs.Step.{Carries, Lends, IsAnswered, UsesFile, lent, timeout_turn, told};
 ghost use Rattle.tftp_wire.specs.declared.packet.Packet.{Packet};
 
+use crate::draft_sink::DraftSink;
+use crate::one_file::{
+    handle_datagram_of_sink, handle_datagram_of_source, on_datagram_of_sink, on_datagram_of_source,
+};
+use crate::store::Store;
 use std::marker::Model;
 use tftp_ends::{End, EndFault, Endpoint, Outgoing, Record, Step};
 use tftp_file::{Files, MemSink, Path, Source};
 use tftp_wire::PacketRef;
 
-/// A transfer: an end with its source, the path of the file, and the datagram that asked for it. No
-/// transfer has a sink yet.
+/// A transfer: an end with its source or its draft, the path of the file, and the datagram that asked
+/// for it.
 #[derive(Drop)]
-pub(crate) struct Transfer<F> {
+pub(crate) struct Transfer<F, D> {
     end: End,
-    files: Files<F, MemSink>,
+    files: Files<F, D>,
     path: Path,
     request: Vec<u8>,
 }
 
-impl<F> Model for Transfer<F> {
+impl<F, D> Model for Transfer<F, D> {
     ghost use Rattle.tftp_server.specs.State.{Held};
     ghost use Rattle.tftp_ends.specs.Files.{AreFilesOf};
-    ghost use Rattle.tftp_server.specs.State.{IsRead};
-    ghost use Rattle.tftp_file.specs.Memory.{MemSinkState};
 
-    ghost Value = { Held F MemSinkState };
+    ghost Value = { Held F D };
 
     ghost view = { λ t. record { end = t.end; files = t.files; path = t.path; request = t.request.items } };
 
-    ghost invariant = { λ t. AreFilesOf t.end.side t.files × IsRead t.files };
+    ghost invariant = { λ t. AreFilesOf t.end.side t.files };
 }
 
-impl<F> Transfer<F> {
-    /// A transfer that reads the file at the path, which the datagram asked for.
-    pub(crate) fn new(
-        end: End,
-        files: Files<F, MemSink>,
-        path: Path,
-        request: Vec<u8>,
-    ) -> Transfer<F>
-        requires files { AreFilesOf end.side files }
-        requires read { IsRead files }
+impl<F, D> Transfer<F, D> {
+    /// A transfer of the file at the path, which the datagram asked for.
+    pub(crate) fn new(end: End, files: Files<F, D>, path: Path, request: Vec<u8>) -> Transfer<F, D>
+        requires { AreFilesOf end.side files }
         ensures { result ≡ record { end = end; files = files; path = path; request = request.items } }
     {
         Transfer {
@@ -72,6 +70,16 @@ impl<F> Transfer<F> {
         self.end.record().outcome.is_some()
     }
 
+    /// Its draft, if it stores.
+    pub(crate) fn draft(&self) -> Option<&D>
+        ensures { option_copied result ≡ draft_of self.now.files }
+    {
+        match &self.files {
+            Files::Source(_) => None,
+            Files::Sink(draft) => Some(draft),
+        }
+    }
+
     /// Whether it is open, and was asked for from there by the same packet.
     pub(crate) fn repeats(&self, from: Endpoint, packet: &PacketRef<'_>) -> bool
         ensures { IsTrue result ↔ Repeats from (owned packet.now) self.now }
@@ -83,7 +91,7 @@ impl<F> Transfer<F> {
     }
 }
 
-impl<F> Transfer<F> {
+impl<F, D> Transfer<F, D> {
     /// Its end takes a timeout. After a fault nothing has changed.
     pub(crate) fn on_timeout(&mut self, out: &mut Vec<u8>) -> Result<Step, EndFault>
         ensures steps { IfOk result (λ step. Carries (timeout_turn self.old.end) self.new.end
@@ -119,39 +127,108 @@ impl<F> Transfer<F> {
     }
 }
 
-impl<F: Source> Transfer<F> {
-    /// Its end takes a datagram. After a fault nothing has changed.
-    pub(crate) fn on_datagram(
+impl<F: Source, D> Transfer<F, D> {
+    /// Its end takes a datagram; what it stores goes into its draft of that store. After a fault
+    /// nothing has changed.
+    pub(crate) fn on_datagram<S: Store<Source = F, Draft = D>>(
         &mut self,
+        store: &mut S,
+        replace: bool,
         from: Endpoint,
         bytes: &[u8],
         out: &mut Vec<u8>,
     ) -> Result<Step, EndFault>
-        ensures takes { IfOk result (λ step. TakesIn F.left F.may_fail from bytes.now self.old
+        ensures takes { IfOk result (λ step. TakesIn (meaning_by S.stored F.left S.drafted F.may_fail S.may_refuse_open
+            S.may_refuse_begin S.may_refuse_append S.may_refuse_commit) replace from bytes.now store.old store.new self.old
             self.new step out.old.items out.new.items) }
         ensures closed { IsErrOf result EndFault.Closed ↔ (is_closed self.old ≡ true) }
         ensures memory { IsErrOf result EndFault.Memory → (decoded : Option Packet)
             × Decodes bytes.now decoded × IsAnswered (datagram_action self.old.end from bytes.now
             decoded) }
-        ensures err { OnErr result (StaysAs F.left F.may_fail self.old self.new
+        ensures err { OnErr result (StaysAs (meaning_by S.stored F.left S.drafted F.may_fail S.may_refuse_open
+            S.may_refuse_begin S.may_refuse_append S.may_refuse_commit) replace store.old store.new self.old self.new
             × (out.new.items ≡ out.old.items)) }
     {
-        self.end.on_datagram(&mut self.files, from, bytes, out)
+        match &mut self.files {
+            Files::Source(source) => {
+                on_datagram_of_source::<F, MemSink>(&mut self.end, source, from, bytes, out)
+            }
+            Files::Sink(draft) => {
+                let path = &self.path;
+                let mut sink = DraftSink {
+                    store,
+                    draft,
+                    path,
+                    replace,
+                };
+                on_datagram_of_sink::<F, DraftSink<'_, '_, '_, S>>(
+                    &mut self.end,
+                    &mut sink,
+                    from,
+                    bytes,
+                    out,
+                )
+            }
+        }
     }
+
     /// The same, with what goes out lent by [`Transfer::bytes_of`].
-    pub(crate) fn handle_datagram(
+    pub(crate) fn handle_datagram<S: Store<Source = F, Draft = D>>(
         &mut self,
+        store: &mut S,
+        replace: bool,
         from: Endpoint,
         bytes: &[u8],
     ) -> Result<(Step, Outgoing), EndFault>
-        ensures takes { IfOk result (λ answer. TakesBy F.left F.may_fail
-            (lends answer.1) from bytes.now self.old self.new answer.0) }
+        ensures takes { IfOk result (λ answer. TakesBy (meaning_by S.stored F.left S.drafted F.may_fail S.may_refuse_open
+            S.may_refuse_begin S.may_refuse_append S.may_refuse_commit)
+            (lends answer.1) replace from bytes.now store.old store.new self.old self.new answer.0) }
         ensures closed { IsErrOf result EndFault.Closed ↔ (is_closed self.old ≡ true) }
         ensures memory { IsErrOf result EndFault.Memory → (decoded : Option Packet)
             × Decodes bytes.now decoded × UsesFile (datagram_action self.old.end from bytes.now
             decoded) }
-        ensures err { OnErr result (StaysAs F.left F.may_fail self.old self.new) }
+        ensures err { OnErr result (StaysAs (meaning_by S.stored F.left S.drafted F.may_fail S.may_refuse_open
+            S.may_refuse_begin S.may_refuse_append S.may_refuse_commit) replace store.old store.new self.old self.new) }
     {
-        self.end.handle_datagram(&mut self.files, from, bytes)
+        match &mut self.files {
+            Files::Source(source) => {
+                handle_datagram_of_source::<F, MemSink>(&mut self.end, source, from, bytes)
+            }
+            Files::Sink(draft) => {
+                let path = &self.path;
+                let mut sink = DraftSink {
+                    store,
+                    draft,
+                    path,
+                    replace,
+                };
+                handle_datagram_of_sink::<F, DraftSink<'_, '_, '_, S>>(
+                    &mut self.end,
+                    &mut sink,
+                    from,
+                    bytes,
+                )
+            }
+        }
+    }
+}
+
+impl<F: Drop, D> Transfer<F, D> {
+    /// Its draft, if it stores; the rest is let go.
+    pub(crate) fn into_draft(self) -> Option<D>
+        ensures { result ≡ draft_of self.files }
+    {
+        let Transfer { files, .. } = self;
+        draft_in(files)
+    }
+}
+
+/// The draft, if the files are one.
+fn draft_in<F: Drop, D>(files: Files<F, D>) -> Option<D>
+    ensures { result ≡ draft_of files }
+{
+    match files {
+        Files::Source(_) => None,
+        Files::Sink(draft) => Some(draft),
     }
 }

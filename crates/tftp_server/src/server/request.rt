@@ -1,23 +1,29 @@
 //! The request port: its tests, one after the other.
 
-ghost use Rattle.std.specs.Prelude.{Bool, ◌≡◌, ◌++◌, [], Ok, Option, None, length, option_map, IfOk, IfErr, OnErr};
-ghost use Rattle.tftp_wire.specs.Borrowed.{owned, owned_request};
+ghost use Rattle.std.specs.Prelude.{Bool, ◌≡◌, ◌≢◌, ◌*◌, ◌<◌, ◌≤◌, true, IsErrOf, OnOk, ◌++◌, [], Ok, Option, length, option_map, IfOk, IfErr, OnErr};
+ghost use Rattle.tftp_wire.specs.Borrowed.{owned};
 ghost use Rattle.tftp_wire.specs.declared.packet.Packet.{Packet};
-ghost use Rattle.tftp_file.specs.Memory.{MemSinkState};
+ghost use Rattle.tftp_negotiate.specs.Answer.{answer};
+ghost use Rattle.tftp_negotiate.specs.Ranges.{IsBlockSize};
 ghost use Rattle.tftp_file.specs.Path.{path_of_name};
+ghost use Rattle.tftp_negotiate.specs.Agreed.{size};
 ghost use Rattle.tftp_ends.specs.Action.{Decodes};
-ghost use Rattle.tftp_server.specs.State.{IsRepeated};
-ghost use Rattle.tftp_server.specs.Port.{Reads, accept_reply, asks, by_file, by_name, by_room, by_length};
-ghost use Rattle.tftp_server.specs.Request.{SupportsRead, AsksToRead, Sent, ask_of, came_to, supported, decided_bytes};
+ghost use Rattle.tftp_ends.specs.End.{is_sender};
+ghost use Rattle.tftp_ends.specs.Opening.{ServesRead, CannotStart};
+ghost use Rattle.tftp_server.specs.State.{IsRepeated, source_of};
+ghost use Rattle.tftp_server.specs.Store.{meaning_by};
+ghost use Rattle.tftp_server.specs.Port.{accept_reply, asks, begin_reply, by_file, by_kind, by_name, by_options, by_room, by_length};
+ghost use Rattle.tftp_server.specs.Request.{AsksToRead, AsksToWrite, IsRequest, KeepsStored, Sent, ask_of, came_to, decided_bytes, kind_and_request};
 
+use crate::config::Config;
 use crate::fault::ServerFault;
 use crate::server::Server;
 use crate::store::{Opening, Store};
 use crate::transfer::Transfer;
 use std::alloc::Global;
 use tftp_ends::{End, Endpoint, ErrorReply, OpenFault, decode_packet};
-use tftp_file::{Files, Path, PathFault, StoreFault, path_of};
-use tftp_negotiate::{Agreed, Kind, Refusal, accept_ref};
+use tftp_file::{Files, MemSink, Path, PathFault, Source, StoreFault, path_of};
+use tftp_negotiate::{Agreed, Kind, Limits, Refusal, accept_ref};
 use tftp_wire::{Mode, PacketRef, RequestRef, has_error_opcode};
 
 /// What the request port does before it asks its store.
@@ -42,42 +48,76 @@ pub(crate) enum Decision<F, D> {
     Open(Transfer<F, D>),
 }
 
-/// The request to read, if it is one.
-fn read_request<'a>(decoded: Option<PacketRef<'a>>) -> Option<RequestRef<'a>>
-    ensures { SupportsRead (supported (option_map owned decoded.entry)) (option_map
-        owned_request result) }
+/// The request and its kind, if it is one.
+fn request_of<'a>(decoded: Option<PacketRef<'a>>) -> Option<(Kind, RequestRef<'a>)>
+    ensures { IsRequest (option_map owned decoded.entry) (option_map kind_and_request result) }
 {
     match decoded {
-        Some(PacketRef::Read(request)) => Some(request),
+        Some(PacketRef::Read(request)) => Some((Kind::Read, request)),
+        Some(PacketRef::Write(request)) => Some((Kind::Write, request)),
         _ => None,
     }
 }
 
-/// The table must have room.
-fn by_room<'a>(cap: u8, count: usize, path: Path, request: RequestRef<'a>) -> Asked<'a>
-    ensures { ask_of result ≡ by_room cap count (λ p. Reads p request.entry.mode
-        request.entry.options) path }
+/// The options of a write are answered before the store is asked: the length of the file is then
+/// known by its `tsize` alone (RFC 2349, "Transfer Size Option Specification").
+fn by_options<'a>(path: Path, request: RequestRef<'a>, limits: &Limits) -> Asked<'a>
+    requires { IsBlockSize limits.now.max_block }
+    ensures { ask_of result ≡ by_options path request.entry.mode
+        (answer request.entry.options Kind.Write request.entry.mode 0 limits.now) }
 {
-    if count >= usize::from(cap) {
+    let mode = request.mode;
+    match accept_ref(&request.options, Kind::Write, mode, 0, limits) {
+        Ok(agreed) => Asked::Write(path, mode, agreed),
+        Err(refusal) => Asked::Refuse(accept_reply(refusal)),
+    }
+}
+
+/// A read goes to the store, a write first to its options.
+fn by_kind<'a>(kind: Kind, path: Path, request: RequestRef<'a>, limits: &Limits) -> Asked<'a>
+    requires { IsBlockSize limits.now.max_block }
+    ensures { ask_of result ≡ by_kind kind request.entry.mode request.entry.options limits.now path }
+{
+    match kind {
+        Kind::Read => Asked::Read(path, request),
+        Kind::Write => by_options(path, request, limits),
+    }
+}
+
+/// The table must have room.
+fn by_room<'a>(
+    config: &Config,
+    count: usize,
+    kind: Kind,
+    path: Path,
+    request: RequestRef<'a>,
+) -> Asked<'a>
+    requires { IsBlockSize config.now.limits.max_block }
+    ensures { ask_of result ≡ by_room config.now.cap count
+        (by_kind kind request.entry.mode request.entry.options config.now.limits) path }
+{
+    if count >= usize::from(config.cap) {
         return Asked::Refuse(ErrorReply::ServerBusy);
     }
-    Asked::Read(path, request)
+    by_kind(kind, path, request, &config.limits)
 }
 
 /// The name must be a path.
 fn by_name<'a>(
     alloc: Global,
-    cap: u8,
+    config: &Config,
     count: usize,
+    kind: Kind,
     request: RequestRef<'a>,
 ) -> Result<Asked<'a>, ServerFault>
-    ensures named { IfOk result (λ asked. ask_of asked ≡ by_name cap count
-        (λ p. Reads p request.entry.mode request.entry.options)
+    requires { IsBlockSize config.now.limits.max_block }
+    ensures named { IfOk result (λ asked. ask_of asked ≡ by_name config.now.cap count
+        (by_kind kind request.entry.mode request.entry.options config.now.limits)
         (path_of_name request.entry.name.now)) }
     ensures memory { IfErr result (λ fault. fault ≡ ServerFault.Memory) }
 {
     match path_of(alloc, request.name) {
-        Ok(path) => Ok(by_room(cap, count, path, request)),
+        Ok(path) => Ok(by_room(config, count, kind, path, request)),
         Err(PathFault::Memory) => Err(ServerFault::Memory),
         Err(PathFault::Empty | PathFault::Segment | PathFault::Depth | PathFault::Length) => {
             Ok(Asked::Refuse(ErrorReply::AccessViolation))
@@ -95,6 +135,53 @@ fn accept_reply(refusal: Refusal) -> ErrorReply
     }
 }
 
+/// The source, if the files are one.
+fn source_in<F, K: Drop>(files: Files<F, K>) -> Option<F>
+    ensures { result ≡ source_of files }
+{
+    match files {
+        Files::Source(source) => Some(source),
+        Files::Sink(_) => None,
+    }
+}
+
+/// Opens the end of a read over its source, and hands that back.
+fn serve_source<F: Source + Drop>(
+    alloc: Global,
+    source: F,
+    peer: Endpoint,
+    mode: Mode,
+    agreed: &Agreed,
+    length: u64,
+    retries: u8,
+    out: &mut Vec<u8>,
+) -> Result<(End, F), OpenFault>
+    ensures serves { IfOk result (λ opened. ServesRead F.left F.may_fail agreed.now peer mode length
+        retries source opened.1 opened.0
+        × (out.new.items ≡ out.old.items ++ opened.0.last_sent)) }
+    ensures sends { IfOk result (λ opened. is_sender opened.0.side ≡ true) }
+    ensures ok { OnOk result (length < 65535 * size agreed.now) }
+    ensures bad_request { IsErrOf result OpenFault.BadRequest → ⊥ }
+    ensures too_large { IsErrOf result OpenFault.TooLarge → 65535 * size agreed.now ≤ length }
+    ensures source { IsErrOf result OpenFault.SourceFault → (length < 65535 * size agreed.now)
+        × CannotStart F.left F.may_fail length source }
+    ensures plain { IsErrOf result OpenFault.SourceFault → agreed.now ≡ [] }
+    ensures err { OnErr result (out.new.items ≡ out.old.items) }
+{
+    let mut files = Files::Source(source);
+    match End::serve_read::<F, MemSink>(
+        alloc, &mut files, peer, mode, agreed, length, retries, out,
+    ) {
+        Ok((end, _)) => {
+            let Some(source) = source_in(files) else {
+                unreachable!()
+            };
+            Ok((end, source))
+        }
+        Err(fault) => Err(fault),
+    }
+}
+
 impl<S: Store> Server<S> {
     /// The tests that ask no store: only a request has a place here, and what begins as an ERROR is
     /// never answered.
@@ -106,7 +193,7 @@ impl<S: Store> Server<S> {
         ensures asks { IfOk result (λ asked. (decoded : Option Packet) × (repeated : Bool)
             × Decodes bytes.now decoded × IsRepeated repeated from decoded self.now.held
             × (ask_of asked ≡ asks self.now.config.cap (length self.now.held) repeated
-            self.now.config.limits bytes.now (supported decoded))) }
+            self.now.config.limits bytes.now decoded)) }
         ensures memory { IfErr result (λ fault. fault ≡ ServerFault.Memory) }
     {
         let decoded = decode_packet(bytes);
@@ -114,12 +201,12 @@ impl<S: Store> Server<S> {
         if has_error_opcode(bytes) {
             return Ok(Asked::Nothing);
         }
-        match read_request(decoded) {
-            Some(request) => {
+        match request_of(decoded) {
+            Some((kind, request)) => {
                 if is_repeated {
                     return Ok(Asked::Nothing);
                 }
-                by_name(self.alloc, self.config.cap, self.table.len(), request)
+                by_name(self.alloc, &self.config, self.table.len(), kind, request)
             }
             None => Ok(Asked::Refuse(ErrorReply::IllegalOperation)),
         }
@@ -136,15 +223,9 @@ impl<S: Store> Server<S> {
         agreed: &Agreed,
         file: Opening<S::Source>,
         out: &mut Vec<u8>,
-    ) -> Result<Decision<S::Source>, ServerFault>
-        ensures opens { IfOk result (λ decision. Sent (record {
-          stored = S.stored;
-          left = S.Source.left;
-          drafted = λ (draft : MemSinkState). None;
-          may_fail = S.Source.may_fail;
-          may_refuse_open = S.may_refuse_open;
-          may_refuse_begin = S.may_refuse_begin;
-        }) self.now from bytes.now
+    ) -> Result<Decision<S::Source, S::Draft>, ServerFault>
+        ensures opens { IfOk result (λ decision. Sent (meaning_by S.stored S.Source.left S.drafted S.Source.may_fail S.may_refuse_open
+            S.may_refuse_begin S.may_refuse_append S.may_refuse_commit) self.now from bytes.now
             (by_length path mode file.length (Ok agreed.now)) (Ok file)
             (came_to decision self.now.store)) }
         ensures sent { IfOk result (λ decision. out.new.items ≡ out.old.items ++ decided_bytes
@@ -155,17 +236,15 @@ impl<S: Store> Server<S> {
         let length = file.length;
         let retries = self.config.retries;
         let start = out.len();
-        let mut files = Files::Source(file.source);
-        let opened = End::serve_read(
-            self.alloc, &mut files, from, mode, agreed, length, retries, out,
-        );
-        match opened {
-            Ok((end, _)) => {
+        let alloc = self.alloc;
+        match serve_source(alloc, file.source, from, mode, agreed, length, retries, out) {
+            Ok((end, source)) => {
                 let Ok(request) = Vec::from_slice(self.alloc, bytes) else {
                     out.truncate(start);
                     return Err(ServerFault::Memory);
                 };
-                Ok(Decision::Open(Transfer::new(end, files, path, request)))
+                let transfer = Transfer::new(end, Files::Source(source), path, request);
+                Ok(Decision::Open(transfer))
             }
             Err(OpenFault::TooLarge) => Ok(Decision::Refuse(ErrorReply::FileTooLarge)),
             Err(OpenFault::SourceFault) => Ok(Decision::Refuse(ErrorReply::FileChanged)),
@@ -183,15 +262,9 @@ impl<S: Store> Server<S> {
         request: &RequestRef<'_>,
         file: Opening<S::Source>,
         out: &mut Vec<u8>,
-    ) -> Result<Decision<S::Source>, ServerFault>
-        ensures sends { IfOk result (λ decision. Sent (record {
-          stored = S.stored;
-          left = S.Source.left;
-          drafted = λ (draft : MemSinkState). None;
-          may_fail = S.Source.may_fail;
-          may_refuse_open = S.may_refuse_open;
-          may_refuse_begin = S.may_refuse_begin;
-        }) self.now from bytes.now
+    ) -> Result<Decision<S::Source, S::Draft>, ServerFault>
+        ensures sends { IfOk result (λ decision. Sent (meaning_by S.stored S.Source.left S.drafted S.Source.may_fail S.may_refuse_open
+            S.may_refuse_begin S.may_refuse_append S.may_refuse_commit) self.now from bytes.now
             (by_file self.now.config.limits path request.now.mode request.now.options
             (Ok file.length)) (Ok file) (came_to decision self.now.store)) }
         ensures sent { IfOk result (λ decision. out.new.items ≡ out.old.items ++ decided_bytes
@@ -215,15 +288,9 @@ impl<S: Store> Server<S> {
         bytes: &[u8],
         request: &RequestRef<'_>,
         out: &mut Vec<u8>,
-    ) -> Result<Decision<S::Source>, ServerFault>
-        ensures asks { IfOk result (λ decision. AsksToRead (record {
-          stored = S.stored;
-          left = S.Source.left;
-          drafted = λ (draft : MemSinkState). None;
-          may_fail = S.Source.may_fail;
-          may_refuse_open = S.may_refuse_open;
-          may_refuse_begin = S.may_refuse_begin;
-        }) self.now from bytes.now
+    ) -> Result<Decision<S::Source, S::Draft>, ServerFault>
+        ensures asks { IfOk result (λ decision. AsksToRead (meaning_by S.stored S.Source.left S.drafted S.Source.may_fail S.may_refuse_open
+            S.may_refuse_begin S.may_refuse_append S.may_refuse_commit) self.now from bytes.now
             path request.now.mode request.now.options (came_to decision self.now.store)) }
         ensures sent { IfOk result (λ decision. out.new.items ≡ out.old.items ++ decided_bytes
             decision) }
@@ -238,5 +305,62 @@ impl<S: Store> Server<S> {
                 Ok(Decision::Refuse(ErrorReply::AccessViolation))
             }
         }
+    }
+
+    /// Begins a draft for the path, which a transfer with these options is to fill. Everything else that
+    /// can want memory comes first, so that no draft is begun in vain.
+    pub(crate) fn write(
+        &mut self,
+        from: Endpoint,
+        path: Path,
+        mode: Mode,
+        agreed: &Agreed,
+        bytes: &[u8],
+        out: &mut Vec<u8>,
+    ) -> Result<Decision<S::Source, S::Draft>, ServerFault>
+        ensures asks { IfOk result (λ decision. AsksToWrite (meaning_by S.stored S.Source.left S.drafted S.Source.may_fail S.may_refuse_open
+            S.may_refuse_begin S.may_refuse_append S.may_refuse_commit) self.old from bytes.now
+            path mode agreed.now (came_to decision self.new.store)) }
+        ensures sent { IfOk result (λ decision. out.new.items ≡ out.old.items ++ decided_bytes
+            decision) }
+        ensures rest { self.new ≡ record self.old { store = self.new.store } }
+        ensures keeps { KeepsStored (S.stored self.old.store) (S.stored self.new.store) }
+        ensures memory { IfErr result (λ fault. fault ≡ ServerFault.Memory) }
+        ensures err { OnErr result (out.new.items ≡ out.old.items) }
+    {
+        let start = out.len();
+        let retries = self.config.retries;
+        let Ok((end, _)) = End::serve_write(self.alloc, from, mode, agreed, retries, out) else {
+            return Err(ServerFault::Memory);
+        };
+        let Ok(request) = Vec::from_slice(self.alloc, bytes) else {
+            out.truncate(start);
+            return Err(ServerFault::Memory);
+        };
+        match self.store.begin(self.alloc, &path, self.config.overwrite) {
+            Ok(draft) => {
+                let transfer = Transfer::new(end, Files::Sink(draft), path, request);
+                Ok(Decision::Open(transfer))
+            }
+            Err(fault) => {
+                out.truncate(start);
+                begin_refused(fault)
+            }
+        }
+    }
+}
+
+/// The ERROR where no draft is begun, or want of memory.
+fn begin_refused<F, D>(fault: StoreFault) -> Result<Decision<F, D>, ServerFault>
+    ensures refused { IfOk result (λ decision. (decision ≡ Decision.Refuse (begin_reply fault))
+        × (fault ≢ StoreFault.Memory)) }
+    ensures memory { IfErr result (λ fault. fault ≡ ServerFault.Memory) }
+{
+    match fault {
+        StoreFault::Exists => Ok(Decision::Refuse(ErrorReply::FileExists)),
+        StoreFault::Full => Ok(Decision::Refuse(ErrorReply::DiskFull)),
+        StoreFault::Missing => Ok(Decision::Refuse(ErrorReply::AccessViolation)),
+        StoreFault::Io => Ok(Decision::Refuse(ErrorReply::AccessViolation)),
+        StoreFault::Memory => Err(ServerFault::Memory),
     }
 }

@@ -1,5 +1,4 @@
 use Rattle.std.proofs.Common.{◌≡◌, ap, ◌∙◌, List, ℕ}
-use Rattle.tftp_file.specs.Memory.{MemSinkState}
 use Rattle.tftp_server.specs.State.{ServerState, Held, at}
 use Rattle.tftp_server.specs.Steps.{appends}
 use Rattle.tftp_server.proofs.StepsLemmas.{found_now, timeout_fault, times_out, nothing_written}
@@ -8,7 +7,7 @@ use Rattle.tftp_server.proofs.server.Server.on_timeout.Goals.{in-Ok, in-Err}
 
 pub returns-clause-fault : goal.returns-clause-fault
 returns-clause-fault g c =
-    let same : c.self.inside.table ≡ c.args.self.now.held = ap (λ (s : ServerState g.row.S.Denot g.row.S-Source.Denot MemSinkState). s.held) c.self.view_is in
+    let same : c.self.inside.table ≡ c.args.self.now.held = ap (λ (s : ServerState g.row.S.Denot g.row.S-Source.Denot g.row.S-Draft.Denot). s.held) c.self.view_is in
     elim c.match-on_timeout.branch [
       | in-Ok w ↦ rw w.result-is tt
       | in-Err w ↦
@@ -20,7 +19,7 @@ returns-clause-fault g c =
 
 pub returns-clause-steps : goal.returns-clause-steps
 returns-clause-steps g c =
-    let same : c.self.inside.table ≡ c.args.self.now.held = ap (λ (s : ServerState g.row.S.Denot g.row.S-Source.Denot MemSinkState). s.held) c.self.view_is in
+    let same : c.self.inside.table ≡ c.args.self.now.held = ap (λ (s : ServerState g.row.S.Denot g.row.S-Source.Denot g.row.S-Draft.Denot). s.held) c.self.view_is in
     elim c.match-on_timeout.branch [
       | in-Ok w ↦
           rw w.result-is
@@ -31,7 +30,7 @@ returns-clause-steps g c =
 
 pub returns-clause-err : goal.returns-clause-err
 returns-clause-err g c =
-    let with_held : List (ℕ × Held g.row.S-Source.Denot MemSinkState) → ServerState g.row.S.Denot g.row.S-Source.Denot MemSinkState =
+    let with_held : List (ℕ × Held g.row.S-Source.Denot g.row.S-Draft.Denot) → ServerState g.row.S.Denot g.row.S-Source.Denot g.row.S-Draft.Denot =
     λ held. record { config = c.self.inside.config; store = c.self.inside.store; held = held }
     in elim c.match-on_timeout.branch [
       | in-Ok w ↦ rw w.result-is tt

@@ -1,6 +1,6 @@
 use Rattle.tftp_wire.specs.Borrowed.{owned}
 use Rattle.tftp_server.proofs.RepeatLemmas.{repeats_joined, joined_repeats}
-use Rattle.tftp_server.proofs.table.Table+Transfer+F.is_repeated.Goals as goal
+use Rattle.tftp_server.proofs.table.Table+Transfer+F+D.is_repeated.Goals as goal
 
 pub returns-in-Some : goal.returns-in-Some
 returns-in-Some g c =

@@ -1,0 +1,58 @@
+//! A draft of a store, as the sink of an end.
+
+ghost use Rattle.std.specs.Prelude.{◌≡◌, ◌↔◌, true, false, IfOk, OnErr, IsErrOf, Option};
+ghost use Rattle.tftp_ends.specs.Action.{Decodes, datagram_action};
+ghost use Rattle.tftp_ends.specs.End.{is_sender, outcome_of};
+ghost use Rattle.tftp_ends.specs.Step.{IsAnswered, UsesFile};
+ghost use Rattle.tftp_wire.specs.declared.packet.Packet.{Packet};
+
+use crate::store::Store;
+use tftp_file::{Path, Sink, StoreFault};
+
+/// A draft of a store, which is committed under a path.
+#[derive(Drop)]
+pub(crate) struct DraftSink<'s, 'd, 'p, S: Store> {
+    /// The store.
+    pub(crate) store: &'s mut S,
+    /// What is written.
+    pub(crate) draft: &'d mut S::Draft,
+    /// Where it is to be committed.
+    pub(crate) path: &'p Path,
+    /// Whether it may take the place of a file there.
+    pub(crate) replace: bool,
+}
+
+impl<'s, 'd, 'p, S: Store> Sink for DraftSink<'s, 'd, 'p, S> {
+    ghost use Rattle.std.specs.Prelude.{◌≡◌, refl};
+    ghost use Rattle.std.proofs.Common.{◌∙◌};
+    ghost use Rattle.tftp_server.specs.Draft.{DraftingBecomes};
+    ghost use Rattle.tftp_server.specs.Store.{holding_of, meaning_by};
+
+    ghost held = { λ d. holding_of (S.stored d.store.now) (S.drafted d.draft.now) };
+
+    ghost may_refuse_append = { λ d bytes fault. S.may_refuse_append d.store.now d.draft.now bytes fault };
+
+    ghost may_refuse_commit = { λ d fault. S.may_refuse_commit d.store.now d.path.now d.draft.now d.replace fault };
+
+    ghost is_same = { λ d e. (e.store.ghost_name ≡ d.store.ghost_name) × (e.draft.ghost_name ≡ d.draft.ghost_name)
+        × (e.path.now ≡ d.path.now) × (e.replace ≡ d.replace) };
+
+    ghost becomes = { λ d e committed. DraftingBecomes (meaning_by S.stored S.Source.left S.drafted S.Source.may_fail S.may_refuse_open
+        S.may_refuse_begin S.may_refuse_append S.may_refuse_commit)
+        (record { store = d.store.now; draft = d.draft.now; path = d.path.now; replace = d.replace })
+        (record { store = e.store.now; draft = e.draft.now; path = e.path.now; replace = e.replace }) committed };
+
+    ghost stays = { λ a. (refl, refl, refl, refl) };
+
+    ghost joins = { λ a b c p q. (q.0 ∙ p.0, q.1 ∙ p.1, q.2 ∙ p.2, q.3 ∙ p.3) };
+
+    ghost unmoved = { λ a. record { path = refl; replace = refl; files = refl } };
+
+    fn append(&mut self, bytes: &[u8]) -> Result<(), StoreFault> {
+        self.store.append(self.draft, bytes)
+    }
+
+    fn commit(&mut self) -> Result<(), StoreFault> {
+        self.store.commit(self.path, self.draft, self.replace)
+    }
+}

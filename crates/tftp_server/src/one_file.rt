@@ -1,0 +1,120 @@
+//! An end that takes a datagram, over a file that it borrows.
+
+ghost use Rattle.std.specs.Prelude.{◌≡◌, ◌↔◌, true, false, IfOk, OnErr, IsErrOf, IsSome, Option};
+ghost use Rattle.tftp_ends.specs.Action.{Decodes, datagram_action};
+ghost use Rattle.tftp_ends.specs.BlockStored.{KeepsSink};
+ghost use Rattle.tftp_ends.specs.End.{is_sender, outcome_of};
+ghost use Rattle.tftp_ends.specs.Step.{IsAnswered, UsesFile};
+ghost use Rattle.tftp_wire.specs.declared.packet.Packet.{Packet};
+ghost use Rattle.tftp_server.specs.Steps.{MakesStep, appends, lends};
+
+use tftp_ends::{End, EndFault, Endpoint, Outgoing, Step};
+use tftp_file::{Files, Sink, Source};
+
+/// An end that sends takes a datagram. The answer is appended to `out`.
+pub(crate) fn on_datagram_of_source<S: Source, K: Sink>(
+    end: &mut End,
+    source: &mut S,
+    from: Endpoint,
+    bytes: &[u8],
+    out: &mut Vec<u8>,
+) -> Result<Step, EndFault>
+    requires { is_sender end.old.side ≡ true }
+    ensures steps { IfOk result (MakesStep S.left S.may_fail K.held K.may_refuse_append
+        K.may_refuse_commit K.becomes (appends out.old.items out.new.items) from bytes.now end.old
+        end.new (Files.Source source.old) (Files.Source source.new)) }
+    ensures closed { IsErrOf result EndFault.Closed ↔ IsSome (outcome_of end.old.phase) }
+    ensures memory { IsErrOf result EndFault.Memory → (decoded : Option Packet)
+        × Decodes bytes.now decoded × IsAnswered (datagram_action end.old from bytes.now decoded) }
+    ensures err { OnErr result ((end.new ≡ end.old) × (out.new.items ≡ out.old.items)
+        × (S.left source.new ≡ S.left source.old)) }
+    ensures side { is_sender end.new.side ≡ true }
+{
+    let mut files: Files<&mut S, K> = Files::Source(source);
+    let result = end.on_datagram(&mut files, from, bytes, out);
+    let Files::Source(_source) = files else {
+        unreachable!()
+    };
+    result
+}
+
+/// An end that receives takes a datagram. The answer is appended to `out`.
+pub(crate) fn on_datagram_of_sink<S: Source, K: Sink>(
+    end: &mut End,
+    sink: &mut K,
+    from: Endpoint,
+    bytes: &[u8],
+    out: &mut Vec<u8>,
+) -> Result<Step, EndFault>
+    requires { is_sender end.old.side ≡ false }
+    ensures steps { IfOk result (MakesStep S.left S.may_fail K.held K.may_refuse_append
+        K.may_refuse_commit K.becomes (appends out.old.items out.new.items) from bytes.now end.old
+        end.new (Files.Sink sink.old) (Files.Sink sink.new)) }
+    ensures closed { IsErrOf result EndFault.Closed ↔ IsSome (outcome_of end.old.phase) }
+    ensures memory { IsErrOf result EndFault.Memory → (decoded : Option Packet)
+        × Decodes bytes.now decoded × IsAnswered (datagram_action end.old from bytes.now decoded) }
+    ensures err { OnErr result ((end.new ≡ end.old) × (out.new.items ≡ out.old.items)
+        × KeepsSink K.held K.becomes sink.old sink.new) }
+    ensures same { K.is_same sink.old sink.new }
+    ensures side { is_sender end.new.side ≡ false }
+{
+    let mut files: Files<S, &mut K> = Files::Sink(sink);
+    let result = end.on_datagram(&mut files, from, bytes, out);
+    let Files::Sink(_sink) = files else {
+        unreachable!()
+    };
+    result
+}
+
+/// The same for an end that sends, with what goes out lent by the end.
+pub(crate) fn handle_datagram_of_source<S: Source, K: Sink>(
+    end: &mut End,
+    source: &mut S,
+    from: Endpoint,
+    bytes: &[u8],
+) -> Result<(Step, Outgoing), EndFault>
+    requires { is_sender end.old.side ≡ true }
+    ensures steps { IfOk result (λ answer. MakesStep S.left S.may_fail K.held K.may_refuse_append
+        K.may_refuse_commit K.becomes (lends answer.1) from bytes.now end.old end.new
+        (Files.Source source.old) (Files.Source source.new) answer.0) }
+    ensures closed { IsErrOf result EndFault.Closed ↔ IsSome (outcome_of end.old.phase) }
+    ensures memory { IsErrOf result EndFault.Memory → (decoded : Option Packet)
+        × Decodes bytes.now decoded × UsesFile (datagram_action end.old from bytes.now decoded) }
+    ensures err { OnErr result ((end.new ≡ end.old)
+        × (S.left source.new ≡ S.left source.old)) }
+    ensures side { is_sender end.new.side ≡ true }
+{
+    let mut files: Files<&mut S, K> = Files::Source(source);
+    let result = end.handle_datagram(&mut files, from, bytes);
+    let Files::Source(_source) = files else {
+        unreachable!()
+    };
+    result
+}
+
+/// The same for an end that receives, with what goes out lent by the end.
+pub(crate) fn handle_datagram_of_sink<S: Source, K: Sink>(
+    end: &mut End,
+    sink: &mut K,
+    from: Endpoint,
+    bytes: &[u8],
+) -> Result<(Step, Outgoing), EndFault>
+    requires { is_sender end.old.side ≡ false }
+    ensures steps { IfOk result (λ answer. MakesStep S.left S.may_fail K.held K.may_refuse_append
+        K.may_refuse_commit K.becomes (lends answer.1) from bytes.now end.old end.new
+        (Files.Sink sink.old) (Files.Sink sink.new) answer.0) }
+    ensures closed { IsErrOf result EndFault.Closed ↔ IsSome (outcome_of end.old.phase) }
+    ensures memory { IsErrOf result EndFault.Memory → (decoded : Option Packet)
+        × Decodes bytes.now decoded × UsesFile (datagram_action end.old from bytes.now decoded) }
+    ensures err { OnErr result ((end.new ≡ end.old)
+        × KeepsSink K.held K.becomes sink.old sink.new) }
+    ensures same { K.is_same sink.old sink.new }
+    ensures side { is_sender end.new.side ≡ false }
+{
+    let mut files: Files<S, &mut K> = Files::Sink(sink);
+    let result = end.handle_datagram(&mut files, from, bytes);
+    let Files::Sink(_sink) = files else {
+        unreachable!()
+    };
+    result
+}
