@@ -126,15 +126,19 @@ impl<S: Store> Server<S> {
         bytes: &[u8],
         out: &mut Vec<u8>,
     ) -> Result<Step, ServerFault>
-        ensures takes { IfOk result (λ step. TakesDatagram (meaning_by S.stored S.Source.left S.drafted S.Source.may_fail S.may_refuse_open
-            S.may_refuse_begin S.may_refuse_append S.may_refuse_commit) tid from bytes.now
+        ensures takes { IfOk result (λ step. TakesDatagram (meaning_by
+            S.stored S.Source.left S.drafted S.Source.may_fail S.may_refuse_open
+            S.may_refuse_begin S.may_refuse_append S.may_refuse_commit)
+            tid from bytes.now
             self.old self.new step out.old.items out.new.items) }
         ensures rest { self.new ≡ record self.old { store = self.new.store; held = self.new.held } }
         ensures no_such_tid { IsErrOf result ServerFault.NoSuchTid
             ↔ (is_open (at tid self.old.held) ≡ false) }
         ensures fault { IfErr result (DatagramFault from bytes.now (at tid self.old.held)) }
-        ensures err { OnErr result (KeepsHeld (meaning_by S.stored S.Source.left S.drafted S.Source.may_fail S.may_refuse_open
-            S.may_refuse_begin S.may_refuse_append S.may_refuse_commit) tid (at tid self.old.held) self.old self.new
+        ensures err { OnErr result (KeepsHeld (meaning_by
+            S.stored S.Source.left S.drafted S.Source.may_fail S.may_refuse_open
+            S.may_refuse_begin S.may_refuse_append S.may_refuse_commit)
+            tid (at tid self.old.held) self.old self.new
             × (out.new.items ≡ out.old.items)) }
     {
         let Some(transfer) = self.table.get_mut(tid) else {
@@ -180,15 +184,19 @@ impl<S: Store> Server<S> {
         from: Endpoint,
         bytes: &[u8],
     ) -> Result<(Step, Outgoing), ServerFault>
-        ensures takes { IfOk result (λ answer. TakesDatagramLent (meaning_by S.stored S.Source.left S.drafted S.Source.may_fail S.may_refuse_open
-            S.may_refuse_begin S.may_refuse_append S.may_refuse_commit) tid from bytes.now
+        ensures takes { IfOk result (λ answer. TakesDatagramLent (meaning_by
+            S.stored S.Source.left S.drafted S.Source.may_fail S.may_refuse_open
+            S.may_refuse_begin S.may_refuse_append S.may_refuse_commit)
+            tid from bytes.now
             self.old self.new answer.0 answer.1) }
         ensures rest { self.new ≡ record self.old { store = self.new.store; held = self.new.held } }
         ensures no_such_tid { IsErrOf result ServerFault.NoSuchTid
             ↔ (is_open (at tid self.old.held) ≡ false) }
         ensures fault { IfErr result (DatagramFaultLent from bytes.now (at tid self.old.held)) }
-        ensures err { OnErr result (KeepsHeld (meaning_by S.stored S.Source.left S.drafted S.Source.may_fail S.may_refuse_open
-            S.may_refuse_begin S.may_refuse_append S.may_refuse_commit) tid (at tid self.old.held) self.old
+        ensures err { OnErr result (KeepsHeld (meaning_by
+            S.stored S.Source.left S.drafted S.Source.may_fail S.may_refuse_open
+            S.may_refuse_begin S.may_refuse_append S.may_refuse_commit)
+            tid (at tid self.old.held) self.old
             self.new) }
     {
         let Some(transfer) = self.table.get_mut(tid) else {
@@ -247,8 +255,10 @@ impl<S: Store> Server<S> {
     ) -> Result<Opened, ServerFault>
         ensures steps { IfOk result (λ opened. (sent : List ℕ)
             × (out.new.items ≡ out.old.items ++ sent)
-            × RequestStep (meaning_by S.stored S.Source.left S.drafted S.Source.may_fail S.may_refuse_open
-            S.may_refuse_begin S.may_refuse_append S.may_refuse_commit) self.old from bytes.now tid
+            × RequestStep (meaning_by
+            S.stored S.Source.left S.drafted S.Source.may_fail S.may_refuse_open
+            S.may_refuse_begin S.may_refuse_append S.may_refuse_commit)
+            self.old from bytes.now tid
             (record { new = self.new; opened = opened; sent = sent })) }
         ensures in_use { IsErrOf result ServerFault.TidInUse ↔ IsSome (at tid self.old.held) }
         ensures fault { IfErr result (λ fault. (fault ≡ ServerFault.TidInUse) ⊎
@@ -288,8 +298,10 @@ impl<S: Store> Server<S> {
         requires { at tid self.old.held ≡ None }
         ensures reads { IfOk result (λ opened. (came : Came S S.Source S.Draft)
             × (sent : List ℕ)
-            × AsksToRead (meaning_by S.stored S.Source.left S.drafted S.Source.may_fail S.may_refuse_open
-            S.may_refuse_begin S.may_refuse_append S.may_refuse_commit) self.old from bytes.now path request.now.mode request.now.options came
+            × AsksToRead (meaning_by
+            S.stored S.Source.left S.drafted S.Source.may_fail S.may_refuse_open
+            S.may_refuse_begin S.may_refuse_append S.may_refuse_commit)
+            self.old from bytes.now path request.now.mode request.now.options came
             × (out.new.items ≡ out.old.items ++ sent) × (record {
               new = self.new;
               opened = opened;
@@ -329,8 +341,10 @@ impl<S: Store> Server<S> {
         requires { at tid self.old.held ≡ None }
         ensures writes { IfOk result (λ opened. (came : Came S S.Source S.Draft)
             × (sent : List ℕ)
-            × AsksToWrite (meaning_by S.stored S.Source.left S.drafted S.Source.may_fail S.may_refuse_open
-            S.may_refuse_begin S.may_refuse_append S.may_refuse_commit) self.old from bytes.now path mode agreed.now came
+            × AsksToWrite (meaning_by
+            S.stored S.Source.left S.drafted S.Source.may_fail S.may_refuse_open
+            S.may_refuse_begin S.may_refuse_append S.may_refuse_commit)
+            self.old from bytes.now path mode agreed.now came
             × (out.new.items ≡ out.old.items ++ sent) × (record {
               new = self.new;
               opened = opened;

@@ -74,7 +74,8 @@ pub trait Store {
         path: &Path,
         replace: bool,
     ) -> Result<Self::Draft, StoreFault>
-        ensures begins { Begins drafted (stored self.old) (stored self.new) path.now replace result }
+        ensures begins { Begins drafted (stored self.old) (stored self.new) path.now replace
+            result }
         ensures refused { IfErr result (may_refuse_begin self.old path.now replace) };
 
     /// Puts the bytes at the end of a draft.

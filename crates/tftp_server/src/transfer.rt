@@ -37,7 +37,12 @@ impl<F, D> Model for Transfer<F, D> {
 
     ghost Value = { Held F D };
 
-    ghost view = { λ t. record { end = t.end; files = t.files; path = t.path; request = t.request.items } };
+    ghost view = { λ t. record {
+      end = t.end;
+      files = t.files;
+      path = t.path;
+      request = t.request.items;
+    } };
 
     ghost invariant = { λ t. AreFilesOf t.end.side t.files };
 }
@@ -46,7 +51,12 @@ impl<F, D> Transfer<F, D> {
     /// A transfer of the file at the path, which the datagram asked for.
     pub(crate) fn new(end: End, files: Files<F, D>, path: Path, request: Vec<u8>) -> Transfer<F, D>
         requires { AreFilesOf end.side files }
-        ensures { result ≡ record { end = end; files = files; path = path; request = request.items } }
+        ensures { result ≡ record {
+          end = end;
+          files = files;
+          path = path;
+          request = request.items;
+        } }
     {
         Transfer {
             end,
@@ -138,15 +148,19 @@ impl<F: Source, D> Transfer<F, D> {
         bytes: &[u8],
         out: &mut Vec<u8>,
     ) -> Result<Step, EndFault>
-        ensures takes { IfOk result (λ step. TakesIn (meaning_by S.stored F.left S.drafted F.may_fail S.may_refuse_open
-            S.may_refuse_begin S.may_refuse_append S.may_refuse_commit) replace from bytes.now store.old store.new self.old
+        ensures takes { IfOk result (λ step. TakesIn (meaning_by
+            S.stored F.left S.drafted F.may_fail S.may_refuse_open
+            S.may_refuse_begin S.may_refuse_append S.may_refuse_commit)
+            replace from bytes.now store.old store.new self.old
             self.new step out.old.items out.new.items) }
         ensures closed { IsErrOf result EndFault.Closed ↔ (is_closed self.old ≡ true) }
         ensures memory { IsErrOf result EndFault.Memory → (decoded : Option Packet)
             × Decodes bytes.now decoded × IsAnswered (datagram_action self.old.end from bytes.now
             decoded) }
-        ensures err { OnErr result (StaysAs (meaning_by S.stored F.left S.drafted F.may_fail S.may_refuse_open
-            S.may_refuse_begin S.may_refuse_append S.may_refuse_commit) replace store.old store.new self.old self.new
+        ensures err { OnErr result (StaysAs (meaning_by
+            S.stored F.left S.drafted F.may_fail S.may_refuse_open
+            S.may_refuse_begin S.may_refuse_append S.may_refuse_commit)
+            replace store.old store.new self.old self.new
             × (out.new.items ≡ out.old.items)) }
     {
         match &mut self.files {
@@ -180,15 +194,19 @@ impl<F: Source, D> Transfer<F, D> {
         from: Endpoint,
         bytes: &[u8],
     ) -> Result<(Step, Outgoing), EndFault>
-        ensures takes { IfOk result (λ answer. TakesBy (meaning_by S.stored F.left S.drafted F.may_fail S.may_refuse_open
+        ensures takes { IfOk result (λ answer. TakesBy (meaning_by
+            S.stored F.left S.drafted F.may_fail S.may_refuse_open
             S.may_refuse_begin S.may_refuse_append S.may_refuse_commit)
-            (lends answer.1) replace from bytes.now store.old store.new self.old self.new answer.0) }
+            (lends answer.1) replace from bytes.now store.old store.new self.old self.new
+            answer.0) }
         ensures closed { IsErrOf result EndFault.Closed ↔ (is_closed self.old ≡ true) }
         ensures memory { IsErrOf result EndFault.Memory → (decoded : Option Packet)
             × Decodes bytes.now decoded × UsesFile (datagram_action self.old.end from bytes.now
             decoded) }
-        ensures err { OnErr result (StaysAs (meaning_by S.stored F.left S.drafted F.may_fail S.may_refuse_open
-            S.may_refuse_begin S.may_refuse_append S.may_refuse_commit) replace store.old store.new self.old self.new) }
+        ensures err { OnErr result (StaysAs (meaning_by
+            S.stored F.left S.drafted F.may_fail S.may_refuse_open
+            S.may_refuse_begin S.may_refuse_append S.may_refuse_commit)
+            replace store.old store.new self.old self.new) }
     {
         match &mut self.files {
             Files::Source(source) => {

@@ -76,7 +76,8 @@ fn by_options<'a>(path: Path, request: RequestRef<'a>, limits: &Limits) -> Asked
 /// A read goes to the store, a write first to its options.
 fn by_kind<'a>(kind: Kind, path: Path, request: RequestRef<'a>, limits: &Limits) -> Asked<'a>
     requires { IsBlockSize limits.now.max_block }
-    ensures { ask_of result ≡ by_kind kind request.entry.mode request.entry.options limits.now path }
+    ensures { ask_of result ≡ by_kind kind request.entry.mode request.entry.options limits.now
+        path }
 {
     match kind {
         Kind::Read => Asked::Read(path, request),
@@ -224,8 +225,10 @@ impl<S: Store> Server<S> {
         file: Opening<S::Source>,
         out: &mut Vec<u8>,
     ) -> Result<Decision<S::Source, S::Draft>, ServerFault>
-        ensures opens { IfOk result (λ decision. Sent (meaning_by S.stored S.Source.left S.drafted S.Source.may_fail S.may_refuse_open
-            S.may_refuse_begin S.may_refuse_append S.may_refuse_commit) self.now from bytes.now
+        ensures opens { IfOk result (λ decision. Sent (meaning_by
+            S.stored S.Source.left S.drafted S.Source.may_fail S.may_refuse_open
+            S.may_refuse_begin S.may_refuse_append S.may_refuse_commit)
+            self.now from bytes.now
             (by_length path mode file.length (Ok agreed.now)) (Ok file)
             (came_to decision self.now.store)) }
         ensures sent { IfOk result (λ decision. out.new.items ≡ out.old.items ++ decided_bytes
@@ -263,8 +266,10 @@ impl<S: Store> Server<S> {
         file: Opening<S::Source>,
         out: &mut Vec<u8>,
     ) -> Result<Decision<S::Source, S::Draft>, ServerFault>
-        ensures sends { IfOk result (λ decision. Sent (meaning_by S.stored S.Source.left S.drafted S.Source.may_fail S.may_refuse_open
-            S.may_refuse_begin S.may_refuse_append S.may_refuse_commit) self.now from bytes.now
+        ensures sends { IfOk result (λ decision. Sent (meaning_by
+            S.stored S.Source.left S.drafted S.Source.may_fail S.may_refuse_open
+            S.may_refuse_begin S.may_refuse_append S.may_refuse_commit)
+            self.now from bytes.now
             (by_file self.now.config.limits path request.now.mode request.now.options
             (Ok file.length)) (Ok file) (came_to decision self.now.store)) }
         ensures sent { IfOk result (λ decision. out.new.items ≡ out.old.items ++ decided_bytes
@@ -289,8 +294,10 @@ impl<S: Store> Server<S> {
         request: &RequestRef<'_>,
         out: &mut Vec<u8>,
     ) -> Result<Decision<S::Source, S::Draft>, ServerFault>
-        ensures asks { IfOk result (λ decision. AsksToRead (meaning_by S.stored S.Source.left S.drafted S.Source.may_fail S.may_refuse_open
-            S.may_refuse_begin S.may_refuse_append S.may_refuse_commit) self.now from bytes.now
+        ensures asks { IfOk result (λ decision. AsksToRead (meaning_by
+            S.stored S.Source.left S.drafted S.Source.may_fail S.may_refuse_open
+            S.may_refuse_begin S.may_refuse_append S.may_refuse_commit)
+            self.now from bytes.now
             path request.now.mode request.now.options (came_to decision self.now.store)) }
         ensures sent { IfOk result (λ decision. out.new.items ≡ out.old.items ++ decided_bytes
             decision) }
@@ -318,8 +325,10 @@ impl<S: Store> Server<S> {
         bytes: &[u8],
         out: &mut Vec<u8>,
     ) -> Result<Decision<S::Source, S::Draft>, ServerFault>
-        ensures asks { IfOk result (λ decision. AsksToWrite (meaning_by S.stored S.Source.left S.drafted S.Source.may_fail S.may_refuse_open
-            S.may_refuse_begin S.may_refuse_append S.may_refuse_commit) self.old from bytes.now
+        ensures asks { IfOk result (λ decision. AsksToWrite (meaning_by
+            S.stored S.Source.left S.drafted S.Source.may_fail S.may_refuse_open
+            S.may_refuse_begin S.may_refuse_append S.may_refuse_commit)
+            self.old from bytes.now
             path mode agreed.now (came_to decision self.new.store)) }
         ensures sent { IfOk result (λ decision. out.new.items ≡ out.old.items ++ decided_bytes
             decision) }
