@@ -23,15 +23,16 @@ use Rattle.tftp_ends.specs.declared.error_reply.ErrorReply.{ErrorReply}
 use Rattle.tftp_ends.specs.declared.error_reply.ErrorReply.TheVariants.{IllegalOperation}
 use Rattle.std.proofs.Math.Seq.{take-append_seam}
 use Rattle.std.proofs.lemmas.List.{append-nil}
+use Rattle.tftp_server.specs.declared.config.Config.{Config}
 use Rattle.tftp_server.specs.declared.fault.ServerFault.{ServerFault}
 use Rattle.tftp_server.specs.declared.opened.Opened.{Opened}
 use Rattle.tftp_server.specs.declared.server.request.Asked.{Asked}
 use Rattle.tftp_server.specs.declared.server.request.Decision.{Decision}
-use Rattle.tftp_server.specs.declared.server.request.Decision.TheVariants.{Refuse}
+use Rattle.tftp_server.specs.declared.server.request.Decision.TheVariants.{Refuse, Open}
 use Rattle.tftp_server.specs.declared.store.Opening.{Opening}
 use Rattle.tftp_server.specs.Port.{Ask, Ignores, Refuses, asks, by_packet, by_repeat, by_name, by_kind, by_file, begin_reply}
-use Rattle.tftp_server.specs.Request.{Came, Nothing, An_error, A_transfer, IsRequest, AsksToRead, AsksToWrite, Goes, RequestStep, Sent, Left, ask_of, came_to, decided_bytes, left_by}
-use Rattle.tftp_server.specs.State.{Held, ServerState, IsRepeated}
+use Rattle.tftp_server.specs.Request.{Came, Nothing, An_error, A_transfer, IsRequest, AsksToRead, AsksToWrite, Goes, RequestStep, Sent, Left, ask_of, came_to, decided_bytes, left_by, KeepsServer, KeepsStored}
+use Rattle.tftp_server.specs.State.{Held, ServerState, IsRepeated, with_new}
 use Rattle.tftp_server.specs.Store.{StoreMeaning, Opens, Begins}
 
 -- what was appended is cut off again
@@ -167,3 +168,60 @@ module _ {S F D : Type 0} (meaning : StoreMeaning S F D) (old : ServerState S F 
       IfOk r (λ opened. (sent : List ℕ) × (after ≡ before ++ sent) × RequestStep meaning old from bytes tid (record { new = new; opened = opened; sent = sent }))
   goes_on tid ask before after new (Ok opened) asked h = (h.1, h.3, request_step tid ask h.0 _ asked h.2 h.4)
   goes_on tid ask before after new (Err fault) asked h = tt
+
+-- ---- a write, whose table has made room first
+module _ {S F D : Type 0} (meaning : StoreMeaning S F D) (config : Config) (store : S) (held none : List (ℕ × Held F D)) (from : Endpoint) (bytes : List ℕ) (path : List ℕ) (mode : Mode) (agreed : List Known) (after : ServerState S F D)
+    (config' : Config) (store' : S) (others : List (ℕ × Held F D)) (table : List (ℕ × Held F D)) where
+  abbrev before_write : List (ℕ × Held F D) → ServerState S F D
+  before_write transfers = record { config = config; store = store; held = transfers }
+
+  abbrev after_write : List (ℕ × Held F D) → ServerState S F D
+  after_write transfers = record { config = config'; store = store'; held = transfers }
+
+  module _ (seen : after_write others ≡ after) (rest : after ≡ record (before_write none) { store = after.store }) where
+    config_kept : config' ≡ config
+    config_kept = ap (λ (s : ServerState S F D). s.config) (seen ∙ rest)
+
+    store_kept : store' ≡ after.store
+    store_kept = ap (λ (s : ServerState S F D). s.store) seen
+
+    -- what the store was asked has nothing to do with the other transfers
+    asked_apart : (came : Came S F D) → AsksToWrite meaning (before_write none) from bytes path mode agreed came → AsksToWrite meaning (before_write held) from bytes path mode agreed came
+    asked_apart came h = record { store = h.store; draft = h.draft; begins = h.begins; refused = h.refused; memory = h.memory; goes_on = h.goes_on }
+
+    abbrev Written : ℕ → List ℕ → List ℕ → Opened → Type 0
+    Written tid was out opened =
+        (came : Came S F D) × (sent : List ℕ) × AsksToWrite meaning (before_write held) from bytes path mode agreed came
+        × (out ≡ was ++ sent) × (record { new = after_write table; opened = opened; sent = sent } ≡ left_by came (before_write held) from tid)
+
+    pub write_opened : (tid : ℕ) (was out : List ℕ) (d : Decision F D) (transfer : Held F D) → d ≡ Open transfer → table ≡ with_new tid transfer held → AsksToWrite meaning (before_write none) from bytes path mode agreed (came_to d after.store) → out ≡ was ++ decided_bytes d →
+        Written tid was out (record { tid = Some tid; to = Some from })
+    write_opened tid was out d transfer is put asks sent = (
+      A_transfer transfer after.store,
+      transfer.end.last_sent,
+      asked_apart (A_transfer transfer after.store) (subst (λ (x : Decision F D). AsksToWrite meaning (before_write none) from bytes path mode agreed (came_to x after.store)) is asks),
+      sent ∙ ap (λ (x : Decision F D). was ++ decided_bytes x) is,
+      rw (config_kept, store_kept, put) refl,
+    )
+
+    pub write_refused : (tid : ℕ) (was mid out : List ℕ) (d : Decision F D) (reply : ErrorReply) (r : Result Opened ServerFault) → d ≡ Refuse reply → table ≡ held → AsksToWrite meaning (before_write none) from bytes path mode agreed (came_to d after.store) → mid ≡ was ++ decided_bytes d →
+        IfOk r (λ opened. opened ≡ record { tid = None; to = Some from }) → OnOk r (out ≡ mid ++ error_bytes reply) → IfOk r (Written tid was out)
+    write_refused tid was mid out d reply (Err fault) is back asks sent tells ok = tt
+    write_refused tid was mid out d reply (Ok opened) is back asks sent tells ok = (
+      An_error reply after.store,
+      error_bytes reply,
+      asked_apart (An_error reply after.store) (subst (λ (x : Decision F D). AsksToWrite meaning (before_write none) from bytes path mode agreed (came_to x after.store)) is asks),
+      ok ∙ ap (λ (x : List ℕ). x ++ error_bytes reply) (sent ∙ ap (λ (x : Decision F D). was ++ decided_bytes x) is ∙ append-nil was),
+      rw (config_kept, store_kept, back, tells) refl,
+    )
+
+    -- nothing has changed
+    pub write_kept : table ≡ held → KeepsStored (meaning.stored store) (meaning.stored after.store) → KeepsServer meaning.stored (before_write held) (after_write table)
+    write_kept back keeps =
+        record { config = config_kept; held = back; store = subst (λ (s : S). KeepsStored (meaning.stored store) (meaning.stored s)) (sym store_kept) keeps }
+
+    pub refusal_kept : (was mid out : List ℕ) (d : Decision F D) (reply : ErrorReply) (r : Result Opened ServerFault) → d ≡ Refuse reply → table ≡ held → KeepsStored (meaning.stored store) (meaning.stored after.store) → mid ≡ was ++ decided_bytes d → OnErr r (out ≡ mid) →
+        OnErr r (KeepsServer meaning.stored (before_write held) (after_write table) × (out ≡ was))
+    refusal_kept was mid out d reply (Ok opened) is back keeps sent err = tt
+    refusal_kept was mid out d reply (Err fault) is back keeps sent err =
+        (write_kept back keeps, err ∙ (sent ∙ ap (λ (x : Decision F D). was ++ decided_bytes x) is ∙ append-nil was))

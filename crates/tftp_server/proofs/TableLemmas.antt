@@ -1,10 +1,11 @@
 -- The joined list of an index and a slab under look-ups, insertions, removals and writes.
-use Rattle.std.proofs.Common.{◌≡◌, ◌≢◌, ℕ, suc, Bool, true, false, List, [], ◌∷◌, length, get_or, Option, Some, None, IsSome, is_some, cond, Result, Ok, Err, OnErr, refl, sym, ap, subst, ◌∙◌, inl, inr}
+use Rattle.std.proofs.Common.{arith, ◌≡◌, ◌≢◌, ℕ, suc, Bool, true, false, List, [], ◌∷◌, length, get_or, Option, Some, None, IsSome, is_some, cond, Result, Ok, Err, OnErr, refl, sym, ap, subst, ◌∙◌, inl, inr}
 use Rattle.std.proofs.lemmas.Bool.{cases_eq}
+use Rattle.std.proofs.lemmas.Bool.Decides.{nat_tests}
 use Rattle.std.specs.List.{AllByRecursion}
 use Rattle.std.specs.Map.{lookup, keys_of, remove_entry, set_value}
-use Rattle.std.specs.BTreeMap.{insert_entry}
-use Rattle.std.specs.Ordering.{nat_cmp, match_ordering}
+use Rattle.std.specs.BTreeMap.{insert_entry, is_at}
+use Rattle.std.specs.Ordering.{nat_cmp, match_ordering, is_eq}
 use Rattle.std.specs.declared.cmp.Ordering.{Ordering}
 use Rattle.std.specs.declared.cmp.Ordering.TheVariants.{Less, Equal, Greater}
 use Rattle.std.proofs.lemmas.List.{get_or-set_other}
@@ -51,6 +52,24 @@ removed_at false key e index more m free rest differs found = (differs found, re
 pub on_err : {A E : Type 0} {P : Type 0} (r : Result A E) → P → OnErr r P
 on_err (Ok a) p = tt
 on_err (Err e) p = p
+
+-- ---- an entry that was inserted and is removed again
+same_key : (tid : ℕ) → is_eq (nat_cmp tid tid) ≡ true
+same_key tid = grind (arith, nat_tests)
+
+removes_new : (o : Ordering) (tid key : ℕ) (e : ℕ × ℕ) (es more : List (ℕ × ℕ)) → nat_cmp tid e.0 ≡ o → lookup (is_at (nat_cmp tid)) (e ∷ es) ≡ None →
+    (lookup (is_at (nat_cmp tid)) es ≡ None → remove_entry (is_at (nat_cmp tid)) more ≡ es) →
+    remove_entry (is_at (nat_cmp tid)) (match_ordering o ((tid, key) ∷ e ∷ es) ((e.0, key) ∷ es) (e ∷ more)) ≡ e ∷ es
+removes_new Less tid key e es more o absent rest = rw same_key refl
+removes_new Equal tid key e es more o absent rest =
+    let found : lookup (is_at (nat_cmp tid)) (e ∷ es) ≡ Some e.1 = rw o refl in absurd (cc)
+removes_new Greater tid key e es more o absent rest =
+    let there : lookup (is_at (nat_cmp tid)) es ≡ None = rw o at absent in
+    rw (o, rest there) refl
+
+pub removes_inserted : (index : List (ℕ × ℕ)) (tid key : ℕ) → lookup (is_at (nat_cmp tid)) index ≡ None → remove_entry (is_at (nat_cmp tid)) (insert_entry nat_cmp index tid key) ≡ index
+removes_inserted [] tid key absent = rw same_key refl
+removes_inserted (e ∷ es) tid key absent = removes_new (nat_cmp tid e.0) tid key e es (insert_entry nat_cmp es tid key) refl absent (removes_inserted es tid key)
 
 module _ {T : Type 0} where
   with_found-lookup : (test : ℕ → Bool) (tid : ℕ) (o : Option T) (others : List (ℕ × T)) → IsSome o → lookup test (with_found tid o others) ≡ cond (test tid) o (lookup test others)
@@ -332,3 +351,14 @@ module _ {T : Type 0} where
   pub joined-lookup_for : (test : ℕ → Bool) (index : List (ℕ × ℕ)) (s : Slab T) (key : ℕ) (found : Option ℕ) → IsJoined index s → lookup test index ≡ found → IsKeyFor found key s → get s key ≡ lookup test (joined index s)
   joined-lookup_for test index s key None h looked vacant = vacant ∙ sym (joined-absent test index s h looked)
   joined-lookup_for test index s key (Some found) h looked same = sym (joined-lookup test index s key h (looked ∙ ap Some (sym same)))
+
+  -- ---- room for one more value, at an identifier that holds none
+  pub index_absent : (test : ℕ → Bool) (index : List (ℕ × ℕ)) (s : Slab T) → IsJoined index s → lookup test (joined index s) ≡ None → lookup test index ≡ None
+  index_absent test index s h none = by (lookup test index) refl
+    where
+      by : (m : Option ℕ) → lookup test index ≡ m → m ≡ None
+      by None e = refl
+      by (Some k) e =
+          let here : IsSome (get s k) = joined-present test index s k h e in
+          let gone : get s k ≡ None = sym (joined-lookup test index s k h e) ∙ none in
+          absurd (cc)

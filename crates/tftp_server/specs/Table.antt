@@ -1,7 +1,10 @@
 -- A table as the list of its values with their identifiers, in rising order.
 use Rattle.std.specs.Prelude.{ℕ, ◌⊎◌, ◌≡◌, ◌≢◌, List, [], ◌∷◌, Option, Some, None, IsSome}
 use Rattle.std.specs.List.{AllByRecursion}
-use Rattle.slab.specs.Slab.{Slab, get}
+use Rattle.std.specs.BTreeMap.{insert_entry, is_at}
+use Rattle.std.specs.Map.{lookup}
+use Rattle.std.specs.Ordering.{nat_cmp}
+use Rattle.slab.specs.Slab.{Slab, HasRoomFor, get}
 use Rattle.tftp_wire.specs.declared.packet.Packet.{Packet}
 use Rattle.tftp_ends.specs.declared.endpoint.Endpoint.{Endpoint}
 use Rattle.tftp_server.specs.State.{Held, Repeats}
@@ -35,3 +38,12 @@ KeyRepeats from packet (Some held) = Repeats from packet held
 abbrev pub AnyKeyRepeats : {F D : Type 0} → Endpoint → Packet → Slab (Held F D) → List ℕ → Type 0
 AnyKeyRepeats from packet slots [] = ⊥
 AnyKeyRepeats from packet slots (key ∷ keys) = KeyRepeats from packet (get slots key) ⊎ AnyKeyRepeats from packet slots keys
+
+-- room was made for one more value, at an identifier that holds none: the index has the key at which it will lie
+pub record IsSpot {T : Type 0} (tid : ℕ) (held : List (ℕ × T)) (index : List (ℕ × ℕ)) (slots : Slab T) : Type 0 where
+  pub before : List (ℕ × ℕ)
+  pub is_joined : IsJoined before slots
+  pub holds : joined before slots ≡ held
+  pub absent : lookup (is_at (nat_cmp tid)) before ≡ None
+  pub grown : index ≡ insert_entry nat_cmp before tid slots.vacant_key
+  pub room : HasRoomFor slots 1

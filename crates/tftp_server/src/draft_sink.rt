@@ -40,8 +40,8 @@ impl<'s, 'd, 'p, S: Store> Sink for DraftSink<'s, 'd, 'p, S> {
         × (e.draft.ghost_name ≡ d.draft.ghost_name) × (e.path.now ≡ d.path.now) × (e.replace ≡ d.replace) };
 
     ghost becomes = { λ d e committed. DraftingBecomes (meaning_by
-            S.stored S.Source.left S.drafted S.Source.may_fail S.may_refuse_open
-            S.may_refuse_begin S.may_refuse_append S.may_refuse_commit)
+        S.stored S.Source.left S.drafted S.Source.may_fail S.may_refuse_open
+        S.may_refuse_begin S.may_refuse_append S.may_refuse_commit)
         (record {
           store = d.store.now;
           draft = d.draft.now;

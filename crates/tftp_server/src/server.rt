@@ -25,6 +25,7 @@ use crate::table::Table;
 use crate::transfer::Transfer;
 use std::alloc::Global;
 use std::marker::Model;
+use std::mem;
 use tftp_ends::{Endpoint, ErrorReply, Outgoing, Record, Step};
 use tftp_file::Path;
 use tftp_negotiate::Agreed;
@@ -327,7 +328,8 @@ impl<S: Store> Server<S> {
         }
     }
 
-    /// Opens a transfer that stores under the path, by an identifier that none has.
+    /// Opens a transfer that stores under the path, by an identifier that none has. The table makes room
+    /// for it first: a draft that was begun is then never let go for want of memory.
     fn write_from(
         &mut self,
         from: Endpoint,
@@ -354,20 +356,29 @@ impl<S: Store> Server<S> {
         ensures err { OnErr result (KeepsServer S.stored self.old self.new
             × (out.new.items ≡ out.old.items)) }
     {
-        let start = out.len();
-        match self.write(from, path, mode, agreed, bytes, out) {
-            Ok(Decision::Refuse(reply)) => refuse(reply, from, out),
-            Ok(Decision::Open(transfer)) => {
-                let Ok(()) = self.table.insert(tid, transfer) else {
-                    out.truncate(start);
-                    return Err(ServerFault::Memory);
-                };
-                Ok(Opened {
-                    tid: Some(tid),
-                    to: Some(from),
-                })
+        let table = mem::replace(&mut self.table, Table::new(self.alloc));
+        match table.reserve(tid) {
+            Ok(spot) => match self.write(from, path, mode, agreed, bytes, out) {
+                Ok(Decision::Open(transfer)) => {
+                    self.table = spot.fill(transfer);
+                    Ok(Opened {
+                        tid: Some(tid),
+                        to: Some(from),
+                    })
+                }
+                Ok(Decision::Refuse(reply)) => {
+                    self.table = spot.give_up(tid);
+                    refuse(reply, from, out)
+                }
+                Err(_) => {
+                    self.table = spot.give_up(tid);
+                    Err(ServerFault::Memory)
+                }
+            },
+            Err(table) => {
+                self.table = table;
+                Err(ServerFault::Memory)
             }
-            Err(_) => Err(ServerFault::Memory),
         }
     }
 

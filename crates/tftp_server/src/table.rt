@@ -1,12 +1,12 @@
 //! The transfers of a server by their identifiers.
 
-ghost use Rattle.std.specs.Prelude.{◌≡◌, ◌↔◌, ◌++◌, [], map, length, option_copied, option_map, is_some, None, IsTrue, OnOk, OnErr};
+ghost use Rattle.std.specs.Prelude.{◌≡◌, ◌↔◌, ◌++◌, [], map, length, option_copied, option_map, is_some, None, IsTrue, IfOk, IfErr, OnOk, OnErr, List, ℕ};
 ghost use Rattle.tftp_wire.specs.Borrowed.{owned};
 ghost use Rattle.tftp_server.specs.State.{IsRepeated};
 ghost use Rattle.std.specs.Map.{lookup, keys_of, remove_entry, set_value};
 ghost use Rattle.std.specs.Borrow.{LendsIf, sem};
 ghost use Rattle.std.specs.Option.{option_copied_mut};
-ghost use Rattle.tftp_server.specs.Table.{IsKeyFor, AnyKeyRepeats};
+ghost use Rattle.tftp_server.specs.Table.{IsKeyFor, AnyKeyRepeats, IsSpot};
 ghost use Rattle.std.specs.BTreeMap.{insert_entry, is_at};
 ghost use Rattle.std.specs.Ordering.{nat_cmp};
 
@@ -21,6 +21,14 @@ use tftp_wire::PacketRef;
 /// Values by identifier. Contracts see the list of them in rising order of identifier.
 #[derive(Drop)]
 pub(crate) struct Table<T> {
+    slots: Slab<T>,
+    index: BTreeMap<u16, usize>,
+}
+
+/// A table with room for one more value: its index has the identifier already, by the key at which the
+/// value will lie.
+#[derive(Drop)]
+pub(crate) struct Spot<T> {
     slots: Slab<T>,
     index: BTreeMap<u16, usize>,
 }
@@ -127,6 +135,26 @@ fn any_repeats<F, D>(
 }
 
 impl<T: Drop> Table<T> {
+    /// Makes room for a value at an identifier that holds none. After a refusal the table comes back as
+    /// it was.
+    pub(crate) fn reserve(self, tid: u16) -> Result<Spot<T>, Table<T>>
+        requires { lookup (is_at (nat_cmp tid)) self ≡ None }
+        ensures spot { IfOk result (λ spot. IsSpot tid self spot.index.entries spot.slots) }
+        ensures err { IfErr result (λ table. table ≡ self) }
+    {
+        let Table {
+            mut slots,
+            mut index,
+        } = self;
+        let Ok(()) = slots.reserve(1) else {
+            return Err(Table { slots, index });
+        };
+        match index.insert(tid, slots.vacant_key()) {
+            Ok(_) => Ok(Spot { slots, index }),
+            Err(_) => Err(Table { slots, index }),
+        }
+    }
+
     /// Puts a value at an identifier that holds none. After a refusal nothing has changed.
     pub(crate) fn insert(&mut self, tid: u16, value: T) -> Result<(), AllocError>
         requires { lookup (is_at (nat_cmp tid)) self.old ≡ None }
@@ -148,6 +176,32 @@ impl<T: Drop> Table<T> {
             Some(key) => self.slots.try_remove(key),
             None => None,
         }
+    }
+}
+
+impl<T: Drop> Spot<T> {
+    /// The table with the value at the identifier for which room was made.
+    pub(crate) fn fill(self, value: T) -> Table<T>
+        requires { (tid : ℕ) × (held : List (ℕ × T))
+            × IsSpot tid held self.index.entries self.slots }
+        ensures { (tid : ℕ) → (held : List (ℕ × T))
+            → IsSpot tid held self.index.entries self.slots
+            → result ≡ insert_entry nat_cmp held tid value }
+    {
+        let Spot { mut slots, index } = self;
+        slots.insert_reserved(value);
+        Table { slots, index }
+    }
+
+    /// The table as it was before room was made at the identifier.
+    pub(crate) fn give_up(self, tid: u16) -> Table<T>
+        requires { (held : List (ℕ × T)) × IsSpot tid held self.index.entries self.slots }
+        ensures { (held : List (ℕ × T)) → IsSpot tid held self.index.entries self.slots
+            → result ≡ held }
+    {
+        let Spot { slots, mut index } = self;
+        index.remove(&tid);
+        Table { slots, index }
     }
 }
 
