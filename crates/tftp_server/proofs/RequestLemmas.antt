@@ -1,6 +1,6 @@
 -- What the request port decides, from the calls that it makes.
 use Rattle.std.proofs.Common.{◌≡◌, ◌≢◌, ℕ, Bool, false, List, [], ◌++◌, Option, Some, None, Result, Ok, Err, IfOk, OnOk, OnErr, length, take, refl, sym, ap, subst, ◌∙◌}
-use Rattle.std.specs.Prelude.{true, if◌then◌else◌}
+use Rattle.std.specs.Prelude.{if◌then◌else◌}
 use Rattle.tftp_wire.specs.declared.mode.Mode.{Mode}
 use Rattle.tftp_wire.specs.declared.options.RawOption.{RawOption}
 use Rattle.tftp_wire.specs.declared.packet.Packet.{Packet}
@@ -84,19 +84,6 @@ module _ (cap count : ℕ) (limits : Limits) where
   asked_by_name from held bytes kind request decoded repeated (Ok asked) test says is repeats new h =
       (decoded, repeated, says, repeats, h ∙ (ap (λ (b : Bool). by_repeat b (named kind request)) (sym new) ∙ asks_named bytes (Some (kind, request)) decoded repeated test is))
   asked_by_name from held bytes kind request decoded repeated (Err fault) test says is repeats new h = tt
-
-  -- a request that is repeated is let be
-  pub asked_again : {F D : Type 0} (from : Endpoint) (held : List (ℕ × Held F D)) (bytes : List ℕ) (kind : Kind) (request : Request) (decoded : Option Packet) (repeated : Bool) → has_error_opcode bytes ≡ false → Decodes bytes decoded → IsRequest decoded (Some (kind, request)) →
-      IsRepeated repeated from decoded held → repeated ≡ true →
-      (decoded : Option Packet) × (repeated : Bool) × Decodes bytes decoded × IsRepeated repeated from decoded held × (Ignores ≡ asks cap count repeated limits bytes decoded)
-  asked_again from held bytes kind request decoded repeated test says is repeats again =
-      (decoded, repeated, says, repeats, ap (λ (b : Bool). by_repeat b (named kind request)) (sym again) ∙ asks_named bytes (Some (kind, request)) decoded repeated test is)
-
-  -- what is no request has no place here
-  pub asked_nothing : {F D : Type 0} (from : Endpoint) (held : List (ℕ × Held F D)) (bytes : List ℕ) (decoded : Option Packet) (repeated : Bool) → has_error_opcode bytes ≡ false → Decodes bytes decoded → IsRequest decoded None →
-      IsRepeated repeated from decoded held →
-      (decoded : Option Packet) × (repeated : Bool) × Decodes bytes decoded × IsRepeated repeated from decoded held × (Refuses IllegalOperation ≡ asks cap count repeated limits bytes decoded)
-  asked_nothing from held bytes decoded repeated test says is repeats = (decoded, repeated, says, repeats, asks_named bytes None decoded repeated test is)
 
 module _ {S F D : Type 0} (meaning : StoreMeaning S F D) (old : ServerState S F D) (from : Endpoint) (bytes : List ℕ) where
   -- the file was opened, and this was decided of it
