@@ -13,11 +13,11 @@ use Rattle.tftp_ends.specs.declared.record.Record.{Record}
 use Rattle.tftp_ends.specs.End.{EndState, record_of, outcome_of}
 use Rattle.tftp_ends.specs.Files.{AreSame}
 use Rattle.tftp_ends.specs.Opening.{request_of}
-use Rattle.tftp_ends.specs.Step.{Turn, DatagramStep}
+use Rattle.tftp_ends.specs.Step.{Turn}
 use Rattle.tftp_player.specs.Machine.{Endpoint, server_ip, client_ip, request_port}
 use Rattle.tftp_player.specs.Effect.{effect_of}
 use Rattle.tftp_player.specs.PlayedClient.{PlayedClient}
-use Rattle.tftp_player.specs.WorldSteps.{never_fails, may_refuse_append, may_refuse_commit}
+use Rattle.tftp_player.specs.WorldSteps.{EndStep}
 use Rattle.tftp_player.specs.declared.effect.Effect.{Effect}
 use Rattle.tftp_player.specs.declared.fault.WorldFault.{WorldFault}
 use Rattle.tftp_player.specs.declared.fault.WorldFault.TheVariants.{BadRequest, Memory}
@@ -52,7 +52,7 @@ pub record ClientTurns (port : ℕ) (old new : PlayedClient) (turn : Turn) (file
 -- a client took a datagram
 pub record ClientDatagramStep (port : ℕ) (from : Endpoint) (bytes : List ℕ) (old new : PlayedClient) (effect : Effect) (r : Record) : Type 0 where
   pub turn : Turn
-  pub steps : DatagramStep (λ (s : List ℕ). Some s) never_fails (λ (h : Holding). Some h) may_refuse_append (may_refuse_commit true None) from bytes old.end old.files turn new.files
+  pub steps : EndStep true None from bytes old.end old.files turn new.files
   pub kind : AreSame (λ (a b : List ℕ). ⊤) (λ (a b : Holding). ⊤) old.files new.files
   pub turns : ClientTurns port old new turn new.files effect r
 

@@ -23,8 +23,8 @@ pub mod Serving
 pub mod Requested
 pub mod Played
 pub mod Stage
-pub mod Today
-pub mod TodayRuns
+pub mod Arriving
+pub mod Settling
 pub mod Strangers
 pub mod Completing
 pub mod OneAtMost

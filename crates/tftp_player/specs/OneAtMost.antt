@@ -1,6 +1,5 @@
 -- What an event adds to all that was sent.
 use Rattle.std.specs.Prelude.{◌≡◌, ◌≤◌, List, ◌++◌, length}
-use Rattle.tftp_player.specs.Today.{StepToday}
 use Rattle.tftp_player.specs.World.{WorldState}
 use Rattle.tftp_player.specs.WorldSteps.{WorldStep}
 use Rattle.tftp_player.specs.declared.datagram.Datagram.{Datagram}
@@ -17,8 +16,3 @@ pub record AddsOneAtMost (old new : WorldState) : Type 0 where
 abbrev pub EventsAddOneAtMost : Type 0
 EventsAddOneAtMost =
     (old new : WorldState) (event : Event) (report : Report) → WorldStep old event report new → AddsOneAtMost old new
-
--- and each event of today
-abbrev pub TodayAddsOneAtMost : Type 0
-TodayAddsOneAtMost =
-    (old new : WorldState) (event : Event) (report : Report) → StepToday old event report new → AddsOneAtMost old new

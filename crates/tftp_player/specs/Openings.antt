@@ -10,9 +10,9 @@ pub use Rattle.tftp_ends.specs.Opening.{request_of, getting, putting, serving_re
 use Rattle.tftp_player.specs.Machine.{Endpoint, request_port}
 use Rattle.tftp_player.specs.World.{WorldState, OpenedEnd, next_port, ip_of}
 
--- an end as it opens at the next port, of a file at a path, with this left of it
-abbrev pub opening : WorldState → EndState → List ℕ → List ℕ → List ℕ → OpenedEnd
-opening w state path file left =
+-- an end as it opens at the next port, for what was requested so, of a file at a path, with this left of it
+abbrev pub opening : WorldState → EndState → List ℕ → List ℕ → List ℕ → List ℕ → OpenedEnd
+opening w state request path file left =
     record {
       address = record { ip = ip_of state.side; port = next_port w };
       state = state;
@@ -22,27 +22,28 @@ opening w state path file left =
       stored = [];
       committed = false;
       refuses = false;
+      request = request;
     }
 
 -- a client that reads
 abbrev pub reading_client : WorldState → List ℕ → Mode → Asked → OpenedEnd
-reading_client w name mode asked = opening w (getting request_port name mode asked w.limits.max_file w.retries) [] [] (wire_text mode [])
+reading_client w name mode asked = opening w (getting request_port name mode asked w.limits.max_file w.retries) [] [] [] (wire_text mode [])
 
 -- a client that writes
 abbrev pub writing_client : WorldState → List ℕ → Mode → Asked → List ℕ → OpenedEnd
 writing_client w name mode asked file =
-    opening w (putting request_port name mode asked (length (wire_text mode file)) w.limits.max_file w.retries) [] file (wire_text mode file)
+    opening w (putting request_port name mode asked (length (wire_text mode file)) w.limits.max_file w.retries) [] [] file (wire_text mode file)
 
 -- what the server's end has left of a text once it has opened: DATA 1 was taken off, where no option is agreed
 abbrev pub left_at_first : List Known → List ℕ → List ℕ
 left_at_first [] text = drop 512 text
 left_at_first (known ∷ agreed) text = text
 
--- the server sends a file
-abbrev pub sending_end : WorldState → Endpoint → Mode → List ℕ → List ℕ → List Known → OpenedEnd
-sending_end w peer mode path file agreed =
-    opening w (serving_read agreed peer mode (length (wire_text mode file)) w.retries (block (wire_text mode file) 512 1)) path file (left_at_first agreed (wire_text mode file))
+-- the server sends a file, which was requested so
+abbrev pub sending_end : WorldState → Endpoint → List ℕ → Mode → List ℕ → List ℕ → List Known → OpenedEnd
+sending_end w peer request mode path file agreed =
+    opening w (serving_read agreed peer mode (length (wire_text mode file)) w.retries (block (wire_text mode file) 512 1)) request path file (left_at_first agreed (wire_text mode file))
 
--- the server takes a file
-abbrev pub receiving_end : WorldState → Endpoint → Mode → List ℕ → List Known → OpenedEnd
-receiving_end w peer mode path agreed = opening w (serving_write agreed peer mode w.retries) path [] []
+-- the server takes a file, as it was requested so
+abbrev pub receiving_end : WorldState → Endpoint → List ℕ → Mode → List ℕ → List Known → OpenedEnd
+receiving_end w peer request mode path agreed = opening w (serving_write agreed peer mode w.retries) request path [] []

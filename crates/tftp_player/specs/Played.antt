@@ -1,5 +1,5 @@
 -- The ends of a world by what the struct that plays it keeps of them.
-use Rattle.std.specs.Prelude.{ℕ, ◌≡◌, ◌+◌, Bool, true, false, List, [], ◌∷◌, Option, Some, None, is_some}
+use Rattle.std.specs.Prelude.{ℕ, ◌≡◌, ◌+◌, Bool, true, false, not, List, [], ◌∷◌, Option, Some, None, is_some, option_map}
 use Rattle.tftp_ends.specs.declared.outcome.Outcome.{Outcome}
 use Rattle.tftp_ends.specs.declared.outcome.Outcome.TheVariants.{TimedOut}
 use Rattle.tftp_ends.specs.declared.record.Record.{Record}
@@ -7,7 +7,8 @@ use Rattle.tftp_ends.specs.declared.side.Side.TheVariants.{ServerRead}
 use Rattle.tftp_ends.specs.End.{EndState, is_sender, is_client, outcome_of, record_of}
 use Rattle.tftp_ends.specs.Files.{AreFilesOf}
 use Rattle.tftp_ends.specs.Step.{timeout_turn}
-use Rattle.tftp_server.specs.State.{at}
+use Rattle.tftp_server.specs.State.{at, draft_of, draft_at}
+use Rattle.tftp_server.specs.Store.{Drafted, new_draft}
 use Rattle.tftp_player.specs.Machine.{Endpoint}
 use Rattle.tftp_player.specs.Clients.{client_at, server_at, left_in, holding_in, ClientTurns, ClientDatagramStep, stored_by, told_client}
 use Rattle.tftp_player.specs.PlayedClient.{PlayedClient}
@@ -30,20 +31,27 @@ client_end port c =
       stored = (holding_in c.files).bytes;
       committed = (holding_in c.files).committed;
       refuses = (holding_in c.files).refuses;
+      request = [];
     }
 
--- an end of the server that sends, in that state and with that left of its file
-abbrev pub sending_served : ℕ → Served → EndState → List ℕ → OpenedEnd
-sending_served port s state left =
+-- a draft, or an empty one
+abbrev pub draft_or_new : Option Drafted → Drafted
+draft_or_new None = new_draft
+draft_or_new (Some draft) = draft
+
+-- an end of the server, in that state, with that left of its file or stored in its draft
+abbrev pub served_as : ℕ → Served → EndState → List ℕ → Option Drafted → List ℕ → OpenedEnd
+served_as port s state left draft request =
     record {
       address = server_at port;
       state = state;
       path = s.path;
       file = s.file;
       left = left;
-      stored = [];
-      committed = false;
-      refuses = false;
+      stored = (draft_or_new draft).bytes;
+      committed = (draft_or_new draft).committed;
+      refuses = s.refuses;
+      request = request;
     }
 
 -- how a closed end ended
@@ -57,9 +65,9 @@ unheld = record { side = ServerRead; peer = None; size = 512; timeout = None; nu
 
 -- the end of the server, by how it ended, or else by what the server holds
 abbrev pub served_end : ℕ → Served → Option Record → Option Transfer → OpenedEnd
-served_end port s (Some r) held = sending_served port s (closed_state s.mode r (ended_as r.outcome)) []
-served_end port s None (Some h) = sending_served port s h.end (left_in h.files)
-served_end port s None None = sending_served port s (closed_state s.mode unheld TimedOut) []
+served_end port s (Some r) held = served_as port s (closed_state s.mode r (ended_as r.outcome)) [] s.draft []
+served_end port s None (Some h) = served_as port s h.end (left_in h.files) (draft_of h.files) h.request
+served_end port s None None = served_as port s (closed_state s.mode unheld TimedOut) [] None []
 
 -- the end at this port
 abbrev pub end_at : ℕ → List (ℕ × Transfer) → Player → OpenedEnd
@@ -76,9 +84,15 @@ abbrev pub records_from : ℕ → List OpenedEnd → List (ℕ × Record)
 records_from port [] = []
 records_from port (x ∷ ends) = (port, record_of x.state) ∷ records_from (port + 1) ends
 
+-- a closed end of the server: a receiver has its draft
+pub record ServedEnded (s : Served) (r : Record) : Type 0 where
+  pub closed : is_some r.outcome ≡ true
+  pub side : is_client r.side ≡ false
+  pub draft : is_some s.draft ≡ not (is_sender r.side)
+
 -- what holds of an end of the server, by how it ended
 abbrev pub IsServed : ℕ → Served → Option Record → List (ℕ × Transfer) → Type 0
-IsServed port s (Some r) held = (is_some r.outcome ≡ true) × (is_client r.side ≡ false) × (is_sender r.side ≡ true)
+IsServed port s (Some r) held = ServedEnded s r
 IsServed port s None held = ServedKept port s held
 
 -- what holds of an end
@@ -113,17 +127,27 @@ abbrev pub address_of : ℕ → Player → Endpoint
 address_of port (Client c) = client_at port
 address_of port (Server s) = server_at port
 
--- an end that is told to refuse its next append or commit; no end of the server stores yet
-abbrev pub told_player : Player → Player
-told_player (Client c) = Client (told_client c)
-told_player (Server s) = Server s
+-- the end of the server, told to refuse its next append or commit, if it is an open receiver
+abbrev pub told_served : Option Drafted → Served → Served
+told_served None s = s
+told_served (Some draft) s = record s { refuses = true }
 
--- what a receiver has stored; no end of the server stores yet
-abbrev pub stored_of : Player → Option (List ℕ)
-stored_of (Client c) = stored_by c.files
-stored_of (Server s) = None
+-- an end that is told so
+abbrev pub told_player : ℕ → List (ℕ × Transfer) → Player → Player
+told_player port held (Client c) = Client (told_client c)
+told_player port held (Server s) = Server (told_served (draft_at (at port held)) s)
+
+-- the draft of an end of the server, by how it ended, or else by what the server holds
+abbrev pub served_draft : Served → Option Record → Option Transfer → Option Drafted
+served_draft s (Some r) held = s.draft
+served_draft s None held = draft_at held
+
+-- what a receiver has stored
+abbrev pub stored_of : ℕ → List (ℕ × Transfer) → Player → Option (List ℕ)
+stored_of port held (Client c) = stored_by c.files
+stored_of port held (Server s) = option_map (λ (d : Drafted). d.bytes) (served_draft s s.ended (at port held))
 
 -- whether it is committed
-abbrev pub committed_of : Player → Bool
-committed_of (Client c) = (holding_in c.files).committed
-committed_of (Server s) = false
+abbrev pub committed_of : ℕ → List (ℕ × Transfer) → Player → Bool
+committed_of port held (Client c) = (holding_in c.files).committed
+committed_of port held (Server s) = (draft_or_new (served_draft s s.ended (at port held))).committed

@@ -1,27 +1,36 @@
 -- What a datagram to the request port asks for, as far as the world needs to know it.
-use Rattle.std.specs.Prelude.{ℕ, ◌≡◌, ◌⊎◌, Bool, false, List, length, Option, Some, None, Result, Ok, Err, option_map}
+use Rattle.std.specs.Prelude.{ℕ, ◌≡◌, ◌⊎◌, Bool, false, List, [], length, Option, Some, None, Result, Ok, Err, option_map}
 use Rattle.tftp_wire.specs.declared.mode.Mode.{Mode}
 use Rattle.tftp_wire.specs.declared.packet.Packet.{Packet}
-use Rattle.tftp_wire.specs.declared.packet.Packet.TheVariants.{Read}
+use Rattle.tftp_wire.specs.declared.packet.Packet.TheVariants.{Read, Write}
 use Rattle.tftp_file.specs.Path.{path_of_name}
 use Rattle.tftp_file.specs.declared.path.PathFault.{PathFault}
 use Rattle.tftp_ends.specs.Action.{Decodes}
 use Rattle.tftp_server.specs.Port.{asks, asks_store}
-use Rattle.tftp_server.specs.Request.{supported}
 use Rattle.tftp_server.specs.State.{IsRepeated}
 use Rattle.tftp_server.specs.Store.{FileList, file_at}
 use Rattle.tftp_player.specs.Machine.{Endpoint}
 use Rattle.tftp_player.specs.Serving.{PlayedServer}
 use Rattle.tftp_player.specs.declared.served.Served.{Served}
 
+-- an end of the server as it opens, for the file at a path
+abbrev pub new_served : Mode → List ℕ → List ℕ → Served
+new_served mode path file = record { mode = mode; path = path; file = file; refuses = false; draft = None; ended = None }
+
 -- the end that sends the file at a path, if there is one
-abbrev pub requested_at : FileList → Mode → Result (List ℕ) PathFault → Option Served
-requested_at files mode (Err fault) = None
-requested_at files mode (Ok path) = option_map (λ file. record { mode = mode; path = path; file = file; ended = None }) (file_at path files)
+abbrev pub sender_at : FileList → Mode → Result (List ℕ) PathFault → Option Served
+sender_at files mode (Err fault) = None
+sender_at files mode (Ok path) = option_map (λ file. new_served mode path file) (file_at path files)
+
+-- the end that stores under a path
+abbrev pub receiver_at : Mode → Result (List ℕ) PathFault → Option Served
+receiver_at mode (Err fault) = None
+receiver_at mode (Ok path) = Some (new_served mode path [])
 
 -- the end that a packet asks for
 abbrev pub requested_by : FileList → Option Packet → Option Served
-requested_by files (Some (Read request)) = requested_at files request.mode (path_of_name request.name)
+requested_by files (Some (Read request)) = sender_at files request.mode (path_of_name request.name)
+requested_by files (Some (Write request)) = receiver_at request.mode (path_of_name request.name)
 requested_by files _ = None
 
 -- the end that a datagram asks for
@@ -32,7 +41,7 @@ IsRequested files bytes requested_end = (decoded : Option Packet) × Decodes byt
 abbrev pub OpensNone : PlayedServer → Endpoint → List ℕ → Type 0
 OpensNone server from bytes =
     (decoded : Option Packet) × (repeated : Bool) × Decodes bytes decoded × IsRepeated repeated from decoded server.held
-    × (asks_store (asks server.config.cap (length server.held) repeated server.config.limits bytes (supported decoded)) ≡ false)
+    × (asks_store (asks server.config.cap (length server.held) repeated server.config.limits bytes decoded) ≡ false)
 
 -- the end that a datagram from there asks for, or none where the port opens none
 abbrev pub IsWanted : PlayedServer → Endpoint → List ℕ → Option Served → Type 0

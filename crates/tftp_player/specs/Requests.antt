@@ -1,13 +1,15 @@
 -- What the request port of a world's server does: the server's tests, over the world's files.
-use Rattle.std.specs.Prelude.{ℕ, Bool, ◌&&◌, not, List, count_by, Option, Some, None, Result, Ok, Err}
+use Rattle.std.specs.Prelude.{ℕ, ◌≡◌, ◌⊎◌, ◌↔◌, IsTrue, Bool, false, ◌&&◌, not, List, [], ◌∷◌, count_by, Option, Some, None, Result, Ok, Err}
 use Rattle.tftp_wire.specs.declared.mode.Mode.{Mode}
+use Rattle.tftp_wire.specs.Spelling.{Spells}
 use Rattle.tftp_wire.specs.declared.packet.Packet.{Packet}
 use Rattle.tftp_file.specs.declared.fault.StoreFault.{StoreFault}
 use Rattle.tftp_file.specs.declared.fault.StoreFault.TheVariants.{Missing, Exists}
 use Rattle.tftp_ends.specs.End.{is_client}
 use Rattle.tftp_server.specs.Port.{Ask, Service, answered, asks}
 use Rattle.tftp_server.specs.Store.{measured}
-use Rattle.tftp_player.specs.World.{WorldState, OpenedEnd, file_at, in_the_way, is_closed}
+use Rattle.tftp_player.specs.Machine.{Endpoint}
+use Rattle.tftp_player.specs.World.{WorldState, OpenedEnd, file_at, in_the_way, is_closed, peer_of}
 
 -- how many transfers the server holds: its ends that are not closed
 abbrev pub open_transfers : List OpenedEnd → ℕ
@@ -32,3 +34,20 @@ served w ask =
 -- what comes of a datagram, whether it repeats the request of an open transfer or not
 abbrev pub service : WorldState → Bool → List ℕ → Option Packet → Service
 service w repeated bytes decoded = served w (asks w.cap (open_transfers w.ends) repeated w.limits bytes decoded)
+
+-- an open end of the server was asked for from there by a datagram that spells this packet
+pub record Repeats (from : Endpoint) (packet : Packet) (x : OpenedEnd) : Type 0 where
+  pub server : is_client x.state.side ≡ false
+  pub still : is_closed x ≡ false
+  pub peer : peer_of x.state.phase ≡ Some from
+  pub same : Spells packet x.request
+
+-- one of the ends was
+abbrev pub AnyRepeats : Endpoint → Packet → List OpenedEnd → Type 0
+AnyRepeats from packet [] = ⊥
+AnyRepeats from packet (x ∷ ends) = Repeats from packet x ⊎ AnyRepeats from packet ends
+
+-- whether a datagram repeats the request of an open transfer
+abbrev pub IsRepeated : Bool → Endpoint → Option Packet → List OpenedEnd → Type 0
+IsRepeated repeated from None ends = repeated ≡ false
+IsRepeated repeated from (Some packet) ends = IsTrue repeated ↔ AnyRepeats from packet ends

@@ -1,86 +1,87 @@
 -- What an end of a world's server does, by what is kept of it beside the server.
 use Rattle.std.specs.Prelude.{ℕ, ◌≡◌, Bool, true, false, is_some, List, Option, Some, None, ⊤}
-use Rattle.tftp_file.specs.declared.files.Files.TheVariants.{Source}
-use Rattle.tftp_file.specs.Memory.{MemSinkState}
 use Rattle.tftp_ends.specs.declared.record.Record.{Record}
-use Rattle.tftp_ends.specs.End.{is_sender, is_client, outcome_of, record_of}
+use Rattle.tftp_ends.specs.End.{is_client, outcome_of, record_of}
+use Rattle.tftp_ends.specs.Files.{AreFilesOf, AreSame}
 use Rattle.tftp_ends.specs.Step.{Turn, timeout_turn}
-use Rattle.tftp_server.specs.State.{Held, ServerState, at, with_next, without}
+use Rattle.tftp_server.specs.Draft.{files_in, KeepsStore}
+use Rattle.tftp_server.specs.Memory.{memory_meaning, with_told}
+use Rattle.tftp_server.specs.State.{Held, ServerState, at, draft_of, with_next, without}
 use Rattle.tftp_server.specs.State as server
-use Rattle.tftp_server.specs.Steps.{ReadDatagramStep}
-use Rattle.tftp_server.specs.Store.{Stored}
+use Rattle.tftp_server.specs.Steps.{StepIn, with_end}
+use Rattle.tftp_server.specs.Store.{Stored, Drafted}
 use Rattle.tftp_player.specs.Machine.{Endpoint}
 use Rattle.tftp_player.specs.Clients.{server_at}
 use Rattle.tftp_player.specs.Effect.{effect_of}
-use Rattle.tftp_player.specs.WorldSteps.{never_fails}
 use Rattle.tftp_player.specs.declared.effect.Effect.{Effect}
 use Rattle.tftp_player.specs.declared.served.Served.{Served}
 
 -- the server that is played, and a transfer that it holds
 abbrev pub PlayedServer : Type 0
-PlayedServer = ServerState Stored (List ℕ) MemSinkState
+PlayedServer = ServerState Stored (List ℕ) Drafted
 
 abbrev pub Transfer : Type 0
-Transfer = Held (List ℕ) MemSinkState
+Transfer = Held (List ℕ) Drafted
 
--- an open end of the server: it is held, and sends
+-- an open end of the server: it is held, in the mode and for the path that are kept of it
 pub record ServedKept (port : ℕ) (s : Served) (held : List (ℕ × Transfer)) : Type 0 where
   pub transfer : Transfer
-  pub left : List ℕ
   pub found : at port held ≡ Some transfer
   pub is_open : server.is_closed transfer ≡ false
-  pub sends : transfer.files ≡ Source left
   pub side : is_client transfer.end.side ≡ false
-  pub sender : is_sender transfer.end.side ≡ true
+  pub files : AreFilesOf transfer.end.side transfer.files
   pub mode : transfer.end.mode ≡ s.mode
+  pub path : transfer.path ≡ s.path
 
--- the server's end with its record, if it has closed
-abbrev pub rested_served : Bool → Record → Served → Served
-rested_served true r s = record s { ended = Some r }
-rested_served false r s = s
+-- the server's end with its record and its draft, if it has closed
+abbrev pub rested_served : Bool → Record → Option Drafted → Served → Served
+rested_served true r draft s = record s { draft = draft; ended = Some r }
+rested_served false r draft s = s
 
 -- the transfers without the one at the port, if it has closed
 abbrev pub rested_held : Bool → ℕ → List (ℕ × Transfer) → List (ℕ × Transfer)
 rested_held true port held = without port held
 rested_held false port held = held
 
--- an end of the server made a turn, and has this left of its file
-pub record ServedTurns (port : ℕ) (old new : Served) (before after : PlayedServer) (turn : Turn) (left : List ℕ) (effect : Effect) (r : Record) : Type 0 where
-  pub path : List ℕ
-  pub request : List ℕ
+-- an end of the server made a turn: its transfer is this now, and the store that
+pub record ServedTurns (port : ℕ) (old new : Served) (before after : PlayedServer) (turn : Turn) (next : Transfer) (refuses : Bool) (store : Stored) (effect : Effect) (r : Record) : Type 0 where
+  pub end : next.end ≡ turn.end
   pub effects : effect ≡ effect_of (server_at port) turn
   pub recorded : r ≡ record_of turn.end
-  pub served : new ≡ rested_served (is_some (outcome_of turn.end.phase)) r old
-  pub server : after ≡ record before { held = rested_held (is_some (outcome_of turn.end.phase)) port (with_next port (record { end = turn.end; files = Source left; path = path; request = request }) before.held) }
+  pub served : new ≡ rested_served (is_some (outcome_of turn.end.phase)) r (draft_of next.files) (record old { refuses = refuses })
+  pub server : after ≡ record before { store = store; held = rested_held (is_some (outcome_of turn.end.phase)) port (with_next port next before.held) }
 
 -- a timeout did
 abbrev pub ServedTimeoutStep : ℕ → Served → Served → PlayedServer → PlayedServer → Effect → Record → Type 0
 ServedTimeoutStep port old new before after effect r =
-    (h : Transfer) × (left : List ℕ) × (at port before.held ≡ Some h) × (h.files ≡ Source left)
-    × ServedTurns port old new before after (timeout_turn h.end) left effect r
+    (h : Transfer) × (at port before.held ≡ Some h)
+    × ServedTurns port old new before after (timeout_turn h.end) (with_end (timeout_turn h.end).end h) old.refuses before.store effect r
 
--- a datagram did
-abbrev pub ServedDatagramStep : ℕ → Endpoint → List ℕ → Served → Served → PlayedServer → PlayedServer → Effect → Record → Type 0
-ServedDatagramStep port from bytes old new before after effect r =
-    (h : Transfer) × (left : List ℕ) × (turn : Turn) × (left' : List ℕ) × (at port before.held ≡ Some h) × (h.files ≡ Source left)
-    × ReadDatagramStep (λ (s : List ℕ). Some s) never_fails from bytes h.end left turn left'
-    × ServedTurns port old new before after turn left' effect r
+-- a datagram did: while it was handled the store was told what the end is told
+pub record ServedDatagramStep (port : ℕ) (from : Endpoint) (bytes : List ℕ) (old new : Served) (before after : PlayedServer) (effect : Effect) (r : Record) : Type 0 where
+  pub transfer : Transfer
+  pub next : Transfer
+  pub turn : Turn
+  pub store : Stored
+  pub found : at port before.held ≡ Some transfer
+  pub steps : StepIn memory_meaning from bytes transfer.end (files_in (with_told before.store old.refuses) transfer.path before.config.overwrite transfer.files) turn (files_in store next.path before.config.overwrite next.files)
+  pub stays : KeepsStore transfer.files (with_told before.store old.refuses) store
+  pub kind : AreSame (λ (a b : List ℕ). ⊤) (λ (a b : Drafted). ⊤) transfer.files next.files
+  pub path : next.path ≡ transfer.path
+  pub request : next.request ≡ transfer.request
+  pub turns : ServedTurns port old new before after turn next store.refuses (with_told store false) effect r
 
 -- a transfer is held
 abbrev pub IsHeld : Option Transfer → Type 0
 IsHeld None = ⊥
 IsHeld (Some h) = ⊤
 
--- it was taken out with its record, if it has closed
-abbrev pub ConcludesAs : Bool → ℕ → Record → Served → Served → PlayedServer → PlayedServer → Type 0
-ConcludesAs closed port r old new before after =
-    (new ≡ rested_served closed r old) × (after ≡ record before { held = rested_held closed port before.held })
+-- it was taken out with its record and its draft, if it has closed
+abbrev pub ConcludesAs : Bool → ℕ → Record → Option Drafted → Served → Served → PlayedServer → PlayedServer → Type 0
+ConcludesAs closed port r draft old new before after =
+    (new ≡ rested_served closed r draft old) × (after ≡ record before { held = rested_held closed port before.held })
 
 abbrev pub Concludes : ℕ → Option Transfer → Served → Served → PlayedServer → PlayedServer → Record → Type 0
 Concludes port None old new before after r = ⊥
 Concludes port (Some h) old new before after r =
-    (r ≡ record_of h.end) × ConcludesAs (server.is_closed h) port r old new before after
-
--- the server is as before, as far as it tells
-abbrev pub SameServer : PlayedServer → PlayedServer → Type 0
-SameServer before after = after ≡ before
+    (r ≡ record_of h.end) × ConcludesAs (server.is_closed h) port r (draft_of h.files) old new before after

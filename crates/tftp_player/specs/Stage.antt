@@ -5,7 +5,7 @@ use Rattle.tftp_file.specs.declared.files.Files.{Files}
 use Rattle.tftp_file.specs.Sink.{Holding}
 use Rattle.tftp_ends.specs.declared.record.Record.{Record}
 use Rattle.tftp_ends.specs.End.{is_sender, is_client}
-use Rattle.tftp_ends.specs.Step.{Turn, DatagramStep, timeout_turn}
+use Rattle.tftp_ends.specs.Step.{Turn, timeout_turn}
 use Rattle.tftp_player.specs.Effect.{effect_of, no_effect, said_by, report_by}
 use Rattle.tftp_player.specs.Played.{client_end, ends_from, records_from, AllKept}
 use Rattle.tftp_player.specs.PlayedClient.{PlayedClient}
@@ -13,16 +13,26 @@ use Rattle.tftp_player.specs.Serving.{PlayedServer, Transfer}
 use Rattle.tftp_player.specs.Requests.{open_transfers}
 use Rattle.tftp_player.specs.Machine.{Endpoint}
 use Rattle.tftp_player.specs.World.{WorldState, OpenedEnd, StoredFile, file_at, in_the_way, is_closed, files_of, end_after, has_committed, at_rest}
-use Rattle.tftp_player.specs.WorldSteps.{never_fails, may_refuse_append, may_refuse_commit, FilesAfter}
+use Rattle.tftp_player.specs.WorldSteps.{EndStep, FilesAfter}
 use Rattle.tftp_server.specs.declared.config.Config.{Config}
 use Rattle.tftp_player.specs.declared.datagram.Datagram.{Datagram}
 use Rattle.tftp_player.specs.declared.effect.Effect.{Effect}
 use Rattle.tftp_player.specs.declared.player.Player.{Player}
+use Rattle.tftp_player.specs.declared.player.Player.TheVariants.{Server}
 use Rattle.tftp_player.specs.declared.report.Report.{Report}
+use Rattle.tftp_player.specs.declared.served.Served.{Served}
 
 -- the ends
 abbrev pub ends_of : PlayedServer → List Player → List OpenedEnd
 ends_of server players = ends_from 1024 server.held players
+
+-- the end at the port is an open one of the server
+pub record IsOwned (players : List Player) (port : ℕ) : Type 0 where
+  pub place : ℕ
+  pub is : port ≡ 1024 + place
+  pub served : Served
+  pub there : slice_get players place ≡ Some (Server served)
+  pub lives : served.ended ≡ None
 
 -- the ends, the server and what is recorded agree
 pub record IsStaged (server : PlayedServer) (players : List Player) (records : List (ℕ × Record)) : Type 0 where
@@ -31,6 +41,9 @@ pub record IsStaged (server : PlayedServer) (players : List Player) (records : L
   -- the server holds transfers of these ends alone, and as many as are open
   pub below : AllByRecursion (λ (e : ℕ × Transfer). e.0 < 1024 + length players) server.held
   pub count : length server.held ≡ open_transfers (ends_of server players)
+  pub owned : AllByRecursion (λ (e : ℕ × Transfer). IsOwned players e.0) server.held
+  -- between two events the store is told to refuse nothing
+  pub quiet : server.store.refuses ≡ false
 
 -- the end at this place made a turn
 pub record EndTurns (place : ℕ) (x : OpenedEnd) (turn : Turn) (held : Files (List ℕ) Holding) (ends ends' : List OpenedEnd) (effect : Effect) : Type 0 where
@@ -100,26 +113,27 @@ pub record Enters (old : WorldState) (port : ℕ) (c : PlayedClient) (effect : E
     ends = old.ends ++ at_rest (client_end port c) ∷ [];
   }
 
--- a datagram came to an end of this place and was taken; the server's files stay
-pub record DatagramAt (place : ℕ) (x : OpenedEnd) (from : Endpoint) (bytes : List ℕ) (overwrite : Bool) (files : List StoredFile) (ends ends' : List OpenedEnd) (effect : Effect) : Type 0 where
+-- a datagram came to an end of this place and was taken; the server's files were these, and are those
+pub record DatagramAt (place : ℕ) (x : OpenedEnd) (from : Endpoint) (bytes : List ℕ) (overwrite : Bool) (files files' : List StoredFile) (ends ends' : List OpenedEnd) (effect : Effect) : Type 0 where
   pub open_now : is_closed x ≡ false
   pub turn : Turn
   pub held : Files (List ℕ) Holding
-  pub steps : DatagramStep (λ (s : List ℕ). Some s) never_fails (λ (h : Holding). Some h) may_refuse_append (may_refuse_commit (is_client x.state.side) (in_the_way overwrite (file_at files x.path))) from bytes x.state (files_of x) turn held
-  pub commits : FilesAfter overwrite (not (is_client x.state.side) && has_committed x (end_after x turn held)) x.path (end_after x turn held).stored files files
+  pub steps : EndStep (is_client x.state.side) (in_the_way overwrite (file_at files x.path)) from bytes x.state (files_of x) turn held
+  pub commits : FilesAfter overwrite (not (is_client x.state.side) && has_committed x (end_after x turn held)) x.path (end_after x turn held).stored files files'
   pub turns : EndTurns place x turn held ends ends' effect
 
 -- nothing came of it
-pub record LostAt (to : Endpoint) (ends ends' : List OpenedEnd) (effect : Effect) : Type 0 where
+pub record LostAt (to : Endpoint) (files files' : List StoredFile) (ends ends' : List OpenedEnd) (effect : Effect) : Type 0 where
   pub effects : effect ≡ no_effect to
   pub next : ends' ≡ ends
+  pub stays : files' ≡ files
 
 -- of all ends and the server, that came of a datagram for the end at this place
 pub record StageDatagramStep (place : ℕ) (from to : Endpoint) (bytes : List ℕ) (before after : PlayedServer) (players players' : List Player) (effect : Effect) : Type 0 where
   pub end : OpenedEnd
   pub found : slice_get (ends_of before players) place ≡ Some end
-  pub comes : ((end.address ≢ to) × LostAt to (ends_of before players) (ends_of after players') effect)
+  pub comes : ((end.address ≢ to) × LostAt to before.store.files after.store.files (ends_of before players) (ends_of after players') effect)
       ⊎ ((end.address ≡ to)
-      × (((is_closed end ≡ true) × LostAt to (ends_of before players) (ends_of after players') effect)
-      ⊎ DatagramAt place end from bytes before.config.overwrite before.store.files (ends_of before players) (ends_of after players') effect))
-  pub same : SameStore before after
+      × (((is_closed end ≡ true) × LostAt to before.store.files after.store.files (ends_of before players) (ends_of after players') effect)
+      ⊎ DatagramAt place end from bytes before.config.overwrite before.store.files after.store.files (ends_of before players) (ends_of after players') effect))
+  pub config : after.config ≡ before.config

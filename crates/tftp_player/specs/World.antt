@@ -52,6 +52,8 @@ pub record OpenedEnd : Type 0 where
   pub committed : Bool
   -- a receiver's next append or commit is to be refused
   pub refuses : Bool
+  -- the datagram that asked for an open end of the server
+  pub request : List ℕ
 
 -- all of the world; the end at place k has port 1024 + k
 pub record WorldState : Type 0 where
@@ -236,13 +238,18 @@ rest_state (Closed terms number complete outcome) e =
       phase = Closed (option_map rest_terms terms) number complete outcome;
     }
 
--- nor has it a source any more
-abbrev pub rest_left : Phase → List ℕ → List ℕ
-rest_left phase left = if is_some (outcome_of phase) then [] else left
+-- nor has it a source any more, nor the request that asked for it
+abbrev pub while_open : Phase → List ℕ → List ℕ
+while_open phase bytes = if is_some (outcome_of phase) then [] else bytes
 
 -- an end, of which no more is kept than its record if it is closed
 abbrev pub at_rest : OpenedEnd → OpenedEnd
-at_rest x = record x { state = rest_state x.state.phase x.state; left = rest_left x.state.phase x.left }
+at_rest x =
+    record x {
+      state = rest_state x.state.phase x.state;
+      left = while_open x.state.phase x.left;
+      request = while_open x.state.phase x.request;
+    }
 
 -- a world whose closed ends are at rest
 abbrev pub resting : WorldState → WorldState

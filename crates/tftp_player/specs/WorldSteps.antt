@@ -6,14 +6,14 @@ use Rattle.tftp_file.specs.declared.fault.StoreFault.TheVariants as faults
 use Rattle.tftp_file.specs.declared.files.Files.{Files}
 use Rattle.tftp_file.specs.Netascii.{wire_text}
 use Rattle.tftp_file.specs.Sink.{Holding}
-use Rattle.tftp_ends.specs.End.{is_sender, is_client}
+use Rattle.tftp_ends.specs.End.{EndState, is_sender, is_client}
 use Rattle.tftp_ends.specs.Action.{Decodes}
 use Rattle.tftp_ends.specs.Step.{Turn, DatagramStep, timeout_turn, error_bytes}
 use Rattle.tftp_player.specs.Machine.{Endpoint, Elsewhere, host_of, request_port}
 use Rattle.tftp_player.specs.World.{StoredFile, file_at, in_the_way, OpenedEnd, WorldState, next_port, is_closed, datagram, resting, files_of, end_after, has_committed, world_after, report_of, no_report, opened_in, said_in, sent_report}
 use Rattle.tftp_player.specs.Openings.{reading_client, writing_client, MayGet, MayPut, sending_end, receiving_end}
 use Rattle.tftp_server.specs.Port.{Service, Silent, Refused, Sends, Takes}
-use Rattle.tftp_player.specs.Requests.{service}
+use Rattle.tftp_player.specs.Requests.{IsRepeated, service}
 use Rattle.tftp_player.specs.declared.datagram.Datagram.{Datagram}
 use Rattle.tftp_player.specs.declared.event.Event.{Event}
 use Rattle.tftp_player.specs.declared.event.Event.TheVariants.{Get, Put, Deliver, Timeout, RefuseStore, Stray}
@@ -37,6 +37,11 @@ may_refuse_commit true there holding faults.Full = holding.refuses ≡ true
 may_refuse_commit false there holding faults.Full = (holding.refuses ≡ true) ⊎ (there ≡ None)
 may_refuse_commit false there holding faults.Exists = (holding.refuses ≡ false) × (there ≢ None)
 may_refuse_commit client there holding fault = ⊥
+
+-- what an open end does at a datagram with its file, where this stands in the way of what it stores
+abbrev pub EndStep : Bool → Option (List ℕ) → Endpoint → List ℕ → EndState → Files (List ℕ) Holding → Turn → Files (List ℕ) Holding → Type 0
+EndStep client there from bytes e files turn files' =
+    DatagramStep (λ (s : List ℕ). Some s) never_fails (λ (h : Holding). Some h) may_refuse_append (may_refuse_commit client there) (λ (a b : Holding) (committed : Bool). ⊤) from bytes e files turn files'
 
 -- the file now stands under a path where none was in the way, and the others stand where they stood
 pub record IsStored (overwrite : Bool) (path bytes : List ℕ) (old new : List StoredFile) : Type 0 where
@@ -70,27 +75,28 @@ pub record Opens (old : WorldState) (x : OpenedEnd) (report : Report) (new : Wor
 abbrev pub HasPort : WorldState → Type 0
 HasPort w = next_port w ≤ 65535
 
--- what the server's request port did
-abbrev pub Serves : Service → WorldState → Endpoint → Report → WorldState → Type 0
-Serves Silent old from report new = Stays old report new
-Serves (Refused reply) old from report new =
+-- what the server's request port did at a datagram of these bytes
+abbrev pub Serves : Service → WorldState → Endpoint → List ℕ → Report → WorldState → Type 0
+Serves Silent old from bytes report new = Stays old report new
+Serves (Refused reply) old from bytes report new =
     (report ≡ sent_report old) × (new ≡ said_in old (datagram request_port from (error_bytes reply)))
-Serves (Sends path mode length agreed) old from report new =
-    (file : List ℕ) × (file_at old.files path ≡ Some file) × Opens old (sending_end old from mode path file agreed) report new
-Serves (Takes path mode agreed) old from report new = Opens old (receiving_end old from mode path agreed) report new
+Serves (Sends path mode length agreed) old from bytes report new =
+    (file : List ℕ) × (file_at old.files path ≡ Some file) × Opens old (sending_end old from bytes mode path file agreed) report new
+Serves (Takes path mode agreed) old from bytes report new = Opens old (receiving_end old from bytes mode path agreed) report new
 
 -- a datagram came to an open end
 pub record OnDatagram (old : WorldState) (k : ℕ) (x : OpenedEnd) (from : Endpoint) (bytes : List ℕ) (report : Report) (new : WorldState) : Type 0 where
   pub turn : Turn
   pub held : Files (List ℕ) Holding
-  pub steps : DatagramStep (λ (s : List ℕ). Some s) never_fails (λ (h : Holding). Some h) may_refuse_append (may_refuse_commit (is_client x.state.side) (in_the_way old.overwrite (file_at old.files x.path))) from bytes x.state (files_of x) turn held
+  pub steps : EndStep (is_client x.state.side) (in_the_way old.overwrite (file_at old.files x.path)) from bytes x.state (files_of x) turn held
   pub turns : Turns old k x turn held report new
 
 -- what a datagram did where it came to
 pub data Arrives (old : WorldState) (from to : Endpoint) (bytes : List ℕ) (report : Report) (new : WorldState) : Type 0 where
-  -- at the request port; the server says whether the request repeats that of an open transfer
-  At_request_port : (to ≡ request_port) → HasPort old → (decoded : Option Packet) → Decodes bytes decoded → (repeated : Bool) →
-      Serves (service old repeated bytes decoded) old from report new → Arrives old from to bytes report new
+  -- at the request port
+  At_request_port : (to ≡ request_port) → HasPort old → (decoded : Option Packet) → Decodes bytes decoded →
+      (repeated : Bool) → IsRepeated repeated from decoded old.ends →
+      Serves (service old repeated bytes decoded) old from bytes report new → Arrives old from to bytes report new
   -- at an open end
   At_open_end : (k : ℕ) (x : OpenedEnd) → slice_get old.ends k ≡ Some x → x.address ≡ to → is_closed x ≡ false →
       OnDatagram old k x from bytes report new → Arrives old from to bytes report new
@@ -167,6 +173,10 @@ MemoryLast reason fault = reason fault
 -- why an event is refused
 abbrev pub WorldRefuses : WorldState → Event → WorldFault → Type 0
 WorldRefuses w event fault = MemoryLast (EventRefuses w event) fault
+
+-- what a datagram came to, and then closed ends at rest
+abbrev pub Lands : WorldState → Endpoint → Endpoint → List ℕ → Report → WorldState → Type 0
+Lands old from to bytes report new = (mid : WorldState) × Arrives old from to bytes report mid × (new ≡ resting mid)
 
 -- the datagrams from this place on were delivered one after another, so many of them
 abbrev pub Settles : WorldState → ℕ → List Report → WorldState → Type 0

@@ -9,13 +9,12 @@ ghost use Rattle.tftp_player.specs.Facts.{Holds};
 ghost use Rattle.tftp_player.specs.Kept.{EndsGoOn, EndsOpen, DatagramsAreAdded};
 ghost use Rattle.tftp_player.specs.Machine.{Endpoint, Message};
 ghost use Rattle.tftp_player.specs.MachineSafety.{IsSafeMachine, IsCompleted};
-ghost use Rattle.tftp_player.specs.OneAtMost.{EventsAddOneAtMost, TodayAddsOneAtMost};
+ghost use Rattle.tftp_player.specs.OneAtMost.{EventsAddOneAtMost};
 ghost use Rattle.tftp_player.specs.Recorded.{AreRecorded};
 ghost use Rattle.tftp_player.specs.Rules.{Rule, IsLegal, run, start};
 ghost use Rattle.tftp_player.specs.Shows.{EndView, IsShown};
 ghost use Rattle.tftp_player.specs.Strangers.{StraysChangeNoRecord, ClientsHaveServers};
 ghost use Rattle.tftp_player.specs.ViewSafety.{IsSafeViews, PeersAtHome};
-ghost use Rattle.tftp_player.specs.TodayRuns.{TodayKeeps};
 ghost use Rattle.tftp_player.specs.WorldRuns.{WorldsAreSafe, PeersStayHome, StepsKeep, KeptIsSafe};
 
 /// After every list of rules that their guards allow, the transfers are safe: the ends of an
@@ -77,19 +76,16 @@ pub fn some_worlds_transfer()
     ensures options { Transfers (Get (97 ∷ []) Octet blocks_of_8) (65 ∷ []) }
 {}
 
-/// What makes a world safe is kept by each event, in both modes, for reads and for writes; so it is by
-/// what an event comes to today.
+/// What makes a world safe is kept by each event, in both modes, for reads and for writes.
 pub fn a_step_keeps_a_world()
     ensures kept { StepsKeep }
-    ensures today { TodayKeeps }
     ensures safe { KeptIsSafe }
 {}
 
-/// Each event adds one datagram at most behind all that was sent, and takes none off; so does what it
-/// comes to today, and with that each call of `World::apply`.
+/// Each event adds one datagram at most behind all that was sent, and takes none off; with that so does
+/// each call of `World::apply`.
 pub fn an_event_sends_one_datagram_at_most()
     ensures events { EventsAddOneAtMost }
-    ensures today { TodayAddsOneAtMost }
 {}
 
 /// A datagram of neither host changes no record, but of an end whose peer is a stranger: an end that

@@ -3,7 +3,7 @@
 ghost use Rattle.std.specs.Prelude.{◌≡◌, IfSome};
 ghost use Rattle.rand_pcg.specs.Pcg.{pcg32};
 ghost use Rattle.tftp_player.specs.Draw.{drawn, words_drawn};
-ghost use Rattle.tftp_player.specs.Today.{IsPlayable};
+ghost use Rattle.tftp_player.specs.Arriving.{IsPlayable};
 
 use crate::event::Event;
 use crate::world::World;

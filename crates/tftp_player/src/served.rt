@@ -14,7 +14,7 @@ use crate::hosts::server_at;
 use std::alloc::Global;
 use tftp_ends::{Endpoint, Record};
 use tftp_file::{Path, PathFault, path_of};
-use tftp_server::{MemStore, Server, ServerFault};
+use tftp_server::{MemDraft, MemStore, Server, ServerFault};
 use tftp_wire::{Bytes, Mode, PacketRef, decode_ref};
 
 /// A server's end: what it was asked for, and how it ended once it is closed. While it is open the
@@ -25,6 +25,10 @@ pub(crate) struct Served {
     pub(crate) path: Path,
     /// The file that it sends, as it was when the end opened; empty for one that receives.
     pub(crate) file: Bytes,
+    /// Whether its next append or commit is to be refused.
+    pub(crate) refuses: bool,
+    /// What it has stored, if it receives and is closed; the server has it while it is open.
+    pub(crate) draft: Option<MemDraft>,
     pub(crate) ended: Option<Record>,
 }
 

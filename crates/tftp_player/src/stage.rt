@@ -6,7 +6,7 @@ mod opening;
 ghost use Rattle.std.specs.Prelude.{◌≡◌, ◌<◌, ◌+◌, [], true, length, option_map, slice_get, IfOk, IfErr, OnErr};
 ghost use Rattle.tftp_server.specs.Config.{IsConfig};
 ghost use Rattle.tftp_server.specs.Memory.{contents, has_distinct_paths, in_path_order};
-ghost use Rattle.tftp_player.specs.Today.{StepToday, IsPlayable};
+ghost use Rattle.tftp_player.specs.Arriving.{IsPlayable};
 ghost use Rattle.tftp_player.specs.World.{new_world, file_at};
 ghost use Rattle.tftp_player.specs.WorldSteps.{WorldStep, WorldRefuses};
 ghost use Rattle.tftp_player.specs.declared.event.Event.TheVariants.{Timeout, RefuseStore};
@@ -126,7 +126,7 @@ impl Stage {
     /// Makes the step of an event.
     pub(crate) fn step(&mut self, event: Event) -> Result<Report, WorldFault>
         requires { IsPlayable event }
-        ensures steps { IfOk result (λ report. StepToday self.old event report self.new) }
+        ensures steps { IfOk result (λ report. WorldStep self.old event report self.new) }
         ensures refused { IfErr result (WorldRefuses self.old event) }
         ensures err { OnErr result (self.new ≡ self.old) }
     {

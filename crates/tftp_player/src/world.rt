@@ -7,9 +7,9 @@ ghost use Rattle.tftp_player.specs.Machine.{host_of, Elsewhere};
 ghost use Rattle.tftp_player.specs.Played.{records_from};
 ghost use Rattle.tftp_player.specs.PlayedWorld.{strayed_after, HasSentEach, IsHome};
 ghost use Rattle.tftp_player.specs.Stage.{stored_at, committed_at};
-ghost use Rattle.tftp_player.specs.Today.{StepToday, IsPlayable};
-ghost use Rattle.tftp_player.specs.WorldSteps.{WorldRefuses};
-ghost use Rattle.tftp_player.specs.TodayRuns.{Settled, StopsAt};
+ghost use Rattle.tftp_player.specs.Arriving.{IsPlayable};
+ghost use Rattle.tftp_player.specs.WorldSteps.{WorldStep, WorldRefuses};
+ghost use Rattle.tftp_player.specs.Settling.{Settled, StopsAt};
 ghost use Rattle.tftp_player.specs.World.{new_world, file_at};
 ghost use Rattle.tftp_player.specs.WorldSafety.{IsSafe};
 
@@ -133,7 +133,7 @@ impl World {
         requires { IsPlayable event }
         // the step of the event
         ensures steps { IfOk result (λ report.
-            StepToday self.old.state event report self.new.state) }
+            WorldStep self.old.state event report self.new.state) }
         ensures strayed { OnOk result (self.new.strayed ≡ strayed_after self.old.strayed event) }
         ensures refused { IfErr result (WorldRefuses self.old.state event) }
         ensures err { OnErr result (self.new ≡ self.old) }

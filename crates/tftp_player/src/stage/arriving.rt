@@ -4,8 +4,8 @@ ghost use Rattle.std.specs.Prelude.{◌≡◌, ◌≢◌, true, false, ◌<◌, 
 ghost use Rattle.tftp_negotiate.specs.Ranges.{IsBlockSize};
 ghost use Rattle.tftp_player.specs.Machine.{request_port, host_of, Elsewhere};
 ghost use Rattle.tftp_player.specs.Stage.{IsStaged, StageDatagramStep};
-ghost use Rattle.tftp_player.specs.Today.{StepToday, ArrivesToday, ArrivalRefuses, StageAsks, StageArrives, StageLacksPort, StageRefuses};
-ghost use Rattle.tftp_player.specs.WorldSteps.{WorldRefuses};
+ghost use Rattle.tftp_player.specs.Arriving.{ArrivalRefuses, StageAsks, StageArrives, StageLacksPort, StageRefuses};
+ghost use Rattle.tftp_player.specs.WorldSteps.{Lands, WorldRefuses, WorldStep};
 ghost use Rattle.tftp_player.specs.declared.event.Event.TheVariants.{Deliver, Stray};
 
 use crate::effect::{Effect, no_effect, write_down};
@@ -22,7 +22,7 @@ use tftp_wire::Bytes;
 impl Stage {
     /// The datagram at this place of all that was sent arrives.
     pub(super) fn deliver(&mut self, place: usize) -> Result<Report, WorldFault>
-        ensures steps { IfOk result (λ report. StepToday self.old (Deliver place) report self.new) }
+        ensures steps { IfOk result (λ report. WorldStep self.old (Deliver place) report self.new) }
         ensures refused { IfErr result (WorldRefuses self.old (Deliver place)) }
         ensures err { OnErr result (self.new ≡ self.old) }
     {
@@ -61,7 +61,7 @@ impl Stage {
     ) -> Result<Report, WorldFault>
         requires { host_of from ≡ Elsewhere }
         ensures steps { IfOk result (λ report.
-            StepToday self.old (Stray from to bytes.now) report self.new) }
+            WorldStep self.old (Stray from to bytes.now) report self.new) }
         ensures refused { IfErr result (WorldRefuses self.old (Stray from to bytes.now)) }
         ensures err { OnErr result (self.new ≡ self.old) }
     {
@@ -76,7 +76,7 @@ impl Stage {
         bytes: &[u8],
     ) -> Result<Report, WorldFault>
         ensures arrives { IfOk result (λ report.
-            ArrivesToday self.old from to bytes.now report self.new) }
+            Lands self.old from to bytes.now report self.new) }
         ensures refused { IfErr result (ArrivalRefuses self.old to) }
         ensures err { OnErr result (self.new ≡ self.old) }
     {

@@ -1,0 +1,23 @@
+-- How datagrams are delivered one after another.
+use Rattle.std.specs.Prelude.{ℕ, ◌≡◌, ◌+◌, ◌<◌, ◌≤◌, ◌⊎◌, List, length}
+use Rattle.tftp_player.specs.World.{WorldState}
+use Rattle.tftp_player.specs.WorldSteps.{Settles, WorldRefuses}
+use Rattle.tftp_player.specs.declared.event.Event.TheVariants.{Deliver}
+use Rattle.tftp_player.specs.declared.fault.WorldFault.{WorldFault}
+use Rattle.tftp_player.specs.declared.report.Report.{Report}
+
+-- so many were delivered: as many as were wanted, or all that there are
+pub record Settled (old : WorldState) (from most count : ℕ) (new : WorldState) : Type 0 where
+  pub reports : List Report
+  pub delivered : Settles old from reports new
+  pub counted : length reports ≡ count
+  pub bounded : count ≤ most
+  pub all : (count ≡ most) ⊎ (length new.sent ≤ from + count)
+
+-- some were delivered, fewer than were wanted, and the next one, which was left, was refused
+pub record StopsAt (old : WorldState) (from most : ℕ) (fault : WorldFault) (new : WorldState) : Type 0 where
+  pub reports : List Report
+  pub delivered : Settles old from reports new
+  pub fewer : length reports < most
+  pub left : from + length reports < length new.sent
+  pub refused : WorldRefuses new (Deliver (from + length reports)) fault
