@@ -132,10 +132,18 @@ abbrev pub told_served : Option Drafted → Served → Served
 told_served None s = s
 told_served (Some draft) s = record s { refuses = true }
 
+-- the same, by how it ended or what the server holds
+abbrev pub told_by : Option Record → Option Transfer → Served → Served
+told_by (Some r) held s = s
+told_by None held s = told_served (draft_at held) s
+
+abbrev pub told_served_end : ℕ → List (ℕ × Transfer) → Served → Served
+told_served_end port held s = told_by s.ended (at port held) s
+
 -- an end that is told so
 abbrev pub told_player : ℕ → List (ℕ × Transfer) → Player → Player
 told_player port held (Client c) = Client (told_client c)
-told_player port held (Server s) = Server (told_served (draft_at (at port held)) s)
+told_player port held (Server s) = Server (told_served_end port held s)
 
 -- the draft of an end of the server, by how it ended, or else by what the server holds
 abbrev pub served_draft : Served → Option Record → Option Transfer → Option Drafted

@@ -76,32 +76,33 @@ impl Player {
     }
 
     /// Its next append or commit is to be refused, if it is an open receiver.
-    pub(crate) fn refuse_next(&mut self)
-        ensures { self.new ≡ told_player self.old }
+    pub(crate) fn refuse_next(&mut self, server: &Server<MemStore>, port: u16)
+        requires { PlayerKept port server.now.held self.old }
+        ensures { self.new ≡ told_player port server.now.held self.old }
     {
         match self {
             Player::Client(client) => client.refuse_next(),
-            Player::Server(_) => {}
+            Player::Server(served) => served.refuse_next(server, port),
         }
     }
 
     /// What a receiver has stored.
-    pub(crate) fn stored(&self) -> Option<&[u8]>
-        ensures { option_map (λ bytes. bytes.now) result ≡ stored_of self.now }
+    pub(crate) fn stored<'a>(&'a self, server: &'a Server<MemStore>, port: u16) -> Option<&'a [u8]>
+        ensures { option_map (λ bytes. bytes.now) result ≡ stored_of port server.now.held self.now }
     {
         match self {
             Player::Client(client) => client.stored(),
-            Player::Server(_) => None,
+            Player::Server(served) => served.stored(server, port),
         }
     }
 
     /// Whether a receiver has committed what it stored.
-    pub(crate) fn committed(&self) -> bool
-        ensures { result ≡ committed_of self.now }
+    pub(crate) fn committed(&self, server: &Server<MemStore>, port: u16) -> bool
+        ensures { result ≡ committed_of port server.now.held self.now }
     {
         match self {
             Player::Client(client) => client.committed(),
-            Player::Server(_) => false,
+            Player::Server(served) => served.committed(server, port),
         }
     }
 }

@@ -1,12 +1,13 @@
 //! What a world keeps of a server's end, beside the server that plays it.
 
-ghost use Rattle.std.specs.Prelude.{◌≡◌, false, Some, Ok, IfOk, IfErr, OnErr};
+ghost use Rattle.std.specs.Prelude.{◌≡◌, false, Some, Ok, option_copied, option_map, IfOk, IfErr, OnErr};
 ghost use Rattle.tftp_wire.specs.Borrowed.{owned};
 ghost use Rattle.tftp_file.specs.Path.{path_of_name};
-ghost use Rattle.tftp_player.specs.Requested.{IsRequested, IsWanted, requested_by, requested_at};
+ghost use Rattle.tftp_player.specs.Requested.{IsRequested, IsWanted, new_served, receiver_at, requested_by, sender_at};
 ghost use Rattle.tftp_ends.specs.Step.{timeout_turn};
 ghost use Rattle.tftp_server.specs.State.{at};
-ghost use Rattle.tftp_player.specs.Serving.{ServedKept, ServedTimeoutStep, ServedDatagramStep, Concludes, IsHeld, SameServer};
+ghost use Rattle.tftp_player.specs.Played.{IsServed, draft_or_new, served_draft, told_served_end};
+ghost use Rattle.tftp_player.specs.Serving.{ServedKept, ServedTimeoutStep, ServedDatagramStep, Concludes, IsHeld};
 
 use crate::effect::{Effect, effect_of};
 use crate::fault::WorldFault;
@@ -33,6 +34,20 @@ pub(crate) struct Served {
 }
 
 impl Served {
+    /// An end as it opens, for the file at a path.
+    fn new(mode: Mode, path: Path, file: Bytes) -> Served
+        ensures { result ≡ new_served mode path file }
+    {
+        Served {
+            mode,
+            path,
+            file,
+            refuses: false,
+            draft: None,
+            ended: None,
+        }
+    }
+
     /// It takes a timeout, while it is open.
     pub(crate) fn on_timeout(
         &mut self,
@@ -71,16 +86,64 @@ impl Served {
             ServedDatagramStep port from bytes.now self.old self.new server.old server.new r.0
             r.1) }
         ensures memory { IfErr result (λ fault. fault ≡ WorldFault.Memory) }
-        ensures err { OnErr result ((self.new ≡ self.old) × SameServer server.old server.new) }
+        ensures err { OnErr result ((self.new ≡ self.old) × (server.new ≡ server.old)) }
     {
         let mut out = Vec::new(alloc);
-        match server.on_datagram(port, from, bytes, &mut out) {
+        server.store_mut().refuse_next(self.refuses);
+        let answer = server.on_datagram(port, from, bytes, &mut out);
+        let refuses = server.store().refuses();
+        server.store_mut().refuse_next(false);
+        match answer {
             Ok(step) => {
+                self.refuses = refuses;
                 let record = self.conclude(server, port);
                 Ok((effect_of(server_at(port), step, out), record))
             }
             Err(ServerFault::Memory) => Err(WorldFault::Memory),
             Err(_) => unreachable!(),
+        }
+    }
+
+    /// Its next append or commit is to be refused, if it is an open receiver.
+    pub(crate) fn refuse_next(&mut self, server: &Server<MemStore>, port: u16)
+        requires { IsServed port self.old self.old.ended server.now.held }
+        ensures { self.new ≡ told_served_end port server.now.held self.old }
+    {
+        if self.ended.is_none() && server.draft(port).is_some() {
+            self.refuses = true;
+        }
+    }
+
+    /// What it has stored, if it receives.
+    pub(crate) fn stored<'a>(&'a self, server: &'a Server<MemStore>, port: u16) -> Option<&'a [u8]>
+        ensures { option_map (λ bytes. bytes.now) result ≡ option_map (λ d. d.bytes)
+            (served_draft self.now self.now.ended (at port server.now.held)) }
+    {
+        match self.draft(server, port) {
+            Some(draft) => Some(draft.as_bytes()),
+            None => None,
+        }
+    }
+
+    /// Whether what it has stored is committed.
+    pub(crate) fn committed(&self, server: &Server<MemStore>, port: u16) -> bool
+        ensures { result ≡ (draft_or_new (served_draft self.now self.now.ended
+            (at port server.now.held))).committed }
+    {
+        match self.draft(server, port) {
+            Some(draft) => draft.is_committed(),
+            None => false,
+        }
+    }
+
+    /// What it stores in: the server has it while it is open.
+    fn draft<'a>(&'a self, server: &'a Server<MemStore>, port: u16) -> Option<&'a MemDraft>
+        ensures { option_copied result ≡ served_draft self.now self.now.ended
+            (at port server.now.held) }
+    {
+        match self.ended {
+            Some(_) => self.draft.as_ref(),
+            None => server.draft(port),
         }
     }
 
@@ -90,7 +153,8 @@ impl Served {
         ensures { Concludes port (at port server.old.held) self.old self.new server.old server.new
             result }
     {
-        if let Some((record, _)) = server.take_closed(port) {
+        if let Some((record, draft)) = server.take_closed(port) {
+            self.draft = draft;
             self.ended = Some(record);
             return record;
         }
@@ -118,8 +182,7 @@ pub(crate) fn wanted_end(
     }
 }
 
-/// What a datagram asks for: the end that may open, with its own copy of the file that is there. Only
-/// reads are served today.
+/// What a datagram asks for: the end that may open, with its own copy of the file that it sends.
 fn requested_end(
     alloc: Global,
     store: &MemStore,
@@ -141,8 +204,8 @@ fn requested_by(
     ensures { IfOk result (λ o. o ≡ requested_by store.now.files (Some (owned packet.now))) }
 {
     match packet {
-        PacketRef::Read(request) => requested_at(alloc, store, request.mode, request.name),
-        PacketRef::Write(_) => Ok(None),
+        PacketRef::Read(request) => sender_at(alloc, store, request.mode, request.name),
+        PacketRef::Write(request) => receiver_at(alloc, request.mode, request.name),
         PacketRef::Data { .. } => Ok(None),
         PacketRef::Ack { .. } => Ok(None),
         PacketRef::Error { .. } => Ok(None),
@@ -151,16 +214,16 @@ fn requested_by(
 }
 
 /// The end that sends the file of this name, if there is one.
-fn requested_at(
+fn sender_at(
     alloc: Global,
     store: &MemStore,
     mode: Mode,
     name: &[u8],
 ) -> Result<Option<Served>, WorldFault>
-    ensures { IfOk result (λ o. o ≡ requested_at store.now.files mode (path_of_name name.now)) }
+    ensures { IfOk result (λ o. o ≡ sender_at store.now.files mode (path_of_name name.now)) }
 {
     match path_of(alloc, name) {
-        Ok(path) => requested_file(alloc, store, mode, path),
+        Ok(path) => sender_of(alloc, store, mode, path),
         Err(PathFault::Memory) => Err(WorldFault::Memory),
         Err(PathFault::Empty) => Ok(None),
         Err(PathFault::Segment) => Ok(None),
@@ -169,24 +232,33 @@ fn requested_at(
     }
 }
 
-fn requested_file(
+fn sender_of(
     alloc: Global,
     store: &MemStore,
     mode: Mode,
     path: Path,
 ) -> Result<Option<Served>, WorldFault>
-    ensures { IfOk result (λ o. o ≡ requested_at store.now.files mode (Ok path)) }
+    ensures { IfOk result (λ o. o ≡ sender_at store.now.files mode (Ok path)) }
 {
     match store.file(&path) {
         None => Ok(None),
         Some(file) => match Bytes::from_slice(alloc, file) {
-            Ok(file) => Ok(Some(Served {
-                mode,
-                path,
-                file,
-                ended: None,
-            })),
+            Ok(file) => Ok(Some(Served::new(mode, path, file))),
             Err(_) => Err(WorldFault::Memory),
         },
+    }
+}
+
+/// The end that stores a file under this name.
+fn receiver_at(alloc: Global, mode: Mode, name: &[u8]) -> Result<Option<Served>, WorldFault>
+    ensures { IfOk result (λ o. o ≡ receiver_at mode (path_of_name name.now)) }
+{
+    match path_of(alloc, name) {
+        Ok(path) => Ok(Some(Served::new(mode, path, Bytes::from(Vec::new(alloc))))),
+        Err(PathFault::Memory) => Err(WorldFault::Memory),
+        Err(PathFault::Empty) => Ok(None),
+        Err(PathFault::Segment) => Ok(None),
+        Err(PathFault::Depth) => Ok(None),
+        Err(PathFault::Length) => Ok(None),
     }
 }

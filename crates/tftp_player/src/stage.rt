@@ -102,7 +102,7 @@ impl Stage {
     {
         match place_of(port, self.players.len()) {
             None => None,
-            Some(place) => self.players[place].stored(),
+            Some(place) => self.players[place].stored(&self.server, port),
         }
     }
 
@@ -112,7 +112,7 @@ impl Stage {
     {
         match place_of(port, self.players.len()) {
             None => false,
-            Some(place) => self.players[place].committed(),
+            Some(place) => self.players[place].committed(&self.server, port),
         }
     }
 
@@ -182,7 +182,7 @@ impl Stage {
             return Err(WorldFault::NoSuchEnd);
         };
         let player = &mut self.players[place];
-        player.refuse_next();
+        player.refuse_next(&self.server, port);
         Ok(Report {
             added: None,
             closed: None,
