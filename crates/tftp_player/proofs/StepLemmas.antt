@@ -10,10 +10,10 @@ use Rattle.tftp_file.specs.Netascii.{wire_text}
 use Rattle.tftp_file.specs.Sink.{Holding}
 use Rattle.tftp_ends.specs.declared.phase.Phase.{Phase}
 use Rattle.tftp_ends.specs.End.{is_sender, is_client}
-use Rattle.tftp_ends.specs.Step.{Turn, DatagramStep, timeout_turn}
+use Rattle.tftp_ends.specs.Step.{Turn, timeout_turn}
 use Rattle.tftp_player.specs.Machine.{Endpoint, request_port}
 use Rattle.tftp_player.specs.World.{WorldState, OpenedEnd, StoredFile, file_at, in_the_way, is_closed, replied, files_of, end_after, has_committed, world_after, report_of, no_report, opened_in, sent_report, at_rest, resting}
-use Rattle.tftp_player.specs.WorldSteps.{never_fails, may_refuse_append, may_refuse_commit, FilesAfter, Turns, Arrives, At_open_end, At_closed_end, At_nobody, HasPort, IsAtPort, TimesOut, told_to_refuse, WorldStep}
+use Rattle.tftp_player.specs.WorldSteps.{EndStep, FilesAfter, Turns, At_open_end, At_closed_end, At_nobody, HasPort, IsAtPort, TimesOut, told_to_refuse, WorldStep, Lands}
 use Rattle.tftp_player.specs.Openings.{reading_client, writing_client, MayGet, MayPut}
 use Rattle.tftp_player.specs.declared.event.Event.TheVariants.{Get, Put, Timeout, RefuseStore}
 use Rattle.tftp_player.specs.declared.report.Report.{Report}
@@ -88,21 +88,23 @@ refuse_step w port k x r at =
     map-set at_rest w.ends k y ∙ (ap (λ (ends : List OpenedEnd). slice_set ends k (at_rest y)) r ∙ ap (λ (z : OpenedEnd). slice_set w.ends k z) own) in
     (v, (k, x, at, refl, refl), sym (resting_same v rests))
 
--- what arrived, and then closed ends at rest
-abbrev pub ArrivesAtRest : WorldState → Endpoint → Endpoint → List ℕ → Report → WorldState → Type 0
-ArrivesAtRest w from to bytes report new = (mid : WorldState) × Arrives w from to bytes report mid × (new ≡ resting mid)
+-- the world, after a turn of the end at place k, with these files of the server
+abbrev pub turned_with : WorldState → ℕ → OpenedEnd → Turn → Files (List ℕ) Holding → List StoredFile → WorldState
+turned_with w k x turn held files =
+    record w { sent = w.sent ++ replied x.address turn.reply; files = files; ends = slice_set w.ends k (at_rest (end_after x turn held)) }
 
--- at an open end that heard it, and changed no file of the server
-pub open_arrives : (w : WorldState) (k : ℕ) (x : OpenedEnd) (from : Endpoint) (bytes : List ℕ) (turn : Turn) (held : Files (List ℕ) Holding) → IsAtRest w → slice_get w.ends k ≡ Some x → is_closed x ≡ false →
-    DatagramStep (λ (s : List ℕ). Some s) never_fails (λ (h : Holding). Some h) may_refuse_append (may_refuse_commit (is_client x.state.side) (in_the_way w.overwrite (file_at w.files x.path))) from bytes x.state (files_of x) turn held →
-    FilesAfter w.overwrite (not (is_client x.state.side) && has_committed x (end_after x turn held)) x.path (end_after x turn held).stored w.files w.files →
-    ArrivesAtRest w from x.address bytes (report_of w x turn) (turned w k x turn held)
-open_arrives w k x from bytes turn held r at open_now steps same =
-    (world_after w k x turn held w.files, At_open_end k x at refl open_now (record { turn = turn; held = held; steps = steps; turns = turns_as w k x turn held same }), turned_rests w k x turn held r)
+-- at an open end that heard it
+pub open_arrives : (w : WorldState) (k : ℕ) (x : OpenedEnd) (from : Endpoint) (bytes : List ℕ) (turn : Turn) (held : Files (List ℕ) Holding) (files : List StoredFile) → IsAtRest w → slice_get w.ends k ≡ Some x → is_closed x ≡ false →
+    EndStep (is_client x.state.side) (in_the_way w.overwrite (file_at w.files x.path)) from bytes x.state (files_of x) turn held →
+    FilesAfter w.overwrite (not (is_client x.state.side) && has_committed x (end_after x turn held)) x.path (end_after x turn held).stored w.files files →
+    Lands w from x.address bytes (report_of w x turn) (turned_with w k x turn held files)
+open_arrives w k x from bytes turn held files r at open_now steps stored =
+    let turns : Turns w k x turn held (report_of w x turn) (world_after w k x turn held files) = record { files = files; stored = stored; tells = refl; is = refl } in
+    (world_after w k x turn held files, At_open_end k x at refl open_now (record { turn = turn; held = held; steps = steps; turns = turns }), sym (resting_after w k x turn held files r))
 
 -- at a closed end
 pub closed_arrives : (w : WorldState) (k : ℕ) (x : OpenedEnd) (from : Endpoint) (bytes : List ℕ) → IsAtRest w → slice_get w.ends k ≡ Some x → is_closed x ≡ true →
-    ArrivesAtRest w from x.address bytes no_report w
+    Lands w from x.address bytes no_report w
 closed_arrives w k x from bytes r at closed_now = (w, At_closed_end k x at refl closed_now (record { tells = refl; is = refl }), sym (resting_same w r))
 
 -- each end has the port of its place
@@ -111,7 +113,7 @@ HasPorts w = (k : ℕ) (x : OpenedEnd) → slice_get w.ends k ≡ Some x → x.a
 
 -- where no end has the port
 pub none_arrives : (w : WorldState) (from to : Endpoint) (bytes : List ℕ) → IsAtRest w → HasPorts w → to ≢ request_port → (to.port < 1024) ⊎ (1024 + length w.ends ≤ to.port) →
-    ArrivesAtRest w from to bytes no_report w
+    Lands w from to bytes no_report w
 none_arrives w from to bytes r ports away none = (w, At_nobody away nobody (record { tells = refl; is = refl }), sym (resting_same w r)) where
   outside : (k : ℕ) → k < length w.ends → to.port ≡ 1024 + k → (to.port < 1024) ⊎ (1024 + length w.ends ≤ to.port) → ⊥
   outside k within here (inl low) = omega arith
@@ -122,7 +124,7 @@ none_arrives w from to bytes r ports away none = (w, At_nobody away nobody (reco
 
 -- where the end with the port is at the other host
 pub other_arrives : (w : WorldState) (from to : Endpoint) (bytes : List ℕ) (k : ℕ) (x : OpenedEnd) → IsAtRest w → HasPorts w → to ≢ request_port → slice_get w.ends k ≡ Some x → to.port ≡ 1024 + k →
-    x.address ≢ to → ArrivesAtRest w from to bytes no_report w
+    x.address ≢ to → Lands w from to bytes no_report w
 other_arrives w from to bytes k x r ports away there port differs = (w, At_nobody away nobody (record { tells = refl; is = refl }), sym (resting_same w r)) where
   nobody : (j : ℕ) (y : OpenedEnd) → slice_get w.ends j ≡ Some y → y.address ≢ to
   nobody j y e same =

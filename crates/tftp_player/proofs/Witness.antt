@@ -5,9 +5,9 @@ use Rattle.std.proofs.lemmas.Bool.{true≢false, ltb-true}
 use Rattle.tftp_file.specs.declared.files.Files.{Files}
 use Rattle.tftp_file.specs.Sink.{Holding}
 use Rattle.tftp_ends.specs.End.{is_client}
-use Rattle.tftp_ends.specs.Step.{Turn, DatagramStep}
+use Rattle.tftp_ends.specs.Step.{Turn}
 use Rattle.tftp_player.specs.World.{WorldState, OpenedEnd, StoredFile, file_at, in_the_way, files_of, is_closed, end_after, has_committed, replied, world_after, report_of, at_rest}
-use Rattle.tftp_player.specs.WorldSteps.{never_fails, may_refuse_append, may_refuse_commit, FilesAfter, At_open_end, WorldStep}
+use Rattle.tftp_player.specs.WorldSteps.{EndStep, FilesAfter, At_open_end, WorldStep}
 use Rattle.tftp_player.specs.declared.datagram.Datagram.{Datagram}
 use Rattle.tftp_player.specs.declared.event.Event.TheVariants.{Deliver}
 use Rattle.tftp_player.proofs.Resting.{IsAtRest, resting_after}
@@ -33,7 +33,7 @@ bytes_below (b ∷ bytes) e (suc k) = bytes_below bytes (second_of (nat_lt b 256
 -- an open end took a datagram
 pub takes : (w : WorldState) (i k : ℕ) (d : Datagram) (x : OpenedEnd) (turn : Turn) (held : Files (List ℕ) Holding) (files : List StoredFile) → IsAtRest w →
     slice_get w.sent i ≡ Some d → slice_get w.ends k ≡ Some x → x.address ≡ d.to → is_closed x ≡ false →
-    DatagramStep (λ (s : List ℕ). Some s) never_fails (λ (h : Holding). Some h) may_refuse_append (may_refuse_commit (is_client x.state.side) (in_the_way w.overwrite (file_at w.files x.path))) d.from d.bytes x.state (files_of x) turn held →
+    EndStep (is_client x.state.side) (in_the_way w.overwrite (file_at w.files x.path)) d.from d.bytes x.state (files_of x) turn held →
     FilesAfter w.overwrite (not (is_client x.state.side) && has_committed x (end_after x turn held)) x.path (end_after x turn held).stored w.files files →
     WorldStep w (Deliver i) (report_of w x turn)
     (record w { sent = w.sent ++ replied x.address turn.reply; files = files; ends = slice_set w.ends k (at_rest (end_after x turn held)) })

@@ -38,10 +38,14 @@ may_refuse_commit false there holding faults.Full = (holding.refuses ≡ true) �
 may_refuse_commit false there holding faults.Exists = (holding.refuses ≡ false) × (there ≢ None)
 may_refuse_commit client there holding fault = ⊥
 
+-- a sink of the world does no more than what it holds tells
+abbrev pub nothing_else : Holding → Holding → Bool → Type 0
+nothing_else before after committed = ⊤
+
 -- what an open end does at a datagram with its file, where this stands in the way of what it stores
 abbrev pub EndStep : Bool → Option (List ℕ) → Endpoint → List ℕ → EndState → Files (List ℕ) Holding → Turn → Files (List ℕ) Holding → Type 0
 EndStep client there from bytes e files turn files' =
-    DatagramStep (λ (s : List ℕ). Some s) never_fails (λ (h : Holding). Some h) may_refuse_append (may_refuse_commit client there) (λ (a b : Holding) (committed : Bool). ⊤) from bytes e files turn files'
+    DatagramStep (λ (s : List ℕ). Some s) never_fails (λ (h : Holding). Some h) may_refuse_append (may_refuse_commit client there) nothing_else from bytes e files turn files'
 
 -- the file now stands under a path where none was in the way, and the others stand where they stood
 pub record IsStored (overwrite : Bool) (path bytes : List ℕ) (old new : List StoredFile) : Type 0 where
