@@ -6,4 +6,4 @@ conclude-record-requires c = times_out_held _ _ _ _ _ _ c.in-Ok.ensures.steps
 
 pub returns-in-Ok-clause-turns : goal.returns-in-Ok-clause-turns
 returns-in-Ok-clause-turns c =
-    served_times_out _ _ _ _ _ _ _ _ _ _ _ c.new-out.ensures.items c.requires c.in-Ok.ensures.steps c.in-Ok.ensures.rest c.conclude-record.ensures _ c.server_at.ensures c.effect_of.ensures
+    served_times_out _ _ _ _ _ _ _ _ _ _ _ c.new-out.ensures.items c.in-Ok.ensures.steps c.in-Ok.ensures.rest c.conclude-record.ensures _ c.server_at.ensures c.effect_of.ensures
