@@ -1,5 +1,6 @@
 -- The transfers that a server holds, in rising order of their identifiers.
 use Rattle.std.proofs.Common.{◌≡◌, ◌≢◌, ℕ, suc, ◌+◌, ◌<◌, Bool, true, false, List, [], ◌∷◌, ◌++◌, length, cond, Option, Some, None, refl, sym, ap, ◌∙◌, subst, arith}
+use Rattle.std.proofs.lemmas.Bool.{true≢false}
 use Rattle.std.proofs.lemmas.Bool.Decides.{nat_tests}
 use Rattle.std.specs.BTreeMap.{is_at}
 use Rattle.std.specs.Cmp.{nat_cmp_is}
@@ -8,6 +9,7 @@ use Rattle.std.specs.Ordering.{nat_cmp, match_ordering, is_eq}
 use Rattle.std.specs.declared.cmp.Ordering.{Ordering}
 use Rattle.std.specs.declared.cmp.Ordering.TheVariants.{Equal, Greater}
 use Rattle.tftp_server.specs.State.{at, with_new, with_next, without}
+use Rattle.tftp_player.specs.Stage.{IsRising}
 
 -- the test of an identifier passes at that identifier alone
 pub at_same : (tid k : ℕ) → k ≡ tid → is_at (nat_cmp tid) k ≡ true
@@ -128,10 +130,72 @@ module _ {T : Type 0} where
   AllKeys-without P tid [] all = tt
   AllKeys-without P tid (e ∷ held) all = all_out P e held (without tid held) (is_at (nat_cmp tid) e.0) all (AllKeys-without P tid held all.1)
 
-  -- below the next identifier, where below this one
+  pub AllKeys-with_new : (P : ℕ → Type 0) (tid : ℕ) (new : T) (held : List (ℕ × T)) → AreBelow tid held → AllByRecursion (λ (f : ℕ × T). P f.0) held → P tid →
+      AllByRecursion (λ (f : ℕ × T). P f.0) (with_new tid new held)
+  AllKeys-with_new P tid new held below all p =
+      subst (AllByRecursion (λ (f : ℕ × T). P f.0)) (sym (with_new-last tid new held below)) (all_pushed (λ (f : ℕ × T). P f.0) tid new held all p)
+
+  -- what follows of it holds of all, and what follows of two things
   all_weaker : (P Q : ℕ → Type 0) (held : List (ℕ × T)) → ((k : ℕ) → P k → Q k) → AllByRecursion (λ (f : ℕ × T). P f.0) held → AllByRecursion (λ (f : ℕ × T). Q f.0) held
   all_weaker P Q [] f all = tt
   all_weaker P Q (e ∷ held) f all = (f e.0 all.0, all_weaker P Q held f all.1)
+
+  pub AllKeys-weaker : (P Q : ℕ → Type 0) (held : List (ℕ × T)) → ((k : ℕ) → P k → Q k) → AllByRecursion (λ (f : ℕ × T). P f.0) held → AllByRecursion (λ (f : ℕ × T). Q f.0) held
+  AllKeys-weaker = all_weaker
+
+  pub all_both : (P Q R : ℕ × T → Type 0) (held : List (ℕ × T)) → ((e : ℕ × T) → P e → Q e → R e) → AllByRecursion P held → AllByRecursion Q held → AllByRecursion R held
+  all_both P Q R [] f all also = tt
+  all_both P Q R (e ∷ held) f all also = (f e all.0 also.0, all_both P Q R held f all.1 also.1)
+
+  -- the identifiers still rise
+  rising_next : (next : T) (e : ℕ × T) (held more : List (ℕ × T)) (b : Bool) → IsRising (e ∷ held) → IsRising more → AllByRecursion (λ (f : ℕ × T). e.0 < f.0) more →
+      IsRising (cond b ((e.0, next) ∷ held) (e ∷ more))
+  rising_next next e held more true rises rest above = (rises.0, rises.1)
+  rising_next next e held more false rises rest above = (above, rest)
+
+  pub IsRising-with_next : (tid : ℕ) (next : T) (held : List (ℕ × T)) → IsRising held → IsRising (with_next tid next held)
+  IsRising-with_next tid next [] rises = tt
+  IsRising-with_next tid next (e ∷ held) rises =
+      rising_next next e held (with_next tid next held) (is_at (nat_cmp tid) e.0) rises (IsRising-with_next tid next held rises.1) (AllKeys-with_next (λ (k : ℕ). e.0 < k) tid next held rises.0)
+
+  rising_out : (e : ℕ × T) (held more : List (ℕ × T)) (b : Bool) → IsRising (e ∷ held) → IsRising more → AllByRecursion (λ (f : ℕ × T). e.0 < f.0) more → IsRising (cond b held (e ∷ more))
+  rising_out e held more true rises rest above = rises.1
+  rising_out e held more false rises rest above = (above, rest)
+
+  pub IsRising-without : (tid : ℕ) (held : List (ℕ × T)) → IsRising held → IsRising (without tid held)
+  IsRising-without tid [] rises = tt
+  IsRising-without tid (e ∷ held) rises =
+      rising_out e held (without tid held) (is_at (nat_cmp tid) e.0) rises (IsRising-without tid held rises.1) (AllKeys-without (λ (k : ℕ). e.0 < k) tid held rises.0)
+
+  rising_pushed : (tid : ℕ) (new : T) (held : List (ℕ × T)) → AreBelow tid held → IsRising held → IsRising (held ++ (tid, new) ∷ [])
+  rising_pushed tid new [] below rises = (tt, tt)
+  rising_pushed tid new (e ∷ held) below rises = (all_pushed (λ (f : ℕ × T). e.0 < f.0) tid new held rises.0 below.0, rising_pushed tid new held below.1 rises.1)
+
+  pub IsRising-with_new : (tid : ℕ) (new : T) (held : List (ℕ × T)) → AreBelow tid held → IsRising held → IsRising (with_new tid new held)
+  IsRising-with_new tid new held below rises = subst IsRising (sym (with_new-last tid new held below)) (rising_pushed tid new held below rises)
+
+  -- where they rise, the one that is taken out is gone
+  gone_out : (tid : ℕ) (e : ℕ × T) (held more : List (ℕ × T)) (b : Bool) → is_at (nat_cmp tid) e.0 ≡ b → AllByRecursion (λ (f : ℕ × T). e.0 < f.0) held → AllByRecursion (λ (f : ℕ × T). f.0 ≢ tid) more →
+      AllByRecursion (λ (f : ℕ × T). f.0 ≢ tid) (cond b held (e ∷ more))
+  gone_out tid e held more true h above rest =
+      let here = same_at tid e.0 h in
+      all_weaker (λ (k : ℕ). e.0 < k) (λ (k : ℕ). k ≢ tid) held (λ k l. let n : k ≢ tid = omega (arith, here, l) in n) above
+  gone_out tid e held more false h above rest = ((λ same. true≢false (sym (at_same tid e.0 same) ∙ h)), rest)
+
+  pub gone-without : (tid : ℕ) (held : List (ℕ × T)) → IsRising held → AllByRecursion (λ (f : ℕ × T). f.0 ≢ tid) (without tid held)
+  gone-without tid [] rises = tt
+  gone-without tid (e ∷ held) rises = gone_out tid e held (without tid held) (is_at (nat_cmp tid) e.0) refl rises.0 (gone-without tid held rises.1)
+
+  -- and each one is found
+  pub each_found : (held : List (ℕ × T)) → IsRising held → AllByRecursion (λ (f : ℕ × T). at f.0 held ≡ Some f.1) held
+  each_found [] rises = tt
+  each_found (e ∷ held) rises = (
+    ap (λ (b : Bool). cond b (Some e.1) (at e.0 held)) (at_same e.0 e.0 refl),
+    all_both (λ (f : ℕ × T). e.0 < f.0) (λ (f : ℕ × T). at f.0 held ≡ Some f.1) (λ (f : ℕ × T). at f.0 (e ∷ held) ≡ Some f.1) held
+    (λ f above found. ap (λ (b : Bool). cond b (Some e.1) (at f.0 held)) (at_other f.0 e.0 (let n : e.0 ≢ f.0 = omega (arith, above) in n)) ∙ found) rises.0 (each_found held rises.1),
+  )
+
+  -- below the next identifier, where below this one
 
   pub AreBelow-more : (tid more : ℕ) (held : List (ℕ × T)) → tid < more → AreBelow tid held → AreBelow more held
   AreBelow-more tid more held l below = all_weaker (λ (k : ℕ). k < tid) (λ (k : ℕ). k < more) held (λ k h. omega arith) below

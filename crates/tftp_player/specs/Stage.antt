@@ -34,6 +34,11 @@ pub record IsOwned (players : List Player) (port : ℕ) : Type 0 where
   pub there : slice_get players place ≡ Some (Server served)
   pub lives : served.ended ≡ None
 
+-- each identifier is below those that follow
+abbrev pub IsRising : {T : Type 0} → List (ℕ × T) → Type 0
+IsRising [] = Unit {0}
+IsRising {T = T} (e ∷ held) = AllByRecursion (λ (f : ℕ × T). e.0 < f.0) held × IsRising held
+
 -- the ends, the server and what is recorded agree
 pub record IsStaged (server : PlayedServer) (players : List Player) (records : List (ℕ × Record)) : Type 0 where
   pub kept : AllKept 1024 server.held players
@@ -42,6 +47,8 @@ pub record IsStaged (server : PlayedServer) (players : List Player) (records : L
   pub below : AllByRecursion (λ (e : ℕ × Transfer). e.0 < 1024 + length players) server.held
   pub count : length server.held ≡ open_transfers (ends_of server players)
   pub owned : AllByRecursion (λ (e : ℕ × Transfer). IsOwned players e.0) server.held
+  -- each in one place
+  pub rising : IsRising server.held
   -- between two events the store is told to refuse nothing
   pub quiet : server.store.refuses ≡ false
 
