@@ -54,4 +54,4 @@ pub mod TellingLemmas
 pub mod ArrivalLemmas
 pub mod RefusingLemmas
 pub mod AskingLemmas
-mod TodayKeeps
+mod PlayedKeeps

@@ -6,8 +6,7 @@ use Rattle.tftp_file.specs.declared.files.Files.{Files}
 use Rattle.tftp_file.specs.Sink.{Holding}
 use Rattle.tftp_server.specs.Port.{Service, Silent, Refused, Sends, Takes}
 use Rattle.tftp_player.specs.Machine.{Endpoint}
-use Rattle.tftp_player.specs.OneAtMost.{AddsOneAtMost, EventsAddOneAtMost, TodayAddsOneAtMost}
-use Rattle.tftp_player.specs.Today.{ArrivesToday, At_port, Elsewhere}
+use Rattle.tftp_player.specs.OneAtMost.{AddsOneAtMost, EventsAddOneAtMost}
 use Rattle.tftp_player.specs.World.{WorldState, OpenedEnd, replied, resting}
 use Rattle.tftp_player.specs.WorldSteps.{Serves, Arrives, At_request_port, At_open_end, At_closed_end, At_nobody, Opens, Stays, Turns, TimesOut, EventStep}
 use Rattle.tftp_player.specs.declared.event.Event.{Event}
@@ -41,14 +40,14 @@ turns old new k x turn held report t = record {
   sent = ap (λ (w : WorldState). w.sent) t.is;
 }
 
-serves : (service : Service) (old new : WorldState) (from : Endpoint) (report : Report) → Serves service old from report new → AddsOneAtMost old new
-serves Silent old new from report s = stays old new report s
-serves (Refused reply) old new from report s = record { said = _; few = omega arith; sent = ap (λ (w : WorldState). w.sent) s.1 }
-serves (Sends path mode length agreed) old new from report s = opens old new _ report s.2
-serves (Takes path mode agreed) old new from report s = opens old new _ report s
+serves : (service : Service) (old new : WorldState) (from : Endpoint) (bytes : List ℕ) (report : Report) → Serves service old from bytes report new → AddsOneAtMost old new
+serves Silent old new from bytes report s = stays old new report s
+serves (Refused reply) old new from bytes report s = record { said = _; few = omega arith; sent = ap (λ (w : WorldState). w.sent) s.1 }
+serves (Sends path mode length agreed) old new from bytes report s = opens old new _ report s.2
+serves (Takes path mode agreed) old new from bytes report s = opens old new _ report s
 
 arrives : (old new : WorldState) (from to : Endpoint) (bytes : List ℕ) (report : Report) → Arrives old from to bytes report new → AddsOneAtMost old new
-arrives old new from to bytes report (At_request_port here port decoded says repeated served) = serves _ old new from report served
+arrives old new from to bytes report (At_request_port here port decoded says repeated same served) = serves _ old new from bytes report served
 arrives old new from to bytes report (At_open_end k x there at open_now takes) = turns old new k x takes.turn takes.held report takes.turns
 arrives old new from to bytes report (At_closed_end k x there at closed_now s) = stays old new report s
 arrives old new from to bytes report (At_nobody away nobody s) = stays old new report s
@@ -69,19 +68,3 @@ pub events_add_one_at_most : EventsAddOneAtMost
 events_add_one_at_most old new event report s =
     let a = happens old s.0 event report s.1 in
     record { said = a.said; few = a.few; sent = ap (λ (w : WorldState). w.sent) s.2 ∙ a.sent }
-
--- closed ends go to rest
-rested : (old mid new : WorldState) → new ≡ resting mid → AddsOneAtMost old mid → AddsOneAtMost old new
-rested old mid new e a = record { said = a.said; few = a.few; sent = ap (λ (w : WorldState). w.sent) e ∙ a.sent }
-
-arrives_today : (old new : WorldState) (from to : Endpoint) (bytes : List ℕ) (report : Report) → ArrivesToday old from to bytes report new → AddsOneAtMost old new
-arrives_today old new from to bytes report (At_port here port decoded says repeated mid served is) = rested old mid new is (serves _ old mid from report served)
-arrives_today old new from to bytes report (Elsewhere away mid a is) = rested old mid new is (arrives old mid from to bytes report a)
-
-pub today_adds_one_at_most : TodayAddsOneAtMost
-today_adds_one_at_most old new (Get name mode asked) report s = events_add_one_at_most old new (Get name mode asked) report s
-today_adds_one_at_most old new (Put name mode asked bytes) report s = events_add_one_at_most old new (Put name mode asked bytes) report s
-today_adds_one_at_most old new (Deliver i) report s = arrives_today old new _ _ _ report s.2
-today_adds_one_at_most old new (Timeout port) report s = events_add_one_at_most old new (Timeout port) report s
-today_adds_one_at_most old new (RefuseStore port) report s = events_add_one_at_most old new (RefuseStore port) report s
-today_adds_one_at_most old new (Stray from to bytes) report s = arrives_today old new _ _ _ report s.1

@@ -21,13 +21,14 @@ use Rattle.tftp_ends.specs.Waiting.{agreed_terms}
 use Rattle.tftp_server.specs.declared.config.Config.{Config}
 use Rattle.tftp_player.specs.Completing.{Transfers, blocks_of_8}
 use Rattle.tftp_player.specs.Openings.{reading_client, sending_end}
+use Rattle.tftp_player.specs.Requests.{service}
 use Rattle.tftp_player.specs.World.{WorldState, OpenedEnd, StoredFile, new_world, end_after, replied, report_of, opened_in, sent_report, at_rest}
-use Rattle.tftp_player.specs.WorldSteps.{At_request_port, WorldStep}
+use Rattle.tftp_player.specs.WorldSteps.{Serves, At_request_port, WorldStep}
 use Rattle.tftp_player.specs.declared.datagram.Datagram.{Datagram}
 use Rattle.tftp_player.specs.declared.event.Event.TheVariants.{Get, Deliver}
 use Rattle.tftp_player.proofs.Resting.{resting_opened}
 use Rattle.tftp_player.proofs.StepLemmas.{get_step}
-use Rattle.tftp_player.proofs.Witness.{bytes_below, takes}
+use Rattle.tftp_player.proofs.Witness.{bytes_below, first_request, takes}
 
 -- ---- a read of one byte in octet, in blocks of 8 bytes
 abbrev name : List ℕ
@@ -58,7 +59,7 @@ abbrev d0 : Datagram
 d0 = record { from = client.address; to = client.state.last_sent_to; bytes = client.state.last_sent }
 
 abbrev server : OpenedEnd
-server = sending_end w1 client.address Octet name file agreed
+server = sending_end w1 client.address d0.bytes Octet name file agreed
 
 abbrev w2 : WorldState
 w2 = opened_in w1 server
@@ -127,11 +128,14 @@ asks = get_step w0 name Octet blocks_of_8 refl (omega arith) (record { valid = r
 request_spelled : Decodes d0.bytes (Some (packet_in d0.bytes))
 request_spelled = fine_spells d0.bytes (bytes_below d0.bytes (rw eight refl)) (rw eight refl)
 
-opens : WorldStep w1 (Deliver 0) (sent_report w1) w2
+request_served : Serves (service w1 false d0.bytes (Some (packet_in d0.bytes))) w1 client.address d0.bytes (sent_report w1) w2
 unfolding places_of name_of answered_option
+request_served = rw (eight, read_8) (file, refl, record { tells = refl; is = rw eight refl })
+
+opens : WorldStep w1 (Deliver 0) (sent_report w1) w2
 opens = (
   w2,
-  (d0, refl, At_request_port refl (omega arith) (Some (packet_in d0.bytes)) request_spelled false (rw (eight, read_8) (file, refl, record { tells = refl; is = rw eight refl }))),
+  (d0, refl, At_request_port refl (omega arith) (Some (packet_in d0.bytes)) request_spelled false (first_request client.address (packet_in d0.bytes) client refl) request_served),
   sym (resting_opened w1 server refl refl),
 )
 
@@ -167,9 +171,9 @@ stores = takes w4 3 0 d3 receiving turn5 (Sink stored) files refl refl refl refl
         mid = record { bytes = file; committed = false; refuses = false };
         answer = Ok done;
         decoded = (refl, refl);
-        appended = (refl, tt);
+        appended = (refl, tt, tt);
         memory = λ e. absurd (cc);
-        rest = record { answer = Ok done; commits = refl; refused = tt; answers = refl };
+        rest = record { answer = Ok done; commits = refl; refused = tt; leaves = tt; answers = refl };
       };
     }) refl
 

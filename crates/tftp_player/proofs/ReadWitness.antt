@@ -19,7 +19,7 @@ use Rattle.tftp_player.specs.declared.datagram.Datagram.{Datagram}
 use Rattle.tftp_player.specs.declared.event.Event.TheVariants.{Get, Deliver}
 use Rattle.tftp_player.proofs.Resting.{resting_opened}
 use Rattle.tftp_player.proofs.StepLemmas.{get_step}
-use Rattle.tftp_player.proofs.Witness.{bytes_below, takes}
+use Rattle.tftp_player.proofs.Witness.{bytes_below, first_request, takes}
 
 -- ---- a read of one byte, in octet and without options
 abbrev name : List ℕ
@@ -47,7 +47,7 @@ abbrev d0 : Datagram
 d0 = record { from = client.address; to = client.state.last_sent_to; bytes = client.state.last_sent }
 
 abbrev server : OpenedEnd
-server = sending_end w1 client.address Octet name file []
+server = sending_end w1 client.address d0.bytes Octet name file []
 
 abbrev w2 : WorldState
 w2 = opened_in w1 server
@@ -83,7 +83,7 @@ opens : WorldStep w1 (Deliver 0) (sent_report w1) w2
 unfolding places_of
 opens = (
   w2,
-  (d0, refl, At_request_port refl (omega arith) (Some (packet_in d0.bytes)) (fine_spells d0.bytes (bytes_below d0.bytes refl) refl) false (file, refl, record { tells = refl; is = refl })),
+  (d0, refl, At_request_port refl (omega arith) (Some (packet_in d0.bytes)) (fine_spells d0.bytes (bytes_below d0.bytes refl) refl) false (first_request client.address (packet_in d0.bytes) client refl) (file, refl, record { tells = refl; is = refl })),
   sym (resting_opened w1 server refl refl),
 )
 
@@ -98,9 +98,9 @@ stores = takes w2 1 0 d1 client turn3 (Sink held3) files refl refl refl refl ref
         mid = record { bytes = file; committed = false; refuses = false };
         answer = Ok done;
         decoded = (refl, refl);
-        appended = (refl, tt);
+        appended = (refl, tt, tt);
         memory = λ e. absurd (cc);
-        rest = record { answer = Ok done; commits = refl; refused = tt; answers = refl };
+        rest = record { answer = Ok done; commits = refl; refused = tt; leaves = tt; answers = refl };
       };
     }) refl
 

@@ -15,9 +15,8 @@ use Rattle.tftp_player.specs.Draw.{drawn, words_drawn}
 use Rattle.tftp_player.specs.Machine.{Endpoint}
 use Rattle.tftp_player.specs.Played.{records_from}
 use Rattle.tftp_player.specs.PlayedWorld.{HasSentEach}
-use Rattle.tftp_player.specs.Today.{StepToday, ArrivesToday, At_port, Elsewhere}
 use Rattle.tftp_player.specs.World.{WorldState, OpenedEnd, at_rest, resting, replied, end_after}
-use Rattle.tftp_player.specs.WorldSteps.{Serves, Arrives, At_request_port, At_open_end, At_closed_end, At_nobody, Opens, Stays, Turns, TimesOut, told_to_refuse}
+use Rattle.tftp_player.specs.WorldSteps.{Serves, Arrives, At_request_port, At_open_end, At_closed_end, At_nobody, Opens, Stays, Turns, TimesOut, told_to_refuse, WorldStep}
 use Rattle.tftp_player.specs.declared.event.Event.{Event}
 use Rattle.tftp_player.specs.declared.event.Event.TheVariants.{Get, Put, Deliver, Timeout, RefuseStore, Stray}
 use Rattle.tftp_player.specs.declared.report.Report.{Report}
@@ -45,35 +44,31 @@ turns old new k x turn held report t h =
     let l : length (slice_set old.ends k (end_after x turn held)) ≤ length (old.sent ++ replied x.address turn.reply) = omega (arith, a, b, h) in l)
 
 -- the request port was asked
-serves : (service : Service) (old new : WorldState) (from : Endpoint) (report : Report) → Serves service old from report new → HasSentEach old → HasSentEach new
-serves Silent old new from report s h = stays old new report s h
-serves (Refused reply) old new from report s h =
+serves : (service : Service) (old new : WorldState) (from : Endpoint) (bytes : List ℕ) (report : Report) → Serves service old from bytes report new → HasSentEach old → HasSentEach new
+serves Silent old new from bytes report s h = stays old new report s h
+serves (Refused reply) old new from bytes report s h =
     subst HasSentEach (sym s.1) (let b = length-append old.sent in let l : length old.ends ≤ length (old.sent ++ _) = omega (arith, h, b) in l)
-serves (Sends path mode length agreed) old new from report s h = opens old new _ report s.2 h
-serves (Takes path mode agreed) old new from report s h = opens old new _ report s h
+serves (Sends path mode length agreed) old new from bytes report s h = opens old new _ report s.2 h
+serves (Takes path mode agreed) old new from bytes report s h = opens old new _ report s h
 
 arrives : (old new : WorldState) (from to : Endpoint) (bytes : List ℕ) (report : Report) → Arrives old from to bytes report new → HasSentEach old → HasSentEach new
-arrives old new from to bytes report (At_request_port here port decoded says repeated served) h = serves _ old new from report served h
+arrives old new from to bytes report (At_request_port here port decoded says repeated same served) h = serves _ old new from bytes report served h
 arrives old new from to bytes report (At_open_end k x there at open_now takes) h = turns old new k x takes.turn takes.held report takes.turns h
 arrives old new from to bytes report (At_closed_end k x there at closed_now s) h = stays old new report s h
 arrives old new from to bytes report (At_nobody away nobody s) h = stays old new report s h
-
-arrives_today : (old new : WorldState) (from to : Endpoint) (bytes : List ℕ) (report : Report) → ArrivesToday old from to bytes report new → HasSentEach old → HasSentEach new
-arrives_today old new from to bytes report (At_port here port decoded says repeated mid served is) h = rested mid new is (serves _ old mid from report served h)
-arrives_today old new from to bytes report (Elsewhere away mid a is) h = rested mid new is (arrives old mid from to bytes report a h)
 
 times_out : (b : Bool) (old new : WorldState) (k : ℕ) (x : OpenedEnd) (report : Report) → TimesOut b old k x report new → HasSentEach old → HasSentEach new
 times_out true old new k x report s h = stays old new report s h
 times_out false old new k x report t h = turns old new k x _ _ report t h
 
-pub sends_each : (old new : WorldState) (event : Event) (report : Report) → StepToday old event report new → HasSentEach old → HasSentEach new
+pub sends_each : (old new : WorldState) (event : Event) (report : Report) → WorldStep old event report new → HasSentEach old → HasSentEach new
 sends_each old new (Get name mode asked) report s h = rested s.0 new s.2 (opens old s.0 _ report s.1.2 h)
 sends_each old new (Put name mode asked bytes) report s h = rested s.0 new s.2 (opens old s.0 _ report s.1.2 h)
-sends_each old new (Deliver i) report s h = arrives_today old new _ _ _ report s.2 h
+sends_each old new (Deliver i) report s h = rested s.0 new s.2 (arrives old s.0 _ _ _ report s.1.2 h)
 sends_each old new (Timeout port) report s h = rested s.0 new s.2 (times_out _ old s.0 _ _ report s.1.3 h)
 sends_each old new (RefuseStore port) report s h =
     rested s.0 new s.2 (subst HasSentEach (sym s.1.4) (let a = length-set old.ends s.1.0 (told_to_refuse s.1.1) in let l : length (slice_set old.ends s.1.0 (told_to_refuse s.1.1)) ≤ length old.sent = omega (arith, a, h) in l))
-sends_each old new (Stray from to bytes) report s h = arrives_today old new _ _ _ report s.1 h
+sends_each old new (Stray from to bytes) report s h = rested s.0 new s.2 (arrives old s.0 _ _ _ report s.1.1 h)
 
 -- the port of the end at a place is recorded there
 pub record_port : (port : ℕ) (ends : List OpenedEnd) (k : ℕ) (d : ℕ × Record) → k < length ends → (slice_index_or (records_from port ends) k d).0 ≡ port + k

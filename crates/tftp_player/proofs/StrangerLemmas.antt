@@ -91,11 +91,11 @@ opened_more : (old new : WorldState) (y : OpenedEnd) (report : Report) (k : ℕ)
 opened_more old new y report k x o there =
     (x, ap (λ (w : WorldState). slice_get w.ends k) o.is ∙ slice_get-push_old old.ends k y x there, refl)
 
-served : (service : Service) (old new : WorldState) (from : Endpoint) (report : Report) (k : ℕ) (x : OpenedEnd) → Serves service old from report new → slice_get old.ends k ≡ Some x → IsRecordedSo new k x
-served Silent old new from report k x s there = as_is old new k x (ap (λ (w : WorldState). w.ends) s.is) there
-served (Refused reply) old new from report k x s there = as_is old new k x (ap (λ (w : WorldState). w.ends) s.1) there
-served (Sends path mode length agreed) old new from report k x s there = opened_more old new _ report k x s.2 there
-served (Takes path mode agreed) old new from report k x s there = opened_more old new _ report k x s there
+served : (service : Service) (old new : WorldState) (from : Endpoint) (bytes : List ℕ) (report : Report) (k : ℕ) (x : OpenedEnd) → Serves service old from bytes report new → slice_get old.ends k ≡ Some x → IsRecordedSo new k x
+served Silent old new from bytes report k x s there = as_is old new k x (ap (λ (w : WorldState). w.ends) s.is) there
+served (Refused reply) old new from bytes report k x s there = as_is old new k x (ap (λ (w : WorldState). w.ends) s.1) there
+served (Sends path mode length agreed) old new from bytes report k x s there = opened_more old new _ report k x s.2 there
+served (Takes path mode agreed) old new from bytes report k x s there = opened_more old new _ report k x s there
 
 same_place : (old new : WorldState) (k j : ℕ) (x y z : OpenedEnd) → new.ends ≡ set old.ends j z → slice_get old.ends j ≡ Some y → slice_get old.ends k ≡ Some x → (k ≡ j → record_of z.state ≡ record_of x.state) →
     (k ≡ j) ⊎ (k ≢ j) → IsRecordedSo new k x
@@ -106,7 +106,7 @@ same_place old new k j x y z e at there same (inr away) =
 
 arrived : (strangers : Bool) (old new : WorldState) (from to : Endpoint) (bytes : List ℕ) (report : Report) (k : ℕ) (x : OpenedEnd) → IsOk strangers old → host_of from ≡ Elsewhere →
     Arrives old from to bytes report new → slice_get old.ends k ≡ Some x → HasNoStranger x → IsRecordedSo new k x
-arrived strangers old new from to bytes report k x ok far (At_request_port here port decoded says repeated s) there home = served _ old new from report k x s there
+arrived strangers old new from to bytes report k x ok far (At_request_port here port decoded says repeated same s) there home = served _ old new from bytes report k x s there
 arrived strangers old new from to bytes report k x ok far (At_open_end j y at address open_now t) there home =
     same_place old new k j x y (end_after y t.turn t.held) (ap (λ (w : WorldState). w.ends) t.turns.is) at there
     (λ here. let e : y ≡ x = same_Some y x (sym at ∙ (ap (slice_get old.ends) (sym here) ∙ there)) in

@@ -1,11 +1,14 @@
 -- Steps of a world that is written out.
-use Rattle.std.proofs.Common.{◌≡◌, ℕ, ◌<◌, Bool, true, false, List, [], ◌∷◌, ◌++◌, get_or, Some, refl, sym, zero, suc, arith}
+use Rattle.std.proofs.Common.{◌≡◌, ℕ, ◌<◌, Bool, true, false, List, [], ◌∷◌, ◌++◌, get_or, Some, refl, sym, ◌∙◌, zero, suc, arith, inl, inr}
 use Rattle.std.specs.Prelude.{nat_lt, ◌&&◌, not, slice_get, slice_set}
 use Rattle.std.proofs.lemmas.Bool.{true≢false, ltb-true}
 use Rattle.tftp_file.specs.declared.files.Files.{Files}
 use Rattle.tftp_file.specs.Sink.{Holding}
 use Rattle.tftp_ends.specs.End.{is_client}
 use Rattle.tftp_ends.specs.Step.{Turn}
+use Rattle.tftp_wire.specs.declared.packet.Packet.{Packet}
+use Rattle.tftp_player.specs.Machine.{Endpoint}
+use Rattle.tftp_player.specs.Requests.{IsRepeated}
 use Rattle.tftp_player.specs.World.{WorldState, OpenedEnd, StoredFile, file_at, in_the_way, files_of, is_closed, end_after, has_committed, replied, world_after, report_of, at_rest}
 use Rattle.tftp_player.specs.WorldSteps.{EndStep, FilesAfter, At_open_end, WorldStep}
 use Rattle.tftp_player.specs.declared.datagram.Datagram.{Datagram}
@@ -29,6 +32,16 @@ pub bytes_below : (bytes : List ℕ) → all_bytes bytes ≡ true → (k : ℕ) 
 bytes_below [] e k = omega arith
 bytes_below (b ∷ bytes) e zero = ltb-true b 256 (first_of (nat_lt b 256) (all_bytes bytes) e)
 bytes_below (b ∷ bytes) e (suc k) = bytes_below bytes (second_of (nat_lt b 256) (all_bytes bytes) e) k
+
+-- where one client is, its request is the first
+pub first_request : (from : Endpoint) (packet : Packet) (x : OpenedEnd) → is_client x.state.side ≡ true → IsRepeated false from (Some packet) (x ∷ [])
+first_request from packet x client = (
+  λ f. absurd (true≢false (sym f)),
+  λ any. elim any [
+    | inl again ↦ absurd (true≢false (sym client ∙ again.server))
+    | inr none ↦ absurd none
+  ],
+)
 
 -- an open end took a datagram
 pub takes : (w : WorldState) (i k : ℕ) (d : Datagram) (x : OpenedEnd) (turn : Turn) (held : Files (List ℕ) Holding) (files : List StoredFile) → IsAtRest w →

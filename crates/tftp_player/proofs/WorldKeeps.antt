@@ -107,12 +107,12 @@ answered_values kind mode told limits options known ok e =
     (answers_may_be_agreed options kind mode told limits known ok e).values
 
 -- a read is served
-sending_keeps : (strangers : Bool) (w v : WorldState) (from : Endpoint) (request : Request) (path file : List ℕ) (agreed : List Known) (report : Report) (ok : IsOk strangers w) →
+sending_keeps : (strangers : Bool) (w v : WorldState) (from : Endpoint) (bytes : List ℕ) (request : Request) (path file : List ℕ) (agreed : List Known) (report : Report) (ok : IsOk strangers w) →
     Contains ok.messages (message from request_port (Says_request false request)) → AllByRecursion IsAgreeable agreed → (agreed ≢ [] → IsValid (Oack (agreed_options agreed))) → Fits (wire_text request.mode file) (size agreed) →
-    Opens w (sending_end w from request.mode path file agreed) report v → IsOk strangers v
-sending_keeps strangers w v from request path file [] report ok come agreeable valid fits o =
+    Opens w (sending_end w from bytes request.mode path file agreed) report v → IsOk strangers v
+sending_keeps strangers w v from bytes request path file [] report ok come agreeable valid fits o =
     let text = wire_text request.mode file in
-    let x = sending_end w from request.mode path file [] in
+    let x = sending_end w from bytes request.mode path file [] in
     let one : 1 ≤ block_count text 512 = omega arith in
     let p = Data 1 (block text 512 1) in
     let shown_now = serves_plainly (map view_of_end w.ends) ok.messages ok.shown x.address from false request text refl (ap (λ (n : ℕ). 1024 + n) (sym (length_views w))) come fits in
@@ -122,9 +122,9 @@ sending_keeps strangers w v from request path file [] report ok come agreeable v
       held = empty_held request.mode;
       committed = λ e. absurd (true≢false e);
     }) refl o
-sending_keeps strangers w v from request path file (known ∷ agreed) report ok come agreeable valid fits o =
+sending_keeps strangers w v from bytes request path file (known ∷ agreed) report ok come agreeable valid fits o =
     let text = wire_text request.mode file in
-    let x = sending_end w from request.mode path file (known ∷ agreed) in
+    let x = sending_end w from bytes request.mode path file (known ∷ agreed) in
     let b = agreed_size (known ∷ agreed) agreeable in
     let p = Oack (agreed_options (known ∷ agreed)) in
     let shown_now = serves_with (map view_of_end w.ends) ok.messages ok.shown x.address from false request text (size (known ∷ agreed)) refl (ap (λ (n : ℕ). 1024 + n) (sym (length_views w))) come fits b.0 in
@@ -138,16 +138,16 @@ sending_keeps strangers w v from request path file (known ∷ agreed) report ok 
     }) refl o
 
 -- a write is served
-taking_keeps : (strangers : Bool) (w v : WorldState) (from : Endpoint) (request : Request) (path : List ℕ) (agreed : List Known) (report : Report) (ok : IsOk strangers w) →
+taking_keeps : (strangers : Bool) (w v : WorldState) (from : Endpoint) (bytes : List ℕ) (request : Request) (path : List ℕ) (agreed : List Known) (report : Report) (ok : IsOk strangers w) →
     Contains ok.messages (message from request_port (Says_request true request)) → AllByRecursion IsAgreeable agreed → (agreed ≢ [] → IsValid (Oack (agreed_options agreed))) →
-    Opens w (receiving_end w from request.mode path agreed) report v → IsOk strangers v
-taking_keeps strangers w v from request path [] report ok come agreeable valid o =
-    let x = receiving_end w from request.mode path [] in
+    Opens w (receiving_end w from bytes request.mode path agreed) report v → IsOk strangers v
+taking_keeps strangers w v from bytes request path [] report ok come agreeable valid o =
+    let x = receiving_end w from bytes request.mode path [] in
     let shown_now = serves_plainly (map view_of_end w.ends) ok.messages ok.shown x.address from true request (wire_text request.mode [] ++ []) refl (ap (λ (n : ℕ). 1024 + n) (sym (length_views w))) come (no_text request.mode) in
     opening_keeps strangers w v ok x report (Ack 0) (spells_own (Ack 0) (omega arith)) shown_now (at_server x.address refl)
     (record { phase = (refl, refl); held = empty_held request.mode; committed = λ _. refl }) refl o
-taking_keeps strangers w v from request path (known ∷ agreed) report ok come agreeable valid o =
-    let x = receiving_end w from request.mode path (known ∷ agreed) in
+taking_keeps strangers w v from bytes request path (known ∷ agreed) report ok come agreeable valid o =
+    let x = receiving_end w from bytes request.mode path (known ∷ agreed) in
     let b = agreed_size (known ∷ agreed) agreeable in
     let p = Oack (agreed_options (known ∷ agreed)) in
     let shown_now = serves_with (map view_of_end w.ends) ok.messages ok.shown x.address from true request (wire_text request.mode [] ++ []) (size (known ∷ agreed)) refl (ap (λ (n : ℕ). 1024 + n) (sym (length_views w))) come (no_text request.mode) b.0 in
@@ -183,9 +183,9 @@ pub asked_so : (messages : List Message) (from : Endpoint) (decoded : Option Wir
 asked_so messages from decoded come true r e = (r, refl, come (Write r) e)
 asked_so messages from decoded come false r e = (r, refl, come (Read r) e)
 
-module _ (strangers : Bool) (w v : WorldState) (from : Endpoint) (report : Report) (ok : IsOk strangers w) where
+module _ (strangers : Bool) (w v : WorldState) (from : Endpoint) (bytes : List ℕ) (report : Report) (ok : IsOk strangers w) where
   abbrev Kept_by : Service → Type 0
-  Kept_by service = Serves service w from report v → IsOk strangers v
+  Kept_by service = Serves service w from bytes report v → IsOk strangers v
 
   refused : (reply : ErrorReply) → Kept_by (Refused reply)
   refused reply h = refusing_keeps strangers w v from reply ok h.1
@@ -204,10 +204,10 @@ module _ (strangers : Bool) (w v : WorldState) (from : Endpoint) (report : Repor
       let fits : Fits (wire_text mode file) (size agreed) = measured_fits mode file (size agreed) b.1 few in
       let small = let c = b.1 in let l : m < 65535 * 65464 = omega arith in l in
       let same : o.0 ≡ file = same_Some o.0 file (sym o.1 ∙ there) in
-      subst (λ (n : Mode). Fits (wire_text n file) (size agreed) → Opens w (sending_end w from n path file agreed) report v → IsOk strangers v) come.1
-      (sending_keeps strangers w v from come.0 path file agreed report ok come.2 agreeable
+      subst (λ (n : Mode). Fits (wire_text n file) (size agreed) → Opens w (sending_end w from bytes n path file agreed) report v → IsOk strangers v) come.1
+      (sending_keeps strangers w v from bytes come.0 path file agreed report ok come.2 agreeable
       (λ some. valid_oack kinds.Read mode m w.limits options agreed (omega (arith, small)) ok.max_block e some)) fits
-      (subst (λ (g : List ℕ). Opens w (sending_end w from mode path g agreed) report v) same o.2))
+      (subst (λ (g : List ℕ). Opens w (sending_end w from bytes mode path g agreed) report v) same o.2))
       (λ f. refused FileTooLarge)
 
   reading_served : (path : List ℕ) (mode : Mode) (options : List RawOption) (there : Option (List ℕ)) → WasAsked ok.messages from false mode →
@@ -219,8 +219,8 @@ module _ (strangers : Bool) (w v : WorldState) (from : Endpoint) (report : Repor
   taking_served : (path : List ℕ) (mode : Mode) (options : List RawOption) (there : Option (List ℕ)) (agreed : List Known) → WasAsked ok.messages from true mode →
       answer options kinds.Write mode 0 w.limits ≡ Ok agreed → Kept_by (by_draft path mode agreed (begun_of there))
   taking_served path mode options None agreed come e =
-      subst (λ (n : Mode). Opens w (receiving_end w from n path agreed) report v → IsOk strangers v) come.1
-      (taking_keeps strangers w v from come.0 path agreed report ok come.2 (answered_values kinds.Write mode 0 w.limits options agreed ok.max_block e)
+      subst (λ (n : Mode). Opens w (receiving_end w from bytes n path agreed) report v → IsOk strangers v) come.1
+      (taking_keeps strangers w v from bytes come.0 path agreed report ok come.2 (answered_values kinds.Write mode 0 w.limits options agreed ok.max_block e)
       (λ some. valid_oack kinds.Write mode 0 w.limits options agreed (omega arith) ok.max_block e some))
   taking_served path mode options (Some file) agreed come e = refused FileExists
 
@@ -257,8 +257,8 @@ module _ (strangers : Bool) (w v : WorldState) (from : Endpoint) (report : Repor
   by_request repeated (Some (Oack options)) come = refused IllegalOperation
 
   -- the request port keeps the world
-  pub serving_keeps : (repeated : Bool) (bytes : List ℕ) (decoded : Option WirePacket) → ((write : Bool) (r : Request) → decoded ≡ Some (request_packet write r) → WasAsked ok.messages from write r.mode) → Kept_by (service w repeated bytes decoded)
-  serving_keeps repeated bytes decoded come =
+  pub serving_keeps : (repeated : Bool) (decoded : Option WirePacket) → ((write : Bool) (r : Request) → decoded ≡ Some (request_packet write r) → WasAsked ok.messages from write r.mode) → Kept_by (service w repeated bytes decoded)
+  serving_keeps repeated decoded come =
       if_served Kept_asking (has_error_opcode bytes) Ignores (by_packet w.cap (open_transfers w.ends) repeated w.limits decoded)
       (λ b h. stays_ok strangers w v report ok h)
       (λ b. by_request repeated decoded come)

@@ -82,9 +82,9 @@ module _ (strangers : Bool) (w v : WorldState) (ok : IsOk strangers w) (report :
   -- a datagram that came keeps the world
   pub arrives_keeps : (from to : Endpoint) (bytes : List ℕ) → ((p : WirePacket) → Spells p bytes → Contains ok.messages (message from to (said p))) →
       Arrives w from to bytes report v → IsOk strangers v
-  arrives_keeps from to bytes come (At_request_port here port decoded says repeated served) =
+  arrives_keeps from to bytes come (At_request_port here port decoded says repeated same served) =
       let spelled = says_spelled bytes decoded says in
-      serving_keeps strangers w v from report ok repeated bytes decoded
+      serving_keeps strangers w v from bytes report ok repeated decoded
       (asked_so ok.messages from decoded (λ p e. subst (λ (a : Endpoint). Contains ok.messages (message from a (said p))) here (come p (spelled p e)))) served
   arrives_keeps from to bytes come (At_open_end k x at here open_now h) =
       datagram_keeps k x from bytes at open_now (λ p s. subst (λ (a : Endpoint). Contains ok.messages (message from a (said p))) (sym here) (come p s)) h
@@ -197,9 +197,9 @@ with_decoded w ok from to bytes None far says =
     (ok, λ p s. absurd (let f : None ≡ Some says.0 = sym (none_packet p bytes s) ∙ says.1 in cc))
 
 pub stray_keeps : (w v : WorldState) (ok : IsOk true w) (report : Report) (from to : Endpoint) (bytes : List ℕ) → host_of from ≡ Elsewhere → Arrives w from to bytes report v → IsOk true v
-stray_keeps w v ok report from to bytes far (At_request_port here port decoded says repeated served) =
+stray_keeps w v ok report from to bytes far (At_request_port here port decoded says repeated same served) =
     let h = with_decoded w ok from to bytes decoded far says in
-    arrives_keeps true w v h.0 report from to bytes h.1 (At_request_port here port decoded says repeated served)
+    arrives_keeps true w v h.0 report from to bytes h.1 (At_request_port here port decoded says repeated same served)
 stray_keeps w v ok report from to bytes far (At_open_end k x at here open_now g) =
     let h = with_decoded w ok from to bytes g.steps.decoded far g.steps.says in
     arrives_keeps true w v h.0 report from to bytes h.1 (At_open_end k x at here open_now g)

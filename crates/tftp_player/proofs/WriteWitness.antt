@@ -23,7 +23,7 @@ use Rattle.tftp_player.specs.declared.datagram.Datagram.{Datagram}
 use Rattle.tftp_player.specs.declared.event.Event.TheVariants.{Put, Deliver}
 use Rattle.tftp_player.proofs.Resting.{resting_opened}
 use Rattle.tftp_player.proofs.StepLemmas.{put_step}
-use Rattle.tftp_player.proofs.Witness.{bytes_below, takes}
+use Rattle.tftp_player.proofs.Witness.{bytes_below, first_request, takes}
 
 -- ---- a write of one byte, in octet and without options
 abbrev name : List ℕ
@@ -48,7 +48,7 @@ abbrev d0 : Datagram
 d0 = record { from = client.address; to = client.state.last_sent_to; bytes = client.state.last_sent }
 
 abbrev server : OpenedEnd
-server = receiving_end w1 client.address Octet name []
+server = receiving_end w1 client.address d0.bytes Octet name []
 
 abbrev w2 : WorldState
 w2 = opened_in w1 server
@@ -96,7 +96,7 @@ opens : WorldStep w1 (Deliver 0) (sent_report w1) w2
 unfolding places_of
 opens = (
   w2,
-  (d0, refl, At_request_port refl (omega arith) (Some (packet_in d0.bytes)) (fine_spells d0.bytes (bytes_below d0.bytes refl) refl) false (record { tells = refl; is = refl })),
+  (d0, refl, At_request_port refl (omega arith) (Some (packet_in d0.bytes)) (fine_spells d0.bytes (bytes_below d0.bytes refl) refl) false (first_request client.address (packet_in d0.bytes) client refl) (record { tells = refl; is = refl })),
   sym (resting_opened w1 server refl refl),
 )
 
@@ -129,9 +129,9 @@ stores = takes w3 2 1 d2 server turn4 (Sink stored) ((name, file) ∷ []) refl r
         mid = record { bytes = file; committed = false; refuses = false };
         answer = Ok done;
         decoded = (refl, refl);
-        appended = (refl, tt);
+        appended = (refl, tt, tt);
         memory = λ e. absurd (cc);
-        rest = record { answer = Ok done; commits = refl; refused = tt; answers = refl };
+        rest = record { answer = Ok done; commits = refl; refused = tt; leaves = tt; answers = refl };
       };
     })
     (record { free = refl; here = refl; others = λ q n. no_file (is_at (path_cmp q) name) q refl n })

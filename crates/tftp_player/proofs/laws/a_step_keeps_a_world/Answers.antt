@@ -1,13 +1,9 @@
-use Rattle.tftp_player.proofs.TodayKeeps.{today_keeps}
 use Rattle.tftp_player.proofs.WorldRuns.{step_keeps}
 use Rattle.tftp_player.proofs.WorldSafe.{kept_is_safe}
 use Rattle.tftp_player.proofs.laws.a_step_keeps_a_world.Goals as goal
 
 pub returns-clause-kept : goal.returns-clause-kept
 returns-clause-kept g = step_keeps
-
-pub returns-clause-today : goal.returns-clause-today
-returns-clause-today g = today_keeps
 
 pub returns-clause-safe : goal.returns-clause-safe
 returns-clause-safe g = kept_is_safe

@@ -3,7 +3,7 @@ use Rattle.std.proofs.Common.{Bool, subst, sym}
 use Rattle.tftp_player.specs.World.{WorldState}
 use Rattle.tftp_player.specs.WorldKept.{IsOk}
 use Rattle.tftp_player.proofs.SentLemmas.{sends_each}
-use Rattle.tftp_player.proofs.TodayKeeps.{home_of, played_keeps}
+use Rattle.tftp_player.proofs.PlayedKeeps.{home_of, played_keeps}
 use Rattle.tftp_player.proofs.WorldSafe.{kept_is_safe}
 use Rattle.tftp_player.proofs.world.World.apply.Goals as goal
 

@@ -3,7 +3,7 @@ use Rattle.std.proofs.Common.{◌∙◌, refl, rules, subst}
 use Rattle.std.proofs.Math.Bool.{or-false}
 use Rattle.tftp_player.specs.PlayedWorld.{PlayedWorld, IsHome}
 use Rattle.tftp_player.specs.WorldSafety.{IsSafe}
-use Rattle.tftp_player.proofs.TodayKeeps.{delivers_on, home_of}
+use Rattle.tftp_player.proofs.PlayedKeeps.{delivers_on, home_of}
 use Rattle.tftp_player.proofs.WorldSafe.{kept_is_safe}
 use Rattle.tftp_player.proofs.world.World.settle.Goals as goal
 

@@ -1,13 +1,13 @@
 use Rattle.std.proofs.Common.{◌≡◌, ◌-◌, ◌≤◌, List, length}
 use Rattle.tftp_player.specs.PlayedWorld.{IsHome}
-use Rattle.tftp_player.specs.TodayRuns.{Delivered}
 use Rattle.tftp_player.specs.WorldSafety.{IsSafe}
+use Rattle.tftp_player.specs.WorldSteps.{Settles}
 use Rattle.tftp_player.specs.declared.report.Report.{Report}
 use Rattle.tftp_player.proofs.world.World.settle.Given as goal
 
 abbrev pub invariant-loop-count : goal.invariant-loop-count
 invariant-loop-count l = record {
-  delivered : (reports : List Report) × Delivered l.fn.self.state l.from reports l.self.state × (length reports ≡ l.count);
+  delivered : (reports : List Report) × Settles l.fn.self.state l.from reports l.self.state × (length reports ≡ l.count);
   bounded : l.count ≤ l.most;
   strayed : l.self.strayed ≡ l.fn.self.strayed;
   safe : IsSafe l.self.state;
