@@ -2,6 +2,7 @@
 use Rattle.std.proofs.Common.{◌≡◌, ℕ, Bool, true, false, List, [], ◌∷◌, ◌++◌, Option, Some, None, cond, refl, sym, ap, ◌∙◌, subst}
 use Rattle.std.specs.Prelude.{is_some}
 use Rattle.std.specs.BTreeMap.{is_at}
+use Rattle.std.proofs.lemmas.Option.{same_Some}
 use Rattle.std.specs.Ordering.{nat_cmp}
 use Rattle.tftp_file.specs.Sink.{Holding}
 use Rattle.tftp_file.specs.declared.files.Files.{Files}
@@ -15,11 +16,11 @@ use Rattle.tftp_server.specs.Draft.{files_in, drafting_holds, DraftingBecomes, K
 use Rattle.tftp_server.specs.Memory.{memory_meaning, with_told}
 use Rattle.tftp_server.specs.State.{at, with_next, draft_of, is_closed}
 use Rattle.tftp_server.specs.Steps.{TimesOut, TakesDatagram, KeepsHeld, with_end}
-use Rattle.tftp_server.specs.Store.{Stored, Drafted, FileList}
+use Rattle.tftp_server.specs.Store.{Stored, Drafted, FileList, new_draft}
 use Rattle.tftp_player.specs.Machine.{Endpoint}
 use Rattle.tftp_player.specs.Clients.{server_at}
 use Rattle.tftp_player.specs.Effect.{effect_of}
-use Rattle.tftp_player.specs.Serving.{PlayedServer, Transfer, ServedTurns, ServedTimeoutStep, ServedDatagramStep, Concludes, IsHeld, rested_served, rested_held}
+use Rattle.tftp_player.specs.Serving.{PlayedServer, Transfer, ServedKept, ServedTurns, ServedTimeoutStep, ServedDatagramStep, Concludes, IsHeld, rested_served, rested_held}
 use Rattle.tftp_player.specs.declared.effect.Effect.{Effect}
 use Rattle.tftp_player.specs.declared.served.Served.{Served}
 use Rattle.tftp_player.proofs.HeldLemmas.{at-with_next}
@@ -79,7 +80,96 @@ served_times_out port old new before mid after step start out effect r none t re
 abbrev pub server_told : PlayedServer → Bool → PlayedServer
 server_told server told = record server { store = with_told server.store told }
 
-pub takes_datagram_held : (port : ℕ) (from : Endpoint) (bytes : List ℕ) (before mid after : PlayedServer) (step : Step) (start out : List ℕ) →
-    TakesDatagram memory_meaning port from bytes before mid step start out → after ≡ server_told mid false → IsHeld (at port after.held)
-takes_datagram_held port from bytes before mid after step start out t quiet =
-    subst (λ (s : PlayedServer). IsHeld (at port s.held)) (sym quiet) (next_is_held port t.transfer t.next before.held mid.held t.found t.held)
+module _ (port : ℕ) (from : Endpoint) (bytes : List ℕ) (was old new : Served) (before mid quieted after : PlayedServer) (step : Step) (start out : List ℕ) (effect : Effect) (r : Record) where
+  steps_so : start ≡ [] → TakesDatagram memory_meaning port from bytes (server_told before was.refuses) mid step start out →
+      mid ≡ record before { store = mid.store; held = mid.held } → old ≡ record was { refuses = mid.store.refuses } → quieted ≡ server_told mid false →
+      Concludes port (at port quieted.held) old new quieted after r → effect ≡ record { from = server_at port; to = step.to; bytes = out; closed = step.closed } →
+      ServedDatagramStep port from bytes was new before after effect r
+  steps_so none t rest told_so quiet c made = record {
+    transfer = t.transfer;
+    next = t.next;
+    turn = t.takes.turn;
+    store = mid.store;
+    found = t.found;
+    steps = t.takes.steps;
+    stays = t.takes.stays;
+    kind = t.takes.kind;
+    path = t.takes.path;
+    request = t.takes.request;
+    turns = turns_served port was old new before quieted after t.takes.turn t.next mid.store.refuses (with_told mid.store false) effect r t.takes.carries.state
+        (ap (λ (s : PlayedServer). at port s.held) quiet ∙ (ap (at port) t.held ∙ at-with_next port t.transfer t.next before.held t.found))
+        (quiet ∙ (ap (λ (s : PlayedServer). server_told (record s { store = mid.store }) false) rest
+        ∙ ap (λ (held : List (ℕ × Transfer)). record before { store = with_told mid.store false; held = held }) t.held))
+        told_so
+        c
+        (made ∙ effect_is (server_at port) t.transfer.end t.next.end t.takes.turn step start out none t.takes.carries t.takes.tells);
+  }
+
+  -- the server, and what goes out, are told by equations
+  pub served_steps : (told : PlayedServer) → told ≡ server_told before was.refuses → start ≡ [] → TakesDatagram memory_meaning port from bytes told mid step start out →
+      mid ≡ record told { store = mid.store; held = mid.held } → old ≡ record was { refuses = mid.store.refuses } → quieted ≡ server_told mid false →
+      Concludes port (at port quieted.held) old new quieted after r → (from_here : Endpoint) → from_here ≡ server_at port → effect ≡ record { from = from_here; to = step.to; bytes = out; closed = step.closed } →
+      ServedDatagramStep port from bytes was new before after effect r
+  served_steps told told_is none t rest told_so quiet c here is_here made =
+      steps_so none (subst (λ (s : PlayedServer). TakesDatagram memory_meaning port from bytes s mid step start out) told_is t)
+      (rest ∙ ap (λ (s : PlayedServer). record s { store = mid.store; held = mid.held }) told_is) told_so quiet c
+      (made ∙ ap (λ (a : Endpoint). record { from = a; to = step.to; bytes = out; closed = step.closed }) is_here)
+
+-- ---- a datagram that the end did not take leaves all as it was
+same_by : (port : ℕ) (h : Transfer) (e : ℕ × Transfer) (held : List (ℕ × Transfer)) (b : Bool) → is_at (nat_cmp port) e.0 ≡ b → at port (e ∷ held) ≡ Some h →
+    (is_at (nat_cmp port) e.0 ≡ false → with_next port h held ≡ held) → cond b ((e.0, h) ∷ held) (e ∷ with_next port h held) ≡ e ∷ held
+same_by port h e held true t found rest =
+    ap (λ (v : Transfer). (e.0, v) ∷ held) (let f : Some e.1 ≡ Some h = sym (ap (λ (c : Bool). cond c (Some e.1) (at port held)) t) ∙ found in let g : h ≡ e.1 = cc in g)
+same_by port h e held false t found rest = ap (λ (es : List (ℕ × Transfer)). e ∷ es) (rest t)
+
+next_same : (port : ℕ) (h : Transfer) (held : List (ℕ × Transfer)) → at port held ≡ Some h → with_next port h held ≡ held
+next_same port h [] found = refl
+next_same port h (e ∷ held) found =
+    same_by port h e held (is_at (nat_cmp port) e.0) refl found (λ t. next_same port h held (sym (ap (λ (c : Bool). cond c (Some e.1) (at port held)) t) ∙ found))
+
+-- what a draft's sink holds, and what is in its store
+abbrev draft_in : Option Holding → Drafted
+draft_in None = new_draft
+draft_in (Some h) = record { bytes = h.bytes; committed = h.committed }
+
+abbrev refuses_in : Option Holding → Bool
+refuses_in None = false
+refuses_in (Some h) = h.refuses
+
+abbrev files_or : Option FileList → FileList
+files_or None = []
+files_or (Some files) = files
+
+files_kept : (files files' : Files (List ℕ) Drafted) (store store' : Stored) (path path' : List ℕ) (replace : Bool) → KeepsStore files store store' →
+    KeepsFiles memory_meaning.left (drafting_holds memory_meaning) (DraftingBecomes memory_meaning) (files_in store path replace files) (files_in store' path' replace files') →
+    (files' ≡ files) × (store' ≡ store)
+files_kept (Source left) (Source left') store store' path path' replace stays k = (ap Source (same_Some left' left k), stays)
+files_kept (Sink draft) (Sink draft') store store' path path' replace stays k = (
+  ap (λ (o : Option Holding). Sink (draft_in o)) k.holding,
+  ap (λ (o : Option Holding). record { files = store'.files; refuses = refuses_in o }) k.holding
+      ∙ ap (λ (o : Option FileList). record { files = files_or o; refuses = store.refuses }) k.leaves.files,
+)
+files_kept (Source left) (Sink draft') store store' path path' replace stays k = absurd k
+files_kept (Sink draft) (Source left') store store' path path' replace stays k = absurd k
+
+transfer_is : (next h : Transfer) → next.end ≡ h.end → next.files ≡ h.files → next.path ≡ h.path → next.request ≡ h.request → next ≡ h
+transfer_is next h a b c d =
+    ap (λ (e : EndState). record next { end = e }) a
+    ∙ (ap (λ (f : Files (List ℕ) Drafted). record next { end = h.end; files = f }) b
+    ∙ (ap (λ (p : List ℕ). record { end = h.end; files = h.files; path = p; request = next.request }) c
+    ∙ ap (λ (q : List ℕ). record h { request = q }) d))
+
+pub not_taken : (port : ℕ) (was : Served) (before told mid quieted : PlayedServer) → ServedKept port was before.held → before.store.refuses ≡ false → told ≡ server_told before was.refuses →
+    KeepsHeld memory_meaning port (at port told.held) told mid → mid ≡ record told { store = mid.store; held = mid.held } → quieted ≡ server_told mid false → quieted ≡ before
+not_taken port was before told mid quieted kept none told_is k rest quiet =
+    let h : Transfer = kept.transfer in
+    let there : PlayedServer = server_told before was.refuses in
+    let so : KeepsHeld memory_meaning port (at port before.held) there mid = subst (λ (s : PlayedServer). KeepsHeld memory_meaning port (at port s.held) s mid) told_is k in
+    let s : KeepsHeld memory_meaning port (Some h) there mid = subst (λ (o : Option Transfer). KeepsHeld memory_meaning port o there mid) kept.found so in
+    let files = files_kept h.files s.0.files there.store mid.store h.path s.0.path before.config.overwrite s.1.stays s.1.files in
+    let same : s.0 ≡ h = transfer_is s.0 h s.1.end files.0 s.1.path s.1.request in
+    let held : mid.held ≡ before.held = s.2 ∙ (ap (λ (n : Transfer). with_next port n before.held) same ∙ next_same port h before.held kept.found) in
+    quiet ∙ (ap (λ (m : PlayedServer). server_told m false) (rest ∙ ap (λ (m : PlayedServer). record m { store = mid.store; held = mid.held }) told_is)
+    ∙ (ap (λ (st : Stored). record before { store = with_told st false; held = mid.held }) files.1
+    ∙ (ap (λ (es : List (ℕ × Transfer)). record before { store = with_told before.store false; held = es }) held
+    ∙ ap (λ (b : Bool). server_told before b) (sym none))))

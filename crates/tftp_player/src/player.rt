@@ -63,6 +63,7 @@ impl Player {
     ) -> Result<(Effect, Record), WorldFault>
         requires kept { PlayerKept port server.old.held self.old }
         requires open { has_ended self.old ≡ false }
+        requires quiet { server.old.store.refuses ≡ false }
         ensures steps { IfOk result (λ r.
             PlayerDatagramStep port from bytes.now self.old self.new server.old server.new r.0
             r.1) }

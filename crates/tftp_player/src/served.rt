@@ -81,7 +81,8 @@ impl Served {
         from: Endpoint,
         bytes: &[u8],
     ) -> Result<(Effect, Record), WorldFault>
-        requires { ServedKept port self.old server.old.held }
+        requires kept { ServedKept port self.old server.old.held }
+        requires quiet { server.old.store.refuses ≡ false }
         ensures steps { IfOk result (λ r.
             ServedDatagramStep port from bytes.now self.old self.new server.old server.new r.0
             r.1) }

@@ -1,14 +1,31 @@
-use Rattle.tftp_player.proofs.ServingLemmas.{takes_datagram_held, served_steps, not_decoded}
-use Rattle.std.proofs.Common.{refl}
+use Rattle.std.proofs.Common.{◌≡◌, ◌∙◌, false, refl, ap}
+use Rattle.tftp_server.specs.Memory.{with_told}
+use Rattle.tftp_server.specs.Store.{Stored}
+use Rattle.tftp_player.proofs.ServingLemmas.{next_is_held, served_steps, server_told, not_taken}
 use Rattle.tftp_player.proofs.served.Served.on_datagram.Goals as goal
 
 pub conclude-record-requires : goal.conclude-record-requires
-conclude-record-requires c = takes_datagram_held _ _ _ _ _ _ _ _ c.in-Ok.ensures.takes
+conclude-record-requires c = next_is_held _ _ _ _ _ c.in-Ok.ensures.takes.found c.in-Ok.ensures.takes.held
 
 pub returns-in-Ok-clause-steps : goal.returns-in-Ok-clause-steps
 returns-in-Ok-clause-steps c =
-    served_steps _ _ _ _ _ _ _ _ _ _ _ _ _ c.new-out.ensures.items c.requires c.in-Ok.ensures.takes c.in-Ok.ensures.rest c.conclude-record.ensures _ c.server_at.ensures c.effect_of.ensures
+    let told : c.refuse_next.new.self ≡ with_told c.args.server.now.store c.args.self.now.refuses =
+    c.refuse_next.ensures ∙ ap (λ (s : Stored). with_told s c.args.self.now.refuses) c.store_mut.ensures.value in
+    let quiet : c.refuse_next-2.new.self ≡ with_told c.on_datagram-answer.new.self.store false =
+    c.refuse_next-2.ensures ∙ ap (λ (s : Stored). with_told s false) c.store_mut-2.ensures.value in
+    served_steps _ _ _ _ _ _ _ _ _ _ _ _ _ _ _ _ (ap (λ (s : Stored). record c.args.server.now { store = s }) told) c.new-out.ensures.items c.in-Ok.ensures.takes c.in-Ok.ensures.rest
+    (ap (λ b. record c.args.self.now { refuses = b }) (c.refuses-refuses.ensures ∙ ap (λ (s : Stored). s.refuses) c.store.ensures))
+    (ap (λ (s : Stored). record c.on_datagram-answer.new.self { store = s }) quiet)
+    c.conclude-record.ensures _ c.server_at.ensures c.effect_of.ensures
 
 pub returns-in-Err-Memory-clause-err : goal.returns-in-Err-Memory-clause-err
 returns-in-Err-Memory-clause-err c =
-    (refl, not_decoded _ _ _ _ c.requires c.in-Err-Memory.ensures.rest c.in-Err-Memory.ensures.err.0)
+    let told : c.refuse_next.new.self ≡ with_told c.args.server.now.store c.args.self.now.refuses =
+    c.refuse_next.ensures ∙ ap (λ (s : Stored). with_told s c.args.self.now.refuses) c.store_mut.ensures.value in
+    let quiet : c.refuse_next-2.new.self ≡ with_told c.on_datagram-answer.new.self.store false =
+    c.refuse_next-2.ensures ∙ ap (λ (s : Stored). with_told s false) c.store_mut-2.ensures.value in
+    let err = rw c.in-Err-Memory.is at c.on_datagram-answer.ensures.err in (
+      refl,
+      not_taken _ _ _ _ _ _ c.requires.kept c.requires.quiet (ap (λ (s : Stored). record c.args.server.now { store = s }) told) err.0 c.on_datagram-answer.ensures.rest
+          (ap (λ (s : Stored). record c.on_datagram-answer.new.self { store = s }) quiet),
+    )
