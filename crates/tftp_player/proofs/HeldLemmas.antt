@@ -192,7 +192,7 @@ module _ {T : Type 0} where
   each_found (e ∷ held) rises = (
     ap (λ (b : Bool). cond b (Some e.1) (at e.0 held)) (at_same e.0 e.0 refl),
     all_both (λ (f : ℕ × T). e.0 < f.0) (λ (f : ℕ × T). at f.0 held ≡ Some f.1) (λ (f : ℕ × T). at f.0 (e ∷ held) ≡ Some f.1) held
-    (λ f above found. ap (λ (b : Bool). cond b (Some e.1) (at f.0 held)) (at_other f.0 e.0 (let n : e.0 ≢ f.0 = omega (arith, above) in n)) ∙ found) rises.0 (each_found held rises.1),
+        (λ f above found. ap (λ (b : Bool). cond b (Some e.1) (at f.0 held)) (at_other f.0 e.0 (let n : e.0 ≢ f.0 = omega (arith, above) in n)) ∙ found) rises.0 (each_found held rises.1),
   )
 
   -- below the next identifier, where below this one

@@ -1,7 +1,10 @@
 -- What an end of a world's server does, by what is kept of it beside the server.
 use Rattle.std.specs.Prelude.{ℕ, ◌≡◌, Bool, true, false, is_some, List, Option, Some, None, ⊤}
+use Rattle.tftp_file.specs.declared.files.Files.{Files}
+use Rattle.tftp_file.specs.declared.files.Files.TheVariants.{Source, Sink}
+use Rattle.tftp_ends.specs.declared.phase.Phase.{Phase}
 use Rattle.tftp_ends.specs.declared.record.Record.{Record}
-use Rattle.tftp_ends.specs.End.{is_client, outcome_of, record_of}
+use Rattle.tftp_ends.specs.End.{is_client, is_complete, outcome_of, record_of}
 use Rattle.tftp_ends.specs.Files.{AreFilesOf, AreSame}
 use Rattle.tftp_ends.specs.Step.{Turn, timeout_turn}
 use Rattle.tftp_server.specs.Draft.{files_in, KeepsStore}
@@ -23,6 +26,11 @@ PlayedServer = ServerState Stored (List ℕ) Drafted
 abbrev pub Transfer : Type 0
 Transfer = Held (List ℕ) Drafted
 
+-- a draft is not committed while its end is not complete
+abbrev pub CommitsLast : Files (List ℕ) Drafted → Phase → Type 0
+CommitsLast (Source left) phase = Unit {0}
+CommitsLast (Sink draft) phase = is_complete phase ≡ false → draft.committed ≡ false
+
 -- an open end of the server: it is held, in the mode and for the path that are kept of it
 pub record ServedKept (port : ℕ) (s : Served) (held : List (ℕ × Transfer)) : Type 0 where
   pub transfer : Transfer
@@ -30,6 +38,7 @@ pub record ServedKept (port : ℕ) (s : Served) (held : List (ℕ × Transfer)) 
   pub is_open : server.is_closed transfer ≡ false
   pub side : is_client transfer.end.side ≡ false
   pub files : AreFilesOf transfer.end.side transfer.files
+  pub commits : CommitsLast transfer.files transfer.end.phase
   pub mode : transfer.end.mode ≡ s.mode
   pub path : transfer.path ≡ s.path
 
