@@ -1,5 +1,5 @@
 -- What can be seen of what the server's request port did.
-use Rattle.std.proofs.Common.{◌≡◌, ℕ, Bool, true, false, List, [], ◌∷◌, Option, Some, None, Result, Ok, Err, refl, sym, ap, ◌∙◌, inl, inr}
+use Rattle.std.proofs.Common.{◌≡◌, ℕ, Bool, true, false, List, [], ◌∷◌, Option, Some, None, Result, Ok, Err, refl, sym, ap, ◌∙◌, subst, inl, inr}
 use Rattle.std.specs.Prelude.{◌⊎◌, ◌*◌, if◌then◌else◌, nat_lt, nat_le}
 use Rattle.tftp_wire.specs.declared.mode.Mode.{Mode}
 use Rattle.tftp_wire.specs.declared.options.RawOption.{RawOption}
@@ -15,17 +15,18 @@ use Rattle.tftp_file.specs.Path.{path_of_name}
 use Rattle.tftp_file.specs.declared.path.PathFault.{PathFault}
 use Rattle.tftp_ends.specs.declared.error_reply.ErrorReply.{ErrorReply}
 use Rattle.tftp_ends.specs.declared.error_reply.ErrorReply.TheVariants.{FileTooLarge, ServerBusy}
-use Rattle.tftp_ends.specs.declared.side.Side.TheVariants.{ServerRead}
+use Rattle.tftp_ends.specs.declared.side.Side.{Side}
+use Rattle.tftp_ends.specs.declared.side.Side.TheVariants.{ServerRead, ServerWrite}
 use Rattle.tftp_ends.specs.End.{EndState}
 use Rattle.tftp_wire.specs.Reading.{has_error_opcode}
 use Rattle.tftp_server.specs.State.{with_new}
 use Rattle.tftp_server.specs.Store.{Drafted, measured}
 use Rattle.tftp_player.specs.Machine.{Endpoint, request_port, server_ip}
-use Rattle.tftp_player.specs.World.{WorldState, OpenedEnd, file_at, is_closed, next_port, datagram, no_report, opened_in, said_in, sent_report}
+use Rattle.tftp_player.specs.World.{WorldState, OpenedEnd, file_at, in_the_way, is_closed, next_port, datagram, no_report, opened_in, said_in, sent_report}
 use Rattle.tftp_player.specs.WorldSteps.{Serves}
-use Rattle.tftp_player.specs.Openings.{sending_end}
-use Rattle.tftp_server.specs.Port.{Ask, Ignores, Refuses, Reads, Service, Silent, Refused, Sends, Takes, by_file, by_length, by_name, by_packet}
-use Rattle.tftp_player.specs.Requests.{open_transfers, opened_of, served, service}
+use Rattle.tftp_player.specs.Openings.{sending_end, receiving_end}
+use Rattle.tftp_server.specs.Port.{Ask, Ignores, Refuses, Reads, Service, Silent, Refused, Sends, Takes, by_draft, by_file, by_length, by_name, by_options, by_packet}
+use Rattle.tftp_player.specs.Requests.{open_transfers, begun_of, opened_of, served, service}
 use Rattle.tftp_player.proofs.ServerLemmas.{IsNoWrite, held_of, PortAsking, PortLeft, PortDid}
 
 -- a file is sent where a request to read names one that is there
@@ -36,75 +37,132 @@ pub record ReadServed (w : WorldState) (decoded : Option Packet) (path file : Li
   pub file_is : file_at w.files path ≡ Some file
   pub mode_is : mode ≡ request.mode
 
-module _ (w : WorldState) (path : List ℕ) (mode : Mode) (length : ℕ) (agreed : List Known) where
-  abbrev Is_sent : Service → Type 0
-  Is_sent service = service ≡ Sends path mode length agreed
+-- a file is taken where a request to write names its path
+pub record WriteServed (decoded : Option Packet) (path : List ℕ) (mode : Mode) : Type 0 where
+  pub request : Request
+  pub decoded_is : decoded ≡ Some (Write request)
+  pub path_is : path_of_name request.name ≡ Ok path
+  pub mode_is : mode ≡ request.mode
+
+-- the port opens an end
+abbrev OpensEnd : Service → Type 0
+OpensEnd Silent = ⊥
+OpensEnd (Refused reply) = ⊥
+OpensEnd (Sends path mode length agreed) = Unit {0}
+OpensEnd (Takes path mode agreed) = Unit {0}
+
+module _ (w : WorldState) (opens : Service) (some : OpensEnd opens) where
+  abbrev Is_opened : Service → Type 0
+  Is_opened service = service ≡ opens
 
   abbrev Is_asked : Ask → Type 0
-  Is_asked ask = Is_sent (served w ask)
+  Is_asked ask = Is_opened (served w ask)
 
-  -- the other way of a test sends no file
+  refuses_none : (reply : ErrorReply) → Is_opened (Refused reply) → ⊥
+  refuses_none reply h = subst OpensEnd (sym h) some
+
+  ignores_none : Is_opened Silent → ⊥
+  ignores_none h = subst OpensEnd (sym h) some
+
+  -- the other way of a test opens no end
   other_way : (b : Bool) (this that : Ask) → (Is_asked this → ⊥) → Is_asked (if b then this else that) → Is_asked that
   other_way true this that none h = absurd (none h)
   other_way false this that none h = h
 
-  first_way : (b : Bool) (this that : Service) → (Is_sent that → ⊥) → Is_sent (if b then this else that) → Is_sent this
+  first_way : (b : Bool) (this that : Service) → (Is_opened that → ⊥) → Is_opened (if b then this else that) → Is_opened this
   first_way true this that none h = h
   first_way false this that none h = absurd (none h)
 
-  refuses_none : (reply : ErrorReply) → Is_sent (Refused reply) → ⊥
-  refuses_none reply h = cc
+  -- what a read opens sends, if it opens an end
+  by_answer : (path : List ℕ) (mode : Mode) (n : ℕ) (a : Result (List Known) Refusal) → Is_opened (by_length path mode n a) → (agreed : List Known) × (Sends path mode n agreed ≡ opens)
+  by_answer path mode n (Err refusal) h = absurd (refuses_none _ h)
+  by_answer path mode n (Ok agreed) h = (agreed, first_way (nat_lt n (65535 * size agreed)) (Sends path mode n agreed) (Refused FileTooLarge) (refuses_none FileTooLarge) h)
 
-  ignores_none : Is_sent Silent → ⊥
-  ignores_none h = cc
+  by_opened : (path : List ℕ) (mode : Mode) (options : List RawOption) (there : Option (List ℕ)) → Is_opened (by_file w.limits path mode options (opened_of mode there)) →
+      (n : ℕ) × (agreed : List Known) × (Sends path mode n agreed ≡ opens)
+  by_opened path mode options None h = absurd (refuses_none _ h)
+  by_opened path mode options (Some file) h =
+      let a = by_answer path mode (measured mode file) (answer options kinds.Read mode (measured mode file) w.limits) h in (measured mode file, a.0, a.1)
 
-  by_answer : (p : List ℕ) (m : Mode) (n : ℕ) (a : Result (List Known) Refusal) → Is_sent (by_length p m n a) → (p ≡ path) × (m ≡ mode)
-  by_answer p m n (Err refusal) h = absurd (refuses_none _ h)
-  by_answer p m n (Ok known) h =
-      let s : Sends p m n known ≡ Sends path mode length agreed = first_way (nat_lt n (65535 * size known)) (Sends p m n known) (Refused FileTooLarge) (refuses_none FileTooLarge) h in
-      ((let e : p ≡ path = cc in e), (let e : m ≡ mode = cc in e))
+  -- what a write opens takes
+  by_begun : (path : List ℕ) (mode : Mode) (agreed : List Known) (there : Option (List ℕ)) → Is_opened (by_draft path mode agreed (begun_of there)) → Takes path mode agreed ≡ opens
+  by_begun path mode agreed None h = h
+  by_begun path mode agreed (Some file) h = absurd (refuses_none _ h)
 
-  by_opened : (p : List ℕ) (m : Mode) (options : List RawOption) (there : Option (List ℕ)) → Is_sent (by_file w.limits p m options (opened_of m there)) → (p ≡ path) × (m ≡ mode)
-  by_opened p m options None h = absurd (refuses_none _ h)
-  by_opened p m options (Some f) h = by_answer p m (measured m f) (answer options kinds.Read m (measured m f) w.limits) h
+  by_agreed : (path : List ℕ) (mode : Mode) (a : Result (List Known) Refusal) → Is_asked (by_options path mode a) → (agreed : List Known) × (Takes path mode agreed ≡ opens)
+  by_agreed path mode (Err refusal) h = absurd (refuses_none _ h)
+  by_agreed path mode (Ok agreed) h = (agreed, by_begun path mode agreed (in_the_way w.overwrite (file_at w.files path)) h)
 
-  by_named : (file : List ℕ) (request : Request) (name : Result (List ℕ) PathFault) → file_at w.files path ≡ Some file → path_of_name request.name ≡ name →
-      Is_asked (by_name w.cap (open_transfers w.ends) (λ p. Reads p request.mode request.options) name) → ReadServed w (Some (Read request)) path file mode
-  by_named file request (Err fault) there e h = absurd (refuses_none _ h)
-  by_named file request (Ok p) there e h =
-      let s = other_way (nat_le w.cap (open_transfers w.ends)) (Refuses ServerBusy) (Reads p request.mode request.options) (refuses_none ServerBusy) h in
-      let b = by_opened p request.mode request.options (file_at w.files p) s in
-      record {
-        request = request;
-        decoded_is = refl;
-        path_is = e ∙ ap (λ (q : List ℕ). Ok q) b.0;
-        file_is = there;
-        mode_is = sym b.1;
-      }
+  -- the name is a path, and the table has room
+  by_named : (next : List ℕ → Ask) (name : Result (List ℕ) PathFault) → Is_asked (by_name w.cap (open_transfers w.ends) next name) → (path : List ℕ) × (name ≡ Ok path) × Is_asked (next path)
+  by_named next (Err fault) h = absurd (refuses_none _ h)
+  by_named next (Ok path) h = (path, refl, other_way (nat_le w.cap (open_transfers w.ends)) (Refuses ServerBusy) (next path) (refuses_none ServerBusy) h)
 
-  by_asked : (file : List ℕ) (repeated : Bool) (decoded : Option Packet) → IsNoWrite decoded → file_at w.files path ≡ Some file → Is_asked (by_packet w.cap (open_transfers w.ends) repeated w.limits decoded) → ReadServed w decoded path file mode
-  by_asked file repeated None no_write there h = absurd (refuses_none _ h)
-  by_asked file repeated (Some (Read request)) no_write there h =
-      by_named file request (path_of_name request.name) there refl
-      (other_way repeated Ignores (by_name w.cap (open_transfers w.ends) (λ p. Reads p request.mode request.options) (path_of_name request.name)) ignores_none h)
-  by_asked file repeated (Some (Write request)) no_write there h = absurd no_write
-  by_asked file repeated (Some (Data number bytes)) no_write there h = absurd (refuses_none _ h)
-  by_asked file repeated (Some (Ack number)) no_write there h = absurd (refuses_none _ h)
-  by_asked file repeated (Some (Error code text)) no_write there h = absurd (refuses_none _ h)
-  by_asked file repeated (Some (Oack options)) no_write there h = absurd (refuses_none _ h)
+  -- the request that an end was opened for: a read, or a write
+  pub record ReadOpened (decoded : Option Packet) : Type 0 where
+    pub request : Request
+    pub path : List ℕ
+    pub length : ℕ
+    pub agreed : List Known
+    pub decoded_is : decoded ≡ Some (Read request)
+    pub path_is : path_of_name request.name ≡ Ok path
+    pub is : Sends path request.mode length agreed ≡ opens
 
-  -- what was asked for where the server sends a file
-  pub service_sends : (repeated : Bool) (file bytes : List ℕ) (decoded : Option Packet) → IsNoWrite decoded → file_at w.files path ≡ Some file → service w repeated bytes decoded ≡ Sends path mode length agreed → ReadServed w decoded path file mode
-  service_sends repeated file bytes decoded no_write there h =
-      by_asked file repeated decoded no_write there (other_way (has_error_opcode bytes) Ignores (by_packet w.cap (open_transfers w.ends) repeated w.limits decoded) ignores_none h)
+  pub record WriteOpened (decoded : Option Packet) : Type 0 where
+    pub request : Request
+    pub path : List ℕ
+    pub agreed : List Known
+    pub decoded_is : decoded ≡ Some (Write request)
+    pub path_is : path_of_name request.name ≡ Ok path
+    pub is : Takes path request.mode agreed ≡ opens
 
-pub sending_open : (w : WorldState) (peer : Endpoint) (mode : Mode) (path file : List ℕ) (agreed : List Known) → is_closed (sending_end w peer mode path file agreed) ≡ false
-sending_open w peer mode path file [] = refl
-sending_open w peer mode path file (known ∷ agreed) = refl
+  by_asked : (repeated : Bool) (decoded : Option Packet) → Is_asked (by_packet w.cap (open_transfers w.ends) repeated w.limits decoded) → ReadOpened decoded ⊎ WriteOpened decoded
+  by_asked repeated None h = absurd (refuses_none _ h)
+  by_asked repeated (Some (Read r)) h =
+      let next : List ℕ → Ask = λ path. Reads path r.mode r.options in
+      let n = by_named next (path_of_name r.name) (other_way repeated Ignores (by_name w.cap (open_transfers w.ends) next (path_of_name r.name)) ignores_none h) in
+      let o = by_opened n.0 r.mode r.options (file_at w.files n.0) n.2 in
+      inl (record { request = r; path = n.0; length = o.0; agreed = o.1; decoded_is = refl; path_is = n.1; is = o.2 })
+  by_asked repeated (Some (Write r)) h =
+      let next : List ℕ → Ask = λ path. by_options path r.mode (answer r.options kinds.Write r.mode 0 w.limits) in
+      let n = by_named next (path_of_name r.name) (other_way repeated Ignores (by_name w.cap (open_transfers w.ends) next (path_of_name r.name)) ignores_none h) in
+      let o = by_agreed n.0 r.mode (answer r.options kinds.Write r.mode 0 w.limits) n.2 in
+      inr (record { request = r; path = n.0; agreed = o.0; decoded_is = refl; path_is = n.1; is = o.1 })
+  by_asked repeated (Some (Data number bytes)) h = absurd (refuses_none _ h)
+  by_asked repeated (Some (Ack number)) h = absurd (refuses_none _ h)
+  by_asked repeated (Some (Error code text)) h = absurd (refuses_none _ h)
+  by_asked repeated (Some (Oack options)) h = absurd (refuses_none _ h)
 
--- a new end of the server that sends, by its state and by what its source has left
-abbrev pub new_sender : ℕ → EndState → List ℕ → List ℕ → List ℕ → OpenedEnd
-new_sender port state path file left =
+  -- what was asked for where an end opens
+  pub service_opens : (repeated : Bool) (bytes : List ℕ) (decoded : Option Packet) → service w repeated bytes decoded ≡ opens → ReadOpened decoded ⊎ WriteOpened decoded
+  service_opens repeated bytes decoded h =
+      by_asked repeated decoded (other_way (has_error_opcode bytes) Ignores (by_packet w.cap (open_transfers w.ends) repeated w.limits decoded) ignores_none h)
+
+-- what was asked for where the server sends a file
+pub service_sends : (w : WorldState) (path : List ℕ) (mode : Mode) (length : ℕ) (agreed : List Known) (repeated : Bool) (file bytes : List ℕ) (decoded : Option Packet) → file_at w.files path ≡ Some file →
+    service w repeated bytes decoded ≡ Sends path mode length agreed → ReadServed w decoded path file mode
+service_sends w path mode length agreed repeated file bytes decoded there h = elim (service_opens w (Sends path mode length agreed) tt repeated bytes decoded h) [
+  | inl r ↦
+      let same_path : r.path ≡ path = let e : Sends r.path r.request.mode r.length r.agreed ≡ Sends path mode length agreed = r.is in cc in
+      let same_mode : r.request.mode ≡ mode = let e : Sends r.path r.request.mode r.length r.agreed ≡ Sends path mode length agreed = r.is in cc in
+      record { request = r.request; decoded_is = r.decoded_is; path_is = r.path_is ∙ ap (λ (q : List ℕ). Ok q) same_path; file_is = there; mode_is = sym same_mode }
+  | inr r ↦ absurd (let e : Takes r.path r.request.mode r.agreed ≡ Sends path mode length agreed = r.is in cc)
+]
+
+-- and where it takes one
+pub service_takes : (w : WorldState) (path : List ℕ) (mode : Mode) (agreed : List Known) (repeated : Bool) (bytes : List ℕ) (decoded : Option Packet) →
+    service w repeated bytes decoded ≡ Takes path mode agreed → WriteServed decoded path mode
+service_takes w path mode agreed repeated bytes decoded h = elim (service_opens w (Takes path mode agreed) tt repeated bytes decoded h) [
+  | inl r ↦ absurd (let e : Sends r.path r.request.mode r.length r.agreed ≡ Takes path mode agreed = r.is in cc)
+  | inr r ↦
+      let same_path : r.path ≡ path = let e : Takes r.path r.request.mode r.agreed ≡ Takes path mode agreed = r.is in cc in
+      let same_mode : r.request.mode ≡ mode = let e : Takes r.path r.request.mode r.agreed ≡ Takes path mode agreed = r.is in cc in
+      record { request = r.request; decoded_is = r.decoded_is; path_is = r.path_is ∙ ap (λ (q : List ℕ). Ok q) same_path; mode_is = sym same_mode }
+]
+
+-- ---- a new end of the server, by its state and by what its source has left
+abbrev pub new_end : ℕ → List ℕ → EndState → List ℕ → List ℕ → List ℕ → OpenedEnd
+new_end port request state path file left =
     record {
       address = record { ip = server_ip; port = port };
       state = state;
@@ -114,23 +172,26 @@ new_sender port state path file left =
       stored = [];
       committed = false;
       refuses = false;
+      request = request;
     }
 
-pub sending_is : (w : WorldState) (peer : Endpoint) (mode : Mode) (path file : List ℕ) (agreed : List Known) →
-    sending_end w peer mode path file agreed
-    ≡ new_sender (next_port w) (sending_end w peer mode path file agreed).state path file (sending_end w peer mode path file agreed).left
-sending_is w peer mode path file [] = refl
-sending_is w peer mode path file (known ∷ agreed) = refl
+-- what is the same of every end that opens
+pub record IsNew (w : WorldState) (peer : Endpoint) (request : List ℕ) (side : Side) (mode : Mode) (path file : List ℕ) (x : OpenedEnd) : Type 0 where
+  pub is : x ≡ new_end (next_port w) request x.state path file x.left
+  pub is_open : is_closed x ≡ false
+  pub side_is : x.state.side ≡ side
+  pub mode_is : x.state.mode ≡ mode
+  pub last_sent_to : x.state.last_sent_to ≡ peer
 
--- its side, and its mode
-pub sending_side : (w : WorldState) (peer : Endpoint) (mode : Mode) (path file : List ℕ) (agreed : List Known) →
-    ((sending_end w peer mode path file agreed).state.side ≡ ServerRead) × ((sending_end w peer mode path file agreed).state.mode ≡ mode)
-sending_side w peer mode path file [] = (refl, refl)
-sending_side w peer mode path file (known ∷ agreed) = (refl, refl)
+pub sending_new : (w : WorldState) (peer : Endpoint) (request : List ℕ) (mode : Mode) (path file : List ℕ) (agreed : List Known) →
+    IsNew w peer request ServerRead mode path file (sending_end w peer request mode path file agreed)
+sending_new w peer request mode path file [] = record { is = refl; is_open = refl; side_is = refl; mode_is = refl; last_sent_to = refl }
+sending_new w peer request mode path file (known ∷ agreed) = record { is = refl; is_open = refl; side_is = refl; mode_is = refl; last_sent_to = refl }
 
-pub sending_last_sent_to : (w : WorldState) (peer : Endpoint) (mode : Mode) (path file : List ℕ) (agreed : List Known) → (sending_end w peer mode path file agreed).state.last_sent_to ≡ peer
-sending_last_sent_to w peer mode path file [] = refl
-sending_last_sent_to w peer mode path file (known ∷ agreed) = refl
+pub receiving_new : (w : WorldState) (peer : Endpoint) (request : List ℕ) (mode : Mode) (path : List ℕ) (agreed : List Known) →
+    IsNew w peer request ServerWrite mode path [] (receiving_end w peer request mode path agreed)
+receiving_new w peer request mode path [] = record { is = refl; is_open = refl; side_is = refl; mode_is = refl; last_sent_to = refl }
+receiving_new w peer request mode path (known ∷ agreed) = record { is = refl; is_open = refl; side_is = refl; mode_is = refl; last_sent_to = refl }
 
 module _ {D : Type 0} (drafted : D → Option Drafted) (w : WorldState) (asking : PortAsking drafted) (result : PortLeft drafted) where
   -- a transfer opened: the end that the world says, and its first datagram went to whoever asked
