@@ -20,6 +20,7 @@ pub mod EndMoves
 pub mod Resting
 pub mod Measured
 pub mod HeldLemmas
+pub mod OwnedLemmas
 pub mod OneLemmas
 pub mod StrangerLemmas
 pub mod Witness

@@ -1,30 +1,33 @@
 -- How a turn of one player handles the ends of a world.
-use Rattle.std.proofs.Common.{◌≡◌, ◌≢◌, ℕ, suc, ◌<◌, length, inl, inr, Bool, true, false, List, [], Option, Some, None, refl, sym, ap, ◌∙◌, subst}
-use Rattle.std.specs.Prelude.{◌⊎◌, ◌&&◌, not, is_some, if◌then◌else◌}
+use Rattle.std.proofs.Common.{◌≡◌, ◌≢◌, ℕ, suc, ◌+◌, ◌<◌, length, inl, inr, Bool, true, false, List, [], Option, Some, None, refl, sym, ap, ◌∙◌, subst}
+use Rattle.std.specs.Prelude.{◌⊎◌, ◌&&◌, not, is_some, if◌then◌else◌, slice_get, slice_set}
 use Rattle.std.proofs.lemmas.Bool.{true≢false}
 use Rattle.tftp_file.specs.declared.files.Files.{Files}
 use Rattle.tftp_file.specs.declared.files.Files.TheVariants.{Source, Sink}
-use Rattle.tftp_file.specs.Memory.{MemSinkState}
 use Rattle.tftp_file.specs.Sink.{Holding}
 use Rattle.tftp_ends.specs.declared.outcome.Outcome.{Outcome}
 use Rattle.tftp_ends.specs.declared.record.Record.{Record}
 use Rattle.tftp_ends.specs.End.{EndState, is_sender, is_client, outcome_of, record_of}
 use Rattle.tftp_ends.specs.Files.{AreFilesOf, AreSame}
 use Rattle.tftp_ends.specs.Step.{Turn}
-use Rattle.tftp_server.specs.State.{at, with_next}
+use Rattle.tftp_server.specs.Draft.{KeepsStore}
+use Rattle.tftp_server.specs.Memory.{with_told}
+use Rattle.tftp_server.specs.State.{at, draft_of, with_next, without}
 use Rattle.tftp_server.specs.State as server
+use Rattle.tftp_server.specs.Store.{Stored, Drafted}
 use Rattle.tftp_player.specs.Clients.{server_at, left_in, holding_in, no_holding, ClientTurns}
 use Rattle.tftp_player.specs.Effect.{effect_of}
 use Rattle.tftp_player.specs.PlayedClient.{PlayedClient}
-use Rattle.tftp_player.specs.Played.{client_end, sending_served, served_end, ended_as, end_at, PlayerKept, IsServed}
+use Rattle.tftp_player.specs.Played.{client_end, draft_or_new, served_as, served_end, ended_as, end_at, PlayerKept, IsServed}
 use Rattle.tftp_player.specs.Serving.{PlayedServer, Transfer, ServedKept, ServedTurns, rested_served, rested_held}
-use Rattle.tftp_player.specs.Stage.{SameStore}
-use Rattle.tftp_player.specs.World.{OpenedEnd, is_closed, files_of, end_after, at_rest, closed_state, rest_state, rest_left}
+use Rattle.tftp_player.specs.Stage.{IsOwned, IsRising}
+use Rattle.tftp_player.specs.World.{OpenedEnd, is_closed, files_of, end_after, at_rest, closed_state, rest_state, while_open}
 use Rattle.tftp_player.specs.declared.effect.Effect.{Effect}
 use Rattle.tftp_player.specs.declared.player.Player.{Player}
 use Rattle.tftp_player.specs.declared.player.Player.TheVariants.{Client, Server}
 use Rattle.tftp_player.specs.declared.served.Served.{Served}
-use Rattle.tftp_player.proofs.HeldLemmas.{AreBelow, AllKeys-with_next, AllKeys-without, length-with_next, length-without, at-with_next, at-with_next_other, at-without_other}
+use Rattle.tftp_player.proofs.HeldLemmas.{AreBelow, AllKeys-with_next, AllKeys-without, IsRising-with_next, IsRising-without, length-with_next, length-without, at-with_next, at-with_next_other, at-without_other}
+use Rattle.tftp_player.proofs.OwnedLemmas.{AllOwned, client_owned, server_owned, closed_owned}
 use Rattle.tftp_player.proofs.PlacedEnds.{is_transfer, is_transfer-rest}
 use Rattle.tftp_player.proofs.Resting.{at_rest_open, at_rest_record, rest_is_record}
 use Rattle.tftp_player.proofs.TurnKeeps.{KeepsKind}
@@ -38,13 +41,12 @@ served_by_port : (port : ℕ) (s : Served) (ended : Option Record) (held held' :
 served_by_port port s (Some r) held held' e k = k
 served_by_port port s None held held' e k = record {
   transfer = k.transfer;
-  left = k.left;
   found = e ∙ k.found;
   is_open = k.is_open;
-  sends = k.sends;
   side = k.side;
-  sender = k.sender;
+  files = k.files;
   mode = k.mode;
+  path = k.path;
 }
 
 pub kept_by_port : (port : ℕ) (held held' : List (ℕ × Transfer)) (p : Player) → at port held' ≡ at port held → PlayerKept port held p → PlayerKept port held' p
@@ -52,7 +54,7 @@ kept_by_port port held held' (Client c) e k = k
 kept_by_port port held held' (Server s) e k = served_by_port port s s.ended held held' e k
 
 -- how a turn of the player at this port handles its end, x before, and of the rest
-pub record Stepped (port : ℕ) (x : OpenedEnd) (p' : Player) (before after : PlayedServer) (turn : Turn) (held : Files (List ℕ) Holding) (effect : Effect) (r : Record) : Type 0 where
+pub record Stepped (port : ℕ) (p : Player) (x : OpenedEnd) (p' : Player) (before after : PlayedServer) (turn : Turn) (held : Files (List ℕ) Holding) (effect : Effect) (r : Record) : Type 0 where
   pub open_now : is_closed x ≡ false
   pub effects : effect ≡ effect_of x.address turn
   pub end : end_at port after.held p' ≡ at_rest (end_after x turn held)
@@ -62,7 +64,11 @@ pub record Stepped (port : ℕ) (x : OpenedEnd) (p' : Player) (before after : Pl
   pub below : (tid : ℕ) → AreBelow tid before.held → AreBelow tid after.held
   pub counted : ((is_transfer (end_at port after.held p') ≡ is_transfer x) × (length after.held ≡ length before.held))
       ⊎ ((is_transfer x ≡ true) × (is_transfer (end_at port after.held p') ≡ false) × (suc (length after.held) ≡ length before.held))
-  pub same : SameStore before after
+  pub owned : (place : ℕ) (ps : List Player) → port ≡ 1024 + place → slice_get ps place ≡ Some p → IsRising before.held → AllOwned ps before.held →
+      AllOwned (slice_set ps place p') after.held
+  pub rising : IsRising before.held → IsRising after.held
+  pub quiet : before.store.refuses ≡ false → after.store.refuses ≡ false
+  pub config : after.config ≡ before.config
 
 -- ---- a client
 pub client_files : (port : ℕ) (c : PlayedClient) → AreFilesOf c.end.side c.files → files_of (client_end port c) ≡ c.files
@@ -98,7 +104,7 @@ no_transfer x e = ap (λ (b : Bool). not b && not (is_closed x)) e
 
 pub client_open : (port : ℕ) (c c' : PlayedClient) (server : PlayedServer) (turn : Turn) (files : Files (List ℕ) Holding) (effect : Effect) (r : Record) →
     PlayerKept port server.held (Client c) → is_some (outcome_of c.end.phase) ≡ false → ClientTurns port c c' turn files effect r → SameKind c.files files → KeepsKind c.end turn.end →
-    Stepped port (client_end port c) (Client c') server server turn files effect r
+    Stepped port (Client c) (client_end port c) (Client c') server server turn files effect r
 client_open port c c' server turn files effect r kept open_now t kind keeps =
     let client : client_end port c' ≡ end_after (client_end port c) turn files = ap (client_end port) t.client ∙ client_after port c turn c.files files kind in
     record {
@@ -118,16 +124,19 @@ client_open port c c' server turn files effect r kept open_now t kind keeps =
             ∙ sym (no_transfer (client_end port c) kept.0)),
         refl,
       );
-      same = record { config = refl; store = refl };
+      owned = λ place ps is there rising all. client_owned ps place c (Client c') server.held there all;
+      rising = λ rising. rising;
+      quiet = λ quiet. quiet;
+      config = refl;
     }
 
 -- as it stands in the world
 pub client_steps : (port : ℕ) (c c' : PlayedClient) (before after : PlayedServer) (turn : Turn) (files : Files (List ℕ) Holding) (effect : Effect) (r : Record) →
     PlayerKept port before.held (Client c) → is_some (outcome_of c.end.phase) ≡ false → ClientTurns port c c' turn files effect r → after ≡ before → SameKind c.files files → KeepsKind c.end turn.end →
-    Stepped port (end_at port before.held (Client c)) (Client c') before after turn files effect r
+    Stepped port (Client c) (end_at port before.held (Client c)) (Client c') before after turn files effect r
 client_steps port c c' before after turn files effect r kept open_now t same kind keeps =
-    subst (λ (s : PlayedServer). Stepped port (end_at port before.held (Client c)) (Client c') before s turn files effect r) (sym same)
-    (subst (λ (x : OpenedEnd). Stepped port x (Client c') before before turn files effect r) (sym (at_rest_open (client_end port c) open_now))
+    subst (λ (s : PlayedServer). Stepped port (Client c) (end_at port before.held (Client c)) (Client c') before s turn files effect r) (sym same)
+    (subst (λ (x : OpenedEnd). Stepped port (Client c) x (Client c') before before turn files effect r) (sym (at_rest_open (client_end port c) open_now))
     (client_open port c c' before turn files effect r kept open_now t kind keeps))
 
 -- what its end has for a file
@@ -140,18 +149,72 @@ not_some : (o : Option Record) → is_some o ≡ false → o ≡ None
 not_some None e = refl
 not_some (Some r) e = absurd (true≢false e)
 
-pub served_is : (port : ℕ) (s : Served) (held : List (ℕ × Transfer)) (h : Transfer) (left : List ℕ) → is_some s.ended ≡ false → at port held ≡ Some h → h.files ≡ Source left →
-    end_at port held (Server s) ≡ sending_served port s h.end left
-served_is port s held h left open_now found sends =
-    ap (λ (o : Option Record). served_end port s o (at port held)) (not_some s.ended open_now)
-    ∙ (ap (λ (o : Option Transfer). served_end port s None o) found
-    ∙ ap (λ (f : Files (List ℕ) MemSinkState). sending_served port s h.end (left_in f)) sends)
+-- an end of the server, by the transfer that is held
+abbrev pub held_end : ℕ → Served → Transfer → OpenedEnd
+held_end port s h = served_as port s h.end (left_in h.files) (draft_of h.files) h.request
+
+pub served_is : (port : ℕ) (s : Served) (held : List (ℕ × Transfer)) (h : Transfer) → is_some s.ended ≡ false → at port held ≡ Some h → end_at port held (Server s) ≡ held_end port s h
+served_is port s held h open_now found =
+    ap (λ (o : Option Record). served_end port s o (at port held)) (not_some s.ended open_now) ∙ ap (λ (o : Option Transfer). served_end port s None o) found
 
 pub served_kept : (port : ℕ) (s : Served) (held : List (ℕ × Transfer)) → is_some s.ended ≡ false → PlayerKept port held (Server s) → ServedKept port s held
 served_kept port s held open_now kept = subst (λ (o : Option Record). IsServed port s o held) (not_some s.ended open_now) kept
 
 pub same_transfer : (a b : Transfer) → Some a ≡ Some b → a ≡ b
 same_transfer a b e = cc
+
+-- the files of a transfer, as its end in the world has them
+abbrev pub held_files : Bool → Files (List ℕ) Drafted → Files (List ℕ) Holding
+held_files refuses (Source left) = Source left
+held_files refuses (Sink draft) = Sink (record { bytes = draft.bytes; committed = draft.committed; refuses = refuses })
+
+pub served_files : (port : ℕ) (s : Served) (e : EndState) (files : Files (List ℕ) Drafted) (request : List ℕ) → AreFilesOf e.side files →
+    files_of (served_as port s e (left_in files) (draft_of files) request) ≡ held_files s.refuses files
+served_files port s e (Source left) request fits =
+    ap (λ (b : Bool). if b then Source left else Sink (record { bytes = []; committed = false; refuses = s.refuses })) fits
+served_files port s e (Sink draft) request fits =
+    ap (λ (b : Bool). if b then Source [] else Sink (record { bytes = draft.bytes; committed = draft.committed; refuses = s.refuses })) fits
+
+-- the same kind of file
+abbrev pub SameDraftKind : Files (List ℕ) Drafted → Files (List ℕ) Drafted → Type 0
+SameDraftKind old new = AreSame (λ (a b : List ℕ). Unit {0}) (λ (a b : Drafted). Unit {0}) old new
+
+pub same_draft_kind : (files : Files (List ℕ) Drafted) → SameDraftKind files files
+same_draft_kind (Source left) = tt
+same_draft_kind (Sink draft) = tt
+
+drafts_kept : (side side' : _) (old new : Files (List ℕ) Drafted) → is_sender side' ≡ is_sender side → SameDraftKind old new → AreFilesOf side old → AreFilesOf side' new
+drafts_kept side side' (Source left) (Source left') e k f = e ∙ f
+drafts_kept side side' (Sink draft) (Sink draft') e k f = e ∙ f
+drafts_kept side side' (Source left) (Sink draft) e k f = absurd k
+drafts_kept side side' (Sink draft) (Source left) e k f = absurd k
+
+-- a receiver has a draft
+has_draft : (side : _) (files : Files (List ℕ) Drafted) → AreFilesOf side files → is_some (draft_of files) ≡ not (is_sender side)
+has_draft side (Source left) fits = ap not (sym fits)
+has_draft side (Sink draft) fits = ap not (sym fits)
+
+-- a sender is told nothing
+abbrev pub KeepsTold : Files (List ℕ) Drafted → Bool → Bool → Type 0
+KeepsTold (Source left) old new = new ≡ old
+KeepsTold (Sink draft) old new = Unit {0}
+
+pub same_told : (files : Files (List ℕ) Drafted) (told : Bool) → KeepsTold files told told
+same_told (Source left) told = refl
+same_told (Sink draft) told = tt
+
+pub keeps_told : (files : Files (List ℕ) Drafted) (before after : Stored) (told : Bool) → KeepsStore files (with_told before told) after → KeepsTold files told after.refuses
+keeps_told (Source left) before after told k = ap (λ (s : Stored). s.refuses) k
+keeps_told (Sink draft) before after told k = tt
+
+-- a turn of its end in the world
+served_after : (port : ℕ) (s : Served) (e : EndState) (turn : Turn) (old new : Files (List ℕ) Drafted) (refuses : Bool) (request : List ℕ) → SameDraftKind old new → KeepsTold old s.refuses refuses →
+    end_after (served_as port s e (left_in old) (draft_of old) request) turn (held_files refuses new) ≡ served_as port (record s { refuses = refuses }) turn.end (left_in new) (draft_of new) request
+served_after port s e turn (Source left) (Source left') refuses request k told =
+    ap (λ (b : Bool). served_as port (record s { refuses = b }) turn.end left' None request) (sym told)
+served_after port s e turn (Sink draft) (Sink draft') refuses request k told = refl
+served_after port s e turn (Source left) (Sink draft) refuses request k told = absurd k
+served_after port s e turn (Sink draft) (Source left) refuses request k told = absurd k
 
 ended_is : (o : Option Outcome) (outcome : Outcome) → o ≡ Some outcome → ended_as o ≡ outcome
 ended_is o outcome e = ap ended_as e
@@ -160,52 +223,88 @@ some_of : {A : Type 0} (o : Option A) → is_some o ≡ true → (a : A) × (o �
 some_of None e = absurd (true≢false (sym e))
 some_of (Some a) e = (a, refl)
 
-module _ (port : ℕ) (s : Served) (before : PlayedServer) (h : Transfer) (left : List ℕ) (turn : Turn) (left' path request : List ℕ) (effect : Effect) (r : Record)
-    (found : at port before.held ≡ Some h) (open_now : is_some s.ended ≡ false) (kept : ServedKept port s before.held) (keeps : KeepsKind h.end turn.end) (recorded : r ≡ record_of turn.end) where
-  abbrev next : Transfer
-  next = record { end = turn.end; files = Source left'; path = path; request = request }
+-- what a turn of a transfer h makes of it, next, beside its end
+pub record TransferGoes (h next : Transfer) (turn : Turn) (was refuses : Bool) : Type 0 where
+  pub end : next.end ≡ turn.end
+  pub kind : SameDraftKind h.files next.files
+  pub path : next.path ≡ h.path
+  pub request : next.request ≡ h.request
+  pub told : KeepsTold h.files was refuses
+
+module _ (port : ℕ) (s : Served) (before : PlayedServer) (h next : Transfer) (turn : Turn) (refuses : Bool) (store : Stored) (effect : Effect) (r : Record)
+    (found : at port before.held ≡ Some h) (open_now : is_some s.ended ≡ false) (kept : ServedKept port s before.held) (keeps : KeepsKind h.end turn.end) (recorded : r ≡ record_of turn.end)
+    (goes : TransferGoes h next turn s.refuses refuses) where
+  abbrev told : Served
+  told = record s { refuses = refuses }
+
+  abbrev draft : Option Drafted
+  draft = draft_of next.files
 
   abbrev x0 : OpenedEnd
-  x0 = sending_served port s h.end left
+  x0 = held_end port s h
+
+  abbrev x1 : OpenedEnd
+  x1 = end_after x0 turn (held_files refuses next.files)
+
+  here : h ≡ kept.transfer
+  here = same_transfer h kept.transfer (sym found ∙ kept.found)
 
   mode_is : turn.end.mode ≡ s.mode
-  mode_is = keeps.mode ∙ (ap (λ (t : Transfer). t.end.mode) (same_transfer h kept.transfer (sym found ∙ kept.found)) ∙ kept.mode)
+  mode_is = keeps.mode ∙ (ap (λ (t : Transfer). t.end.mode) here ∙ kept.mode)
 
   side_is : is_client turn.end.side ≡ false
-  side_is = ap is_client keeps.side ∙ (ap (λ (t : Transfer). is_client t.end.side) (same_transfer h kept.transfer (sym found ∙ kept.found)) ∙ kept.side)
+  side_is = ap is_client keeps.side ∙ (ap (λ (t : Transfer). is_client t.end.side) here ∙ kept.side)
 
-  sender_is : is_sender turn.end.side ≡ true
-  sender_is = ap is_sender keeps.side ∙ (ap (λ (t : Transfer). is_sender t.end.side) (same_transfer h kept.transfer (sym found ∙ kept.found)) ∙ kept.sender)
+  path_is : next.path ≡ s.path
+  path_is = goes.path ∙ (ap (λ (t : Transfer). t.path) here ∙ kept.path)
+
+  fits : AreFilesOf turn.end.side next.files
+  fits = drafts_kept h.end.side turn.end.side h.files next.files (ap is_sender keeps.side) goes.kind (subst (λ (t : Transfer). AreFilesOf t.end.side t.files) (sym here) kept.files)
+
+  after_is : x1 ≡ served_as port told turn.end (left_in next.files) draft h.request
+  after_is = served_after port s h.end turn h.files next.files refuses h.request goes.kind goes.told
+
+  phase_is : x1.state ≡ turn.end
+  phase_is = ap (λ (y : OpenedEnd). y.state) after_is
 
   -- the end, by whether it has closed
   end_by : (b : Bool) → is_some (outcome_of turn.end.phase) ≡ b →
-      end_at port (rested_held b port (with_next port next before.held)) (Server (rested_served b r s)) ≡ at_rest (end_after x0 turn (Source left'))
+      end_at port (rested_held b port (with_next port next before.held)) (Server (rested_served b r draft told)) ≡ at_rest x1
   end_by true closed =
       let o = some_of (outcome_of turn.end.phase) closed in
+      let y = served_as port told turn.end (left_in next.files) draft h.request in
       let outcome : r.outcome ≡ Some o.0 = ap (λ (q : Record). q.outcome) recorded ∙ o.1 in
       let state : closed_state s.mode r (ended_as r.outcome) ≡ rest_state turn.end.phase turn.end =
       ap (λ (q : Outcome). closed_state s.mode r q) (ended_is r.outcome o.0 outcome)
       ∙ (ap (λ (m : _). closed_state m r o.0) (sym mode_is)
       ∙ (ap (λ (q : Record). closed_state turn.end.mode q o.0) recorded
-      ∙ sym (rest_is_record (end_after x0 turn (Source left')) o.0 o.1))) in
-      let none : [] ≡ rest_left turn.end.phase left' = ap (λ (b : Bool). if b then [] else left') (sym closed) in
-      ap (λ (e : EndState). sending_served port s e []) state ∙ ap (λ (l : List ℕ). sending_served port s (rest_state turn.end.phase turn.end) l) none
+      ∙ sym (rest_is_record y o.0 o.1))) in
+      let none : (bytes : List ℕ) → [] ≡ while_open turn.end.phase bytes = λ bytes. ap (λ (b : Bool). if b then [] else bytes) (sym closed) in
+      ap (λ (e : EndState). served_as port told e [] draft []) state
+      ∙ (ap (λ (l : List ℕ). served_as port told (rest_state turn.end.phase turn.end) l draft []) (none (left_in next.files))
+      ∙ (ap (λ (l : List ℕ). served_as port told (rest_state turn.end.phase turn.end) (while_open turn.end.phase (left_in next.files)) draft l) (none h.request)
+      ∙ ap at_rest (sym after_is)))
   end_by false still =
-      served_is port s (with_next port next before.held) next left' open_now (at-with_next port h next before.held found) refl
-      ∙ sym (at_rest_open (end_after x0 turn (Source left')) still)
+      served_is port told (with_next port next before.held) next open_now (at-with_next port h next before.held found)
+      ∙ (ap (λ (e : EndState). served_as port told e (left_in next.files) draft next.request) goes.end
+      ∙ (ap (λ (l : List ℕ). served_as port told turn.end (left_in next.files) draft l) goes.request
+      ∙ (sym after_is ∙ sym (at_rest_open x1 (ap (λ (e : EndState). is_some (outcome_of e.phase)) phase_is ∙ still)))))
 
-  kept_by : (b : Bool) → is_some (outcome_of turn.end.phase) ≡ b → PlayerKept port (rested_held b port (with_next port next before.held)) (Server (rested_served b r s))
-  kept_by true closed = (ap (λ (q : Record). is_some q.outcome) recorded ∙ closed, ap (λ (q : Record). is_client q.side) recorded ∙ side_is, ap (λ (q : Record). is_sender q.side) recorded ∙ sender_is)
+  kept_by : (b : Bool) → is_some (outcome_of turn.end.phase) ≡ b → PlayerKept port (rested_held b port (with_next port next before.held)) (Server (rested_served b r draft told))
+  kept_by true closed = record {
+    closed = ap (λ (q : Record). is_some q.outcome) recorded ∙ closed;
+    side = ap (λ (q : Record). is_client q.side) recorded ∙ side_is;
+    draft = has_draft turn.end.side next.files fits ∙ ap (λ (q : Record). not (is_sender q.side)) (sym recorded);
+  }
   kept_by false still =
-      subst (λ (o : Option Record). IsServed port s o (with_next port next before.held)) (sym (not_some s.ended open_now)) (record {
+      subst (λ (o : Option Record). IsServed port told o (with_next port next before.held)) (sym (not_some s.ended open_now)) (record {
         transfer = next;
-        left = left';
         found = at-with_next port h next before.held found;
-        is_open = still;
-        sends = refl;
-        side = side_is;
-        sender = sender_is;
-        mode = mode_is;
+        is_open = ap (λ (e : EndState). is_some (outcome_of e.phase)) goes.end ∙ still;
+        side = ap (λ (e : EndState). is_client e.side) goes.end ∙ side_is;
+        files = subst (λ (e : EndState). AreFilesOf e.side next.files) (sym goes.end) fits;
+        mode = ap (λ (e : EndState). e.mode) goes.end ∙ mode_is;
+        path = path_is;
       })
 
   others_by : (b : Bool) (other : ℕ) → other ≢ port → at other (rested_held b port (with_next port next before.held)) ≡ at other before.held
@@ -216,51 +315,71 @@ module _ (port : ℕ) (s : Served) (before : PlayedServer) (h : Transfer) (left 
   below_by true tid low = AllKeys-without (λ (k : ℕ). k < tid) port (with_next port next before.held) (AllKeys-with_next (λ (k : ℕ). k < tid) port next before.held low)
   below_by false tid low = AllKeys-with_next (λ (k : ℕ). k < tid) port next before.held low
 
+  rising_by : (b : Bool) → IsRising before.held → IsRising (rested_held b port (with_next port next before.held))
+  rising_by true rises = IsRising-without port (with_next port next before.held) (IsRising-with_next port next before.held rises)
+  rising_by false rises = IsRising-with_next port next before.held rises
+
+  owned_by : (b : Bool) (place : ℕ) (ps : List Player) → port ≡ 1024 + place → slice_get ps place ≡ Some (Server s) → IsRising before.held → AllOwned ps before.held →
+      AllOwned (slice_set ps place (Server (rested_served b r draft told))) (rested_held b port (with_next port next before.held))
+  owned_by true place ps is there rises all =
+      closed_owned ps port place (Server (rested_served true r draft told)) (with_next port next before.held) is (IsRising-with_next port next before.held rises)
+      (AllKeys-with_next (IsOwned ps) port next before.held all)
+  owned_by false place ps is there rises all =
+      server_owned ps place (Server s) told (with_next port next before.held) there (not_some s.ended open_now) (AllKeys-with_next (IsOwned ps) port next before.held all)
+
   transfer_now : (b : Bool) → is_some (outcome_of turn.end.phase) ≡ b →
-      is_transfer (end_at port (rested_held b port (with_next port next before.held)) (Server (rested_served b r s))) ≡ not b
+      is_transfer (end_at port (rested_held b port (with_next port next before.held)) (Server (rested_served b r draft told))) ≡ not b
   transfer_now b e =
       ap is_transfer (end_by b e)
-      ∙ (is_transfer-rest (end_after x0 turn (Source left'))
-      ∙ (ap (λ (c : Bool). not c && not (is_some (outcome_of turn.end.phase))) side_is ∙ ap not e))
+      ∙ (is_transfer-rest x1
+      ∙ (ap (λ (q : EndState). not (is_client q.side) && not (is_some (outcome_of q.phase))) phase_is
+      ∙ (ap (λ (c : Bool). not c && not (is_some (outcome_of turn.end.phase))) side_is ∙ ap not e)))
 
   transfer_was : is_transfer x0 ≡ true
   transfer_was =
-      ap (λ (t : Transfer). not (is_client t.end.side) && not (server.is_closed t)) (same_transfer h kept.transfer (sym found ∙ kept.found))
+      ap (λ (t : Transfer). not (is_client t.end.side) && not (server.is_closed t)) here
       ∙ (ap (λ (c : Bool). not c && not (server.is_closed kept.transfer)) kept.side ∙ ap not kept.is_open)
 
   counted_by : (b : Bool) → is_some (outcome_of turn.end.phase) ≡ b →
-      ((is_transfer (end_at port (rested_held b port (with_next port next before.held)) (Server (rested_served b r s))) ≡ is_transfer x0) × (length (rested_held b port (with_next port next before.held)) ≡ length before.held))
-      ⊎ ((is_transfer x0 ≡ true) × (is_transfer (end_at port (rested_held b port (with_next port next before.held)) (Server (rested_served b r s))) ≡ false) × (suc (length (rested_held b port (with_next port next before.held))) ≡ length before.held))
+      ((is_transfer (end_at port (rested_held b port (with_next port next before.held)) (Server (rested_served b r draft told))) ≡ is_transfer x0) × (length (rested_held b port (with_next port next before.held)) ≡ length before.held))
+      ⊎ ((is_transfer x0 ≡ true) × (is_transfer (end_at port (rested_held b port (with_next port next before.held)) (Server (rested_served b r draft told))) ≡ false) × (suc (length (rested_held b port (with_next port next before.held))) ≡ length before.held))
   counted_by true e =
       inr (transfer_was, transfer_now true e, length-without port next (with_next port next before.held) (at-with_next port h next before.held found) ∙ length-with_next port next before.held)
   counted_by false e = inl (transfer_now false e ∙ sym transfer_was, length-with_next port next before.held)
 
   served_open : is_closed x0 ≡ false
-  served_open = ap (λ (t : Transfer). server.is_closed t) (same_transfer h kept.transfer (sym found ∙ kept.found)) ∙ kept.is_open
+  served_open = ap (λ (t : Transfer). server.is_closed t) here ∙ kept.is_open
 
   abbrev ended : Bool
   ended = is_some (outcome_of turn.end.phase)
 
-  stepped_so : effect ≡ effect_of (server_at port) turn →
-      Stepped port x0 (Server (rested_served ended r s)) before (record before { held = rested_held ended port (with_next port next before.held) }) turn (Source left') effect r
-  stepped_so effects = record {
+  stepped_so : effect ≡ effect_of (server_at port) turn → (before.store.refuses ≡ false → store.refuses ≡ false) →
+      Stepped port (Server s) x0 (Server (rested_served ended r draft told)) before (record before { store = store; held = rested_held ended port (with_next port next before.held) }) turn (held_files refuses next.files)
+      effect r
+  stepped_so effects quiet = record {
     open_now = served_open;
     effects = effects;
     end = end_by ended refl;
-    recorded = recorded ∙ (sym (at_rest_record (end_after x0 turn (Source left'))) ∙ ap (λ (y : OpenedEnd). record_of y.state) (sym (end_by ended refl)));
+    recorded = recorded ∙ (ap record_of (sym phase_is) ∙ (sym (at_rest_record x1) ∙ ap (λ (y : OpenedEnd). record_of y.state) (sym (end_by ended refl))));
     kept = kept_by ended refl;
     others = others_by ended;
     below = below_by ended;
     counted = counted_by ended refl;
-    same = record { config = refl; store = refl };
+    owned = owned_by ended;
+    rising = rising_by ended;
+    quiet = quiet;
+    config = refl;
   }
 
-pub served_steps : (port : ℕ) (s s' : Served) (before after : PlayedServer) (h : Transfer) (left : List ℕ) (turn : Turn) (left' : List ℕ) (effect : Effect) (r : Record) →
-    at port before.held ≡ Some h → h.files ≡ Source left → is_some s.ended ≡ false → PlayerKept port before.held (Server s) → KeepsKind h.end turn.end →
-    ServedTurns port s s' before after turn left' effect r →
-    Stepped port (end_at port before.held (Server s)) (Server s') before after turn (Source left') effect r
-served_steps port s s' before after h left turn left' effect r found sends open_now kept keeps t =
-    subst (λ (x : OpenedEnd). Stepped port x (Server s') before after turn (Source left') effect r) (sym (served_is port s before.held h left open_now found sends))
-    (subst (λ (q : Served). Stepped port (sending_served port s h.end left) (Server q) before after turn (Source left') effect r) (sym t.served)
-    (subst (λ (v : PlayedServer). Stepped port (sending_served port s h.end left) (Server (rested_served (is_some (outcome_of turn.end.phase)) r s)) before v turn (Source left') effect r) (sym t.server)
-    (stepped_so port s before h left turn left' t.path t.request effect r found open_now (served_kept port s before.held open_now kept) keeps t.recorded t.effects)))
+-- an end of the server whose transfer made a turn, as it stands in the world
+pub served_steps : (port : ℕ) (s s' : Served) (before after : PlayedServer) (h next : Transfer) (turn : Turn) (refuses : Bool) (store : Stored) (effect : Effect) (r : Record) →
+    at port before.held ≡ Some h → is_some s.ended ≡ false → PlayerKept port before.held (Server s) → KeepsKind h.end turn.end →
+    SameDraftKind h.files next.files → next.path ≡ h.path → next.request ≡ h.request → KeepsTold h.files s.refuses refuses → (before.store.refuses ≡ false → store.refuses ≡ false) →
+    ServedTurns port s s' before after turn next refuses store effect r →
+    Stepped port (Server s) (end_at port before.held (Server s)) (Server s') before after turn (held_files refuses next.files) effect r
+served_steps port s s' before after h next turn refuses store effect r found open_now kept keeps kind path request told quiet t =
+    let goes : TransferGoes h next turn s.refuses refuses = record { end = t.end; kind = kind; path = path; request = request; told = told } in
+    subst (λ (x : OpenedEnd). Stepped port (Server s) x (Server s') before after turn (held_files refuses next.files) effect r) (sym (served_is port s before.held h open_now found))
+    (subst (λ (q : Served). Stepped port (Server s) (held_end port s h) (Server q) before after turn (held_files refuses next.files) effect r) (sym t.served)
+    (subst (λ (v : PlayedServer). Stepped port (Server s) (held_end port s h) (Server (rested_served (is_some (outcome_of turn.end.phase)) r (draft_of next.files) (record s { refuses = refuses }))) before v turn (held_files refuses next.files) effect r) (sym t.server)
+    (stepped_so port s before h next turn refuses store effect r found open_now (served_kept port s before.held open_now kept) keeps t.recorded goes t.effects quiet)))

@@ -1,0 +1,78 @@
+-- The transfers that a server holds are those of its open ends, still where one end has changed.
+use Rattle.std.proofs.Common.{◌≡◌, ◌≢◌, ℕ, ◌+◌, Bool, true, false, List, [], ◌∷◌, ◌++◌, length, Some, None, refl, sym, ap, ◌∙◌, subst, arith}
+use Rattle.std.specs.Prelude.{slice_get, slice_set}
+use Rattle.std.proofs.lemmas.Bool.{true≢false}
+use Rattle.std.specs.BTreeMap.{is_at}
+use Rattle.std.specs.List.{AllByRecursion}
+use Rattle.std.specs.Ordering.{nat_cmp}
+use Rattle.tftp_server.specs.State.{with_next, without}
+use Rattle.tftp_player.specs.PlayedClient.{PlayedClient}
+use Rattle.tftp_player.specs.Serving.{Transfer}
+use Rattle.tftp_player.specs.Stage.{IsOwned, IsRising}
+use Rattle.tftp_player.specs.declared.player.Player.{Player}
+use Rattle.tftp_player.specs.declared.player.Player.TheVariants.{Client, Server}
+use Rattle.tftp_player.specs.declared.served.Served.{Served}
+use Rattle.tftp_player.proofs.HeldLemmas.{at_same, same_at, AllKeys-without, AllKeys-weaker, all_both, gone-without}
+use Rattle.tftp_player.proofs.Places.{slice_get-set_same, slice_get-set_other, slice_get-push_old, slice_get-push_new}
+
+-- each transfer is one of these ends
+abbrev pub AllOwned : List Player → List (ℕ × Transfer) → Type 0
+AllOwned ps held = AllByRecursion (λ (e : ℕ × Transfer). IsOwned ps e.0) held
+
+-- another end is where it was
+pub owned_elsewhere : (ps : List Player) (place : ℕ) (p' : Player) (k : ℕ) → k ≢ 1024 + place → IsOwned ps k → IsOwned (slice_set ps place p') k
+owned_elsewhere ps place p' k n o = record {
+  place = o.place;
+  is = o.is;
+  served = o.served;
+  there = slice_get-set_other ps place o.place p' (λ e. n (o.is ∙ ap (λ (m : ℕ). 1024 + m) e)) ∙ o.there;
+  lives = o.lives;
+}
+
+-- and that of this place, if it is the server's and open
+pub owned_here : (ps : List Player) (place : ℕ) (p : Player) (s' : Served) (k : ℕ) → slice_get ps place ≡ Some p → s'.ended ≡ None → k ≡ 1024 + place →
+    IsOwned (slice_set ps place (Server s')) k
+owned_here ps place p s' k there lives is = record {
+  place = place;
+  is = is;
+  served = s';
+  there = slice_get-set_same ps place (Server s') p there;
+  lives = lives;
+}
+
+-- a client owns none
+not_a_client : (ps : List Player) (place : ℕ) (c : PlayedClient) (k : ℕ) → slice_get ps place ≡ Some (Client c) → IsOwned ps k → k ≢ 1024 + place
+not_a_client ps place c k there o e =
+    let same : o.place ≡ place = let a = o.is in omega (arith, a, e) in
+    let both : Some (Server o.served) ≡ Some (Client c) = sym o.there ∙ (ap (slice_get ps) same ∙ there) in
+    let f : Server o.served ≡ Client c = cc in
+    cc
+
+pub client_owned : (ps : List Player) (place : ℕ) (c : PlayedClient) (p' : Player) (held : List (ℕ × Transfer)) → slice_get ps place ≡ Some (Client c) → AllOwned ps held → AllOwned (slice_set ps place p') held
+client_owned ps place c p' held there all =
+    AllKeys-weaker (IsOwned ps) (IsOwned (slice_set ps place p')) held (λ k o. owned_elsewhere ps place p' k (not_a_client ps place c k there o) o) all
+
+-- an end of the server that is open still
+pub server_owned : (ps : List Player) (place : ℕ) (p : Player) (s' : Served) (held : List (ℕ × Transfer)) → slice_get ps place ≡ Some p → s'.ended ≡ None → AllOwned ps held →
+    AllOwned (slice_set ps place (Server s')) held
+server_owned ps place p s' held there lives all =
+    AllKeys-weaker (IsOwned ps) (IsOwned (slice_set ps place (Server s'))) held (λ k o. by k o (is_at (nat_cmp (1024 + place)) k) refl) all where
+      by : (k : ℕ) → IsOwned ps k → (b : Bool) → is_at (nat_cmp (1024 + place)) k ≡ b → IsOwned (slice_set ps place (Server s')) k
+      by k o true t = owned_here ps place p s' k there lives (same_at (1024 + place) k t)
+      by k o false t = owned_elsewhere ps place (Server s') k (λ e. true≢false (sym (at_same (1024 + place) k e) ∙ t)) o
+
+-- and one that was taken out of it
+pub closed_owned : (ps : List Player) (port place : ℕ) (p' : Player) (held : List (ℕ × Transfer)) → port ≡ 1024 + place → IsRising held → AllOwned ps held → AllOwned (slice_set ps place p') (without port held)
+closed_owned ps port place p' held is rising all =
+    all_both (λ (e : ℕ × Transfer). e.0 ≢ port) (λ (e : ℕ × Transfer). IsOwned ps e.0) (λ (e : ℕ × Transfer). IsOwned (slice_set ps place p') e.0) (without port held)
+    (λ e n o. owned_elsewhere ps place p' e.0 (λ same. n (same ∙ sym is)) o) (gone-without port held rising) (AllKeys-without (IsOwned ps) port held all)
+
+-- where there is an end more
+pub pushed_owned : (ps : List Player) (p : Player) (held : List (ℕ × Transfer)) → AllOwned ps held → AllOwned (ps ++ p ∷ []) held
+pushed_owned ps p held all = AllKeys-weaker (IsOwned ps) (IsOwned (ps ++ p ∷ [])) held (λ k o. record {
+  place = o.place;
+  is = o.is;
+  served = o.served;
+  there = slice_get-push_old ps o.place p (Server o.served) o.there;
+  lives = o.lives;
+}) all
