@@ -19,7 +19,7 @@ use Rattle.tftp_player.specs.Clients.{server_at, left_in, holding_in, no_holding
 use Rattle.tftp_player.specs.Effect.{effect_of}
 use Rattle.tftp_player.specs.PlayedClient.{PlayedClient}
 use Rattle.tftp_player.specs.Played.{client_end, draft_or_new, served_as, served_end, ended_as, end_at, PlayerKept, IsServed}
-use Rattle.tftp_player.specs.Serving.{PlayedServer, Transfer, ServedKept, ServedTurns, rested_served, rested_held}
+use Rattle.tftp_player.specs.Serving.{PlayedServer, Transfer, CommitsLast, ServedKept, ServedTurns, rested_served, rested_held}
 use Rattle.tftp_player.specs.Stage.{IsOwned, IsRising}
 use Rattle.tftp_player.specs.World.{OpenedEnd, is_closed, files_of, end_after, at_rest, closed_state, rest_state, while_open}
 use Rattle.tftp_player.specs.declared.effect.Effect.{Effect}
@@ -45,6 +45,7 @@ served_by_port port s None held held' e k = record {
   is_open = k.is_open;
   side = k.side;
   files = k.files;
+  commits = k.commits;
   mode = k.mode;
   path = k.path;
 }
@@ -230,6 +231,7 @@ pub record TransferGoes (h next : Transfer) (turn : Turn) (was refuses : Bool) :
   pub path : next.path ≡ h.path
   pub request : next.request ≡ h.request
   pub told : KeepsTold h.files was refuses
+  pub commits : CommitsLast next.files turn.end.phase
 
 module _ (port : ℕ) (s : Served) (before : PlayedServer) (h next : Transfer) (turn : Turn) (refuses : Bool) (store : Stored) (effect : Effect) (r : Record)
     (found : at port before.held ≡ Some h) (open_now : is_some s.ended ≡ false) (kept : ServedKept port s before.held) (keeps : KeepsKind h.end turn.end) (recorded : r ≡ record_of turn.end)
@@ -303,6 +305,7 @@ module _ (port : ℕ) (s : Served) (before : PlayedServer) (h next : Transfer) (
         is_open = ap (λ (e : EndState). is_some (outcome_of e.phase)) goes.end ∙ still;
         side = ap (λ (e : EndState). is_client e.side) goes.end ∙ side_is;
         files = subst (λ (e : EndState). AreFilesOf e.side next.files) (sym goes.end) fits;
+        commits = subst (λ (e : EndState). CommitsLast next.files e.phase) (sym goes.end) goes.commits;
         mode = ap (λ (e : EndState). e.mode) goes.end ∙ mode_is;
         path = path_is;
       })
@@ -374,11 +377,11 @@ module _ (port : ℕ) (s : Served) (before : PlayedServer) (h next : Transfer) (
 -- an end of the server whose transfer made a turn, as it stands in the world
 pub served_steps : (port : ℕ) (s s' : Served) (before after : PlayedServer) (h next : Transfer) (turn : Turn) (refuses : Bool) (store : Stored) (effect : Effect) (r : Record) →
     at port before.held ≡ Some h → is_some s.ended ≡ false → PlayerKept port before.held (Server s) → KeepsKind h.end turn.end →
-    SameDraftKind h.files next.files → next.path ≡ h.path → next.request ≡ h.request → KeepsTold h.files s.refuses refuses → (before.store.refuses ≡ false → store.refuses ≡ false) →
+    SameDraftKind h.files next.files → next.path ≡ h.path → next.request ≡ h.request → KeepsTold h.files s.refuses refuses → CommitsLast next.files turn.end.phase → (before.store.refuses ≡ false → store.refuses ≡ false) →
     ServedTurns port s s' before after turn next refuses store effect r →
     Stepped port (Server s) (end_at port before.held (Server s)) (Server s') before after turn (held_files refuses next.files) effect r
-served_steps port s s' before after h next turn refuses store effect r found open_now kept keeps kind path request told quiet t =
-    let goes : TransferGoes h next turn s.refuses refuses = record { end = t.end; kind = kind; path = path; request = request; told = told } in
+served_steps port s s' before after h next turn refuses store effect r found open_now kept keeps kind path request told commits quiet t =
+    let goes : TransferGoes h next turn s.refuses refuses = record { end = t.end; kind = kind; path = path; request = request; told = told; commits = commits } in
     subst (λ (x : OpenedEnd). Stepped port (Server s) x (Server s') before after turn (held_files refuses next.files) effect r) (sym (served_is port s before.held h open_now found))
     (subst (λ (q : Served). Stepped port (Server s) (held_end port s h) (Server q) before after turn (held_files refuses next.files) effect r) (sym t.served)
     (subst (λ (v : PlayedServer). Stepped port (Server s) (held_end port s h) (Server (rested_served (is_some (outcome_of turn.end.phase)) r (draft_of next.files) (record s { refuses = refuses }))) before v turn (held_files refuses next.files) effect r) (sym t.server)
