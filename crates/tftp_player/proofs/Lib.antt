@@ -54,5 +54,6 @@ pub mod OpenedLemmas
 pub mod TellingLemmas
 pub mod ArrivalLemmas
 pub mod RefusingLemmas
+pub mod RepeatedLemmas
 pub mod AskingLemmas
 mod PlayedKeeps
