@@ -26,6 +26,7 @@ getting_client port name mode asked limit retries =
       stored = [];
       committed = false;
       refuses = false;
+      request = [];
     }
 
 pub reading_is : (w : WorldState) (name : List ℕ) (mode : Mode) (asked : Asked) →
@@ -44,6 +45,7 @@ putting_client port name mode asked file limit retries =
       stored = [];
       committed = false;
       refuses = false;
+      request = [];
     }
 
 pub writing_is : (w : WorldState) (name : List ℕ) (mode : Mode) (asked : Asked) (file : List ℕ) →

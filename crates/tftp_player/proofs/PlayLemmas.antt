@@ -12,17 +12,20 @@ use Rattle.tftp_file.specs.declared.files.Files.TheVariants.{Source, Sink}
 use Rattle.tftp_file.specs.Sink.{Holding}
 use Rattle.tftp_ends.specs.declared.record.Record.{Record}
 use Rattle.tftp_ends.specs.declared.phase.Terms.{Terms}
-use Rattle.tftp_ends.specs.declared.phase.Phase.TheVariants.{Closed}
-use Rattle.tftp_ends.specs.End.{EndState, is_sender, outcome_of, record_of}
+use Rattle.tftp_ends.specs.declared.phase.Phase.{Phase}
+use Rattle.tftp_ends.specs.declared.phase.Phase.TheVariants.{Waiting, Sending, Receiving, Dallying, Closed}
+use Rattle.tftp_ends.specs.declared.phase.Dally.TheVariants.{Fresh, Waited}
+use Rattle.tftp_ends.specs.Files.{AreFilesOf}
+use Rattle.tftp_ends.specs.End.{EndState, is_complete, outcome_of, record_of}
 use Rattle.tftp_ends.specs.Step.{Turn, Reply, reply_bytes, timeout_turn}
 use Rattle.tftp_server.specs.State.{at}
 use Rattle.tftp_server.specs.declared.config.Config.{Config}
 use Rattle.tftp_player.specs.Machine.{Endpoint}
 use Rattle.tftp_player.specs.Clients.{server_at}
 use Rattle.tftp_player.specs.Effect.{effect_of, no_effect, said_by, place_behind, report_by}
-use Rattle.tftp_player.specs.Played.{sending_served, served_end, ended_as, end_at, ends_from, records_from, PlayerKept, IsServed, AllKept, PlayerTimeoutStep, has_ended, address_of, client_end}
-use Rattle.tftp_player.specs.Serving.{PlayedServer, Transfer, ServedKept}
-use Rattle.tftp_player.specs.Stage.{ends_of, IsStaged, EndTimesOut, StageTimeoutStep, record_closed, world_of}
+use Rattle.tftp_player.specs.Played.{served_as, served_end, ended_as, end_at, ends_from, records_from, PlayerKept, IsServed, AllKept, PlayerTimeoutStep, has_ended, address_of, client_end}
+use Rattle.tftp_player.specs.Serving.{PlayedServer, Transfer, CommitsLast}
+use Rattle.tftp_player.specs.Stage.{ends_of, IsStaged, SameStore, EndTimesOut, StageTimeoutStep, record_closed, world_of}
 use Rattle.tftp_player.specs.World.{WorldState, OpenedEnd, is_closed, files_of, end_after, at_rest, rest_terms, recorded_terms, closed_state, replied, added_at, closed_at, report_of, no_report}
 use Rattle.tftp_player.specs.WorldSteps.{WorldStep, IsAtPort, NoneAt, EventRefuses, WorldRefuses}
 use Rattle.tftp_player.specs.declared.fault.WorldFault.{WorldFault}
@@ -33,11 +36,12 @@ use Rattle.tftp_player.specs.declared.event.Event.TheVariants.{Timeout}
 use Rattle.tftp_player.specs.declared.player.Player.{Player}
 use Rattle.tftp_player.specs.declared.player.Player.TheVariants.{Client, Server}
 use Rattle.tftp_player.specs.declared.served.Served.{Served}
-use Rattle.tftp_server.specs.Store.{Stored}
+use Rattle.tftp_server.specs.Steps.{with_end}
+use Rattle.tftp_server.specs.Store.{Stored, Drafted}
 use Rattle.tftp_player.specs.declared.report.Report.{Report}
 use Rattle.tftp_player.proofs.PlacedEnds.{told-length, told-get, told-set, Kept_from, kept-get, kept-set, is_transfer, transfers-set, transfers-close}
 use Rattle.tftp_player.proofs.Resting.{IsAtRest, at_rest_open, at_rest_twice, at_rest_closed}
-use Rattle.tftp_player.proofs.StageLemmas.{by_port, kept_by_port, Stepped, same_kind, client_steps, client_at_rest, served_steps, served_is, served_kept}
+use Rattle.tftp_player.proofs.StageLemmas.{by_port, kept_by_port, Stepped, same_kind, client_steps, client_at_rest, held_end, held_files, served_steps, served_is, served_kept, served_files, same_transfer, same_draft_kind, same_told}
 use Rattle.tftp_player.proofs.StepLemmas.{turned, timeout_step, timeout_rests}
 use Rattle.tftp_player.proofs.TurnKeeps.{timeout_keeps}
 
@@ -82,7 +86,7 @@ records_set port (x ∷ ends) (suc k) y =
 
 -- ---- a turn at one place
 module _ (place : ℕ) (before after : PlayedServer) (ps : List Player) (p p' : Player) (turn : Turn) (held : Files (List ℕ) Holding) (effect : Effect) (r : Record)
-    (t : Stepped (1024 + place) (end_at (1024 + place) before.held p) p' before after turn held effect r) where
+    (t : Stepped (1024 + place) p (end_at (1024 + place) before.held p) p' before after turn held effect r) where
   set_ends : ends_of after (slice_set ps place p') ≡ slice_set (ends_of before ps) place (end_at (1024 + place) after.held p')
   set_ends = told-set end_at ends_from (λ port h. refl) (λ port h q qs. refl) by_port 1024 before.held after.held ps place p' t.others
 
@@ -98,6 +102,9 @@ module _ (place : ℕ) (before after : PlayedServer) (ps : List Player) (p p' : 
         ∙ (sym (records_set 1024 (ends_of before ps) place (end_at (1024 + place) after.held p')) ∙ ap (records_from 1024) (sym set_ends)));
     below = subst (λ (n : ℕ). AllByRecursion (λ (e : ℕ × Transfer). e.0 < 1024 + n) after.held) (sym (length-set ps place p')) (t.below (1024 + length ps) staged.below);
     count = counted_still t.counted ∙ ap open_transfers (sym set_ends);
+    owned = t.owned place ps refl there staged.rising staged.owned;
+    rising = t.rising staged.rising;
+    quiet = t.quiet staged.quiet;
   } where
     counted_still : ((is_transfer (end_at (1024 + place) after.held p') ≡ is_transfer (end_at (1024 + place) before.held p)) × (length after.held ≡ length before.held))
         ⊎ ((is_transfer (end_at (1024 + place) before.held p) ≡ true) × (is_transfer (end_at (1024 + place) after.held p') ≡ false) × (suc (length after.held) ≡ length before.held)) →
@@ -111,35 +118,61 @@ module _ (place : ℕ) (before after : PlayedServer) (ps : List Player) (p p' : 
         omega (arith, n, m, k)
 
 -- ---- a timeout
-pub sender_of : (port : ℕ) (s : Served) (held : List (ℕ × Transfer)) (h : Transfer) → at port held ≡ Some h → ServedKept port s held → is_sender h.end.side ≡ true
-sender_of port s held h found k = ap (λ (t : Transfer). is_sender t.end.side) (let f : Some h ≡ Some k.transfer = sym found ∙ k.found in let g : h ≡ k.transfer = cc in g) ∙ k.sender
+restated : (port : ℕ) (p : Player) (x : OpenedEnd) (p' : Player) (before after : PlayedServer) (turn turn' : Turn) (held held' : Files (List ℕ) Holding) (effect : Effect) (r : Record) → turn ≡ turn' → held ≡ held' →
+    Stepped port p x p' before after turn held effect r → Stepped port p x p' before after turn' held' effect r
+restated port p x p' before after turn turn' held held' effect r e f s =
+    subst (λ (h : Files (List ℕ) Holding). Stepped port p x p' before after turn' h effect r) f (subst (λ (u : Turn). Stepped port p x p' before after u held effect r) e s)
 
-restated : (port : ℕ) (x : OpenedEnd) (p' : Player) (before after : PlayedServer) (turn turn' : Turn) (held held' : Files (List ℕ) Holding) (effect : Effect) (r : Record) → turn ≡ turn' → held ≡ held' →
-    Stepped port x p' before after turn held effect r → Stepped port x p' before after turn' held' effect r
-restated port x p' before after turn turn' held held' effect r e f s =
-    subst (λ (h : Files (List ℕ) Holding). Stepped port x p' before after turn' h effect r) f (subst (λ (u : Turn). Stepped port x p' before after u held effect r) e s)
+-- an end that is not complete after a timeout was not before
+not_yet : (phase : Phase) (e : EndState) → is_complete (timeout_turn (record e { phase = phase })).end.phase ≡ false → is_some (outcome_of phase) ≡ false → is_complete phase ≡ false
+not_yet (Waiting asked limit) e k open_now = refl
+not_yet (Sending terms number) e k open_now = refl
+not_yet (Receiving terms number) e k open_now = refl
+not_yet (Dallying terms number Fresh) e k open_now = k
+not_yet (Dallying terms number Waited) e k open_now = k
+not_yet (Closed terms number complete outcome) e k open_now = absurd (true≢false open_now)
 
-pub sending_files : (port : ℕ) (s : Served) (e : EndState) (left : List ℕ) → is_sender e.side ≡ true → files_of (sending_served port s e left) ≡ Source left
-sending_files port s e left sender = ap (λ (b : Bool). if b then Source left else Sink (record { bytes = []; committed = false; refuses = false })) sender
+timeout_commits : (files : Files (List ℕ) Drafted) (e : EndState) → is_some (outcome_of e.phase) ≡ false → CommitsLast files e.phase → CommitsLast files (timeout_turn e).end.phase
+timeout_commits (Source left) e open_now k = tt
+timeout_commits (Sink draft) e open_now k = λ f. k (not_yet e.phase e f open_now)
 
 pub player_times_out : (port : ℕ) (p p' : Player) (before after : PlayedServer) (effect : Effect) (r : Record) →
     PlayerKept port before.held p → has_ended p ≡ false → PlayerTimeoutStep port p p' before after effect r →
-    Stepped port (end_at port before.held p) p' before after (timeout_turn (end_at port before.held p).state) (files_of (end_at port before.held p)) effect r
+    Stepped port p (end_at port before.held p) p' before after (timeout_turn (end_at port before.held p).state) (files_of (end_at port before.held p)) effect r
 player_times_out port (Client c) (Client c') before after effect r kept open_now t =
     let x = client_at_rest port c before.held kept.1 open_now in
-    restated port (end_at port before.held (Client c)) (Client c') before after (timeout_turn c.end) _ c.files _ effect r
+    restated port (Client c) (end_at port before.held (Client c)) (Client c') before after (timeout_turn c.end) _ c.files _ effect r
     (ap timeout_turn (sym (ap (λ (y : OpenedEnd). y.state) x.1 ∙ x.2)))
     (sym (ap files_of x.1 ∙ x.3))
     (client_steps port c c' before after (timeout_turn c.end) c.files effect r kept open_now t.0 t.1 (same_kind c.files) (timeout_keeps c.end))
 player_times_out port (Server s) (Server s') before after effect r kept open_now t =
-    let x : end_at port before.held (Server s) ≡ sending_served port s t.0.end t.1 = served_is port s before.held t.0 t.1 open_now t.2 t.3 in
-    let sender : is_sender t.0.end.side ≡ true = sender_of port s before.held t.0 t.2 (served_kept port s before.held open_now kept) in
-    restated port (end_at port before.held (Server s)) (Server s') before after (timeout_turn t.0.end) _ (Source t.1) _ effect r
+    let h = t.0 in
+    let x : end_at port before.held (Server s) ≡ held_end port s h = served_is port s before.held h open_now t.1 in
+    let k = served_kept port s before.held open_now kept in
+    let here : h ≡ k.transfer = same_transfer h k.transfer (sym t.1 ∙ k.found) in
+    let fits : AreFilesOf h.end.side h.files = subst (λ (v : Transfer). AreFilesOf v.end.side v.files) (sym here) k.files in
+    let commits : CommitsLast h.files (timeout_turn h.end).end.phase =
+    timeout_commits h.files h.end (ap (λ (v : Transfer). is_some (outcome_of v.end.phase)) here ∙ k.is_open) (subst (λ (v : Transfer). CommitsLast v.files v.end.phase) (sym here) k.commits) in
+    restated port (Server s) (end_at port before.held (Server s)) (Server s') before after (timeout_turn h.end) _ (held_files s.refuses h.files) _ effect r
     (ap timeout_turn (sym (ap (λ (y : OpenedEnd). y.state) x)))
-    (sym (ap files_of x ∙ sending_files port s t.0.end t.1 sender))
-    (served_steps port s s' before after t.0 t.1 (timeout_turn t.0.end) t.1 effect r t.2 t.3 open_now kept (timeout_keeps t.0.end) t.4)
+    (sym (ap files_of x ∙ served_files port s h.end h.files h.request fits))
+    (served_steps port s s' before after h (with_end (timeout_turn h.end).end h) (timeout_turn h.end) s.refuses before.store effect r t.1 open_now kept (timeout_keeps h.end)
+    (same_draft_kind h.files) refl refl (same_told h.files s.refuses) commits (λ q. q) t.2)
 player_times_out port (Client c) (Server s') before after effect r kept open_now t = absurd t
 player_times_out port (Server s) (Client c') before after effect r kept open_now t = absurd t
+
+-- and leaves the server's store as it was
+keeps_store : (port : ℕ) (p p' : Player) (before after : PlayedServer) (effect : Effect) (r : Record) → PlayerTimeoutStep port p p' before after effect r → SameStore before after
+keeps_store port (Client c) (Client c') before after effect r t = record {
+  config = ap (λ (s : PlayedServer). s.config) t.1;
+  store = ap (λ (s : PlayedServer). s.store) t.1;
+}
+keeps_store port (Server s) (Server s') before after effect r t = record {
+  config = ap (λ (v : PlayedServer). v.config) t.2.server;
+  store = ap (λ (v : PlayedServer). v.store) t.2.server;
+}
+keeps_store port (Client c) (Server s') before after effect r t = absurd t
+keeps_store port (Server s) (Client c') before after effect r t = absurd t
 
 -- an end that is open in the world is open where it is played
 ended_by : (port : ℕ) (s : Served) (o : Option Record) (h : Option Transfer) → is_closed (served_end port s o h) ≡ false → is_some o ≡ false
@@ -158,16 +191,16 @@ closed_is server ps records k p staged e =
     ∙ ap record_closed (records_get 1024 (ends_of server ps) k (end_at (1024 + k) server.held p) (ends_get server.held ps k p e))
 
 pub stage_times_out : (place : ℕ) (before after : PlayedServer) (ps : List Player) (p p' : Player) (effect : Effect) (r : Record) → slice_get ps place ≡ Some p →
-    Stepped (1024 + place) (end_at (1024 + place) before.held p) p' before after (timeout_turn (end_at (1024 + place) before.held p).state) (files_of (end_at (1024 + place) before.held p)) effect r →
-    StageTimeoutStep place before after ps (slice_set ps place p') effect
-stage_times_out place before after ps p p' effect r e t =
+    Stepped (1024 + place) p (end_at (1024 + place) before.held p) p' before after (timeout_turn (end_at (1024 + place) before.held p).state) (files_of (end_at (1024 + place) before.held p)) effect r →
+    SameStore before after → StageTimeoutStep place before after ps (slice_set ps place p') effect
+stage_times_out place before after ps p p' effect r e t same =
     let x = end_at (1024 + place) before.held p in
     record {
       end = x;
       found = ends_get before.held ps place p e;
       times_out = subst (λ (b : Bool). EndTimesOut b place x (ends_of before ps) (ends_of after (slice_set ps place p')) effect) (sym t.open_now)
           (record { effects = t.effects; next = turn_ends place before after ps p p' (timeout_turn x.state) (files_of x) effect r t });
-      same = t.same;
+      same = same;
     }
 
 pub stage_rests : (place : ℕ) (server : PlayedServer) (ps : List Player) (p : Player) (effect : Effect) → slice_get ps place ≡ Some p → is_closed (end_at (1024 + place) server.held p) ≡ true →
@@ -188,7 +221,7 @@ peers_rest r (Some peer) = refl
 
 served_rests : (port : ℕ) (s : Served) (held : List (ℕ × Transfer)) (o : Option Record) → IsServed port s o held → at_rest (served_end port s o (at port held)) ≡ served_end port s o (at port held)
 served_rests port s held (Some r) k =
-    ap (λ (terms : Option Terms). sending_served port s (record (closed_state s.mode r (ended_as r.outcome)) { phase = Closed terms r.number r.complete (ended_as r.outcome) }) []) (peers_rest r r.peer)
+    ap (λ (terms : Option Terms). served_as port s (record (closed_state s.mode r (ended_as r.outcome)) { phase = Closed terms r.number r.complete (ended_as r.outcome) }) [] s.draft []) (peers_rest r r.peer)
 served_rests port s held None k = subst (λ (h : Option Transfer). at_rest (served_end port s None h) ≡ served_end port s None h) (sym k.found) (at_rest_open (served_end port s None (Some k.transfer)) k.is_open)
 
 pub ends_rest : (port : ℕ) (held : List (ℕ × Transfer)) (ps : List Player) → AllKept port held ps → map at_rest (ends_from port held ps) ≡ ends_from port held ps
@@ -292,7 +325,7 @@ module _ (server : PlayedServer) (ps : List Player) (records : List (ℕ × Reco
 
   stepped_here : (b : Bool) (p' : Player) (after : PlayedServer) (effect : Effect) (r : Record) → b ≡ record_closed (slice_get records place) → b ≡ false →
       PlayerTimeoutStep port p p' server after effect r →
-      Stepped (1024 + place) (end_at (1024 + place) server.held p) p' server after (timeout_turn (end_at (1024 + place) server.held p).state) (files_of (end_at (1024 + place) server.held p)) effect r
+      Stepped (1024 + place) p (end_at (1024 + place) server.held p) p' server after (timeout_turn (end_at (1024 + place) server.held p).state) (files_of (end_at (1024 + place) server.held p)) effect r
   stepped_here b p' after effect r told is t =
       player_times_out (1024 + place) p p' server after effect r (kept_at server.held ps place p staged.kept is_there) (read_open b told is)
       (subst (λ (n : ℕ). PlayerTimeoutStep n p p' server after effect r) at_place.1 t)
@@ -300,7 +333,7 @@ module _ (server : PlayedServer) (ps : List Player) (records : List (ℕ × Reco
   pub times_out_staged : (b : Bool) (p' : Player) (after : PlayedServer) (effect : Effect) (r : Record) → b ≡ record_closed (slice_get records place) → b ≡ false →
       PlayerTimeoutStep port p p' server after effect r → StageTimeoutStep place server after ps (slice_set ps place p') effect
   times_out_staged b p' after effect r told is t =
-      stage_times_out place server after ps p p' effect r is_there (stepped_here b p' after effect r told is t)
+      stage_times_out place server after ps p p' effect r is_there (stepped_here b p' after effect r told is t) (keeps_store port p p' server after effect r t)
 
   pub times_out_keeps : (b : Bool) (p' : Player) (after : PlayedServer) (effect : Effect) (r : Record) → b ≡ record_closed (slice_get records place) → b ≡ false →
       PlayerTimeoutStep port p p' server after effect r → IsStaged after (slice_set ps place p') (slice_set records place (port, r))
