@@ -32,6 +32,7 @@ use Rattle.tftp_player.specs.declared.player.Player.TheVariants.{Client}
 use Rattle.tftp_player.specs.declared.report.Report.{Report}
 use Rattle.tftp_player.proofs.ClientLemmas.{getting_client, putting_client, reading_is, writing_is}
 use Rattle.tftp_player.proofs.HeldLemmas.{AreBelow, AreBelow-more}
+use Rattle.tftp_player.proofs.OwnedLemmas.{pushed_owned}
 use Rattle.tftp_player.proofs.PlacedEnds.{told-push, kept-push, is_transfer-rest, transfers-push_other}
 use Rattle.tftp_player.proofs.PlayLemmas.{ends_length, to_kept, from_kept, ends_rest}
 use Rattle.tftp_player.proofs.Resting.{IsAtRest, at_rest_record}
@@ -70,6 +71,9 @@ client_staged server ps records c port r staged is told client fits =
       count = staged.count
           ∙ (sym (transfers-push_other (ends_of server ps) x (is_transfer-rest (client_end (1024 + length ps) c) ∙ no_transfer (client_end (1024 + length ps) c) client))
           ∙ ap open_transfers (sym (ends_push server ps (Client c))));
+      owned = pushed_owned ps (Client c) server.held staged.owned;
+      rising = staged.rising;
+      quiet = staged.quiet;
     }
 
 -- and as it is told

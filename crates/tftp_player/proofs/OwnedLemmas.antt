@@ -61,6 +61,23 @@ server_owned ps place p s' held there lives all =
       by k o true t = owned_here ps place p s' k there lives (same_at (1024 + place) k t)
       by k o false t = owned_elsewhere ps place (Server s') k (λ e. true≢false (sym (at_same (1024 + place) k e) ∙ t)) o
 
+-- an end of the server with another in its place that ended as it did
+same_end : (ps : List Player) (place : ℕ) (s : Served) (k : ℕ) → slice_get ps place ≡ Some (Server s) → k ≡ 1024 + place → (o : IsOwned ps k) → o.served ≡ s
+same_end ps place s k there e o =
+    let same : o.place ≡ place = let a = o.is in omega (arith, a, e) in
+    let both : Some (Server o.served) ≡ Some (Server s) = sym o.there ∙ (ap (slice_get ps) same ∙ there) in
+    cc
+
+pub same_owned : (ps : List Player) (place : ℕ) (s s' : Served) (held : List (ℕ × Transfer)) → slice_get ps place ≡ Some (Server s) → s'.ended ≡ s.ended → AllOwned ps held →
+    AllOwned (slice_set ps place (Server s')) held
+same_owned ps place s s' held there e all =
+    AllKeys-weaker (IsOwned ps) (IsOwned (slice_set ps place (Server s'))) held (λ k o. by k o (is_at (nat_cmp (1024 + place)) k) refl) all where
+      by : (k : ℕ) → IsOwned ps k → (b : Bool) → is_at (nat_cmp (1024 + place)) k ≡ b → IsOwned (slice_set ps place (Server s')) k
+      by k o true t =
+          let is = same_at (1024 + place) k t in
+          owned_here ps place (Server s) s' k there (e ∙ (ap (λ (q : Served). q.ended) (sym (same_end ps place s k there is o)) ∙ o.lives)) is
+      by k o false t = owned_elsewhere ps place (Server s') k (λ f. true≢false (sym (at_same (1024 + place) k f) ∙ t)) o
+
 -- and one that was taken out of it
 pub closed_owned : (ps : List Player) (port place : ℕ) (p' : Player) (held : List (ℕ × Transfer)) → port ≡ 1024 + place → IsRising held → AllOwned ps held → AllOwned (slice_set ps place p') (without port held)
 closed_owned ps port place p' held is rising all =

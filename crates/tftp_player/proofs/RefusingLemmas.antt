@@ -1,5 +1,5 @@
 -- An end that is told to refuse its next append or commit.
-use Rattle.std.proofs.Common.{◌≡◌, ℕ, ◌+◌, ◌<◌, Bool, true, false, List, length, Some, refl, sym, ap, ◌∙◌, subst}
+use Rattle.std.proofs.Common.{◌≡◌, ℕ, ◌+◌, ◌<◌, Bool, true, false, List, [], length, Option, Some, None, refl, sym, ap, ◌∙◌, subst}
 use Rattle.std.specs.Prelude.{is_some, if◌then◌else◌, slice_get, slice_set, slice_index_or}
 use Rattle.std.specs.List.{AllByRecursion}
 use Rattle.std.proofs.Math.ListN.{length-set}
@@ -9,14 +9,16 @@ use Rattle.tftp_file.specs.declared.files.Files.{Files}
 use Rattle.tftp_file.specs.declared.files.Files.TheVariants.{Source, Sink}
 use Rattle.tftp_file.specs.Sink.{Holding}
 use Rattle.tftp_ends.specs.declared.record.Record.{Record}
-use Rattle.tftp_ends.specs.End.{is_sender, is_client, outcome_of, record_of}
+use Rattle.tftp_ends.specs.End.{EndState, is_sender, is_client, outcome_of, record_of}
 use Rattle.tftp_ends.specs.Files.{AreFilesOf}
+use Rattle.tftp_server.specs.State.{at, draft_of, draft_at}
+use Rattle.tftp_server.specs.Store.{Drafted}
 use Rattle.tftp_server.specs.declared.config.Config.{Config}
-use Rattle.tftp_player.specs.Clients.{told_files}
-use Rattle.tftp_player.specs.Played.{client_end, end_at, ends_from, records_from, PlayerKept, told_player}
+use Rattle.tftp_player.specs.Clients.{left_in, told_files}
+use Rattle.tftp_player.specs.Played.{client_end, served_as, served_end, end_at, ends_from, records_from, PlayerKept, IsServed, told_by, told_served, told_served_end, told_player}
 use Rattle.tftp_player.specs.PlayedClient.{PlayedClient}
 use Rattle.tftp_player.specs.Requests.{open_transfers}
-use Rattle.tftp_player.specs.Serving.{PlayedServer, Transfer}
+use Rattle.tftp_player.specs.Serving.{PlayedServer, Transfer, ServedKept}
 use Rattle.tftp_player.specs.Stage.{ends_of, IsStaged, world_of}
 use Rattle.tftp_player.specs.World.{WorldState, OpenedEnd, is_closed, at_rest, no_report}
 use Rattle.tftp_player.specs.WorldSteps.{WorldStep, told_to_refuse}
@@ -24,12 +26,13 @@ use Rattle.tftp_player.specs.declared.datagram.Datagram.{Datagram}
 use Rattle.tftp_player.specs.declared.event.Event.TheVariants.{RefuseStore}
 use Rattle.tftp_player.specs.declared.player.Player.{Player}
 use Rattle.tftp_player.specs.declared.player.Player.TheVariants.{Client, Server}
+use Rattle.tftp_player.specs.declared.served.Served.{Served}
+use Rattle.tftp_player.proofs.OwnedLemmas.{AllOwned, client_owned, same_owned}
 use Rattle.tftp_player.proofs.PlacedEnds.{told-set, kept-set, is_transfer, transfers-set}
 use Rattle.tftp_player.proofs.PlayLemmas.{ends_get, kept_at, list_get, to_kept, from_kept, ends_rest, records_get, records_set}
 use Rattle.tftp_player.proofs.Resting.{at_rest_open, at_rest_closed}
 use Rattle.tftp_player.proofs.StageLemmas.{by_port, kept_by_port}
 use Rattle.tftp_player.proofs.StepLemmas.{refuse_step}
-use Rattle.tftp_player.proofs.TellingLemmas.{served_stores}
 
 -- a sender and a closed end are told nothing
 told_sender : (x : OpenedEnd) → is_sender x.state.side ≡ true → told_to_refuse x ≡ x
@@ -68,10 +71,60 @@ kept_told : (c : PlayedClient) (b : Bool) → (is_client c.end.side ≡ true) ×
 kept_told c true k = (k.0, k.1)
 kept_told c false k = (k.0, fits_told c.end.side c.files k.1)
 
+-- an end of the server, by the file that it is held with
+transfer_told : (port : ℕ) (s : Served) (e : EndState) (files : Files (List ℕ) Drafted) (request : List ℕ) → AreFilesOf e.side files → is_some (outcome_of e.phase) ≡ false →
+    served_as port (told_served (draft_of files) s) e (left_in files) (draft_of files) request ≡ told_to_refuse (served_as port s e (left_in files) (draft_of files) request)
+transfer_told port s e (Source left) request fits open_now = sym (told_sender (served_as port s e left None request) fits)
+transfer_told port s e (Sink draft) request fits open_now = sym (told_open (served_as port s e [] (Some draft) request) fits open_now)
+
+-- by how it ended
+served_told : (port : ℕ) (s : Served) (o : Option Record) (held : List (ℕ × Transfer)) → IsServed port s o held →
+    served_end port (told_by o (at port held) s) o (at port held) ≡ told_to_refuse (served_end port s o (at port held))
+served_told port s (Some r) held k = sym (told_closed (served_end port s (Some r) (at port held)) refl)
+served_told port s None held k =
+    subst (λ (h : Option Transfer). served_end port (told_by None h s) None h ≡ told_to_refuse (served_end port s None h)) (sym k.found)
+    (transfer_told port s k.transfer.end k.transfer.files k.transfer.request k.files k.is_open)
+
+told_kept : (port : ℕ) (s : Served) (draft : Option Drafted) (held : List (ℕ × Transfer)) → ServedKept port s held → ServedKept port (told_served draft s) held
+told_kept port s None held k = k
+told_kept port s (Some draft) held k = record {
+  transfer = k.transfer;
+  found = k.found;
+  is_open = k.is_open;
+  side = k.side;
+  files = k.files;
+  commits = k.commits;
+  mode = k.mode;
+  path = k.path;
+}
+
+served_told_kept : (port : ℕ) (s : Served) (o : Option Record) (held : List (ℕ × Transfer)) → IsServed port s o held → IsServed port (told_by o (at port held) s) o held
+served_told_kept port s (Some r) held k = k
+served_told_kept port s None held k = told_kept port s (draft_at (at port held)) held k
+
+-- it has ended as it had
+drafts_ended : (draft : Option Drafted) (s : Served) → (told_served draft s).ended ≡ s.ended
+drafts_ended None s = refl
+drafts_ended (Some draft) s = refl
+
+told_ended : (o : Option Record) (h : Option Transfer) (s : Served) → (told_by o h s).ended ≡ s.ended
+told_ended (Some r) h s = refl
+told_ended None h s = drafts_ended (draft_at h) s
+
 pub player_told : (port : ℕ) (held : List (ℕ × Transfer)) (p : Player) → PlayerKept port held p →
-    (end_at port held (told_player p) ≡ told_to_refuse (end_at port held p)) × PlayerKept port held (told_player p)
+    (end_at port held (told_player port held p) ≡ told_to_refuse (end_at port held p)) × PlayerKept port held (told_player port held p)
 player_told port held (Client c) k = (client_told port c (is_some (outcome_of c.end.phase)) refl k.1, kept_told c (is_some (outcome_of c.end.phase)) (k.0, k.1))
-player_told port held (Server s) k = (sym (told_sender (end_at port held (Server s)) (served_stores port s s.ended held k).0), k)
+player_told port held (Server s) k =
+    let t = told_served_end port held s in
+    let same : t.ended ≡ s.ended = told_ended s.ended (at port held) s in (
+      ap (λ (o : Option Record). served_end port t o (at port held)) same ∙ served_told port s s.ended held k,
+      subst (λ (o : Option Record). IsServed port t o held) (sym same) (served_told_kept port s s.ended held k),
+    )
+
+-- and owns what it owned
+told_owned : (port place : ℕ) (held : List (ℕ × Transfer)) (ps : List Player) (p : Player) → slice_get ps place ≡ Some p → AllOwned ps held → AllOwned (slice_set ps place (told_player port held p)) held
+told_owned port place held ps (Client c) there all = client_owned ps place c (told_player port held (Client c)) held there all
+told_owned port place held ps (Server s) there all = same_owned ps place s (told_served_end port held s) held there (told_ended s.ended (at port held) s) all
 
 -- only the flag changed
 flag_only : (x : OpenedEnd) (b c : Bool) → (record_of (if b then x else if c then x else record x { refuses = true }).state ≡ record_of x.state) × (is_transfer (if b then x else if c then x else record x { refuses = true }) ≡ is_transfer x)
@@ -87,23 +140,32 @@ module _ (config : Config) (sent : List Datagram) (server : PlayedServer) (ps : 
   there : slice_get ps place ≡ Some p
   there = list_get ps place p within reads
 
-  told : (end_at (1024 + place) server.held (told_player p) ≡ told_to_refuse x) × PlayerKept (1024 + place) server.held (told_player p)
-  told = player_told (1024 + place) server.held p (kept_at server.held ps place p staged.kept there)
+  -- as it is told
+  abbrev q : Player
+  q = told_player port server.held p
+
+  told : (end_at (1024 + place) server.held q ≡ told_to_refuse x) × PlayerKept (1024 + place) server.held q
+  told =
+      subst (λ (n : ℕ). (end_at (1024 + place) server.held (told_player n server.held p) ≡ told_to_refuse x) × PlayerKept (1024 + place) server.held (told_player n server.held p)) (sym is)
+      (player_told (1024 + place) server.held p (kept_at server.held ps place p staged.kept there))
 
   same_flags : (record_of (told_to_refuse x).state ≡ record_of x.state) × (is_transfer (told_to_refuse x) ≡ is_transfer x)
   same_flags = flag_only x (is_sender x.state.side) (is_closed x)
 
-  new_ends : ends_of server (slice_set ps place (told_player p)) ≡ slice_set (ends_of server ps) place (told_to_refuse x)
+  new_ends : ends_of server (slice_set ps place q) ≡ slice_set (ends_of server ps) place (told_to_refuse x)
   new_ends =
-      told-set end_at ends_from (λ q h. refl) (λ q h r rs. refl) by_port 1024 server.held server.held ps place (told_player p) (λ other n. refl)
+      told-set end_at ends_from (λ q h. refl) (λ q h r rs. refl) by_port 1024 server.held server.held ps place q (λ other n. refl)
       ∙ ap (λ (y : OpenedEnd). slice_set (ends_of server ps) place y) told.0
 
-  pub refused_staged : IsStaged server (slice_set ps place (told_player p)) records
+  pub refused_staged : IsStaged server (slice_set ps place q) records
   refused_staged = record {
-    kept = from_kept 1024 server.held (slice_set ps place (told_player p)) (kept-set PlayerKept kept_by_port 1024 server.held server.held ps place (told_player p) (λ other n. refl) (to_kept 1024 server.held ps staged.kept) told.1);
+    kept = from_kept 1024 server.held (slice_set ps place q) (kept-set PlayerKept kept_by_port 1024 server.held server.held ps place q (λ other n. refl) (to_kept 1024 server.held ps staged.kept) told.1);
     recorded = staged.recorded ∙ (sym same_records ∙ ap (records_from 1024) (sym new_ends));
-    below = subst (λ (n : ℕ). AllByRecursion (λ (e : ℕ × Transfer). e.0 < 1024 + n) server.held) (sym (length-set ps place (told_player p))) staged.below;
+    below = subst (λ (n : ℕ). AllByRecursion (λ (e : ℕ × Transfer). e.0 < 1024 + n) server.held) (sym (length-set ps place q)) staged.below;
     count = staged.count ∙ (sym (transfers-set (ends_of server ps) place x (told_to_refuse x) (ends_get server.held ps place p there) same_flags.1) ∙ ap open_transfers (sym new_ends));
+    owned = told_owned port place server.held ps p there staged.owned;
+    rising = staged.rising;
+    quiet = staged.quiet;
   } where
     action : ℕ × Record
     action = (1024 + place, record_of x.state)
@@ -115,9 +177,9 @@ module _ (config : Config) (sent : List Datagram) (server : PlayedServer) (ps : 
         ∙ (ap (slice_set (records_from 1024 (ends_of server ps)) place) (sym (get_or_from_slice_get (records_from 1024 (ends_of server ps)) place action action (records_get 1024 (ends_of server ps) place x (ends_get server.held ps place p there))))
         ∙ set-get_or (records_from 1024 (ends_of server ps)) place action))
 
-  pub refused_step : WorldStep old (RefuseStore port) no_report (world_of config sent server (slice_set ps place (told_player p)))
+  pub refused_step : WorldStep old (RefuseStore port) no_report (world_of config sent server (slice_set ps place q))
   refused_step =
       let w = world_of config sent server ps in
-      subst (λ (v : WorldState). WorldStep v (RefuseStore port) no_report (world_of config sent server (slice_set ps place (told_player p)))) view
+      subst (λ (v : WorldState). WorldStep v (RefuseStore port) no_report (world_of config sent server (slice_set ps place q))) view
       (subst (λ (v : WorldState). WorldStep w (RefuseStore port) no_report v) (sym (ap (λ (xs : List OpenedEnd). record w { ends = xs }) new_ends))
       (refuse_step w port place x (ends_rest 1024 server.held ps staged.kept) (record { is = is; there = ends_get server.held ps place p there })))

@@ -191,7 +191,7 @@ drafts_kept side side' (Source left) (Sink draft) e k f = absurd k
 drafts_kept side side' (Sink draft) (Source left) e k f = absurd k
 
 -- a receiver has a draft
-has_draft : (side : _) (files : Files (List ℕ) Drafted) → AreFilesOf side files → is_some (draft_of files) ≡ not (is_sender side)
+pub has_draft : (side : _) (files : Files (List ℕ) Drafted) → AreFilesOf side files → is_some (draft_of files) ≡ not (is_sender side)
 has_draft side (Source left) fits = ap not (sym fits)
 has_draft side (Sink draft) fits = ap not (sym fits)
 

@@ -1,6 +1,6 @@
 -- What a world tells of the end at a port, and an end that is told to refuse.
 use Rattle.std.proofs.Common.{◌≡◌, ℕ, ◌+◌, ◌-◌, ◌<◌, ◌≤◌, Bool, true, false, List, length, Option, Some, None, refl, sym, ap, ◌∙◌, subst, arith, inl, inr}
-use Rattle.std.specs.Prelude.{◌⊎◌, nat_lt, if◌then◌else◌, unwrap_or, slice_get, slice_index_or, option_map, option_and_then}
+use Rattle.std.specs.Prelude.{◌⊎◌, not, is_some, nat_lt, if◌then◌else◌, unwrap_or, slice_get, slice_index_or, option_map, option_and_then}
 use Rattle.std.proofs.lemmas.Bool.{true≢false}
 use Rattle.std.proofs.lemmas.Bool.Decides.{nat_tests}
 use Rattle.std.proofs.lemmas.Option.{slice_get_past}
@@ -10,10 +10,11 @@ use Rattle.tftp_file.specs.Sink.{Holding}
 use Rattle.tftp_ends.specs.declared.record.Record.{Record}
 use Rattle.tftp_ends.specs.End.{is_sender}
 use Rattle.tftp_ends.specs.Files.{AreFilesOf}
-use Rattle.tftp_server.specs.State.{at}
+use Rattle.tftp_server.specs.State.{at, draft_of}
+use Rattle.tftp_server.specs.Store.{Drafted}
 use Rattle.tftp_server.specs.declared.config.Config.{Config}
 use Rattle.tftp_player.specs.Clients.{stored_by, holding_in}
-use Rattle.tftp_player.specs.Played.{client_end, served_end, end_at, PlayerKept, IsServed, stored_of, committed_of}
+use Rattle.tftp_player.specs.Played.{client_end, draft_or_new, served_end, end_at, PlayerKept, IsServed, served_draft, stored_of, committed_of}
 use Rattle.tftp_player.specs.PlayedClient.{PlayedClient}
 use Rattle.tftp_player.specs.Serving.{PlayedServer, Transfer}
 use Rattle.tftp_player.specs.Stage.{ends_of, IsStaged, world_of, opened_at, stored_in, stored_at, committed_at}
@@ -24,6 +25,7 @@ use Rattle.tftp_player.specs.declared.player.Player.TheVariants.{Client, Server}
 use Rattle.tftp_player.specs.declared.served.Served.{Served}
 use Rattle.tftp_player.proofs.PlayLemmas.{ends_length, ends_get, kept_at, list_get}
 use Rattle.tftp_player.proofs.Resting.{at_rest_record}
+use Rattle.tftp_player.proofs.StageLemmas.{has_draft}
 
 -- a client's side, at rest or not
 rest_side : (x : OpenedEnd) → (at_rest x).state.side ≡ x.state.side
@@ -36,21 +38,34 @@ client_stores c false (Source left) f e = absurd (true≢false (sym f ∙ e))
 client_stores c true (Sink holding) f e = absurd (true≢false (sym e ∙ f))
 client_stores c false (Sink holding) f e = refl
 
-pub served_stores : (port : ℕ) (s : Served) (o : Option Record) (held : List (ℕ × Transfer)) → IsServed port s o held →
-    (is_sender (served_end port s o (at port held)).state.side ≡ true) × ((served_end port s o (at port held)).committed ≡ false)
-served_stores port s (Some r) held k = (k.2, refl)
-served_stores port s None held k =
-    subst (λ (h : Option Transfer). (is_sender (served_end port s None h).state.side ≡ true) × ((served_end port s None h).committed ≡ false)) (sym k.found) (k.sender, refl)
+-- an end of the server, by its draft: a receiver has one
+draft_stores : (draft : Option Drafted) (b : Bool) → is_some draft ≡ not b → option_map (λ (d : Drafted). d.bytes) draft ≡ (if b then None else Some (draft_or_new draft).bytes)
+draft_stores None true e = refl
+draft_stores None false e = absurd (true≢false (sym e))
+draft_stores (Some draft) true e = absurd (true≢false e)
+draft_stores (Some draft) false e = refl
 
-pub stores_is : (port : ℕ) (held : List (ℕ × Transfer)) (p : Player) → PlayerKept port held p → stored_of p ≡ stored_in (end_at port held p)
+served_stores : (port : ℕ) (s : Served) (o : Option Record) (held : List (ℕ × Transfer)) → IsServed port s o held →
+    option_map (λ (d : Drafted). d.bytes) (served_draft s o (at port held)) ≡ stored_in (served_end port s o (at port held))
+served_stores port s (Some r) held k = draft_stores s.draft (is_sender r.side) k.draft
+served_stores port s None held k =
+    subst (λ (h : Option Transfer). option_map (λ (d : Drafted). d.bytes) (served_draft s None h) ≡ stored_in (served_end port s None h)) (sym k.found)
+    (draft_stores (draft_of k.transfer.files) (is_sender k.transfer.end.side) (has_draft k.transfer.end.side k.transfer.files k.files))
+
+served_commits : (port : ℕ) (s : Served) (o : Option Record) (h : Option Transfer) → (draft_or_new (served_draft s o h)).committed ≡ (served_end port s o h).committed
+served_commits port s (Some r) h = refl
+served_commits port s None (Some h) = refl
+served_commits port s None None = refl
+
+pub stores_is : (port : ℕ) (held : List (ℕ × Transfer)) (p : Player) → PlayerKept port held p → stored_of port held p ≡ stored_in (end_at port held p)
 stores_is port held (Client c) k =
     client_stores c (is_sender c.end.side) c.files k.1 refl
     ∙ ap (λ (b : Bool). if b then None else Some (holding_in c.files).bytes) (sym (ap is_sender (rest_side (client_end port c))))
-stores_is port held (Server s) k = ap (λ (b : Bool). if b then None else Some (end_at port held (Server s)).stored) (sym (served_stores port s s.ended held k).0)
+stores_is port held (Server s) k = served_stores port s s.ended held k
 
-pub commits_is : (port : ℕ) (held : List (ℕ × Transfer)) (p : Player) → PlayerKept port held p → committed_of p ≡ (end_at port held p).committed
-commits_is port held (Client c) k = refl
-commits_is port held (Server s) k = sym (served_stores port s s.ended held k).1
+pub commits_is : (port : ℕ) (held : List (ℕ × Transfer)) (p : Player) → committed_of port held p ≡ (end_at port held p).committed
+commits_is port held (Client c) = refl
+commits_is port held (Server s) = served_commits port s s.ended (at port held)
 
 -- the end at a port
 there_is : (ends : List OpenedEnd) (port place : ℕ) → port ≡ 1024 + place → opened_at ends port ≡ slice_get ends place
@@ -77,15 +92,17 @@ module _ (config : Config) (sent : List Datagram) (server : PlayedServer) (ps : 
     found : opened_at (ends_of server ps) port ≡ Some (end_at (1024 + place) server.held p)
     found = there_is (ends_of server ps) port place is ∙ ends_get server.held ps place p here
 
-    pub stored_here : stored_of p ≡ stored_at old.ends port
+    pub stored_here : stored_of port server.held p ≡ stored_at old.ends port
     stored_here =
-        stores_is (1024 + place) server.held p (kept_at server.held ps place p staged.kept here)
-        ∙ (sym (ap (option_and_then stored_in) found) ∙ ap (λ (w : WorldState). stored_at w.ends port) view)
+        ap (λ (n : ℕ). stored_of n server.held p) is
+        ∙ (stores_is (1024 + place) server.held p (kept_at server.held ps place p staged.kept here)
+        ∙ (sym (ap (option_and_then stored_in) found) ∙ ap (λ (w : WorldState). stored_at w.ends port) view))
 
-    pub committed_here : committed_of p ≡ committed_at old.ends port
+    pub committed_here : committed_of port server.held p ≡ committed_at old.ends port
     committed_here =
-        commits_is (1024 + place) server.held p (kept_at server.held ps place p staged.kept here)
-        ∙ (sym (ap (λ (o : Option OpenedEnd). unwrap_or (option_map (λ (x : OpenedEnd). x.committed) o) false) found) ∙ ap (λ (w : WorldState). committed_at w.ends port) view)
+        ap (λ (n : ℕ). committed_of n server.held p) is
+        ∙ (commits_is (1024 + place) server.held p
+        ∙ (sym (ap (λ (o : Option OpenedEnd). unwrap_or (option_map (λ (x : OpenedEnd). x.committed) o) false) found) ∙ ap (λ (w : WorldState). committed_at w.ends port) view))
 
   -- and where none is
   module _ (count : ℕ) (counts : count ≡ length ps) (none : (port < 1024) ⊎ (1024 + count ≤ port)) where
