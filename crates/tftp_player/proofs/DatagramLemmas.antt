@@ -22,6 +22,7 @@ use Rattle.tftp_player.specs.declared.effect.Effect.{Effect}
 use Rattle.tftp_player.specs.declared.player.Player.{Player}
 use Rattle.tftp_player.specs.declared.player.Player.TheVariants.{Client, Server}
 use Rattle.tftp_player.specs.declared.served.Served.{Served}
+use Rattle.tftp_player.proofs.DraftLemmas.{Leaves, timeout_commits}
 use Rattle.tftp_player.proofs.Resting.{at_rest_open}
 use Rattle.tftp_player.proofs.ServerTurns.{read_stepped, files_same}
 use Rattle.tftp_player.proofs.StageLemmas.{Stepped, client_files, client_open, served_steps, served_is, served_kept}

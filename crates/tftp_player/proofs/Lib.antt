@@ -30,7 +30,9 @@ pub mod NetasciiWitness
 pub mod OptionsWitness
 pub mod SentLemmas
 pub mod ServerLemmas
+pub mod FileLemmas
 pub mod ServerTurns
+pub mod DraftLemmas
 pub mod PortLemmas
 pub mod PlacedEnds
 pub mod ClientLemmas

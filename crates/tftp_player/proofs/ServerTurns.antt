@@ -1,19 +1,29 @@
 -- A turn of a transfer that the server holds, in the words of the world's ends.
-use Rattle.std.proofs.Common.{◌≡◌, ℕ, Bool, true, false, List, [], Some, None, refl, sym, ap, ◌∙◌, subst}
-use Rattle.std.specs.Prelude.{◌&&◌, not, if◌then◌else◌}
+use Rattle.std.proofs.Common.{◌≡◌, ◌≢◌, ℕ, Bool, true, false, List, [], ◌∷◌, Some, None, refl, sym, ap, ◌∙◌, subst, inl, inr}
+use Rattle.std.specs.Prelude.{◌&&◌, not, if◌then◌else◌, Result, Ok, Err}
+use Rattle.std.proofs.lemmas.Bool.{true≢false}
+use Rattle.std.proofs.lemmas.Option.{same_Some}
 use Rattle.tftp_file.specs.Sink.{Holding}
 use Rattle.tftp_file.specs.declared.fault.StoreFault.{StoreFault}
+use Rattle.tftp_file.specs.declared.fault.StoreFault.TheVariants.{Missing, Exists, Full, Io, Memory}
 use Rattle.tftp_file.specs.declared.files.Files.{Files}
 use Rattle.tftp_file.specs.declared.files.Files.TheVariants.{Source, Sink}
-use Rattle.tftp_ends.specs.declared.action.Action.{Action}
-use Rattle.tftp_ends.specs.declared.action.Action.TheVariants.{Respond, Send, Store}
 use Rattle.tftp_ends.specs.End.{EndState, is_sender}
-use Rattle.tftp_ends.specs.Action.{datagram_action}
-use Rattle.tftp_ends.specs.Step.{Turn, Acts, DatagramStep}
-use Rattle.tftp_server.specs.Steps.{ReadDatagramStep}
+use Rattle.tftp_ends.specs.Files.{AreFilesOf}
+use Rattle.tftp_ends.specs.OtherSinks.{SourcesTell, SinksTell, step_as}
+use Rattle.tftp_ends.specs.Step.{Turn}
+use Rattle.tftp_server.specs.Draft.{Drafting, files_in, drafting_holds, MayRefuseAppend, MayRefuseCommit, DraftingBecomes}
+use Rattle.tftp_server.specs.Memory.{memory_meaning, with_told}
+use Rattle.tftp_server.specs.State.{draft_of}
+use Rattle.tftp_server.specs.Steps.{StepIn}
+use Rattle.tftp_server.specs.Store.{Stored, Drafted, FileList, is_taken}
 use Rattle.tftp_player.specs.Machine.{Endpoint}
-use Rattle.tftp_player.specs.World.{OpenedEnd, StoredFile, in_state, files_of, holding_of, with_files, end_after}
-use Rattle.tftp_player.specs.WorldSteps.{never_fails, may_refuse_append, FilesAfter}
+use Rattle.tftp_player.specs.Clients.{left_in}
+use Rattle.tftp_player.specs.Played.{served_as}
+use Rattle.tftp_player.specs.World.{OpenedEnd, StoredFile, file_at, in_the_way, in_state, files_of, holding_of, with_files, end_after}
+use Rattle.tftp_player.specs.WorldSteps.{EndStep, never_fails, may_refuse_append, may_refuse_commit, nothing_else, FilesAfter}
+use Rattle.tftp_player.specs.declared.served.Served.{Served}
+use Rattle.tftp_player.proofs.FileLemmas.{not_taken, is_in_the_way}
 
 -- ---- an end that commits nothing changes no file
 none_new : (b : Bool) → (not b && b) ≡ false
@@ -37,30 +47,66 @@ same_with false x = refl
 pub timeout_after : (x : OpenedEnd) (turn : Turn) → end_after x turn (files_of x) ≡ in_state turn.end x
 timeout_after x turn = same_with (is_sender x.state.side) (in_state turn.end x)
 
--- ---- a datagram, at a transfer of the server that sends
--- the source alone
-abbrev source_only : {K : Type 0} → Files (List ℕ) K → Files (List ℕ) Holding
-source_only (Source left) = Source left
-source_only (Sink sink) = Source []
+-- ---- a datagram, at a transfer of the server: its draft and the store are a sink of the world
+abbrev pub Drafts : Type 0
+Drafts = Drafting Stored Drafted
 
-module _ (refuses_commit : Holding → StoreFault → Type 0) (from : Endpoint) (bytes : List ℕ) (e : EndState) (left left' : List ℕ) (turn : Turn) where
-  abbrev Decoded_as : Action → Type 0
-  Decoded_as action =
-      Acts (λ (s : List ℕ). Some s) never_fails (λ (sink : Unit {0}). None) (λ sink piece fault. Unit {0}) (λ sink fault. Unit {0}) action from bytes e (Source left) turn (Source left')
+abbrev pub seen : Drafts → Holding
+seen d = record { bytes = d.draft.bytes; committed = d.draft.committed; refuses = d.store.refuses }
 
-  -- an end that sends wants no sink
-  sends_alone : (action : Action) → Decoded_as action →
-      Acts (λ (s : List ℕ). Some s) never_fails (λ (h : Holding). Some h) may_refuse_append refuses_commit action from bytes e (Source left) turn (Source left')
-  sends_alone (Respond response) h = (h.0, ap source_only h.1)
-  sends_alone (Send terms number) h = h
-  sends_alone (Store terms number) h = absurd h
+abbrev pub seen_files : Stored → Files (List ℕ) Drafted → Files (List ℕ) Holding
+seen_files store (Source left) = Source left
+seen_files store (Sink draft) = Sink (record { bytes = draft.bytes; committed = draft.committed; refuses = store.refuses })
 
--- what a transfer that sends has heard is what an end of the world hears
-pub read_stepped : (refuses_commit : Holding → StoreFault → Type 0) (from : Endpoint) (bytes : List ℕ) (e : EndState) (left left' : List ℕ) (turn : Turn) →
-    ReadDatagramStep (λ (s : List ℕ). Some s) never_fails from bytes e left turn left' →
-    DatagramStep (λ (s : List ℕ). Some s) never_fails (λ (h : Holding). Some h) may_refuse_append refuses_commit from bytes e (Source left) turn (Source left')
-read_stepped refuses_commit from bytes e left left' turn h = record {
-  decoded = h.decoded;
-  says = h.says;
-  acts = sends_alone refuses_commit from bytes e left left' turn (datagram_action e from bytes h.decoded) h.acts;
-}
+-- what the end of a transfer works on is seen so
+pub served_files : (port : ℕ) (s : Served) (e : EndState) (files : Files (List ℕ) Drafted) (request : List ℕ) (store : Stored) → AreFilesOf e.side files →
+    files_of (served_as port s e (left_in files) (draft_of files) request) ≡ seen_files (with_told store s.refuses) files
+served_files port s e (Source left) request store is =
+    ap (λ (b : Bool). if b then Source left else Sink (record { bytes = []; committed = false; refuses = s.refuses })) is
+served_files port s e (Sink draft) request store is =
+    ap (λ (b : Bool). if b then Source [] else Sink (record { bytes = draft.bytes; committed = draft.committed; refuses = s.refuses })) is
+
+-- a draft for this path, where these are the server's files
+abbrev IsFor : Bool → List ℕ → FileList → Drafts → Type 0
+IsFor replace path files d = (d.path ≡ path) × (d.replace ≡ replace) × (d.store.files ≡ files)
+
+module _ (replace : Bool) (path : List ℕ) (files : FileList) where
+  same_taken : (d : Drafts) → IsFor replace path files d → is_taken replace path files ≡ is_taken d.replace d.path d.store.files
+  same_taken d p =
+      sym (ap (λ (b : Bool). is_taken b d.path d.store.files) p.1 ∙ (ap (λ (q : List ℕ). is_taken replace q d.store.files) p.0 ∙ ap (is_taken replace path) p.2))
+
+  -- what the store may answer to an append and to a commit, a sink of the world may
+  may_append : (d : Drafts) (bytes : List ℕ) (fault : StoreFault) → IsFor replace path files d → MayRefuseAppend memory_meaning d bytes fault → may_refuse_append (seen d) bytes fault
+  may_append d bytes Missing p h = h
+  may_append d bytes Exists p h = h
+  may_append d bytes Full p h = h
+  may_append d bytes Io p h = h
+  may_append d bytes Memory p h = tt
+
+  may_commit : (d : Drafts) (fault : StoreFault) → IsFor replace path files d → MayRefuseCommit memory_meaning d fault → may_refuse_commit false (in_the_way replace (file_at files path)) (seen d) fault
+  may_commit d Missing p h = h
+  may_commit d Exists p h = (h.0, is_in_the_way replace path files (same_taken d p ∙ h.1))
+  may_commit d Full p (inl told) = inl told
+  may_commit d Full p (inr free) = inr (not_taken replace path files (same_taken d p ∙ free))
+  may_commit d Io p h = h
+  may_commit d Memory p h = h
+
+  still_for : (d d' : Drafts) → IsFor replace path files d → DraftingBecomes memory_meaning d d' false → IsFor replace path files d'
+  still_for d d' p h = (h.path ∙ p.0, h.replace ∙ p.1, same_Some d'.store.files d.store.files h.files ∙ p.2)
+
+  sinks : SinksTell seen (IsFor replace path files) (drafting_holds memory_meaning) (MayRefuseAppend memory_meaning) (MayRefuseCommit memory_meaning) (DraftingBecomes memory_meaning)
+      (λ (h : Holding). Some h) may_refuse_append (may_refuse_commit false (in_the_way replace (file_at files path))) nothing_else
+  sinks = record { tells = λ d. refl; keeps = still_for; appends = may_append; commits = may_commit; leaves = λ d d' committed p h. tt }
+
+sources : SourcesTell (λ (s : List ℕ). s) (λ (s : List ℕ). Some s) never_fails (λ (s : List ℕ). Some s) never_fails
+sources = record { tells = λ s. refl; fails = λ s want h. h }
+
+-- a step of the transfer is a step of the end
+module _ (from : Endpoint) (bytes : List ℕ) (e : EndState) (store store' : Stored) (path path' : List ℕ) (replace : Bool) (turn : Turn) where
+  pub end_step : (files files' : Files (List ℕ) Drafted) →
+      StepIn memory_meaning from bytes e (files_in store path replace files) turn (files_in store' path' replace files') →
+      EndStep false (in_the_way replace (file_at store.files path)) from bytes e (seen_files store files) turn (seen_files store' files')
+  end_step (Source left) (Source left') h = step_as _ _ _ _ _ _ _ _ _ _ _ _ (λ (s : List ℕ). s) seen (IsFor replace path store.files) sources (sinks replace path store.files) from bytes e _ turn _ tt h
+  end_step (Sink draft) (Sink draft') h = step_as _ _ _ _ _ _ _ _ _ _ _ _ (λ (s : List ℕ). s) seen (IsFor replace path store.files) sources (sinks replace path store.files) from bytes e _ turn _ (refl, refl, refl) h
+  end_step (Source left) (Sink draft') h = step_as _ _ _ _ _ _ _ _ _ _ _ _ (λ (s : List ℕ). s) seen (IsFor replace path store.files) sources (sinks replace path store.files) from bytes e _ turn _ tt h
+  end_step (Sink draft) (Source left') h = step_as _ _ _ _ _ _ _ _ _ _ _ _ (λ (s : List ℕ). s) seen (IsFor replace path store.files) sources (sinks replace path store.files) from bytes e _ turn _ (refl, refl, refl) h

@@ -1,0 +1,266 @@
+-- What a turn of a server's end makes of its draft and of the server's files.
+use Rattle.std.proofs.Common.{◌≡◌, ◌≢◌, ℕ, Bool, true, false, List, [], ◌∷◌, Option, Some, None, Result, Ok, Err, refl, sym, ap, ◌∙◌, subst}
+use Rattle.std.specs.Prelude.{◌&&◌, ◌==◌, not, if◌then◌else◌, is_none, is_ok, nat_lt, ⊤}
+use Rattle.std.proofs.lemmas.Bool.{true≢false}
+use Rattle.std.proofs.lemmas.Option.{same_Some}
+use Rattle.tftp_wire.specs.declared.packet.Packet.{Packet}
+use Rattle.tftp_wire.specs.declared.packet.Packet.TheVariants.{Read, Write, Data, Ack, Error, Oack}
+use Rattle.tftp_wire.specs.Reading.{has_error_opcode}
+use Rattle.tftp_file.specs.Sink.{Holding, UnlessTold, AppendsFreely, CommitsFreely, told_no_more, with_piece, as_committed}
+use Rattle.tftp_file.specs.declared.fault.StoreFault.{StoreFault}
+use Rattle.tftp_file.specs.declared.fault.StoreFault.TheVariants as faults
+use Rattle.tftp_ends.specs.declared.action.Action.{Action}
+use Rattle.tftp_ends.specs.declared.action.Action.TheVariants.{Respond, Send, Store}
+use Rattle.tftp_ends.specs.declared.action.Response.{Response}
+use Rattle.tftp_ends.specs.declared.action.Response.TheVariants.{Ignore, Stranger, ResendReply, Retransmit, Close}
+use Rattle.tftp_ends.specs.declared.outcome.Outcome.TheVariants.{TimedOut}
+use Rattle.tftp_ends.specs.declared.phase.Dally.TheVariants.{Fresh, Waited}
+use Rattle.tftp_ends.specs.declared.phase.Phase.{Phase}
+use Rattle.tftp_ends.specs.declared.phase.Phase.TheVariants.{Waiting, Sending, Receiving, Dallying, Closed}
+use Rattle.tftp_ends.specs.declared.phase.Terms.{Terms}
+use Rattle.tftp_ends.specs.Action.{datagram_action, is_stranger, timeout_response}
+use Rattle.tftp_ends.specs.End.{EndState, is_complete, terms_of}
+use Rattle.tftp_ends.specs.Files.{AreSame}
+use Rattle.tftp_ends.specs.Receiver.{dally_response}
+use Rattle.tftp_ends.specs.Phase.{closed}
+use Rattle.tftp_ends.specs.Step.{Done, Turn, Acts, Appended, Committed, GoesOn, Stores, after, committed_turn, holding, timeout_turn}
+use Rattle.tftp_file.specs.declared.files.Files.{Files}
+use Rattle.tftp_file.specs.declared.files.Files.TheVariants.{Source, Sink}
+use Rattle.tftp_server.specs.Draft.{drafting_holds, MayRefuseAppend, MayRefuseCommit, DraftingBecomes, files_in, KeepsStore}
+use Rattle.tftp_server.specs.Memory.{memory_meaning}
+use Rattle.tftp_server.specs.State.{draft_of}
+use Rattle.tftp_server.specs.Steps.{StepIn}
+use Rattle.tftp_server.specs.Store.{Stored, Drafted, FileList, is_taken, with_file}
+use Rattle.tftp_player.specs.Machine.{Endpoint}
+use Rattle.tftp_player.specs.Clients.{left_in}
+use Rattle.tftp_player.specs.Played.{served_as}
+use Rattle.tftp_player.specs.Serving.{CommitsLast}
+use Rattle.tftp_player.specs.World.{StoredFile, OpenedEnd, end_after, has_committed}
+use Rattle.tftp_player.specs.WorldSteps.{IsStored, FilesAfter, never_fails}
+use Rattle.tftp_player.specs.declared.served.Served.{Served}
+use Rattle.tftp_player.proofs.FileLemmas.{stored_so}
+use Rattle.tftp_player.proofs.ServerTurns.{Drafts, seen, seen_files}
+
+-- ---- a complete end does nothing more: it answers at most
+record Rests (action : Action) (from : Endpoint) (e : EndState) : Type 0 where
+  pub response : Response
+  pub is : action ≡ Respond response
+  pub same : after response from e ≡ e
+
+module _ (from : Endpoint) (bytes : List ℕ) (e0 : EndState) where
+  abbrev end_in : Phase → EndState
+  end_in phase = record e0 { phase = phase }
+
+  abbrev RestsIn : Phase → Action → Type 0
+  RestsIn phase action = Rests action from (end_in phase)
+
+  rests_if : (phase : Phase) (b : Bool) (one two : Action) → RestsIn phase one → RestsIn phase two → RestsIn phase (if b then one else two)
+  rests_if phase true one two h k = h
+  rests_if phase false one two h k = k
+
+  ignores : (phase : Phase) → RestsIn phase (Respond Ignore)
+  ignores phase = record { response = Ignore; is = refl; same = refl }
+
+  strange : (phase : Phase) → RestsIn phase (if has_error_opcode bytes then Respond Ignore else Respond Stranger)
+  strange phase = rests_if phase (has_error_opcode bytes) (Respond Ignore) (Respond Stranger) (ignores phase) (record { response = Stranger; is = refl; same = refl })
+
+  again_if : (phase : Phase) (b : Bool) → RestsIn phase (Respond (if b then ResendReply else Ignore))
+  again_if phase true = record { response = ResendReply; is = refl; same = refl }
+  again_if phase false = ignores phase
+
+  dallies : (phase : Phase) (n : ℕ) (decoded : Option Packet) → RestsIn phase (Respond (dally_response n decoded))
+  dallies phase n (Some (Data number piece)) = again_if phase (number == n)
+  dallies phase n (Some (Read request)) = ignores phase
+  dallies phase n (Some (Write request)) = ignores phase
+  dallies phase n (Some (Ack number)) = ignores phase
+  dallies phase n (Some (Error code text)) = ignores phase
+  dallies phase n (Some (Oack options)) = ignores phase
+  dallies phase n None = ignores phase
+
+  complete_rests : (phase : Phase) (decoded : Option Packet) → is_complete phase ≡ true → RestsIn phase (datagram_action (end_in phase) from bytes decoded)
+  complete_rests (Waiting asked limit) decoded c = absurd (true≢false (sym c))
+  complete_rests (Sending terms n) decoded c = absurd (true≢false (sym c))
+  complete_rests (Receiving terms n) decoded c = absurd (true≢false (sym c))
+  complete_rests (Dallying terms n dally) decoded c =
+      let phase = Dallying terms n dally in
+      rests_if phase (is_stranger (Some terms) e0.last_sent_to from) _ _ (strange phase)
+      (rests_if phase (has_error_opcode bytes && is_none decoded) _ _ (ignores phase) (dallies phase n decoded))
+  complete_rests (Closed terms n complete outcome) decoded c =
+      let phase = Closed terms n complete outcome in
+      rests_if phase (is_stranger terms e0.last_sent_to from) _ _ (strange phase)
+      (rests_if phase (has_error_opcode bytes && is_none decoded) _ _ (ignores phase) (ignores phase))
+
+-- ---- a timeout completes no end, nor undoes it
+timed_by : (e : EndState) (phase : Phase) → is_complete (timeout_turn (record e { phase = phase })).end.phase ≡ is_complete phase
+timed_by e (Waiting asked limit) = either (e.retries_left == 0) where
+  either : (b : Bool) → is_complete (after (if b then Close TimedOut else Retransmit) e.last_sent_to (record e { phase = Waiting asked limit })).phase ≡ false
+  either true = refl
+  either false = refl
+timed_by e (Sending terms n) = either (e.retries_left == 0) where
+  either : (b : Bool) → is_complete (after (if b then Close TimedOut else Retransmit) e.last_sent_to (record e { phase = Sending terms n })).phase ≡ false
+  either true = refl
+  either false = refl
+timed_by e (Receiving terms n) = either (e.retries_left == 0) where
+  either : (b : Bool) → is_complete (after (if b then Close TimedOut else Retransmit) e.last_sent_to (record e { phase = Receiving terms n })).phase ≡ false
+  either true = refl
+  either false = refl
+timed_by e (Dallying terms n Fresh) = refl
+timed_by e (Dallying terms n Waited) = refl
+timed_by e (Closed terms n complete outcome) = either (e.retries_left == 0) where
+  either : (b : Bool) → is_complete (after (if b then Close TimedOut else Retransmit) e.last_sent_to (record e { phase = Closed terms n complete outcome })).phase ≡ complete
+  either true = refl
+  either false = refl
+
+-- its draft is not committed still, if it was not
+pub timeout_commits : (e : EndState) (files : Files (List ℕ) Drafted) → CommitsLast files e.phase → CommitsLast files (timeout_turn e).end.phase
+timeout_commits e (Source left) k = tt
+timeout_commits e (Sink draft) k = λ incomplete. k (sym (timed_by e e.phase) ∙ incomplete)
+
+-- ---- a datagram
+-- a draft after a turn, and the server's files
+pub record Leaves (turn : Turn) (d d' : Drafts) : Type 0 where
+  pub files : FilesAfter d.replace (not d.draft.committed && d'.draft.committed) d.path d'.draft.bytes d.store.files d'.store.files
+  pub commits : is_complete turn.end.phase ≡ false → d'.draft.committed ≡ false
+
+-- nothing was committed
+record IsUncommitted (d d' : Drafts) : Type 0 where
+  pub path : d'.path ≡ d.path
+  pub replace : d'.replace ≡ d.replace
+  pub files : d'.store.files ≡ d.store.files
+  pub not_yet : d'.draft.committed ≡ false
+
+none_new : (b : Bool) → (not b && b) ≡ false
+none_new true = refl
+none_new false = refl
+
+none_put : (b : Bool) → (not b && false) ≡ false
+none_put true = refl
+none_put false = refl
+
+leaves_same : (turn : Turn) (d d' : Drafts) → d' ≡ d → (is_complete turn.end.phase ≡ false → d.draft.committed ≡ false) → Leaves turn d d'
+leaves_same turn d d' same commits =
+    subst (Leaves turn d) (sym same) (record { files = subst (λ (b : Bool). FilesAfter d.replace b d.path d.draft.bytes d.store.files d.store.files) (sym (none_new d.draft.committed)) refl; commits = commits })
+
+leaves_uncommitted : (turn : Turn) (d d' : Drafts) → IsUncommitted d d' → Leaves turn d d'
+leaves_uncommitted turn d d' u = record {
+  files = subst (λ (b : Bool). FilesAfter d.replace b d.path d'.draft.bytes d.store.files d'.store.files) (sym (ap (λ (b : Bool). not d.draft.committed && b) u.not_yet ∙ none_put d.draft.committed)) u.files;
+  commits = λ incomplete. u.not_yet;
+}
+
+-- ---- an append
+kept_some : (before after now : Holding) → after ≡ now → (now.committed ≡ true → now ≡ before) → before.committed ≡ false → after.committed ≡ false
+kept_some before after now is kept un = by_committed now.committed refl where
+  by_committed : (b : Bool) → now.committed ≡ b → after.committed ≡ false
+  by_committed true c = ap (λ (z : Holding). z.committed) (is ∙ kept c) ∙ un
+  by_committed false c = ap (λ (z : Holding). z.committed) is ∙ c
+
+free_append : (before after : Holding) (piece : List ℕ) (answer : Result Done StoreFault) → AppendsFreely before (Some after) piece answer → before.committed ≡ false → after.committed ≡ false
+free_append before after piece (Ok done) h un = ap (λ (z : Holding). z.committed) (same_Some after (with_piece before piece) h)
+free_append before after piece (Err faults.Memory) h un = ap (λ (z : Holding). z.committed) (same_Some after before h) ∙ un
+free_append before after piece (Err faults.Missing) h un = kept_some before after h.holding (same_Some after h.holding h.leaves) h.uncommitted un
+free_append before after piece (Err faults.Exists) h un = kept_some before after h.holding (same_Some after h.holding h.leaves) h.uncommitted un
+free_append before after piece (Err faults.Full) h un = kept_some before after h.holding (same_Some after h.holding h.leaves) h.uncommitted un
+free_append before after piece (Err faults.Io) h un = kept_some before after h.holding (same_Some after h.holding h.leaves) h.uncommitted un
+
+append_by : (told : Bool) (before after : Holding) (piece : List ℕ) (answer : Result Done StoreFault) → UnlessTold told before (Some after) answer (AppendsFreely before (Some after) piece answer) →
+    before.committed ≡ false → after.committed ≡ false
+append_by true before after piece answer h un = ap (λ (z : Holding). z.committed) (same_Some after (told_no_more before) h.leaves) ∙ un
+append_by false before after piece answer h un = free_append before after piece answer h un
+
+-- ---- a commit
+refused_by : (told : Bool) (before after : Holding) (fault : StoreFault) → UnlessTold told before (Some after) (let r : Result Done StoreFault = Err fault in r) (CommitsFreely before (Some after) (let r : Result Done StoreFault = Err fault in r)) →
+    after.committed ≡ before.committed
+refused_by true before after fault h = ap (λ (z : Holding). z.committed) (same_Some after (told_no_more before) h.leaves)
+refused_by false before after fault h = ap (λ (z : Holding). z.committed) (same_Some after before h)
+
+taken_by : (told : Bool) (before after : Holding) → UnlessTold told before (Some after) (let r : Result Done StoreFault = Ok tt in r) (CommitsFreely before (Some after) (let r : Result Done StoreFault = Ok tt in r)) →
+    after ≡ as_committed before
+taken_by true before after h = absurd (not_refused h.answer) where
+  not_refused : (let r : Result Done StoreFault = Ok tt in r) ≡ Err faults.Full → ⊥
+  not_refused e = cc
+taken_by false before after h = same_Some after (as_committed before) h
+
+module _ (from : Endpoint) (bytes : List ℕ) (e : EndState) (turn : Turn) (d d' : Drafts) where
+  appended_un : (piece : List ℕ) (mid : Drafts) (answer : Result Done StoreFault) → d.draft.committed ≡ false →
+      Appended (drafting_holds memory_meaning) (MayRefuseAppend memory_meaning) (MayRefuseCommit memory_meaning) (DraftingBecomes memory_meaning) piece d mid answer → IsUncommitted d mid
+  appended_un [] mid answer un h = subst (IsUncommitted d) (sym h.1) (record { path = refl; replace = refl; files = refl; not_yet = un })
+  appended_un (b ∷ piece) mid answer un h = record {
+    path = h.2.path;
+    replace = h.2.replace;
+    files = same_Some mid.store.files d.store.files h.2.files;
+    not_yet = append_by d.store.refuses (seen d) (seen mid) (b ∷ piece) answer h.0 un;
+  }
+
+  -- the last block was committed, or was not
+  committed_leaves : (terms : Terms) (number : ℕ) (held : List ℕ) (mid : Drafts) (answer : Result Done StoreFault) → d.draft.committed ≡ false → IsUncommitted d mid →
+      UnlessTold mid.store.refuses (seen mid) (Some (seen d')) answer (CommitsFreely (seen mid) (Some (seen d')) answer) → DraftingBecomes memory_meaning mid d' (is_ok answer) →
+      turn ≡ committed_turn terms number from (holding held e) answer → Leaves turn d d'
+  committed_leaves terms number held mid (Ok done) un u h becomes is =
+      let now : seen d' ≡ as_committed (seen mid) = taken_by mid.store.refuses (seen mid) (seen d') h in
+      let whole : d'.draft.bytes ≡ mid.draft.bytes = ap (λ (z : Holding). z.bytes) now in
+      let put : d'.store.files ≡ with_file mid.store.files mid.path mid.draft.bytes = same_Some d'.store.files _ becomes.files.0 in
+      let stored : IsStored mid.replace mid.path mid.draft.bytes mid.store.files d'.store.files =
+      subst (IsStored mid.replace mid.path mid.draft.bytes mid.store.files) (sym put) (stored_so mid.replace mid.path mid.draft.bytes mid.store.files becomes.files.1) in
+      let here : IsStored d.replace d.path d'.draft.bytes d.store.files d'.store.files =
+      subst (λ (b : Bool). IsStored b d.path d'.draft.bytes d.store.files d'.store.files) u.replace
+      (subst (λ (p : List ℕ). IsStored mid.replace p d'.draft.bytes d.store.files d'.store.files) u.path
+      (subst (λ (z : List ℕ). IsStored mid.replace mid.path z d.store.files d'.store.files) (sym whole)
+      (subst (λ (fs : FileList). IsStored mid.replace mid.path mid.draft.bytes fs d'.store.files) u.files stored))) in
+      record {
+        files = subst (λ (b : Bool). FilesAfter d.replace b d.path d'.draft.bytes d.store.files d'.store.files)
+            (sym (ap (λ (b : Bool). not b && d'.draft.committed) un ∙ ap (λ (z : Holding). z.committed) now)) here;
+        commits = λ incomplete. absurd (true≢false (ap (λ (t : Turn). is_complete t.end.phase) (sym is) ∙ incomplete));
+      }
+  committed_leaves terms number held mid (Err fault) un u h becomes is = leaves_uncommitted turn d d' (record {
+    path = becomes.path ∙ u.path;
+    replace = becomes.replace ∙ u.replace;
+    files = same_Some d'.store.files mid.store.files becomes.files ∙ u.files;
+    not_yet = refused_by mid.store.refuses (seen mid) (seen d') fault h ∙ u.not_yet;
+  })
+
+  goes_leaves : (terms : Terms) (number : ℕ) (last : Bool) (held : List ℕ) (mid : Drafts) (answer : Result Done StoreFault) → d.draft.committed ≡ false → IsUncommitted d mid →
+      GoesOn (drafting_holds memory_meaning) (MayRefuseAppend memory_meaning) (MayRefuseCommit memory_meaning) (DraftingBecomes memory_meaning) terms number from e last held mid answer turn d' → Leaves turn d d'
+  goes_leaves terms number last held mid (Err fault) un u h = leaves_uncommitted turn d d' (subst (IsUncommitted d) (sym h.1) u)
+  goes_leaves terms number true held mid (Ok done) un u h = committed_leaves terms number held mid h.answer un u h.commits h.leaves h.answers
+  goes_leaves terms number false held mid (Ok done) un u h = leaves_uncommitted turn d d' (subst (IsUncommitted d) (sym h.1) u)
+
+  abbrev ActsSo : Action → Type 0
+  ActsSo action =
+      Acts (λ (s : List ℕ). Some s) never_fails (drafting_holds memory_meaning) (MayRefuseAppend memory_meaning) (MayRefuseCommit memory_meaning) (DraftingBecomes memory_meaning) action from bytes e (Sink d) turn (Sink d')
+
+  abbrev sink_in : Files (List ℕ) Drafts → Drafts
+  sink_in (Source left) = d
+  sink_in (Sink k) = k
+
+  -- an end that is not complete has committed nothing before
+  acts_leaves : (action : Action) → d.draft.committed ≡ false → ActsSo action → Leaves turn d d'
+  acts_leaves (Respond response) un h = leaves_same turn d d' (ap sink_in h.1) (λ incomplete. un)
+  acts_leaves (Send terms number) un h = absurd h
+  acts_leaves (Store terms number) un h = goes_leaves terms number (nat_lt _ terms.size) h.after h.mid h.answer un (appended_un h.bytes h.mid h.answer un h.appended) h.rest
+
+  rests_leaves : (action : Action) → Rests action from e → (is_complete e.phase ≡ false → d.draft.committed ≡ false) → ActsSo action → Leaves turn d d'
+  rests_leaves action r commits h =
+      let acts : ActsSo (Respond r.response) = subst ActsSo r.is h in
+      let same : turn.end ≡ e = ap (λ (t : Turn). t.end) acts.0 ∙ r.same in
+      leaves_same turn d d' (ap sink_in acts.1) (λ incomplete. commits (sym (ap (λ (f : EndState). is_complete f.phase) same) ∙ incomplete))
+
+  leaves_by : (decoded : Option Packet) (complete : Bool) → is_complete e.phase ≡ complete → (is_complete e.phase ≡ false → d.draft.committed ≡ false) →
+      ActsSo (datagram_action e from bytes decoded) → Leaves turn d d'
+  leaves_by decoded true c commits h = rests_leaves (datagram_action e from bytes decoded) (complete_rests from bytes e e.phase decoded c) commits h
+  leaves_by decoded false c commits h = acts_leaves (datagram_action e from bytes decoded) (commits c) h
+
+-- of the end in the world whose transfer this is
+pub record ServedLeaves (x : OpenedEnd) (turn : Turn) (held : Files (List ℕ) Holding) (next : Files (List ℕ) Drafted) (overwrite : Bool) (files files' : List StoredFile) : Type 0 where
+  pub files_after : FilesAfter overwrite (has_committed x (end_after x turn held)) x.path (end_after x turn held).stored files files'
+  pub commits : CommitsLast next turn.end.phase
+
+module _ (port : ℕ) (s : Served) (from : Endpoint) (bytes : List ℕ) (e : EndState) (request : List ℕ) (store store' : Stored) (path' : List ℕ) (replace : Bool) (turn : Turn) where
+  pub served_leaves : (files files' : Files (List ℕ) Drafted) → StepIn memory_meaning from bytes e (files_in store s.path replace files) turn (files_in store' path' replace files') →
+      KeepsStore files store store' → AreSame (λ (a b : List ℕ). ⊤) (λ (a b : Drafted). ⊤) files files' → CommitsLast files e.phase →
+      ServedLeaves (served_as port s e (left_in files) (draft_of files) request) turn (seen_files store' files') files' replace store.files store'.files
+  served_leaves (Source left) (Source left') h stays kind k = record { files_after = ap (λ (st : Stored). st.files) stays; commits = tt }
+  served_leaves (Sink draft) (Sink draft') h stays kind k =
+      let l = leaves_by from bytes e turn _ _ h.decoded (is_complete e.phase) refl k h.acts in
+      record { files_after = l.files; commits = l.commits }
+  served_leaves (Source left) (Sink draft') h stays kind k = absurd kind
+  served_leaves (Sink draft) (Source left') h stays kind k = absurd kind
