@@ -1,89 +1,140 @@
 -- How a datagram for one end handles all ends of a world.
-use Rattle.std.proofs.Common.{◌≡◌, ◌≢◌, ℕ, ◌+◌, ◌<◌, Bool, true, false, List, [], length, Some, None, refl, sym, ap, ◌∙◌, subst, inl, inr}
+use Rattle.std.proofs.Common.{◌≡◌, ◌≢◌, ℕ, ◌+◌, ◌<◌, Bool, true, false, List, [], length, Option, Some, None, refl, sym, ap, ◌∙◌, subst, inl, inr}
 use Rattle.std.specs.Prelude.{◌&&◌, not, is_some, slice_get, slice_set, slice_index_or}
 use Rattle.std.proofs.lemmas.List.{set-get_or}
 use Rattle.tftp_file.specs.declared.files.Files.{Files}
-use Rattle.tftp_file.specs.declared.files.Files.TheVariants.{Source}
 use Rattle.tftp_file.specs.Sink.{Holding}
 use Rattle.tftp_ends.specs.declared.record.Record.{Record}
-use Rattle.tftp_ends.specs.End.{is_sender, is_client, outcome_of}
-use Rattle.tftp_ends.specs.Step.{Turn, DatagramStep}
-use Rattle.tftp_server.specs.State.{at}
+use Rattle.tftp_ends.specs.End.{EndState, is_client, outcome_of}
+use Rattle.tftp_ends.specs.Files.{AreFilesOf}
+use Rattle.tftp_ends.specs.Step.{Turn}
+use Rattle.tftp_server.specs.Draft.{files_in}
+use Rattle.tftp_server.specs.Memory.{memory_meaning, with_told}
+use Rattle.tftp_server.specs.Steps.{StepIn}
 use Rattle.tftp_player.specs.Machine.{Endpoint}
 use Rattle.tftp_player.specs.Clients.{ClientDatagramStep}
 use Rattle.tftp_player.specs.Effect.{no_effect}
 use Rattle.tftp_player.specs.PlayedClient.{PlayedClient}
-use Rattle.tftp_player.specs.Played.{client_end, sending_served, end_at, PlayerKept, PlayerDatagramStep, has_ended, address_of}
-use Rattle.tftp_player.specs.Serving.{PlayedServer, Transfer}
+use Rattle.tftp_player.specs.Played.{client_end, end_at, PlayerKept, PlayerDatagramStep, has_ended, address_of}
+use Rattle.tftp_player.specs.Serving.{PlayedServer, Transfer, CommitsLast, ServedKept, ServedDatagramStep}
 use Rattle.tftp_player.specs.Stage.{ends_of, IsStaged, LostAt, StageDatagramStep, record_closed}
 use Rattle.tftp_player.specs.World.{OpenedEnd, file_at, in_the_way, is_closed, files_of, end_after, has_committed}
-use Rattle.tftp_player.specs.WorldSteps.{never_fails, may_refuse_append, may_refuse_commit, FilesAfter}
+use Rattle.tftp_player.specs.WorldSteps.{EndStep, may_refuse_commit, FilesAfter}
 use Rattle.tftp_player.specs.declared.effect.Effect.{Effect}
 use Rattle.tftp_player.specs.declared.player.Player.{Player}
 use Rattle.tftp_player.specs.declared.player.Player.TheVariants.{Client, Server}
 use Rattle.tftp_player.specs.declared.served.Served.{Served}
-use Rattle.tftp_player.proofs.DraftLemmas.{Leaves, timeout_commits}
+use Rattle.tftp_player.proofs.DraftLemmas.{ServedLeaves, served_leaves}
 use Rattle.tftp_player.proofs.Resting.{at_rest_open}
-use Rattle.tftp_player.proofs.ServerTurns.{read_stepped, files_same}
-use Rattle.tftp_player.proofs.StageLemmas.{Stepped, client_files, client_open, served_steps, served_is, served_kept}
+use Rattle.tftp_player.proofs.ServerTurns.{end_step}
+use Rattle.tftp_player.proofs.StageLemmas.{Stepped, client_files, client_open, held_end, held_files, served_files, served_is, served_kept, served_steps, same_transfer, keeps_told}
 use Rattle.tftp_player.proofs.StepLemmas.{client_files as client_commits}
-use Rattle.tftp_player.proofs.PlayLemmas.{ends_get, kept_at, list_get, turn_ends, turn_staged, closed_is, has_not_ended, address_is, sender_of, sending_files}
+use Rattle.tftp_player.proofs.PlayLemmas.{ends_get, kept_at, list_get, turn_ends, turn_staged, closed_is, has_not_ended, address_is}
 use Rattle.tftp_player.proofs.TurnKeeps.{step_keeps}
 
--- the player at this port, whose end is x, has heard
-pub record PlayerStepped (port : ℕ) (x : OpenedEnd) (p' : Player) (before after : PlayedServer) (from : Endpoint) (bytes : List ℕ) (effect : Effect) (r : Record) : Type 0 where
+-- the player at this port, whose end is x, took a datagram
+pub record PlayerStepped (port : ℕ) (p : Player) (x : OpenedEnd) (p' : Player) (before after : PlayedServer) (from : Endpoint) (bytes : List ℕ) (effect : Effect) (r : Record) : Type 0 where
   pub turn : Turn
   pub held : Files (List ℕ) Holding
-  pub steps : DatagramStep (λ (s : List ℕ). Some s) never_fails (λ (h : Holding). Some h) may_refuse_append (may_refuse_commit (is_client x.state.side) (in_the_way before.config.overwrite (file_at before.store.files x.path))) from bytes x.state (files_of x) turn held
-  pub commits : FilesAfter before.config.overwrite (not (is_client x.state.side) && has_committed x (end_after x turn held)) x.path (end_after x turn held).stored before.store.files before.store.files
-  pub stepped : Stepped port x p' before after turn held effect r
+  pub steps : EndStep (is_client x.state.side) (in_the_way before.config.overwrite (file_at before.store.files x.path)) from bytes x.state (files_of x) turn held
+  pub commits : FilesAfter before.config.overwrite (not (is_client x.state.side) && has_committed x (end_after x turn held)) x.path (end_after x turn held).stored before.store.files after.store.files
+  pub stepped : Stepped port p x p' before after turn held effect r
+
+-- the step of a client does not ask what stands in its way
+client_step : (there : Option (List ℕ)) (client : Bool) (from : Endpoint) (bytes : List ℕ) (e : EndState) (files files' : Files (List ℕ) Holding) (turn : Turn) → client ≡ true →
+    EndStep true None from bytes e files turn files' → EndStep client there from bytes e files turn files'
+client_step there client from bytes e files files' turn is h = subst (λ (b : Bool). EndStep b there from bytes e files turn files') (sym is) h
 
 client_stepped : (port : ℕ) (c c' : PlayedClient) (server : PlayedServer) (from : Endpoint) (bytes : List ℕ) (effect : Effect) (r : Record) →
     PlayerKept port server.held (Client c) → is_some (outcome_of c.end.phase) ≡ false → ClientDatagramStep port from bytes c c' effect r →
-    PlayerStepped port (client_end port c) (Client c') server server from bytes effect r
+    PlayerStepped port (Client c) (client_end port c) (Client c') server server from bytes effect r
 client_stepped port c c' server from bytes effect r kept open_now t =
     let there = in_the_way server.config.overwrite (file_at server.store.files []) in
-    let one : DatagramStep (λ (s : List ℕ). Some s) never_fails (λ (h : Holding). Some h) may_refuse_append (may_refuse_commit true there) from bytes c.end c.files t.turn c'.files = t.steps in
-    let two : DatagramStep (λ (s : List ℕ). Some s) never_fails (λ (h : Holding). Some h) may_refuse_append (may_refuse_commit (is_client c.end.side) there) from bytes c.end c.files t.turn c'.files =
-    subst (λ (b : Bool). DatagramStep (λ (s : List ℕ). Some s) never_fails (λ (h : Holding). Some h) may_refuse_append (may_refuse_commit b there) from bytes c.end c.files t.turn c'.files) (sym kept.0) one in
     record {
       turn = t.turn;
       held = c'.files;
-      steps = subst (λ (f : Files (List ℕ) Holding). DatagramStep (λ (s : List ℕ). Some s) never_fails (λ (h : Holding). Some h) may_refuse_append (may_refuse_commit (is_client c.end.side) there) from bytes c.end f t.turn c'.files) (sym (client_files port c kept.1)) two;
+      steps = subst (λ (f : Files (List ℕ) Holding). EndStep (is_client c.end.side) there from bytes c.end f t.turn c'.files) (sym (client_files port c kept.1))
+          (client_step there (is_client c.end.side) from bytes c.end c.files c'.files t.turn kept.0 t.steps);
       commits = client_commits server.config.overwrite (is_client c.end.side) _ [] _ server.store.files kept.0;
       stepped = client_open port c c' server t.turn c'.files effect r kept open_now t.turns t.kind (step_keeps (may_refuse_commit true None) from bytes c.end c.files c'.files t.turn t.steps);
     }
 
-served_stepped : (port : ℕ) (s s' : Served) (before after : PlayedServer) (from : Endpoint) (bytes : List ℕ) (effect : Effect) (r : Record) (h : Transfer) (left : List ℕ) (turn : Turn) (left' : List ℕ) →
-    at port before.held ≡ Some h → is_sender h.end.side ≡ true →
-    DatagramStep (λ (q : List ℕ). Some q) never_fails (λ (q : Holding). Some q) may_refuse_append (may_refuse_commit (is_client h.end.side) (in_the_way before.config.overwrite (file_at before.store.files s.path))) from bytes h.end (Source left) turn (Source left') →
-    Stepped port (sending_served port s h.end left) (Server s') before after turn (Source left') effect r →
-    PlayerStepped port (sending_served port s h.end left) (Server s') before after from bytes effect r
-served_stepped port s s' before after from bytes effect r h left turn left' found sender steps stepped = record {
-  turn = turn;
-  held = Source left';
-  steps = subst (λ (f : Files (List ℕ) Holding). DatagramStep (λ (q : List ℕ). Some q) never_fails (λ (q : Holding). Some q) may_refuse_append (may_refuse_commit (is_client h.end.side) (in_the_way before.config.overwrite (file_at before.store.files s.path))) from bytes h.end f turn (Source left'))
-      (sym (sending_files port s h.end left sender)) steps;
-  commits = files_same before.config.overwrite (is_client h.end.side) false false s.path [] before.store.files refl;
-  stepped = stepped;
-}
+module _ (port : ℕ) (s s' : Served) (before after : PlayedServer) (from : Endpoint) (bytes : List ℕ) (effect : Effect) (r : Record)
+    (kept : PlayerKept port before.held (Server s)) (open_now : is_some s.ended ≡ false) (t : ServedDatagramStep port from bytes s s' before after effect r) where
+  abbrev h : Transfer
+  h = t.transfer
+
+  abbrev x0 : OpenedEnd
+  x0 = held_end port s h
+
+  abbrev in_way : Option (List ℕ)
+  in_way = in_the_way before.config.overwrite (file_at before.store.files s.path)
+
+  abbrev held_now : Files (List ℕ) Holding
+  held_now = held_files t.store.refuses t.next.files
+
+  kept_here : ServedKept port s before.held
+  kept_here = served_kept port s before.held open_now kept
+
+  is_kept : h ≡ kept_here.transfer
+  is_kept = same_transfer h kept_here.transfer (sym t.found ∙ kept_here.found)
+
+  server_side : is_client h.end.side ≡ false
+  server_side = ap (λ (k : Transfer). is_client k.end.side) is_kept ∙ kept_here.side
+
+  path_is : h.path ≡ s.path
+  path_is = ap (λ (k : Transfer). k.path) is_kept ∙ kept_here.path
+
+  files_fit : AreFilesOf h.end.side h.files
+  files_fit = subst (λ (k : Transfer). AreFilesOf k.end.side k.files) (sym is_kept) kept_here.files
+
+  commits_last : CommitsLast h.files h.end.phase
+  commits_last = subst (λ (k : Transfer). CommitsLast k.files k.end.phase) (sym is_kept) kept_here.commits
+
+  steps_so : StepIn memory_meaning from bytes h.end (files_in (with_told before.store s.refuses) s.path before.config.overwrite h.files) t.turn (files_in t.store t.next.path before.config.overwrite t.next.files)
+  steps_so = subst (λ (p : List ℕ). StepIn memory_meaning from bytes h.end (files_in (with_told before.store s.refuses) p before.config.overwrite h.files) t.turn (files_in t.store t.next.path before.config.overwrite t.next.files)) path_is t.steps
+
+  steps_end : EndStep false in_way from bytes h.end (held_files s.refuses h.files) t.turn held_now
+  steps_end = end_step from bytes h.end (with_told before.store s.refuses) t.store s.path t.next.path before.config.overwrite t.turn h.files t.next.files steps_so
+
+  steps_here : EndStep (is_client h.end.side) in_way from bytes h.end (files_of x0) t.turn held_now
+  steps_here =
+      subst (λ (f : Files (List ℕ) Holding). EndStep (is_client h.end.side) in_way from bytes h.end f t.turn held_now) (sym (served_files port s h.end h.files h.request files_fit))
+      (subst (λ (b : Bool). EndStep b in_way from bytes h.end (held_files s.refuses h.files) t.turn held_now) (sym server_side) steps_end)
+
+  leaves : ServedLeaves x0 t.turn held_now t.next.files before.config.overwrite before.store.files t.store.files
+  leaves = served_leaves port s from bytes h.end h.request (with_told before.store s.refuses) t.store t.next.path before.config.overwrite t.turn h.files t.next.files steps_so t.stays t.kind commits_last
+
+  commits_here : FilesAfter before.config.overwrite (not (is_client h.end.side) && has_committed x0 (end_after x0 t.turn held_now)) s.path (end_after x0 t.turn held_now).stored before.store.files after.store.files
+  commits_here =
+      subst (λ (v : PlayedServer). FilesAfter before.config.overwrite (not (is_client h.end.side) && has_committed x0 (end_after x0 t.turn held_now)) s.path (end_after x0 t.turn held_now).stored before.store.files v.store.files) (sym t.turns.server)
+      (subst (λ (b : Bool). FilesAfter before.config.overwrite (not b && has_committed x0 (end_after x0 t.turn held_now)) s.path (end_after x0 t.turn held_now).stored before.store.files t.store.files) (sym server_side) leaves.files_after)
+
+  stepped_here : Stepped port (Server s) (end_at port before.held (Server s)) (Server s') before after t.turn held_now effect r
+  stepped_here =
+      served_steps port s s' before after h t.next t.turn t.store.refuses (with_told t.store false) effect r t.found open_now kept
+      (step_keeps (may_refuse_commit false in_way) from bytes h.end (held_files s.refuses h.files) held_now t.turn steps_end)
+      t.kind t.path t.request (keeps_told h.files before.store t.store s.refuses t.stays) leaves.commits (λ quiet. refl) t.turns
+
+  served_stepped : PlayerStepped port (Server s) (end_at port before.held (Server s)) (Server s') before after from bytes effect r
+  served_stepped =
+      subst (λ (x : OpenedEnd). PlayerStepped port (Server s) x (Server s') before after from bytes effect r) (sym (served_is port s before.held h open_now t.found))
+      (record {
+        turn = t.turn;
+        held = held_now;
+        steps = steps_here;
+        commits = commits_here;
+        stepped = subst (λ (x : OpenedEnd). Stepped port (Server s) x (Server s') before after t.turn held_now effect r) (served_is port s before.held h open_now t.found) stepped_here;
+      })
 
 pub player_stepped : (port : ℕ) (p p' : Player) (before after : PlayedServer) (from : Endpoint) (bytes : List ℕ) (effect : Effect) (r : Record) →
     PlayerKept port before.held p → has_ended p ≡ false → PlayerDatagramStep port from bytes p p' before after effect r →
-    PlayerStepped port (end_at port before.held p) p' before after from bytes effect r
+    PlayerStepped port p (end_at port before.held p) p' before after from bytes effect r
 player_stepped port (Client c) (Client c') before after from bytes effect r kept open_now t =
-    subst (λ (s : PlayedServer). PlayerStepped port (end_at port before.held (Client c)) (Client c') before s from bytes effect r) (sym t.1)
-    (subst (λ (x : OpenedEnd). PlayerStepped port x (Client c') before before from bytes effect r) (sym (at_rest_open (client_end port c) open_now))
+    subst (λ (s : PlayedServer). PlayerStepped port (Client c) (end_at port before.held (Client c)) (Client c') before s from bytes effect r) (sym t.1)
+    (subst (λ (x : OpenedEnd). PlayerStepped port (Client c) x (Client c') before before from bytes effect r) (sym (at_rest_open (client_end port c) open_now))
     (client_stepped port c c' before from bytes effect r kept open_now t.0))
-player_stepped port (Server s) (Server s') before after from bytes effect r kept open_now t =
-    let h = t.0 in
-    let is : end_at port before.held (Server s) ≡ sending_served port s h.end t.1 = served_is port s before.held h t.1 open_now t.4 t.5 in
-    let sender : is_sender h.end.side ≡ true = sender_of port s before.held h t.4 (served_kept port s before.held open_now kept) in
-    let steps = read_stepped (may_refuse_commit (is_client h.end.side) (in_the_way before.config.overwrite (file_at before.store.files s.path))) from bytes h.end t.1 t.3 t.2 t.6 in
-    let stepped = served_steps port s s' before after h t.1 t.2 t.3 effect r t.4 t.5 open_now kept (step_keeps (may_refuse_commit (is_client h.end.side) (in_the_way before.config.overwrite (file_at before.store.files s.path))) from bytes h.end (Source t.1) (Source t.3) t.2 steps) t.7 in
-    subst (λ (x : OpenedEnd). PlayerStepped port x (Server s') before after from bytes effect r) (sym is)
-    (served_stepped port s s' before after from bytes effect r h t.1 t.2 t.3 t.4 sender steps
-    (subst (λ (x : OpenedEnd). Stepped port x (Server s') before after t.2 (Source t.3) effect r) is stepped))
+player_stepped port (Server s) (Server s') before after from bytes effect r kept open_now t = served_stepped port s s' before after from bytes effect r kept open_now t
 player_stepped port (Client c) (Server s') before after from bytes effect r kept open_now t = absurd t
 player_stepped port (Server s) (Client c') before after from bytes effect r kept open_now t = absurd t
 
@@ -105,15 +156,15 @@ module _ (server : PlayedServer) (ps : List Player) (records : List (ℕ × Reco
   closed_here : (b c : Bool) → b ≡ record_closed (slice_get records place) → b ≡ c → is_closed x ≡ c
   closed_here b c told is = sym (closed_is server ps records place p staged there) ∙ (sym told ∙ is)
 
-  lost : (effect : Effect) → effect ≡ no_effect to → LostAt to (ends_of server ps) (ends_of server (slice_set ps place p)) effect
-  lost effect e = record { effects = e; next = ap (ends_of server) same_list }
+  lost : (effect : Effect) → effect ≡ no_effect to → LostAt to server.store.files server.store.files (ends_of server ps) (ends_of server (slice_set ps place p)) effect
+  lost effect e = record { effects = e; next = ap (ends_of server) same_list; stays = refl }
 
   pub step_away : (here : Endpoint) (effect : Effect) → here ≡ address_of to.port p → here ≢ to → effect ≡ no_effect to → StageDatagramStep place from to bytes server server ps (slice_set ps place p) effect
   step_away here effect is differs e = record {
     end = x;
     found = ends_get server.held ps place p there;
     comes = inl ((λ same. differs (sym (address_here here is) ∙ same)), lost effect e);
-    same = record { config = refl; store = refl };
+    config = refl;
   }
 
   pub step_closed : (here : Endpoint) (b : Bool) (effect : Effect) → here ≡ address_of to.port p → here ≡ to → b ≡ record_closed (slice_get records place) → b ≡ true → effect ≡ no_effect to →
@@ -122,11 +173,11 @@ module _ (server : PlayedServer) (ps : List Player) (records : List (ℕ × Reco
     end = x;
     found = ends_get server.held ps place p there;
     comes = inr (address_here here is ∙ same, inl (closed_here b true told closed, lost effect e));
-    same = record { config = refl; store = refl };
+    config = refl;
   }
 
   decoded_here : (b : Bool) (p' : Player) (after : PlayedServer) (effect : Effect) (r : Record) → b ≡ record_closed (slice_get records place) → b ≡ false →
-      PlayerDatagramStep to.port from bytes p p' server after effect r → PlayerStepped (1024 + place) x p' server after from bytes effect r
+      PlayerDatagramStep to.port from bytes p p' server after effect r → PlayerStepped (1024 + place) p x p' server after from bytes effect r
   decoded_here b p' after effect r told is t =
       player_stepped (1024 + place) p p' server after from bytes effect r (kept_at server.held ps place p staged.kept there) (has_not_ended (1024 + place) server.held p (closed_here b false told is))
       (subst (λ (n : ℕ). PlayerDatagramStep n from bytes p p' server after effect r) at_place.1 t)
@@ -149,7 +200,7 @@ module _ (server : PlayedServer) (ps : List Player) (records : List (ℕ × Reco
             turns = record { effects = g.stepped.effects; next = turn_ends place server after ps p p' g.turn g.held effect r g.stepped };
           }),
         );
-        same = g.stepped.same;
+        config = g.stepped.config;
       }
 
   pub step_keeps_stage : (b : Bool) (p' : Player) (after : PlayedServer) (effect : Effect) (r : Record) → b ≡ record_closed (slice_get records place) → b ≡ false →

@@ -39,7 +39,8 @@ use Rattle.tftp_player.specs.World.{StoredFile, OpenedEnd, end_after, has_commit
 use Rattle.tftp_player.specs.WorldSteps.{IsStored, FilesAfter, never_fails}
 use Rattle.tftp_player.specs.declared.served.Served.{Served}
 use Rattle.tftp_player.proofs.FileLemmas.{stored_so}
-use Rattle.tftp_player.proofs.ServerTurns.{Drafts, seen, seen_files}
+use Rattle.tftp_player.proofs.ServerTurns.{Drafts, seen}
+use Rattle.tftp_player.proofs.StageLemmas.{held_files}
 
 -- ---- a complete end does nothing more: it answers at most
 record Rests (action : Action) (from : Endpoint) (e : EndState) : Type 0 where
@@ -257,7 +258,7 @@ pub record ServedLeaves (x : OpenedEnd) (turn : Turn) (held : Files (List ℕ) H
 module _ (port : ℕ) (s : Served) (from : Endpoint) (bytes : List ℕ) (e : EndState) (request : List ℕ) (store store' : Stored) (path' : List ℕ) (replace : Bool) (turn : Turn) where
   pub served_leaves : (files files' : Files (List ℕ) Drafted) → StepIn memory_meaning from bytes e (files_in store s.path replace files) turn (files_in store' path' replace files') →
       KeepsStore files store store' → AreSame (λ (a b : List ℕ). ⊤) (λ (a b : Drafted). ⊤) files files' → CommitsLast files e.phase →
-      ServedLeaves (served_as port s e (left_in files) (draft_of files) request) turn (seen_files store' files') files' replace store.files store'.files
+      ServedLeaves (served_as port s e (left_in files) (draft_of files) request) turn (held_files store'.refuses files') files' replace store.files store'.files
   served_leaves (Source left) (Source left') h stays kind k = record { files_after = ap (λ (st : Stored). st.files) stays; commits = tt }
   served_leaves (Sink draft) (Sink draft') h stays kind k =
       let l = leaves_by from bytes e turn _ _ h.decoded (is_complete e.phase) refl k h.acts in

@@ -9,21 +9,17 @@ use Rattle.tftp_file.specs.declared.fault.StoreFault.TheVariants.{Missing, Exist
 use Rattle.tftp_file.specs.declared.files.Files.{Files}
 use Rattle.tftp_file.specs.declared.files.Files.TheVariants.{Source, Sink}
 use Rattle.tftp_ends.specs.End.{EndState, is_sender}
-use Rattle.tftp_ends.specs.Files.{AreFilesOf}
 use Rattle.tftp_ends.specs.OtherSinks.{SourcesTell, SinksTell, step_as}
 use Rattle.tftp_ends.specs.Step.{Turn}
 use Rattle.tftp_server.specs.Draft.{Drafting, files_in, drafting_holds, MayRefuseAppend, MayRefuseCommit, DraftingBecomes}
-use Rattle.tftp_server.specs.Memory.{memory_meaning, with_told}
-use Rattle.tftp_server.specs.State.{draft_of}
+use Rattle.tftp_server.specs.Memory.{memory_meaning}
 use Rattle.tftp_server.specs.Steps.{StepIn}
 use Rattle.tftp_server.specs.Store.{Stored, Drafted, FileList, is_taken}
 use Rattle.tftp_player.specs.Machine.{Endpoint}
-use Rattle.tftp_player.specs.Clients.{left_in}
-use Rattle.tftp_player.specs.Played.{served_as}
 use Rattle.tftp_player.specs.World.{OpenedEnd, StoredFile, file_at, in_the_way, in_state, files_of, holding_of, with_files, end_after}
 use Rattle.tftp_player.specs.WorldSteps.{EndStep, never_fails, may_refuse_append, may_refuse_commit, nothing_else, FilesAfter}
-use Rattle.tftp_player.specs.declared.served.Served.{Served}
 use Rattle.tftp_player.proofs.FileLemmas.{not_taken, is_in_the_way}
+use Rattle.tftp_player.proofs.StageLemmas.{held_files}
 
 -- ---- an end that commits nothing changes no file
 none_new : (b : Bool) → (not b && b) ≡ false
@@ -53,18 +49,6 @@ Drafts = Drafting Stored Drafted
 
 abbrev pub seen : Drafts → Holding
 seen d = record { bytes = d.draft.bytes; committed = d.draft.committed; refuses = d.store.refuses }
-
-abbrev pub seen_files : Stored → Files (List ℕ) Drafted → Files (List ℕ) Holding
-seen_files store (Source left) = Source left
-seen_files store (Sink draft) = Sink (record { bytes = draft.bytes; committed = draft.committed; refuses = store.refuses })
-
--- what the end of a transfer works on is seen so
-pub served_files : (port : ℕ) (s : Served) (e : EndState) (files : Files (List ℕ) Drafted) (request : List ℕ) (store : Stored) → AreFilesOf e.side files →
-    files_of (served_as port s e (left_in files) (draft_of files) request) ≡ seen_files (with_told store s.refuses) files
-served_files port s e (Source left) request store is =
-    ap (λ (b : Bool). if b then Source left else Sink (record { bytes = []; committed = false; refuses = s.refuses })) is
-served_files port s e (Sink draft) request store is =
-    ap (λ (b : Bool). if b then Source [] else Sink (record { bytes = draft.bytes; committed = draft.committed; refuses = s.refuses })) is
 
 -- a draft for this path, where these are the server's files
 abbrev IsFor : Bool → List ℕ → FileList → Drafts → Type 0
@@ -105,7 +89,7 @@ sources = record { tells = λ s. refl; fails = λ s want h. h }
 module _ (from : Endpoint) (bytes : List ℕ) (e : EndState) (store store' : Stored) (path path' : List ℕ) (replace : Bool) (turn : Turn) where
   pub end_step : (files files' : Files (List ℕ) Drafted) →
       StepIn memory_meaning from bytes e (files_in store path replace files) turn (files_in store' path' replace files') →
-      EndStep false (in_the_way replace (file_at store.files path)) from bytes e (seen_files store files) turn (seen_files store' files')
+      EndStep false (in_the_way replace (file_at store.files path)) from bytes e (held_files store.refuses files) turn (held_files store'.refuses files')
   end_step (Source left) (Source left') h = step_as _ _ _ _ _ _ _ _ _ _ _ _ (λ (s : List ℕ). s) seen (IsFor replace path store.files) sources (sinks replace path store.files) from bytes e _ turn _ tt h
   end_step (Sink draft) (Sink draft') h = step_as _ _ _ _ _ _ _ _ _ _ _ _ (λ (s : List ℕ). s) seen (IsFor replace path store.files) sources (sinks replace path store.files) from bytes e _ turn _ (refl, refl, refl) h
   end_step (Source left) (Sink draft') h = step_as _ _ _ _ _ _ _ _ _ _ _ _ (λ (s : List ℕ). s) seen (IsFor replace path store.files) sources (sinks replace path store.files) from bytes e _ turn _ tt h
