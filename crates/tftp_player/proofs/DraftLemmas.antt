@@ -1,5 +1,5 @@
 -- What a turn of a server's end makes of its draft and of the server's files.
-use Rattle.std.proofs.Common.{◌≡◌, ◌≢◌, ℕ, Bool, true, false, List, [], ◌∷◌, Option, Some, None, Result, Ok, Err, refl, sym, ap, ◌∙◌, subst}
+use Rattle.std.proofs.Common.{◌≡◌, ℕ, Bool, true, false, List, [], ◌∷◌, Option, Some, None, Result, Ok, Err, refl, sym, ap, ◌∙◌, subst}
 use Rattle.std.specs.Prelude.{◌&&◌, ◌==◌, not, if◌then◌else◌, is_none, is_ok, nat_lt, ⊤}
 use Rattle.std.proofs.lemmas.Bool.{true≢false}
 use Rattle.std.proofs.lemmas.Option.{same_Some}
@@ -12,25 +12,22 @@ use Rattle.tftp_file.specs.declared.fault.StoreFault.TheVariants as faults
 use Rattle.tftp_ends.specs.declared.action.Action.{Action}
 use Rattle.tftp_ends.specs.declared.action.Action.TheVariants.{Respond, Send, Store}
 use Rattle.tftp_ends.specs.declared.action.Response.{Response}
-use Rattle.tftp_ends.specs.declared.action.Response.TheVariants.{Ignore, Stranger, ResendReply, Retransmit, Close}
-use Rattle.tftp_ends.specs.declared.outcome.Outcome.TheVariants.{TimedOut}
-use Rattle.tftp_ends.specs.declared.phase.Dally.TheVariants.{Fresh, Waited}
+use Rattle.tftp_ends.specs.declared.action.Response.TheVariants.{Ignore, Stranger, ResendReply}
 use Rattle.tftp_ends.specs.declared.phase.Phase.{Phase}
 use Rattle.tftp_ends.specs.declared.phase.Phase.TheVariants.{Waiting, Sending, Receiving, Dallying, Closed}
 use Rattle.tftp_ends.specs.declared.phase.Terms.{Terms}
-use Rattle.tftp_ends.specs.Action.{datagram_action, is_stranger, timeout_response}
-use Rattle.tftp_ends.specs.End.{EndState, is_complete, terms_of}
+use Rattle.tftp_ends.specs.Action.{datagram_action, is_stranger}
+use Rattle.tftp_ends.specs.End.{EndState, is_complete}
 use Rattle.tftp_ends.specs.Files.{AreSame}
 use Rattle.tftp_ends.specs.Receiver.{dally_response}
-use Rattle.tftp_ends.specs.Phase.{closed}
-use Rattle.tftp_ends.specs.Step.{Done, Turn, Acts, Appended, Committed, GoesOn, Stores, after, committed_turn, holding, timeout_turn}
+use Rattle.tftp_ends.specs.Step.{Done, Turn, Acts, Appended, GoesOn, after, committed_turn, holding}
 use Rattle.tftp_file.specs.declared.files.Files.{Files}
 use Rattle.tftp_file.specs.declared.files.Files.TheVariants.{Source, Sink}
 use Rattle.tftp_server.specs.Draft.{drafting_holds, MayRefuseAppend, MayRefuseCommit, DraftingBecomes, files_in, KeepsStore}
 use Rattle.tftp_server.specs.Memory.{memory_meaning}
 use Rattle.tftp_server.specs.State.{draft_of}
 use Rattle.tftp_server.specs.Steps.{StepIn}
-use Rattle.tftp_server.specs.Store.{Stored, Drafted, FileList, is_taken, with_file}
+use Rattle.tftp_server.specs.Store.{Stored, Drafted, FileList, with_file}
 use Rattle.tftp_player.specs.Machine.{Endpoint}
 use Rattle.tftp_player.specs.Clients.{left_in}
 use Rattle.tftp_player.specs.Played.{served_as}
@@ -90,32 +87,6 @@ module _ (from : Endpoint) (bytes : List ℕ) (e0 : EndState) where
       let phase = Closed terms n complete outcome in
       rests_if phase (is_stranger terms e0.last_sent_to from) _ _ (strange phase)
       (rests_if phase (has_error_opcode bytes && is_none decoded) _ _ (ignores phase) (ignores phase))
-
--- ---- a timeout completes no end, nor undoes it
-timed_by : (e : EndState) (phase : Phase) → is_complete (timeout_turn (record e { phase = phase })).end.phase ≡ is_complete phase
-timed_by e (Waiting asked limit) = either (e.retries_left == 0) where
-  either : (b : Bool) → is_complete (after (if b then Close TimedOut else Retransmit) e.last_sent_to (record e { phase = Waiting asked limit })).phase ≡ false
-  either true = refl
-  either false = refl
-timed_by e (Sending terms n) = either (e.retries_left == 0) where
-  either : (b : Bool) → is_complete (after (if b then Close TimedOut else Retransmit) e.last_sent_to (record e { phase = Sending terms n })).phase ≡ false
-  either true = refl
-  either false = refl
-timed_by e (Receiving terms n) = either (e.retries_left == 0) where
-  either : (b : Bool) → is_complete (after (if b then Close TimedOut else Retransmit) e.last_sent_to (record e { phase = Receiving terms n })).phase ≡ false
-  either true = refl
-  either false = refl
-timed_by e (Dallying terms n Fresh) = refl
-timed_by e (Dallying terms n Waited) = refl
-timed_by e (Closed terms n complete outcome) = either (e.retries_left == 0) where
-  either : (b : Bool) → is_complete (after (if b then Close TimedOut else Retransmit) e.last_sent_to (record e { phase = Closed terms n complete outcome })).phase ≡ complete
-  either true = refl
-  either false = refl
-
--- its draft is not committed still, if it was not
-pub timeout_commits : (e : EndState) (files : Files (List ℕ) Drafted) → CommitsLast files e.phase → CommitsLast files (timeout_turn e).end.phase
-timeout_commits e (Source left) k = tt
-timeout_commits e (Sink draft) k = λ incomplete. k (sym (timed_by e e.phase) ∙ incomplete)
 
 -- ---- a datagram
 -- a draft after a turn, and the server's files

@@ -1,7 +1,7 @@
 use Rattle.std.proofs.Common.{◌≡◌, ◌∙◌, false, refl, ap}
 use Rattle.tftp_server.specs.Memory.{with_told}
 use Rattle.tftp_server.specs.Store.{Stored}
-use Rattle.tftp_player.proofs.ServingLemmas.{next_is_held, served_steps, server_told, not_taken}
+use Rattle.tftp_player.proofs.ServingLemmas.{next_is_held, served_steps, not_taken}
 use Rattle.tftp_player.proofs.served.Served.on_datagram.Goals as goal
 
 pub conclude-record-requires : goal.conclude-record-requires

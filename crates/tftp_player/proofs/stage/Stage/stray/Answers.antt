@@ -7,6 +7,6 @@ pub returns-clause-steps : goal.returns-clause-steps
 returns-clause-steps c =
     IfOk-weaker c.arrive.result _ _
     (λ report a.
-        let l = subst (λ (bytes : List ℕ). Lands c.args.self.now c.args.from c.args.to bytes report c.arrive.new.self) c.as_slice.ensures a in
-        (l.0, (c.requires, l.1), l.2))
+    let l = subst (λ (bytes : List ℕ). Lands c.args.self.now c.args.from c.args.to bytes report c.arrive.new.self) c.as_slice.ensures a in
+    (l.0, (c.requires, l.1), l.2))
     c.arrive.ensures.arrives
