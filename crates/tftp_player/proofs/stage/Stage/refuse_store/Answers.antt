@@ -5,7 +5,7 @@ use Rattle.tftp_player.specs.declared.event.Event.TheVariants.{RefuseStore}
 use Rattle.tftp_player.specs.declared.player.Player.{Player}
 use Rattle.tftp_player.specs.World.{WorldState, no_report}
 use Rattle.tftp_player.specs.WorldSteps.{NoneAt, WorldStep}
-use Rattle.tftp_player.proofs.PlayLemmas.{none_here}
+use Rattle.tftp_player.proofs.PlayLemmas.{none_here, read_kept}
 use Rattle.tftp_player.proofs.RefusingLemmas.{refused_step, refused_staged}
 use Rattle.tftp_player.proofs.stage.Stage.refuse_store.Goals as goal
 
@@ -13,6 +13,11 @@ pub returns-in_default-clause-refused : goal.returns-in_default-clause-refused
 returns-in_default-clause-refused c =
     let count : c.len.result ≡ length c.self.inside.players.items = search rules in
     subst (λ (w : WorldState). NoneAt w c.args.port) c.self.view_is (none_here c.self.inside.server c.self.inside.players.items c.len.result c.args.port count c.in_default.ensures.none)
+
+pub refuse_next-requires : goal.refuse_next-requires
+refuse_next-requires c =
+    let within : c.in-Some.place < length c.self.inside.players.items = search rules in
+    read_kept c.self.inside.server c.self.inside.players.items c.self.inside.records.items c.in-Some.place c.args.port c.index_mut-player.result.now c.self.invariant.1 (within, c.in-Some.ensures.some.0) c.index_mut-player.ensures.value
 
 pub invariant_of-self : goal.invariant_of-self
 invariant_of-self c =
