@@ -215,9 +215,6 @@ module _ (from : Endpoint) (bytes : List ℕ) (before : PlayedServer) (ps : List
         ap (λ (u : Option Transfer). served_end port (own sent) None u) (found sent)
         ∙ (ap (λ (n : ℕ). served_as n (own sent) g.end (left_in g.files) (draft_of g.files) g.request) (port_world sent) ∙ (q sent).is_new.end)
 
-    pub config_same : after.config ≡ before.config
-    config_same = ap (λ (s : PlayedServer). s.config) (q []).new
-
     others : (other : ℕ) → 1024 ≤ other → other < 1024 + length ps → at other after.held ≡ at other before.held
     others other low high =
         let n : other ≢ port = omega (arith, port_next, high) in

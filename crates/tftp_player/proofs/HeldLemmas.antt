@@ -136,12 +136,9 @@ module _ {T : Type 0} where
       subst (AllByRecursion (λ (f : ℕ × T). P f.0)) (sym (with_new-last tid new held below)) (all_pushed (λ (f : ℕ × T). P f.0) tid new held all p)
 
   -- what follows of it holds of all, and what follows of two things
-  all_weaker : (P Q : ℕ → Type 0) (held : List (ℕ × T)) → ((k : ℕ) → P k → Q k) → AllByRecursion (λ (f : ℕ × T). P f.0) held → AllByRecursion (λ (f : ℕ × T). Q f.0) held
-  all_weaker P Q [] f all = tt
-  all_weaker P Q (e ∷ held) f all = (f e.0 all.0, all_weaker P Q held f all.1)
-
   pub AllKeys-weaker : (P Q : ℕ → Type 0) (held : List (ℕ × T)) → ((k : ℕ) → P k → Q k) → AllByRecursion (λ (f : ℕ × T). P f.0) held → AllByRecursion (λ (f : ℕ × T). Q f.0) held
-  AllKeys-weaker = all_weaker
+  AllKeys-weaker P Q [] f all = tt
+  AllKeys-weaker P Q (e ∷ held) f all = (f e.0 all.0, AllKeys-weaker P Q held f all.1)
 
   pub all_both : (P Q R : ℕ × T → Type 0) (held : List (ℕ × T)) → ((e : ℕ × T) → P e → Q e → R e) → AllByRecursion P held → AllByRecursion Q held → AllByRecursion R held
   all_both P Q R [] f all also = tt
@@ -179,7 +176,7 @@ module _ {T : Type 0} where
       AllByRecursion (λ (f : ℕ × T). f.0 ≢ tid) (cond b held (e ∷ more))
   gone_out tid e held more true h above rest =
       let here = same_at tid e.0 h in
-      all_weaker (λ (k : ℕ). e.0 < k) (λ (k : ℕ). k ≢ tid) held (λ k l. let n : k ≢ tid = omega (arith, here, l) in n) above
+      AllKeys-weaker (λ (k : ℕ). e.0 < k) (λ (k : ℕ). k ≢ tid) held (λ k l. let n : k ≢ tid = omega (arith, here, l) in n) above
   gone_out tid e held more false h above rest = ((λ same. true≢false (sym (at_same tid e.0 same) ∙ h)), rest)
 
   pub gone-without : (tid : ℕ) (held : List (ℕ × T)) → IsRising held → AllByRecursion (λ (f : ℕ × T). f.0 ≢ tid) (without tid held)
@@ -198,7 +195,7 @@ module _ {T : Type 0} where
   -- below the next identifier, where below this one
 
   pub AreBelow-more : (tid more : ℕ) (held : List (ℕ × T)) → tid < more → AreBelow tid held → AreBelow more held
-  AreBelow-more tid more held l below = all_weaker (λ (k : ℕ). k < tid) (λ (k : ℕ). k < more) held (λ k h. omega arith) below
+  AreBelow-more tid more held l below = AllKeys-weaker (λ (k : ℕ). k < tid) (λ (k : ℕ). k < more) held (λ k h. omega arith) below
 
   pub AreBelow-with_new : (tid : ℕ) (new : T) (held : List (ℕ × T)) → AreBelow tid held → AreBelow (tid + 1) (with_new tid new held)
   AreBelow-with_new tid new held below =

@@ -58,6 +58,7 @@ pub client_staged : (server : PlayedServer) (ps : List Player) (records : List (
     IsStaged server (ps ++ Client c ∷ []) (records ++ (port, r) ∷ [])
 client_staged server ps records c port r staged is told client fits =
     let x = end_at (1024 + length ps) server.held (Client c) in
+    let more : 1024 + length ps < 1024 + suc (length ps) = omega arith in
     let action : (port, r) ≡ (1024 + length (ends_of server ps), record_of x.state) =
     ap (λ (n : ℕ). (n, r)) (is ∙ ap (λ (n : ℕ). 1024 + n) (sym (ends_length server.held ps)))
     ∙ ap (λ (q : Record). (1024 + length (ends_of server ps), q)) (told ∙ sym (at_rest_record (client_end (1024 + length ps) c))) in
@@ -67,7 +68,7 @@ client_staged server ps records c port r staged is told client fits =
           ap (λ (rs : List (ℕ × Record)). rs ++ (port, r) ∷ []) staged.recorded
           ∙ (ap (λ (e : ℕ × Record). records_from 1024 (ends_of server ps) ++ e ∷ []) action
           ∙ (sym (records_push 1024 (ends_of server ps) x) ∙ ap (records_from 1024) (sym (ends_push server ps (Client c)))));
-      below = subst (λ (n : ℕ). AreBelow (1024 + n) server.held) (sym (length_push ps (Client c))) (AreBelow-more (1024 + length ps) (1024 + suc (length ps)) server.held (omega arith) staged.below);
+      below = subst (λ (n : ℕ). AreBelow (1024 + n) server.held) (sym (length_push ps (Client c))) (AreBelow-more (1024 + length ps) (1024 + suc (length ps)) server.held more staged.below);
       count = staged.count
           ∙ (sym (transfers-push_other (ends_of server ps) x (is_transfer-rest (client_end (1024 + length ps) c) ∙ no_transfer (client_end (1024 + length ps) c) client))
           ∙ ap open_transfers (sym (ends_push server ps (Client c))));

@@ -1,6 +1,6 @@
 -- A datagram repeats the request of a transfer that the played server holds where it repeats that of an open end of its world.
 use Rattle.std.proofs.Common.{◌≡◌, ℕ, suc, zero, ◌+◌, Bool, true, false, List, [], ◌∷◌, cond, Option, Some, None, refl, sym, ap, ◌∙◌, subst, inl, inr}
-use Rattle.std.specs.Prelude.{◌⊎◌, ◌↔◌, is_some, slice_get}
+use Rattle.std.specs.Prelude.{slice_get}
 use Rattle.std.specs.BTreeMap.{is_at}
 use Rattle.std.specs.List.{AllByRecursion}
 use Rattle.std.specs.Ordering.{nat_cmp}
@@ -8,7 +8,7 @@ use Rattle.std.proofs.lemmas.Bool.{true≢false}
 use Rattle.std.proofs.lemmas.Option.{same_Some}
 use Rattle.tftp_wire.specs.declared.packet.Packet.{Packet}
 use Rattle.tftp_ends.specs.declared.record.Record.{Record}
-use Rattle.tftp_ends.specs.End.{is_client, record_of}
+use Rattle.tftp_ends.specs.End.{is_client}
 use Rattle.tftp_server.specs.State.{at}
 use Rattle.tftp_server.specs.State as server
 use Rattle.tftp_player.specs.Machine.{Endpoint}
@@ -17,7 +17,7 @@ use Rattle.tftp_player.specs.Clients.{left_in}
 use Rattle.tftp_player.specs.Requests.{IsRepeated, Repeats, AnyRepeats}
 use Rattle.tftp_player.specs.Serving.{PlayedServer, Transfer}
 use Rattle.tftp_player.specs.Stage.{IsOwned, IsStaged, ends_of}
-use Rattle.tftp_player.specs.World.{OpenedEnd, is_closed}
+use Rattle.tftp_player.specs.World.{OpenedEnd}
 use Rattle.tftp_player.specs.declared.player.Player.{Player}
 use Rattle.tftp_player.specs.declared.player.Player.TheVariants.{Client, Server}
 use Rattle.tftp_player.specs.declared.served.Served.{Served}
