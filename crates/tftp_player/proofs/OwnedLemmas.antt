@@ -1,11 +1,11 @@
 -- The transfers that a server holds are those of its open ends, still where one end has changed.
-use Rattle.std.proofs.Common.{◌≡◌, ◌≢◌, ℕ, ◌+◌, Bool, true, false, List, [], ◌∷◌, ◌++◌, length, Some, None, refl, sym, ap, ◌∙◌, subst, arith}
+use Rattle.std.proofs.Common.{◌≡◌, ◌≢◌, ℕ, ◌+◌, Bool, true, false, List, [], ◌∷◌, ◌++◌, Some, None, refl, sym, ap, ◌∙◌, arith}
 use Rattle.std.specs.Prelude.{slice_get, slice_set}
 use Rattle.std.proofs.lemmas.Bool.{true≢false}
 use Rattle.std.specs.BTreeMap.{is_at}
 use Rattle.std.specs.List.{AllByRecursion}
 use Rattle.std.specs.Ordering.{nat_cmp}
-use Rattle.tftp_server.specs.State.{with_next, without}
+use Rattle.tftp_server.specs.State.{without}
 use Rattle.tftp_player.specs.PlayedClient.{PlayedClient}
 use Rattle.tftp_player.specs.Serving.{Transfer}
 use Rattle.tftp_player.specs.Stage.{IsOwned, IsRising}
@@ -13,7 +13,7 @@ use Rattle.tftp_player.specs.declared.player.Player.{Player}
 use Rattle.tftp_player.specs.declared.player.Player.TheVariants.{Client, Server}
 use Rattle.tftp_player.specs.declared.served.Served.{Served}
 use Rattle.tftp_player.proofs.HeldLemmas.{at_same, same_at, AllKeys-without, AllKeys-weaker, all_both, gone-without}
-use Rattle.tftp_player.proofs.Places.{slice_get-set_same, slice_get-set_other, slice_get-push_old, slice_get-push_new}
+use Rattle.tftp_player.proofs.Places.{slice_get-set_same, slice_get-set_other, slice_get-push_old}
 
 -- each transfer is one of these ends
 abbrev pub AllOwned : List Player → List (ℕ × Transfer) → Type 0

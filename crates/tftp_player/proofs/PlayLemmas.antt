@@ -1,6 +1,6 @@
 -- How a turn at one place handles all ends of a world, and of the world.
 use Rattle.std.proofs.Common.{◌≡◌, ℕ, suc, zero, ◌+◌, ◌<◌, ◌≤◌, Bool, true, false, List, [], ◌∷◌, ◌++◌, length, map, Option, Some, None, refl, sym, ap, ◌∙◌, subst, arith, inl, inr}
-use Rattle.std.specs.Prelude.{◌⊎◌, is_some, if◌then◌else◌, slice_get, slice_set, slice_index_or, option_map}
+use Rattle.std.specs.Prelude.{◌⊎◌, is_some, slice_get, slice_set, slice_index_or, option_map}
 use Rattle.std.proofs.lemmas.Bool.{true≢false}
 use Rattle.std.specs.List.{AllByRecursion}
 use Rattle.std.proofs.Math.ListN.{length-set}

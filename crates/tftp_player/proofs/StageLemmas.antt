@@ -18,7 +18,7 @@ use Rattle.tftp_server.specs.Store.{Stored, Drafted}
 use Rattle.tftp_player.specs.Clients.{server_at, left_in, holding_in, no_holding, ClientTurns}
 use Rattle.tftp_player.specs.Effect.{effect_of}
 use Rattle.tftp_player.specs.PlayedClient.{PlayedClient}
-use Rattle.tftp_player.specs.Played.{client_end, draft_or_new, served_as, served_end, ended_as, end_at, PlayerKept, IsServed}
+use Rattle.tftp_player.specs.Played.{client_end, served_as, served_end, ended_as, end_at, PlayerKept, IsServed}
 use Rattle.tftp_player.specs.Serving.{PlayedServer, Transfer, CommitsLast, ServedKept, ServedTurns, rested_served, rested_held}
 use Rattle.tftp_player.specs.Stage.{IsOwned, IsRising}
 use Rattle.tftp_player.specs.World.{OpenedEnd, is_closed, files_of, end_after, at_rest, closed_state, rest_state, while_open}

@@ -16,7 +16,6 @@ use Rattle.tftp_player.specs.World.{WorldState, OpenedEnd, StoredFile, file_at, 
 use Rattle.tftp_player.specs.WorldSteps.{EndStep, FilesAfter, Turns, At_open_end, At_closed_end, At_nobody, HasPort, IsAtPort, TimesOut, told_to_refuse, WorldStep, Lands}
 use Rattle.tftp_player.specs.Openings.{reading_client, writing_client, MayGet, MayPut}
 use Rattle.tftp_player.specs.declared.event.Event.TheVariants.{Get, Put, Timeout, RefuseStore}
-use Rattle.tftp_player.specs.declared.report.Report.{Report}
 use Rattle.tftp_player.proofs.EndMoves.{placed}
 use Rattle.tftp_player.proofs.Resting.{IsAtRest, resting_same, resting_after, resting_opened}
 use Rattle.tftp_player.proofs.ServerTurns.{files_same, timeout_after}
