@@ -20,7 +20,7 @@ abbrev pub AllOwned : List Player → List (ℕ × Transfer) → Type 0
 AllOwned ps held = AllByRecursion (λ (e : ℕ × Transfer). IsOwned ps e.0) held
 
 -- another end is where it was
-pub owned_elsewhere : (ps : List Player) (place : ℕ) (p' : Player) (k : ℕ) → k ≢ 1024 + place → IsOwned ps k → IsOwned (slice_set ps place p') k
+owned_elsewhere : (ps : List Player) (place : ℕ) (p' : Player) (k : ℕ) → k ≢ 1024 + place → IsOwned ps k → IsOwned (slice_set ps place p') k
 owned_elsewhere ps place p' k n o = record {
   place = o.place;
   is = o.is;
@@ -30,7 +30,7 @@ owned_elsewhere ps place p' k n o = record {
 }
 
 -- and that of this place, if it is the server's and open
-pub owned_here : (ps : List Player) (place : ℕ) (p : Player) (s' : Served) (k : ℕ) → slice_get ps place ≡ Some p → s'.ended ≡ None → k ≡ 1024 + place →
+owned_here : (ps : List Player) (place : ℕ) (p : Player) (s' : Served) (k : ℕ) → slice_get ps place ≡ Some p → s'.ended ≡ None → k ≡ 1024 + place →
     IsOwned (slice_set ps place (Server s')) k
 owned_here ps place p s' k there lives is = record {
   place = place;
