@@ -59,3 +59,8 @@ pub mod RefusingLemmas
 pub mod RepeatedLemmas
 pub mod AskingLemmas
 mod PlayedKeeps
+mod StraightActions
+mod StraightSteps
+mod StraightRuns
+mod StraightPort
+mod StraightOpenings

@@ -54,7 +54,7 @@ took_some false before after b bytes (Err faults.Full) is h may memory = absurd 
 took_some false before after b bytes (Err faults.Io) is h may memory = absurd may
 took_some false before after b bytes (Err faults.Memory) is h may memory = absurd (memory refl)
 
-took : (before after : Holding) (bytes : List ℕ) (answer : Result Done StoreFault) (refuses_commit : Holding → StoreFault → Type 0) →
+pub took : (before after : Holding) (bytes : List ℕ) (answer : Result Done StoreFault) (refuses_commit : Holding → StoreFault → Type 0) →
     Appended (λ (h : Holding). Some h) may_refuse_append refuses_commit nothing_else bytes before after answer → answer ≢ Err faults.Memory → Took before after bytes answer
 took before after [] answer refuses_commit h memory =
     All_of_it h.0 (ap (λ (z : Holding). z.bytes) h.1 ∙ sym (append-nil before.bytes)) (λ c. ap (λ (z : Holding). z.committed) h.1 ∙ c)
@@ -65,7 +65,7 @@ pub data Kept_all (before after : Holding) (answer : Result Done StoreFault) : T
   For_good : (answer ≡ Ok tt) → (after.bytes ≡ before.bytes) → (after.committed ≡ true) → Kept_all before after answer
   Not_yet : (fault : StoreFault) → (answer ≡ Err fault) → (after.bytes ≡ before.bytes) → (after.committed ≡ before.committed) → Kept_all before after answer
 
-kept_by : (told : Bool) (before after : Holding) (answer : Result Done StoreFault) →
+pub kept_by : (told : Bool) (before after : Holding) (answer : Result Done StoreFault) →
     UnlessTold told before (Some after) answer (CommitsFreely before (Some after) answer) → Kept_all before after answer
 kept_by true before after answer h =
     let e = same_Some after (record before { refuses = false }) h.leaves in
@@ -101,12 +101,12 @@ none_held Netascii held piece more after h d e = elim d.0 [
 ]
 
 -- a block goes on with what is stored of it and held back then
-goes_on_with : (mode : Mode) (held piece more after : List ℕ) → HeldFits mode held → Decoded mode held piece more after → held ++ piece ≡ wire_text mode more ++ after
+pub goes_on_with : (mode : Mode) (held piece more after : List ℕ) → HeldFits mode held → Decoded mode held piece more after → held ++ piece ≡ wire_text mode more ++ after
 goes_on_with Octet held piece more after h d =
     ap (λ (z : List ℕ). z ++ piece) h ∙ (sym d.0 ∙ (sym (append-nil more) ∙ ap (λ (z : List ℕ). more ++ z) (sym (d.1 ∙ h))))
 goes_on_with Netascii held piece more after h d = d.1
 
-held_fits : (mode : Mode) (held piece more after : List ℕ) → HeldFits mode held → Decoded mode held piece more after → HeldFits mode after
+pub held_fits : (mode : Mode) (held piece more after : List ℕ) → HeldFits mode held → Decoded mode held piece more after → HeldFits mode after
 held_fits Octet held piece more after h d = d.1 ∙ h
 held_fits Netascii held piece more after h d = tt
 

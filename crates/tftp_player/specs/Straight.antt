@@ -1,20 +1,31 @@
 -- A run without loss: a client opens, and each datagram from its request on is delivered once, in the order sent.
-use Rattle.std.specs.Prelude.{ℕ, ◌+◌, ◌*◌, ◌≤◌, ⊤, List, length}
-use Rattle.tftp_player.specs.World.{WorldState}
+use Rattle.std.specs.Prelude.{ℕ, ◌≡◌, ◌≢◌, ◌+◌, ◌*◌, ◌≤◌, Bool, ⊤, List, [], ◌∷◌, length, slice_get, Option, Some, None, Ok}
+use Rattle.tftp_wire.specs.declared.mode.Mode.{Mode}
+use Rattle.tftp_wire.specs.declared.packet.Packet.{Packet}
+use Rattle.tftp_negotiate.specs.Agreed.{size, agreed_options}
+use Rattle.tftp_negotiate.specs.Agreement.{agreement}
+use Rattle.tftp_negotiate.specs.declared.asked.Asked.{Asked}
+use Rattle.tftp_negotiate.specs.declared.known.Kind.{Kind}
+use Rattle.tftp_negotiate.specs.declared.known.Kind.TheVariants.{Read, Write}
+use Rattle.tftp_negotiate.specs.declared.known.Known.{Known}
+use Rattle.tftp_file.specs.Block.{block_count, Fits}
+use Rattle.tftp_file.specs.Netascii.{wire_text}
+use Rattle.tftp_ends.specs.declared.outcome.Outcome.{Outcome}
+use Rattle.tftp_ends.specs.declared.outcome.Outcome.TheVariants.{StoreFault}
+use Rattle.tftp_ends.specs.Action.{Decodes}
+use Rattle.tftp_server.specs.Port.{Service, Sends, Takes}
+use Rattle.tftp_player.specs.Openings.{reading_client, writing_client}
+use Rattle.tftp_player.specs.Requests.{IsRepeated, service}
+use Rattle.tftp_player.specs.World.{WorldState, OpenedEnd, file_at}
+use Rattle.tftp_player.specs.WorldKept.{IsOk}
+use Rattle.tftp_player.specs.WorldSafety.{IsComplete}
 use Rattle.tftp_player.specs.WorldSteps.{WorldStep, Settles}
 use Rattle.tftp_player.specs.declared.event.Event.{Event}
 use Rattle.tftp_player.specs.declared.event.Event.TheVariants.{Get, Put}
 use Rattle.tftp_player.specs.declared.report.Report.{Report}
 
--- the event opens a client
-abbrev pub OpensClient : Event → Type 0
-OpensClient (Get name mode asked) = ⊤
-OpensClient (Put name mode asked bytes) = ⊤
-OpensClient event = ⊥
-
--- nothing is lost, repeated or late: no timeout, and no store that is told to refuse
+-- nothing is lost, repeated or late: the event, by which a client opens, and then deliveries alone
 pub record RunsStraight (old : WorldState) (opening : Event) (new : WorldState) : Type 0 where
-  pub opens : OpensClient opening
   pub report : Report
   -- the world once the client asked
   pub asked : WorldState
@@ -25,17 +36,79 @@ pub record RunsStraight (old : WorldState) (opening : Event) (new : WorldState) 
   -- none is left
   pub all : length new.sent ≤ length old.sent + length reports
 
--- how the server answers a request that it accepts
-pub data Opened : Type 0 where
-  -- a read, by DATA 1
-  Plain_read : Opened
-  -- a read, by an OACK
-  Read_with_options : Opened
-  -- a write, by ACK 0 or an OACK
-  Any_write : Opened
+-- no end closed because of its store
+abbrev pub TookAll : Option (ℕ × Outcome) → Type 0
+TookAll None = ⊤
+TookAll (Some closed) = closed.1 ≢ StoreFault
 
--- how many datagrams such a run adds for a text of so many blocks (RFC 1350, section 2; RFC 2347, "Negotiation Protocol")
-abbrev pub straight_count : Opened → ℕ → ℕ
-straight_count Plain_read blocks = 1 + 2 * blocks
-straight_count Read_with_options blocks = 3 + 2 * blocks
-straight_count Any_write blocks = 2 + 2 * blocks
+-- no store refused an append or a commit
+abbrev pub AllTaken : List Report → Type 0
+AllTaken [] = ⊤
+AllTaken (report ∷ reports) = TookAll report.closed × AllTaken reports
+
+-- the server's port comes to this at the request of the client x
+pub record IsAccepted (w : WorldState) (x : OpenedEnd) (accepts : Service) : Type 0 where
+  pub decoded : Option Packet
+  pub says : Decodes x.state.last_sent decoded
+  pub repeated : Bool
+  pub repeats : IsRepeated repeated x.address decoded w.ends
+  pub is : service w repeated x.state.last_sent decoded ≡ accepts
+
+-- the client takes the answer: without an option, or by an OACK that fits what it asked (RFC 2347, "Negotiation Protocol")
+abbrev pub TakesAnswer : Asked → Kind → Mode → ℕ → List Known → Type 0
+TakesAnswer asked kind mode limit [] = ⊤
+TakesAnswer asked kind mode limit (known ∷ agreed) =
+    (taken : List Known) × (agreement asked kind mode (agreed_options (known ∷ agreed)) limit ≡ Ok taken)
+
+-- how many datagrams such a run adds for a text of so many blocks, where a read was answered with these options: by DATA 1,
+-- or by an OACK (RFC 1350, section 2; RFC 2347, "Negotiation Protocol")
+abbrev pub read_count : List Known → ℕ → ℕ
+read_count [] blocks = 1 + 2 * blocks
+read_count (known ∷ agreed) blocks = 3 + 2 * blocks
+
+-- and where a write was answered, by ACK 0 or an OACK
+abbrev pub write_count : ℕ → ℕ
+write_count blocks = 2 + 2 * blocks
+
+-- both ends are complete, and so many datagrams were added
+pub record IsThrough (old new : WorldState) (count : ℕ) : Type 0 where
+  pub client : OpenedEnd
+  pub server : OpenedEnd
+  pub client_at : slice_get new.ends (length old.ends) ≡ Some client
+  pub server_at : slice_get new.ends (length old.ends + 1) ≡ Some server
+  pub client_done : IsComplete client
+  pub server_done : IsComplete server
+  pub counted : length new.sent ≡ length old.sent + count
+
+-- a straight run of an accepted read
+pub record ReadsStraight (old new : WorldState) (name : List ℕ) (mode : Mode) (asked : Asked) (file : List ℕ) (agreed : List Known) : Type 0 where
+  pub run : RunsStraight old (Get name mode asked) new
+  pub path : List ℕ
+  pub length : ℕ
+  pub there : file_at old.files path ≡ Some file
+  pub accepted : IsAccepted run.asked (reading_client old name mode asked) (Sends path mode length agreed)
+  pub answered : TakesAnswer asked Read mode old.limits.max_file agreed
+  pub taken : AllTaken run.reports
+
+-- a straight run of an accepted write
+pub record WritesStraight (old new : WorldState) (name : List ℕ) (mode : Mode) (asked : Asked) (file : List ℕ) (agreed : List Known) : Type 0 where
+  pub run : RunsStraight old (Put name mode asked file) new
+  pub path : List ℕ
+  pub accepted : IsAccepted run.asked (writing_client old name mode asked file) (Takes path mode agreed)
+  pub answered : TakesAnswer asked Write mode old.limits.max_file agreed
+  pub fits : Fits (wire_text mode file) (size agreed)
+  pub taken : AllTaken run.reports
+
+-- a read completes at both ends, after just so many datagrams
+abbrev pub ReadsComplete : Type 0
+ReadsComplete =
+    (strangers : Bool) (old new : WorldState) (name : List ℕ) (mode : Mode) (asked : Asked) (file : List ℕ) (agreed : List Known) →
+    IsOk strangers old → ReadsStraight old new name mode asked file agreed →
+    IsThrough old new (read_count agreed (block_count (wire_text mode file) (size agreed)))
+
+-- so does a write
+abbrev pub WritesComplete : Type 0
+WritesComplete =
+    (strangers : Bool) (old new : WorldState) (name : List ℕ) (mode : Mode) (asked : Asked) (file : List ℕ) (agreed : List Known) →
+    IsOk strangers old → WritesStraight old new name mode asked file agreed →
+    IsThrough old new (write_count (block_count (wire_text mode file) (size agreed)))

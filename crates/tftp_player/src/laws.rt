@@ -13,6 +13,7 @@ ghost use Rattle.tftp_player.specs.OneAtMost.{EventsAddOneAtMost};
 ghost use Rattle.tftp_player.specs.Recorded.{AreRecorded};
 ghost use Rattle.tftp_player.specs.Rules.{Rule, IsLegal, run, start};
 ghost use Rattle.tftp_player.specs.Shows.{EndView, IsShown};
+ghost use Rattle.tftp_player.specs.Straight.{ReadsComplete, WritesComplete};
 ghost use Rattle.tftp_player.specs.Strangers.{StraysChangeNoRecord, ClientsHaveServers};
 ghost use Rattle.tftp_player.specs.ViewSafety.{IsSafeViews, PeersAtHome};
 ghost use Rattle.tftp_player.specs.WorldRuns.{WorldsAreSafe, PeersStayHome, StepsKeep, KeptIsSafe};
@@ -93,4 +94,13 @@ pub fn an_event_sends_one_datagram_at_most()
 pub fn a_stray_changes_no_record()
     ensures records { StraysChangeNoRecord }
     ensures clients { ClientsHaveServers }
+{}
+
+/// A run without loss, of a request that is accepted by both ends and whose stores refuse nothing, ends
+/// with both ends complete after exactly `1 + 2N` datagrams for a read that is answered by DATA 1,
+/// `3 + 2N` for one that is answered by an OACK, and `2 + 2N` for a write, where the text has `N` blocks
+/// of the agreed size (RFC 1350, section 2; RFC 2347, "Negotiation Protocol").
+pub fn a_straight_run_completes()
+    ensures reads { ReadsComplete }
+    ensures writes { WritesComplete }
 {}

@@ -1,0 +1,173 @@
+-- What an end does at the datagram that it waits for.
+use Rattle.std.proofs.Common.{◌≡◌, ℕ, ◌+◌, ◌*◌, ◌-◌, ◌/◌, ◌<◌, ◌≤◌, Bool, true, false, List, [], ◌∷◌, ◌++◌, length, drop, Option, Some, None, refl, sym, ap, ◌∙◌, subst, arith, inl, append_assoc}
+use Rattle.std.specs.Prelude.{◌&&◌, ◌==◌, not, if◌then◌else◌, nat_eq, nat_lt}
+use Rattle.std.specs.Cmp.Lexicographic.{pointwise}
+use Rattle.std.proofs.Math.Nat.{div-lt_iff_lt-mul}
+use Rattle.std.proofs.lemmas.Bool.{ltb-true, eqb-true, lt-ltb, le-ltb, eq-eqb, ne_eqb}
+use Rattle.std.proofs.lemmas.List.{append-nil, length-drop, nil_from_length}
+use Rattle.tftp_wire.specs.declared.mode.Mode.{Mode}
+use Rattle.tftp_wire.specs.declared.mode.Mode.TheVariants.{Octet, Netascii}
+use Rattle.tftp_wire.specs.declared.packet.Packet.{Packet}
+use Rattle.tftp_wire.specs.Reading.{has_error_opcode}
+use Rattle.tftp_file.specs.Block.{block, block_count, Fits}
+use Rattle.tftp_file.specs.Netascii.{netascii_text, wire_text}
+use Rattle.tftp_file.proofs.BlockLemmas.{last_short, others_full}
+use Rattle.tftp_file.proofs.DecodingLemmas.{Reading, Begins, Wrong, read, first_wrong_before, begins_or_wrong}
+use Rattle.tftp_ends.specs.declared.action.Action.TheVariants.{Respond, Send, Store}
+use Rattle.tftp_ends.specs.declared.action.Response.TheVariants.{Ignore, Stranger, ResendReply, Complete, Refuse}
+use Rattle.tftp_ends.specs.declared.error_reply.ErrorReply.TheVariants.{FileTooLarge, NotNetascii}
+use Rattle.tftp_ends.specs.declared.outcome.Outcome.TheVariants as outcomes
+use Rattle.tftp_ends.specs.declared.phase.Phase.{Phase}
+use Rattle.tftp_ends.specs.declared.phase.Terms.{Terms}
+use Rattle.tftp_ends.specs.End.{EndState, terms_of}
+use Rattle.tftp_ends.specs.Action.{same_endpoint, is_stranger, garbled_response, packet_action, datagram_action}
+use Rattle.tftp_ends.specs.Receiver.{next_action, data_action}
+use Rattle.tftp_ends.specs.Sender.{illegal_action, acked_action}
+use Rattle.tftp_ends.specs.Text.{is_readable, begins_netascii, ends_in_cr}
+use Rattle.tftp_ends.proofs.TextLemmas.{decoded_begins, decoded_ends}
+use Rattle.tftp_player.specs.Machine.{Endpoint}
+use Rattle.tftp_player.proofs.Blocks.{length-block}
+use Rattle.tftp_player.proofs.HostBytes.{wire_beginning, wire_text-append}
+
+-- ---- from whom it is
+same_list : (xs : List ℕ) → pointwise nat_eq xs xs ≡ true
+same_list [] = refl
+same_list (x ∷ xs) = ap (λ (b : Bool). b && pointwise nat_eq xs xs) (eq-eqb x x refl) ∙ same_list xs
+
+same_self : (a : Endpoint) → same_endpoint a a ≡ true
+same_self a = ap (λ (b : Bool). b && (a.port == a.port)) (same_list a.ip) ∙ eq-eqb a.port a.port refl
+
+none_garbled : (b : Bool) → (b && false) ≡ false
+none_garbled true = refl
+none_garbled false = refl
+
+-- a packet from where it may come is handled as what it is
+near : (e : EndState) (from : Endpoint) (bytes : List ℕ) (packet : Packet) → is_stranger (terms_of e.phase) e.last_sent_to from ≡ false →
+    datagram_action e from bytes (Some packet) ≡ packet_action e from (Some packet) e.phase
+near e from bytes packet known =
+    ap (λ (b : Bool). if b then (if has_error_opcode bytes then Respond Ignore else Respond Stranger)
+    else if has_error_opcode bytes && false then Respond (garbled_response e.phase)
+    else packet_action e from (Some packet) e.phase) known
+    ∙ ap (λ (b : Bool). if b then Respond (garbled_response e.phase) else packet_action e from (Some packet) e.phase) (none_garbled (has_error_opcode bytes))
+
+peer_near : (terms : Terms) (to from : Endpoint) → terms.peer ≡ from → is_stranger (Some terms) to from ≡ false
+peer_near terms to from peer = ap (λ (b : Bool). not b) (ap (λ (p : Endpoint). same_endpoint p from) peer ∙ same_self from)
+
+-- an end that has a peer, in this phase
+pub from_peer : (e : EndState) (phase : Phase) (terms : Terms) (from : Endpoint) (bytes : List ℕ) (packet : Packet) → e.phase ≡ phase → terms_of phase ≡ Some terms → terms.peer ≡ from →
+    datagram_action e from bytes (Some packet) ≡ packet_action e from (Some packet) phase
+from_peer e phase terms from bytes packet is agreed peer =
+    near e from bytes packet (ap (λ (p : Phase). is_stranger (terms_of p) e.last_sent_to from) is ∙ (ap (λ (o : Option Terms). is_stranger o e.last_sent_to from) agreed ∙ peer_near terms e.last_sent_to from peer))
+    ∙ ap (packet_action e from (Some packet)) is
+
+-- a client that waits, with a packet from the server's address
+pub from_server : (e : EndState) (phase : Phase) (from : Endpoint) (bytes : List ℕ) (packet : Packet) → e.phase ≡ phase → terms_of phase ≡ None → e.last_sent_to.ip ≡ from.ip →
+    datagram_action e from bytes (Some packet) ≡ packet_action e from (Some packet) phase
+from_server e phase from bytes packet is none server =
+    near e from bytes packet
+    (ap (λ (p : Phase). is_stranger (terms_of p) e.last_sent_to from) is
+    ∙ (ap (λ (o : Option Terms). is_stranger o e.last_sent_to from) none
+    ∙ ap (λ (b : Bool). not b) (ap (λ (ip : List ℕ). pointwise nat_eq ip from.ip) server ∙ same_list from.ip)))
+    ∙ ap (packet_action e from (Some packet)) is
+
+-- ---- a sender with the ACK of its newest block
+pub acked_more : (length n : ℕ) (terms : Terms) → n < length / terms.size + 1 → acked_action length terms n n ≡ Send terms (n + 1)
+acked_more length n terms more =
+    ap (λ (b : Bool). if b then (if nat_lt n (length / terms.size + 1) then Send terms (n + 1) else Respond Complete) else if nat_lt n n then Respond Ignore else illegal_action terms) (eq-eqb n n refl)
+    ∙ ap (λ (b : Bool). if b then Send terms (n + 1) else Respond Complete) (lt-ltb n (length / terms.size + 1) more)
+
+pub acked_last : (length n : ℕ) (terms : Terms) → length / terms.size + 1 ≤ n → acked_action length terms n n ≡ Respond Complete
+acked_last length n terms last =
+    ap (λ (b : Bool). if b then (if nat_lt n (length / terms.size + 1) then Send terms (n + 1) else Respond Complete) else if nat_lt n n then Respond Ignore else illegal_action terms) (eq-eqb n n refl)
+    ∙ ap (λ (b : Bool). if b then Send terms (n + 1) else Respond Complete) (le-ltb n (length / terms.size + 1) last)
+
+-- ---- a receiver with its next block
+-- a beginning of a text in netascii can be read
+begins_text : (text rest more : List ℕ) → text ++ rest ≡ netascii_text more → begins_netascii text ≡ true
+begins_text text rest more e = by (read text) where
+  by : Reading text → begins_netascii text ≡ true
+  by (Begins h) = decoded_begins [] text h.0 h.1 h.2
+  by (Wrong fault h) =
+      absurd (begins_or_wrong (text ++ rest) fault (more, [], (inl refl, e ∙ sym (append-nil (netascii_text more)))) (h.0, first_wrong_before text rest h.0 fault h.1))
+
+-- a whole text does not end in a CR
+ends_text : (text more : List ℕ) → text ≡ netascii_text more → ends_in_cr text ≡ false
+ends_text text more e = decoded_ends [] text more [] (inl refl, e ∙ sym (append-nil (netascii_text more)))
+
+drop_front : (xs ys zs : List ℕ) → xs ++ ys ≡ xs ++ zs → ys ≡ zs
+drop_front [] ys zs e = e
+drop_front (x ∷ xs) ys zs e = drop_front xs ys zs (let f : x ∷ (xs ++ ys) ≡ x ∷ (xs ++ zs) = e in cc)
+
+readable_by : (last : Bool) (begins ends : Bool) → begins ≡ true → (last ≡ true → ends ≡ false) → (begins && not (last && ends)) ≡ true
+readable_by true begins ends b e = ap (λ (c : Bool). c && not (true && ends)) b ∙ ap (λ (c : Bool). not c) (e refl)
+readable_by false begins ends b e = ap (λ (c : Bool). c && not (false && ends)) b
+
+-- the next piece of the text of a file can be read
+pub piece_readable : (mode : Mode) (file stored held piece rest : List ℕ) (last : Bool) → ((wire_text mode stored ++ held) ++ piece) ++ rest ≡ wire_text mode file → (last ≡ true → rest ≡ []) →
+    is_readable mode held piece last ≡ true
+piece_readable Octet file stored held piece rest last e none = refl
+piece_readable Netascii file stored held piece rest last e none =
+    let t = held ++ piece in
+    let joined : netascii_text stored ++ (t ++ rest) ≡ netascii_text file =
+    sym (append_assoc (netascii_text stored) t rest) ∙ (ap (λ (z : List ℕ). z ++ rest) (sym (append_assoc (netascii_text stored) held piece)) ∙ e) in
+    let more = wire_beginning Netascii stored file (t ++ rest, joined) in
+    let behind : t ++ rest ≡ netascii_text more.0 =
+    drop_front (netascii_text stored) (t ++ rest) (netascii_text more.0) (joined ∙ (ap netascii_text (sym more.1) ∙ wire_text-append Netascii stored more.0)) in
+    readable_by last (begins_netascii t) (ends_in_cr t) (begins_text t rest more.0 behind)
+    (λ l. ends_text t more.0 (sym (append-nil t) ∙ (ap (λ (z : List ℕ). t ++ z) (sym (none l)) ∙ behind)))
+
+not_both : (a b : Bool) → (a ≡ true → b ≡ true → ⊥) → (a && b) ≡ false
+not_both true true h = absurd (h refl refl)
+not_both true false h = refl
+not_both false b h = refl
+
+-- which it stores
+pub next_stores : (mode : Mode) (held : List ℕ) (terms : Terms) (number : ℕ) (piece : List ℕ) → length piece ≤ terms.size → (number ≡ 65535 → length piece ≡ terms.size → ⊥) →
+    is_readable mode held piece (nat_lt (length piece) terms.size) ≡ true → next_action mode held terms number piece ≡ Store terms number
+next_stores mode held terms number piece fits short readable =
+    let refuse = Respond (Refuse (Some terms) NotNetascii outcomes.NotNetascii) in
+    let store = if is_readable mode held piece (nat_lt (length piece) terms.size) then Store terms number else refuse in
+    let long = Respond (Refuse (Some terms) FileTooLarge outcomes.TooLarge) in
+    ap (λ (b : Bool). if b then illegal_action terms else if number == 65535 && (length piece == terms.size) then long else store) (le-ltb terms.size (length piece) fits)
+    ∙ (ap (λ (b : Bool). if b then long else store)
+    (not_both (number == 65535) (length piece == terms.size) (λ a b. short (eqb-true number 65535 a) (eqb-true (length piece) terms.size b)))
+    ∙ ap (λ (b : Bool). if b then Store terms number else refuse) readable)
+
+pub data_next : (mode : Mode) (held : List ℕ) (terms : Terms) (n : ℕ) (piece : List ℕ) → data_action mode held terms n (n + 1) piece ≡ next_action mode held terms (n + 1) piece
+data_next mode held terms n piece =
+    let next = next_action mode held terms (n + 1) piece in
+    let resend = Respond ResendReply in
+    let last = if n + 1 == n + 1 then next else illegal_action terms in
+    ap (λ (b : Bool). if b then resend else if nat_lt (n + 1) n then Respond Ignore else last) (ne_eqb (n + 1) n (λ e. omega arith))
+    ∙ (ap (λ (b : Bool). if b then Respond Ignore else last) (le-ltb (n + 1) n (omega arith))
+    ∙ ap (λ (b : Bool). if b then next else illegal_action terms) (eq-eqb (n + 1) (n + 1) refl))
+
+-- ---- how long a block is
+module _ (text : List ℕ) (size : ℕ) (positive : 0 < size) (fits : Fits text size) where
+  pub numbered : block_count text size ≤ 65535
+  numbered = let d : length text / size < 65535 = (div-lt_iff_lt-mul {k = size} {x = length text} {y = 65535} positive).1 fits in omega (arith, d)
+
+  pub block_full : (n : ℕ) → n + 1 < block_count text size → length (block text size (n + 1)) ≡ size
+  block_full n l = others_full text size positive (n + 1) (omega arith) l
+
+  pub block_last : (n : ℕ) → n + 1 ≡ block_count text size → length (block text size (n + 1)) < size
+  block_last n e = subst (λ (k : ℕ). length (block text size k) < size) (sym e) (last_short text size positive)
+
+  pub block_within : (n : ℕ) → n + 1 ≤ block_count text size → length (block text size (n + 1)) ≤ size
+  block_within n l = let e = length-block text n size in omega (arith, e)
+
+  -- a full block is never the last that could be numbered
+  pub never_long : (n : ℕ) → n + 1 ≤ block_count text size → n + 1 ≡ 65535 → length (block text size (n + 1)) ≡ size → ⊥
+  never_long n l e full =
+      let most = numbered in
+      let last : n + 1 ≡ block_count text size = omega arith in
+      let short = block_last n last in
+      omega (arith, short, full)
+
+  -- behind a short block nothing is left
+  pub last_rest : (n : ℕ) → nat_lt (length (block text size (n + 1))) size ≡ true → drop ((n + 1) * size) text ≡ []
+  last_rest n e =
+      let short = ltb-true (length (block text size (n + 1))) size e in
+      let l = length-block text n size in
+      let past : length text ≤ (n + 1) * size = omega (arith, short, l) in
+      nil_from_length (drop ((n + 1) * size) text) (length-drop ((n + 1) * size) text ∙ (let z : length text - (n + 1) * size ≡ 0 = omega (arith, past) in z))

@@ -1,0 +1,332 @@
+-- A run without loss completes: what the request, the server's answer and the client's first datagram come to.
+use Rattle.std.proofs.Common.{◌≡◌, ◌≢◌, ℕ, ◌+◌, ◌*◌, ◌/◌, ◌^◌, ◌<◌, ◌≤◌, Bool, true, false, List, [], ◌∷◌, ◌++◌, length, take, drop, Some, None, refl, sym, ap, ◌∙◌, subst, arith}
+use Rattle.std.specs.Prelude.{if◌then◌else◌, slice_get}
+use Rattle.std.proofs.lemmas.Bool.{lt-ltb, le-leb}
+use Rattle.std.proofs.lemmas.Option.{same_Some}
+use Rattle.tftp_wire.specs.declared.mode.Mode.{Mode}
+use Rattle.tftp_wire.specs.declared.mode.Mode.TheVariants.{Octet, Netascii}
+use Rattle.tftp_wire.specs.declared.packet.Packet.{Packet}
+use Rattle.tftp_wire.specs.declared.packet.Packet.TheVariants.{Data, Ack, Oack}
+use Rattle.tftp_wire.specs.Spelling.{Spells}
+use Rattle.tftp_negotiate.specs.Agreed.{size, agreed_options}
+use Rattle.tftp_negotiate.specs.declared.asked.Asked.{Asked}
+use Rattle.tftp_negotiate.specs.declared.known.Kind.TheVariants as kinds
+use Rattle.tftp_negotiate.specs.declared.known.Known.{Known}
+use Rattle.tftp_file.specs.Block.{block, block_count}
+use Rattle.tftp_file.specs.Netascii.{wire_text}
+use Rattle.tftp_ends.specs.declared.action.Action.TheVariants.{Respond, Send}
+use Rattle.tftp_ends.specs.declared.action.Response.TheVariants.{Accept, Refuse}
+use Rattle.tftp_ends.specs.declared.error_reply.ErrorReply.TheVariants.{FileTooLarge}
+use Rattle.tftp_ends.specs.declared.outcome.Outcome.TheVariants as outcomes
+use Rattle.tftp_ends.specs.declared.phase.Phase.TheVariants.{Waiting, Sending, Receiving}
+use Rattle.tftp_ends.specs.declared.phase.Terms.{Terms}
+use Rattle.tftp_ends.specs.End.{is_sender}
+use Rattle.tftp_ends.specs.Action.{datagram_action}
+use Rattle.tftp_ends.specs.Opening.{oack_bytes}
+use Rattle.tftp_ends.specs.Receiver.{receiver_action}
+use Rattle.tftp_ends.specs.Step.{ack_bytes, data_bytes}
+use Rattle.tftp_ends.specs.Waiting.{default_terms, agreed_terms, no_answer, accept_action, begin_action, begin_with_action}
+use Rattle.tftp_server.specs.Port.{Service, Sends, Takes}
+use Rattle.tftp_player.specs.Machine.{Endpoint, request_port}
+use Rattle.tftp_player.specs.Openings.{reading_client, writing_client, sending_end, receiving_end}
+use Rattle.tftp_player.specs.Straight.{IsAccepted, IsThrough, ReadsStraight, WritesStraight, ReadsComplete, WritesComplete, read_count, write_count}
+use Rattle.tftp_player.specs.World.{WorldState, OpenedEnd, StoredFile, file_at, is_closed, datagram, at_rest, resting}
+use Rattle.tftp_player.specs.WorldKept.{HeldFits, IsOk}
+use Rattle.tftp_player.specs.WorldRuns.{MayHappen}
+use Rattle.tftp_player.specs.WorldSteps.{Serves, Opens}
+use Rattle.tftp_player.specs.declared.event.Event.TheVariants.{Get, Put}
+use Rattle.tftp_player.specs.declared.report.Report.{Report}
+use Rattle.tftp_player.proofs.OackLemmas.{valid_oack}
+use Rattle.tftp_player.proofs.Places.{slice_get-push_old, slice_get-push_new}
+use Rattle.tftp_player.proofs.SaidLemmas.{spells_own, own_oack, taken_oack}
+use Rattle.tftp_player.proofs.StraightActions.{from_server, data_next, block_within}
+use Rattle.tftp_player.proofs.StraightPort.{HasAsked, has_asked, port_comes, has_opened, accepted_answers}
+use Rattle.tftp_player.proofs.StraightRuns.{IsLeft, goes_on, IsReady, ready_next, IsOver, stays_at, set_at, SendsAt, AwaitsAt, fit_of, next_is_stored, awaits_now, ack_ready, ack_sender, ack_receiver, from_data}
+use Rattle.tftp_player.proofs.StraightSteps.{ports_of, delivered, hears_send, hears_oack}
+use Rattle.tftp_player.proofs.WaitingMoves.{agreed_size}
+use Rattle.tftp_player.proofs.WorldKeeps.{answered_values}
+
+-- ---- both ends are open
+pub record HasBegun (strangers : Bool) (old new : WorldState) (c x : OpenedEnd) : Type 0 where
+  pub w : WorldState
+  pub ready : IsReady strangers w (length old.sent + 1) (datagram x.address x.state.last_sent_to x.state.last_sent)
+  pub client_at : slice_get w.ends (length old.ends) ≡ Some c
+  pub server_at : slice_get w.ends (length old.ends + 1) ≡ Some x
+  pub left : IsLeft w (length old.sent + 1) new
+
+begins : (strangers : Bool) (old new w : WorldState) (c x : OpenedEnd) (accepts : Service) → HasAsked strangers old w c → c.state.last_sent_to ≡ request_port → IsLeft w (length old.sent) new → IsAccepted w c accepts →
+    is_closed x ≡ false → at_rest x ≡ x → ((report : Report) (mid : WorldState) → Serves accepts w c.address c.state.last_sent report mid → Opens w x report mid) → HasBegun strangers old new c x
+begins strangers old new w c x accepts has to left accepted still own opens =
+    let i = length old.sent in
+    let k = length old.ends in
+    let d0 = datagram c.address c.state.last_sent_to c.state.last_sent in
+    let d1 = datagram x.address x.state.last_sent_to x.state.last_sent in
+    let g = goes_on w new i has.count left in
+    let p = port_comes w g.mid i c g.report accepts (ports_of strangers w has.ok) accepted (has.newest ∙ ap (λ (a : Endpoint). Some (datagram c.address a c.state.last_sent)) to) g.step in
+    let o = has_opened w g.mid p.0 x g.report has.rests still own p.1 (opens g.report p.0 p.2) in
+    let first : IsReady strangers w i d0 = record { ok = has.ok; rests = has.rests; newest = has.newest; count = has.count } in
+    record {
+      w = g.mid;
+      ready = ready_next strangers w g.mid i d0 d1 g.report first g.step o.rests o.sent;
+      client_at = ap (λ (xs : List OpenedEnd). slice_get xs k) o.ends ∙ slice_get-push_old w.ends k x c has.there;
+      server_at = ap (λ (xs : List OpenedEnd). slice_get xs (k + 1)) o.ends ∙ (ap (slice_get (w.ends ++ x ∷ [])) (sym has.ends) ∙ slice_get-push_new w.ends x);
+      left = g.left;
+    }
+
+-- ---- a receiver that has nothing
+nothing_yet : (mode : Mode) (size : ℕ) (text : List ℕ) → wire_text mode [] ++ [] ≡ take (0 * size) text
+nothing_yet Octet size text = ap (λ (n : ℕ). take n text) (let z : 0 ≡ 0 * size = omega arith in z)
+nothing_yet Netascii size text = ap (λ (n : ℕ). take n text) (let z : 0 ≡ 0 * size = omega arith in z)
+
+nothing_held : (mode : Mode) → HeldFits mode []
+nothing_held Octet = refl
+nothing_held Netascii = tt
+
+new_text : (mode now : Mode) (stored held : List ℕ) (size : ℕ) (text : List ℕ) → now ≡ mode → stored ≡ [] → held ≡ [] → wire_text now stored ++ held ≡ take (0 * size) text
+new_text mode now stored held size text is none empty =
+    ap (λ (n : Mode). wire_text n stored ++ held) is
+    ∙ (ap (λ (bytes : List ℕ). wire_text mode bytes ++ held) none ∙ (ap (λ (bytes : List ℕ). wire_text mode [] ++ bytes) empty ∙ nothing_yet mode size text))
+
+new_held : (mode now : Mode) (held : List ℕ) → now ≡ mode → held ≡ [] → HeldFits now held
+new_held mode now held is empty = subst (λ (n : Mode). HeldFits n held) (sym is) (subst (λ (bytes : List ℕ). HeldFits mode bytes) (sym empty) (nothing_held mode))
+
+before_next : (k : ℕ) → k ≢ k + 1
+before_next k e = omega (arith, e)
+
+behind_last : (k : ℕ) → k + 1 ≢ k
+behind_last k e = omega (arith, e)
+
+-- ---- the end
+reader_through : (old new : WorldState) (n count : ℕ) → IsOver new (length old.ends + 1) (length old.ends) n → n ≡ length old.sent + count → IsThrough old new count
+reader_through old new n count o e = record { client = o.y; server = o.x; client_at = o.y_at; server_at = o.x_at; client_done = o.y_done; server_done = o.x_done; counted = o.counted ∙ e }
+
+writer_through : (old new : WorldState) (n count : ℕ) → IsOver new (length old.ends) (length old.ends + 1) n → n ≡ length old.sent + count → IsThrough old new count
+writer_through old new n count o e = record { client = o.x; server = o.y; client_at = o.x_at; server_at = o.y_at; client_done = o.x_done; server_done = o.y_done; counted = o.counted ∙ e }
+
+get_may : (strangers : Bool) (name : List ℕ) (mode : Mode) (asked : Asked) → MayHappen strangers (Get name mode asked)
+get_may true name mode asked = tt
+get_may false name mode asked = tt
+
+put_may : (strangers : Bool) (name : List ℕ) (mode : Mode) (asked : Asked) (file : List ℕ) → MayHappen strangers (Put name mode asked file)
+put_may true name mode asked file = tt
+put_may false name mode asked file = tt
+
+-- ---- a read
+module _ (strangers : Bool) (old new : WorldState) (name : List ℕ) (mode : Mode) (asked : Asked) (file : List ℕ) where
+  abbrev reader : OpenedEnd
+  reader = reading_client old name mode asked
+
+  abbrev text : List ℕ
+  text = wire_text mode file
+
+  reader_asks : (agreed : List Known) → IsOk strangers old → (h : ReadsStraight old new name mode asked file agreed) → HasAsked strangers old h.run.asked reader
+  reader_asks agreed ok h =
+      let s = h.run.asks in
+      has_asked strangers old h.run.asked reader (Get name mode asked) h.run.report (get_may strangers name mode asked) ok s (s.2 ∙ ap resting s.1.2.is) refl
+
+  -- the server's end
+  abbrev server_of : (agreed : List Known) → ReadsStraight old new name mode asked file agreed → OpenedEnd
+  server_of agreed h = sending_end h.run.asked reader.address reader.state.last_sent mode h.path file agreed
+
+  server_open : (agreed : List Known) (h : ReadsStraight old new name mode asked file agreed) → (is_closed (server_of agreed h) ≡ false) × (at_rest (server_of agreed h) ≡ server_of agreed h)
+  server_open [] h = (refl, refl)
+  server_open (known ∷ agreed) h = (refl, refl)
+
+  read_begins : (agreed : List Known) → IsOk strangers old → (h : ReadsStraight old new name mode asked file agreed) → HasBegun strangers old new reader (server_of agreed h)
+  read_begins agreed ok h =
+      let has = reader_asks agreed ok h in
+      let own = server_open agreed h in
+      let left : IsLeft h.run.asked (length old.sent) new = record { reports = h.run.reports; settles = h.run.settles; all = h.run.all; taken = h.taken } in
+      begins strangers old new h.run.asked reader (server_of agreed h) (Sends h.path mode h.length agreed) has refl left h.accepted own.0 own.1
+      (λ report mid s.
+      let same : s.0 ≡ file = same_Some s.0 file (sym s.1 ∙ (ap (λ (files : List StoredFile). file_at files h.path) has.files ∙ h.there)) in
+      subst (λ (f : List ℕ). Opens h.run.asked (sending_end h.run.asked reader.address reader.state.last_sent mode h.path f agreed) report mid) same s.2)
+
+  read_plainly : IsOk strangers old → ReadsStraight old new name mode asked file [] → IsThrough old new (read_count [] (block_count text 512))
+  read_plainly ok h =
+      let b = read_begins [] ok h in
+      let x = server_of [] h in
+      let k = length old.ends in
+      let sa = x.address in
+      let ra = reader.address in
+      let st = default_terms ra in
+      let rt = default_terms sa in
+      let m = length text / 512 in
+      let sender : SendsAt strangers (k + 1) k (before_next k) sa ra st rt mode file refl refl refl b.w (0 + 1) =
+      record { x = x; there = b.server_at; address = refl; phase = refl; file_is = refl; mode_is = refl } in
+      let fit = fit_of strangers (k + 1) k (before_next k) sa ra st rt mode file refl refl refl b.w (0 + 1) b.ready.ok sender in
+      let first : 0 + 1 ≤ block_count text 512 = omega arith in
+      let piece = block text 512 (0 + 1) in
+      let within : length piece ≤ 512 = block_within text 512 fit.positive fit.fits 0 first in
+      let receiver : AwaitsAt strangers (k + 1) k (before_next k) sa ra st rt mode file refl refl refl b.w 0 = record {
+        x = reader;
+        there = b.client_at;
+        address = refl;
+        still = refl;
+        receiver = refl;
+        mode_is = refl;
+        received = nothing_yet mode 512 text;
+        holds = nothing_held mode;
+        stores = from_server reader.state (Waiting asked old.limits.max_file) sa (data_bytes 1 piece) (Data 1 piece) refl refl refl
+            ∙ (ap (λ (c : Bool). if c then receiver_action true mode [] rt 0 (Some (Data 1 piece)) else no_answer) (le-leb (length piece) 512 within)
+            ∙ (data_next mode [] rt 0 piece
+            ∙ next_is_stored strangers (k + 1) k (before_next k) sa ra st rt mode file refl refl refl reader 0 fit first refl (nothing_yet mode 512 text)));
+      } in
+      let rest : 0 + 1 + m ≡ block_count text 512 = omega arith in
+      let over = from_data strangers (k + 1) k (before_next k) sa ra st rt mode file refl refl refl m (length old.sent + 1) 0 b.w new rest b.ready sender receiver b.left in
+      reader_through old new (length old.sent + 1 + 2 + 2 * m) (read_count [] (block_count text 512)) over (omega arith)
+
+  -- from the server's OACK on, which the client accepts
+  read_on : (x : OpenedEnd) (st rt : Terms) (packet : Packet) → HasBegun strangers old new reader x → x.state.last_sent_to ≡ reader.address → x.state.phase ≡ Sending st 0 → x.file ≡ file → x.state.mode ≡ mode →
+      Spells packet x.state.last_sent → datagram_action reader.state x.address x.state.last_sent (Some packet) ≡ Respond (Accept rt) → st.peer ≡ reader.address → rt.peer ≡ x.address → rt.size ≡ st.size →
+      IsThrough old new (3 + 2 * block_count text st.size)
+  read_on x st rt packet b to phase file_is mode_is spelled accepts sp rp same =
+      let i = length old.sent in
+      let k = length old.ends in
+      let sa = x.address in
+      let ra = reader.address in
+      let g = goes_on b.w new (i + 1) b.ready.count b.left in
+      let heard = delivered b.w g.mid (i + 1) k reader sa x.state.last_sent g.report (ports_of strangers b.w b.ready.ok) b.ready.rests
+      (b.ready.newest ∙ ap (λ (a : Endpoint). Some (datagram sa a x.state.last_sent)) to) b.client_at refl g.step in
+      let y = hears_oack b.w g.mid k reader sa x.state.last_sent g.report heard packet rt spelled accepts in
+      let d1 = datagram sa x.state.last_sent_to x.state.last_sent in
+      let d2 = datagram ra sa (ack_bytes 0) in
+      let ready = ready_next strangers b.w g.mid (i + 1) d1 d2 g.report b.ready g.step heard.rests y.4.sent in
+      let sender : SendsAt strangers (k + 1) k (before_next k) sa ra st rt mode file sp rp same g.mid 0 =
+      record { x = x; there = stays_at b.w g.mid k (k + 1) x y.0 y.4.ends (behind_last k) b.server_at; address = refl; phase = phase; file_is = file_is; mode_is = mode_is } in
+      let fit = fit_of strangers (k + 1) k (before_next k) sa ra st rt mode file sp rp same g.mid 0 ready.ok sender in
+      let m = length text / st.size in
+      let blocks = block_count text st.size in
+      let rest : 0 + 1 + m ≡ blocks = omega arith in
+      let first : 0 + 1 ≤ blocks = omega (arith, rest) in
+      let receiver = awaits_now strangers (k + 1) k (before_next k) sa ra st rt mode file sp rp same g.mid y.0 0 fit first
+      (set_at b.w g.mid k reader y.0 y.4.ends b.client_at) y.4.address y.1 (ap is_sender y.4.side) y.4.mode
+      (new_text mode y.0.state.mode y.0.stored y.0.state.held st.size text y.4.mode y.2 y.3) (new_held mode y.0.state.mode y.0.state.held y.4.mode y.3) in
+      let n = goes_on g.mid new (i + 1 + 1) ready.count g.left in
+      let ready_then = ack_ready strangers (k + 1) k (before_next k) sa ra st rt mode file sp rp same g.mid n.mid (i + 1 + 1) 0 n.report ready sender (omega arith) n.step first in
+      let sender_then = ack_sender strangers (k + 1) k (before_next k) sa ra st rt mode file sp rp same g.mid n.mid (i + 1 + 1) 0 n.report ready sender (omega arith) n.step first in
+      let receiver_then = ack_receiver strangers (k + 1) k (before_next k) sa ra st rt mode file sp rp same g.mid n.mid (i + 1 + 1) 0 n.report ready sender (omega arith) n.step first receiver in
+      let over = from_data strangers (k + 1) k (before_next k) sa ra st rt mode file sp rp same m (i + 1 + 1 + 1) 0 n.mid new rest ready_then sender_then receiver_then n.left in
+      reader_through old new (i + 1 + 1 + 1 + 2 + 2 * m) (3 + 2 * blocks) over (omega (arith, rest))
+
+  -- by an OACK
+  read_by_oack : (known : Known) (agreed : List Known) → IsOk strangers old → ReadsStraight old new name mode asked file (known ∷ agreed) →
+      IsThrough old new (read_count (known ∷ agreed) (block_count text (size (known ∷ agreed))))
+  read_by_oack known others ok h =
+      let agreed = known ∷ others in
+      let has = reader_asks agreed ok h in
+      let x = server_of agreed h in
+      let limits = h.run.asked.limits in
+      let answers = accepted_answers h.run.asked reader (Sends h.path mode h.length agreed) h.accepted in
+      let agreeable = answered_values kinds.Read mode h.length limits answers.0 agreed has.ok.max_block answers.1 in
+      let sizes = agreed_size agreed agreeable in
+      let counted : h.length < 2 ^ 64 = let few = answers.2 in let small = sizes.1 in omega (arith, few, small) in
+      let packet = Oack (agreed_options agreed) in
+      let spelled : Spells packet (oack_bytes agreed) = spells_own packet (valid_oack kinds.Read mode h.length limits answers.0 agreed counted has.ok.max_block answers.1 (λ e. cc)) in
+      let taken = h.answered.0 in
+      let st = agreed_terms reader.address agreed in
+      let rt = agreed_terms x.address taken in
+      let same : rt.size ≡ st.size = sym (taken_oack asked kinds.Read mode (agreed_options agreed) old.limits.max_file taken h.answered.1) ∙ own_oack agreed agreeable in
+      let accepts : datagram_action reader.state x.address (oack_bytes agreed) (Some packet) ≡ Respond (Accept rt) =
+      from_server reader.state (Waiting asked old.limits.max_file) x.address (oack_bytes agreed) packet refl refl refl ∙ ap (accept_action x.address) h.answered.1 in
+      read_on x st rt packet (read_begins agreed ok h) refl refl refl refl spelled accepts refl refl same
+
+pub reads_complete : ReadsComplete
+reads_complete strangers old new name mode asked file [] ok h = read_plainly strangers old new name mode asked file ok h
+reads_complete strangers old new name mode asked file (known ∷ agreed) ok h = read_by_oack strangers old new name mode asked file known agreed ok h
+
+-- ---- a write
+module _ (strangers : Bool) (old new : WorldState) (name : List ℕ) (mode : Mode) (asked : Asked) (file : List ℕ) where
+  abbrev writer : OpenedEnd
+  writer = writing_client old name mode asked file
+
+  abbrev written : List ℕ
+  written = wire_text mode file
+
+  writer_asks : (agreed : List Known) → IsOk strangers old → (h : WritesStraight old new name mode asked file agreed) → HasAsked strangers old h.run.asked writer
+  writer_asks agreed ok h =
+      let s = h.run.asks in
+      has_asked strangers old h.run.asked writer (Put name mode asked file) h.run.report (put_may strangers name mode asked file) ok s (s.2 ∙ ap resting s.1.2.is) refl
+
+  -- the server's end
+  abbrev taker_of : (agreed : List Known) → WritesStraight old new name mode asked file agreed → OpenedEnd
+  taker_of agreed h = receiving_end h.run.asked writer.address writer.state.last_sent mode h.path agreed
+
+  taker_open : (agreed : List Known) (h : WritesStraight old new name mode asked file agreed) → (is_closed (taker_of agreed h) ≡ false) × (at_rest (taker_of agreed h) ≡ taker_of agreed h)
+  taker_open [] h = (refl, refl)
+  taker_open (known ∷ agreed) h = (refl, refl)
+
+  write_begins : (agreed : List Known) → IsOk strangers old → (h : WritesStraight old new name mode asked file agreed) → HasBegun strangers old new writer (taker_of agreed h)
+  write_begins agreed ok h =
+      let has = writer_asks agreed ok h in
+      let own = taker_open agreed h in
+      let left : IsLeft h.run.asked (length old.sent) new = record { reports = h.run.reports; settles = h.run.settles; all = h.run.all; taken = h.taken } in
+      begins strangers old new h.run.asked writer (taker_of agreed h) (Takes h.path mode agreed) has refl left h.accepted own.0 own.1 (λ report mid s. s)
+
+  -- from the server's answer on, which has the client send DATA 1
+  write_on : (x : OpenedEnd) (st rt : Terms) (packet : Packet) → HasBegun strangers old new writer x → x.state.last_sent_to ≡ writer.address → x.state.phase ≡ Receiving rt 0 →
+      is_sender x.state.side ≡ false → x.state.mode ≡ mode → x.stored ≡ [] → x.state.held ≡ [] → Spells packet x.state.last_sent →
+      datagram_action writer.state x.address x.state.last_sent (Some packet) ≡ Send st 1 → st.peer ≡ x.address → rt.peer ≡ writer.address → rt.size ≡ st.size →
+      IsThrough old new (write_count (block_count written st.size))
+  write_on x st rt packet b to phase receives mode_is stored held spelled sends sp rp same =
+      let i = length old.sent in
+      let k = length old.ends in
+      let sa = writer.address in
+      let ra = x.address in
+      let g = goes_on b.w new (i + 1) b.ready.count b.left in
+      let heard = delivered b.w g.mid (i + 1) k writer ra x.state.last_sent g.report (ports_of strangers b.w b.ready.ok) b.ready.rests
+      (b.ready.newest ∙ ap (λ (a : Endpoint). Some (datagram ra a x.state.last_sent)) to) b.client_at refl g.step in
+      let behind : written ≡ drop (0 * st.size) written = ap (λ (n : ℕ). drop n written) (let z : 0 ≡ 0 * st.size = omega arith in z) in
+      let y = hears_send b.w g.mid k writer ra x.state.last_sent g.report heard packet st 0 written spelled sends refl refl behind in
+      let d1 = datagram ra x.state.last_sent_to x.state.last_sent in
+      let d2 = datagram sa ra (data_bytes (0 + 1) (block written st.size (0 + 1))) in
+      let ready = ready_next strangers b.w g.mid (i + 1) d1 d2 g.report b.ready g.step heard.rests y.2.sent in
+      let sender : SendsAt strangers k (k + 1) (behind_last k) sa ra st rt mode file sp rp same g.mid (0 + 1) =
+      record { x = y.0; there = set_at b.w g.mid k writer y.0 y.2.ends b.client_at; address = y.2.address; phase = y.1; file_is = y.2.file; mode_is = y.2.mode } in
+      let fit = fit_of strangers k (k + 1) (behind_last k) sa ra st rt mode file sp rp same g.mid (0 + 1) ready.ok sender in
+      let m = length written / st.size in
+      let blocks = block_count written st.size in
+      let rest : 0 + 1 + m ≡ blocks = omega arith in
+      let first : 0 + 1 ≤ blocks = omega (arith, rest) in
+      let receiver = awaits_now strangers k (k + 1) (behind_last k) sa ra st rt mode file sp rp same g.mid x 0 fit first
+      (stays_at b.w g.mid k (k + 1) x y.0 y.2.ends (behind_last k) b.server_at) refl phase receives mode_is
+      (new_text mode x.state.mode x.stored x.state.held st.size written mode_is stored held) (new_held mode x.state.mode x.state.held mode_is held) in
+      let over = from_data strangers k (k + 1) (behind_last k) sa ra st rt mode file sp rp same m (i + 1 + 1) 0 g.mid new rest ready sender receiver g.left in
+      writer_through old new (i + 1 + 1 + 2 + 2 * m) (write_count blocks) over (omega (arith, rest))
+
+  begins_now : (n : ℕ) (terms : Terms) → n < 65535 * terms.size → begin_action n terms ≡ Send terms 1
+  begins_now n terms few = ap (λ (c : Bool). if c then Send terms 1 else Respond (Refuse None FileTooLarge outcomes.TooLarge)) (lt-ltb n (65535 * terms.size) few)
+
+  write_plainly : IsOk strangers old → WritesStraight old new name mode asked file [] → IsThrough old new (write_count (block_count written 512))
+  write_plainly ok h =
+      let x = taker_of [] h in
+      let st = default_terms x.address in
+      write_on x st (default_terms writer.address) (Ack 0) (write_begins [] ok h) refl refl refl refl refl refl (spells_own (Ack 0) (omega arith))
+      (from_server writer.state (Waiting asked old.limits.max_file) x.address (ack_bytes 0) (Ack 0) refl refl refl ∙ begins_now (length written) st h.fits) refl refl refl
+
+  -- by an OACK
+  write_by_oack : (known : Known) (agreed : List Known) → IsOk strangers old → WritesStraight old new name mode asked file (known ∷ agreed) →
+      IsThrough old new (write_count (block_count written (size (known ∷ agreed))))
+  write_by_oack known others ok h =
+      let agreed = known ∷ others in
+      let has = writer_asks agreed ok h in
+      let x = taker_of agreed h in
+      let limits = h.run.asked.limits in
+      let answers = accepted_answers h.run.asked writer (Takes h.path mode agreed) h.accepted in
+      let agreeable = answered_values kinds.Write mode 0 limits answers.0 agreed has.ok.max_block answers.1 in
+      let packet = Oack (agreed_options agreed) in
+      let spelled : Spells packet (oack_bytes agreed) = spells_own packet (valid_oack kinds.Write mode 0 limits answers.0 agreed (omega arith) has.ok.max_block answers.1 (λ e. cc)) in
+      let taken = h.answered.0 in
+      let st = agreed_terms x.address taken in
+      let rt = agreed_terms writer.address agreed in
+      let same : rt.size ≡ st.size = sym (own_oack agreed agreeable) ∙ taken_oack asked kinds.Write mode (agreed_options agreed) old.limits.max_file taken h.answered.1 in
+      let few : length written < 65535 * st.size = subst (λ (n : ℕ). length written < 65535 * n) same h.fits in
+      let sends : datagram_action writer.state x.address (oack_bytes agreed) (Some packet) ≡ Send st 1 =
+      from_server writer.state (Waiting asked old.limits.max_file) x.address (oack_bytes agreed) packet refl refl refl
+      ∙ (ap (begin_with_action x.address (length written)) h.answered.1 ∙ begins_now (length written) st few) in
+      let through = write_on x st rt packet (write_begins agreed ok h) refl refl refl refl refl refl spelled sends refl refl same in
+      subst (λ (n : ℕ). IsThrough old new (write_count (block_count written n))) (sym same) through
+
+pub writes_complete : WritesComplete
+writes_complete strangers old new name mode asked file [] ok h = write_plainly strangers old new name mode asked file ok h
+writes_complete strangers old new name mode asked file (known ∷ agreed) ok h = write_by_oack strangers old new name mode asked file known agreed ok h

@@ -1,0 +1,387 @@
+-- A run without loss, from the first DATA or the first ACK that is on its way.
+use Rattle.std.proofs.Common.{◌≡◌, ◌≢◌, ℕ, ◌+◌, ◌*◌, ◌/◌, ◌<◌, ◌≤◌, suc, zero, Bool, true, false, List, [], ◌∷◌, ◌++◌, length, take, drop, Some, refl, sym, ap, ◌∙◌, subst, arith, length-append}
+use Rattle.std.specs.Prelude.{nat_lt, is_some, slice_get, slice_set}
+use Rattle.std.proofs.lemmas.Bool.{lt-ltb, le-ltb}
+use Rattle.std.proofs.lemmas.List.{take-append-drop}
+use Rattle.std.proofs.lemmas.Option.{slice_get_within}
+use Rattle.tftp_wire.specs.declared.mode.Mode.{Mode}
+use Rattle.tftp_wire.specs.declared.packet.Packet.TheVariants.{Data, Ack}
+use Rattle.tftp_wire.specs.Spelling.{Spells}
+use Rattle.tftp_file.specs.Block.{block, block_count, Fits}
+use Rattle.tftp_file.specs.Netascii.{wire_text}
+use Rattle.tftp_ends.specs.declared.action.Action.TheVariants.{Respond, Send, Store}
+use Rattle.tftp_ends.specs.declared.action.Response.TheVariants.{Complete}
+use Rattle.tftp_ends.specs.declared.phase.Dally.TheVariants.{Fresh}
+use Rattle.tftp_ends.specs.declared.phase.Phase.{Phase}
+use Rattle.tftp_ends.specs.declared.phase.Phase.TheVariants.{Sending, Receiving, Dallying}
+use Rattle.tftp_ends.specs.declared.phase.Terms.{Terms}
+use Rattle.tftp_ends.specs.End.{is_sender, is_complete, outcome_of}
+use Rattle.tftp_ends.specs.Action.{datagram_action}
+use Rattle.tftp_ends.specs.Receiver.{next_action}
+use Rattle.tftp_ends.specs.Step.{ack_bytes, data_bytes}
+use Rattle.tftp_player.specs.Machine.{Endpoint}
+use Rattle.tftp_player.specs.Straight.{TookAll, AllTaken}
+use Rattle.tftp_player.specs.World.{WorldState, OpenedEnd, is_closed, datagram}
+use Rattle.tftp_player.specs.WorldKept.{IsUnderWay, PhaseKept, HeldFits, IsOk, sent_text}
+use Rattle.tftp_player.specs.WorldRuns.{MayHappen}
+use Rattle.tftp_player.specs.WorldSafety.{IsComplete}
+use Rattle.tftp_player.specs.WorldSteps.{WorldStep, Settles}
+use Rattle.tftp_player.specs.declared.datagram.Datagram.{Datagram}
+use Rattle.tftp_player.specs.declared.event.Event.TheVariants.{Deliver}
+use Rattle.tftp_player.specs.declared.report.Report.{Report}
+use Rattle.tftp_player.proofs.Blocks.{take-block}
+use Rattle.tftp_player.proofs.Places.{slice_get-set_same, slice_get-set_other, slice_get-push_new}
+use Rattle.tftp_player.proofs.Resting.{IsAtRest}
+use Rattle.tftp_player.proofs.SaidLemmas.{spells_own}
+use Rattle.tftp_player.proofs.SourceMoves.{valid_data, number_fits}
+use Rattle.tftp_player.proofs.StraightActions.{from_peer, acked_more, acked_last, piece_readable, next_stores, data_next, block_full, block_last, block_within, never_long, last_rest}
+use Rattle.tftp_player.proofs.StraightSteps.{ports_of, Hears, delivered, Becomes, hears_send, hears_last, HasStored, stored_phase, hears_data}
+use Rattle.tftp_player.proofs.WorldRuns.{step_keeps}
+
+pub deliver_may : (strangers : Bool) (i : ℕ) → MayHappen strangers (Deliver i)
+deliver_may true i = tt
+deliver_may false i = tt
+
+-- ---- what is left of a run of deliveries
+pub record IsLeft (w : WorldState) (i : ℕ) (v : WorldState) : Type 0 where
+  pub reports : List Report
+  pub settles : Settles w i reports v
+  pub all : length v.sent ≤ i + length reports
+  pub taken : AllTaken reports
+
+-- a datagram that is on its way is delivered next
+pub record GoesOn (w : WorldState) (i : ℕ) (v : WorldState) : Type 0 where
+  pub mid : WorldState
+  pub report : Report
+  pub step : WorldStep w (Deliver i) report mid
+  pub taken : TookAll report.closed
+  pub left : IsLeft mid (i + 1) v
+
+pub goes_on : (w v : WorldState) (i : ℕ) → length w.sent ≡ i + 1 → IsLeft w i v → GoesOn w i v
+goes_on w v i more l = by l.reports l.settles l.all l.taken where
+  by : (reports : List Report) → Settles w i reports v → length v.sent ≤ i + length reports → AllTaken reports → GoesOn w i v
+  by [] s all taken = absurd (let e = ap (λ (u : WorldState). length u.sent) s in omega (arith, e, more, all))
+  by (report ∷ reports) s all taken = record {
+    mid = s.0;
+    report = report;
+    step = s.1;
+    taken = taken.0;
+    left = record { reports = reports; settles = s.2; all = omega (arith, all); taken = taken.1 };
+  }
+
+-- where none is on its way the run is at its end
+ends_here : (w v : WorldState) (i : ℕ) → length w.sent ≡ i → IsLeft w i v → v ≡ w
+ends_here w v i none l = by l.reports l.settles where
+  by : (reports : List Report) → Settles w i reports v → v ≡ w
+  by [] s = s
+  by (report ∷ reports) s = absurd (let within = slice_get_within w.sent i s.1.1.0 s.1.1.1 in omega (arith, within, none))
+
+-- ---- a world in which this datagram is the only one on its way
+pub record IsReady (strangers : Bool) (w : WorldState) (i : ℕ) (d : Datagram) : Type 0 where
+  pub ok : IsOk strangers w
+  pub rests : IsAtRest w
+  pub newest : slice_get w.sent i ≡ Some d
+  pub count : length w.sent ≡ i + 1
+
+pub ready_next : (strangers : Bool) (w v : WorldState) (i : ℕ) (d next : Datagram) (report : Report) → IsReady strangers w i d → WorldStep w (Deliver i) report v → IsAtRest v →
+    v.sent ≡ w.sent ++ next ∷ [] → IsReady strangers v (i + 1) next
+ready_next strangers w v i d next report r s rests sent = record {
+  ok = step_keeps strangers w v (Deliver i) report (deliver_may strangers i) r.ok s;
+  rests = rests;
+  newest = ap (λ (ds : List Datagram). slice_get ds (i + 1)) sent ∙ (ap (slice_get (w.sent ++ next ∷ [])) (sym r.count) ∙ slice_get-push_new w.sent next);
+  count = let e = ap length sent in let f = length-append w.sent (next ∷ []) in let c = r.count in omega (arith, e, f, c);
+}
+
+-- both ends are complete at these places, and so many datagrams were sent
+pub record IsOver (v : WorldState) (one other count : ℕ) : Type 0 where
+  pub x : OpenedEnd
+  pub y : OpenedEnd
+  pub x_at : slice_get v.ends one ≡ Some x
+  pub y_at : slice_get v.ends other ≡ Some y
+  pub x_done : IsComplete x
+  pub y_done : IsComplete y
+  pub counted : length v.sent ≡ count
+
+-- an end that is elsewhere stays
+pub stays_at : (w v : WorldState) (k j : ℕ) (x y : OpenedEnd) → v.ends ≡ slice_set w.ends k y → j ≢ k → slice_get w.ends j ≡ Some x → slice_get v.ends j ≡ Some x
+stays_at w v k j x y ends away there = ap (λ (xs : List OpenedEnd). slice_get xs j) ends ∙ (slice_get-set_other w.ends k j y away ∙ there)
+
+pub set_at : (w v : WorldState) (k : ℕ) (x y : OpenedEnd) → v.ends ≡ slice_set w.ends k y → slice_get w.ends k ≡ Some x → slice_get v.ends k ≡ Some y
+set_at w v k x y ends there = ap (λ (xs : List OpenedEnd). slice_get xs k) ends ∙ slice_get-set_same w.ends k y x there
+
+stored_more_phase : (terms : Terms) (number : ℕ) (l : ℕ) → l ≡ terms.size → stored_phase terms number (nat_lt l terms.size) ≡ Receiving terms number
+stored_more_phase terms number l e = ap (stored_phase terms number) (le-ltb l terms.size (let f : terms.size ≤ l = omega (arith, e) in f))
+
+stored_last_phase : (terms : Terms) (number : ℕ) (l : ℕ) → l < terms.size → stored_phase terms number (nat_lt l terms.size) ≡ Dallying terms number Fresh
+stored_last_phase terms number l e = ap (stored_phase terms number) (lt-ltb l terms.size e)
+
+module _ (strangers : Bool) (ks kr : ℕ) (apart : kr ≢ ks) (sa ra : Endpoint) (st rt : Terms) (mode : Mode) (file : List ℕ)
+    (sender_peer : st.peer ≡ ra) (receiver_peer : rt.peer ≡ sa) (same_size : rt.size ≡ st.size) where
+  abbrev text : List ℕ
+  text = wire_text mode file
+
+  abbrev blocks : ℕ
+  blocks = block_count text st.size
+
+  abbrev piece : ℕ → List ℕ
+  piece n = block text st.size (n + 1)
+
+  abbrev data_at : ℕ → Datagram
+  data_at n = datagram sa ra (data_bytes (n + 1) (piece n))
+
+  abbrev ack_at : ℕ → Datagram
+  ack_at n = datagram ra sa (ack_bytes n)
+
+  -- a sender whose newest block is this one
+  pub record SendsAt (w : WorldState) (n : ℕ) : Type 0 where
+    pub x : OpenedEnd
+    pub there : slice_get w.ends ks ≡ Some x
+    pub address : x.address ≡ sa
+    pub phase : x.state.phase ≡ Sending st n
+    pub file_is : x.file ≡ file
+    pub mode_is : x.state.mode ≡ mode
+
+  -- a receiver that has so many blocks, and stores the next one
+  pub record AwaitsAt (w : WorldState) (n : ℕ) : Type 0 where
+    pub x : OpenedEnd
+    pub there : slice_get w.ends kr ≡ Some x
+    pub address : x.address ≡ ra
+    pub still : is_closed x ≡ false
+    pub receiver : is_sender x.state.side ≡ false
+    pub mode_is : x.state.mode ≡ mode
+    pub received : wire_text x.state.mode x.stored ++ x.state.held ≡ take (n * st.size) text
+    pub holds : HeldFits x.state.mode x.state.held
+    pub stores : datagram_action x.state sa (data_bytes (n + 1) (piece n)) (Some (Data (n + 1) (piece n))) ≡ Store rt (n + 1)
+
+  -- a receiver that has all
+  pub record HasAllAt (w : WorldState) : Type 0 where
+    pub x : OpenedEnd
+    pub there : slice_get w.ends kr ≡ Some x
+    pub done : IsComplete x
+
+  -- what holds of a sender, in words of its text
+  pub record IsFit : Type 0 where
+    pub positive : 0 < st.size
+    pub small : st.size ≤ 65464
+    pub fits : Fits text st.size
+
+  text_of_sender : (w : WorldState) (n : ℕ) (s : SendsAt w n) → sent_text s.x ≡ text
+  text_of_sender w n s = ap (λ (m : Mode). wire_text m s.x.file) s.mode_is ∙ ap (wire_text mode) s.file_is
+
+  under_way : (w : WorldState) (n : ℕ) → IsOk strangers w → (s : SendsAt w n) → IsUnderWay s.x st n
+  under_way w n ok s = subst (λ (p : Phase). PhaseKept s.x p) s.phase (ok.ends ks s.x s.there).kept.phase
+
+  pub fit_of : (w : WorldState) (n : ℕ) → IsOk strangers w → SendsAt w n → IsFit
+  fit_of w n ok s =
+      let u = under_way w n ok s in
+      record { positive = u.positive; small = u.size; fits = subst (λ (t : List ℕ). Fits t st.size) (text_of_sender w n s) u.fits }
+
+  spelled_at : (n : ℕ) → IsFit → n + 1 ≤ blocks → Spells (Data (n + 1) (piece n)) (data_bytes (n + 1) (piece n))
+  spelled_at n f l = spells_own (Data (n + 1) (piece n)) (valid_data text st.size n f.positive f.small f.fits l)
+
+  sender_stays : (w v : WorldState) (n : ℕ) (y : OpenedEnd) → v.ends ≡ slice_set w.ends kr y → SendsAt w n → SendsAt v n
+  sender_stays w v n y ends s = record {
+    x = s.x;
+    there = stays_at w v kr ks s.x y ends (λ e. apart (sym e)) s.there;
+    address = s.address;
+    phase = s.phase;
+    file_is = s.file_is;
+    mode_is = s.mode_is;
+  }
+
+  receiver_stays : (w v : WorldState) (n : ℕ) (y : OpenedEnd) → v.ends ≡ slice_set w.ends ks y → AwaitsAt w n → AwaitsAt v n
+  receiver_stays w v n y ends r = record {
+    x = r.x;
+    there = stays_at w v ks kr r.x y ends apart r.there;
+    address = r.address;
+    still = r.still;
+    receiver = r.receiver;
+    mode_is = r.mode_is;
+    received = r.received;
+    holds = r.holds;
+    stores = r.stores;
+  }
+
+  -- a receiver stores the next block of its sender's text
+  pub next_is_stored : (x : OpenedEnd) (n : ℕ) → IsFit → n + 1 ≤ blocks → x.state.mode ≡ mode → wire_text x.state.mode x.stored ++ x.state.held ≡ take (n * st.size) text →
+      next_action x.state.mode x.state.held rt (n + 1) (piece n) ≡ Store rt (n + 1)
+  next_is_stored x n f l mode_is received =
+      let within : length (piece n) ≤ rt.size = let e = block_within text st.size f.positive f.fits n l in omega (arith, e, same_size) in
+      let text_is : wire_text x.state.mode file ≡ text = ap (λ (m : Mode). wire_text m file) mode_is in
+      let rest = drop ((n + 1) * st.size) text in
+      let whole : ((wire_text x.state.mode x.stored ++ x.state.held) ++ piece n) ++ rest ≡ wire_text x.state.mode file =
+      ap (λ (t : List ℕ). (t ++ piece n) ++ rest) received
+      ∙ (ap (λ (t : List ℕ). t ++ rest) (take-block text n st.size)
+      ∙ (take-append-drop ((n + 1) * st.size) text ∙ sym text_is)) in
+      next_stores x.state.mode x.state.held rt (n + 1) (piece n) within
+      (λ a b. never_long text st.size f.positive f.fits n l a (b ∙ same_size))
+      (piece_readable x.state.mode file x.stored x.state.held (piece n) rest (nat_lt (length (piece n)) rt.size) whole
+      (λ e. last_rest text st.size f.positive f.fits n (ap (nat_lt (length (piece n))) (sym same_size) ∙ e)))
+
+  receiving_stores : (x : OpenedEnd) (n : ℕ) → IsFit → n + 1 ≤ blocks → x.state.phase ≡ Receiving rt n → x.state.mode ≡ mode → wire_text x.state.mode x.stored ++ x.state.held ≡ take (n * st.size) text →
+      datagram_action x.state sa (data_bytes (n + 1) (piece n)) (Some (Data (n + 1) (piece n))) ≡ Store rt (n + 1)
+  receiving_stores x n f l phase mode_is received =
+      from_peer x.state (Receiving rt n) rt sa (data_bytes (n + 1) (piece n)) (Data (n + 1) (piece n)) phase refl receiver_peer
+      ∙ (data_next x.state.mode x.state.held rt n (piece n) ∙ next_is_stored x n f l mode_is received)
+
+  -- a receiver that takes this phase with what it has
+  pub awaits_now : (w : WorldState) (x : OpenedEnd) (n : ℕ) → IsFit → n + 1 ≤ blocks → slice_get w.ends kr ≡ Some x → x.address ≡ ra → x.state.phase ≡ Receiving rt n → is_sender x.state.side ≡ false →
+      x.state.mode ≡ mode → wire_text x.state.mode x.stored ++ x.state.held ≡ take (n * st.size) text → HeldFits x.state.mode x.state.held → AwaitsAt w n
+  awaits_now w x n f l there address phase receiver mode_is received holds = record {
+    x = x;
+    there = there;
+    address = address;
+    still = ap (λ (p : Phase). is_some (outcome_of p)) phase;
+    receiver = receiver;
+    mode_is = mode_is;
+    received = received;
+    holds = holds;
+    stores = receiving_stores x n f l phase mode_is received;
+  }
+
+  -- ---- DATA comes to the receiver
+  module _ (w v : WorldState) (i n : ℕ) (report : Report) (ready : IsReady strangers w i (data_at n)) (s : SendsAt w (n + 1)) (r : AwaitsAt w n) (l : n + 1 ≤ blocks)
+      (step : WorldStep w (Deliver i) report v) (taken : TookAll report.closed) where
+    fit : IsFit
+    fit = fit_of w (n + 1) ready.ok s
+
+    heard : Hears w kr r.x sa (data_bytes (n + 1) (piece n)) report v
+    heard = delivered w v i kr r.x sa (data_bytes (n + 1) (piece n)) report (ports_of strangers w ready.ok) ready.rests
+        (ready.newest ∙ ap (λ (a : Endpoint). Some (datagram sa a (data_bytes (n + 1) (piece n)))) (sym r.address)) r.there r.still step
+
+    stored : (y : OpenedEnd) × HasStored w v kr r.x sa (data_bytes (n + 1) (piece n)) report heard rt (n + 1) (piece n) y
+    stored = hears_data w v kr r.x sa (data_bytes (n + 1) (piece n)) report heard rt (n + 1) (piece n) r.holds taken (spelled_at n fit l) r.stores r.receiver
+
+    acked : v.sent ≡ w.sent ++ ack_at (n + 1) ∷ []
+    acked = stored.1.becomes.sent ∙ ap (λ (a : Endpoint). w.sent ++ datagram a sa (ack_bytes (n + 1)) ∷ []) r.address
+
+    pub data_ready : IsReady strangers v (i + 1) (ack_at (n + 1))
+    data_ready = ready_next strangers w v i (data_at n) (ack_at (n + 1)) report ready step heard.rests acked
+
+    pub data_sender : SendsAt v (n + 1)
+    data_sender = sender_stays w v (n + 1) stored.0 stored.1.becomes.ends s
+
+    has_more : wire_text stored.0.state.mode stored.0.stored ++ stored.0.state.held ≡ take ((n + 1) * st.size) text
+    has_more =
+        ap (λ (m : Mode). wire_text m stored.0.stored ++ stored.0.state.held) stored.1.becomes.mode
+        ∙ (stored.1.received ∙ (ap (λ (t : List ℕ). t ++ piece n) r.received ∙ take-block text n st.size))
+
+    -- which is not the last
+    pub data_receiver : n + 1 < blocks → AwaitsAt v (n + 1)
+    data_receiver more =
+        let y = stored.0 in
+        let full : length (piece n) ≡ rt.size = block_full text st.size fit.positive fit.fits n more ∙ sym same_size in
+        awaits_now v y (n + 1) fit (let m : n + 1 + 1 ≤ blocks = omega (arith, more) in m) (set_at w v kr r.x y stored.1.becomes.ends r.there) (stored.1.becomes.address ∙ r.address)
+        (stored.1.phase ∙ stored_more_phase rt (n + 1) (length (piece n)) full) (ap is_sender stored.1.becomes.side ∙ r.receiver)
+        (stored.1.becomes.mode ∙ r.mode_is) has_more (subst (λ (m : Mode). HeldFits m y.state.held) (sym stored.1.becomes.mode) stored.1.holds)
+
+    -- or the last
+    pub data_all : n + 1 ≡ blocks → HasAllAt v
+    data_all last =
+        let y = stored.0 in
+        let short : length (piece n) < rt.size = let e = block_last text st.size fit.positive fit.fits n last in omega (arith, e, same_size) in
+        record {
+          x = y;
+          there = set_at w v kr r.x y stored.1.becomes.ends r.there;
+          done = ap is_complete (stored.1.phase ∙ stored_last_phase rt (n + 1) (length (piece n)) short);
+        }
+
+  -- ---- an ACK comes to the sender
+  module _ (w v : WorldState) (i n : ℕ) (report : Report) (ready : IsReady strangers w i (ack_at n)) (s : SendsAt w n) (small : n ≤ blocks)
+      (step : WorldStep w (Deliver i) report v) where
+    way : IsUnderWay s.x st n
+    way = under_way w n ready.ok s
+
+    fit_now : IsFit
+    fit_now = fit_of w n ready.ok s
+
+    still_sends : is_closed s.x ≡ false
+    still_sends = ap (λ (p : Phase). is_some (outcome_of p)) s.phase
+
+    heard_ack : Hears w ks s.x ra (ack_bytes n) report v
+    heard_ack = delivered w v i ks s.x ra (ack_bytes n) report (ports_of strangers w ready.ok) ready.rests
+        (ready.newest ∙ ap (λ (a : Endpoint). Some (datagram ra a (ack_bytes n))) (sym s.address)) s.there still_sends step
+
+    ack_spelled : Spells (Ack n) (ack_bytes n)
+    ack_spelled = spells_own (Ack n) (number_fits text st.size n fit_now.positive fit_now.fits small)
+
+    measured : s.x.state.length ≡ length text
+    measured = way.measured ∙ ap length (text_of_sender w n s)
+
+    -- and more is to be sent
+    module _ (more : n < blocks) where
+      sends_more : datagram_action s.x.state ra (ack_bytes n) (Some (Ack n)) ≡ Send st (n + 1)
+      sends_more = from_peer s.x.state (Sending st n) st ra (ack_bytes n) (Ack n) s.phase refl sender_peer
+          ∙ acked_more s.x.state.length n st (subst (λ (m : ℕ). n < m / st.size + 1) (sym measured) more)
+
+      sent_more : (y : OpenedEnd) × (y.state.phase ≡ Sending st (n + 1)) × Becomes w v ks s.x ra (ack_bytes n) report heard_ack y (datagram s.x.address ra (data_bytes (n + 1) (piece n)) ∷ [])
+      sent_more = hears_send w v ks s.x ra (ack_bytes n) report heard_ack (Ack n) st n text ack_spelled sends_more way.sender measured
+          (way.left ∙ ap (drop (n * st.size)) (text_of_sender w n s))
+
+      pub ack_ready : IsReady strangers v (i + 1) (data_at n)
+      ack_ready = ready_next strangers w v i (ack_at n) (data_at n) report ready step heard_ack.rests
+          (sent_more.2.sent ∙ ap (λ (a : Endpoint). w.sent ++ datagram a ra (data_bytes (n + 1) (piece n)) ∷ []) s.address)
+
+      pub ack_sender : SendsAt v (n + 1)
+      ack_sender = record {
+        x = sent_more.0;
+        there = set_at w v ks s.x sent_more.0 sent_more.2.ends s.there;
+        address = sent_more.2.address ∙ s.address;
+        phase = sent_more.1;
+        file_is = sent_more.2.file ∙ s.file_is;
+        mode_is = sent_more.2.mode ∙ s.mode_is;
+      }
+
+      pub ack_receiver : AwaitsAt w n → AwaitsAt v n
+      ack_receiver r = receiver_stays w v n sent_more.0 sent_more.2.ends r
+
+    -- or all was sent
+    module _ (last : n ≡ blocks) (r : HasAllAt w) where
+      sends_none : datagram_action s.x.state ra (ack_bytes n) (Some (Ack n)) ≡ Respond Complete
+      sends_none = from_peer s.x.state (Sending st n) st ra (ack_bytes n) (Ack n) s.phase refl sender_peer
+          ∙ acked_last s.x.state.length n st
+          (subst (λ (m : ℕ). m / st.size + 1 ≤ n) (sym measured) (let e : blocks ≤ n = omega (arith, last) in e))
+
+      is_done : (y : OpenedEnd) × (is_complete y.state.phase ≡ true) × Becomes w v ks s.x ra (ack_bytes n) report heard_ack y []
+      is_done = hears_last w v ks s.x ra (ack_bytes n) report heard_ack (Ack n) ack_spelled sends_none
+
+      pub ack_over : IsOver v ks kr (i + 1)
+      ack_over = record {
+        x = is_done.0;
+        y = r.x;
+        x_at = set_at w v ks s.x is_done.0 is_done.2.ends s.there;
+        y_at = stays_at w v ks kr r.x is_done.0 is_done.2.ends apart r.there;
+        x_done = is_done.1;
+        y_done = r.done;
+        counted = let e = ap length is_done.2.sent in let f = length-append w.sent [] in let c = ready.count in omega (arith, e, f, c);
+      }
+
+  -- ---- the rest of the run, from DATA n + 1 on its way, behind which so many blocks are left
+  pub from_data : (m w_i n : ℕ) (w v : WorldState) → n + 1 + m ≡ blocks → IsReady strangers w w_i (data_at n) → SendsAt w (n + 1) → AwaitsAt w n → IsLeft w w_i v → IsOver v ks kr (w_i + 2 + 2 * m)
+  from_data zero i n w v is ready s r left =
+      let within : n + 1 ≤ blocks = omega (arith, is) in
+      let last : n + 1 ≡ blocks = omega (arith, is) in
+      let g = goes_on w v i ready.count left in
+      let next = data_ready w g.mid i n g.report ready s r within g.step g.taken in
+      let sender = data_sender w g.mid i n g.report ready s r within g.step g.taken in
+      let all = data_all w g.mid i n g.report ready s r within g.step g.taken last in
+      let h = goes_on g.mid v (i + 1) next.count g.left in
+      let over = ack_over g.mid h.mid (i + 1) (n + 1) h.report next sender within h.step last all in
+      let final = ends_here h.mid v (i + 1 + 1) over.counted h.left in
+      let count : i + 1 + 1 ≡ i + 2 + 2 * 0 = omega arith in
+      subst (λ (c : ℕ). IsOver v ks kr c) count (subst (λ (u : WorldState). IsOver u ks kr (i + 1 + 1)) (sym final) over)
+  from_data (suc m) i n w v is ready s r left =
+      let within : n + 1 ≤ blocks = omega (arith, is) in
+      let more : n + 1 < blocks = omega (arith, is) in
+      let g = goes_on w v i ready.count left in
+      let next = data_ready w g.mid i n g.report ready s r within g.step g.taken in
+      let sender = data_sender w g.mid i n g.report ready s r within g.step g.taken in
+      let receiver = data_receiver w g.mid i n g.report ready s r within g.step g.taken more in
+      let h = goes_on g.mid v (i + 1) next.count g.left in
+      let again = ack_ready g.mid h.mid (i + 1) (n + 1) h.report next sender within h.step more in
+      let sender_then = ack_sender g.mid h.mid (i + 1) (n + 1) h.report next sender within h.step more in
+      let receiver_then = ack_receiver g.mid h.mid (i + 1) (n + 1) h.report next sender within h.step more receiver in
+      let rest : n + 1 + 1 + m ≡ blocks = omega (arith, is) in
+      let over = from_data m (i + 1 + 1) (n + 1) h.mid v rest again sender_then receiver_then h.left in
+      let count : i + 1 + 1 + 2 + 2 * m ≡ i + 2 + 2 * suc m = omega arith in
+      subst (λ (c : ℕ). IsOver v ks kr c) count over

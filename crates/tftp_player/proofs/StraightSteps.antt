@@ -1,0 +1,299 @@
+-- What the delivery of a datagram does at the open end for which it is, where that sends, stores or is complete.
+use Rattle.std.proofs.Common.{◌≡◌, ℕ, ◌+◌, ◌*◌, Bool, true, false, List, [], ◌∷◌, ◌++◌, length, map, drop, Option, Some, None, Result, Ok, Err, refl, sym, ap, ◌∙◌, subst, arith}
+use Rattle.std.specs.Prelude.{if◌then◌else◌, nat_lt, slice_get, slice_set}
+use Rattle.std.proofs.lemmas.Bool.{true≢false}
+use Rattle.std.proofs.lemmas.List.{map-set}
+use Rattle.std.proofs.lemmas.Option.{same_Some}
+use Rattle.tftp_wire.specs.declared.packet.Packet.{Packet}
+use Rattle.tftp_wire.specs.declared.packet.Packet.TheVariants.{Data}
+use Rattle.tftp_wire.specs.Spelling.{Spells}
+use Rattle.tftp_file.specs.Block.{block}
+use Rattle.tftp_file.specs.Netascii.{wire_text}
+use Rattle.tftp_file.specs.Sink.{Holding}
+use Rattle.tftp_file.specs.declared.fault.StoreFault.{StoreFault}
+use Rattle.tftp_file.specs.declared.files.Files.{Files}
+use Rattle.tftp_file.specs.declared.files.Files.TheVariants.{Source, Sink}
+use Rattle.tftp_ends.specs.declared.action.Action.{Action}
+use Rattle.tftp_ends.specs.declared.action.Action.TheVariants.{Respond, Send, Store}
+use Rattle.tftp_ends.specs.declared.action.Response.TheVariants.{Accept, Complete}
+use Rattle.tftp_ends.specs.declared.error_reply.ErrorReply.{ErrorReply}
+use Rattle.tftp_ends.specs.declared.error_reply.ErrorReply.TheVariants.{DiskFull}
+use Rattle.tftp_ends.specs.declared.outcome.Outcome.TheVariants as outcomes
+use Rattle.tftp_ends.specs.declared.phase.Dally.TheVariants.{Fresh}
+use Rattle.tftp_ends.specs.declared.phase.Phase.{Phase}
+use Rattle.tftp_ends.specs.declared.phase.Phase.TheVariants.{Sending, Receiving, Dallying}
+use Rattle.tftp_ends.specs.declared.phase.Terms.{Terms}
+use Rattle.tftp_ends.specs.End.{EndState, is_sender, is_client, is_complete, outcome_of}
+use Rattle.tftp_ends.specs.Action.{Decodes, datagram_action}
+use Rattle.tftp_ends.specs.Step.{Turn, Done, Acts, GoesOn, StoresIn, response_turn, sent_turn, refused_turn, committed_turn, commit_reply, holding, ack_bytes, data_bytes}
+use Rattle.tftp_ends.specs.Text.{Decoded}
+use Rattle.tftp_player.specs.Machine.{Endpoint}
+use Rattle.tftp_player.specs.Straight.{TookAll}
+use Rattle.tftp_player.specs.World.{WorldState, OpenedEnd, file_at, in_the_way, is_closed, datagram, replied, files_of, holding_of, with_files, in_state, end_after, closed_at, at_rest, resting}
+use Rattle.tftp_player.specs.WorldKept.{HeldFits, IsOk}
+use Rattle.tftp_player.specs.WorldSteps.{never_fails, may_refuse_append, may_refuse_commit, nothing_else, EndStep, OnDatagram, Arrives, At_request_port, At_open_end, At_closed_end, At_nobody, WorldStep}
+use Rattle.tftp_player.specs.declared.datagram.Datagram.{Datagram}
+use Rattle.tftp_player.specs.declared.event.Event.TheVariants.{Deliver}
+use Rattle.tftp_player.specs.declared.report.Report.{Report}
+use Rattle.tftp_player.proofs.HostBytes.{stored_more}
+use Rattle.tftp_player.proofs.Resting.{IsAtRest, at_rest_twice, resting_after}
+use Rattle.tftp_player.proofs.SaidLemmas.{one_packet, none_packet, data_of}
+use Rattle.tftp_player.proofs.SinkMoves.{Took, All_of_it, None_of_it, took, Kept_all, For_good, Not_yet, kept_by, stores_in, goes_on_with, held_fits}
+use Rattle.tftp_player.proofs.SourceMoves.{sends_from, block_sent}
+use Rattle.tftp_player.proofs.StepLemmas.{HasPorts}
+use Rattle.tftp_player.proofs.WorldTurns.{view_at}
+
+-- the end at place k of a world has port 1024 + k
+pub ports_of : (strangers : Bool) (w : WorldState) → IsOk strangers w → HasPorts w
+ports_of strangers w ok k x e = (ok.shown.3.ends k _ (view_at w.ends k x e)).1
+
+-- a delivery at an open end had it make this turn
+pub record Hears (w : WorldState) (k : ℕ) (x : OpenedEnd) (from : Endpoint) (bytes : List ℕ) (report : Report) (v : WorldState) : Type 0 where
+  pub turn : Turn
+  pub held : Files (List ℕ) Holding
+  pub steps : EndStep (is_client x.state.side) (in_the_way w.overwrite (file_at w.files x.path)) from bytes x.state (files_of x) turn held
+  pub sent : v.sent ≡ w.sent ++ replied x.address turn.reply
+  pub ends : v.ends ≡ slice_set w.ends k (at_rest (end_after x turn held))
+  pub closed : report.closed ≡ closed_at x.address (outcome_of turn.end.phase)
+  pub rests : IsAtRest v
+
+-- two ends at one address are one
+same_end : (w : WorldState) (k j : ℕ) (x y : OpenedEnd) → HasPorts w → slice_get w.ends k ≡ Some x → slice_get w.ends j ≡ Some y → y.address ≡ x.address → (j ≡ k) × (y ≡ x)
+same_end w k j x y ports here there same =
+    let a = ports k x here in
+    let b = ports j y there in
+    let c = ap (λ (p : Endpoint). p.port) same in
+    let place : j ≡ k = omega (arith, a, b, c) in
+    (place, same_Some y x (sym there ∙ (ap (slice_get w.ends) place ∙ here)))
+
+module _ (w v : WorldState) (k : ℕ) (x : OpenedEnd) (from : Endpoint) (bytes : List ℕ) (report : Report)
+    (ports : HasPorts w) (rests : IsAtRest w) (there : slice_get w.ends k ≡ Some x) (open_now : is_closed x ≡ false) where
+  heard : (mid : WorldState) → v ≡ resting mid → OnDatagram w k x from bytes report mid → Hears w k x from bytes report v
+  heard mid is h =
+      let y = at_rest (end_after x h.turn h.held) in
+      let now = is ∙ (ap resting h.turns.is ∙ resting_after w k x h.turn h.held h.turns.files rests) in
+      let ends : v.ends ≡ slice_set w.ends k y = ap (λ (u : WorldState). u.ends) now in
+      record {
+        turn = h.turn;
+        held = h.held;
+        steps = h.steps;
+        sent = ap (λ (u : WorldState). u.sent) now;
+        ends = ends;
+        closed = ap (λ (r : Report). r.closed) h.turns.tells;
+        rests = ap (map at_rest) ends
+            ∙ (map-set at_rest w.ends k y
+            ∙ (ap (λ (xs : List OpenedEnd). slice_set xs k (at_rest y)) rests
+            ∙ (ap (λ (z : OpenedEnd). slice_set w.ends k z) (at_rest_twice (end_after x h.turn h.held)) ∙ sym ends)));
+      }
+
+  arrived : (mid : WorldState) → v ≡ resting mid → Arrives w from x.address bytes report mid → Hears w k x from bytes report v
+  arrived mid is (At_request_port here port decoded says repeated same served) =
+      absurd (let a = ports k x there in let b = ap (λ (p : Endpoint). p.port) here in omega (arith, a, b))
+  arrived mid is (At_open_end j y at here still h) =
+      let e = same_end w k j x y ports there at here in
+      heard mid is (subst (λ (z : OpenedEnd). OnDatagram w k z from bytes report mid) e.1 (subst (λ (i : ℕ). OnDatagram w i y from bytes report mid) e.0 h))
+  arrived mid is (At_closed_end j y at here closed_now s) =
+      let e = same_end w k j x y ports there at here in
+      absurd (true≢false (sym closed_now ∙ (ap is_closed e.1 ∙ open_now)))
+  arrived mid is (At_nobody away nobody s) = absurd (nobody k x there refl)
+
+-- a datagram for an open end is heard there
+pub delivered : (w v : WorldState) (i k : ℕ) (x : OpenedEnd) (from : Endpoint) (bytes : List ℕ) (report : Report) → HasPorts w → IsAtRest w →
+    slice_get w.sent i ≡ Some (datagram from x.address bytes) → slice_get w.ends k ≡ Some x → is_closed x ≡ false → WorldStep w (Deliver i) report v → Hears w k x from bytes report v
+delivered w v i k x from bytes report ports rests sent there open_now s =
+    let d = s.1.0 in
+    let same : d ≡ datagram from x.address bytes = same_Some d (datagram from x.address bytes) (sym s.1.1 ∙ sent) in
+    arrived w v k x from bytes report ports rests there open_now s.0 s.2
+    (subst (λ (z : Datagram). Arrives w z.from z.to z.bytes report s.0) same s.1.2)
+
+-- bytes that spell a packet are decoded to it
+decoded_is : (bytes : List ℕ) (packet : Packet) (decoded : Option Packet) → Spells packet bytes → Decodes bytes decoded → decoded ≡ Some packet
+decoded_is bytes packet (Some q) s t = ap (λ (p : Packet). Some p) (one_packet q packet bytes t s)
+decoded_is bytes packet None s t = absurd (let f : None ≡ Some t.0 = sym (none_packet packet bytes s) ∙ t.1 in cc)
+
+-- a receiver that stored a block, by whether it is the last
+abbrev pub stored_phase : Terms → ℕ → Bool → Phase
+stored_phase terms number true = Dallying terms number Fresh
+stored_phase terms number false = Receiving terms number
+
+module _ (w v : WorldState) (k : ℕ) (x : OpenedEnd) (from : Endpoint) (bytes : List ℕ) (report : Report) (h : Hears w k x from bytes report v) where
+  abbrev refuses_commit : Holding → StoreFault → Type 0
+  refuses_commit = may_refuse_commit (is_client x.state.side) (in_the_way w.overwrite (file_at w.files x.path))
+
+  abbrev Acts_at : Action → Type 0
+  Acts_at action =
+      Acts (λ (s : List ℕ). Some s) never_fails (λ (h : Holding). Some h) may_refuse_append refuses_commit nothing_else action from bytes x.state (files_of x) h.turn h.held
+
+  acts_as : (packet : Packet) (action : Action) → Spells packet bytes → datagram_action x.state from bytes (Some packet) ≡ action → Acts_at action
+  acts_as packet action spelled is =
+      subst Acts_at (ap (datagram_action x.state from bytes) (decoded_is bytes packet h.steps.decoded spelled h.steps.says) ∙ is) h.steps.acts
+
+  -- the end became y, and sent this
+  pub record Becomes (y : OpenedEnd) (said : List Datagram) : Type 0 where
+    pub sent : v.sent ≡ w.sent ++ said
+    pub ends : v.ends ≡ slice_set w.ends k y
+    pub address : y.address ≡ x.address
+    pub file : y.file ≡ x.file
+    pub mode : y.state.mode ≡ x.state.mode
+    pub side : y.state.side ≡ x.state.side
+
+  -- ---- a sender sends
+  abbrev pub data_turn_at : Terms → ℕ → List ℕ → Turn
+  data_turn_at terms n piece = sent_turn (Sending terms (n + 1)) from (data_bytes (n + 1) piece) x.state
+
+  pub hears_send : (packet : Packet) (terms : Terms) (n : ℕ) (text : List ℕ) → Spells packet bytes → datagram_action x.state from bytes (Some packet) ≡ Send terms (n + 1) →
+      is_sender x.state.side ≡ true → x.state.length ≡ length text → x.left ≡ drop (n * terms.size) text →
+      (y : OpenedEnd) × (y.state.phase ≡ Sending terms (n + 1)) × Becomes y (datagram x.address from (data_bytes (n + 1) (block text terms.size (n + 1))) ∷ [])
+  hears_send packet terms n text spelled is sender measured left =
+      let a = acts_as packet (Send terms (n + 1)) spelled is in
+      let f = sends_from (is_sender x.state.side) sender refuses_commit terms (n + 1) from x.state x.left (holding_of x) h.turn h.held a in
+      let b = block_sent terms n from x.state text x.left h.turn f.0 measured left f.2 in
+      let turn = data_turn_at terms n (block text terms.size (n + 1)) in
+      let y = end_after x turn (Source f.0) in (
+        y,
+        refl,
+        record {
+          sent = h.sent ∙ ap (λ (t : Turn). w.sent ++ replied x.address t.reply) b.turn_is;
+          ends = h.ends
+              ∙ (ap (λ (t : Turn). slice_set w.ends k (at_rest (end_after x t h.held))) b.turn_is
+              ∙ ap (λ (fs : Files (List ℕ) Holding). slice_set w.ends k (at_rest (end_after x turn fs))) f.1);
+          address = refl;
+          file = refl;
+          mode = refl;
+          side = refl;
+        },
+      )
+
+  -- ---- a sender whose last block is acknowledged is complete
+  same_with : (b : Bool) (z : OpenedEnd) → with_files z (if b then Source z.left else Sink (holding_of z)) ≡ z
+  same_with true z = refl
+  same_with false z = refl
+
+  pub hears_last : (packet : Packet) → Spells packet bytes → datagram_action x.state from bytes (Some packet) ≡ Respond Complete →
+      (y : OpenedEnd) × (is_complete y.state.phase ≡ true) × Becomes y []
+  hears_last packet spelled is =
+      let a = acts_as packet (Respond Complete) spelled is in
+      let turn = response_turn Complete from x.state in
+      let y = at_rest (in_state turn.end x) in (
+        y,
+        refl,
+        record {
+          sent = h.sent ∙ ap (λ (t : Turn). w.sent ++ replied x.address t.reply) a.0;
+          ends = h.ends
+              ∙ (ap (λ (t : Turn). slice_set w.ends k (at_rest (end_after x t h.held))) a.0
+              ∙ (ap (λ (fs : Files (List ℕ) Holding). slice_set w.ends k (at_rest (end_after x turn fs))) a.1
+              ∙ ap (λ (z : OpenedEnd). slice_set w.ends k (at_rest z)) (same_with (is_sender x.state.side) (in_state turn.end x))));
+          address = refl;
+          file = refl;
+          mode = refl;
+          side = refl;
+        },
+      )
+
+  -- ---- a reader accepts an OACK
+  pub hears_oack : (packet : Packet) (terms : Terms) → Spells packet bytes → datagram_action x.state from bytes (Some packet) ≡ Respond (Accept terms) →
+      (y : OpenedEnd) × (y.state.phase ≡ Receiving terms 0) × (y.stored ≡ x.stored) × (y.state.held ≡ x.state.held) × Becomes y (datagram x.address from (ack_bytes 0) ∷ [])
+  hears_oack packet terms spelled is =
+      let a = acts_as packet (Respond (Accept terms)) spelled is in
+      let turn = response_turn (Accept terms) from x.state in
+      let y = in_state turn.end x in (
+        y,
+        refl,
+        refl,
+        refl,
+        record {
+          sent = h.sent ∙ ap (λ (t : Turn). w.sent ++ replied x.address t.reply) a.0;
+          ends = h.ends
+              ∙ (ap (λ (t : Turn). slice_set w.ends k (at_rest (end_after x t h.held))) a.0
+              ∙ (ap (λ (fs : Files (List ℕ) Holding). slice_set w.ends k (at_rest (end_after x turn fs))) a.1
+              ∙ ap (λ (z : OpenedEnd). slice_set w.ends k (at_rest z)) (same_with (is_sender x.state.side) (in_state turn.end x))));
+          address = refl;
+          file = refl;
+          mode = refl;
+          side = refl;
+        },
+      )
+
+  -- ---- a receiver stores a block that its store takes
+  -- the end has this block and what it had before
+  pub record HasStored (terms : Terms) (number : ℕ) (piece : List ℕ) (y : OpenedEnd) : Type 0 where
+    pub phase : y.state.phase ≡ stored_phase terms number (nat_lt (length piece) terms.size)
+    pub received : wire_text x.state.mode y.stored ++ y.state.held ≡ (wire_text x.state.mode x.stored ++ x.state.held) ++ piece
+    pub holds : HeldFits x.state.mode y.state.held
+    pub becomes : Becomes y (datagram x.address from (ack_bytes number) ∷ [])
+
+  module _ (terms : Terms) (number : ℕ) (piece : List ℕ) (holds : HeldFits x.state.mode x.state.held) (all : TookAll report.closed) where
+    -- no turn is that of a store that refused
+    fault_none : (reply : ErrorReply) (e : EndState) → h.turn ≡ refused_turn terms reply outcomes.StoreFault from e → ⊥
+    fault_none reply e is = (subst TookAll (h.closed ∙ ap (λ (t : Turn). closed_at x.address (outcome_of t.end.phase)) is) all) refl
+
+    stores_as : (last : Bool) (sink : Holding) (bytes_now after : List ℕ) → nat_lt (length piece) terms.size ≡ last →
+        h.turn ≡ sent_turn (stored_phase terms number last) from (ack_bytes number) (holding after x.state) → h.held ≡ Sink sink →
+        sink.bytes ≡ x.stored ++ bytes_now → Decoded x.state.mode x.state.held piece bytes_now after → (y : OpenedEnd) × HasStored terms number piece y
+    stores_as true sink bytes_now after is turns held same d = (
+      end_after x (sent_turn (Dallying terms number Fresh) from (ack_bytes number) (holding after x.state)) (Sink sink),
+      record {
+        phase = ap (stored_phase terms number) (sym is);
+        received = ap (λ (z : List ℕ). wire_text x.state.mode z ++ after) same
+            ∙ sym (stored_more x.state.mode x.stored x.state.held piece bytes_now after (goes_on_with x.state.mode x.state.held piece bytes_now after holds d));
+        holds = held_fits x.state.mode x.state.held piece bytes_now after holds d;
+        becomes = record {
+          sent = h.sent ∙ ap (λ (t : Turn). w.sent ++ replied x.address t.reply) turns;
+          ends = h.ends
+              ∙ (ap (λ (t : Turn). slice_set w.ends k (at_rest (end_after x t h.held))) turns
+              ∙ ap (λ (fs : Files (List ℕ) Holding). slice_set w.ends k (at_rest (end_after x (sent_turn (Dallying terms number Fresh) from (ack_bytes number) (holding after x.state)) fs))) held);
+          address = refl;
+          file = refl;
+          mode = refl;
+          side = refl;
+        };
+      },
+    )
+    stores_as false sink bytes_now after is turns held same d = (
+      end_after x (sent_turn (Receiving terms number) from (ack_bytes number) (holding after x.state)) (Sink sink),
+      record {
+        phase = ap (stored_phase terms number) (sym is);
+        received = ap (λ (z : List ℕ). wire_text x.state.mode z ++ after) same
+            ∙ sym (stored_more x.state.mode x.stored x.state.held piece bytes_now after (goes_on_with x.state.mode x.state.held piece bytes_now after holds d));
+        holds = held_fits x.state.mode x.state.held piece bytes_now after holds d;
+        becomes = record {
+          sent = h.sent ∙ ap (λ (t : Turn). w.sent ++ replied x.address t.reply) turns;
+          ends = h.ends
+              ∙ (ap (λ (t : Turn). slice_set w.ends k (at_rest (end_after x t h.held))) turns
+              ∙ ap (λ (fs : Files (List ℕ) Holding). slice_set w.ends k (at_rest (end_after x (sent_turn (Receiving terms number) from (ack_bytes number) (holding after x.state)) fs))) held);
+          address = refl;
+          file = refl;
+          mode = refl;
+          side = refl;
+        };
+      },
+    )
+
+    -- a commit that was not refused
+    commits_as : (mid sink : Holding) (bytes_now after : List ℕ) → nat_lt (length piece) terms.size ≡ true → h.held ≡ Sink sink → mid.bytes ≡ x.stored ++ bytes_now →
+        Decoded x.state.mode x.state.held piece bytes_now after →
+        (answer : Result Done StoreFault) → h.turn ≡ committed_turn terms number from (holding after x.state) answer → Kept_all mid sink answer → (y : OpenedEnd) × HasStored terms number piece y
+    commits_as mid sink bytes_now after is held same d answer t (For_good ok kept_bytes done) =
+        stores_as true sink bytes_now after is (t ∙ ap (committed_turn terms number from (holding after x.state)) ok) held (kept_bytes ∙ same) d
+    commits_as mid sink bytes_now after is held same d answer t (Not_yet fault err kept_bytes still) =
+        absurd (fault_none (commit_reply fault) (holding after x.state) (t ∙ ap (committed_turn terms number from (holding after x.state)) err))
+
+    appends_as : (mid sink : Holding) (bytes_now after : List ℕ) (answer : Result Done StoreFault) (last : Bool) → nat_lt (length piece) terms.size ≡ last → h.held ≡ Sink sink →
+        Decoded x.state.mode x.state.held piece bytes_now after → Took (holding_of x) mid bytes_now answer →
+        GoesOn (λ (h : Holding). Some h) may_refuse_append refuses_commit nothing_else terms number from x.state last after mid answer h.turn sink → (y : OpenedEnd) × HasStored terms number piece y
+    appends_as mid sink bytes_now after (Err fault) last is held d took_now g = absurd (fault_none DiskFull x.state g.0)
+    appends_as mid sink bytes_now after (Ok done) last is held d (None_of_it fault err same still) g = absurd (let e : Ok done ≡ Err fault = err in cc)
+    appends_as mid sink bytes_now after (Ok done) true is held d (All_of_it ok same un) g =
+        commits_as mid sink bytes_now after is held same d g.answer g.answers (kept_by mid.refuses mid sink g.answer g.commits)
+    appends_as mid sink bytes_now after (Ok done) false is held d (All_of_it ok same un) g =
+        stores_as false sink bytes_now after is g.0 held (ap (λ (z : Holding). z.bytes) g.1 ∙ same) d
+
+    pub hears_data : Spells (Data number piece) bytes → datagram_action x.state from bytes (Some (Data number piece)) ≡ Store terms number → is_sender x.state.side ≡ false →
+        (y : OpenedEnd) × HasStored terms number piece y
+    hears_data spelled is receiver =
+        let a = acts_as (Data number piece) (Store terms number) spelled is in
+        let s = subst (λ (bs : List ℕ). StoresIn (λ (z : List ℕ). Some z) never_fails (λ (z : Holding). Some z) may_refuse_append refuses_commit nothing_else terms number from bs x.state (files_of x) h.turn h.held) (data_of number piece bytes spelled) a in
+        let f = stores_in (is_sender x.state.side) receiver refuses_commit terms number from piece x.state x.left (holding_of x) h.turn h.held s in
+        let b = f.2 in
+        appends_as b.mid f.0 b.bytes b.after b.answer (nat_lt (length piece) terms.size) refl f.1 b.decoded
+        (took (holding_of x) b.mid b.bytes b.answer refuses_commit b.appended b.memory) b.rest
