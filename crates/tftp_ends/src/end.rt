@@ -57,9 +57,29 @@ impl Model for End {
 
     ghost Value = { EndState };
 
-    ghost view = { λ e. record { side = e.side; mode = e.mode; length = e.length; retries = e.retries; retries_left = e.retries_left; last_sent = e.last_sent.items; last_sent_to = e.last_sent_to; held = e.decoder; phase = e.phase } };
+    ghost view = { λ e. record {
+      side = e.side;
+      mode = e.mode;
+      length = e.length;
+      retries = e.retries;
+      retries_left = e.retries_left;
+      last_sent = e.last_sent.items;
+      last_sent_to = e.last_sent_to;
+      held = e.decoder;
+      phase = e.phase;
+    } };
 
-    ghost invariant = { λ e. IsSound (record { side = e.side; mode = e.mode; length = e.length; retries = e.retries; retries_left = e.retries_left; last_sent = e.last_sent.items; last_sent_to = e.last_sent_to; held = e.decoder; phase = e.phase }) × (4 ≤ vec_capacity e.last_sent) };
+    ghost invariant = { λ e. IsSound (record {
+      side = e.side;
+      mode = e.mode;
+      length = e.length;
+      retries = e.retries;
+      retries_left = e.retries_left;
+      last_sent = e.last_sent.items;
+      last_sent_to = e.last_sent_to;
+      held = e.decoder;
+      phase = e.phase;
+    }) × (4 ≤ vec_capacity e.last_sent) };
 }
 
 impl End {

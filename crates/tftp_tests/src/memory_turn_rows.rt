@@ -136,3 +136,75 @@ fn memory_in_turn_at_a_busy_server(rt: HostRuntime) -> Result<(), Fail> {
     runs(&rt, &mut world, &path, &BUSY);
     Ok(())
 }
+
+/// A client asks to write the file `n` of this one byte.
+fn asks_to_write(alloc: Global, world: &mut World, byte: u8) -> Result<Report, WorldFault> {
+    let name = Bytes::from_slice(alloc, b"n")?;
+    let bytes = Bytes::from_slice(alloc, &[byte])?;
+    world.apply(Event::Put {
+        name,
+        mode: Mode::Octet,
+        asked: Asked::default(),
+        bytes,
+    })
+}
+
+/// The same of a client that asks to write.
+fn is_put(
+    rt: &impl Abort,
+    alloc: Global,
+    world: &mut World,
+    path: &Path,
+    byte: u8,
+) -> Result<(), Fail> {
+    let before = told(world, path);
+    let report = match asks_to_write(alloc, world, byte) {
+        Err(WorldFault::Memory) => {
+            assert_eq!(rt; told(world, path), before, "after the writer was refused");
+            asks_to_write(alloc, world, byte)?
+        }
+        taken => taken?,
+    };
+    assert_eq!(rt; report.added, Some(before.datagrams), "the request is sent");
+    Ok(())
+}
+
+/// ACK 0 opens each of two writes, and each client sends its block.
+const TWO_WRITES: [Row; 3] = [
+    (2, Some(3), None),
+    (1, Some(4), None),
+    (3, Some(5), None),
+];
+
+/// The first commit has the name; the other is refused, and its client is told so (RFC 1350, appendix I).
+const RACE: [Row; 4] = [
+    (4, Some(6), None),
+    (5, Some(7), Some((1027, Outcome::StoreFault))),
+    (7, None, Some((1026, Outcome::PeerError(6)))),
+    (6, None, Some((1024, Outcome::Complete))),
+];
+
+/// A commit that finds no memory answers that the disk is full, and leaves no file.
+const NO_ROOM: (Option<usize>, Option<(u16, Outcome)>) =
+    (Some(6), Some((1025, Outcome::StoreFault)));
+
+#[test]
+fn memory_in_turn_at_a_race(rt: HostRuntime) -> Result<(), Fail> {
+    let path = path_of(rt.alloc(), b"n")?;
+    let mut world = world(&rt, rt.alloc(), 16)?;
+    is_put(&rt, rt.alloc(), &mut world, &path, b'A')?;
+    runs(&rt, &mut world, &path, &[(0, Some(1), None)]);
+    is_put(&rt, rt.alloc(), &mut world, &path, b'B')?;
+    runs(&rt, &mut world, &path, &TWO_WRITES);
+    let report = delivers(&rt, &mut world, &path, 4)?;
+    if world.file(&path).is_none() {
+        assert_eq!(rt; (report.added, report.closed), NO_ROOM, "the commit");
+        return Ok(());
+    }
+    let [(_, added, closed), behind @ ..] = &RACE;
+    assert_eq!(rt; (report.added, report.closed), (*added, *closed), "the commit");
+    runs(&rt, &mut world, &path, behind);
+    let file = world.file(&path).ok_or("a file")?;
+    assert_eq!(rt; file, b"A".as_slice(), "what came first");
+    Ok(())
+}
