@@ -13,12 +13,14 @@ use Rattle.tftp_ends.specs.Waiting.{default_terms}
 use Rattle.tftp_server.specs.declared.config.Config.{Config}
 use Rattle.tftp_player.specs.Completing.{Transfers, nothing_asked}
 use Rattle.tftp_player.specs.Openings.{reading_client, sending_end}
+use Rattle.tftp_player.specs.Straight.{SomeReadIsStraight}
 use Rattle.tftp_player.specs.World.{WorldState, OpenedEnd, StoredFile, new_world, end_after, replied, report_of, opened_in, sent_report, at_rest}
 use Rattle.tftp_player.specs.WorldSteps.{At_request_port, WorldStep}
 use Rattle.tftp_player.specs.declared.datagram.Datagram.{Datagram}
 use Rattle.tftp_player.specs.declared.event.Event.TheVariants.{Get, Deliver}
 use Rattle.tftp_player.proofs.Resting.{resting_opened}
 use Rattle.tftp_player.proofs.StepLemmas.{get_step}
+use Rattle.tftp_player.proofs.WorldRuns.{new_ok}
 use Rattle.tftp_player.proofs.Witness.{bytes_below, first_request, takes}
 
 -- ---- a read of one byte, in octet and without options
@@ -128,5 +130,39 @@ read_transfers = (
     receiver_done = refl;
     file = refl;
     stored = refl;
+  },
+)
+
+-- and without loss
+pub read_is_straight : SomeReadIsStraight nothing_asked []
+unfolding places_of
+read_is_straight = (
+  w0,
+  w4,
+  name,
+  Octet,
+  file,
+  new_ok false files config (omega arith, omega arith),
+  record {
+    run = record {
+      report = sent_report w0;
+      asked = w1;
+      asks = asks;
+      reports = sent_report w1 ∷ report_of w2 client turn3 ∷ report_of w3 server turn4 ∷ [];
+      settles = (w2, opens, (w3, stores, (w4, completes, refl)));
+      all = omega arith;
+    };
+    path = name;
+    length = 1;
+    there = refl;
+    accepted = record {
+      decoded = Some (packet_in d0.bytes);
+      says = fine_spells d0.bytes (bytes_below d0.bytes refl) refl;
+      repeated = false;
+      repeats = first_request client.address (packet_in d0.bytes) client refl;
+      is = refl;
+    };
+    answered = tt;
+    taken = (tt, (tt, ((λ e. cc), tt)));
   },
 )

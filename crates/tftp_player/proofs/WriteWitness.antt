@@ -17,12 +17,14 @@ use Rattle.tftp_ends.specs.Waiting.{default_terms}
 use Rattle.tftp_server.specs.declared.config.Config.{Config}
 use Rattle.tftp_player.specs.Completing.{Transfers, nothing_asked}
 use Rattle.tftp_player.specs.Openings.{writing_client, receiving_end}
+use Rattle.tftp_player.specs.Straight.{SomeWriteIsStraight}
 use Rattle.tftp_player.specs.World.{WorldState, OpenedEnd, new_world, end_after, replied, report_of, opened_in, sent_report, at_rest}
 use Rattle.tftp_player.specs.WorldSteps.{At_request_port, WorldStep}
 use Rattle.tftp_player.specs.declared.datagram.Datagram.{Datagram}
 use Rattle.tftp_player.specs.declared.event.Event.TheVariants.{Put, Deliver}
 use Rattle.tftp_player.proofs.Resting.{resting_opened}
 use Rattle.tftp_player.proofs.StepLemmas.{put_step}
+use Rattle.tftp_player.proofs.WorldRuns.{new_ok}
 use Rattle.tftp_player.proofs.Witness.{bytes_below, first_request, takes}
 
 -- ---- a write of one byte, in octet and without options
@@ -160,5 +162,38 @@ write_transfers = (
     receiver_done = refl;
     file = refl;
     stored = refl;
+  },
+)
+
+-- and without loss
+pub write_is_straight : SomeWriteIsStraight nothing_asked []
+unfolding places_of
+write_is_straight = (
+  w0,
+  w5,
+  name,
+  Octet,
+  file,
+  new_ok false [] config (omega arith, omega arith),
+  record {
+    run = record {
+      report = sent_report w0;
+      asked = w1;
+      asks = asks;
+      reports = sent_report w1 ∷ report_of w2 client turn3 ∷ report_of w3 server turn4 ∷ report_of w4 sending turn5 ∷ [];
+      settles = (w2, opens, (w3, sends, (w4, stores, (w5, completes, refl))));
+      all = omega arith;
+    };
+    path = name;
+    accepted = record {
+      decoded = Some (packet_in d0.bytes);
+      says = fine_spells d0.bytes (bytes_below d0.bytes refl) refl;
+      repeated = false;
+      repeats = first_request client.address (packet_in d0.bytes) client refl;
+      is = refl;
+    };
+    answered = tt;
+    fits = omega arith;
+    taken = (tt, (tt, (tt, ((λ e. cc), tt))));
   },
 )

@@ -1,5 +1,5 @@
 -- A run without loss: a client opens, and each datagram from its request on is delivered once, in the order sent.
-use Rattle.std.specs.Prelude.{ℕ, ◌≡◌, ◌≢◌, ◌+◌, ◌*◌, ◌≤◌, Bool, ⊤, List, [], ◌∷◌, length, slice_get, Option, Some, None, Ok}
+use Rattle.std.specs.Prelude.{ℕ, ◌≡◌, ◌≢◌, ◌+◌, ◌*◌, ◌≤◌, false, Bool, ⊤, List, [], ◌∷◌, length, slice_get, Option, Some, None, Ok}
 use Rattle.tftp_wire.specs.declared.mode.Mode.{Mode}
 use Rattle.tftp_wire.specs.declared.packet.Packet.{Packet}
 use Rattle.tftp_negotiate.specs.Agreed.{size, agreed_options}
@@ -112,3 +112,14 @@ WritesComplete =
     (strangers : Bool) (old new : WorldState) (name : List ℕ) (mode : Mode) (asked : Asked) (file : List ℕ) (agreed : List Known) →
     IsOk strangers old → WritesStraight old new name mode asked file agreed →
     IsThrough old new (write_count (block_count (wire_text mode file) (size agreed)))
+
+-- some read is straight, and some write, where this was asked and agreed
+abbrev pub SomeReadIsStraight : Asked → List Known → Type 0
+SomeReadIsStraight asked agreed =
+    (old : WorldState) × (new : WorldState) × (name : List ℕ) × (mode : Mode) × (file : List ℕ)
+    × IsOk false old × ReadsStraight old new name mode asked file agreed
+
+abbrev pub SomeWriteIsStraight : Asked → List Known → Type 0
+SomeWriteIsStraight asked agreed =
+    (old : WorldState) × (new : WorldState) × (name : List ℕ) × (mode : Mode) × (file : List ℕ)
+    × IsOk false old × WritesStraight old new name mode asked file agreed

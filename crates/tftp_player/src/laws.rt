@@ -3,6 +3,7 @@
 
 ghost use Rattle.std.specs.Prelude.{List, [], ◌∷◌};
 ghost use Rattle.tftp_wire.specs.declared.mode.Mode.TheVariants.{Octet, Netascii};
+ghost use Rattle.tftp_negotiate.specs.declared.known.Known.TheVariants.{Blksize};
 ghost use Rattle.tftp_player.specs.Completing.{Transfers, nothing_asked, blocks_of_8};
 ghost use Rattle.tftp_player.specs.declared.event.Event.TheVariants.{Get, Put};
 ghost use Rattle.tftp_player.specs.Facts.{Holds};
@@ -14,6 +15,7 @@ ghost use Rattle.tftp_player.specs.Recorded.{AreRecorded};
 ghost use Rattle.tftp_player.specs.Rules.{Rule, IsLegal, run, start};
 ghost use Rattle.tftp_player.specs.Shows.{EndView, IsShown};
 ghost use Rattle.tftp_player.specs.Straight.{ReadsComplete, WritesComplete};
+ghost use Rattle.tftp_player.specs.Straight.{SomeReadIsStraight, SomeWriteIsStraight};
 ghost use Rattle.tftp_player.specs.Strangers.{StraysChangeNoRecord, ClientsHaveServers};
 ghost use Rattle.tftp_player.specs.ViewSafety.{IsSafeViews, PeersAtHome};
 ghost use Rattle.tftp_player.specs.WorldRuns.{WorldsAreSafe, PeersStayHome, StepsKeep, KeptIsSafe};
@@ -99,8 +101,12 @@ pub fn a_stray_changes_no_record()
 /// A run without loss, of a request that is accepted by both ends and whose stores refuse nothing, ends
 /// with both ends complete after exactly `1 + 2N` datagrams for a read that is answered by DATA 1,
 /// `3 + 2N` for one that is answered by an OACK, and `2 + 2N` for a write, where the text has `N` blocks
-/// of the agreed size (RFC 1350, section 2; RFC 2347, "Negotiation Protocol").
+/// of the agreed size (RFC 1350, section 2; RFC 2347, "Negotiation Protocol"). There are such runs: of a
+/// read and of a write without options, and of a read in blocks of 8 bytes.
 pub fn a_straight_run_completes()
     ensures reads { ReadsComplete }
     ensures writes { WritesComplete }
+    ensures read { SomeReadIsStraight nothing_asked [] }
+    ensures write { SomeWriteIsStraight nothing_asked [] }
+    ensures options { SomeReadIsStraight blocks_of_8 (Blksize 8 ∷ []) }
 {}
