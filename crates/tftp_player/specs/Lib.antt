@@ -26,6 +26,7 @@ pub mod Stage
 pub mod Arriving
 pub mod Settling
 pub mod Strangers
+pub mod Repeating
 pub mod Completing
 pub mod OneAtMost
 pub mod Straight

@@ -12,6 +12,7 @@ ghost use Rattle.tftp_player.specs.Machine.{Endpoint, Message};
 ghost use Rattle.tftp_player.specs.MachineSafety.{IsSafeMachine, IsCompleted};
 ghost use Rattle.tftp_player.specs.OneAtMost.{EventsAddOneAtMost};
 ghost use Rattle.tftp_player.specs.Recorded.{AreRecorded};
+ghost use Rattle.tftp_player.specs.Repeating.{RepeatsOpenNothing, OnlyNewRequestsOpen};
 ghost use Rattle.tftp_player.specs.Rules.{Rule, IsLegal, run, start};
 ghost use Rattle.tftp_player.specs.Shows.{EndView, IsShown};
 ghost use Rattle.tftp_player.specs.Straight.{ReadsComplete, WritesComplete};
@@ -109,4 +110,12 @@ pub fn a_straight_run_completes()
     ensures read { SomeReadIsStraight nothing_asked [] }
     ensures write { SomeWriteIsStraight nothing_asked [] }
     ensures options { SomeReadIsStraight blocks_of_8 (Blksize 8 ∷ []) }
+{}
+
+/// At the request port a request that repeats that of an open transfer is ignored: nothing is sent, and
+/// no end opens or changes (RFC 1350, section 4). A datagram that opens an end repeats none before, and
+/// is repeated by the same datagram once more.
+pub fn a_repeat_opens_nothing()
+    ensures ignored { RepeatsOpenNothing }
+    ensures anew { OnlyNewRequestsOpen }
 {}

@@ -1,0 +1,40 @@
+-- A request that repeats that of an open transfer opens no other (RFC 1350, section 4).
+use Rattle.std.specs.Prelude.{◌≡◌, ◌<◌, ℕ, Bool, List, length}
+use Rattle.tftp_wire.specs.Spelling.{Spells}
+use Rattle.tftp_wire.specs.declared.packet.Packet.{Packet}
+use Rattle.tftp_wire.specs.declared.packet.Packet.TheVariants.{Read, Write}
+use Rattle.tftp_player.specs.Machine.{Endpoint, request_port}
+use Rattle.tftp_player.specs.Requests.{AnyRepeats}
+use Rattle.tftp_player.specs.World.{WorldState, no_report, resting}
+use Rattle.tftp_player.specs.WorldKept.{IsOk}
+use Rattle.tftp_player.specs.WorldSteps.{Lands}
+use Rattle.tftp_player.specs.declared.report.Report.{Report}
+
+-- only these two packets ask for a transfer
+abbrev pub AsksForTransfer : Packet → Type 0
+AsksForTransfer (Read request) = Unit {0}
+AsksForTransfer (Write request) = Unit {0}
+AsksForTransfer packet = ⊥
+
+-- the request port ignores a request by which an open end of the server was asked for from the same endpoint: nothing is
+-- sent, and no end opens or changes, but that closed ends are at rest
+abbrev pub RepeatsOpenNothing : Type 0
+RepeatsOpenNothing =
+    (strangers : Bool) (old new : WorldState) (from : Endpoint) (packet : Packet) (bytes : List ℕ) (report : Report) →
+    IsOk strangers old → AsksForTransfer packet → Spells packet bytes → AnyRepeats from packet old.ends →
+    Lands old from request_port bytes report new → (report ≡ no_report) × (new ≡ resting old)
+
+-- the datagram is a request to the request port: no open end was asked for by it from there before, and one is now
+pub record IsNewRequest (from to : Endpoint) (bytes : List ℕ) (old new : WorldState) : Type 0 where
+  pub packet : Packet
+  pub asks : AsksForTransfer packet
+  pub spells : Spells packet bytes
+  pub at_port : to ≡ request_port
+  pub before : AnyRepeats from packet old.ends → ⊥
+  pub now : AnyRepeats from packet new.ends
+
+-- a datagram that opens an end is such a request; once more, it repeats the request of that end
+abbrev pub OnlyNewRequestsOpen : Type 0
+OnlyNewRequestsOpen =
+    (old new : WorldState) (from to : Endpoint) (bytes : List ℕ) (report : Report) →
+    Lands old from to bytes report new → length old.ends < length new.ends → IsNewRequest from to bytes old new
