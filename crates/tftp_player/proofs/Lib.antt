@@ -57,6 +57,7 @@ pub mod TellingLemmas
 pub mod ArrivalLemmas
 pub mod RefusingLemmas
 pub mod RepeatedLemmas
+pub mod TermsKept
 pub mod RepeatingLemmas
 pub mod AskingLemmas
 mod PlayedKeeps

@@ -1,9 +1,10 @@
--- A request that repeats that of an open transfer opens nothing.
+-- A request that repeats that of an open transfer opens nothing, and repeats it while that transfer is open.
 use Rattle.std.proofs.Common.{◌≡◌, ℕ, ◌<◌, Bool, true, false, List, [], ◌∷◌, ◌++◌, length, map, Option, Some, None, refl, sym, ap, ◌∙◌, subst, inl, inr, arith}
-use Rattle.std.specs.Prelude.{if◌then◌else◌, slice_get}
+use Rattle.std.specs.Prelude.{if◌then◌else◌, option_map, slice_get, slice_set}
 use Rattle.std.proofs.Math.ListN.{length-set}
 use Rattle.std.proofs.lemmas.Bool.{true≢false}
 use Rattle.std.proofs.lemmas.List.{length-map}
+use Rattle.std.proofs.lemmas.Option.{same_Some}
 use Rattle.tftp_wire.specs.Reading.{has_error_opcode}
 use Rattle.tftp_wire.specs.Spelling.{Spells}
 use Rattle.tftp_wire.specs.declared.mode.Mode.{Mode}
@@ -11,21 +12,30 @@ use Rattle.tftp_wire.specs.declared.packet.Packet.{Packet}
 use Rattle.tftp_wire.specs.declared.packet.Packet.TheVariants.{Read, Write, Data, Ack, Error, Oack}
 use Rattle.tftp_negotiate.specs.declared.known.Known.{Known}
 use Rattle.tftp_file.specs.declared.files.Files.{Files}
+use Rattle.tftp_file.specs.declared.files.Files.TheVariants.{Source, Sink}
 use Rattle.tftp_file.specs.Sink.{Holding}
+use Rattle.tftp_ends.specs.declared.phase.Phase.{Phase}
+use Rattle.tftp_ends.specs.declared.phase.Terms.{Terms}
+use Rattle.tftp_ends.specs.End.{is_client, is_sender, terms_of}
 use Rattle.tftp_ends.specs.declared.error_reply.ErrorReply.TheVariants.{IllegalOperation}
 use Rattle.tftp_ends.specs.Action.{Decodes}
-use Rattle.tftp_ends.specs.Step.{Turn}
+use Rattle.tftp_ends.specs.Step.{Turn, timeout_turn}
 use Rattle.tftp_server.specs.Port.{Service, Silent, Refused, Sends, Takes, Ignores, Refuses}
 use Rattle.tftp_player.specs.Machine.{Endpoint, request_port}
 use Rattle.tftp_player.specs.Openings.{sending_end, receiving_end}
-use Rattle.tftp_player.specs.Repeating.{AsksForTransfer, RepeatsOpenNothing, IsNewRequest, OnlyNewRequestsOpen}
+use Rattle.tftp_player.specs.Repeating.{AsksForTransfer, RepeatsOpenNothing, IsNewRequest, OnlyNewRequestsOpen, RequestsLast}
 use Rattle.tftp_player.specs.Requests.{IsRepeated, Repeats, AnyRepeats, served, service}
-use Rattle.tftp_player.specs.World.{WorldState, OpenedEnd, at_rest, resting, end_after, view_of_end}
+use Rattle.tftp_player.specs.World.{WorldState, OpenedEnd, at_rest, resting, end_after, files_of, is_closed, peer_of, view_of_end}
 use Rattle.tftp_player.specs.WorldKept.{IsOk}
-use Rattle.tftp_player.specs.WorldSteps.{Serves, Arrives, At_request_port, At_open_end, At_closed_end, At_nobody, Opens, Stays, Turns}
+use Rattle.tftp_player.specs.WorldSteps.{Serves, Arrives, At_request_port, At_open_end, At_closed_end, At_nobody, Opens, Stays, Turns, TimesOut, told_to_refuse, EventStep}
+use Rattle.tftp_player.specs.declared.event.Event.{Event}
+use Rattle.tftp_player.specs.declared.event.Event.TheVariants.{Get, Put, Deliver, Timeout, RefuseStore, Stray}
 use Rattle.tftp_player.specs.declared.report.Report.{Report}
-use Rattle.tftp_player.proofs.Resting.{at_rest_open}
+use Rattle.tftp_player.proofs.Resting.{at_rest_open, at_rest_closed, rest_at}
+use Rattle.tftp_player.proofs.Places.{slice_get-push_old, slice_get-set_cases}
 use Rattle.tftp_player.proofs.ServerLemmas.{says_one}
+use Rattle.tftp_player.proofs.TermsKept.{step_has, timeout_has}
+use Rattle.tftp_player.proofs.TurnKeeps.{step_keeps, timeout_keeps}
 use Rattle.tftp_player.proofs.WorldTurns.{view_at}
 
 -- ---- what repeats a request is ignored
@@ -152,3 +162,81 @@ pub only_new_requests_open : OnlyNewRequestsOpen
 only_new_requests_open old new from to bytes report l more =
     subst (λ (w : WorldState). IsNewRequest from to bytes old w) (sym l.2)
     (opens old l.0 from bytes report (subst (λ (w : WorldState). length old.ends < length w.ends) l.2 more) to l.1)
+
+-- ---- a request lasts as long as the end that it opened is open
+
+-- the peer stays with what was agreed on
+same_peer : (phase phase' : Phase) (from : Endpoint) → peer_of phase ≡ Some from → ((agreed : Terms) → terms_of phase ≡ Some agreed → terms_of phase' ≡ Some agreed) → peer_of phase' ≡ Some from
+same_peer phase phase' from peer stays = by_terms (terms_of phase) refl peer where
+  by_terms : (terms : Option Terms) → terms_of phase ≡ terms → option_map (λ t. t.peer) terms ≡ Some from → peer_of phase' ≡ Some from
+  by_terms None is h = absurd (let f : None ≡ Some from = h in cc)
+  by_terms (Some agreed) is h = ap (option_map (λ t. t.peer)) (stays agreed is) ∙ h
+
+module _ (from : Endpoint) (packet : Packet) where
+  -- while it is open it is repeated
+  abbrev Lasts : OpenedEnd → Type 0
+  Lasts x = is_closed x ≡ false → Repeats from packet x
+
+  turn_lasts : (x : OpenedEnd) (turn : Turn) (held : Files (List ℕ) Holding) → turn.end.side ≡ x.state.side →
+      ((agreed : Terms) → terms_of x.state.phase ≡ Some agreed → terms_of turn.end.phase ≡ Some agreed) → Repeats from packet x → Lasts (end_after x turn held)
+  turn_lasts x turn (Source left) side stays r o = record { server = ap is_client side ∙ r.server; still = o; peer = same_peer x.state.phase turn.end.phase from r.peer stays; same = r.same }
+  turn_lasts x turn (Sink holding) side stays r o = record { server = ap is_client side ∙ r.server; still = o; peer = same_peer x.state.phase turn.end.phase from r.peer stays; same = r.same }
+
+  told_lasts : (x : OpenedEnd) → Repeats from packet x → Repeats from packet (told_to_refuse x)
+  told_lasts x r = by_tests (is_sender x.state.side) (is_closed x) where
+    by_tests : (sender closed : Bool) → Repeats from packet (if sender then x else if closed then x else record x { refuses = true })
+    by_tests true closed = r
+    by_tests false true = r
+    by_tests false false = record { server = r.server; still = r.still; peer = r.peer; same = r.same }
+
+  module _ (old mid : WorldState) (report : Report) (k : ℕ) (x z : OpenedEnd) (there : slice_get old.ends k ≡ Some x) (r : Repeats from packet x) (here : slice_get mid.ends k ≡ Some z) where
+    same_end : mid.ends ≡ old.ends → Lasts z
+    same_end e o = subst (Repeats from packet) (same_Some x z (sym there ∙ (ap (λ (ends : List OpenedEnd). slice_get ends k) (sym e) ∙ here))) r
+
+    same_world : Stays old report mid → Lasts z
+    same_world s = same_end (ap (λ (w : WorldState). w.ends) s.is)
+
+    pushed : (y : OpenedEnd) → Opens old y report mid → Lasts z
+    pushed y opens o = subst (Repeats from packet) (same_Some x z (sym (slice_get-push_old old.ends k y x there) ∙ (ap (λ (w : WorldState). slice_get w.ends k) (sym opens.is) ∙ here))) r
+
+    -- the end at a place became another
+    set_at : (j : ℕ) (y a : OpenedEnd) → mid.ends ≡ slice_set old.ends j a → slice_get old.ends j ≡ Some y → (Repeats from packet y → Lasts a) → Lasts z
+    set_at j y a e at lasts = elim (slice_get-set_cases old.ends j k a z (ap (λ (ends : List OpenedEnd). slice_get ends k) (sym e) ∙ here)) [
+      | inl h ↦ subst Lasts (sym h.1) (lasts (subst (Repeats from packet) (same_Some x y (sym there ∙ (ap (slice_get old.ends) h.0 ∙ at))) r))
+      | inr h ↦ λ o. subst (Repeats from packet) (same_Some x z (sym there ∙ h.1)) r
+    ]
+
+    at_service : (what : Service) (bytes : List ℕ) (asker : Endpoint) → Serves what old asker bytes report mid → Lasts z
+    at_service Silent bytes asker s = same_world s
+    at_service (Refused reply) bytes asker s = same_end (ap (λ (w : WorldState). w.ends) s.1)
+    at_service (Sends path mode count agreed) bytes asker s = pushed _ s.2
+    at_service (Takes path mode agreed) bytes asker s = pushed _ s
+
+    at_arrival : (by to : Endpoint) (bytes : List ℕ) → Arrives old by to bytes report mid → Lasts z
+    at_arrival by to bytes (At_request_port asked port decoded says repeated same s) = at_service _ bytes by s
+    at_arrival by to bytes (At_open_end j y there_now at open_now t) =
+        set_at j y (end_after y t.turn t.held) (ap (λ (w : WorldState). w.ends) t.turns.is) there_now
+        (turn_lasts y t.turn t.held (step_keeps _ by bytes y.state (files_of y) t.held t.turn t.steps).side (λ agreed h. step_has agreed _ by bytes y.state (files_of y) t.held t.turn h t.steps))
+    at_arrival by to bytes (At_closed_end j y there_now at closed_now s) = same_world s
+    at_arrival by to bytes (At_nobody away nobody s) = same_world s
+
+    at_timeout : (b : Bool) (j : ℕ) (y : OpenedEnd) → slice_get old.ends j ≡ Some y → TimesOut b old j y report mid → Lasts z
+    at_timeout true j y at s = same_world s
+    at_timeout false j y at t =
+        set_at j y (end_after y (timeout_turn y.state) (files_of y)) (ap (λ (w : WorldState). w.ends) t.is) at
+        (turn_lasts y (timeout_turn y.state) (files_of y) (timeout_keeps y.state).side (λ agreed h. timeout_has agreed y.state h))
+
+    at_event : (event : Event) → EventStep old event report mid → Lasts z
+    at_event (Get name mode asked) s = pushed _ s.2
+    at_event (Put name mode asked bytes) s = pushed _ s.2
+    at_event (Deliver i) s = at_arrival _ _ _ s.2
+    at_event (Timeout port) s = at_timeout _ s.0 s.1 s.2.there s.3
+    at_event (RefuseStore port) s =
+        set_at s.0 s.1 (told_to_refuse s.1) (ap (λ (w : WorldState). w.ends) s.4) s.2.there (λ own o. told_lasts s.1 own)
+    at_event (Stray by to bytes) s = at_arrival _ _ _ s.1
+
+pub requests_last : RequestsLast
+requests_last old new event report from packet k x y s there r here open_now =
+    let h = rest_at s.0.ends k y (ap (λ (w : WorldState). slice_get w.ends k) (sym s.2) ∙ here) in
+    let still_open : is_closed h.0 ≡ false = sym (at_rest_closed h.0) ∙ (ap is_closed h.2 ∙ open_now) in
+    subst (Repeats from packet) h.2 (rests from packet h.0 (at_event from packet old s.0 report k x h.0 there r h.1 event s.1 still_open))

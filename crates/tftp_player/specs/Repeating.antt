@@ -1,13 +1,14 @@
 -- A request that repeats that of an open transfer opens no other (RFC 1350, section 4).
-use Rattle.std.specs.Prelude.{◌≡◌, ◌<◌, ℕ, Bool, List, length}
+use Rattle.std.specs.Prelude.{◌≡◌, ◌<◌, ℕ, Bool, false, List, length, slice_get, Some}
 use Rattle.tftp_wire.specs.Spelling.{Spells}
 use Rattle.tftp_wire.specs.declared.packet.Packet.{Packet}
 use Rattle.tftp_wire.specs.declared.packet.Packet.TheVariants.{Read, Write}
 use Rattle.tftp_player.specs.Machine.{Endpoint, request_port}
-use Rattle.tftp_player.specs.Requests.{AnyRepeats}
-use Rattle.tftp_player.specs.World.{WorldState, no_report, resting}
+use Rattle.tftp_player.specs.Requests.{Repeats, AnyRepeats}
+use Rattle.tftp_player.specs.World.{WorldState, OpenedEnd, is_closed, no_report, resting}
 use Rattle.tftp_player.specs.WorldKept.{IsOk}
-use Rattle.tftp_player.specs.WorldSteps.{Lands}
+use Rattle.tftp_player.specs.WorldSteps.{Lands, WorldStep}
+use Rattle.tftp_player.specs.declared.event.Event.{Event}
 use Rattle.tftp_player.specs.declared.report.Report.{Report}
 
 -- only these two packets ask for a transfer
@@ -33,8 +34,15 @@ pub record IsNewRequest (from to : Endpoint) (bytes : List ℕ) (old new : World
   pub before : AnyRepeats from packet old.ends → ⊥
   pub now : AnyRepeats from packet new.ends
 
--- a datagram that opens an end is such a request; once more, it repeats the request of that end
+-- a datagram that opens an end is such a request
 abbrev pub OnlyNewRequestsOpen : Type 0
 OnlyNewRequestsOpen =
     (old new : WorldState) (from to : Endpoint) (bytes : List ℕ) (report : Report) →
     Lands old from to bytes report new → length old.ends < length new.ends → IsNewRequest from to bytes old new
+
+-- what repeats the request of an end repeats it after each event, while the end is open
+abbrev pub RequestsLast : Type 0
+RequestsLast =
+    (old new : WorldState) (event : Event) (report : Report) (from : Endpoint) (packet : Packet) (k : ℕ) (x y : OpenedEnd) →
+    WorldStep old event report new → slice_get old.ends k ≡ Some x → Repeats from packet x →
+    slice_get new.ends k ≡ Some y → is_closed y ≡ false → Repeats from packet y

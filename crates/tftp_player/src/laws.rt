@@ -12,7 +12,7 @@ ghost use Rattle.tftp_player.specs.Machine.{Endpoint, Message};
 ghost use Rattle.tftp_player.specs.MachineSafety.{IsSafeMachine, IsCompleted};
 ghost use Rattle.tftp_player.specs.OneAtMost.{EventsAddOneAtMost};
 ghost use Rattle.tftp_player.specs.Recorded.{AreRecorded};
-ghost use Rattle.tftp_player.specs.Repeating.{RepeatsOpenNothing, OnlyNewRequestsOpen};
+ghost use Rattle.tftp_player.specs.Repeating.{RepeatsOpenNothing, OnlyNewRequestsOpen, RequestsLast};
 ghost use Rattle.tftp_player.specs.Rules.{Rule, IsLegal, run, start};
 ghost use Rattle.tftp_player.specs.Shows.{EndView, IsShown};
 ghost use Rattle.tftp_player.specs.Straight.{ReadsComplete, WritesComplete};
@@ -114,8 +114,9 @@ pub fn a_straight_run_completes()
 
 /// At the request port a request that repeats that of an open transfer is ignored: nothing is sent, and
 /// no end opens or changes (RFC 1350, section 4). A datagram that opens an end repeats none before, and
-/// is repeated by the same datagram once more.
+/// the same datagram again repeats it as long as that end is open.
 pub fn a_repeat_opens_nothing()
     ensures ignored { RepeatsOpenNothing }
     ensures anew { OnlyNewRequestsOpen }
+    ensures lasts { RequestsLast }
 {}

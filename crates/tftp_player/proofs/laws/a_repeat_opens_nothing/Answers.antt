@@ -1,4 +1,4 @@
-use Rattle.tftp_player.proofs.RepeatingLemmas.{repeats_open_nothing, only_new_requests_open}
+use Rattle.tftp_player.proofs.RepeatingLemmas.{repeats_open_nothing, only_new_requests_open, requests_last}
 use Rattle.tftp_player.proofs.laws.a_repeat_opens_nothing.Goals as goal
 
 pub returns-clause-ignored : goal.returns-clause-ignored
@@ -6,3 +6,6 @@ returns-clause-ignored g = repeats_open_nothing
 
 pub returns-clause-anew : goal.returns-clause-anew
 returns-clause-anew g = only_new_requests_open
+
+pub returns-clause-lasts : goal.returns-clause-lasts
+returns-clause-lasts g = requests_last
