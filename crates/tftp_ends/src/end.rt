@@ -275,8 +275,8 @@ impl End {
     ) -> Result<(Step, Outgoing), EndFault>
         requires { AreFilesOf self.old.side files.old }
         ensures steps { IfOk result (λ answer. (turn : Turn)
-            × DatagramStep S.left S.may_fail K.held K.may_refuse_append K.may_refuse_commit K.becomes
-            from bytes.now self.old files.old turn files.new
+            × DatagramStep S.left S.may_fail K.held K.may_refuse_append K.may_refuse_commit
+            K.becomes from bytes.now self.old files.old turn files.new
             × Lends turn self.new answer.0.to answer.1 × (answer.0 ≡ told self.old turn)) }
         ensures closed { IsErrOf result EndFault.Closed ↔ IsSome (outcome_of self.old.phase) }
         ensures memory { IsErrOf result EndFault.Memory → (decoded : Option Packet)
@@ -340,8 +340,8 @@ impl End {
     ) -> Result<Step, EndFault>
         requires { AreFilesOf self.old.side files.old }
         ensures steps { IfOk result (λ step. (turn : Turn)
-            × DatagramStep S.left S.may_fail K.held K.may_refuse_append K.may_refuse_commit K.becomes
-            from bytes.now self.old files.old turn files.new
+            × DatagramStep S.left S.may_fail K.held K.may_refuse_append K.may_refuse_commit
+            K.becomes from bytes.now self.old files.old turn files.new
             × Carries turn self.new step.to out.old.items out.new.items
             × (step ≡ told self.old turn)) }
         ensures closed { IsErrOf result EndFault.Closed ↔ IsSome (outcome_of self.old.phase) }

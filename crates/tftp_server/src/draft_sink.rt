@@ -37,7 +37,8 @@ impl<'s, 'd, 'p, S: Store> Sink for DraftSink<'s, 'd, 'p, S> {
         S.may_refuse_commit d.store.now d.path.now d.draft.now d.replace fault };
 
     ghost is_same = { λ d e. (e.store.ghost_name ≡ d.store.ghost_name)
-        × (e.draft.ghost_name ≡ d.draft.ghost_name) × (e.path.now ≡ d.path.now) × (e.replace ≡ d.replace) };
+        × (e.draft.ghost_name ≡ d.draft.ghost_name) × (e.path.now ≡ d.path.now)
+        × (e.replace ≡ d.replace) };
 
     ghost becomes = { λ d e committed. DraftingBecomes (meaning_by
         S.stored S.Source.left S.drafted S.Source.may_fail S.may_refuse_open

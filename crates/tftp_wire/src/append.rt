@@ -42,7 +42,8 @@ pub fn append_data_header(out: &mut Vec<u8>, block: u16) -> Result<(), AllocErro
 pub fn append_data(out: &mut Vec<u8>, block: u16, bytes: &[u8]) -> Result<(), AllocError>
     ensures ok { OnOk result (out.new.items ≡ out.old.items ++ canonical (Data block bytes.now)) }
     ensures err { OnErr result (out.new.items ≡ out.old.items) }
-    ensures room { vec_len out.old + (HEADER + length bytes.now) ≤ vec_capacity out.old → IsOk result }
+    ensures room { vec_len out.old + (HEADER + length bytes.now) ≤ vec_capacity out.old
+        → IsOk result }
     ensures capacity { vec_capacity out.old ≤ vec_capacity out.new }
 {
     out.reserve(HEADER + bytes.len())?;
@@ -55,7 +56,8 @@ pub fn append_data(out: &mut Vec<u8>, block: u16, bytes: &[u8]) -> Result<(), Al
 pub fn append_error(out: &mut Vec<u8>, code: u16, text: &[u8]) -> Result<(), AllocError>
     ensures ok { OnOk result (out.new.items ≡ out.old.items ++ canonical (Error code text.now)) }
     ensures err { OnErr result (out.new.items ≡ out.old.items) }
-    ensures room { vec_len out.old + (HEADER + length text.now + 1) ≤ vec_capacity out.old → IsOk result }
+    ensures room { vec_len out.old + (HEADER + length text.now + 1) ≤ vec_capacity out.old
+        → IsOk result }
     ensures capacity { vec_capacity out.old ≤ vec_capacity out.new }
 {
     out.reserve(HEADER + text.len() + 1)?;
