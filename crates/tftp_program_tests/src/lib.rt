@@ -10,6 +10,8 @@ mod play_rows;
 #[cfg(test)]
 mod playing;
 #[cfg(test)]
+mod random_rows;
+#[cfg(test)]
 mod script_rows;
 #[cfg(test)]
 mod show_rows;
