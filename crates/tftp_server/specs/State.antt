@@ -49,6 +49,11 @@ module _ {F D : Type 0} where
   draft_at None = None
   draft_at (Some held) = draft_of held.files
 
+  -- the transfers that have not closed, and how far each came
+  abbrev pub open_records : List (ℕ × Held F D) → List (ℕ × Record)
+  open_records [] = []
+  open_records (e ∷ held) = if is_closed e.1 then open_records held else (e.0, record_of e.1.end) ∷ open_records held
+
   -- what is handed out of a transfer that is taken
   abbrev pub taken_of : Option (Held F D) → Option (Record × Option D)
   taken_of None = None

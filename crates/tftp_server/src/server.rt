@@ -11,13 +11,14 @@ ghost use Rattle.tftp_ends.specs.Step.{error_bytes, lent};
 ghost use Rattle.tftp_wire.specs.declared.packet.Packet.{Packet};
 ghost use Rattle.tftp_ends.specs.Action.{Decodes};
 ghost use Rattle.tftp_server.specs.Port.{asks, asks_store};
-ghost use Rattle.tftp_server.specs.State.{IsRepeated, at, draft_at, is_open, taken_of, without};
+ghost use Rattle.tftp_server.specs.State.{IsRepeated, at, draft_at, is_open, open_records, taken_of, without};
 ghost use Rattle.tftp_server.specs.Store.{meaning_by};
 ghost use Rattle.tftp_server.specs.Steps.{TimesOut, TimesOutLent, TimeoutFault, TakesDatagram, TakesDatagramLent, DatagramFault, DatagramFaultLent, KeepsHeld};
 ghost use Rattle.std.specs.Borrow.{Lends, sem};
 
 use crate::config::Config;
 use crate::fault::ServerFault;
+use crate::open_transfers::OpenTransfers;
 use crate::opened::Opened;
 use crate::server::request::{Asked, Decision};
 use crate::store::Store;
@@ -393,6 +394,14 @@ impl<S: Store> Server<S> {
             Ok(()) => Ok(()),
             Err(_) => Err(ServerFault::Memory),
         }
+    }
+
+    /// The transfers that are open, by rising identifier: of each its identifier and how far it came.
+    /// A closed one that was not taken is left out. It takes no memory.
+    pub fn open_transfers(&self) -> OpenTransfers<'_, S::Source, S::Draft>
+        ensures { result ≡ open_records self.now.held }
+    {
+        self.table.open_transfers()
     }
 
     /// The store.

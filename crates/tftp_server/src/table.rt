@@ -2,7 +2,7 @@
 
 ghost use Rattle.std.specs.Prelude.{◌≡◌, ◌↔◌, ◌++◌, [], map, length, option_copied, option_map, is_some, None, IsTrue, IfOk, IfErr, OnOk, OnErr, List, ℕ};
 ghost use Rattle.tftp_wire.specs.Borrowed.{owned};
-ghost use Rattle.tftp_server.specs.State.{IsRepeated};
+ghost use Rattle.tftp_server.specs.State.{IsRepeated, open_records};
 ghost use Rattle.std.specs.Map.{lookup, keys_of, remove_entry, set_value};
 ghost use Rattle.std.specs.Borrow.{LendsIf, sem};
 ghost use Rattle.std.specs.Option.{option_copied_mut};
@@ -10,6 +10,7 @@ ghost use Rattle.tftp_server.specs.Table.{IsKeyFor, AnyKeyRepeats, IsSpot};
 ghost use Rattle.std.specs.BTreeMap.{insert_entry, is_at};
 ghost use Rattle.std.specs.Ordering.{nat_cmp};
 
+use crate::open_transfers::OpenTransfers;
 use crate::transfer::Transfer;
 use slab::Slab;
 use std::alloc::{AllocError, Global};
@@ -101,6 +102,13 @@ impl<T> Table<T> {
 }
 
 impl<F, D> Table<Transfer<F, D>> {
+    /// Those that are open, by rising identifier.
+    pub(crate) fn open_transfers(&self) -> OpenTransfers<'_, F, D>
+        ensures { result ≡ open_records self.now }
+    {
+        OpenTransfers::new(&self.index, &self.slots)
+    }
+
     /// Whether one of them is open and was asked for from there by this packet.
     pub(crate) fn is_repeated(&self, from: Endpoint, decoded: &Option<PacketRef<'_>>) -> bool
         ensures { IsRepeated result from (option_map owned decoded.now) self.now }

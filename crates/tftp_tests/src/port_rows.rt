@@ -290,6 +290,24 @@ fn an_open_transfer_stays(rt: HostRuntime) -> Result<(), Fail> {
     Ok(())
 }
 
+/// The identifiers of the transfers that are open when the second has closed.
+const OPEN: &[u16] = &[1027, 1030];
+
+#[test]
+fn open_transfers_are_told(rt: HostRuntime) -> Result<(), Fail> {
+    let mut server = busy_server(&rt, rt.alloc())?;
+    let mut out = Vec::new(rt.alloc());
+    let step = server.on_datagram(1025, client(1025), b"\x00\x04\x00\x01", &mut out)?;
+    assert_eq!(rt; step.closed, Some(Outcome::Complete), "one closes");
+    let mut open = Vec::new(rt.alloc());
+    for (tid, record) in server.open_transfers() {
+        assert_eq!(rt; record.peer, Some(client(tid)), "its client");
+        open.push(tid)?;
+    }
+    assert_eq!(rt; open.as_slice(), OPEN, "in rising order");
+    Ok(())
+}
+
 /// What comes to the request port, and whether it could open a transfer, as far as no store is asked.
 const MAY_OPEN: [(&[u8], bool); 8] = [
     (b"\x00\x01a\x00octet\x00", true),

@@ -1,0 +1,72 @@
+//! Goes over the open transfers of a server, by rising identifier.
+
+ghost use Rattle.std.specs.Prelude.{◌≡◌};
+ghost use Rattle.std.specs.Iterator.{YieldsFirst, item_count};
+ghost use Rattle.tftp_server.specs.State.{open_records};
+ghost use Rattle.tftp_server.specs.Table.{joined};
+
+use crate::transfer::Transfer;
+use slab::Slab;
+use std::collections::BTreeMap;
+use std::collections::btree_map::Iter;
+use std::iter::FusedIterator;
+use std::marker::Model;
+use tftp_ends::Record;
+
+/// The open transfers of a server that are left to go over, by rising identifier: of each its
+/// identifier and how far it came. It takes no memory.
+///
+/// `F` and `D` are the sources and the drafts of the server's store.
+#[derive(Drop)]
+pub struct OpenTransfers<'a, F, D> {
+    index: Iter<'a, u16, usize>,
+    slots: &'a Slab<Transfer<F, D>>,
+}
+
+impl<'a, F, D> Model for OpenTransfers<'a, F, D> {
+    ghost use Rattle.std.specs.Prelude.{List, ℕ};
+    ghost use Rattle.tftp_ends.specs.declared.record.Record.{Record};
+    ghost use Rattle.tftp_server.specs.State.{open_records};
+    ghost use Rattle.tftp_server.specs.Table.{joined};
+
+    ghost Value = { List (ℕ × Record) };
+
+    ghost view = { λ o. open_records (joined o.index o.slots.now) };
+}
+
+impl<'a, F, D> OpenTransfers<'a, F, D> {
+    /// Those under the keys of the index that are open.
+    pub(crate) fn new(
+        index: &'a BTreeMap<u16, usize>,
+        slots: &'a Slab<Transfer<F, D>>,
+    ) -> OpenTransfers<'a, F, D>
+        ensures { result ≡ open_records (joined index.now.entries slots.now) }
+    {
+        OpenTransfers {
+            index: index.iter(),
+            slots,
+        }
+    }
+}
+
+impl<'a, F, D> Iterator for OpenTransfers<'a, F, D> {
+    type Item = (u16, Record);
+
+    ghost next_gives = { YieldsFirst (λ left. left) };
+
+    ghost remaining = { item_count (λ left. left) };
+
+    fn next(&mut self) -> Option<(u16, Record)> {
+        while let Some((tid, key)) = self.index.next() {
+            if let Some(transfer) = self.slots.get(*key) {
+                let record = transfer.record();
+                if record.outcome.is_none() {
+                    return Some((*tid, record));
+                }
+            }
+        }
+        None
+    }
+}
+
+impl<'a, F, D> FusedIterator for OpenTransfers<'a, F, D> {}
