@@ -42,7 +42,13 @@ fn file_of(alloc: Global, folder: &str, length: usize) -> Result<String, Fail> {
 }
 
 /// What a get has stored, or where a put has it stored.
-fn copy_of(alloc: Global, folder: &str, way: Way, mode: Mode, length: usize) -> Result<String, Fail> {
+fn copy_of(
+    alloc: Global,
+    folder: &str,
+    way: Way,
+    mode: Mode,
+    length: usize,
+) -> Result<String, Fail> {
     let way = match way {
         Way::Get => "got",
         Way::Put => "put",

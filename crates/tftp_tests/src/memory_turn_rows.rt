@@ -170,11 +170,7 @@ fn is_put(
 }
 
 /// ACK 0 opens each of two writes, and each client sends its block.
-const TWO_WRITES: [Row; 3] = [
-    (2, Some(3), None),
-    (1, Some(4), None),
-    (3, Some(5), None),
-];
+const TWO_WRITES: [Row; 3] = [(2, Some(3), None), (1, Some(4), None), (3, Some(5), None)];
 
 /// The first commit has the name; the other is refused, and its client is told so (RFC 1350, appendix I).
 const RACE: [Row; 4] = [
@@ -185,8 +181,10 @@ const RACE: [Row; 4] = [
 ];
 
 /// A commit that finds no memory answers that the disk is full, and leaves no file.
-const NO_ROOM: (Option<usize>, Option<(u16, Outcome)>) =
-    (Some(6), Some((1025, Outcome::StoreFault)));
+const NO_ROOM: (Option<usize>, Option<(u16, Outcome)>) = (
+    Some(6),
+    Some((1025, Outcome::StoreFault)),
+);
 
 #[test]
 fn memory_in_turn_at_a_race(rt: HostRuntime) -> Result<(), Fail> {
@@ -202,7 +200,11 @@ fn memory_in_turn_at_a_race(rt: HostRuntime) -> Result<(), Fail> {
         return Ok(());
     }
     let [(_, added, closed), behind @ ..] = &RACE;
-    assert_eq!(rt; (report.added, report.closed), (*added, *closed), "the commit");
+    assert_eq!(rt;
+        (report.added, report.closed),
+        (*added, *closed),
+        "the commit"
+    );
     runs(&rt, &mut world, &path, behind);
     let file = world.file(&path).ok_or("a file")?;
     assert_eq!(rt; file, b"A".as_slice(), "what came first");

@@ -153,7 +153,15 @@ fn the_first_commit_has_the_name(rt: HostRuntime) -> Result<(), Fail> {
     open(&rt, rt.alloc(), &mut server, CLIENT, 1025)?;
     open(&rt, rt.alloc(), &mut server, OTHER, 1026)?;
     answers(&rt, rt.alloc(), &mut server, CLIENT, 1025, DATA_A, ACK_1)?;
-    let closed = answers(&rt, rt.alloc(), &mut server, OTHER, 1026, DATA_B, FILE_EXISTS)?;
+    let closed = answers(
+        &rt,
+        rt.alloc(),
+        &mut server,
+        OTHER,
+        1026,
+        DATA_B,
+        FILE_EXISTS,
+    )?;
     assert_eq!(rt; closed, Some(Outcome::StoreFault), "the other closes");
     let file = server.store().file(&path).ok_or("a file")?;
     assert_eq!(rt; file, b"A".as_slice(), "what came first");
@@ -284,7 +292,15 @@ fn a_refused_append_keeps_what_was_stored(rt: HostRuntime) -> Result<(), Fail> {
     answers(&rt, rt.alloc(), &mut server, CLIENT, 1025, first, ACK_1)?;
     let second = data(rt.alloc(), 2)?;
     let second = second.as_slice();
-    answers(&rt, rt.alloc(), &mut server, CLIENT, 1025, second, DISK_FULL)?;
+    answers(
+        &rt,
+        rt.alloc(),
+        &mut server,
+        CLIENT,
+        1025,
+        second,
+        DISK_FULL,
+    )?;
     assert!(rt; server.store().get_ref().file(&path).is_none(), "no file");
     let record = server.record(1025).ok_or("a transfer")?;
     assert_eq!(rt; record.number, 1, "one block is stored");
