@@ -172,19 +172,21 @@ fn is_put(
 /// ACK 0 opens each of two writes, and each client sends its block.
 const TWO_WRITES: [Row; 3] = [(2, Some(3), None), (1, Some(4), None), (3, Some(5), None)];
 
-/// The first commit has the name; the other is refused, and its client is told so (RFC 1350, appendix I).
-const RACE: [Row; 4] = [
-    (4, Some(6), None),
+/// What is reported of a commit.
+type Commit = (Option<usize>, Option<(u16, Outcome)>);
+
+/// The first commit has the name.
+const COMMITTED: Commit = (Some(6), None);
+
+/// The other is refused, and its client is told so (RFC 1350, appendix I).
+const BEHIND: [Row; 3] = [
     (5, Some(7), Some((1027, Outcome::StoreFault))),
     (7, None, Some((1026, Outcome::PeerError(6)))),
     (6, None, Some((1024, Outcome::Complete))),
 ];
 
 /// A commit that finds no memory answers that the disk is full, and leaves no file.
-const NO_ROOM: (Option<usize>, Option<(u16, Outcome)>) = (
-    Some(6),
-    Some((1025, Outcome::StoreFault)),
-);
+const NO_ROOM: Commit = (Some(6), Some((1025, Outcome::StoreFault)));
 
 #[test]
 fn memory_in_turn_at_a_race(rt: HostRuntime) -> Result<(), Fail> {
@@ -195,17 +197,13 @@ fn memory_in_turn_at_a_race(rt: HostRuntime) -> Result<(), Fail> {
     is_put(&rt, rt.alloc(), &mut world, &path, b'B')?;
     runs(&rt, &mut world, &path, &TWO_WRITES);
     let report = delivers(&rt, &mut world, &path, 4)?;
+    let commit = (report.added, report.closed);
     if world.file(&path).is_none() {
-        assert_eq!(rt; (report.added, report.closed), NO_ROOM, "the commit");
+        assert_eq!(rt; commit, NO_ROOM, "the commit");
         return Ok(());
     }
-    let [(_, added, closed), behind @ ..] = &RACE;
-    assert_eq!(rt;
-        (report.added, report.closed),
-        (*added, *closed),
-        "the commit"
-    );
-    runs(&rt, &mut world, &path, behind);
+    assert_eq!(rt; commit, COMMITTED, "the commit");
+    runs(&rt, &mut world, &path, &BEHIND);
     let file = world.file(&path).ok_or("a file")?;
     assert_eq!(rt; file, b"A".as_slice(), "what came first");
     Ok(())
