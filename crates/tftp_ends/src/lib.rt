@@ -38,4 +38,5 @@ pub use outcome::Outcome;
 pub use outgoing::Outgoing;
 pub use phase::{Dally, Phase, Terms};
 pub use record::{Held, Record, Step};
+pub use reply::MAX_ERROR;
 pub use side::Side;

@@ -1,18 +1,19 @@
 //! The ERRORs that an end sends: the same bytes each time.
 
-ghost use Rattle.std.specs.Prelude.{◌≡◌, ◌++◌, OnOk, OnErr};
+ghost use Rattle.std.specs.Prelude.{◌≡◌, ◌++◌, ◌+◌, ◌≤◌, IsOk, length, OnOk, OnErr, vec_capacity};
 ghost use Rattle.tftp_ends.specs.Step.{error_bytes};
 
 use crate::error_reply::ErrorReply;
 use std::alloc::AllocError;
 
 /// No ERROR that is sent is longer, in bytes.
-pub(crate) const MAX_ERROR: usize = 24;
+pub const MAX_ERROR: usize = 24;
 
 impl ErrorReply {
     /// The ERROR as it is sent.
     pub fn datagram(self) -> &'static [u8]
-        ensures { result.now ≡ error_bytes self }
+        ensures bytes { result.now ≡ error_bytes self }
+        ensures short { length result.now ≤ MAX_ERROR }
     {
         match self {
             ErrorReply::FileTooLarge => b"\x00\x05\x00\x00file too large\x00",
@@ -29,10 +30,12 @@ impl ErrorReply {
         }
     }
 
-    /// Appends the ERROR, as it is sent. It fails only when out of memory, and then appends nothing.
+    /// Appends the ERROR, as it is sent. It fails only when out of memory, and then appends nothing; where
+    /// there is room for the longest ERROR it does not fail.
     pub fn append_to(self, out: &mut Vec<u8>) -> Result<(), AllocError>
         ensures ok { OnOk result (out.new.items ≡ out.old.items ++ error_bytes self) }
         ensures err { OnErr result (out.new.items ≡ out.old.items) }
+        ensures room { length out.old.items + MAX_ERROR ≤ vec_capacity out.old → IsOk result }
     {
         out.extend_from_slice(self.datagram())
     }

@@ -1,5 +1,5 @@
 -- What the request port decides, from the calls that it makes.
-use Rattle.std.proofs.Common.{◌≡◌, ◌≢◌, ℕ, Bool, false, List, [], ◌++◌, Option, Some, None, Result, Ok, Err, IfOk, OnOk, OnErr, length, take, refl, sym, ap, subst, ◌∙◌}
+use Rattle.std.proofs.Common.{◌≡◌, ◌≢◌, ℕ, Bool, false, List, [], ◌++◌, Option, Some, None, Result, Ok, Err, IfOk, IsErrOf, OnOk, OnErr, length, take, refl, sym, ap, subst, ◌∙◌}
 use Rattle.std.specs.Prelude.{if◌then◌else◌}
 use Rattle.tftp_wire.specs.declared.mode.Mode.{Mode}
 use Rattle.tftp_wire.specs.declared.options.RawOption.{RawOption}
@@ -31,7 +31,7 @@ use Rattle.tftp_server.specs.declared.server.request.Decision.{Decision}
 use Rattle.tftp_server.specs.declared.server.request.Decision.TheVariants.{Refuse, Open}
 use Rattle.tftp_server.specs.declared.store.Opening.{Opening}
 use Rattle.tftp_server.specs.Port.{Ask, Ignores, Refuses, asks, by_packet, by_repeat, by_name, by_kind, by_file, begin_reply}
-use Rattle.tftp_server.specs.Request.{Came, Nothing, An_error, A_transfer, IsRequest, AsksToRead, AsksToWrite, Goes, RequestStep, Sent, Left, ask_of, came_to, decided_bytes, left_by, KeepsServer, KeepsStored}
+use Rattle.tftp_server.specs.Request.{Came, Nothing, An_error, A_transfer, IsRequest, AsksToRead, AsksToWrite, Goes, RequestStep, Sent, Left, ask_of, came_to, decided_bytes, left_by}
 use Rattle.tftp_server.specs.State.{Held, ServerState, IsRepeated, with_new}
 use Rattle.tftp_server.specs.Store.{StoreMeaning, Opens, Begins}
 
@@ -49,6 +49,10 @@ refused_bytes reply P before sent all cut start (Ok d) s a c h =
 pub cut_on_err : {T E : Type 0} (before sent all cut : List ℕ) (start : ℕ) (r : Result T E) → start ≡ length before → all ≡ before ++ sent → cut ≡ take start all → OnErr r (cut ≡ before)
 cut_on_err before sent all cut start (Ok d) s a c = tt
 cut_on_err before sent all cut start (Err e) s a c = cut_back before sent all cut start s a c
+
+-- where an ERROR is to go out, nothing has been sent so far
+nothing_sent : {F D : Type 0} (was mid : List ℕ) (d : Decision F D) (reply : ErrorReply) → d ≡ Refuse reply → mid ≡ was ++ decided_bytes d → mid ≡ was
+nothing_sent {F = F} {D = D} was mid d reply is sent = sent ∙ ap (λ (x : Decision F D). was ++ decided_bytes x) is ∙ append-nil was
 
 module _ (cap count : ℕ) (limits : Limits) where
   -- what is asked of the name in a request
@@ -111,6 +115,12 @@ module _ {S F D : Type 0} (meaning : StoreMeaning S F D) (old : ServerState S F 
   refused_to_write path mode agreed store fault (Err e) begins may h = tt
   refused_to_write path mode agreed store fault (Ok d) begins may h =
       record { store = store; draft = Err fault; begins = begins; refused = may; memory = λ e. h.1 (cc); goes_on = ap (λ (d : Decision F D). came_to d store) h.0 }
+
+  -- where no draft was begun for want of memory, nothing has changed
+  pub nothing_begun : {T E : Type 0} (store : S) (fault : StoreFault) (was cut : List ℕ) (r : Result T E) → (IsErrOf {T = D} (Err fault) Memory → store ≡ old.store) → OnErr r (fault ≡ Memory) → OnErr r (cut ≡ was) →
+      OnErr r ((record old { store = store } ≡ old) × (cut ≡ was))
+  nothing_begun store fault was cut (Ok d) same why back = tt
+  nothing_begun store fault was cut (Err e) same why back = (ap (λ (s : S). record old { store = s }) (same (ap Err why)), back)
 
   -- the port has asked for this
   abbrev pub IsAsked : Ask → Type 0
@@ -191,24 +201,16 @@ module _ {S F D : Type 0} (meaning : StoreMeaning S F D) (config : Config) (stor
       rw (config_kept, store_kept, put) refl,
     )
 
-    pub write_refused : (tid : ℕ) (was mid out : List ℕ) (d : Decision F D) (reply : ErrorReply) (r : Result Opened ServerFault) → d ≡ Refuse reply → table ≡ held → AsksToWrite meaning (before_write none) from bytes path mode agreed (came_to d after.store) → mid ≡ was ++ decided_bytes d →
-        IfOk r (λ opened. opened ≡ record { tid = None; to = Some from }) → OnOk r (out ≡ mid ++ error_bytes reply) → IfOk r (Written tid was out)
-    write_refused tid was mid out d reply (Err fault) is back asks sent tells ok = tt
-    write_refused tid was mid out d reply (Ok opened) is back asks sent tells ok = (
+    pub write_refused : (tid : ℕ) (was mid out : List ℕ) (d : Decision F D) (reply : ErrorReply) (opened : Opened) → d ≡ Refuse reply → table ≡ held → AsksToWrite meaning (before_write none) from bytes path mode agreed (came_to d after.store) → mid ≡ was ++ decided_bytes d →
+        opened ≡ record { tid = None; to = Some from } → out ≡ mid ++ error_bytes reply → Written tid was out opened
+    write_refused tid was mid out d reply opened is back asks sent tells ok = (
       An_error reply after.store,
       error_bytes reply,
       asked_apart (An_error reply after.store) (subst (λ (x : Decision F D). AsksToWrite meaning (before_write none) from bytes path mode agreed (came_to x after.store)) is asks),
-      ok ∙ ap (λ (x : List ℕ). x ++ error_bytes reply) (sent ∙ ap (λ (x : Decision F D). was ++ decided_bytes x) is ∙ append-nil was),
+      ok ∙ ap (λ (x : List ℕ). x ++ error_bytes reply) (nothing_sent was mid d reply is sent),
       rw (config_kept, store_kept, back, tells) refl,
     )
 
     -- nothing has changed
-    pub write_kept : table ≡ held → KeepsStored (meaning.stored store) (meaning.stored after.store) → KeepsServer meaning.stored (before_write held) (after_write table)
-    write_kept back keeps =
-        record { config = config_kept; held = back; store = subst (λ (s : S). KeepsStored (meaning.stored store) (meaning.stored s)) (sym store_kept) keeps }
-
-    pub refusal_kept : (was mid out : List ℕ) (d : Decision F D) (reply : ErrorReply) (r : Result Opened ServerFault) → d ≡ Refuse reply → table ≡ held → KeepsStored (meaning.stored store) (meaning.stored after.store) → mid ≡ was ++ decided_bytes d → OnErr r (out ≡ mid) →
-        OnErr r (KeepsServer meaning.stored (before_write held) (after_write table) × (out ≡ was))
-    refusal_kept was mid out d reply (Ok opened) is back keeps sent err = tt
-    refusal_kept was mid out d reply (Err fault) is back keeps sent err =
-        (write_kept back keeps, err ∙ (sent ∙ ap (λ (x : Decision F D). was ++ decided_bytes x) is ∙ append-nil was))
+    pub write_kept : table ≡ held → after ≡ before_write none → after_write table ≡ before_write held
+    write_kept back kept = rw (config_kept, store_kept ∙ ap (λ (s : ServerState S F D). s.store) kept, back) refl

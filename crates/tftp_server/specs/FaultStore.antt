@@ -1,7 +1,7 @@
 -- A store that is made to fail: when it fails, and what it then leaves.
 use Rattle.std.specs.Prelude.{ℕ, ◌≡◌, Bool, true, false, ◌-◌, ◌==◌, if◌then◌else◌, ◌⊎◌, Option, Some, None, Result, Err}
 use Rattle.tftp_file.specs.declared.fault.StoreFault.{StoreFault}
-use Rattle.tftp_file.specs.declared.fault.StoreFault.TheVariants.{Full, Io}
+use Rattle.tftp_file.specs.declared.fault.StoreFault.TheVariants.{Full, Io, Memory}
 use Rattle.tftp_server.specs.Store.{Stored}
 
 -- the meaning of a store that is made to fail
@@ -31,15 +31,20 @@ abbrev pub is_due : Option ℕ → Bool
 is_due None = false
 is_due (Some calls) = calls == 0
 
--- the count after a call: after the one that is refused nothing is counted
-abbrev pub after_call : Option ℕ → Option ℕ
-after_call None = None
-after_call (Some calls) = if calls == 0 then None else Some (calls - 1)
+-- the count after one more call: after the one that is refused nothing is counted
+abbrev pub one_less : Option ℕ → Option ℕ
+one_less None = None
+one_less (Some calls) = if calls == 0 then None else Some (calls - 1)
 
--- a counted call changes the inner store and the count alone; where it is the one that is refused, it
+-- the count after a call that answered this: one that found no memory is not counted
+abbrev pub after_call : {A : Type 0} → Option ℕ → Result A StoreFault → Option ℕ
+after_call calls_left (Err Memory) = calls_left
+after_call calls_left _ = one_less calls_left
+
+-- a call changes the inner store and the count alone; where it is the one that is refused, it
 -- answers the fault, and the count alone has changed
 pub record Counts {S A : Type 0} (before after : FaultStoreState S) (result : Result A StoreFault) : Type 0 where
-  pub counted : after ≡ record before { inner = after.inner; calls_left = after_call before.calls_left }
+  pub counted : after ≡ record before { inner = after.inner; calls_left = after_call before.calls_left result }
   pub refused : is_due before.calls_left ≡ true → (result ≡ Err before.fault) × (after.inner ≡ before.inner)
 
 -- a refused call answers the store's own fault, and any other one what the inner store may answer

@@ -28,7 +28,7 @@ use Rattle.tftp_server.specs.declared.server.request.Decision.TheVariants.{Refus
 use Rattle.tftp_server.specs.declared.store.Opening.{Opening}
 use Rattle.tftp_server.specs.State.{Held, ServerState, IsRepeated, with_new}
 use Rattle.tftp_server.specs.Port.{Ask, Ignores, Refuses, Reads, Writes, Service, Refused, Sends, Takes, asks, by_file, by_draft}
-use Rattle.tftp_server.specs.Store.{Stored, StoreMeaning, Opens, Begins}
+use Rattle.tftp_server.specs.Store.{StoreMeaning, Opens, Begins}
 
 -- the length of a file that was opened
 abbrev pub opened_length : {F : Type 0} → Result (Opening F) StoreFault → Result ℕ StoreFault
@@ -127,17 +127,6 @@ module _ {S F D : Type 0} (meaning : StoreMeaning S F D) (old : ServerState S F 
     pub came : Came S F D
     pub goes : Goes (asks old.config.cap (length old.held) repeated old.config.limits bytes decoded) came
     pub left : result ≡ left_by came old from tid
-
--- a store that tells what it holds tells the same
-abbrev pub KeepsStored : Option Stored → Option Stored → Type 0
-KeepsStored None after = Unit {0}
-KeepsStored (Some before) after = after ≡ Some before
-
--- the port has refused a datagram: nothing has changed, as far as the store tells
-pub record KeepsServer {S F D : Type 0} (stored : S → Option Stored) (before after : ServerState S F D) : Type 0 where
-  pub config : after.config ≡ before.config
-  pub held : after.held ≡ before.held
-  pub store : KeepsStored (stored before.store) (stored after.store)
 
 -- a request that came is one of this kind
 abbrev pub IsRequest : Option Packet → Option (Kind × Request) → Type 0

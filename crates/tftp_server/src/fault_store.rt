@@ -1,6 +1,6 @@
 //! A store that fails at calls of its maker's choice.
 
-ghost use Rattle.std.specs.Prelude.{◌≡◌, not, Some};
+ghost use Rattle.std.specs.Prelude.{◌≡◌, Err, None, Some};
 ghost use Rattle.tftp_server.specs.FaultStore.{after_call, is_due, IsInjected};
 
 use crate::store::{Opening, Store};
@@ -13,7 +13,7 @@ use tftp_wire::Mode;
 ///
 /// Of its calls of `begin`, `append` and `commit` it refuses one, and passes on every other to the
 /// inner store. It may refuse every `open`, too, and the sources that it opens may fail. What it
-/// refuses changes neither the inner store nor a draft.
+/// refuses changes neither the inner store nor a draft. A call that finds no memory is not counted.
 ///
 /// It tells the inner store's files. That the inner store was told to refuse a call it does not
 /// tell: such a refusal is one of the faults that its calls may answer.
@@ -72,6 +72,15 @@ impl<S> FaultStore<S> {
         }
     }
 
+    /// Refuses a call, and no later one.
+    fn refuse<A>(&mut self) -> Result<A, StoreFault>
+        ensures fault { result ≡ Err self.old.fault }
+        ensures rest { self.new ≡ record self.old { calls_left = None } }
+    {
+        self.calls_left = None;
+        Err(self.fault)
+    }
+
     /// The inner store.
     pub fn get_ref(&self) -> &S
         ensures { result.now ≡ self.now.inner }
@@ -80,26 +89,32 @@ impl<S> FaultStore<S> {
     }
 }
 
-/// Counts one call. Whether it is not the one that is refused; after that one nothing is counted.
-fn passes_on(calls_left: &mut Option<u64>) -> bool
-    ensures due { result ≡ not (is_due calls_left.old) }
-    ensures counts { calls_left.new ≡ after_call calls_left.old }
+/// Whether the next call is the one that is refused.
+fn is_due(calls_left: Option<u64>) -> bool
+    ensures { result ≡ is_due calls_left }
 {
-    match *calls_left {
-        None => true,
-        Some(0) => {
-            *calls_left = None;
-            false
-        }
-        Some(calls) => {
-            *calls_left = Some(calls - 1);
-            true
-        }
+    match calls_left {
+        Some(calls) => calls == 0,
+        None => false,
+    }
+}
+
+/// The count after a call that answered this; after the one that is refused nothing is counted.
+fn after_call<A>(calls_left: Option<u64>, answer: &Result<A, StoreFault>) -> Option<u64>
+    ensures { result ≡ after_call calls_left answer.now }
+{
+    match answer {
+        Err(StoreFault::Memory) => calls_left,
+        _ => match calls_left {
+            Some(0) => None,
+            Some(calls) => Some(calls - 1),
+            None => None,
+        },
     }
 }
 
 impl<S: Store> Store for FaultStore<S> {
-    ghost use Rattle.std.specs.Prelude.{◌≡◌, ◌≢◌, Err, IfErr, IfOk, true};
+    ghost use Rattle.std.specs.Prelude.{◌≡◌, ◌≢◌, Err, IfErr, IfOk, IsErrOf, true};
     ghost use Rattle.tftp_file.specs.Sink.{Appends, Commits};
     ghost use Rattle.tftp_server.specs.Store.{Opens, Begins, holding_of, files_of, Puts};
     ghost use Rattle.tftp_server.specs.FaultStore.{Counts, MayAnswer, is_due, never_told};
@@ -155,12 +170,15 @@ impl<S: Store> Store for FaultStore<S> {
             (never_told (S.stored self.new.inner)) path.now replace result }
         ensures refused { IfErr result (λ fault. MayAnswer (is_due self.old.calls_left)
             self.old.fault fault (S.may_refuse_begin self.old.inner path.now replace fault)) }
+        ensures memory { IsErrOf result StoreFault.Memory → self.new ≡ self.old }
         ensures counts { Counts self.old self.new result }
     {
-        if passes_on(&mut self.calls_left) {
-            return self.inner.begin(alloc, path, replace);
+        if is_due(self.calls_left) {
+            return self.refuse();
         }
-        Err(self.fault)
+        let answer = self.inner.begin(alloc, path, replace);
+        self.calls_left = after_call(self.calls_left, &answer);
+        answer
     }
 
     fn append(&mut self, draft: &mut S::Draft, bytes: &[u8]) -> Result<(), StoreFault>
@@ -171,13 +189,17 @@ impl<S: Store> Store for FaultStore<S> {
             ≡ files_of (never_told (S.stored self.old.inner)) }
         ensures refused { IfErr result (λ fault. MayAnswer (is_due self.old.calls_left)
             self.old.fault fault (S.may_refuse_append self.old.inner draft.old bytes.now fault)) }
+        ensures memory { IsErrOf result StoreFault.Memory → (self.new ≡ self.old)
+            × (draft.new ≡ draft.old) }
         ensures counts { Counts self.old self.new result }
         ensures draft { is_due self.old.calls_left ≡ true → draft.new ≡ draft.old }
     {
-        if passes_on(&mut self.calls_left) {
-            return self.inner.append(draft, bytes);
+        if is_due(self.calls_left) {
+            return self.refuse();
         }
-        Err(self.fault)
+        let answer = self.inner.append(draft, bytes);
+        self.calls_left = after_call(self.calls_left, &answer);
+        answer
     }
 
     fn commit(&mut self, path: &Path, draft: &mut S::Draft, replace: bool) -> Result<(), StoreFault>
@@ -193,10 +215,12 @@ impl<S: Store> Store for FaultStore<S> {
         ensures counts { Counts self.old self.new result }
         ensures draft { is_due self.old.calls_left ≡ true → draft.new ≡ draft.old }
     {
-        if passes_on(&mut self.calls_left) {
-            return self.inner.commit(path, draft, replace);
+        if is_due(self.calls_left) {
+            return self.refuse();
         }
-        Err(self.fault)
+        let answer = self.inner.commit(path, draft, replace);
+        self.calls_left = after_call(self.calls_left, &answer);
+        answer
     }
 }
 

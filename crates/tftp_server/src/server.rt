@@ -2,11 +2,11 @@
 
 mod request;
 
-ghost use Rattle.std.specs.Prelude.{◌≡◌, ◌↔◌, ◌⊎◌, ◌++◌, List, ℕ, [], length, Bool, Option, None, Some, option_copied, option_map, is_some, IsSome, if◌then◌else◌, false, IfOk, IfErr, IsErrOf, OnOk, OnErr};
+ghost use Rattle.std.specs.Prelude.{◌≡◌, ◌↔◌, ◌⊎◌, ◌++◌, ◌+◌, ◌≤◌, vec_capacity, List, ℕ, [], length, Bool, Option, None, Some, option_copied, option_map, is_some, IsSome, if◌then◌else◌, false, IfOk, IfErr, IsErrOf, OnOk, OnErr};
 ghost use Rattle.std.specs.Map.{keys_of};
 ghost use Rattle.tftp_ends.specs.End.{record_of};
 ghost use Rattle.tftp_server.specs.Config.{IsConfig};
-ghost use Rattle.tftp_server.specs.Request.{AsksToRead, AsksToWrite, Came, KeepsServer, RequestStep, left_by};
+ghost use Rattle.tftp_server.specs.Request.{AsksToRead, AsksToWrite, Came, RequestStep, left_by};
 ghost use Rattle.tftp_ends.specs.Step.{error_bytes, lent};
 ghost use Rattle.tftp_wire.specs.declared.packet.Packet.{Packet};
 ghost use Rattle.tftp_ends.specs.Action.{Decodes};
@@ -27,7 +27,7 @@ use crate::transfer::Transfer;
 use std::alloc::Global;
 use std::marker::Model;
 use std::mem;
-use tftp_ends::{Endpoint, ErrorReply, Outgoing, Record, Step};
+use tftp_ends::{Endpoint, ErrorReply, MAX_ERROR, Outgoing, Record, Step};
 use tftp_file::Path;
 use tftp_negotiate::Agreed;
 use tftp_wire::{Mode, RequestRef};
@@ -246,8 +246,7 @@ impl<S: Store> Server<S> {
     /// datagram is appended to `out`, for where [`Opened::to`] says.
     ///
     /// A request to read has the store open the file; one to write has it begin a draft. `TidInUse`
-    /// where a transfer has the identifier; `Memory`. After a fault nothing has changed, as far as the
-    /// store tells.
+    /// where a transfer has the identifier; `Memory`. After a fault nothing has changed.
     pub fn on_request(
         &mut self,
         from: Endpoint,
@@ -265,8 +264,7 @@ impl<S: Store> Server<S> {
         ensures in_use { IsErrOf result ServerFault.TidInUse ↔ IsSome (at tid self.old.held) }
         ensures fault { IfErr result (λ fault. (fault ≡ ServerFault.TidInUse) ⊎
             (fault ≡ ServerFault.Memory)) }
-        ensures err { OnErr result (KeepsServer S.stored self.old self.new
-            × (out.new.items ≡ out.old.items)) }
+        ensures err { OnErr result ((self.new ≡ self.old) × (out.new.items ≡ out.old.items)) }
     {
         if self.table.contains(tid) {
             return Err(ServerFault::TidInUse);
@@ -354,8 +352,7 @@ impl<S: Store> Server<S> {
               sent = sent;
             } ≡ left_by came self.old from tid)) }
         ensures memory { IfErr result (λ fault. fault ≡ ServerFault.Memory) }
-        ensures err { OnErr result (KeepsServer S.stored self.old self.new
-            × (out.new.items ≡ out.old.items)) }
+        ensures err { OnErr result ((self.new ≡ self.old) × (out.new.items ≡ out.old.items)) }
     {
         let table = mem::replace(&mut self.table, Table::new(self.alloc));
         match table.reserve(tid) {
@@ -369,7 +366,7 @@ impl<S: Store> Server<S> {
                 }
                 Ok(Decision::Refuse(reply)) => {
                     self.table = spot.give_up(tid);
-                    refuse(reply, from, out)
+                    Ok(refuse_in_room(reply, from, out))
                 }
                 Err(_) => {
                     self.table = spot.give_up(tid);
@@ -455,4 +452,19 @@ fn refuse(reply: ErrorReply, from: Endpoint, out: &mut Vec<u8>) -> Result<Opened
         tid: None,
         to: Some(from),
     })
+}
+
+/// The same, where there is room for it.
+fn refuse_in_room(reply: ErrorReply, from: Endpoint, out: &mut Vec<u8>) -> Opened
+    requires { length out.old.items + MAX_ERROR ≤ vec_capacity out.old }
+    ensures opened { result ≡ record { tid = None; to = Some from } }
+    ensures bytes { out.new.items ≡ out.old.items ++ error_bytes reply }
+{
+    let Ok(()) = reply.append_to(out) else {
+        unreachable!()
+    };
+    Opened {
+        tid: None,
+        to: Some(from),
+    }
 }

@@ -1,6 +1,6 @@
 //! Where a server's files are: they are read as sources, and written as drafts.
 
-ghost use Rattle.std.specs.Prelude.{◌≡◌, ◌≢◌, Err, IfErr, Bool, List, ℕ, Option};
+ghost use Rattle.std.specs.Prelude.{◌≡◌, ◌≢◌, Err, IfErr, IsErrOf, Bool, List, ℕ, Option};
 ghost use Rattle.tftp_file.specs.Sink.{Appends, Commits};
 ghost use Rattle.tftp_file.specs.declared.fault.StoreFault.{StoreFault};
 ghost use Rattle.tftp_server.specs.Store.{Stored, Drafted, Opens, Begins, holding_of, files_of, Puts};
@@ -67,7 +67,8 @@ pub trait Store {
 
     /// Begins a draft, which is empty. With `replace` there may be a file at the path.
     ///
-    /// `Exists` if there is one that is not to be replaced; `Memory` only where that is not so.
+    /// `Exists` if there is one that is not to be replaced; `Memory` only where that is not so, and then
+    /// the store is as it was.
     fn begin(
         &mut self,
         alloc: Global,
@@ -76,7 +77,8 @@ pub trait Store {
     ) -> Result<Self::Draft, StoreFault>
         ensures begins { Begins drafted (stored self.old) (stored self.new) path.now replace
             result }
-        ensures refused { IfErr result (may_refuse_begin self.old path.now replace) };
+        ensures refused { IfErr result (may_refuse_begin self.old path.now replace) }
+        ensures memory { IsErrOf result StoreFault.Memory → self.new ≡ self.old };
 
     /// Puts the bytes at the end of a draft.
     ///
@@ -86,7 +88,9 @@ pub trait Store {
         ensures appends { Appends (holding_of (stored self.old) (drafted draft.old)) (holding_of
             (stored self.new) (drafted draft.new)) bytes.now result }
         ensures files { files_of (stored self.new) ≡ files_of (stored self.old) }
-        ensures refused { IfErr result (may_refuse_append self.old draft.old bytes.now) };
+        ensures refused { IfErr result (may_refuse_append self.old draft.old bytes.now) }
+        ensures memory { IsErrOf result StoreFault.Memory → (self.new ≡ self.old)
+            × (draft.new ≡ draft.old) };
 
     /// Makes what a draft holds the file at the path, for good. With `replace` it takes the place of
     /// one that is there.

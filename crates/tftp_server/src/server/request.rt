@@ -1,6 +1,6 @@
 //! The request port: its tests, one after the other.
 
-ghost use Rattle.std.specs.Prelude.{Bool, ◌≡◌, ◌≢◌, ◌*◌, ◌<◌, ◌≤◌, true, IsErrOf, OnOk, ◌++◌, [], Ok, Option, length, option_map, IfOk, IfErr, OnErr};
+ghost use Rattle.std.specs.Prelude.{Bool, ◌≡◌, ◌≢◌, ◌*◌, ◌+◌, ◌<◌, ◌≤◌, true, vec_capacity, IsErrOf, OnOk, ◌++◌, [], Ok, Option, length, option_map, IfOk, IfErr, OnErr};
 ghost use Rattle.tftp_wire.specs.Borrowed.{owned};
 ghost use Rattle.tftp_wire.specs.declared.packet.Packet.{Packet};
 ghost use Rattle.tftp_negotiate.specs.Answer.{answer};
@@ -9,19 +9,19 @@ ghost use Rattle.tftp_file.specs.Path.{path_of_name};
 ghost use Rattle.tftp_negotiate.specs.Agreed.{size};
 ghost use Rattle.tftp_ends.specs.Action.{Decodes};
 ghost use Rattle.tftp_ends.specs.End.{is_sender};
-ghost use Rattle.tftp_ends.specs.Opening.{ServesRead, CannotStart};
+ghost use Rattle.tftp_ends.specs.Opening.{ServesRead, CannotStart, serving_write};
 ghost use Rattle.tftp_server.specs.State.{IsRepeated, source_of};
 ghost use Rattle.tftp_server.specs.Store.{meaning_by};
 ghost use Rattle.tftp_server.specs.Port.{accept_reply, asks, begin_reply, by_file, by_kind, by_name, by_options, by_room, by_length};
-ghost use Rattle.tftp_server.specs.Request.{AsksToRead, AsksToWrite, IsRequest, KeepsStored, Sent, ask_of, came_to, decided_bytes, kind_and_request};
+ghost use Rattle.tftp_server.specs.Request.{AsksToRead, AsksToWrite, IsRequest, Sent, ask_of, came_to, decided_bytes, kind_and_request};
 
 use crate::config::Config;
 use crate::fault::ServerFault;
 use crate::server::Server;
 use crate::store::{Opening, Store};
 use crate::transfer::Transfer;
-use std::alloc::Global;
-use tftp_ends::{End, Endpoint, ErrorReply, OpenFault, decode_packet};
+use std::alloc::{AllocError, Global};
+use tftp_ends::{End, Endpoint, ErrorReply, MAX_ERROR, OpenFault, decode_packet};
 use tftp_file::{Files, MemSink, Path, PathFault, Source, StoreFault, path_of};
 use tftp_negotiate::{Agreed, Kind, Limits, Refusal, accept_ref};
 use tftp_wire::{Mode, PacketRef, RequestRef, has_error_opcode};
@@ -183,6 +183,35 @@ fn serve_source<F: Source + Drop>(
     }
 }
 
+/// The end of a transfer that stores, whose first datagram is appended, and a copy of the datagram that
+/// asked for it. In the place of the first datagram there is room for an ERROR.
+fn prepare(
+    alloc: Global,
+    from: Endpoint,
+    mode: Mode,
+    agreed: &Agreed,
+    retries: u8,
+    bytes: &[u8],
+    out: &mut Vec<u8>,
+) -> Result<(End, Vec<u8>), AllocError>
+    ensures end { IfOk result (λ made. (made.0 ≡ serving_write agreed.now from mode retries)
+        × (out.new.items ≡ out.old.items ++ made.0.last_sent)) }
+    ensures request { IfOk result (λ made. made.1.items ≡ bytes.now) }
+    ensures room { OnOk result (length out.old.items + MAX_ERROR ≤ vec_capacity out.new) }
+    ensures err { OnErr result (out.new.items ≡ out.old.items) }
+{
+    let start = out.len();
+    let request = Vec::from_slice(alloc, bytes)?;
+    let Ok((end, _)) = End::serve_write(alloc, from, mode, agreed, retries, out) else {
+        return Err(AllocError);
+    };
+    let Ok(()) = out.reserve(MAX_ERROR) else {
+        out.truncate(start);
+        return Err(AllocError);
+    };
+    Ok((end, request))
+}
+
 impl<S: Store> Server<S> {
     /// The tests that ask no store: only a request has a place here, and what begins as an ERROR is
     /// never answered.
@@ -315,7 +344,8 @@ impl<S: Store> Server<S> {
     }
 
     /// Begins a draft for the path, which a transfer with these options is to fill. Everything else that
-    /// can want memory comes first, so that no draft is begun in vain.
+    /// can want memory comes first, so that no draft is begun in vain; where none is begun, there is room
+    /// for the ERROR that says so.
     pub(crate) fn write(
         &mut self,
         from: Endpoint,
@@ -333,17 +363,13 @@ impl<S: Store> Server<S> {
         ensures sent { IfOk result (λ decision. out.new.items ≡ out.old.items ++ decided_bytes
             decision) }
         ensures rest { self.new ≡ record self.old { store = self.new.store } }
-        ensures keeps { KeepsStored (S.stored self.old.store) (S.stored self.new.store) }
+        ensures room { OnOk result (length out.old.items + MAX_ERROR ≤ vec_capacity out.new) }
         ensures memory { IfErr result (λ fault. fault ≡ ServerFault.Memory) }
-        ensures err { OnErr result (out.new.items ≡ out.old.items) }
+        ensures err { OnErr result ((self.new ≡ self.old) × (out.new.items ≡ out.old.items)) }
     {
         let start = out.len();
         let retries = self.config.retries;
-        let Ok((end, _)) = End::serve_write(self.alloc, from, mode, agreed, retries, out) else {
-            return Err(ServerFault::Memory);
-        };
-        let Ok(request) = Vec::from_slice(self.alloc, bytes) else {
-            out.truncate(start);
+        let Ok((end, request)) = prepare(self.alloc, from, mode, agreed, retries, bytes, out) else {
             return Err(ServerFault::Memory);
         };
         match self.store.begin(self.alloc, &path, self.config.overwrite) {
@@ -364,6 +390,7 @@ fn begin_refused<F, D>(fault: StoreFault) -> Result<Decision<F, D>, ServerFault>
     ensures refused { IfOk result (λ decision. (decision ≡ Decision.Refuse (begin_reply fault))
         × (fault ≢ StoreFault.Memory)) }
     ensures memory { IfErr result (λ fault. fault ≡ ServerFault.Memory) }
+    ensures why { OnErr result (fault ≡ StoreFault.Memory) }
 {
     match fault {
         StoreFault::Exists => Ok(Decision::Refuse(ErrorReply::FileExists)),
