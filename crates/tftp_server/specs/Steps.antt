@@ -5,8 +5,9 @@ use Rattle.tftp_file.specs.Sink.{Holding}
 use Rattle.tftp_file.specs.declared.fault.StoreFault.{StoreFault}
 use Rattle.tftp_file.specs.declared.files.Files.{Files}
 use Rattle.tftp_ends.specs.declared.endpoint.Endpoint.{Endpoint}
+use Rattle.tftp_ends.specs.declared.record.Record.{Record}
 use Rattle.tftp_ends.specs.declared.record.Step.{Step}
-use Rattle.tftp_ends.specs.End.{EndState}
+use Rattle.tftp_ends.specs.End.{EndState, record_of}
 use Rattle.tftp_ends.specs.Files.{KeepsFiles, AreSame}
 use Rattle.tftp_ends.specs.Action.{Decodes, datagram_action, timeout_action}
 use Rattle.tftp_ends.specs.Step.{Turn, DatagramStep, Carries, Lends, IsAnswered, UsesFile, timeout_turn, told}
@@ -114,6 +115,11 @@ module _ {S F D : Type 0} (meaning : StoreMeaning S F D) where
 
   abbrev pub TakesDatagramLent : ℕ → Endpoint → List ℕ → ServerState S F D → ServerState S F D → Step → Outgoing → Type 0
   TakesDatagramLent tid from bytes old new step outgoing = TakesDatagramBy (lends outgoing) tid from bytes old new step
+
+  -- and this is how far it then came
+  abbrev pub TakesRecorded : ℕ → Endpoint → List ℕ → ServerState S F D → ServerState S F D → Step → Record → List ℕ → List ℕ → Type 0
+  TakesRecorded tid from bytes old new step r before after =
+      (taken : TakesDatagram tid from bytes old new step before after) × (r ≡ record_of taken.next.end)
 
   -- the transfer is as it was; its file tells the same, and so does the store
   pub record StaysAs (replace : Bool) (store store' : S) (transfer next : Held F D) : Type 0 where

@@ -13,7 +13,7 @@ ghost use Rattle.tftp_ends.specs.Action.{Decodes};
 ghost use Rattle.tftp_server.specs.Port.{asks, asks_store};
 ghost use Rattle.tftp_server.specs.State.{IsRepeated, at, draft_at, is_open, open_records, taken_of, without};
 ghost use Rattle.tftp_server.specs.Store.{meaning_by};
-ghost use Rattle.tftp_server.specs.Steps.{TimesOut, TimesOutLent, TimeoutFault, TakesDatagram, TakesDatagramLent, DatagramFault, DatagramFaultLent, KeepsHeld};
+ghost use Rattle.tftp_server.specs.Steps.{TimesOut, TimesOutLent, TimeoutFault, TakesDatagram, TakesDatagramLent, TakesRecorded, DatagramFault, DatagramFaultLent, KeepsHeld};
 ghost use Rattle.std.specs.Borrow.{Lends, sem};
 
 use crate::config::Config;
@@ -143,12 +143,43 @@ impl<S: Store> Server<S> {
             tid (at tid self.old.held) self.old self.new
             × (out.new.items ≡ out.old.items)) }
     {
+        match self.on_datagram_recorded(tid, from, bytes, out) {
+            Ok((step, _)) => Ok(step),
+            Err(fault) => Err(fault),
+        }
+    }
+
+    /// As [`Server::on_datagram`], and it tells how far the transfer then came: it is found once.
+    pub fn on_datagram_recorded(
+        &mut self,
+        tid: u16,
+        from: Endpoint,
+        bytes: &[u8],
+        out: &mut Vec<u8>,
+    ) -> Result<(Step, Record), ServerFault>
+        ensures takes { IfOk result (λ answer. TakesRecorded (meaning_by
+            S.stored S.Source.left S.drafted S.Source.may_fail S.may_refuse_open
+            S.may_refuse_begin S.may_refuse_append S.may_refuse_commit)
+            tid from bytes.now
+            self.old self.new answer.0 answer.1 out.old.items out.new.items) }
+        ensures rest { self.new ≡ record self.old { store = self.new.store; held = self.new.held } }
+        ensures no_such_tid { IsErrOf result ServerFault.NoSuchTid
+            ↔ (is_open (at tid self.old.held) ≡ false) }
+        ensures fault { IfErr result (DatagramFault from bytes.now (at tid self.old.held)) }
+        ensures err { OnErr result (KeepsHeld (meaning_by
+            S.stored S.Source.left S.drafted S.Source.may_fail S.may_refuse_open
+            S.may_refuse_begin S.may_refuse_append S.may_refuse_commit)
+            tid (at tid self.old.held) self.old self.new
+            × (out.new.items ≡ out.old.items)) }
+    {
         let Some(transfer) = self.table.get_mut(tid) else {
             return Err(ServerFault::NoSuchTid);
         };
         let replace = self.config.overwrite;
-        match transfer.on_datagram(&mut self.store, replace, from, bytes, out) {
-            Ok(step) => Ok(step),
+        let answer = transfer.on_datagram(&mut self.store, replace, from, bytes, out);
+        let record = transfer.record();
+        match answer {
+            Ok(step) => Ok((step, record)),
             Err(fault) => Err(ServerFault::from(fault)),
         }
     }

@@ -1,0 +1,40 @@
+use Rattle.std.proofs.Common.{◌≡◌, refl, ap}
+use Rattle.tftp_server.specs.State.{ServerState, at, with_next}
+use Rattle.tftp_ends.specs.Step.{IsAnswered}
+use Rattle.tftp_ends.specs.declared.record.Step.{Step}
+use Rattle.tftp_server.specs.Steps.{appends}
+use Rattle.tftp_server.specs.Store.{meaning_by}
+use Rattle.tftp_server.proofs.StepsLemmas.{found_now, datagram_fault, takes_recorded, keeps_held}
+use Rattle.tftp_server.proofs.server.Server.on_datagram_recorded.Goals as goal
+use Rattle.tftp_server.proofs.server.Server.on_datagram_recorded.Goals.{in-Ok, in-Err}
+
+pub returns-clause-fault : goal.returns-clause-fault
+returns-clause-fault g c =
+    let same : c.self.inside.table ≡ c.args.self.now.held = ap (λ (s : ServerState g.row.S.Denot g.row.S-Source.Denot g.row.S-Draft.Denot). s.held) c.self.view_is in
+    elim c.match-answer.branch [
+      | in-Ok w ↦ rw w.result-is tt
+      | in-Err w ↦
+          rw w.result-is
+          (datagram_fault {R = Step} IsAnswered c.args.from c.args.bytes.now (at c.args.tid c.args.self.now.held) c.in-Some.transfer.now w.in-Err.fault w.from.result
+          (found_now c.args.tid c.self.inside.table c.args.self.now.held c.in-Some.transfer.now same c.in-Some.ensures.value)
+          w.from.ensures w.in-Err.ensures.closed w.in-Err.ensures.memory)
+    ]
+
+pub returns-clause-takes : goal.returns-clause-takes
+returns-clause-takes g c =
+    elim c.match-answer.branch [
+      | in-Ok w ↦
+          rw (w.result-is, ← c.self.view_is)
+          (takes_recorded (meaning_by g.S.Store.stored g.S.Source.Source.left g.S.Store.drafted g.S.Source.Source.may_fail g.S.Store.may_refuse_open g.S.Store.may_refuse_begin g.S.Store.may_refuse_append g.S.Store.may_refuse_commit) c.args.tid _ _ c.self.inside.table c.in-Some.transfer.now c.on_datagram-answer.new.self refl c.in-Some.ensures.value refl
+          (appends c.args.out.now.items c.on_datagram-answer.new.out.items) c.args.from c.args.bytes.now w.in-Ok.step c.record-record.result w.in-Ok.ensures.takes c.record-record.ensures)
+      | in-Err w ↦ rw w.result-is tt
+    ]
+
+pub returns-clause-err : goal.returns-clause-err
+returns-clause-err g c =
+    let old : ServerState g.row.S.Denot g.row.S-Source.Denot g.row.S-Draft.Denot = record { config = c.self.inside.config; store = c.self.inside.store; held = c.self.inside.table } in
+    let new : ServerState g.row.S.Denot g.row.S-Source.Denot g.row.S-Draft.Denot = record { config = c.self.inside.config; store = c.on_datagram-answer.new.store; held = with_next c.args.tid c.on_datagram-answer.new.self c.self.inside.table } in
+    elim c.match-answer.branch [
+      | in-Ok w ↦ rw w.result-is tt
+      | in-Err w ↦ rw (w.result-is, ← c.self.view_is) (keeps_held (meaning_by g.S.Store.stored g.S.Source.Source.left g.S.Store.drafted g.S.Source.Source.may_fail g.S.Store.may_refuse_open g.S.Store.may_refuse_begin g.S.Store.may_refuse_append g.S.Store.may_refuse_commit) c.args.tid old new c.self.inside.table c.in-Some.transfer.now c.on_datagram-answer.new.self refl c.in-Some.ensures.value refl w.in-Err.ensures.err.0, w.in-Err.ensures.err.1)
+    ]
