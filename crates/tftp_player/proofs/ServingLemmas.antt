@@ -1,12 +1,13 @@
 -- What an end of the server did, from what the server did.
-use Rattle.std.proofs.Common.{◌≡◌, ℕ, Bool, true, false, List, [], ◌∷◌, ◌++◌, Option, Some, None, cond, refl, sym, ap, ◌∙◌, subst}
-use Rattle.std.specs.Prelude.{is_some}
+use Rattle.std.proofs.Common.{◌≡◌, ◌≢◌, ℕ, Bool, true, false, List, [], ◌∷◌, ◌++◌, Option, Some, None, cond, refl, sym, ap, ◌∙◌, subst}
+use Rattle.std.specs.Prelude.{is_some, option_map}
 use Rattle.std.specs.BTreeMap.{is_at}
 use Rattle.std.proofs.lemmas.Option.{same_Some}
 use Rattle.std.specs.Ordering.{nat_cmp}
 use Rattle.tftp_file.specs.Sink.{Holding}
 use Rattle.tftp_file.specs.declared.files.Files.{Files}
 use Rattle.tftp_file.specs.declared.files.Files.TheVariants.{Source, Sink}
+use Rattle.tftp_ends.specs.declared.outcome.Outcome.{Outcome}
 use Rattle.tftp_ends.specs.declared.record.Record.{Record}
 use Rattle.tftp_ends.specs.declared.record.Step.{Step}
 use Rattle.tftp_ends.specs.End.{EndState, outcome_of, record_of}
@@ -15,23 +16,29 @@ use Rattle.tftp_ends.specs.Step.{Turn, Carries, timeout_turn, told, reply_bytes}
 use Rattle.tftp_server.specs.Draft.{files_in, drafting_holds, DraftingBecomes, KeepsStore}
 use Rattle.tftp_server.specs.Memory.{memory_meaning, with_told}
 use Rattle.tftp_server.specs.State.{at, with_next, draft_of, is_closed}
-use Rattle.tftp_server.specs.Steps.{TimesOut, TakesDatagram, KeepsHeld, with_end}
+use Rattle.tftp_server.specs.Steps.{TimesOut, TakesDatagram, TakesRecorded, KeepsHeld, with_end}
 use Rattle.tftp_server.specs.Store.{Stored, Drafted, FileList, new_draft}
 use Rattle.tftp_player.specs.Machine.{Endpoint}
 use Rattle.tftp_player.specs.Clients.{server_at}
 use Rattle.tftp_player.specs.Effect.{effect_of}
-use Rattle.tftp_player.specs.Serving.{PlayedServer, Transfer, ServedKept, ServedTurns, ServedTimeoutStep, ServedDatagramStep, Concludes, IsHeld, rested_served, rested_held}
+use Rattle.tftp_player.specs.Serving.{PlayedServer, Transfer, ServedKept, ServedTurns, ServedTimeoutStep, ServedDatagramStep, Concludes, ClosesAs, rested_served, rested_held}
 use Rattle.tftp_player.specs.declared.effect.Effect.{Effect}
 use Rattle.tftp_player.specs.declared.served.Served.{Served}
 use Rattle.tftp_player.proofs.HeldLemmas.{at-with_next}
 
--- a transfer that made a step is held still
-pub next_is_held : (port : ℕ) (h next : Transfer) (held held' : List (ℕ × Transfer)) → at port held ≡ Some h → held' ≡ with_next port next held → IsHeld (at port held')
-next_is_held port h next held held' found e =
-    subst IsHeld (sym (ap (at port) e ∙ at-with_next port h next held found)) tt
+-- a transfer that made a step has closed as the step told
+pub closes_as : (port : ℕ) (h next : Transfer) (held held' : List (ℕ × Transfer)) (turn : Turn) (step : Step) → at port held ≡ Some h → held' ≡ with_next port next held → next.end ≡ turn.end → step ≡ told h.end turn →
+    ClosesAs step.closed (at port held')
+closes_as port h next held held' turn step found e is tells =
+    subst (ClosesAs step.closed) (sym (ap (at port) e ∙ at-with_next port h next held found)) (ap (λ (s : Step). s.closed) tells ∙ ap (λ (e : EndState). outcome_of e.phase) (sym is))
 
-pub times_out_held : (port : ℕ) (old new : List (ℕ × Transfer)) (step : Step) (before after : List ℕ) → TimesOut port old new step before after → IsHeld (at port new)
-times_out_held port old new step before after t = next_is_held port t.transfer (with_end t.end t.transfer) old new t.found t.held
+pub times_out_closes : (port : ℕ) (old new : List (ℕ × Transfer)) (step : Step) (before after : List ℕ) → TimesOut port old new step before after → ClosesAs step.closed (at port new)
+times_out_closes port old new step before after t = closes_as port t.transfer (with_end t.end t.transfer) old new (timeout_turn t.transfer.end) step t.found t.held t.carries.state t.tells
+
+-- and is held still
+pub is_recorded : (closed : Option Outcome) (o : Option Transfer) (r : Option Record) → ClosesAs closed o → r ≡ option_map (λ (h : Transfer). record_of h.end) o → r ≢ None
+is_recorded closed None r c e none = c
+is_recorded closed (Some h) r c e none = let f : Some (record_of h.end) ≡ None = sym e ∙ none in cc
 
 -- what a step of an end there comes to
 pub effect_is : (at : Endpoint) (e e' : EndState) (turn : Turn) (step : Step) (start out : List ℕ) → start ≡ [] → Carries turn e' step.to start out → step ≡ told e turn →
@@ -43,28 +50,31 @@ effect_is at e e' turn step start out none c tells =
 -- what it left at the server, which has become that, where it was taken out if it has closed
 turns_served : (port : ℕ) (was old new : Served) (before mid after : PlayedServer) (turn : Turn) (next : Transfer) (refuses : Bool) (store : Stored) (effect : Effect) (r : Record) →
     next.end ≡ turn.end → at port mid.held ≡ Some next → mid ≡ record before { store = store; held = with_next port next before.held } → old ≡ record was { refuses = refuses } →
-    Concludes port (at port mid.held) old new mid after r → effect ≡ effect_of (server_at port) turn →
+    Concludes port (at port mid.held) old new mid after → r ≡ record_of next.end → effect ≡ effect_of (server_at port) turn →
     ServedTurns port was new before after turn next refuses store effect r
-turns_served port was old new before mid after turn next refuses store effect r is found server told_so c effects =
-    let d : Concludes port (Some next) old new mid after r = subst (λ (o : Option Transfer). Concludes port o old new mid after r) found c in
+turns_served port was old new before mid after turn next refuses store effect r is found server told_so c recorded effects =
+    let d : Concludes port (Some next) old new mid after = subst (λ (o : Option Transfer). Concludes port o old new mid after) found c in
     let closed : is_closed next ≡ is_some (outcome_of turn.end.phase) = ap (λ (e : EndState). is_some (outcome_of e.phase)) is in
     record {
       end = is;
       effects = effects;
-      recorded = d.0 ∙ ap record_of is;
-      served = d.1.0 ∙ (ap (λ (b : Bool). rested_served b r (draft_of next.files) old) closed ∙ ap (rested_served (is_some (outcome_of turn.end.phase)) r (draft_of next.files)) told_so);
-      server = d.1.1 ∙ (ap (λ (b : Bool). record mid { held = rested_held b port mid.held }) closed
+      recorded = recorded ∙ ap record_of is;
+      served = d.0 ∙ (ap (λ (r : Record). rested_served (is_closed next) r (draft_of next.files) old) (sym recorded)
+          ∙ (ap (λ (b : Bool). rested_served b r (draft_of next.files) old) closed ∙ ap (rested_served (is_some (outcome_of turn.end.phase)) r (draft_of next.files)) told_so));
+      server = d.1 ∙ (ap (λ (b : Bool). record mid { held = rested_held b port mid.held }) closed
           ∙ ap (λ (m : PlayedServer). record m { held = rested_held (is_some (outcome_of turn.end.phase)) port m.held }) server);
     }
 
 pub served_times_out : (port : ℕ) (old new : Served) (before mid after : PlayedServer) (step : Step) (start out : List ℕ) (effect : Effect) (r : Record) → start ≡ [] →
     TimesOut port before.held mid.held step start out → mid ≡ record before { held = mid.held } →
-    Concludes port (at port mid.held) old new mid after r → (from_here : Endpoint) → from_here ≡ server_at port → effect ≡ record { from = from_here; to = step.to; bytes = out; closed = step.closed } →
+    Concludes port (at port mid.held) old new mid after → Some r ≡ option_map (λ (h : Transfer). record_of h.end) (at port mid.held) →
+    (from_here : Endpoint) → from_here ≡ server_at port → effect ≡ record { from = from_here; to = step.to; bytes = out; closed = step.closed } →
     ServedTimeoutStep port old new before after effect r
-served_times_out port old new before mid after step start out effect r none t rest c here is_here made =
+served_times_out port old new before mid after step start out effect r none t rest c recorded here is_here made =
     let turn : Turn = timeout_turn t.transfer.end in
     let next : Transfer = with_end turn.end t.transfer in
-    let held : mid.held ≡ with_next port next before.held = t.held ∙ ap (λ (e : EndState). with_next port (with_end e t.transfer) before.held) t.carries.state in (
+    let held : mid.held ≡ with_next port next before.held = t.held ∙ ap (λ (e : EndState). with_next port (with_end e t.transfer) before.held) t.carries.state in
+    let found : at port mid.held ≡ Some next = ap (at port) held ∙ at-with_next port t.transfer next before.held t.found in (
       t.transfer,
       t.found,
       turns_served port old old new before mid after turn next old.refuses before.store effect r refl
@@ -72,6 +82,7 @@ served_times_out port old new before mid after step start out effect r none t re
           (rest ∙ ap (λ (held : List (ℕ × Transfer)). record before { held = held }) held)
           refl
           c
+          (same_Some r (record_of next.end) (recorded ∙ ap (option_map (λ (h : Transfer). record_of h.end)) found))
           (made ∙ ap (λ (a : Endpoint). record { from = a; to = step.to; bytes = out; closed = step.closed }) is_here ∙ effect_is (server_at port) t.transfer.end t.end turn step start out none t.carries t.tells),
     )
 
@@ -81,11 +92,11 @@ abbrev pub server_told : PlayedServer → Bool → PlayedServer
 server_told server told = record server { store = with_told server.store told }
 
 module _ (port : ℕ) (from : Endpoint) (bytes : List ℕ) (was old new : Served) (before mid quieted after : PlayedServer) (step : Step) (start out : List ℕ) (effect : Effect) (r : Record) where
-  steps_so : start ≡ [] → TakesDatagram memory_meaning port from bytes (server_told before was.refuses) mid step start out →
+  steps_so : start ≡ [] → (t : TakesDatagram memory_meaning port from bytes (server_told before was.refuses) mid step start out) → r ≡ record_of t.next.end →
       mid ≡ record before { store = mid.store; held = mid.held } → old ≡ record was { refuses = mid.store.refuses } → quieted ≡ server_told mid false →
-      Concludes port (at port quieted.held) old new quieted after r → effect ≡ record { from = server_at port; to = step.to; bytes = out; closed = step.closed } →
+      Concludes port (at port quieted.held) old new quieted after → effect ≡ record { from = server_at port; to = step.to; bytes = out; closed = step.closed } →
       ServedDatagramStep port from bytes was new before after effect r
-  steps_so none t rest told_so quiet c made = record {
+  steps_so none t recorded rest told_so quiet c made = record {
     transfer = t.transfer;
     next = t.next;
     turn = t.takes.turn;
@@ -102,16 +113,19 @@ module _ (port : ℕ) (from : Endpoint) (bytes : List ℕ) (was old new : Served
         ∙ ap (λ (held : List (ℕ × Transfer)). record before { store = with_told mid.store false; held = held }) t.held))
         told_so
         c
+        recorded
         (made ∙ effect_is (server_at port) t.transfer.end t.next.end t.takes.turn step start out none t.takes.carries t.takes.tells);
   }
 
   -- the server, and what goes out, are told by equations
-  pub served_steps : (told : PlayedServer) → told ≡ server_told before was.refuses → start ≡ [] → TakesDatagram memory_meaning port from bytes told mid step start out →
+  pub served_steps : (told : PlayedServer) → told ≡ server_told before was.refuses → start ≡ [] → TakesRecorded memory_meaning port from bytes told mid step r start out →
       mid ≡ record told { store = mid.store; held = mid.held } → old ≡ record was { refuses = mid.store.refuses } → quieted ≡ server_told mid false →
-      Concludes port (at port quieted.held) old new quieted after r → (from_here : Endpoint) → from_here ≡ server_at port → effect ≡ record { from = from_here; to = step.to; bytes = out; closed = step.closed } →
+      Concludes port (at port quieted.held) old new quieted after → (from_here : Endpoint) → from_here ≡ server_at port → effect ≡ record { from = from_here; to = step.to; bytes = out; closed = step.closed } →
       ServedDatagramStep port from bytes was new before after effect r
   served_steps told told_is none t rest told_so quiet c here is_here made =
-      steps_so none (subst (λ (s : PlayedServer). TakesDatagram memory_meaning port from bytes s mid step start out) told_is t)
+      let taken : TakesRecorded memory_meaning port from bytes (server_told before was.refuses) mid step r start out =
+      subst (λ (s : PlayedServer). TakesRecorded memory_meaning port from bytes s mid step r start out) told_is t in
+      steps_so none taken.0 taken.1
       (rest ∙ ap (λ (s : PlayedServer). record s { store = mid.store; held = mid.held }) told_is) told_so quiet c
       (made ∙ ap (λ (a : Endpoint). record { from = a; to = step.to; bytes = out; closed = step.closed }) is_here)
 

@@ -2,6 +2,7 @@
 use Rattle.std.specs.Prelude.{ℕ, ◌≡◌, Bool, true, false, is_some, List, Option, Some, None, ⊤}
 use Rattle.tftp_file.specs.declared.files.Files.{Files}
 use Rattle.tftp_file.specs.declared.files.Files.TheVariants.{Source, Sink}
+use Rattle.tftp_ends.specs.declared.outcome.Outcome.{Outcome}
 use Rattle.tftp_ends.specs.declared.phase.Phase.{Phase}
 use Rattle.tftp_ends.specs.declared.record.Record.{Record}
 use Rattle.tftp_ends.specs.End.{is_client, is_complete, outcome_of, record_of}
@@ -80,17 +81,14 @@ pub record ServedDatagramStep (port : ℕ) (from : Endpoint) (bytes : List ℕ) 
   pub request : next.request ≡ transfer.request
   pub turns : ServedTurns port old new before after turn next store.refuses (with_told store false) effect r
 
--- a transfer is held
-abbrev pub IsHeld : Option Transfer → Type 0
-IsHeld None = ⊥
-IsHeld (Some h) = ⊤
+-- how the transfer has closed, as its step told
+abbrev pub ClosesAs : Option Outcome → Option Transfer → Type 0
+ClosesAs closed None = ⊥
+ClosesAs closed (Some h) = closed ≡ outcome_of h.end.phase
 
 -- it was taken out with its record and its draft, if it has closed
-abbrev pub ConcludesAs : Bool → ℕ → Record → Option Drafted → Served → Served → PlayedServer → PlayedServer → Type 0
-ConcludesAs closed port r draft old new before after =
-    (new ≡ rested_served closed r draft old) × (after ≡ record before { held = rested_held closed port before.held })
-
-abbrev pub Concludes : ℕ → Option Transfer → Served → Served → PlayedServer → PlayedServer → Record → Type 0
-Concludes port None old new before after r = ⊥
-Concludes port (Some h) old new before after r =
-    (r ≡ record_of h.end) × ConcludesAs (server.is_closed h) port r (draft_of h.files) old new before after
+abbrev pub Concludes : ℕ → Option Transfer → Served → Served → PlayedServer → PlayedServer → Type 0
+Concludes port None old new before after = ⊥
+Concludes port (Some h) old new before after =
+    (new ≡ rested_served (server.is_closed h) (record_of h.end) (draft_of h.files) old)
+    × (after ≡ record before { held = rested_held (server.is_closed h) port before.held })

@@ -7,13 +7,13 @@ ghost use Rattle.tftp_player.specs.Requested.{IsRequested, IsWanted, new_served,
 ghost use Rattle.tftp_ends.specs.Step.{timeout_turn};
 ghost use Rattle.tftp_server.specs.State.{at};
 ghost use Rattle.tftp_player.specs.Played.{IsServed, draft_or_new, served_draft, told_served_end};
-ghost use Rattle.tftp_player.specs.Serving.{ServedKept, ServedTimeoutStep, ServedDatagramStep, Concludes, IsHeld};
+ghost use Rattle.tftp_player.specs.Serving.{ServedKept, ServedTimeoutStep, ServedDatagramStep, Concludes, ClosesAs};
 
 use crate::effect::{Effect, effect_of};
 use crate::fault::WorldFault;
 use crate::hosts::server_at;
 use std::alloc::Global;
-use tftp_ends::{Endpoint, Record};
+use tftp_ends::{Endpoint, Outcome, Record};
 use tftp_file::{Path, PathFault, path_of};
 use tftp_server::{MemDraft, MemStore, Server, ServerFault};
 use tftp_wire::{Bytes, Mode, PacketRef, decode_ref};
@@ -64,7 +64,10 @@ impl Served {
         let mut out = Vec::new(alloc);
         match server.on_timeout(port, &mut out) {
             Ok(step) => {
-                let record = self.conclude(server, port);
+                let Some(record) = server.record(port) else {
+                    unreachable!()
+                };
+                self.conclude(server, port, step.closed);
                 Ok((effect_of(server_at(port), step, out), record))
             }
             Err(ServerFault::Memory) => Err(WorldFault::Memory),
@@ -91,13 +94,13 @@ impl Served {
     {
         let mut out = Vec::new(alloc);
         server.store_mut().refuse_next(self.refuses);
-        let answer = server.on_datagram(port, from, bytes, &mut out);
+        let answer = server.on_datagram_recorded(port, from, bytes, &mut out);
         let refuses = server.store().refuses();
         server.store_mut().refuse_next(false);
         match answer {
-            Ok(step) => {
+            Ok((step, record)) => {
                 self.refuses = refuses;
-                let record = self.conclude(server, port);
+                self.conclude(server, port, step.closed);
                 Ok((effect_of(server_at(port), step, out), record))
             }
             Err(ServerFault::Memory) => Err(WorldFault::Memory),
@@ -148,21 +151,20 @@ impl Served {
         }
     }
 
-    /// Takes it from the server if it has closed there, and tells how far it came.
-    fn conclude(&mut self, server: &mut Server<MemStore>, port: u16) -> Record
-        requires { IsHeld (at port server.old.held) }
-        ensures { Concludes port (at port server.old.held) self.old self.new server.old server.new
-            result }
+    /// Takes it from the server, if its step has closed it there.
+    fn conclude(&mut self, server: &mut Server<MemStore>, port: u16, closed: Option<Outcome>)
+        requires { ClosesAs closed (at port server.old.held) }
+        ensures { Concludes port (at port server.old.held) self.old self.new server.old
+            server.new }
     {
-        if let Some((record, draft)) = server.take_closed(port) {
-            self.draft = draft;
-            self.ended = Some(record);
-            return record;
+        if closed.is_none() {
+            return;
         }
-        match server.record(port) {
-            Some(record) => record,
-            None => unreachable!(),
-        }
+        let Some((record, draft)) = server.take_closed(port) else {
+            unreachable!()
+        };
+        self.draft = draft;
+        self.ended = Some(record);
     }
 }
 
