@@ -87,17 +87,18 @@ client_entered server ps ps0 ps1 records records0 records1 c port r staged is cl
     (client_staged server ps records c port r staged (is ∙ ap (λ (n : ℕ). 1024 + n) (ends_length server.held ps)) told client fits))
 
 -- the world that a client entered
-pub entered : (config : Config) (sent sent0 sent1 : List Datagram) (server : PlayedServer) (ps ps0 ps1 : List Player) (old : WorldState) (c : PlayedClient) (effect : Effect) (port : ℕ) (report : Report) →
-    world_of config sent server ps ≡ old → port ≡ next_port old → ps0 ≡ ps → ps1 ≡ ps0 ++ Client c ∷ [] →
+pub entered : (config : Config) (sent sent0 sent1 : List Datagram) (server server1 : PlayedServer) (ps ps1 : List Player) (old : WorldState) (c : PlayedClient) (effect : Effect) (port : ℕ) (report : Report) →
+    world_of config sent server ps ≡ old → port ≡ next_port old → server1 ≡ server → ps1 ≡ ps ++ Client c ∷ [] →
     sent0 ≡ sent → sent1 ≡ sent0 ++ said_by effect.from effect.to effect.bytes → report ≡ report_by sent0 effect →
-    Enters old port c effect report (world_of config sent1 server ps1)
-entered config sent sent0 sent1 server ps ps0 ps1 old c effect port report view at a b same more tells =
-    subst (λ (w : WorldState). Enters w port c effect report (world_of config sent1 server ps1)) view (record {
+    Enters old port c effect report (world_of config sent1 server1 ps1)
+entered config sent sent0 sent1 server server1 ps ps1 old c effect port report view at a b same more tells =
+    subst (λ (w : WorldState). Enters w port c effect report (world_of config sent1 server1 ps1)) view (record {
       tells = tells ∙ ap (λ (ds : List Datagram). report_by ds effect) same;
       is =
-          ap (λ (ds : List Datagram). world_of config ds server ps1) (more ∙ ap (λ (ds : List Datagram). ds ++ said_by effect.from effect.to effect.bytes) same)
-          ∙ (ap (λ (qs : List Player). world_of config (sent ++ said_by effect.from effect.to effect.bytes) server qs) (b ∙ ap (λ (qs : List Player). qs ++ Client c ∷ []) a)
-          ∙ ap (λ (xs : List OpenedEnd). record (world_of config sent server ps) { sent = sent ++ said_by effect.from effect.to effect.bytes; ends = xs }) ends);
+          ap (λ (v : PlayedServer). world_of config sent1 v ps1) a
+          ∙ (ap (λ (ds : List Datagram). world_of config ds server ps1) (more ∙ ap (λ (ds : List Datagram). ds ++ said_by effect.from effect.to effect.bytes) same)
+          ∙ (ap (λ (qs : List Player). world_of config (sent ++ said_by effect.from effect.to effect.bytes) server qs) b
+          ∙ ap (λ (xs : List OpenedEnd). record (world_of config sent server ps) { sent = sent ++ said_by effect.from effect.to effect.bytes; ends = xs }) ends));
     }) where
       here : 1024 + length ps ≡ port
       here = ap (λ (n : ℕ). 1024 + n) (sym (ends_length server.held ps)) ∙ (ap next_port view ∙ sym at)

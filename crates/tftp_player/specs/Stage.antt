@@ -17,6 +17,7 @@ use Rattle.tftp_player.specs.WorldSteps.{EndStep, FilesAfter}
 use Rattle.tftp_server.specs.declared.config.Config.{Config}
 use Rattle.tftp_player.specs.declared.datagram.Datagram.{Datagram}
 use Rattle.tftp_player.specs.declared.effect.Effect.{Effect}
+use Rattle.tftp_player.specs.declared.ends.Ends.{Ends}
 use Rattle.tftp_player.specs.declared.player.Player.{Player}
 use Rattle.tftp_player.specs.declared.player.Player.TheVariants.{Server}
 use Rattle.tftp_player.specs.declared.report.Report.{Report}
@@ -51,6 +52,14 @@ pub record IsStaged (server : PlayedServer) (players : List Player) (records : L
   pub rising : IsRising server.held
   -- between two events the store is told to refuse nothing
   pub quiet : server.store.refuses ≡ false
+
+-- so do those of the struct that has them
+abbrev pub HangTogether : Ends → Type 0
+HangTogether ends = IsStaged ends.server ends.players.items ends.records.items
+
+-- nothing has changed there but what room there is
+abbrev pub AreAsBefore : Ends → Ends → Type 0
+AreAsBefore old new = (new.server ≡ old.server) × (new.players.items ≡ old.players.items)
 
 -- the end at this place made a turn
 pub record EndTurns (place : ℕ) (x : OpenedEnd) (turn : Turn) (held : Files (List ℕ) Holding) (ends ends' : List OpenedEnd) (effect : Effect) : Type 0 where

@@ -8,6 +8,7 @@
 mod client;
 mod datagram;
 mod effect;
+mod ends;
 mod event;
 mod fault;
 mod hosts;

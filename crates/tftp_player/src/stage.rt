@@ -3,7 +3,7 @@
 mod arriving;
 mod opening;
 
-ghost use Rattle.std.specs.Prelude.{◌≡◌, ◌<◌, ◌+◌, [], true, length, option_map, slice_get, IfOk, IfErr, OnErr};
+ghost use Rattle.std.specs.Prelude.{◌≡◌, ◌+◌, [], true, length, option_map, IfOk, IfErr, OnErr};
 ghost use Rattle.tftp_server.specs.Config.{IsConfig};
 ghost use Rattle.tftp_server.specs.Memory.{contents, has_distinct_paths, in_path_order};
 ghost use Rattle.tftp_player.specs.Arriving.{IsPlayable};
@@ -11,14 +11,14 @@ ghost use Rattle.tftp_player.specs.World.{new_world, file_at};
 ghost use Rattle.tftp_player.specs.WorldSteps.{WorldStep, WorldRefuses};
 ghost use Rattle.tftp_player.specs.declared.event.Event.TheVariants.{Timeout, RefuseStore};
 ghost use Rattle.tftp_player.specs.Played.{records_from};
-ghost use Rattle.tftp_player.specs.Stage.{IsStaged, StageTimeoutStep, record_closed, stored_at, committed_at};
+ghost use Rattle.tftp_player.specs.Stage.{stored_at, committed_at};
 
 use crate::datagram::Datagram;
-use crate::effect::{Effect, no_effect, write_down};
+use crate::effect::write_down;
+use crate::ends::Ends;
 use crate::event::Event;
 use crate::fault::WorldFault;
 use crate::hosts::place_of;
-use crate::player::Player;
 use crate::report::Report;
 use std::alloc::Global;
 use std::marker::Model;
@@ -31,10 +31,8 @@ use tftp_server::{Config, MemStore, Server};
 pub(crate) struct Stage {
     alloc: Global,
     config: Config,
-    server: Server<MemStore>,
+    ends: Ends,
     sent: Vec<Datagram>,
-    players: Vec<Player>,
-    records: Vec<(u16, Record)>,
 }
 
 impl Model for Stage {
@@ -44,12 +42,12 @@ impl Model for Stage {
     ghost Value = { WorldState };
 
     ghost use Rattle.tftp_negotiate.specs.Ranges.{IsBlockSize};
-    ghost use Rattle.tftp_player.specs.Stage.{IsStaged, world_of};
+    ghost use Rattle.tftp_player.specs.Stage.{HangTogether, world_of};
 
-    ghost view = { λ w. world_of w.config w.sent.items w.server w.players.items };
+    ghost view = { λ w. world_of w.config w.sent.items w.ends.server w.ends.players.items };
 
-    ghost invariant = { λ w. (w.server.config ≡ w.config)
-        × IsStaged w.server w.players.items w.records.items
+    ghost invariant = { λ w. (w.ends.server.config ≡ w.config)
+        × HangTogether w.ends
         × IsBlockSize w.config.limits.max_block };
 }
 
@@ -75,10 +73,13 @@ impl Stage {
         Ok(Stage {
             alloc,
             config,
-            server,
+            ends: Ends {
+                alloc,
+                server,
+                players: Vec::new(alloc),
+                records: Vec::new(alloc),
+            },
             sent: Vec::new(alloc),
-            players: Vec::new(alloc),
-            records: Vec::new(alloc),
         })
     }
 
@@ -93,16 +94,16 @@ impl Stage {
     pub(crate) fn records(&self) -> &[(u16, Record)]
         ensures { result.now ≡ records_from 1024 self.now.ends }
     {
-        self.records.as_slice()
+        self.ends.records.as_slice()
     }
 
     /// What the receiver at this port has stored.
     pub(crate) fn stored(&self, port: u16) -> Option<&[u8]>
         ensures { option_map (λ bytes. bytes.now) result ≡ stored_at self.now.ends port }
     {
-        match place_of(port, self.players.len()) {
+        match place_of(port, self.ends.players.len()) {
             None => None,
-            Some(place) => self.players[place].stored(&self.server, port),
+            Some(place) => self.ends.players[place].stored(&self.ends.server, port),
         }
     }
 
@@ -110,9 +111,9 @@ impl Stage {
     pub(crate) fn committed(&self, port: u16) -> bool
         ensures { result ≡ committed_at self.now.ends port }
     {
-        match place_of(port, self.players.len()) {
+        match place_of(port, self.ends.players.len()) {
             None => false,
-            Some(place) => self.players[place].committed(&self.server, port),
+            Some(place) => self.ends.players[place].committed(&self.ends.server, port),
         }
     }
 
@@ -120,7 +121,7 @@ impl Stage {
     pub(crate) fn file(&self, path: &Path) -> Option<&[u8]>
         ensures { option_map (λ bytes. bytes.now) result ≡ file_at self.now.files path.now }
     {
-        self.server.store().file(path)
+        self.ends.server.store().file(path)
     }
 
     /// Makes the step of an event.
@@ -151,21 +152,13 @@ impl Stage {
         ensures refused { IfErr result (WorldRefuses self.old (Timeout port)) }
         ensures err { OnErr result (self.new ≡ self.old) }
     {
-        let Some(place) = place_of(port, self.players.len()) else {
+        let Some(place) = place_of(port, self.ends.players.len()) else {
             return Err(WorldFault::NoSuchEnd);
         };
         let Ok(()) = self.sent.reserve(1) else {
             return Err(WorldFault::Memory);
         };
-        let effect = on_timeout(
-            self.alloc,
-            &mut self.server,
-            &mut self.players,
-            &mut self.records,
-            place,
-            port,
-        );
-        match effect {
+        match self.ends.on_timeout(place, port) {
             Ok(effect) => Ok(write_down(&mut self.sent, effect)),
             Err(fault) => Err(fault),
         }
@@ -178,55 +171,14 @@ impl Stage {
         ensures refused { IfErr result (WorldRefuses self.old (RefuseStore port)) }
         ensures err { OnErr result (self.new ≡ self.old) }
     {
-        let Some(place) = place_of(port, self.players.len()) else {
+        let Some(place) = place_of(port, self.ends.players.len()) else {
             return Err(WorldFault::NoSuchEnd);
         };
-        let player = &mut self.players[place];
-        player.refuse_next(&self.server, port);
+        let player = &mut self.ends.players[place];
+        player.refuse_next(&self.ends.server, port);
         Ok(Report {
             added: None,
             closed: None,
         })
-    }
-}
-
-/// The end at this place takes a timeout, unless it is closed.
-fn on_timeout(
-    alloc: Global,
-    server: &mut Server<MemStore>,
-    players: &mut Vec<Player>,
-    records: &mut Vec<(u16, Record)>,
-    place: usize,
-    port: u16,
-) -> Result<Effect, WorldFault>
-    requires staged { IsStaged server.old players.old.items records.old.items }
-    requires place { (place < length players.old.items) × (port ≡ 1024 + place) }
-    ensures times_out { IfOk result (λ effect.
-        StageTimeoutStep place server.old server.new players.old.items players.new.items effect) }
-    ensures staged { IsStaged server.new players.new.items records.new.items }
-    ensures memory { IfErr result (λ fault. fault ≡ WorldFault.Memory) }
-    ensures err { OnErr result ((server.new ≡ server.old) ×
-        (players.new.items ≡ players.old.items)) }
-{
-    let player = &mut players[place];
-    if is_recorded_closed(records, place) {
-        return Ok(no_effect(alloc, player.address(port)));
-    }
-    match player.on_timeout(alloc, server, port) {
-        Ok((effect, record)) => {
-            records[place] = (port, record);
-            Ok(effect)
-        }
-        Err(fault) => Err(fault),
-    }
-}
-
-/// Whether the end at this place is recorded as closed.
-pub(crate) fn is_recorded_closed(records: &Vec<(u16, Record)>, place: usize) -> bool
-    ensures { result ≡ record_closed (slice_get records.now.items place) }
-{
-    match records.get(place) {
-        Some((_, record)) => record.outcome.is_some(),
-        None => true,
     }
 }

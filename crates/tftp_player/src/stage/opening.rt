@@ -11,7 +11,6 @@ ghost use Rattle.tftp_player.specs.declared.event.Event.TheVariants.{Get, Put};
 use crate::client::Client;
 use crate::effect::{Effect, write_down};
 use crate::hosts::port_of;
-use crate::player::Player;
 use crate::stage::Stage;
 use crate::{Report, WorldFault};
 use tftp_ends::EndConfig;
@@ -31,7 +30,7 @@ impl Stage {
         ensures refused { IfErr result (WorldRefuses self.old (Get name.now mode asked.now)) }
         ensures err { OnErr result (self.new ≡ self.old) }
     {
-        let Some(port) = port_of(self.players.len()) else {
+        let Some(port) = port_of(self.ends.players.len()) else {
             return Err(WorldFault::NoPort);
         };
         let config = EndConfig {
@@ -57,7 +56,7 @@ impl Stage {
         ensures refused { IfErr result (WorldRefuses self.old (Put name.now mode asked.now file)) }
         ensures err { OnErr result (self.new ≡ self.old) }
     {
-        let Some(port) = port_of(self.players.len()) else {
+        let Some(port) = port_of(self.ends.players.len()) else {
             return Err(WorldFault::NoPort);
         };
         let config = EndConfig {
@@ -82,14 +81,9 @@ impl Stage {
         let Ok(()) = self.sent.reserve(1) else {
             return Err(WorldFault::Memory);
         };
-        let Ok(()) = self.players.reserve(1) else {
-            return Err(WorldFault::Memory);
-        };
-        let Ok(()) = self.records.reserve(1) else {
-            return Err(WorldFault::Memory);
-        };
-        self.records.push_reserved((port, client.record()));
-        self.players.push_reserved(Player::Client(client));
-        Ok(write_down(&mut self.sent, effect))
+        match self.ends.enter(port, client) {
+            Ok(()) => Ok(write_down(&mut self.sent, effect)),
+            Err(fault) => Err(fault),
+        }
     }
 }

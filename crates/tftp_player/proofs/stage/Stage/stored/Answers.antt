@@ -4,11 +4,11 @@ use Rattle.tftp_player.proofs.stage.Stage.stored.Goals as goal
 
 pub returns-in-None : goal.returns-in-None
 returns-in-None c =
-    let count : c.len.result ≡ length c.self.inside.players.items = search rules in
-    stored_nowhere c.self.inside.config c.self.inside.sent.items c.self.inside.server c.self.inside.players.items c.self.inside.records.items c.args.self.now c.self.view_is c.self.invariant.1 c.args.port c.len.result count c.in-None.ensures.none
+    let count : c.len.result ≡ length c.self.inside.ends.players.items = search rules in
+    stored_nowhere c.self.inside.config c.self.inside.sent.items c.self.inside.ends.server c.self.inside.ends.players.items c.self.inside.ends.records.items c.args.self.now c.self.view_is c.self.invariant.1 c.args.port c.len.result count c.in-None.ensures.none
 
 pub returns-in-Some : goal.returns-in-Some
 returns-in-Some c =
-    let within : c.in-Some.place < length c.self.inside.players.items = search rules in
+    let within : c.in-Some.place < length c.self.inside.ends.players.items = search rules in
     c.stored.ensures
-    ∙ stored_here c.self.inside.config c.self.inside.sent.items c.self.inside.server c.self.inside.players.items c.self.inside.records.items c.args.self.now c.self.view_is c.self.invariant.1 c.args.port c.in-Some.place c.index.result.now within c.in-Some.ensures.some.0 c.index.ensures
+    ∙ stored_here c.self.inside.config c.self.inside.sent.items c.self.inside.ends.server c.self.inside.ends.players.items c.self.inside.ends.records.items c.args.self.now c.self.view_is c.self.invariant.1 c.args.port c.in-Some.place c.index.result.now within c.in-Some.ensures.some.0 c.index.ensures

@@ -7,22 +7,22 @@ use Rattle.tftp_player.proofs.stage.Stage.timeout.Goals as goal
 
 pub returns-in_default-clause-refused : goal.returns-in_default-clause-refused
 returns-in_default-clause-refused c =
-    let count : c.len.result ≡ length c.self.inside.players.items = search rules in
-    subst (λ (w : WorldState). NoneAt w c.args.port) c.self.view_is (none_here c.self.inside.server c.self.inside.players.items c.len.result c.args.port count c.in_default.ensures.none)
+    let count : c.len.result ≡ length c.self.inside.ends.players.items = search rules in
+    subst (λ (w : WorldState). NoneAt w c.args.port) c.self.view_is (none_here c.self.inside.ends.server c.self.inside.ends.players.items c.len.result c.args.port count c.in_default.ensures.none)
 
-pub returns-in-Ok-effect-clause-steps : goal.returns-in-Ok-effect-clause-steps
-returns-in-Ok-effect-clause-steps c =
-    timeout_result c.self.inside.config _ _ _ _ _ _ _ _ _ _ _ _ c.self.view_is c.in-Some.ensures.some.0 c.self.invariant.1.kept c.in-Ok-effect.ensures.times_out
+pub returns-in-Ok-on_timeout-clause-steps : goal.returns-in-Ok-on_timeout-clause-steps
+returns-in-Ok-on_timeout-clause-steps c =
+    timeout_result c.self.inside.config _ _ _ _ _ _ _ _ _ _ _ _ c.self.view_is c.in-Some.ensures.some.0 c.self.invariant.1.kept c.in-Ok-on_timeout.ensures.times_out
     c.in-Ok.ensures.items c.write_down.ensures.sent c.write_down.ensures.report
 
 pub returns-in_default-reserve-clause-refused : goal.returns-in_default-reserve-clause-refused
 returns-in_default-reserve-clause-refused c =
-    let count : c.len.result ≡ length c.self.inside.players.items = search rules in
-    let within : c.in-Some.place < length c.self.inside.players.items = search rules in
-    timeout_refused c.self.inside.config c.self.inside.sent.items c.self.inside.server c.self.inside.players.items c.args.self.now c.args.port c.in-Some.place c.self.view_is c.in-Some.ensures.some.0 within Memory refl
+    let count : c.len.result ≡ length c.self.inside.ends.players.items = search rules in
+    let within : c.in-Some.place < length c.self.inside.ends.players.items = search rules in
+    timeout_refused c.self.inside.config c.self.inside.sent.items c.self.inside.ends.server c.self.inside.ends.players.items c.args.self.now c.args.port c.in-Some.place c.self.view_is c.in-Some.ensures.some.0 within Memory refl
 
 pub returns-in-Err-clause-refused : goal.returns-in-Err-clause-refused
 returns-in-Err-clause-refused c =
-    let count : c.len.result ≡ length c.self.inside.players.items = search rules in
-    let within : c.in-Some.place < length c.self.inside.players.items = search rules in
-    timeout_refused c.self.inside.config c.self.inside.sent.items c.self.inside.server c.self.inside.players.items c.args.self.now c.args.port c.in-Some.place c.self.view_is c.in-Some.ensures.some.0 within c.in-Err.fault c.in-Err.ensures.memory
+    let count : c.len.result ≡ length c.self.inside.ends.players.items = search rules in
+    let within : c.in-Some.place < length c.self.inside.ends.players.items = search rules in
+    timeout_refused c.self.inside.config c.self.inside.sent.items c.self.inside.ends.server c.self.inside.ends.players.items c.args.self.now c.args.port c.in-Some.place c.self.view_is c.in-Some.ensures.some.0 within c.in-Err.fault c.in-Err.ensures.memory

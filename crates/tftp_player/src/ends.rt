@@ -1,0 +1,84 @@
+//! The ends of a world, and the server that plays some of them.
+
+mod arriving;
+
+ghost use Rattle.std.specs.Prelude.{◌≡◌, ◌<◌, ◌+◌, ◌++◌, ◌∷◌, [], true, length, slice_get, IfOk, IfErr, OnOk, OnErr};
+ghost use Rattle.tftp_ends.specs.End.{is_client};
+ghost use Rattle.tftp_player.specs.Stage.{HangTogether, AreAsBefore, StageTimeoutStep, ends_of, record_closed};
+ghost use Rattle.tftp_player.specs.declared.player.Player.TheVariants as players;
+
+use crate::client::Client;
+use crate::effect::{Effect, no_effect};
+use crate::fault::WorldFault;
+use crate::player::Player;
+use std::alloc::Global;
+use tftp_ends::Record;
+use tftp_server::{MemStore, Server};
+
+/// The server, every end that was opened, and how far each came.
+#[derive(Drop)]
+pub(crate) struct Ends {
+    pub(crate) alloc: Global,
+    pub(crate) server: Server<MemStore>,
+    pub(crate) players: Vec<Player>,
+    pub(crate) records: Vec<(u16, Record)>,
+}
+
+impl Ends {
+    /// A client more, at the next port.
+    pub(crate) fn enter(&mut self, port: u16, client: Client) -> Result<(), WorldFault>
+        requires staged { HangTogether self.old }
+        requires port { port ≡ 1024 + length (ends_of self.old.server self.old.players.items) }
+        requires client { is_client client.end.side ≡ true }
+        ensures enters { OnOk result (self.new.players.items
+            ≡ self.old.players.items ++ players.Client client ∷ []) }
+        ensures staged { HangTogether self.new }
+        ensures server { self.new.server ≡ self.old.server }
+        ensures memory { IfErr result (λ fault. fault ≡ WorldFault.Memory) }
+        ensures err { OnErr result (AreAsBefore self.old self.new) }
+    {
+        let Ok(()) = self.players.reserve(1) else {
+            return Err(WorldFault::Memory);
+        };
+        let Ok(()) = self.records.reserve(1) else {
+            return Err(WorldFault::Memory);
+        };
+        self.records.push_reserved((port, client.record()));
+        self.players.push_reserved(Player::Client(client));
+        Ok(())
+    }
+
+    /// The end at this place takes a timeout, unless it is closed.
+    pub(crate) fn on_timeout(&mut self, place: usize, port: u16) -> Result<Effect, WorldFault>
+        requires staged { HangTogether self.old }
+        requires place { (place < length self.old.players.items) × (port ≡ 1024 + place) }
+        ensures times_out { IfOk result (λ effect.
+            StageTimeoutStep place self.old.server self.new.server self.old.players.items
+            self.new.players.items effect) }
+        ensures staged { HangTogether self.new }
+        ensures memory { IfErr result (λ fault. fault ≡ WorldFault.Memory) }
+        ensures err { OnErr result (AreAsBefore self.old self.new) }
+    {
+        let player = &mut self.players[place];
+        if is_recorded_closed(&self.records, place) {
+            return Ok(no_effect(self.alloc, player.address(port)));
+        }
+        match player.on_timeout(self.alloc, &mut self.server, port) {
+            Ok((effect, record)) => {
+                self.records[place] = (port, record);
+                Ok(effect)
+            }
+            Err(fault) => Err(fault),
+        }
+    }
+}
+
+/// Whether the end at this place is recorded as closed.
+pub(crate) fn is_recorded_closed(records: &Vec<(u16, Record)>, place: usize) -> bool
+    ensures { result ≡ record_closed (slice_get records.now.items place) }
+{
+    match records.get(place) {
+        Some((_, record)) => record.outcome.is_some(),
+        None => true,
+    }
+}

@@ -1,0 +1,150 @@
+//! What a datagram does where it comes to.
+
+ghost use Rattle.std.specs.Prelude.{◌≡◌, ◌≢◌, true, false, ◌<◌, ◌+◌, length, IfOk, IfErr, OnErr};
+ghost use Rattle.tftp_negotiate.specs.Ranges.{IsBlockSize};
+ghost use Rattle.tftp_player.specs.Machine.{request_port};
+ghost use Rattle.tftp_player.specs.Stage.{HangTogether, AreAsBefore, StageDatagramStep};
+ghost use Rattle.tftp_player.specs.Arriving.{StageAsks, StageArrives, StageLacksPort, StageRefuses};
+
+use crate::WorldFault;
+use crate::effect::{Effect, no_effect};
+use crate::ends::{Ends, is_recorded_closed};
+use crate::hosts::{REQUEST_PORT, place_of, port_of, server_at};
+use crate::player::Player;
+use crate::served::wanted_end;
+use tftp_ends::Endpoint;
+use tftp_wire::Bytes;
+
+impl Ends {
+    /// Whether a datagram to there could open an end, and no port is left for it.
+    pub(crate) fn lacks_port(&self, to: Endpoint) -> bool
+        ensures lacks { result ≡ true → StageLacksPort to self.now.players.items }
+        ensures has { result ≡ false → StageLacksPort to self.now.players.items → ⊥ }
+    {
+        if differs(to, REQUEST_PORT) {
+            return false;
+        }
+        match port_of(self.players.len()) {
+            Some(_) => false,
+            None => true,
+        }
+    }
+
+    /// The request port or an end takes a datagram; where nobody is, it is lost.
+    pub(crate) fn take(
+        &mut self,
+        from: Endpoint,
+        to: Endpoint,
+        bytes: &[u8],
+    ) -> Result<Effect, WorldFault>
+        requires staged { HangTogether self.old }
+        requires block { IsBlockSize self.old.server.config.limits.max_block }
+        ensures arrives { IfOk result (λ effect.
+            StageArrives from to bytes.now self.old.server self.new.server
+            self.old.players.items self.new.players.items effect) }
+        ensures staged { HangTogether self.new }
+        ensures config { self.new.server.config ≡ self.old.server.config }
+        ensures refused { IfErr result (StageRefuses to self.old.players.items) }
+        ensures err { OnErr result (AreAsBefore self.old self.new) }
+    {
+        if !differs(to, REQUEST_PORT) {
+            return self.ask(from, bytes);
+        }
+        match place_of(to.port, self.players.len()) {
+            Some(place) => self.on_datagram(place, from, to, bytes),
+            None => Ok(no_effect(self.alloc, to)),
+        }
+    }
+
+    /// The end at this place takes a datagram, unless it is closed or on the other host.
+    fn on_datagram(
+        &mut self,
+        place: usize,
+        from: Endpoint,
+        to: Endpoint,
+        bytes: &[u8],
+    ) -> Result<Effect, WorldFault>
+        requires staged { HangTogether self.old }
+        requires place { (place < length self.old.players.items) × (to.port ≡ 1024 + place) }
+        ensures steps { IfOk result (λ effect.
+            StageDatagramStep place from to bytes.now self.old.server self.new.server
+            self.old.players.items self.new.players.items effect) }
+        ensures staged { HangTogether self.new }
+        ensures memory { IfErr result (λ fault. fault ≡ WorldFault.Memory) }
+        ensures err { OnErr result (AreAsBefore self.old self.new) }
+    {
+        let player = &mut self.players[place];
+        let here = player.address(to.port);
+        if differs(here, to) {
+            return Ok(no_effect(self.alloc, to));
+        }
+        if is_recorded_closed(&self.records, place) {
+            return Ok(no_effect(self.alloc, to));
+        }
+        match player.on_datagram(self.alloc, &mut self.server, to.port, from, bytes) {
+            Ok((effect, record)) => {
+                self.records[place] = (to.port, record);
+                Ok(effect)
+            }
+            Err(fault) => Err(fault),
+        }
+    }
+
+    /// The request port takes a datagram, and may open an end at the next port.
+    fn ask(&mut self, from: Endpoint, bytes: &[u8]) -> Result<Effect, WorldFault>
+        requires staged { HangTogether self.old }
+        requires block { IsBlockSize self.old.server.config.limits.max_block }
+        ensures asks { IfOk result (λ effect.
+            StageAsks from bytes.now self.old.server self.new.server self.old.players.items
+            self.new.players.items effect) }
+        ensures staged { HangTogether self.new }
+        ensures config { self.new.server.config ≡ self.old.server.config }
+        ensures refused { IfErr result (StageRefuses request_port self.old.players.items) }
+        ensures err { OnErr result (AreAsBefore self.old self.new) }
+    {
+        let Some(port) = port_of(self.players.len()) else {
+            return Err(WorldFault::NoPort);
+        };
+        let Ok(()) = self.players.reserve(1) else {
+            return Err(WorldFault::Memory);
+        };
+        let Ok(()) = self.records.reserve(1) else {
+            return Err(WorldFault::Memory);
+        };
+        let Ok(wanted) = wanted_end(self.alloc, &self.server, from, bytes) else {
+            return Err(WorldFault::Memory);
+        };
+        let mut out = Vec::new(self.alloc);
+        let Ok(opened) = self.server.on_request(from, port, bytes, &mut out) else {
+            return Err(WorldFault::Memory);
+        };
+        let Some(_) = opened.tid else {
+            return Ok(Effect {
+                from: REQUEST_PORT,
+                to: opened.to,
+                bytes: Bytes::from(out),
+                closed: None,
+            });
+        };
+        let Some(served) = wanted else { unreachable!() };
+        let Some(record) = self.server.record(port) else {
+            unreachable!()
+        };
+        self.records.push_reserved((port, record));
+        self.players.push_reserved(Player::Server(served));
+        Ok(Effect {
+            from: server_at(port),
+            to: opened.to,
+            bytes: Bytes::from(out),
+            closed: None,
+        })
+    }
+}
+
+/// Whether these are two endpoints.
+fn differs(a: Endpoint, b: Endpoint) -> bool
+    ensures differs { result ≡ true → a ≢ b }
+    ensures same { result ≡ false → a ≡ b }
+{
+    a != b
+}
