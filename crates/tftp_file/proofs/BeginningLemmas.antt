@@ -7,7 +7,6 @@ use Rattle.tftp_file.specs.Netascii.{wire_byte, netascii_text, wire_text}
 use Rattle.tftp_file.specs.Block.{IsBeginningOf}
 use Rattle.tftp_file.proofs.NetasciiLemmas.{byte_form}
 use Rattle.tftp_file.proofs.DecodingLemmas.{next_byte, stop_nil}
-use Rattle.tftp_file.proofs.BlockLemmas.{both_begin}
 use Rattle.tftp_file.proofs.LengthLemmas.{wire-append}
 
 netascii_begins : (xs ys rest : List ℕ) → netascii_text xs ++ rest ≡ netascii_text ys → IsBeginningOf xs ys

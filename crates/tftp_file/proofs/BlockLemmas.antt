@@ -49,9 +49,3 @@ module _ (text : List ℕ) (size : ℕ) (some : 0 < size) where
 
   pub last_empty : (n : ℕ) → length text ≡ n * size → block text size (block_count text size) ≡ []
   last_empty n e = nil_from_length (block text size (block_count text size)) (length-last ∙ (ap (λ (k : ℕ). k % size) (let f : length text ≡ n * size + 0 = omega (arith, e) in f) ∙ mod-mul-add n size 0 some))
-
--- each of two is a beginning of the other only if they are the same
-pub both_begin : (xs ys : List ℕ) → IsBeginningOf xs ys → IsBeginningOf ys xs → xs ≡ ys
-both_begin xs ys a b =
-    let z : length a.0 ≡ 0 = omega (arith, ap length a.1, ap length b.1, length-append xs a.0, length-append ys b.0) in
-    sym (append-nil xs) ∙ (ap (λ (t : List ℕ). xs ++ t) (sym (nil_from_length a.0 z)) ∙ a.1)

@@ -110,6 +110,13 @@ wrong_once text at other LoneLf Memory h k = absurd k
 pub either : (text : List ℕ) → BeginsWireText text ⊎ ((at : ℕ) × (fault : NetFault) × FirstWrong text at fault)
 either text = elim (read text) [ Begins b ↦ inl b | Wrong fault w ↦ inr (w.0, fault, w.1) ]
 
+-- what stands in front of a text that begins a wire text begins one, too
+pub begins_front : (text rest : List ℕ) → BeginsWireText (text ++ rest) → BeginsWireText text
+begins_front text rest b = elim (read text) [
+  | Begins h ↦ h
+  | Wrong fault w ↦ absurd (begins_or_wrong (text ++ rest) fault b (w.0, first_wrong_before text rest w.0 fault w.1))
+]
+
 pub refused_at : (held : List ℕ) (pieces : List (List ℕ)) (at : ℕ) (fault : NetFault) → IsHeld held → FirstWrong (held ++ concat pieces) at fault → RefusesAt held pieces at fault
 refused_at held [] at fault h w = absurd (begins_or_wrong (held ++ []) fault ([], held, (h, append-nil held)) (at, w))
 refused_at held (piece ∷ pieces) at fault h w = elim (read (held ++ piece)) [

@@ -21,13 +21,15 @@ pub fn any_cut()
         → IsHeld held → FirstWrong (held ++ concat pieces) at fault → RefusesAt held pieces at fault }
 {}
 
-/// A text begins a wire text, or it has a first wrong byte, and never both; it gives one list of
-/// bytes, and it is wrong at one place and in one way (RFC 764).
+/// A text begins a wire text, or it has a first wrong byte, and never both; what stands in front of
+/// such a text begins one, too; it gives one list of bytes, and it is wrong at one place and in one
+/// way (RFC 764).
 pub fn one_reading()
     ensures either { (text : List ℕ) → BeginsWireText text
         ⊎ ((at : ℕ) × (fault : NetFault) × FirstWrong text at fault) }
     ensures apart { (text : List ℕ) (at : ℕ) (fault : NetFault) → BeginsWireText text
         → FirstWrong text at fault → ⊥ }
+    ensures front { (text rest : List ℕ) → BeginsWireText (text ++ rest) → BeginsWireText text }
     ensures decoded_once { (held piece bytes after others left : List ℕ)
         → Decodes held piece bytes after → Decodes held piece others left
         → (bytes ≡ others) × (after ≡ left) }

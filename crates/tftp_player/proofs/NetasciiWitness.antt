@@ -3,7 +3,7 @@ use Rattle.std.proofs.Common.{ℕ, true, false, List, [], ◌∷◌, ◌++◌, S
 use Rattle.std.specs.Prelude.{slice_set}
 use Rattle.tftp_wire.specs.declared.mode.Mode.TheVariants.{Netascii}
 use Rattle.tftp_wire.specs.Parts.{packet_in}
-use Rattle.tftp_wire.proofs.SpellingLemmas.{fine_spells}
+use Rattle.tftp_wire.proofs.SpellingLemmas.{fault_where_nothing}
 use Rattle.tftp_negotiate.specs.Negotiation.{places_of}
 use Rattle.tftp_file.specs.declared.files.Files.TheVariants.{Source, Sink}
 use Rattle.tftp_file.specs.Sink.{Holding}
@@ -83,7 +83,7 @@ opens : WorldStep w1 (Deliver 0) (sent_report w1) w2
 unfolding places_of
 opens = (
   w2,
-  (d0, refl, At_request_port refl (omega arith) (Some (packet_in d0.bytes)) (fine_spells d0.bytes (bytes_below d0.bytes refl) refl) false (first_request client.address (packet_in d0.bytes) client refl) (file, refl, record { tells = refl; is = refl })),
+  (d0, refl, At_request_port refl (omega arith) (Some (packet_in d0.bytes)) (fault_where_nothing d0.bytes (bytes_below d0.bytes refl) refl) false (first_request client.address (packet_in d0.bytes) client refl) (file, refl, record { tells = refl; is = refl })),
   sym (resting_opened w1 server refl refl),
 )
 
@@ -91,7 +91,7 @@ stores : WorldStep w2 (Deliver 1) (report_of w2 client turn3) w3
 stores = takes w2 1 0 d1 client turn3 (Sink held3) files refl refl refl refl refl
     (record {
       decoded = Some (packet_in d1.bytes);
-      says = fine_spells d1.bytes (bytes_below d1.bytes refl) refl;
+      says = fault_where_nothing d1.bytes (bytes_below d1.bytes refl) refl;
       acts = record {
         bytes = file;
         after = [];
@@ -106,7 +106,7 @@ stores = takes w2 1 0 d1 client turn3 (Sink held3) files refl refl refl refl ref
 
 completes : WorldStep w3 (Deliver 2) (report_of w3 server turn4) w4
 completes = takes w3 2 1 d2 server turn4 (Source []) files refl refl refl refl refl
-    (record { decoded = Some (packet_in d2.bytes); says = fine_spells d2.bytes (bytes_below d2.bytes refl) refl; acts = (refl, refl) }) refl
+    (record { decoded = Some (packet_in d2.bytes); says = fault_where_nothing d2.bytes (bytes_below d2.bytes refl) refl; acts = (refl, refl) }) refl
 
 pub netascii_transfers : Transfers (Get name Netascii nothing_asked) file
 netascii_transfers = (

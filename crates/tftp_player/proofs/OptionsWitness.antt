@@ -3,13 +3,13 @@ use Rattle.std.proofs.Common.{◌≡◌, ℕ, decimal, true, false, List, [], �
 use Rattle.std.specs.Prelude.{slice_set}
 use Rattle.tftp_wire.specs.declared.mode.Mode.TheVariants.{Octet}
 use Rattle.tftp_wire.specs.Parts.{packet_in}
-use Rattle.tftp_wire.proofs.SpellingLemmas.{fine_spells}
+use Rattle.tftp_wire.proofs.SpellingLemmas.{fault_where_nothing}
 use Rattle.tftp_negotiate.specs.Negotiation.{places_of}
 use Rattle.std.proofs.lemmas.Fmt.{decimal_digit}
 use Rattle.tftp_negotiate.specs.Options.{name_of, number_of}
 use Rattle.tftp_negotiate.specs.Answer.{answered_option}
 use Rattle.tftp_negotiate.specs.Agreement.{taken_option}
-use Rattle.tftp_negotiate.proofs.OptionsLemmas.{number_of-decimal}
+use Rattle.tftp_negotiate.proofs.LawsLemmas.{numbers_are_printed}
 use Rattle.tftp_negotiate.specs.declared.known.Known.{Known}
 use Rattle.tftp_negotiate.specs.declared.known.Known.TheVariants.{Blksize}
 use Rattle.tftp_file.specs.declared.files.Files.TheVariants.{Source, Sink}
@@ -124,13 +124,13 @@ eight : decimal 8 ≡ 56 ∷ []
 eight = decimal_digit 8 (omega arith)
 
 read_8 : number_of (56 ∷ []) ≡ Some 8
-read_8 = subst (λ (text : List ℕ). number_of text ≡ Some 8) eight (number_of-decimal 8 (omega arith))
+read_8 = subst (λ (text : List ℕ). number_of text ≡ Some 8) eight ((numbers_are_printed (decimal 8) 8).1 (refl, omega arith))
 
 asks : WorldStep w0 (Get name Octet blocks_of_8) (sent_report w0) w1
 asks = get_step w0 name Octet blocks_of_8 refl (omega arith) (record { valid = rw eight (search rules); options = search rules })
 
 request_spelled : Decodes d0.bytes (Some (packet_in d0.bytes))
-request_spelled = fine_spells d0.bytes (bytes_below d0.bytes (rw eight refl)) (rw eight refl)
+request_spelled = fault_where_nothing d0.bytes (bytes_below d0.bytes (rw eight refl)) (rw eight refl)
 
 request_served : Serves (service w1 false d0.bytes (Some (packet_in d0.bytes))) w1 client.address d0.bytes (sent_report w1) w2
 unfolding places_of name_of answered_option
@@ -144,7 +144,7 @@ opens = (
 )
 
 oack_spelled : Decodes d1.bytes (Some (packet_in d1.bytes))
-oack_spelled = fine_spells d1.bytes (bytes_below d1.bytes (rw eight refl)) (rw eight refl)
+oack_spelled = fault_where_nothing d1.bytes (bytes_below d1.bytes (rw eight refl)) (rw eight refl)
 
 accepts : WorldStep w2 (Deliver 1) (report_of w2 client turn3) w3
 unfolding places_of name_of taken_option
@@ -155,7 +155,7 @@ sends : WorldStep w3 (Deliver 2) (report_of w3 server turn4) w4
 sends = takes w3 2 1 d2 server turn4 (Source []) files refl refl refl refl refl
     (record {
       decoded = Some (packet_in d2.bytes);
-      says = fine_spells d2.bytes (bytes_below d2.bytes refl) refl;
+      says = fault_where_nothing d2.bytes (bytes_below d2.bytes refl) refl;
       acts = record {
         answer = Ok 1;
         piece = file;
@@ -168,7 +168,7 @@ stores : WorldStep w4 (Deliver 3) (report_of w4 receiving turn5) w5
 stores = takes w4 3 0 d3 receiving turn5 (Sink stored) files refl refl refl refl refl
     (record {
       decoded = Some (packet_in d3.bytes);
-      says = fine_spells d3.bytes (bytes_below d3.bytes refl) refl;
+      says = fault_where_nothing d3.bytes (bytes_below d3.bytes refl) refl;
       acts = record {
         bytes = file;
         after = [];
@@ -183,7 +183,7 @@ stores = takes w4 3 0 d3 receiving turn5 (Sink stored) files refl refl refl refl
 
 completes : WorldStep w5 (Deliver 4) (report_of w5 sending turn6) w6
 completes = takes w5 4 1 d4 sending turn6 (Source []) files refl refl refl refl refl
-    (record { decoded = Some (packet_in d4.bytes); says = fine_spells d4.bytes (bytes_below d4.bytes refl) refl; acts = (refl, refl) }) refl
+    (record { decoded = Some (packet_in d4.bytes); says = fault_where_nothing d4.bytes (bytes_below d4.bytes refl) refl; acts = (refl, refl) }) refl
 
 pub options_transfer : Transfers (Get name Octet blocks_of_8) file
 options_transfer = (

@@ -11,7 +11,6 @@ use Rattle.tftp_wire.specs.declared.packet.Packet.TheVariants.{Read, Write, Data
 use Rattle.tftp_wire.specs.Modes.{mode_word}
 use Rattle.tftp_wire.specs.Spelling.{Spells, IsValid, canonical, word_of}
 use Rattle.tftp_wire.specs.Reading.{first_fault}
-use Rattle.tftp_wire.proofs.SpellingLemmas.{spelled_holds}
 use Rattle.tftp_negotiate.specs.declared.asked.Asked.{Asked}
 use Rattle.tftp_negotiate.specs.declared.known.Kind.{Kind}
 use Rattle.tftp_negotiate.specs.declared.known.Kind.TheVariants as kinds
@@ -28,14 +27,6 @@ use Rattle.tftp_negotiate.specs.Agreement.{agreement, taken, taken_option, taken
 use Rattle.tftp_negotiate.specs.Asked.{asked_tsize}
 use Rattle.tftp_negotiate.proofs.LawsLemmas.{numbers_are_printed}
 use Rattle.tftp_player.specs.Said.{told_as, told_options, oack_size}
-
--- bytes spell one packet at most
-pub one_packet : (p q : WirePacket) (bytes : List ℕ) → Spells p bytes → Spells q bytes → p ≡ q
-one_packet p q bytes s t = sym (spelled_holds p bytes s).1 ∙ (spelled_holds q bytes t).1
-
--- and bytes with a fault none
-pub none_packet : (p : WirePacket) (bytes : List ℕ) → Spells p bytes → first_fault bytes ≡ None
-none_packet p bytes s = (spelled_holds p bytes s).0
 
 lower_mode : (m : Mode) → str_to_ascii_lowercase (mode_word m) ≡ mode_word m
 lower_mode Octet = refl

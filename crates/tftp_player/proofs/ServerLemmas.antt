@@ -10,7 +10,7 @@ use Rattle.tftp_wire.specs.declared.packet.Packet.{Packet}
 use Rattle.tftp_wire.specs.Parts.{packet_in}
 use Rattle.tftp_wire.specs.Reading.{first_fault}
 use Rattle.tftp_wire.specs.declared.fault.PacketFault.{PacketFault}
-use Rattle.tftp_wire.proofs.SpellingLemmas.{fine_spells}
+use Rattle.tftp_wire.proofs.SpellingLemmas.{fault_where_nothing, one_meaning, spelled_has_no_fault}
 use Rattle.tftp_negotiate.specs.Agreed.{size}
 use Rattle.tftp_negotiate.specs.Answer.{answer}
 use Rattle.tftp_negotiate.specs.Ranges.{IsBlockSize}
@@ -43,23 +43,22 @@ use Rattle.tftp_server.specs.Port.{Ask, Ignores, Refuses, Reads, Writes, Service
 use Rattle.tftp_player.specs.WorldSteps.{never_fails}
 use Rattle.tftp_player.specs.Requests.{begun_of, open_transfers, opened_of, served, service}
 use Rattle.tftp_player.specs.Serving.{PlayedServer, Transfer}
-use Rattle.tftp_player.proofs.SaidLemmas.{one_packet, none_packet}
 use Rattle.tftp_player.proofs.WaitingMoves.{agreed_size}
 use Rattle.tftp_player.proofs.WorldKeeps.{answered_values}
 use Rattle.tftp_player.proofs.Measured.{measured_whole}
 
 -- bytes say one thing
 pub says_one : (bytes : List ℕ) (a b : Option Packet) → Decodes bytes a → Decodes bytes b → a ≡ b
-says_one bytes (Some p) (Some q) s t = ap Some (one_packet p q bytes s t)
-says_one bytes (Some p) None s t = absurd (let f : None ≡ Some t.0 = sym (none_packet p bytes s) ∙ t.1 in cc)
-says_one bytes None (Some q) s t = absurd (let f : None ≡ Some s.0 = sym (none_packet q bytes t) ∙ s.1 in cc)
+says_one bytes (Some p) (Some q) s t = ap Some (one_meaning p q bytes s t)
+says_one bytes (Some p) None s t = absurd (let f : None ≡ Some t.0 = sym (spelled_has_no_fault p bytes s) ∙ t.1 in cc)
+says_one bytes None (Some q) s t = absurd (let f : None ≡ Some s.0 = sym (spelled_has_no_fault q bytes t) ∙ s.1 in cc)
 says_one bytes None None s t = refl
 
 -- and each datagram says something
 pub says_something : (bytes : List ℕ) → ((k : ℕ) → get_or bytes k 0 < 256) → (decoded : Option Packet) × Decodes bytes decoded
 says_something bytes fine = by_fault (first_fault bytes) refl where
   by_fault : (fault : Option PacketFault) → first_fault bytes ≡ fault → (decoded : Option Packet) × Decodes bytes decoded
-  by_fault None e = (Some (packet_in bytes), fine_spells bytes fine e)
+  by_fault None e = (Some (packet_in bytes), fault_where_nothing bytes fine e)
   by_fault (Some fault) e = (None, (fault, e))
 
 -- of a text that was counted to its end, the first block is wanted

@@ -12,7 +12,7 @@ use Rattle.tftp_wire.specs.Reading.{has_error_opcode}
 use Rattle.tftp_file.specs.Block.{block, block_count, Fits}
 use Rattle.tftp_file.specs.Netascii.{netascii_text, wire_text}
 use Rattle.tftp_file.proofs.BlockLemmas.{last_short, others_full}
-use Rattle.tftp_file.proofs.DecodingLemmas.{Reading, Begins, Wrong, read, first_wrong_before, begins_or_wrong}
+use Rattle.tftp_file.proofs.CutLemmas.{begins_front}
 use Rattle.tftp_ends.specs.declared.action.Action.TheVariants.{Respond, Send, Store}
 use Rattle.tftp_ends.specs.declared.action.Response.TheVariants.{Ignore, Stranger, ResendReply, Complete, Refuse}
 use Rattle.tftp_ends.specs.declared.error_reply.ErrorReply.TheVariants.{FileTooLarge, NotNetascii}
@@ -84,11 +84,9 @@ acked_last length n terms last =
 -- ---- a receiver with its next block
 -- a beginning of a text in netascii can be read
 begins_text : (text rest more : List ℕ) → text ++ rest ≡ netascii_text more → begins_netascii text ≡ true
-begins_text text rest more e = by (read text) where
-  by : Reading text → begins_netascii text ≡ true
-  by (Begins h) = decoded_begins [] text h.0 h.1 h.2
-  by (Wrong fault h) =
-      absurd (begins_or_wrong (text ++ rest) fault (more, [], (inl refl, e ∙ sym (append-nil (netascii_text more)))) (h.0, first_wrong_before text rest h.0 fault h.1))
+begins_text text rest more e =
+    let b = begins_front text rest (more, [], (inl refl, e ∙ sym (append-nil (netascii_text more)))) in
+    decoded_begins [] text b.0 b.1 b.2
 
 -- a whole text does not end in a CR
 ends_text : (text more : List ℕ) → text ≡ netascii_text more → ends_in_cr text ≡ false

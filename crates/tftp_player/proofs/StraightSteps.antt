@@ -7,6 +7,7 @@ use Rattle.std.proofs.lemmas.Option.{same_Some}
 use Rattle.tftp_wire.specs.declared.packet.Packet.{Packet}
 use Rattle.tftp_wire.specs.declared.packet.Packet.TheVariants.{Data}
 use Rattle.tftp_wire.specs.Spelling.{Spells}
+use Rattle.tftp_wire.proofs.SpellingLemmas.{one_meaning, spelled_has_no_fault}
 use Rattle.tftp_file.specs.Block.{block}
 use Rattle.tftp_file.specs.Netascii.{wire_text}
 use Rattle.tftp_file.specs.Sink.{Holding}
@@ -37,7 +38,7 @@ use Rattle.tftp_player.specs.declared.event.Event.TheVariants.{Deliver}
 use Rattle.tftp_player.specs.declared.report.Report.{Report}
 use Rattle.tftp_player.proofs.HostBytes.{stored_more}
 use Rattle.tftp_player.proofs.Resting.{IsAtRest, at_rest_twice, resting_after}
-use Rattle.tftp_player.proofs.SaidLemmas.{one_packet, none_packet, data_of}
+use Rattle.tftp_player.proofs.SaidLemmas.{data_of}
 use Rattle.tftp_player.proofs.SinkMoves.{Took, All_of_it, None_of_it, took, Kept_all, For_good, Not_yet, kept_by, stores_in, goes_on_with, held_fits}
 use Rattle.tftp_player.proofs.SourceMoves.{sends_from, block_sent}
 use Rattle.tftp_player.proofs.StepLemmas.{HasPorts}
@@ -108,8 +109,8 @@ delivered w v i k x from bytes report ports rests sent there open_now s =
 
 -- bytes that spell a packet are decoded to it
 decoded_is : (bytes : List ℕ) (packet : Packet) (decoded : Option Packet) → Spells packet bytes → Decodes bytes decoded → decoded ≡ Some packet
-decoded_is bytes packet (Some q) s t = ap (λ (p : Packet). Some p) (one_packet q packet bytes t s)
-decoded_is bytes packet None s t = absurd (let f : None ≡ Some t.0 = sym (none_packet packet bytes s) ∙ t.1 in cc)
+decoded_is bytes packet (Some q) s t = ap (λ (p : Packet). Some p) (one_meaning q packet bytes t s)
+decoded_is bytes packet None s t = absurd (let f : None ≡ Some t.0 = sym (spelled_has_no_fault packet bytes s) ∙ t.1 in cc)
 
 -- a receiver that stored a block, by whether it is the last
 abbrev pub stored_phase : Terms → ℕ → Bool → Phase

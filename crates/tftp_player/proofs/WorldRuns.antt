@@ -8,6 +8,7 @@ use Rattle.std.proofs.lemmas.List.Elements.{Contains-append_cases, Contains-appe
 use Rattle.std.proofs.lemmas.Option.{same_Some}
 use Rattle.tftp_wire.specs.declared.packet.Packet.{Packet as WirePacket}
 use Rattle.tftp_wire.specs.Spelling.{Spells}
+use Rattle.tftp_wire.proofs.SpellingLemmas.{one_meaning, spelled_has_no_fault}
 use Rattle.tftp_server.specs.declared.config.Config.{Config}
 use Rattle.tftp_negotiate.specs.Ranges.{IsBlockSize}
 use Rattle.tftp_ends.specs.declared.phase.Phase.{Phase}
@@ -33,7 +34,6 @@ use Rattle.tftp_player.proofs.Resting.{resting_ok}
 use Rattle.tftp_player.proofs.Actions.{Stands, strays}
 use Rattle.tftp_player.proofs.Shown.{shown_start}
 use Rattle.tftp_player.proofs.ViewSafe.{shown_at_home}
-use Rattle.tftp_player.proofs.SaidLemmas.{one_packet, none_packet}
 use Rattle.tftp_player.proofs.EndMoves.{IsThere, from_response}
 use Rattle.tftp_player.proofs.EndTurns.{by_datagram, by_timeout}
 use Rattle.tftp_player.proofs.WorldTurns.{nothing_in, one_in, turn_keeps, view_at}
@@ -53,7 +53,7 @@ set_same {X = X} (y ∷ ys) (suc k) x e = ap (λ (zs : List X). y ∷ zs) (set_s
 pub come_from : (strangers : Bool) (w : WorldState) (ok : IsOk strangers w) (d : Datagram) → Contains w.sent d → (p : WirePacket) → Spells p d.bytes → Contains ok.messages (message d.from d.to (said p))
 come_from strangers w ok d i p s =
     let h = ok.sent d i in
-    let same : h.1.packet ≡ p = one_packet h.1.packet p d.bytes h.1.spells s in
+    let same : h.1.packet ≡ p = one_meaning h.1.packet p d.bytes h.1.spells s in
     subst (λ (q : WirePacket). Contains ok.messages (message d.from d.to (said q))) same (subst (λ (m : Message). Contains ok.messages m) h.1.says h.2)
 
 there_now : (strangers : Bool) (w : WorldState) (ok : IsOk strangers w) (from to : Endpoint) (bytes : List ℕ) → Contains w.sent (datagram from to bytes) → IsThere ok.messages from to bytes
@@ -190,11 +190,11 @@ pub with_decoded : (w : WorldState) (ok : IsOk true w) (from to : Endpoint) (byt
 unfolding stray_ok
 with_decoded w ok from to bytes (Some q) far says = (
   stray_ok w ok from to q far,
-  λ p s. let e = one_packet q p bytes says s in
+  λ p s. let e = one_meaning q p bytes says s in
       subst (λ (z : WirePacket). Contains (ok.messages ++ message from to (said q) ∷ []) (message from to (said z))) e (Contains-push ok.messages (message from to (said q))),
 )
 with_decoded w ok from to bytes None far says =
-    (ok, λ p s. absurd (let f : None ≡ Some says.0 = sym (none_packet p bytes s) ∙ says.1 in cc))
+    (ok, λ p s. absurd (let f : None ≡ Some says.0 = sym (spelled_has_no_fault p bytes s) ∙ says.1 in cc))
 
 pub stray_keeps : (w v : WorldState) (ok : IsOk true w) (report : Report) (from to : Endpoint) (bytes : List ℕ) → host_of from ≡ Elsewhere → Arrives w from to bytes report v → IsOk true v
 stray_keeps w v ok report from to bytes far (At_request_port here port decoded says repeated same served) =

@@ -7,7 +7,7 @@ use Rattle.std.proofs.lemmas.Map.Text.{is_eq-slice_cmp}
 use Rattle.std.specs.Prelude.{◌≢◌, slice_set}
 use Rattle.tftp_wire.specs.declared.mode.Mode.TheVariants.{Octet}
 use Rattle.tftp_wire.specs.Parts.{packet_in}
-use Rattle.tftp_wire.proofs.SpellingLemmas.{fine_spells}
+use Rattle.tftp_wire.proofs.SpellingLemmas.{fault_where_nothing}
 use Rattle.tftp_negotiate.specs.Negotiation.{places_of}
 use Rattle.tftp_file.specs.declared.files.Files.TheVariants.{Source, Sink}
 use Rattle.tftp_file.specs.Sink.{Holding}
@@ -98,7 +98,7 @@ opens : WorldStep w1 (Deliver 0) (sent_report w1) w2
 unfolding places_of
 opens = (
   w2,
-  (d0, refl, At_request_port refl (omega arith) (Some (packet_in d0.bytes)) (fine_spells d0.bytes (bytes_below d0.bytes refl) refl) false (first_request client.address (packet_in d0.bytes) client refl) (record { tells = refl; is = refl })),
+  (d0, refl, At_request_port refl (omega arith) (Some (packet_in d0.bytes)) (fault_where_nothing d0.bytes (bytes_below d0.bytes refl) refl) false (first_request client.address (packet_in d0.bytes) client refl) (record { tells = refl; is = refl })),
   sym (resting_opened w1 server refl refl),
 )
 
@@ -106,7 +106,7 @@ sends : WorldStep w2 (Deliver 1) (report_of w2 client turn3) w3
 sends = takes w2 1 0 d1 client turn3 (Source []) [] refl refl refl refl refl
     (record {
       decoded = Some (packet_in d1.bytes);
-      says = fine_spells d1.bytes (bytes_below d1.bytes refl) refl;
+      says = fault_where_nothing d1.bytes (bytes_below d1.bytes refl) refl;
       acts = record {
         answer = Ok 1;
         piece = file;
@@ -124,7 +124,7 @@ stores : WorldStep w3 (Deliver 2) (report_of w3 server turn4) w4
 stores = takes w3 2 1 d2 server turn4 (Sink stored) ((name, file) ∷ []) refl refl refl refl refl
     (record {
       decoded = Some (packet_in d2.bytes);
-      says = fine_spells d2.bytes (bytes_below d2.bytes refl) refl;
+      says = fault_where_nothing d2.bytes (bytes_below d2.bytes refl) refl;
       acts = record {
         bytes = file;
         after = [];
@@ -140,7 +140,7 @@ stores = takes w3 2 1 d2 server turn4 (Sink stored) ((name, file) ∷ []) refl r
 
 completes : WorldStep w4 (Deliver 3) (report_of w4 sending turn5) w5
 completes = takes w4 3 0 d3 sending turn5 (Source []) ((name, file) ∷ []) refl refl refl refl refl
-    (record { decoded = Some (packet_in d3.bytes); says = fine_spells d3.bytes (bytes_below d3.bytes refl) refl; acts = (refl, refl) }) refl
+    (record { decoded = Some (packet_in d3.bytes); says = fault_where_nothing d3.bytes (bytes_below d3.bytes refl) refl; acts = (refl, refl) }) refl
 
 pub write_transfers : Transfers (Put name Octet nothing_asked file) file
 write_transfers = (
@@ -187,7 +187,7 @@ write_is_straight = (
     path = name;
     accepted = record {
       decoded = Some (packet_in d0.bytes);
-      says = fine_spells d0.bytes (bytes_below d0.bytes refl) refl;
+      says = fault_where_nothing d0.bytes (bytes_below d0.bytes refl) refl;
       repeated = false;
       repeats = first_request client.address (packet_in d0.bytes) client refl;
       is = refl;

@@ -22,6 +22,7 @@ use Rattle.tftp_wire.specs.Modes.{mode_word}
 use Rattle.tftp_wire.specs.Spelling.{request_bytes, written, IsRequest, IsValid, Spells}
 use Rattle.tftp_wire.specs.Reading.{mode_in, options_fault, texts_fault, request_fault, data_fault, ack_fault, error_fault, oack_fault, message_fault, opcode_fault, first_fault}
 use Rattle.tftp_wire.specs.Parts.{request_of, first_of, packet_of, packet_in, Reads}
+use Rattle.tftp_wire.specs.Laws.{FaultWhereNothing, OneMeaning, SpelledHasNoFault, SpelledIsFound}
 use Rattle.tftp_wire.specs.Borrowed.{owned}
 use Rattle.tftp_wire.specs.Faults.{out_of_memory, IsFailure}
 use Rattle.tftp_wire.specs.declared.packet.PacketRef.{PacketRef}
@@ -134,7 +135,7 @@ oack_spelled os v =
     (rw (le-ltb 512 (length all) v.2, ne_eqb (length all) 2 more) o.0, o.1)
 
 -- what is spelled has no fault, and the bytes hold that packet
-pub spelled_holds : (p : Packet) (bytes : List ℕ) → Spells p bytes → (first_fault bytes ≡ None) × (packet_in bytes ≡ p)
+spelled_holds : (p : Packet) (bytes : List ℕ) → Spells p bytes → (first_fault bytes ≡ None) × (packet_in bytes ≡ p)
 spelled_holds (Read r) bytes s =
     let q = requests_spelled 1 s.word r s.valid.0 s.valid.1 s.mode in
     let h = head_decides (written s.word (Read r)) 1 (omega arith) refl in
@@ -158,6 +159,15 @@ spelled_holds (Oack os) bytes s =
     let q = oack_spelled os s.valid in
     let h = head_decides (written s.word (Oack os)) 6 (omega arith) refl in
     rw s.whole (h.0 ∙ q.0, h.1 ∙ ap Oack q.1)
+
+pub spelled_has_no_fault : SpelledHasNoFault
+spelled_has_no_fault p bytes s = (spelled_holds p bytes s).0
+
+pub spelled_is_found : SpelledIsFound
+spelled_is_found p bytes s = (spelled_holds p bytes s).1
+
+pub one_meaning : OneMeaning
+one_meaning p q bytes s t = sym (spelled_is_found p bytes s) ∙ spelled_is_found q bytes t
 
 -- ---- what has no fault is spelled
 
@@ -296,21 +306,20 @@ opcode_whole opcode bytes start h f =
     (chosen (eqb opcode 2) _ _ _ q.1))
     (chosen (eqb opcode 1) _ _ _ f)
 
--- bytes without a fault spell the packet that they hold
-pub fine_spells : (bytes : List ℕ) → ((k : ℕ) → get_or bytes k 0 < 256) → first_fault bytes ≡ None → Spells (packet_in bytes) bytes
-fine_spells bytes h f =
+pub fault_where_nothing : FaultWhereNothing
+fault_where_nothing bytes h f =
     let g = guard_none (ltb (length bytes) 2) _ _ f in
     opcode_whole (big_number 2 bytes) bytes (number_back bytes (ltb-false _ _ g.0) h) h g.1
 
 -- ---- what a reader of packets owes
 
 pub found_spells : (bytes : List ℕ) (r : Result PacketRef PacketFault) → ((k : ℕ) → get_or bytes k 0 < 256) → Reads owned (packet_in bytes) (first_fault bytes) r → IfOk r (λ p. Spells (owned p) bytes)
-found_spells bytes (Ok p) h e = rw e.1 (fine_spells bytes h e.0)
+found_spells bytes (Ok p) h e = rw e.1 (fault_where_nothing bytes h e.0)
 found_spells bytes (Err f) h e = tt
 
 pub only_spelled : (bytes : List ℕ) (r : Result PacketRef PacketFault) (p : Packet) → Spells p bytes → Reads owned (packet_in bytes) (first_fault bytes) r → IsOkAnd r (λ q. owned q ≡ p)
-only_spelled bytes (Ok q) p s e = e.1 ∙ (spelled_holds p bytes s).1
-only_spelled bytes (Err f) p s e = let n = (spelled_holds p bytes s).0 in absurd (cc)
+only_spelled bytes (Ok q) p s e = e.1 ∙ spelled_is_found p bytes s
+only_spelled bytes (Err f) p s e = let n = spelled_has_no_fault p bytes s in absurd (cc)
 
 -- ---- what a reader owes that copies the packet
 
@@ -320,4 +329,4 @@ copied_only (Err f) q p h k e = k
 
 pub copied_fault : (bytes : List ℕ) (r : Result Packet PacketFault) (q : Packet) → Spells q bytes → IfErr r (λ e. e ≡ out_of_memory) → IfErr r (λ e. IsFailure (first_fault bytes) e)
 copied_fault bytes (Ok x) q s k = tt
-copied_fault bytes (Err f) q s k = rw (spelled_holds q bytes s).0 k
+copied_fault bytes (Err f) q s k = rw (spelled_has_no_fault q bytes s) k

@@ -13,11 +13,11 @@ use Rattle.tftp_wire.specs.Reading.{first_fault}
 abbrev pub OneMeaning : Type 0
 OneMeaning = (p q : Packet) (bytes : List ℕ) → Spells p bytes → Spells q bytes → p ≡ q
 
--- bytes without a fault spell a packet
+-- bytes without a fault spell the packet that is found in them
 abbrev pub FaultWhereNothing : Type 0
 FaultWhereNothing =
     (bytes : List ℕ) → ((k : ℕ) → get_or bytes k 0 < 256) → first_fault bytes ≡ None
-    → (p : Packet) × Spells p bytes
+    → Spells (packet_in bytes) bytes
 
 -- bytes that spell a packet have no fault
 abbrev pub SpelledHasNoFault : Type 0

@@ -1,9 +1,9 @@
-use Rattle.tftp_wire.specs.Parts.{packet_in}
-use Rattle.tftp_wire.proofs.SpellingLemmas.{fine_spells, spelled_holds}
+-- The lemmas that are the law.
+use Rattle.tftp_wire.proofs.SpellingLemmas.{fault_where_nothing, spelled_has_no_fault}
 use Rattle.tftp_wire.proofs.laws.fault_or_packet.Goals as goal
 
 pub returns-clause-nothing : goal.returns-clause-nothing
-returns-clause-nothing c bytes h f = (packet_in bytes, fine_spells bytes h f)
+returns-clause-nothing c = fault_where_nothing
 
 pub returns-clause-spelled : goal.returns-clause-spelled
-returns-clause-spelled c p bytes s = (spelled_holds p bytes s).0
+returns-clause-spelled c = spelled_has_no_fault

@@ -1,5 +1,6 @@
-use Rattle.tftp_wire.proofs.SpellingLemmas.{spelled_holds}
+-- The lemma that is the law.
+use Rattle.tftp_wire.proofs.SpellingLemmas.{spelled_is_found as law}
 use Rattle.tftp_wire.proofs.laws.spelled_is_found.Goals as goal
 
 pub returns : goal.returns
-returns c p bytes s = (spelled_holds p bytes s).1
+returns c = law
