@@ -1,6 +1,6 @@
+-- Each end has its own file.
 use Rattle.tftp_ends.specs.Files.{AreFilesOf}
 use Rattle.tftp_ends_bench.proofs.converse.Given as goal
 
--- each end has its own file
 abbrev pub invariant-loop : goal.invariant-loop
 invariant-loop g l = AreFilesOf l.server.side l.file × AreFilesOf l.client.side l.copy

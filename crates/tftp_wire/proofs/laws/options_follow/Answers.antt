@@ -1,3 +1,4 @@
+-- Options are appended last.
 use Rattle.std.proofs.Common.{append_assoc, refl}
 use Rattle.tftp_wire.proofs.laws.options_follow.Goals as goal
 

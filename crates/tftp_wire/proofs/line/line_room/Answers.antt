@@ -1,3 +1,4 @@
+-- A line has at most three bytes for each byte of its packet, and forty.
 use Rattle.std.proofs.Common.{arith, ap, length, ◌≡◌, ◌≤◌, ◌<◌, ◌+◌, ◌*◌, ◌^◌}
 use Rattle.tftp_wire.specs.Line.{line}
 use Rattle.tftp_wire.specs.Spelling.{canonical}

@@ -1,3 +1,4 @@
+-- A copy of what was read is what the bytes spell, and it fails only when out of memory.
 use Rattle.tftp_wire.proofs.SpellingLemmas.{copied_only, copied_fault}
 use Rattle.tftp_wire.proofs.owned.decode.Goals as goal
 

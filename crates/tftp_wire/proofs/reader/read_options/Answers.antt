@@ -1,3 +1,4 @@
+-- Bytes whose options have no fault are options.
 use Rattle.std.proofs.Common.{◌∙◌, sym}
 use Rattle.std.proofs.lemmas.Bool.{eqb-true}
 use Rattle.tftp_wire.proofs.ReadingLemmas.{options_fine, nothing_left}

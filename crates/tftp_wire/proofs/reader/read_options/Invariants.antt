@@ -1,3 +1,4 @@
+-- The first fault of the options is that of the rest, which gets shorter.
 use Rattle.std.proofs.Common.{◌≡◌, ◌≤◌, ◌+◌, ◌-◌, length}
 use Rattle.tftp_wire.specs.Parts.{bytes_fault}
 use Rattle.tftp_wire.proofs.reader.read_options.Given as goal

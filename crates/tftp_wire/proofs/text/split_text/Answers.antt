@@ -1,3 +1,4 @@
+-- The first zero byte ends the first text.
 use Rattle.std.proofs.Common.{sym, ◌∙◌}
 use Rattle.tftp_wire.proofs.TextsLemmas.{text_from_none, text_from_some}
 use Rattle.tftp_wire.proofs.text.split_text.Goals as goal
