@@ -1,8 +1,6 @@
--- How long a text is on the wire, and what stands in files that were put in one by one.
-use Rattle.std.proofs.Common.{◌≡◌, ℕ, ◌+◌, ◌==◌, ◌||◌, Bool, true, false, List, [], ◌∷◌, ◌++◌, length, cond, count_by, refl, sym, ap, ◌∙◌, arith}
+-- What stands in files that were put in one by one.
+use Rattle.std.proofs.Common.{◌≡◌, ℕ, Bool, true, false, List, [], ◌∷◌, ◌++◌, cond, refl, sym, ap, ◌∙◌}
 use Rattle.std.specs.Prelude.{not, ◌&&◌, Option, Some, None, is_some}
-use Rattle.std.proofs.lemmas.List.{length-append}
-use Rattle.std.proofs.lemmas.List.Sums.{sum_by-cons}
 use Rattle.std.proofs.lemmas.Map.Lookups.{exact_bytes}
 use Rattle.std.specs.Map.{lookup}
 use Rattle.std.specs.BTreeMap.{insert_entry, is_at}
@@ -12,21 +10,6 @@ use Rattle.std.specs.declared.cmp.Ordering.TheVariants.{Less, Equal, Greater}
 use Rattle.std.specs.declared.vec.Vec.{Vec}
 use Rattle.tftp_server.specs.Store.{FileList, file_at, with_file, path_cmp}
 use Rattle.tftp_server.specs.Memory.{contents, put_all, in_path_order, has_distinct_paths}
-use Rattle.tftp_file.specs.Netascii.{wire_byte, netascii_text}
-use Rattle.tftp_file.specs.Lines.{is_line_byte}
-
--- a byte travels as a pair exactly if it is LF or CR
-byte_length : (lf cr : Bool) (b : ℕ) → length (cond lf (13 ∷ 10 ∷ []) (cond cr (13 ∷ 0 ∷ []) (b ∷ []))) ≡ 1 + cond (lf || cr) 1 0
-byte_length true cr b = refl
-byte_length false true b = refl
-byte_length false false b = refl
-
-pub netascii-length : (bytes : List ℕ) → length (netascii_text bytes) ≡ length bytes + count_by is_line_byte bytes
-netascii-length [] = refl
-netascii-length (b ∷ bytes) =
-    omega (arith, length-append (wire_byte b) (netascii_text bytes), byte_length (b == 10) (b == 13) b, netascii-length bytes, sum_by-cons (λ x. cond (is_line_byte x) 1 0) b bytes)
-
--- ---- files that are put in one by one
 
 equal_from_is_eq : (o : Ordering) → is_eq o ≡ true → o ≡ Equal
 equal_from_is_eq Less h = absurd (cc)

@@ -1,15 +1,14 @@
 //! A store that holds its files in memory.
 
-ghost use Rattle.std.specs.Prelude.{◌≡◌, IfOk, IfErr, option_map, count_by, true, false, List, ℕ, OnOk, OnErr};
-ghost use Rattle.tftp_server.specs.Store.{file_at, measured, with_file};
+ghost use Rattle.std.specs.Prelude.{◌≡◌, IfOk, IfErr, option_map, true, false, List, ℕ, OnOk, OnErr};
+ghost use Rattle.tftp_server.specs.Store.{file_at, with_file};
 ghost use Rattle.tftp_server.specs.Memory.{contents, in_path_order, has_distinct_paths, with_told};
-ghost use Rattle.tftp_file.specs.Lines.{is_line_byte};
 
 use crate::store::{Opening, Store};
 use std::alloc::{AllocError, Global};
 use std::collections::BTreeMap;
 use std::marker::Model;
-use tftp_file::{MAX_WIRE, MemSource, Path, StoreFault};
+use tftp_file::{MAX_WIRE, MemSource, Path, StoreFault, wire_length_within};
 use tftp_wire::{Bytes, Mode};
 
 /// A store in memory. Contracts see its files in the order of their paths, and whether it was told to
@@ -102,27 +101,6 @@ impl MemDraft {
     }
 }
 
-/// How long the bytes are on the wire, or `MAX_WIRE + 1` where they are longer.
-fn measure(bytes: &[u8], mode: Mode) -> u64
-    ensures { result ≡ measured mode bytes.now }
-{
-    let count = match mode {
-        Mode::Octet => bytes.len(),
-        Mode::Netascii => bytes.len() + line_byte_count(bytes),
-    };
-    (count as u64).min(MAX_WIRE + 1)
-}
-
-/// How many of the bytes are LF or CR, which netascii writes as pairs.
-fn line_byte_count(bytes: &[u8]) -> usize
-    ensures { result ≡ count_by is_line_byte bytes.now }
-{
-    bytes
-        .iter()
-        .filter(|byte| **byte == b'\n' || **byte == b'\r')
-        .count()
-}
-
 impl Store for MemStore {
     ghost use Rattle.std.specs.Prelude.{Some};
     ghost use Rattle.tftp_server.specs.Memory.{MayRefuseOpen, MayRefuseBegin, MayRefuseAppend, MayRefuseCommit};
@@ -157,7 +135,7 @@ impl Store for MemStore {
         };
         Ok(Opening {
             source,
-            length: measure(bytes, mode),
+            length: wire_length_within(bytes, mode, MAX_WIRE + 1),
         })
     }
 
