@@ -233,17 +233,14 @@ impl<R: Files + Drop> Store for FolderStore<R> {
 
     type Draft = FolderDraft<R::File>;
 
-    ghost stored = { λ _. None };
-
-    ghost drafted = { λ _. None };
-
-    ghost may_refuse_open = { λ _ _ fault. MayNotOpen fault };
-
-    ghost may_refuse_begin = { λ _ _ replace fault. MayNotBegin replace fault };
-
-    ghost may_refuse_append = { λ _ _ _ fault. MayNotStore fault };
-
-    ghost may_refuse_commit = { λ _ _ _ replace fault. MayNotName replace fault };
+    ghost meaning = { record {
+      stored = λ _. None;
+      drafted = λ _. None;
+      may_refuse_open = λ _ _ fault. MayNotOpen fault;
+      may_refuse_begin = λ _ _ replace fault. MayNotBegin replace fault;
+      may_refuse_append = λ _ _ _ fault. MayNotStore fault;
+      may_refuse_commit = λ _ _ _ replace fault. MayNotName replace fault;
+    } };
 
     fn open(
         &self,

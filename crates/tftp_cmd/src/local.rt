@@ -190,7 +190,12 @@ fn store_fault(error: &io::Error) -> StoreFault
 impl<R: Files + Drop> Sink for LocalFile<R> {
     ghost use Rattle.std.specs.Prelude.{None, ⊤};
 
-    ghost held = { λ _. None };
+    ghost meaning = { record {
+      held = λ _. None;
+      may_refuse_append = λ _ _ _. ⊤;
+      may_refuse_commit = λ _ _. ⊤;
+      becomes = λ _ _ _. ⊤;
+    } };
 
     ghost is_same = { λ _ _. ⊤ };
 

@@ -1,12 +1,12 @@
 -- What a run of an end comes to.
-use Rattle.std.proofs.Common.{◌≡◌, ℕ, ◌+◌, ◌*◌, ◌<◌, ◌≤◌, Bool, true, false, List, [], ◌∷◌, length, Option, refl, sym, ap, ◌∙◌, subst, arith, inl, inr, mul-add}
+use Rattle.std.proofs.Common.{◌≡◌, ℕ, ◌+◌, ◌*◌, ◌<◌, ◌≤◌, Bool, true, false, List, [], ◌∷◌, length, refl, sym, ap, ◌∙◌, subst, arith, inl, inr, mul-add}
 use Rattle.std.specs.Prelude.{◌==◌, ◌||◌, if◌then◌else◌, is_some}
 use Rattle.std.proofs.lemmas.Bool.{true≢false, cases_eq, eq-eqb, ne_eqb}
 use Rattle.tftp_negotiate.specs.Agreed.{size}
 use Rattle.tftp_negotiate.specs.declared.known.Known.{Known}
 use Rattle.tftp_wire.specs.declared.mode.Mode.{Mode}
-use Rattle.tftp_file.specs.Sink.{Holding}
-use Rattle.tftp_file.specs.declared.fault.StoreFault.{StoreFault}
+use Rattle.tftp_file.specs.Source.{SourceMeaning}
+use Rattle.tftp_file.specs.Sink.{SinkMeaning}
 use Rattle.tftp_ends.specs.declared.action.Response.TheVariants.{Retransmit, Close}
 use Rattle.tftp_ends.specs.declared.endpoint.Endpoint.{Endpoint}
 use Rattle.tftp_ends.specs.declared.outcome.Outcome.{Outcome}
@@ -110,10 +110,10 @@ gives_back : (progress : Bool) (left left' retries w w' : ℕ) → left' ≡ (if
 gives_back true left left' retries w w' e h = omega arith
 gives_back false left left' retries w w' e h = omega arith
 
-module _ {S K : Type 0} (left : S → Option (List ℕ)) (may_fail : S → ℕ → Type 0) (held : K → Option Holding) (may_refuse_append : K → List ℕ → StoreFault → Type 0) (may_refuse_commit : K → StoreFault → Type 0) (becomes : K → K → Bool → Type 0) where
-  step : (e : EndState) (event : Event) (turn : Turn) → IsOpen e → Kept e.side e.length e.phase → Takes left may_fail held may_refuse_append may_refuse_commit becomes e event turn → Steps e event turn
+module _ {S K : Type 0} (sources : SourceMeaning S) (sinks : SinkMeaning K) where
+  step : (e : EndState) (event : Event) (turn : Turn) → IsOpen e → Kept e.side e.length e.phase → Takes sources sinks e event turn → Steps e event turn
   step e (Datagram from bytes) turn o kept h =
-      let m = datagram_moves left may_fail held may_refuse_append may_refuse_commit becomes e from bytes h.0 h.1 turn o kept h.2 in
+      let m = datagram_moves sources sinks e from bytes h.0 h.1 turn o kept h.2 in
       record {
         side = m.side;
         retries = m.retries;
@@ -142,7 +142,7 @@ module _ {S K : Type 0} (left : S → Option (List ℕ)) (may_fail : S → ℕ �
     pub sends : is_sender e.side ≡ true → data_count run ≤ progress_count e run + timeout_count run
     pub spent : IsOpen (end_behind e run) → timeout_count run + (end_behind e run).retries_left + waits e.phase ≤ e.retries_left + e.retries * progress_count e run + waits (end_behind e run).phase
 
-  open_before : (run : List Taken) (e : EndState) → IsRun left may_fail held may_refuse_append may_refuse_commit becomes e run → IsOpen (end_behind e run) → IsOpen e
+  open_before : (run : List Taken) (e : EndState) → IsRun sources sinks e run → IsOpen (end_behind e run) → IsOpen e
   open_before [] e r o = o
   open_before (taken ∷ run) e r o = r.0
 
@@ -152,7 +152,7 @@ module _ {S K : Type 0} (left : S → Option (List ℕ)) (may_fail : S → ℕ �
       let d : R * (cp + P) ≡ R * cp + R * P = mul-add R cp P in
       omega arith
 
-  behind : (run : List Taken) (e : EndState) → Kept e.side e.length e.phase → IsRun left may_fail held may_refuse_append may_refuse_commit becomes e run → Behind e run
+  behind : (run : List Taken) (e : EndState) → Kept e.side e.length e.phase → IsRun sources sinks e run → Behind e run
   behind [] e kept r =
       record { side = refl; kept = kept; rises = omega arith; sends = λ s. omega arith; spent = λ o. let z : e.retries * 0 ≡ 0 = omega arith in omega arith }
   behind (taken ∷ run) e kept r =
@@ -194,14 +194,14 @@ module _ {S K : Type 0} (left : S → Option (List ℕ)) (may_fail : S → ℕ �
   rank_below side length (Dallying terms number dally) k = let n = k.0 in omega arith
   rank_below side length (Closed terms number complete outcome) k = omega arith
 
-  pub progress_bound : (e : EndState) (run : List Taken) → IsOpening e → IsRun left may_fail held may_refuse_append may_refuse_commit becomes e run → progress_count e run ≤ 65536
+  pub progress_bound : (e : EndState) (run : List Taken) → IsOpening e → IsRun sources sinks e run → progress_count e run ≤ 65536
   progress_bound e run o r =
       let b = behind run e (opened e o).kept r in
       let f = end_behind e run in
       let top = rank_below f.side f.length f.phase b.kept in
       omega (arith, b.rises)
 
-  pub timeout_bound : (e : EndState) (run : List Taken) → IsOpening e → IsRun left may_fail held may_refuse_append may_refuse_commit becomes e run → IsOpen (end_behind e run) → timeout_count run ≤ e.retries * (progress_count e run + 1) + 1
+  pub timeout_bound : (e : EndState) (run : List Taken) → IsOpening e → IsRun sources sinks e run → IsOpen (end_behind e run) → timeout_count run ≤ e.retries * (progress_count e run + 1) + 1
   timeout_bound e run o r live =
       let p = opened e o in
       let b = (behind run e p.kept r).spent live in
@@ -210,18 +210,18 @@ module _ {S K : Type 0} (left : S → Option (List ℕ)) (may_fail : S → ℕ �
       let one : e.retries * 1 ≡ e.retries = omega arith in
       omega (arith, b, p.fresh, p.all)
 
-  pub data_bound : (e : EndState) (run : List Taken) → IsOpening e → IsRun left may_fail held may_refuse_append may_refuse_commit becomes e run → is_sender e.side ≡ true →
+  pub data_bound : (e : EndState) (run : List Taken) → IsOpening e → IsRun sources sinks e run → is_sender e.side ≡ true →
       count_if (opened_by_data e) + data_count run ≤ 1 + progress_count e run + timeout_count run
   data_bound e run o r s =
       let one = one_at_most (opened_by_data e) in
       let more = (behind run e (opened e o).kept r).sends s in
       omega arith
 
-  pub answers : (e : EndState) (run : List Taken) → IsOpening e → IsRun left may_fail held may_refuse_append may_refuse_commit becomes e run → IsOpen (end_behind e run) → is_sender e.side ≡ true →
-      AnswersByProgress left may_fail held may_refuse_append may_refuse_commit becomes (end_behind e run)
+  pub answers : (e : EndState) (run : List Taken) → IsOpening e → IsRun sources sinks e run → IsOpen (end_behind e run) → is_sender e.side ≡ true →
+      AnswersByProgress sources sinks (end_behind e run)
   answers e run o r live s from bytes turn h =
       let b = behind run e (opened e o).kept r in
-      let m = datagram_moves left may_fail held may_refuse_append may_refuse_commit becomes (end_behind e run) from bytes h.0 h.1 turn live b.kept h.2 in
+      let m = datagram_moves sources sinks (end_behind e run) from bytes h.0 h.1 turn live b.kept h.2 in
       let sender : is_sender (end_behind e run).side ≡ true = ap is_sender b.side ∙ s in
       (m.oack sender, m.sends sender)
 

@@ -13,7 +13,8 @@ use Rattle.tftp_negotiate.specs.declared.known.Known.{Known}
 use Rattle.tftp_negotiate.specs.declared.refusal.Refusal.{Refusal}
 use Rattle.tftp_negotiate.specs.declared.refusal.Refusal.TheVariants as refusals
 use Rattle.tftp_negotiate.specs.Agreement.{agreement}
-use Rattle.tftp_file.specs.Sink.{Holding}
+use Rattle.tftp_file.specs.Source.{SourceMeaning}
+use Rattle.tftp_file.specs.Sink.{SinkMeaning}
 use Rattle.tftp_file.specs.declared.fault.StoreFault.{StoreFault}
 use Rattle.tftp_file.specs.declared.files.Files.{Files}
 use Rattle.tftp_file.specs.declared.files.Files.TheVariants.{Source, Sink}
@@ -176,11 +177,11 @@ closes e terms outcome reply o kept oack sends =
     (λ s. (oack, λ d. absurd (true≢false (sym d ∙ sends))))
 
 -- ---- what a datagram leaves
-module _ {S K : Type 0} (left : S → Option (List ℕ)) (may_fail : S → ℕ → Type 0) (held : K → Option Holding) (may_refuse_append : K → List ℕ → StoreFault → Type 0) (may_refuse_commit : K → StoreFault → Type 0) (becomes : K → K → Bool → Type 0)
+module _ {S K : Type 0} (sources : SourceMeaning S) (sinks : SinkMeaning K)
     (e : EndState) (from : Endpoint) (bytes : List ℕ) (open_now : IsOpen e) (kept : Kept e.side e.length e.phase) where
   -- an action leaves this
   abbrev Moving : Action → Type 0
-  Moving action = (turn : Turn) (files files' : Files S K) → Acts left may_fail held may_refuse_append may_refuse_commit becomes action from bytes e files turn files' → Moves e turn
+  Moving action = (turn : Turn) (files files' : Files S K) → Acts sources sinks action from bytes e files turn files' → Moves e turn
 
   responds : (response : Response) → Moves e (response_turn response from e) → Moving (Respond response)
   responds response m turn files files' h = subst (λ (t : Turn). Moves e t) (sym h.0) m
@@ -235,7 +236,7 @@ module _ {S K : Type 0} (left : S → Option (List ℕ)) (may_fail : S → ℕ �
       (closes (holding after e) (Some terms) outcomes.StoreFault (Some (record { to = from; bytes = error_bytes (commit_reply fault) })) open_now kept refl refl)
 
   stored : (terms : Terms) (number : ℕ) (last : Bool) (after : List ℕ) (mid sink' : K) (answer : Result Done StoreFault) (turn : Turn) → is_sender e.side ≡ false → number ≤ 65535 → rank e.phase ≤ number → waits e.phase ≡ 0 →
-      GoesOn held may_refuse_append may_refuse_commit becomes terms number from e last after mid answer turn sink' → Moves e turn
+      GoesOn sinks terms number from e last after mid answer turn sink' → Moves e turn
   stored terms number true after mid sink' (Err fault) turn r n l w h =
       subst (λ (t : Turn). Moves e t) (sym h.0) (closes e (Some terms) outcomes.StoreFault (Some (record { to = from; bytes = error_bytes replies.DiskFull })) open_now kept refl refl)
   stored terms number false after mid sink' (Err fault) turn r n l w h =
@@ -253,7 +254,7 @@ module _ {S K : Type 0} (left : S → Option (List ℕ)) (may_fail : S → ℕ �
   stores terms number r n l w turn (Source source) (Source source') h = absurd h
 
 -- ---- an end by its phase
-module _ {S K : Type 0} (left : S → Option (List ℕ)) (may_fail : S → ℕ → Type 0) (held : K → Option Holding) (may_refuse_append : K → List ℕ → StoreFault → Type 0) (may_refuse_commit : K → StoreFault → Type 0) (becomes : K → K → Bool → Type 0)
+module _ {S K : Type 0} (sources : SourceMeaning S) (sinks : SinkMeaning K)
     (e0 : EndState) (from : Endpoint) (bytes : List ℕ) where
   -- the end in a phase
   abbrev at : Phase → EndState
@@ -261,31 +262,31 @@ module _ {S K : Type 0} (left : S → Option (List ℕ)) (may_fail : S → ℕ �
 
   -- what an action leaves of it
   abbrev Going : (p : Phase) → is_some (outcome_of p) ≡ false → Kept e0.side e0.length p → Action → Type 0
-  Going p o kept action = Moving left may_fail held may_refuse_append may_refuse_commit becomes (at p) from bytes o kept action
+  Going p o kept action = Moving sources sinks (at p) from bytes o kept action
 
   ignored : (p : Phase) (o : is_some (outcome_of p) ≡ false) (kept : Kept e0.side e0.length p) → Going p o kept (Respond Ignore)
-  ignored p o kept = ignores left may_fail held may_refuse_append may_refuse_commit becomes (at p) from bytes o kept
+  ignored p o kept = ignores sources sinks (at p) from bytes o kept
 
   refused_by : (p : Phase) (o : is_some (outcome_of p) ≡ false) (kept : Kept e0.side e0.length p) (terms : Option Terms) (reply : ErrorReply) (outcome : Outcome) → Going p o kept (Respond (Refuse terms reply outcome))
-  refused_by p o kept = refuses left may_fail held may_refuse_append may_refuse_commit becomes (at p) from bytes o kept
+  refused_by p o kept = refuses sources sinks (at p) from bytes o kept
 
   gone : (p : Phase) (o : is_some (outcome_of p) ≡ false) (kept : Kept e0.side e0.length p) (outcome : Outcome) → Going p o kept (Respond (Close outcome))
-  gone p o kept = gives_up left may_fail held may_refuse_append may_refuse_commit becomes (at p) from bytes o kept
+  gone p o kept = gives_up sources sinks (at p) from bytes o kept
 
   again : (p : Phase) (o : is_some (outcome_of p) ≡ false) (kept : Kept e0.side e0.length p) → is_sender e0.side ≡ false → Going p o kept (Respond ResendReply)
-  again p o kept = answers_again left may_fail held may_refuse_append may_refuse_commit becomes (at p) from bytes o kept
+  again p o kept = answers_again sources sinks (at p) from bytes o kept
 
   next : (p : Phase) (o : is_some (outcome_of p) ≡ false) (kept : Kept e0.side e0.length p) (terms : Terms) (number : ℕ) → number ≤ 65535 → e0.length < 65535 * terms.size → rank p + 1 ≤ number → waits p ≡ 0 → is_progress p (Sending terms number) ≡ true → Going p o kept (Send terms number)
-  next p o kept = sends left may_fail held may_refuse_append may_refuse_commit becomes (at p) from bytes o kept
+  next p o kept = sends sources sinks (at p) from bytes o kept
 
   store : (p : Phase) (o : is_some (outcome_of p) ≡ false) (kept : Kept e0.side e0.length p) (terms : Terms) (number : ℕ) → is_sender e0.side ≡ false → number ≤ 65535 → rank p ≤ number → waits p ≡ 0 → Going p o kept (Store terms number)
-  store p o kept = stores left may_fail held may_refuse_append may_refuse_commit becomes (at p) from bytes o kept
+  store p o kept = stores sources sinks (at p) from bytes o kept
 
   -- a sender
   completes : (terms : Terms) (n : ℕ) (kept : Kept e0.side e0.length (Sending terms n)) → Going (Sending terms n) refl kept (Respond Complete)
   completes terms n kept =
       let one = one_at_most (is_progress (Sending terms n) (completed (Sending terms n))) in
-      responds left may_fail held may_refuse_append may_refuse_commit becomes (at (Sending terms n)) from bytes refl kept Complete
+      responds sources sinks (at (Sending terms n)) from bytes refl kept Complete
       (goes_into (at (Sending terms n)) (completed (Sending terms n)) e0.last_sent e0.last_sent_to None kept.0 (omega arith) (omega arith) (λ s. (refl, λ d. absurd (true≢false (sym d)))))
 
   acked_goes : (terms : Terms) (n acked : ℕ) (kept : Kept e0.side e0.length (Sending terms n)) → Going (Sending terms n) refl kept (acked_action e0.length terms n acked)
@@ -386,7 +387,7 @@ module _ {S K : Type 0} (left : S → Option (List ℕ)) (may_fail : S → ℕ �
     accept_goes : is_sender e0.side ≡ false → (answer : Result (List Known) Refusal) → Going waiting refl tt (accept_action from answer)
     accept_goes r (Ok agreed) =
         let terms = agreed_terms from agreed in
-        responds left may_fail held may_refuse_append may_refuse_commit becomes (at waiting) from bytes refl tt (Accept terms)
+        responds sources sinks (at waiting) from bytes refl tt (Accept terms)
         (goes_into (at waiting) (Receiving terms 0) (ack_bytes 0) from (Some (record { to = from; bytes = ack_bytes 0 })) (omega arith, r) (omega arith) (omega arith) (λ s. absurd (true≢false (sym s ∙ r))))
     accept_goes r (Err refusal) = refusal_goes refusal
 
@@ -448,13 +449,13 @@ module _ {S K : Type 0} (left : S → Option (List ℕ)) (may_fail : S → ℕ �
       let known = if has_error_opcode bytes && is_none decoded then Respond (garbled_response p) else packet_action (at p) from decoded p in
       if_either P (is_stranger (terms_of p) e0.last_sent_to from) strange known
       (λ _. if_either P (has_error_opcode bytes) (Respond Ignore) (Respond Stranger) (λ _. ignored p o kept)
-      (λ _. tells_stranger left may_fail held may_refuse_append may_refuse_commit becomes (at p) from bytes o kept))
+      (λ _. tells_stranger sources sinks (at p) from bytes o kept))
       (λ _. if_either P (has_error_opcode bytes && is_none decoded) (Respond (garbled_response p)) (packet_action (at p) from decoded p)
       (λ _. garbled_goes p o kept) (λ _. packet_goes p o kept decoded d))
 
 -- what a datagram leaves of an open end
-pub datagram_moves : {S K : Type 0} (left : S → Option (List ℕ)) (may_fail : S → ℕ → Type 0) (held : K → Option Holding) (may_refuse_append : K → List ℕ → StoreFault → Type 0) (may_refuse_commit : K → StoreFault → Type 0) (becomes : K → K → Bool → Type 0)
+pub datagram_moves : {S K : Type 0} (sources : SourceMeaning S) (sinks : SinkMeaning K)
     (e : EndState) (from : Endpoint) (bytes : List ℕ) (files files' : Files S K) (turn : Turn) → IsOpen e → Kept e.side e.length e.phase →
-    DatagramStep left may_fail held may_refuse_append may_refuse_commit becomes from bytes e files turn files' → Moves e turn
-datagram_moves left may_fail held may_refuse_append may_refuse_commit becomes e from bytes files files' turn o kept step =
-    datagram_goes left may_fail held may_refuse_append may_refuse_commit becomes e from bytes e.phase o kept step.decoded step.says turn files files' step.acts
+    DatagramStep sources sinks from bytes e files turn files' → Moves e turn
+datagram_moves sources sinks e from bytes files files' turn o kept step =
+    datagram_goes sources sinks e from bytes e.phase o kept step.decoded step.says turn files files' step.acts

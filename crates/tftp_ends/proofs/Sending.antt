@@ -1,5 +1,6 @@
 -- A sender's step, from what its source offered.
-use Rattle.std.proofs.Common.{◌≡◌, ℕ, Bool, true, false, List, Option, Some, refl, sym, ap, subst, ◌∙◌}
+use Rattle.std.proofs.Common.{◌≡◌, ℕ, Bool, true, false, List, Some, refl, sym, ap, subst, ◌∙◌}
+use Rattle.tftp_file.specs.Source.{SourceMeaning}
 use Rattle.tftp_ends.specs.declared.endpoint.Endpoint.{Endpoint}
 use Rattle.tftp_ends.specs.declared.error_reply.ErrorReply.TheVariants.{FileChanged}
 use Rattle.tftp_ends.specs.declared.outcome.Outcome.TheVariants.{SourceFault}
@@ -11,19 +12,19 @@ use Rattle.tftp_ends.specs.End.{EndState}
 use Rattle.tftp_ends.specs.Phase.{refused}
 use Rattle.tftp_ends.specs.Step.{Turn, Sends, Lends, ReadsData, in_phase, having_sent, data_bytes, sent_turn, refused_turn, filled_turn, block_length}
 
-module _ {S : Type 0} (left : S → Option (List ℕ)) (may_fail : S → ℕ → Type 0) (terms : Terms) (number : ℕ) (from : Endpoint) (e : EndState) (source source' : S) (buffer : List ℕ) where
+module _ {S : Type 0} (sources : SourceMeaning S) (terms : Terms) (number : ℕ) (from : Endpoint) (e : EndState) (source source' : S) (buffer : List ℕ) where
   -- what was offered for the next block
   abbrev pub ReadsNext : Bool → Type 0
   ReadsNext is_whole =
-      ReadsData (left source) (left source') (may_fail source (block_length e.length terms.size number)) number (block_length e.length terms.size number) buffer is_whole
+      ReadsData (sources.left source) (sources.left source') (sources.may_fail source (block_length e.length terms.size number)) number (block_length e.length terms.size number) buffer is_whole
 
   -- what a sender does at an action that sends, and what its call lends
   abbrev pub IsSent : EndState → Outgoing → Type 0
   IsSent e' outgoing =
-      (turn : Turn) × Sends left may_fail terms number from e source turn source' × Lends turn e' (Some from) outgoing
+      (turn : Turn) × Sends sources terms number from e source turn source' × Lends turn e' (Some from) outgoing
 
   -- the step of an offer, by the turn that it comes to
-  abbrev pub step_at : (is_whole : Bool) → (o : ReadsNext is_whole) → Sends left may_fail terms number from e source (filled_turn terms number from o.piece e o.answer) source'
+  abbrev pub step_at : (is_whole : Bool) → (o : ReadsNext is_whole) → Sends sources terms number from e source (filled_turn terms number from o.piece e o.answer) source'
   step_at is_whole o =
       record { answer = o.answer; piece = o.piece; reads = o.reads; answers = refl }
 

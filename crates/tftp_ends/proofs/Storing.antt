@@ -1,6 +1,6 @@
 -- A receiver's step, from what its sink made of a block.
-use Rattle.std.proofs.Common.{◌≡◌, ℕ, Bool, true, false, ltb, List, length, Option, Some, Result, Ok, Err, refl, ap, ◌∙◌}
-use Rattle.tftp_file.specs.Sink.{Holding}
+use Rattle.std.proofs.Common.{◌≡◌, ℕ, Bool, true, false, ltb, List, length, Some, Result, Ok, Err, refl, ap, ◌∙◌}
+use Rattle.tftp_file.specs.Sink.{SinkMeaning}
 use Rattle.tftp_file.specs.declared.fault.StoreFault.{StoreFault}
 use Rattle.tftp_ends.specs.declared.end.storing.BlockStored.{BlockStored}
 use Rattle.tftp_ends.specs.declared.end.storing.BlockStored.TheVariants.{More, All, Refused, Uncommitted}
@@ -18,7 +18,7 @@ use Rattle.tftp_ends.specs.Phase.{refused}
 use Rattle.tftp_ends.specs.Step.{Done, Turn, Stores, GoesOn, Lends, in_phase, having_sent, holding, ack_bytes, sent_turn, refused_turn, committed_turn}
 use Rattle.tftp_ends.specs.BlockStored.{StoresPiece, StoresOn, committed_as}
 
-module _ {K : Type 0} (held : K → Option Holding) (may_refuse_append : K → List ℕ → StoreFault → Type 0) (may_refuse_commit : K → StoreFault → Type 0) (becomes : K → K → Bool → Type 0) (terms : Terms) (number : ℕ) (from : Endpoint) (piece : List ℕ) (e : EndState) (behind : List ℕ) (sink sink' : K) where
+module _ {K : Type 0} (sinks : SinkMeaning K) (terms : Terms) (number : ℕ) (from : Endpoint) (piece : List ℕ) (e : EndState) (behind : List ℕ) (sink sink' : K) where
   -- the turn that this comes to
   abbrev pub stored_turn : BlockStored → Turn
   stored_turn More = sent_turn (Receiving terms number) from (ack_bytes number) (holding behind e)
@@ -28,25 +28,25 @@ module _ {K : Type 0} (held : K → Option Holding) (may_refuse_append : K → L
 
   -- what was made of the block
   abbrev pub StoresNext : BlockStored → Type 0
-  StoresNext block_stored = StoresPiece held may_refuse_append may_refuse_commit becomes e.mode e.held piece (ltb (length piece) terms.size) sink sink' block_stored behind
+  StoresNext block_stored = StoresPiece sinks e.mode e.held piece (ltb (length piece) terms.size) sink sink' block_stored behind
 
   -- what a receiver does at an action that stores, and what its call lends
   abbrev pub IsStored : EndState → Outgoing → Type 0
   IsStored e' outgoing =
-      (turn : Turn) × Stores held may_refuse_append may_refuse_commit becomes terms number from piece e sink turn sink' × Lends turn e' (Some from) outgoing
+      (turn : Turn) × Stores sinks terms number from piece e sink turn sink' × Lends turn e' (Some from) outgoing
 
-  committed : (answer : Result Done StoreFault) → stored_turn (committed_as held may_refuse_append may_refuse_commit becomes answer) ≡ committed_turn terms number from (holding behind e) answer
+  committed : (answer : Result Done StoreFault) → stored_turn (committed_as sinks answer) ≡ committed_turn terms number from (holding behind e) answer
   committed (Ok done) = refl
   committed (Err fault) = refl
 
-  goes_on : (last : Bool) (answer : Result Done StoreFault) (mid : K) (block_stored : BlockStored) → StoresOn held may_refuse_append may_refuse_commit becomes last mid sink' block_stored answer → GoesOn held may_refuse_append may_refuse_commit becomes terms number from e last behind mid answer (stored_turn block_stored) sink'
+  goes_on : (last : Bool) (answer : Result Done StoreFault) (mid : K) (block_stored : BlockStored) → StoresOn sinks last mid sink' block_stored answer → GoesOn sinks terms number from e last behind mid answer (stored_turn block_stored) sink'
   goes_on true (Err fault) mid block_stored o = (ap stored_turn o.0, o.1)
   goes_on false (Err fault) mid block_stored o = (ap stored_turn o.0, o.1)
   goes_on true (Ok done) mid block_stored o =
       record { answer = o.answer; commits = o.commits; refused = o.refused; leaves = o.leaves; answers = ap stored_turn o.comes_to ∙ committed o.answer }
   goes_on false (Ok done) mid block_stored o = (ap stored_turn o.0, o.1)
 
-  stores : (block_stored : BlockStored) → StoresNext block_stored → Stores held may_refuse_append may_refuse_commit becomes terms number from piece e sink (stored_turn block_stored) sink'
+  stores : (block_stored : BlockStored) → StoresNext block_stored → Stores sinks terms number from piece e sink (stored_turn block_stored) sink'
   stores block_stored o =
       record {
         bytes = o.bytes;

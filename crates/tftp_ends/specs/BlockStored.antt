@@ -1,7 +1,7 @@
 -- What a sink made of a block.
 use Rattle.std.specs.Prelude.{◌≡◌, ◌≢◌, Bool, true, false, List, ℕ, Option, Some, None, Result, Ok, Err, IfErr, is_ok}
 use Rattle.tftp_wire.specs.declared.mode.Mode.{Mode}
-use Rattle.tftp_file.specs.Sink.{Holding, Commits}
+use Rattle.tftp_file.specs.Sink.{Holding, SinkMeaning, Commits}
 use Rattle.tftp_file.specs.declared.fault.StoreFault.{StoreFault}
 use Rattle.tftp_file.specs.declared.fault.StoreFault.TheVariants.{Memory}
 use Rattle.tftp_ends.specs.declared.end.storing.BlockStored.{BlockStored}
@@ -15,11 +15,11 @@ KeepsHolding None after = Unit {0}
 KeepsHolding (Some before) after = after ≡ Some before
 
 -- a sink tells the same as before, and has left all else as where nothing was committed
-pub record KeepsSink {K : Type 0} (held : K → Option Holding) (becomes : K → K → Bool → Type 0) (before after : K) : Type 0 where
-  pub holding : KeepsHolding (held before) (held after)
-  pub leaves : becomes before after false
+pub record KeepsSink {K : Type 0} (sinks : SinkMeaning K) (before after : K) : Type 0 where
+  pub holding : KeepsHolding (sinks.held before) (sinks.held after)
+  pub leaves : sinks.becomes before after false
 
-module _ {K : Type 0} (held : K → Option Holding) (may_refuse_append : K → List ℕ → StoreFault → Type 0) (may_refuse_commit : K → StoreFault → Type 0) (becomes : K → K → Bool → Type 0) where
+module _ {K : Type 0} (sinks : SinkMeaning K) where
   -- what a commit came to
   abbrev pub committed_as : Result Done StoreFault → BlockStored
   committed_as (Ok done) = All
@@ -28,9 +28,9 @@ module _ {K : Type 0} (held : K → Option Holding) (may_refuse_append : K → L
   -- a sink was asked to commit the whole, and this came of it
   pub record StoresLast (sink sink' : K) (block_stored : BlockStored) : Type 0 where
     pub answer : Result Done StoreFault
-    pub commits : Commits (held sink) (held sink') answer
-    pub refused : IfErr answer (may_refuse_commit sink)
-    pub leaves : becomes sink sink' (is_ok answer)
+    pub commits : Commits (sinks.held sink) (sinks.held sink') answer
+    pub refused : IfErr answer (sinks.may_refuse_commit sink)
+    pub leaves : sinks.becomes sink sink' (is_ok answer)
     pub comes_to : block_stored ≡ committed_as answer
 
   -- what follows an append
@@ -43,7 +43,7 @@ module _ {K : Type 0} (held : K → Option Holding) (may_refuse_append : K → L
   pub record StoresBlock (bytes : List ℕ) (is_last : Bool) (sink sink' : K) (block_stored : BlockStored) : Type 0 where
     pub answer : Result Done StoreFault
     pub mid : K
-    pub appended : Appended held may_refuse_append may_refuse_commit becomes bytes sink mid answer
+    pub appended : Appended sinks bytes sink mid answer
     pub memory : answer ≢ Err Memory
     pub rest : StoresOn is_last mid sink' block_stored answer
 

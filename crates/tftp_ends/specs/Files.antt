@@ -1,6 +1,7 @@
 -- The files of an end, seen by what they tell.
-use Rattle.std.specs.Prelude.{◌≡◌, Bool, true, false, List, ℕ, Option}
-use Rattle.tftp_file.specs.Sink.{Holding}
+use Rattle.std.specs.Prelude.{◌≡◌, true, false}
+use Rattle.tftp_file.specs.Source.{SourceMeaning}
+use Rattle.tftp_file.specs.Sink.{SinkMeaning}
 use Rattle.tftp_file.specs.declared.files.Files.{Files}
 use Rattle.tftp_file.specs.declared.files.Files.TheVariants.{Source, Sink}
 use Rattle.tftp_ends.specs.declared.side.Side.{Side}
@@ -14,11 +15,11 @@ module _ {S K : Type 0} where
   AreFilesOf side (Sink sink) = is_sender side ≡ false
 
   -- the files tell the same as before, and a sink has left all else as where nothing was committed
-  abbrev pub KeepsFiles : (S → Option (List ℕ)) → (K → Option Holding) → (K → K → Bool → Type 0) → Files S K → Files S K → Type 0
-  KeepsFiles left held becomes (Source old) (Source new) = left new ≡ left old
-  KeepsFiles left held becomes (Sink old) (Sink new) = KeepsSink held becomes old new
-  KeepsFiles left held becomes (Source old) (Sink new) = ⊥
-  KeepsFiles left held becomes (Sink old) (Source new) = ⊥
+  abbrev pub KeepsFiles : SourceMeaning S → SinkMeaning K → Files S K → Files S K → Type 0
+  KeepsFiles sources sinks (Source old) (Source new) = sources.left new ≡ sources.left old
+  KeepsFiles sources sinks (Sink old) (Sink new) = KeepsSink sinks old new
+  KeepsFiles sources sinks (Source old) (Sink new) = ⊥
+  KeepsFiles sources sinks (Sink old) (Source new) = ⊥
 
   -- the same files, over the same borrows
   abbrev pub AreSame : (S → S → Type 0) → (K → K → Type 0) → Files S K → Files S K → Type 0

@@ -11,6 +11,7 @@ use Rattle.tftp_negotiate.specs.declared.asked.Asked.{Asked}
 use Rattle.tftp_negotiate.specs.declared.known.Kind.TheVariants as kinds
 use Rattle.tftp_negotiate.specs.declared.known.Known.{Known}
 use Rattle.tftp_negotiate.specs.declared.limits.TheConstants.{DEFAULT_BLOCK}
+use Rattle.tftp_file.specs.Source.{SourceMeaning}
 use Rattle.tftp_file.specs.declared.fault.FileFault.{FileFault}
 use Rattle.tftp_file.specs.declared.files.Files.{Files}
 use Rattle.tftp_file.specs.declared.files.Files.TheVariants.{Source, Sink}
@@ -97,12 +98,12 @@ pub record MayPut (name : List ℕ) (mode : Mode) (asked : Asked) (length : ℕ)
   pub options : IsFor asked kinds.Write mode length
   pub fits : length < 65535 * asked_size asked.blksize
 
-module _ {S : Type 0} (left : S → Option (List ℕ)) (may_fail : S → ℕ → Type 0) where
+module _ {S : Type 0} (sources : SourceMeaning S) where
   -- a read is served: where no option is agreed the source gave the first piece, and else it wasn't asked
   abbrev pub ServesRead : List Known → Endpoint → Mode → ℕ → ℕ → S → S → EndState → Type 0
   ServesRead [] peer mode length retries source source' e =
       (piece : List ℕ)
-      × AsksFor left may_fail (block_length length DEFAULT_BLOCK 1) source (left source') piece (Ok (block_length length DEFAULT_BLOCK 1))
+      × AsksFor sources (block_length length DEFAULT_BLOCK 1) source (sources.left source') piece (Ok (block_length length DEFAULT_BLOCK 1))
       × (e ≡ serving_read [] peer mode length retries piece)
   ServesRead (known ∷ others) peer mode length retries source source' e =
       (source' ≡ source) × (e ≡ serving_read (known ∷ others) peer mode length retries [])
@@ -112,7 +113,7 @@ module _ {S : Type 0} (left : S → Option (List ℕ)) (may_fail : S → ℕ →
     pub after : Option (List ℕ)
     pub answer : Result ℕ FileFault
     pub piece : List ℕ
-    pub reads : AsksFor left may_fail (block_length length DEFAULT_BLOCK 1) source after piece answer
+    pub reads : AsksFor sources (block_length length DEFAULT_BLOCK 1) source after piece answer
     pub short : result_count_is (block_length length DEFAULT_BLOCK 1) answer ≡ false
 
   -- the same, of an end's files

@@ -1,7 +1,8 @@
 -- A step with one file is a step with another that tells as much.
-use Rattle.std.specs.Prelude.{ℕ, ◌≡◌, Bool, true, false, List, [], ◌∷◌, Option, Result, Ok, Err, IfErr}
+use Rattle.std.specs.Prelude.{ℕ, ◌≡◌, Bool, true, false, List, [], ◌∷◌, Result, Ok, Err, IfErr}
 use Rattle.std.proofs.Common.{ap, sym, subst}
-use Rattle.tftp_file.specs.Sink.{Holding}
+use Rattle.tftp_file.specs.Source.{SourceMeaning}
+use Rattle.tftp_file.specs.Sink.{SinkMeaning}
 use Rattle.tftp_file.specs.declared.fault.StoreFault.{StoreFault}
 use Rattle.tftp_file.specs.declared.files.Files.{Files}
 use Rattle.tftp_file.specs.declared.files.Files.TheVariants.{Source, Sink}
@@ -14,19 +15,17 @@ use Rattle.tftp_ends.specs.Files.{KeepsFiles}
 use Rattle.tftp_ends.specs.Step.{Done, Turn, Sends, Appended, Committed, GoesOn, Stores, Acts, DatagramStep}
 
 -- sources of one kind tell as much as what they are seen as
-pub record SourcesTell {S T : Type 0} (seen : S → T) (left : S → Option (List ℕ)) (may_fail : S → ℕ → Type 0) (left' : T → Option (List ℕ)) (may_fail' : T → ℕ → Type 0) : Type 0 where
-  pub tells : (source : S) → left' (seen source) ≡ left source
-  pub fails : (source : S) (want : ℕ) → may_fail source want → may_fail' (seen source) want
+pub record SourcesTell {S T : Type 0} (seen : S → T) (sources : SourceMeaning S) (sources' : SourceMeaning T) : Type 0 where
+  pub tells : (source : S) → sources'.left (seen source) ≡ sources.left source
+  pub fails : (source : S) (want : ℕ) → sources.may_fail source want → sources'.may_fail (seen source) want
 
 -- sinks of one kind, of which something holds that an append keeps, tell as much as what they are seen as
-pub record SinksTell {K L : Type 0} (seen : K → L) (holds : K → Type 0)
-    (held : K → Option Holding) (may_refuse_append : K → List ℕ → StoreFault → Type 0) (may_refuse_commit : K → StoreFault → Type 0) (becomes : K → K → Bool → Type 0)
-    (held' : L → Option Holding) (may_refuse_append' : L → List ℕ → StoreFault → Type 0) (may_refuse_commit' : L → StoreFault → Type 0) (becomes' : L → L → Bool → Type 0) : Type 0 where
-  pub tells : (sink : K) → held' (seen sink) ≡ held sink
-  pub keeps : (sink sink' : K) → holds sink → becomes sink sink' false → holds sink'
-  pub appends : (sink : K) (bytes : List ℕ) (fault : StoreFault) → holds sink → may_refuse_append sink bytes fault → may_refuse_append' (seen sink) bytes fault
-  pub commits : (sink : K) (fault : StoreFault) → holds sink → may_refuse_commit sink fault → may_refuse_commit' (seen sink) fault
-  pub leaves : (sink sink' : K) (committed : Bool) → holds sink → becomes sink sink' committed → becomes' (seen sink) (seen sink') committed
+pub record SinksTell {K L : Type 0} (seen : K → L) (holds : K → Type 0) (sinks : SinkMeaning K) (sinks' : SinkMeaning L) : Type 0 where
+  pub tells : (sink : K) → sinks'.held (seen sink) ≡ sinks.held sink
+  pub keeps : (sink sink' : K) → holds sink → sinks.becomes sink sink' false → holds sink'
+  pub appends : (sink : K) (bytes : List ℕ) (fault : StoreFault) → holds sink → sinks.may_refuse_append sink bytes fault → sinks'.may_refuse_append (seen sink) bytes fault
+  pub commits : (sink : K) (fault : StoreFault) → holds sink → sinks.may_refuse_commit sink fault → sinks'.may_refuse_commit (seen sink) fault
+  pub leaves : (sink sink' : K) (committed : Bool) → holds sink → sinks.becomes sink sink' committed → sinks'.becomes (seen sink) (seen sink') committed
 
 -- the files of an end, each seen as another
 abbrev pub seen_as : {S T K L : Type 0} → (S → T) → (K → L) → Files S K → Files T L
@@ -52,85 +51,81 @@ abbrev sink_or : {S K : Type 0} → K → Files S K → K
 sink_or other (Source s) = other
 sink_or other (Sink k) = k
 
-module _ {S T K L : Type 0}
-    (left : S → Option (List ℕ)) (may_fail : S → ℕ → Type 0)
-    (held : K → Option Holding) (may_refuse_append : K → List ℕ → StoreFault → Type 0) (may_refuse_commit : K → StoreFault → Type 0) (becomes : K → K → Bool → Type 0)
-    (left' : T → Option (List ℕ)) (may_fail' : T → ℕ → Type 0)
-    (held' : L → Option Holding) (may_refuse_append' : L → List ℕ → StoreFault → Type 0) (may_refuse_commit' : L → StoreFault → Type 0) (becomes' : L → L → Bool → Type 0) where
+module _ {S T K L : Type 0} (sources : SourceMeaning S) (sinks : SinkMeaning K) (sources' : SourceMeaning T) (sinks' : SinkMeaning L) where
   -- ---- a source, whatever the sinks are
-  module _ (source_as : S → T) (sources : SourcesTell source_as left may_fail left' may_fail') where
+  module _ (source_as : S → T) (source_tells : SourcesTell source_as sources sources') where
     sends_as : (terms : Terms) (number : ℕ) (from : Endpoint) (e : EndState) (s : S) (turn : Turn) (s' : S) →
-        Sends left may_fail terms number from e s turn s' → Sends left' may_fail' terms number from e (source_as s) turn (source_as s')
+        Sends sources terms number from e s turn s' → Sends sources' terms number from e (source_as s) turn (source_as s')
     sends_as terms number from e s turn s' h =
         record {
           answer = h.answer;
           piece = h.piece;
           reads =
               record {
-                fills = rw (sources.tells s, sources.tells s') h.reads.fills;
-                read = λ q. sources.fails s _ (h.reads.read q);
+                fills = rw (source_tells.tells s, source_tells.tells s') h.reads.fills;
+                read = λ q. source_tells.fails s _ (h.reads.read q);
                 memory = h.reads.memory;
               };
           answers = h.answers;
         }
 
     source_acts_as : (action : Action) (from : Endpoint) (bytes : List ℕ) (e : EndState) (s : S) (turn : Turn) (s' : S) →
-        Acts left may_fail held may_refuse_append may_refuse_commit becomes action from bytes e (Source s) turn (Source s') →
-        Acts left' may_fail' held' may_refuse_append' may_refuse_commit' becomes' action from bytes e (Source (source_as s)) turn (Source (source_as s'))
+        Acts sources sinks action from bytes e (Source s) turn (Source s') →
+        Acts sources' sinks' action from bytes e (Source (source_as s)) turn (Source (source_as s'))
     source_acts_as (Respond response) from bytes e s turn s' h = (h.0, ap (λ (f : Files S K). Source (source_as (source_or s f))) h.1)
     source_acts_as (Send terms number) from bytes e s turn s' h = sends_as terms number from e s turn s' h
     source_acts_as (Store terms number) from bytes e s turn s' h = h
 
     -- a step with the one source is a step with the other
     pub source_step_as : (from : Endpoint) (bytes : List ℕ) (e : EndState) (s : S) (turn : Turn) (s' : S) →
-        DatagramStep left may_fail held may_refuse_append may_refuse_commit becomes from bytes e (Source s) turn (Source s') →
-        DatagramStep left' may_fail' held' may_refuse_append' may_refuse_commit' becomes' from bytes e (Source (source_as s)) turn (Source (source_as s'))
+        DatagramStep sources sinks from bytes e (Source s) turn (Source s') →
+        DatagramStep sources' sinks' from bytes e (Source (source_as s)) turn (Source (source_as s'))
     source_step_as from bytes e s turn s' h =
         record { decoded = h.decoded; says = h.says; acts = source_acts_as _ from bytes e s turn s' h.acts }
 
     -- a source that tells the same as before is seen as one that does
-    pub source_keeps_as : (s s' : S) → KeepsFiles left held becomes (Source s) (Source s') →
-        KeepsFiles left' held' becomes' (Source (source_as s)) (Source (source_as s'))
-    source_keeps_as s s' h = rw (sources.tells s, sources.tells s') h
+    pub source_keeps_as : (s s' : S) → KeepsFiles sources sinks (Source s) (Source s') →
+        KeepsFiles sources' sinks' (Source (source_as s)) (Source (source_as s'))
+    source_keeps_as s s' h = rw (source_tells.tells s, source_tells.tells s') h
 
   -- ---- a sink, whatever the sources are
-  module _ (sink_as : K → L) (holds : K → Type 0) (sinks : SinksTell sink_as holds held may_refuse_append may_refuse_commit becomes held' may_refuse_append' may_refuse_commit' becomes') where
+  module _ (sink_as : K → L) (holds : K → Type 0) (sink_tells : SinksTell sink_as holds sinks sinks') where
     appended_as : (bytes : List ℕ) (k k' : K) (answer : Result Done StoreFault) → holds k →
-        Appended held may_refuse_append may_refuse_commit becomes bytes k k' answer →
-        Appended held' may_refuse_append' may_refuse_commit' becomes' bytes (sink_as k) (sink_as k') answer × holds k'
+        Appended sinks bytes k k' answer →
+        Appended sinks' bytes (sink_as k) (sink_as k') answer × holds k'
     appended_as [] k k' answer p h = ((h.0, ap sink_as h.1), subst holds (sym h.1) p)
     appended_as (b ∷ bytes) k k' answer p h = (
       (
-        rw (sinks.tells k, sinks.tells k') h.0,
-        faults answer _ _ (λ fault. sinks.appends k (b ∷ bytes) fault p) h.1,
-        sinks.leaves k k' false p h.2,
+        rw (sink_tells.tells k, sink_tells.tells k') h.0,
+        faults answer _ _ (λ fault. sink_tells.appends k (b ∷ bytes) fault p) h.1,
+        sink_tells.leaves k k' false p h.2,
       ),
-      sinks.keeps k k' p h.2,
+      sink_tells.keeps k k' p h.2,
     )
 
     committed_as : (terms : Terms) (number : ℕ) (from : Endpoint) (e : EndState) (k : K) (turn : Turn) (k' : K) → holds k →
-        Committed held may_refuse_append may_refuse_commit becomes terms number from e k turn k' →
-        Committed held' may_refuse_append' may_refuse_commit' becomes' terms number from e (sink_as k) turn (sink_as k')
+        Committed sinks terms number from e k turn k' →
+        Committed sinks' terms number from e (sink_as k) turn (sink_as k')
     committed_as terms number from e k turn k' p h =
         record {
           answer = h.answer;
-          commits = rw (sinks.tells k, sinks.tells k') h.commits;
-          refused = faults h.answer _ _ (λ fault. sinks.commits k fault p) h.refused;
-          leaves = sinks.leaves k k' _ p h.leaves;
+          commits = rw (sink_tells.tells k, sink_tells.tells k') h.commits;
+          refused = faults h.answer _ _ (λ fault. sink_tells.commits k fault p) h.refused;
+          leaves = sink_tells.leaves k k' _ p h.leaves;
           answers = h.answers;
         }
 
     goes_on_as : (terms : Terms) (number : ℕ) (from : Endpoint) (e : EndState) (last : Bool) (after : List ℕ) (k : K) (answer : Result Done StoreFault) (turn : Turn) (k' : K) → holds k →
-        GoesOn held may_refuse_append may_refuse_commit becomes terms number from e last after k answer turn k' →
-        GoesOn held' may_refuse_append' may_refuse_commit' becomes' terms number from e last after (sink_as k) answer turn (sink_as k')
+        GoesOn sinks terms number from e last after k answer turn k' →
+        GoesOn sinks' terms number from e last after (sink_as k) answer turn (sink_as k')
     goes_on_as terms number from e true after k (Err fault) turn k' p h = (h.0, ap sink_as h.1)
     goes_on_as terms number from e false after k (Err fault) turn k' p h = (h.0, ap sink_as h.1)
     goes_on_as terms number from e true after k (Ok done) turn k' p h = committed_as terms number from _ k turn k' p h
     goes_on_as terms number from e false after k (Ok done) turn k' p h = (h.0, ap sink_as h.1)
 
     stores_as : (terms : Terms) (number : ℕ) (from : Endpoint) (piece : List ℕ) (e : EndState) (k : K) (turn : Turn) (k' : K) → holds k →
-        Stores held may_refuse_append may_refuse_commit becomes terms number from piece e k turn k' →
-        Stores held' may_refuse_append' may_refuse_commit' becomes' terms number from piece e (sink_as k) turn (sink_as k')
+        Stores sinks terms number from piece e k turn k' →
+        Stores sinks' terms number from piece e (sink_as k) turn (sink_as k')
     stores_as terms number from piece e k turn k' p h =
         let appended = appended_as h.bytes k h.mid h.answer p h.appended in
         record {
@@ -145,38 +140,38 @@ module _ {S T K L : Type 0}
         }
 
     sink_acts_as : (action : Action) (from : Endpoint) (bytes : List ℕ) (e : EndState) (k : K) (turn : Turn) (k' : K) → holds k →
-        Acts left may_fail held may_refuse_append may_refuse_commit becomes action from bytes e (Sink k) turn (Sink k') →
-        Acts left' may_fail' held' may_refuse_append' may_refuse_commit' becomes' action from bytes e (Sink (sink_as k)) turn (Sink (sink_as k'))
+        Acts sources sinks action from bytes e (Sink k) turn (Sink k') →
+        Acts sources' sinks' action from bytes e (Sink (sink_as k)) turn (Sink (sink_as k'))
     sink_acts_as (Respond response) from bytes e k turn k' p h = (h.0, ap (λ (f : Files S K). Sink (sink_as (sink_or k f))) h.1)
     sink_acts_as (Send terms number) from bytes e k turn k' p h = h
     sink_acts_as (Store terms number) from bytes e k turn k' p h = stores_as terms number from _ e k turn k' p h
 
     -- a step with the one sink is a step with the other
     pub sink_step_as : (from : Endpoint) (bytes : List ℕ) (e : EndState) (k : K) (turn : Turn) (k' : K) → holds k →
-        DatagramStep left may_fail held may_refuse_append may_refuse_commit becomes from bytes e (Sink k) turn (Sink k') →
-        DatagramStep left' may_fail' held' may_refuse_append' may_refuse_commit' becomes' from bytes e (Sink (sink_as k)) turn (Sink (sink_as k'))
+        DatagramStep sources sinks from bytes e (Sink k) turn (Sink k') →
+        DatagramStep sources' sinks' from bytes e (Sink (sink_as k)) turn (Sink (sink_as k'))
     sink_step_as from bytes e k turn k' p h =
         record { decoded = h.decoded; says = h.says; acts = sink_acts_as _ from bytes e k turn k' p h.acts }
 
     -- a sink that tells the same as before is seen as one that does
-    pub sink_keeps_as : (k k' : K) → holds k → KeepsFiles left held becomes (Sink k) (Sink k') →
-        KeepsFiles left' held' becomes' (Sink (sink_as k)) (Sink (sink_as k'))
+    pub sink_keeps_as : (k k' : K) → holds k → KeepsFiles sources sinks (Sink k) (Sink k') →
+        KeepsFiles sources' sinks' (Sink (sink_as k)) (Sink (sink_as k'))
     sink_keeps_as k k' p h =
         record {
-          holding = rw (sinks.tells k, sinks.tells k') h.holding;
-          leaves = sinks.leaves k k' false p h.leaves;
+          holding = rw (sink_tells.tells k, sink_tells.tells k') h.holding;
+          leaves = sink_tells.leaves k k' false p h.leaves;
         }
 
   -- ---- files of either kind
   module _ (source_as : S → T) (sink_as : K → L) (holds : K → Type 0)
-      (sources : SourcesTell source_as left may_fail left' may_fail')
-      (sinks : SinksTell sink_as holds held may_refuse_append may_refuse_commit becomes held' may_refuse_append' may_refuse_commit' becomes') where
+      (source_tells : SourcesTell source_as sources sources')
+      (sink_tells : SinksTell sink_as holds sinks sinks') where
     -- an action with the one is an action with the other
     pub acts_as : (action : Action) (from : Endpoint) (bytes : List ℕ) (e : EndState) (files : Files S K) (turn : Turn) (files' : Files S K) → OfSink holds files →
-        Acts left may_fail held may_refuse_append may_refuse_commit becomes action from bytes e files turn files' →
-        Acts left' may_fail' held' may_refuse_append' may_refuse_commit' becomes' action from bytes e (seen_as source_as sink_as files) turn (seen_as source_as sink_as files')
-    acts_as action from bytes e (Source s) turn (Source s') p h = source_acts_as source_as sources action from bytes e s turn s' h
-    acts_as action from bytes e (Sink k) turn (Sink k') p h = sink_acts_as sink_as holds sinks action from bytes e k turn k' p h
+        Acts sources sinks action from bytes e files turn files' →
+        Acts sources' sinks' action from bytes e (seen_as source_as sink_as files) turn (seen_as source_as sink_as files')
+    acts_as action from bytes e (Source s) turn (Source s') p h = source_acts_as source_as source_tells action from bytes e s turn s' h
+    acts_as action from bytes e (Sink k) turn (Sink k') p h = sink_acts_as sink_as holds sink_tells action from bytes e k turn k' p h
     acts_as (Respond response) from bytes e (Source s) turn (Sink k') p h = (h.0, ap (seen_as source_as sink_as) h.1)
     acts_as (Respond response) from bytes e (Sink k) turn (Source s') p h = (h.0, ap (seen_as source_as sink_as) h.1)
     acts_as (Send terms number) from bytes e (Source s) turn (Sink k') p h = h
@@ -186,7 +181,7 @@ module _ {S T K L : Type 0}
 
     -- a step with the one is a step with the other
     pub step_as : (from : Endpoint) (bytes : List ℕ) (e : EndState) (files : Files S K) (turn : Turn) (files' : Files S K) → OfSink holds files →
-        DatagramStep left may_fail held may_refuse_append may_refuse_commit becomes from bytes e files turn files' →
-        DatagramStep left' may_fail' held' may_refuse_append' may_refuse_commit' becomes' from bytes e (seen_as source_as sink_as files) turn (seen_as source_as sink_as files')
+        DatagramStep sources sinks from bytes e files turn files' →
+        DatagramStep sources' sinks' from bytes e (seen_as source_as sink_as files) turn (seen_as source_as sink_as files')
     step_as from bytes e files turn files' p h =
         record { decoded = h.decoded; says = h.says; acts = acts_as _ from bytes e files turn files' p h.acts }

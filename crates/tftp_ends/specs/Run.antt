@@ -4,8 +4,8 @@ use Rattle.tftp_wire.specs.declared.mode.Mode.{Mode}
 use Rattle.tftp_negotiate.specs.Agreed.{size}
 use Rattle.tftp_negotiate.specs.declared.asked.Asked.{Asked}
 use Rattle.tftp_negotiate.specs.declared.known.Known.{Known}
-use Rattle.tftp_file.specs.Sink.{Holding}
-use Rattle.tftp_file.specs.declared.fault.StoreFault.{StoreFault}
+use Rattle.tftp_file.specs.Source.{SourceMeaning}
+use Rattle.tftp_file.specs.Sink.{SinkMeaning}
 use Rattle.tftp_file.specs.declared.files.Files.{Files}
 use Rattle.tftp_ends.specs.declared.endpoint.Endpoint.{Endpoint}
 use Rattle.tftp_ends.specs.End.{EndState, outcome_of, is_progress}
@@ -53,12 +53,12 @@ abbrev pub is_oack : Option Reply → Bool
 is_oack None = false
 is_oack (Some reply) = has_opcode 6 reply.bytes
 
-module _ {S K : Type 0} (left : S → Option (List ℕ)) (may_fail : S → ℕ → Type 0) (held : K → Option Holding) (may_refuse_append : K → List ℕ → StoreFault → Type 0) (may_refuse_commit : K → StoreFault → Type 0) (becomes : K → K → Bool → Type 0) where
+module _ {S K : Type 0} (sources : SourceMeaning S) (sinks : SinkMeaning K) where
   -- one step
   abbrev pub Takes : EndState → Event → Turn → Type 0
   Takes e (Datagram from bytes) turn =
       (files : Files S K) × (files' : Files S K)
-      × DatagramStep left may_fail held may_refuse_append may_refuse_commit becomes from bytes e files turn files'
+      × DatagramStep sources sinks from bytes e files turn files'
   Takes e Timeout turn = turn ≡ timeout_turn e
 
   -- steps of which each begins, at an open end, where the one before it ended

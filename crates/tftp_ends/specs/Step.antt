@@ -28,8 +28,8 @@ use Rattle.tftp_ends.specs.ErrorReply.{error_packet}
 use Rattle.tftp_ends.specs.Phase.{closed, refused, completed, waited}
 use Rattle.tftp_ends.specs.Action.{Decodes, datagram_action, timeout_response}
 use Rattle.tftp_ends.specs.Text.{Decoded}
-use Rattle.tftp_file.specs.Source.{Fills}
-use Rattle.tftp_file.specs.Sink.{Holding, Appends, Commits}
+use Rattle.tftp_file.specs.Source.{SourceMeaning, Fills}
+use Rattle.tftp_file.specs.Sink.{SinkMeaning, Appends, Commits}
 use Rattle.tftp_file.specs.declared.files.Files.{Files}
 use Rattle.tftp_file.specs.declared.files.Files.TheVariants.{Source, Sink}
 
@@ -142,31 +142,31 @@ pub record ReadsBlock (before after : Option (List ℕ)) (may_fail : Type 0) (wa
   pub read : answer ≡ Err file_faults.Read → may_fail
   pub memory : answer ≢ Err file_faults.Memory
 
-module _ {S : Type 0} (left : S → Option (List ℕ)) (may_fail : S → ℕ → Type 0) where
+module _ {S : Type 0} (sources : SourceMeaning S) where
   -- so many bytes were asked for, of a source as it was before and as it is after
   abbrev pub AsksFor : ℕ → S → Option (List ℕ) → List ℕ → Result ℕ FileFault → Type 0
-  AsksFor want source after piece answer = ReadsBlock (left source) after (may_fail source want) want piece answer
+  AsksFor want source after piece answer = ReadsBlock (sources.left source) after (sources.may_fail source want) want piece answer
 
   -- a source was asked for the next block, and DATA went out or the file had changed
   pub record Sends (terms : Terms) (number : ℕ) (from : Endpoint) (e : EndState) (source : S) (turn : Turn) (source' : S) : Type 0 where
     pub answer : Result ℕ FileFault
     pub piece : List ℕ
-    pub reads : AsksFor (block_length e.length terms.size number) source (left source') piece answer
+    pub reads : AsksFor (block_length e.length terms.size number) source (sources.left source') piece answer
     pub answers : turn ≡ filled_turn terms number from piece e answer
 
-module _ {K : Type 0} (held : K → Option Holding) (may_refuse_append : K → List ℕ → StoreFault → Type 0) (may_refuse_commit : K → StoreFault → Type 0) (becomes : K → K → Bool → Type 0) where
+module _ {K : Type 0} (sinks : SinkMeaning K) where
   -- a sink took the bytes of a block, or wasn't asked where there are none
   abbrev pub Appended : List ℕ → K → K → Result Done StoreFault → Type 0
   Appended [] sink sink' answer = (answer ≡ Ok tt) × (sink' ≡ sink)
   Appended (b ∷ bytes) sink sink' answer =
-      Appends (held sink) (held sink') (b ∷ bytes) answer × IfErr answer (may_refuse_append sink (b ∷ bytes)) × becomes sink sink' false
+      Appends (sinks.held sink) (sinks.held sink') (b ∷ bytes) answer × IfErr answer (sinks.may_refuse_append sink (b ∷ bytes)) × sinks.becomes sink sink' false
 
   -- a sink was asked to commit the whole
   pub record Committed (terms : Terms) (number : ℕ) (from : Endpoint) (e : EndState) (sink : K) (turn : Turn) (sink' : K) : Type 0 where
     pub answer : Result Done StoreFault
-    pub commits : Commits (held sink) (held sink') answer
-    pub refused : IfErr answer (may_refuse_commit sink)
-    pub leaves : becomes sink sink' (is_ok answer)
+    pub commits : Commits (sinks.held sink) (sinks.held sink') answer
+    pub refused : IfErr answer (sinks.may_refuse_commit sink)
+    pub leaves : sinks.becomes sink sink' (is_ok answer)
     pub answers : turn ≡ committed_turn terms number from e answer
 
   -- what follows an append: the last block is committed and then acknowledged, another is acknowledged
@@ -189,15 +189,15 @@ module _ {K : Type 0} (held : K → Option Holding) (may_refuse_append : K → L
     pub memory : answer ≢ Err store_faults.Memory
     pub rest : GoesOn terms number from e (nat_lt (length piece) terms.size) after mid answer turn sink'
 
-module _ {S K : Type 0} (left : S → Option (List ℕ)) (may_fail : S → ℕ → Type 0) (held : K → Option Holding) (may_refuse_append : K → List ℕ → StoreFault → Type 0) (may_refuse_commit : K → StoreFault → Type 0) (becomes : K → K → Bool → Type 0) where
+module _ {S K : Type 0} (sources : SourceMeaning S) (sinks : SinkMeaning K) where
   -- DATA is sent from a source
   abbrev pub SendsFrom : Terms → ℕ → Endpoint → EndState → Files S K → Turn → Files S K → Type 0
-  SendsFrom terms number from e (Source source) turn (Source source') = Sends left may_fail terms number from e source turn source'
+  SendsFrom terms number from e (Source source) turn (Source source') = Sends sources terms number from e source turn source'
   SendsFrom terms number from e _ turn _ = ⊥
 
   -- a block is stored in a sink
   abbrev pub StoresIn : Terms → ℕ → Endpoint → List ℕ → EndState → Files S K → Turn → Files S K → Type 0
-  StoresIn terms number from piece e (Sink sink) turn (Sink sink') = Stores held may_refuse_append may_refuse_commit becomes terms number from piece e sink turn sink'
+  StoresIn terms number from piece e (Sink sink) turn (Sink sink') = Stores sinks terms number from piece e sink turn sink'
   StoresIn terms number from piece e _ turn _ = ⊥
 
   -- what an end does at an action, where a datagram of these bytes came from there

@@ -275,15 +275,14 @@ impl End {
     ) -> Result<(Step, Outgoing), EndFault>
         requires { AreFilesOf self.old.side files.old }
         ensures steps { IfOk result (λ answer. (turn : Turn)
-            × DatagramStep S.left S.may_fail K.held K.may_refuse_append K.may_refuse_commit
-            K.becomes from bytes.now self.old files.old turn files.new
+            × DatagramStep S.meaning K.meaning from bytes.now self.old files.old turn files.new
             × Lends turn self.new answer.0.to answer.1 × (answer.0 ≡ told self.old turn)) }
         ensures closed { IsErrOf result EndFault.Closed ↔ IsSome (outcome_of self.old.phase) }
         ensures memory { IsErrOf result EndFault.Memory → (decoded : Option Packet)
             × Decodes bytes.now decoded
             × UsesFile (datagram_action self.old from bytes.now decoded) }
         ensures err { OnErr result ((self.new ≡ self.old)
-            × KeepsFiles S.left K.held K.becomes files.old files.new) }
+            × KeepsFiles S.meaning K.meaning files.old files.new) }
         ensures same { AreSame S.is_same K.is_same files.old files.new }
         ensures files { AreFilesOf self.new.side files.new }
     {
@@ -340,8 +339,7 @@ impl End {
     ) -> Result<Step, EndFault>
         requires { AreFilesOf self.old.side files.old }
         ensures steps { IfOk result (λ step. (turn : Turn)
-            × DatagramStep S.left S.may_fail K.held K.may_refuse_append K.may_refuse_commit
-            K.becomes from bytes.now self.old files.old turn files.new
+            × DatagramStep S.meaning K.meaning from bytes.now self.old files.old turn files.new
             × Carries turn self.new step.to out.old.items out.new.items
             × (step ≡ told self.old turn)) }
         ensures closed { IsErrOf result EndFault.Closed ↔ IsSome (outcome_of self.old.phase) }
@@ -349,7 +347,7 @@ impl End {
             × Decodes bytes.now decoded
             × IsAnswered (datagram_action self.old from bytes.now decoded) }
         ensures err { OnErr result ((self.new ≡ self.old) × (out.new.items ≡ out.old.items)
-            × KeepsFiles S.left K.held K.becomes files.old files.new) }
+            × KeepsFiles S.meaning K.meaning files.old files.new) }
         ensures same { AreSame S.is_same K.is_same files.old files.new }
         ensures files { AreFilesOf self.new.side files.new }
     {

@@ -18,21 +18,20 @@ use tftp_file::{Sink, Source};
 /// closes it or finds it closed. A step has one answer at most.
 pub fn run_bounds<S: Source, K: Sink>()
     ensures progress { (e : EndState) (run : List Taken) → IsOpening e
-        → IsRun S.left S.may_fail K.held K.may_refuse_append K.may_refuse_commit K.becomes e run
+        → IsRun S.meaning K.meaning e run
         → progress_count e run ≤ 65536 }
     ensures timeouts { (e : EndState) (run : List Taken) → IsOpening e
-        → IsRun S.left S.may_fail K.held K.may_refuse_append K.may_refuse_commit K.becomes e run
+        → IsRun S.meaning K.meaning e run
         → IsOpen (end_behind e run)
         → timeout_count run ≤ e.retries * (progress_count e run + 1) + 1 }
     ensures sent { (e : EndState) (run : List Taken) → IsOpening e
-        → IsRun S.left S.may_fail K.held K.may_refuse_append K.may_refuse_commit K.becomes e run
+        → IsRun S.meaning K.meaning e run
         → is_sender e.side ≡ true
         → count_if (opened_by_data e) + data_count run
         ≤ 1 + progress_count e run + timeout_count run }
     ensures answers { (e : EndState) (run : List Taken) → IsOpening e
-        → IsRun S.left S.may_fail K.held K.may_refuse_append K.may_refuse_commit K.becomes e run
+        → IsRun S.meaning K.meaning e run
         → IsOpen (end_behind e run) → is_sender e.side ≡ true
-        → AnswersByProgress S.left S.may_fail K.held K.may_refuse_append K.may_refuse_commit K.becomes
-        (end_behind e run) }
+        → AnswersByProgress S.meaning K.meaning (end_behind e run) }
     ensures datagrams { (run : List Taken) → datagram_count run ≤ length run }
 {}

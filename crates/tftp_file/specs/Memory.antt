@@ -1,8 +1,9 @@
--- What a sink in memory is, and when it refuses.
-use Rattle.std.specs.Prelude.{ℕ, ◌≡◌, ◌+◌, ◌<◌, Bool, true, false, List, [], length, ◌⊎◌, ⊤}
+-- What a source and a sink in memory are, and when the sink refuses.
+use Rattle.std.specs.Prelude.{ℕ, ◌≡◌, ◌+◌, ◌<◌, Bool, true, false, List, [], length, Some, ◌⊎◌, ⊤}
 use Rattle.tftp_file.specs.declared.fault.StoreFault.{StoreFault}
 use Rattle.tftp_file.specs.declared.fault.StoreFault.TheVariants.{Full, Memory}
-use Rattle.tftp_file.specs.Sink.{Holding}
+use Rattle.tftp_file.specs.Source.{SourceMeaning}
+use Rattle.tftp_file.specs.Sink.{Holding, SinkMeaning}
 
 -- what a sink holds, how many bytes it has room for, and whether it was made to refuse its commit
 pub record MemSinkState : Type 0 where
@@ -37,3 +38,17 @@ MayRefuseAppend sink piece fault = ⊥
 abbrev pub MayRefuseCommit : MemSinkState → StoreFault → Type 0
 MayRefuseCommit sink Full = (sink.holding.refuses ≡ true) ⊎ (sink.refuses_commit ≡ true)
 MayRefuseCommit sink fault = ⊥
+
+-- the meaning of a sink in memory
+abbrev pub memory_sink : SinkMeaning MemSinkState
+memory_sink =
+    record {
+      held = λ sink. Some sink.holding;
+      may_refuse_append = MayRefuseAppend;
+      may_refuse_commit = MayRefuseCommit;
+      becomes = λ before after committed. ⊤;
+    }
+
+-- the meaning of a source in memory: its wire text is known, and it never fails to read
+abbrev pub memory_source : SourceMeaning (List ℕ)
+memory_source = record { left = λ text. Some text; may_fail = λ text want. ⊥ }

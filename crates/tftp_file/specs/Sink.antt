@@ -1,15 +1,44 @@
--- What an append and a commit leave of a sink. A sink is told to refuse a call, and is told so no more.
+-- What a sink means to its caller, and what an append and a commit leave of it. A sink is told to refuse a call, and
+-- is told so no more.
 use Rattle.std.specs.Prelude.{ℕ, ◌≡◌, Bool, true, false, List, ◌++◌, Option, Some, None, Result, Ok, Err, ⊤}
+use Rattle.std.specs.Borrow.{MutBor}
 use Rattle.tftp_file.specs.declared.fault.StoreFault.{StoreFault}
 use Rattle.tftp_file.specs.declared.fault.StoreFault.TheVariants.{Full, Memory}
 use Rattle.tftp_file.specs.Block.{IsBeginningOf}
 
--- the meaning of a sink: its bytes, whether they are committed, and whether it was told to refuse
+-- what a sink holds: its bytes, whether they are committed, and whether it was told to refuse
 -- its next call
 pub record Holding : Type 0 where
   pub bytes : List ℕ
   pub committed : Bool
   pub refuses : Bool
+
+-- the meaning of sinks of one type
+pub record SinkMeaning (K : Type 0) : Type 1 where
+  -- the bytes held, whether they are committed and whether the sink was told to refuse its next call, or None where
+  -- that is not known
+  pub held : K → Option Holding
+  -- an append of these bytes may answer this fault
+  pub may_refuse_append : K → List ℕ → StoreFault → Type 0
+  -- a commit may answer this fault
+  pub may_refuse_commit : K → StoreFault → Type 0
+  -- what a call makes of all that the sink has beside what it holds: true behind a commit that succeeded, false behind
+  -- every other call
+  pub becomes : K → K → Bool → Type 0
+
+-- the meaning of what stands for a sink
+abbrev pub sink_through : {K L : Type 0} → SinkMeaning L → (K → L) → SinkMeaning K
+sink_through meaning seen =
+    record {
+      held = λ k. meaning.held (seen k);
+      may_refuse_append = λ k bytes fault. meaning.may_refuse_append (seen k) bytes fault;
+      may_refuse_commit = λ k fault. meaning.may_refuse_commit (seen k) fault;
+      becomes = λ k l committed. meaning.becomes (seen k) (seen l) committed;
+    }
+
+-- the meaning of a borrow of a sink
+abbrev pub borrowed_sink : {K : Type 0} → SinkMeaning K → SinkMeaning (MutBor K)
+borrowed_sink meaning = sink_through meaning (λ k. k.now)
 
 -- the sink after it has refused a call as it was told to
 abbrev pub told_no_more : Holding → Holding

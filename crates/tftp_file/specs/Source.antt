@@ -1,7 +1,27 @@
--- What a fill moves from a source to a buffer.
+-- What a source means to its caller, and what a fill moves from it to a buffer.
 use Rattle.std.specs.Prelude.{ℕ, ◌≡◌, ◌≤◌, List, ◌++◌, length, take, drop, min, Option, Some, None, Result, Ok, Err}
+use Rattle.std.specs.Borrow.{MutBor}
 use Rattle.tftp_file.specs.declared.fault.FileFault.{FileFault}
 use Rattle.tftp_file.specs.declared.fault.FileFault.TheVariants.{Memory, Read}
+
+-- the meaning of sources of one type
+pub record SourceMeaning (S : Type 0) : Type 1 where
+  -- the wire text that is left, or None where that is not known
+  pub left : S → Option (List ℕ)
+  -- a fill of so many bytes may answer Read
+  pub may_fail : S → ℕ → Type 0
+
+-- the meaning of what stands for a source
+abbrev pub source_through : {S T : Type 0} → SourceMeaning T → (S → T) → SourceMeaning S
+source_through meaning seen =
+    record {
+      left = λ s. meaning.left (seen s);
+      may_fail = λ s want. meaning.may_fail (seen s) want;
+    }
+
+-- the meaning of a borrow of a source
+abbrev pub borrowed_source : {S : Type 0} → SourceMeaning S → SourceMeaning (MutBor S)
+borrowed_source meaning = source_through meaning (λ s. s.now)
 
 -- the next k bytes of what was left came to the end of the buffer
 pub record Moved (left : List ℕ) (after : Option (List ℕ)) (want : ℕ) (old new : List ℕ) (k : ℕ) : Type 0 where

@@ -60,9 +60,7 @@ impl Source for FaultSource {
     ghost use Rattle.tftp_file.specs.Source.{Fills};
     ghost use Rattle.tftp_file.specs.FaultSource.{FailsAt};
 
-    ghost left = { λ s. Some s.left };
-
-    ghost may_fail = { FailsAt };
+    ghost meaning = { record { left = λ s. Some s.left; may_fail = FailsAt } };
 
     /// It holds no borrow: this says nothing.
     ghost is_same = { λ _ _. ⊤ };

@@ -46,11 +46,10 @@ impl MemSource {
 }
 
 impl Source for MemSource {
-    ghost use Rattle.std.specs.Prelude.{Some, ⊤};
+    ghost use Rattle.std.specs.Prelude.{⊤};
+    ghost use Rattle.tftp_file.specs.Memory.{memory_source};
 
-    ghost left = { λ s. Some s };
-
-    ghost may_fail = { λ _ _. ⊥ };
+    ghost meaning = { memory_source };
 
     /// It holds no borrow: this says nothing.
     ghost is_same = { λ _ _. ⊤ };
@@ -141,17 +140,13 @@ impl MemSink {
 }
 
 impl Sink for MemSink {
-    ghost use Rattle.std.specs.Prelude.{Some, ⊤};
+    ghost use Rattle.std.specs.Prelude.{Some};
     ghost use Rattle.std.specs.Prelude.{◌≡◌, ◌≢◌, ◌≤◌, ◌<◌, ◌+◌, ◌++◌, true, false, length, take, Err, IfErr, IsErr, refl};
     ghost use Rattle.std.proofs.Common.{◌∙◌};
     ghost use Rattle.tftp_file.specs.Sink.{Appends, Commits};
-    ghost use Rattle.tftp_file.specs.Memory.{IsFull, MayRefuseAppend, MayRefuseCommit};
+    ghost use Rattle.tftp_file.specs.Memory.{IsFull, MayRefuseAppend, MayRefuseCommit, memory_sink};
 
-    ghost held = { λ s. Some s.holding };
-
-    ghost may_refuse_append = { MayRefuseAppend };
-
-    ghost may_refuse_commit = { MayRefuseCommit };
+    ghost meaning = { memory_sink };
 
     /// It holds no borrow: its room stays, and whether it was made to refuse its commit.
     ghost is_same = { λ s t. (t.room ≡ s.room) × (t.refuses_commit ≡ s.refuses_commit) };

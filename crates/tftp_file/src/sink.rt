@@ -1,8 +1,7 @@
 //! What a receiver writes to: a file that is appended to, and then committed.
 
-ghost use Rattle.std.specs.Prelude.{◌≡◌, ◌≢◌, Err, IfErr, is_ok, Bool, false, List, ℕ, Option};
-ghost use Rattle.tftp_file.specs.Sink.{Appends, Commits, Holding};
-ghost use Rattle.tftp_file.specs.declared.fault.StoreFault.{StoreFault};
+ghost use Rattle.std.specs.Prelude.{◌≡◌, ◌≢◌, Err, IfErr, is_ok, false};
+ghost use Rattle.tftp_file.specs.Sink.{Appends, Commits, SinkMeaning};
 
 use crate::StoreFault;
 
@@ -12,32 +11,23 @@ use crate::StoreFault;
 /// its calls promise only which answers they give. Some sinks can be told to refuse their next call:
 /// it answers `Full`, changes nothing else, and is told no more.
 pub trait Sink {
-    /// The bytes held, whether they are committed and whether the sink was told to refuse its next
-    /// call, or `None` where that is not known.
-    ghost held: { Self → Option Holding };
-
-    /// An append of these bytes may answer this fault.
-    ghost may_refuse_append: { Self → List ℕ → StoreFault → Type 0 } = { λ _ _ _. Unit {0} };
-
-    /// A commit may answer this fault.
-    ghost may_refuse_commit: { Self → StoreFault → Type 0 } = { λ _ _. Unit {0} };
+    /// What it holds, where that is known (`held`), which faults an append and a commit may answer
+    /// (`may_refuse_append`, `may_refuse_commit`), and what a call makes of all that the sink has
+    /// beside what it holds (`becomes`).
+    ghost meaning: { SinkMeaning Self };
 
     /// The second is the first at a later time: it holds the same borrows. Of a sink that holds no
     /// borrow an implementation may say what never changes, or nothing.
     ghost is_same: { Self → Self → Type 0 };
-
-    /// What an append or a commit makes of all that the sink has beside what it holds: `true` behind a
-    /// commit that succeeded, `false` behind every other call.
-    ghost becomes: { Self → Self → Bool → Type 0 } = { λ _ _ _. Unit {0} };
 
     /// Puts the bytes at the end of what is held.
     ///
     /// After `Memory` nothing has changed. After another fault either nothing has changed, or a
     /// beginning of the bytes has been added, perhaps none, and what is held is not committed.
     fn append(&mut self, bytes: &[u8]) -> Result<(), StoreFault>
-        ensures appends { Appends (held self.old) (held self.new) bytes.now result }
-        ensures refused { IfErr result (may_refuse_append self.old bytes.now) }
-        ensures leaves { becomes self.old self.new false }
+        ensures appends { Appends (meaning.held self.old) (meaning.held self.new) bytes.now result }
+        ensures refused { IfErr result (meaning.may_refuse_append self.old bytes.now) }
+        ensures leaves { meaning.becomes self.old self.new false }
         ensures same { is_same self.old self.new };
 
     /// Makes what is held the file's contents for good.
@@ -45,9 +35,9 @@ pub trait Sink {
     /// After a fault what is held, and whether it is committed, are as before. It never fails with
     /// `Memory`: out of memory it answers `Full`.
     fn commit(&mut self) -> Result<(), StoreFault>
-        ensures commits { Commits (held self.old) (held self.new) result }
-        ensures refused { IfErr result (may_refuse_commit self.old) }
-        ensures leaves { becomes self.old self.new (is_ok result) }
+        ensures commits { Commits (meaning.held self.old) (meaning.held self.new) result }
+        ensures refused { IfErr result (meaning.may_refuse_commit self.old) }
+        ensures leaves { meaning.becomes self.old self.new (is_ok result) }
         ensures not_memory { result ≢ Err StoreFault.Memory }
         ensures same { is_same self.old self.new };
 
@@ -58,22 +48,17 @@ pub trait Sink {
     ghost joins: { (a b c : Self) → is_same a b → is_same b c → is_same a c };
 
     /// A sink that no call has changed has all that it had.
-    ghost unmoved: { (a : Self) → becomes a a false };
+    ghost unmoved: { (a : Self) → meaning.becomes a a false };
 }
 
 impl<K: Sink> Sink for &mut K {
     ghost use Rattle.std.specs.Prelude.{◌≡◌, refl};
     ghost use Rattle.std.proofs.Common.{◌∙◌};
+    ghost use Rattle.tftp_file.specs.Sink.{borrowed_sink};
 
-    ghost held = { λ k. K.held k.now };
-
-    ghost may_refuse_append = { λ k bytes fault. K.may_refuse_append k.now bytes fault };
-
-    ghost may_refuse_commit = { λ k fault. K.may_refuse_commit k.now fault };
+    ghost meaning = { borrowed_sink K.meaning };
 
     ghost is_same = { λ k l. (l.ghost_name ≡ k.ghost_name) × K.is_same k.now l.now };
-
-    ghost becomes = { λ k l committed. K.becomes k.now l.now committed };
 
     ghost stays = { λ a. (refl, K.stays a.now) };
 

@@ -1,7 +1,7 @@
 //! What a sender reads from: wire text that is given in pieces.
 
-ghost use Rattle.std.specs.Prelude.{◌≡◌, ◌≤◌, Err, Option, List, ℕ, vec_capacity};
-ghost use Rattle.tftp_file.specs.Source.{Fills};
+ghost use Rattle.std.specs.Prelude.{◌≡◌, ◌≤◌, Err, vec_capacity};
+ghost use Rattle.tftp_file.specs.Source.{Fills, SourceMeaning};
 
 use crate::FileFault;
 
@@ -10,11 +10,9 @@ use crate::FileFault;
 /// Of a source over memory a contract knows what is left; of one over a file it does not, and then
 /// `fill` promises only which answers it gives.
 pub trait Source {
-    /// The wire text that is left, or `None` where that is not known.
-    ghost left: { Self → Option (List ℕ) };
-
-    /// A fill of so many bytes may answer `Read`.
-    ghost may_fail: { Self → ℕ → Type 0 } = { λ _ _. Unit {0} };
+    /// What is left of it, where that is known (`left`), and which fills may answer `Read`
+    /// (`may_fail`).
+    ghost meaning: { SourceMeaning Self };
 
     /// The second is the first at a later time: it holds the same borrows. Of a source that holds no
     /// borrow this says nothing.
@@ -27,9 +25,9 @@ pub trait Source {
     /// used no more. It fails with `Memory` where `out` cannot grow, and then nothing has changed. The
     /// capacity of `out` never shrinks.
     fn fill(&mut self, want: usize, out: &mut Vec<u8>) -> Result<usize, FileFault>
-        ensures fills { Fills (left self.old) (left self.new) want
+        ensures fills { Fills (meaning.left self.old) (meaning.left self.new) want
             out.old.items out.new.items result }
-        ensures read { result ≡ Err FileFault.Read → may_fail self.old want }
+        ensures read { result ≡ Err FileFault.Read → meaning.may_fail self.old want }
         ensures capacity { vec_capacity out.old ≤ vec_capacity out.new }
         ensures same { is_same self.old self.new };
 
@@ -43,10 +41,9 @@ pub trait Source {
 impl<S: Source> Source for &mut S {
     ghost use Rattle.std.specs.Prelude.{◌≡◌, refl};
     ghost use Rattle.std.proofs.Common.{◌∙◌};
+    ghost use Rattle.tftp_file.specs.Source.{borrowed_source};
 
-    ghost left = { λ s. S.left s.now };
-
-    ghost may_fail = { λ s want. S.may_fail s.now want };
+    ghost meaning = { borrowed_source S.meaning };
 
     ghost is_same = { λ s t. (t.ghost_name ≡ s.ghost_name) × S.is_same s.now t.now };
 

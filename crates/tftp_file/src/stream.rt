@@ -71,7 +71,7 @@ impl<R: Read> Source for ReadSource<R> {
     ghost use Rattle.std.specs.Prelude.{⊤};
     ghost use Rattle.tftp_file.specs.Stream.{source_left};
 
-    ghost left = { source_left R.remaining };
+    ghost meaning = { record { left = source_left R.remaining; may_fail = λ _ _. ⊤ } };
 
     /// It says nothing of the reader.
     ghost is_same = { λ _ _. ⊤ };
@@ -296,11 +296,12 @@ impl<W: Write> Sink for WriteSink<W> {
     ghost use Rattle.tftp_file.specs.declared.fault.StoreFault.TheVariants.{Io};
     ghost use Rattle.tftp_file.specs.Stream.{sink_holding};
 
-    ghost held = { sink_holding W.contents };
-
-    ghost may_refuse_append = { λ _ _ fault. fault ≡ Io };
-
-    ghost may_refuse_commit = { λ _ fault. fault ≡ Io };
+    ghost meaning = { record {
+      held = sink_holding W.contents;
+      may_refuse_append = λ _ _ fault. fault ≡ Io;
+      may_refuse_commit = λ _ fault. fault ≡ Io;
+      becomes = λ _ _ _. ⊤;
+    } };
 
     /// It says nothing of the writer.
     ghost is_same = { λ _ _. ⊤ };

@@ -5,6 +5,7 @@ use Rattle.std.proofs.lemmas.Bool.{true≢false}
 use Rattle.std.proofs.lemmas.List.{append-nil}
 use Rattle.tftp_wire.specs.declared.packet.Packet.{Packet}
 use Rattle.tftp_negotiate.specs.Ranges.{IsBlockSize}
+use Rattle.tftp_file.specs.Memory.{memory_source}
 use Rattle.tftp_ends.specs.declared.record.Record.{Record}
 use Rattle.tftp_ends.specs.Action.{Decodes}
 use Rattle.tftp_ends.specs.End.{EndState, is_client, outcome_of, record_of}
@@ -65,7 +66,7 @@ module _ (from : Endpoint) (bytes : List ℕ) (before : PlayedServer) (ps : List
   asking = record { old = before; from = from; bytes = bytes; tid = port }
 
   abbrev Step : PortLeft → Type 0
-  Step result = RequestStep memory_meaning before from bytes port result
+  Step result = RequestStep memory_meaning memory_source before from bytes port result
 
   has : (sent : List Datagram) → HasPort (w sent)
   has sent = let n = ends_length before.held ps in let l : 1024 + length (ends_of before ps) ≤ 65535 = omega (arith, n, counts, is, fits) in l

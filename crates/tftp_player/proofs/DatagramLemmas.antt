@@ -2,6 +2,7 @@
 use Rattle.std.proofs.Common.{◌≡◌, ◌≢◌, ℕ, ◌+◌, ◌<◌, Bool, true, false, List, [], length, Option, Some, None, refl, sym, ap, ◌∙◌, subst, inl, inr}
 use Rattle.std.specs.Prelude.{◌&&◌, not, is_some, slice_get, slice_set, slice_index_or}
 use Rattle.std.proofs.lemmas.List.{set-get_or}
+use Rattle.tftp_file.specs.Memory.{memory_source}
 use Rattle.tftp_file.specs.declared.files.Files.{Files}
 use Rattle.tftp_file.specs.Sink.{Holding}
 use Rattle.tftp_ends.specs.declared.record.Record.{Record}
@@ -91,8 +92,8 @@ module _ (port : ℕ) (s s' : Served) (before after : PlayedServer) (from : Endp
   commits_last : CommitsLast h.files h.end.phase
   commits_last = subst (λ (k : Transfer). CommitsLast k.files k.end.phase) (sym is_kept) kept_here.commits
 
-  steps_so : StepIn memory_meaning from bytes h.end (files_in (with_told before.store s.refuses) s.path before.config.overwrite h.files) t.turn (files_in t.store t.next.path before.config.overwrite t.next.files)
-  steps_so = subst (λ (p : List ℕ). StepIn memory_meaning from bytes h.end (files_in (with_told before.store s.refuses) p before.config.overwrite h.files) t.turn (files_in t.store t.next.path before.config.overwrite t.next.files)) path_is t.steps
+  steps_so : StepIn memory_meaning memory_source from bytes h.end (files_in (with_told before.store s.refuses) s.path before.config.overwrite h.files) t.turn (files_in t.store t.next.path before.config.overwrite t.next.files)
+  steps_so = subst (λ (p : List ℕ). StepIn memory_meaning memory_source from bytes h.end (files_in (with_told before.store s.refuses) p before.config.overwrite h.files) t.turn (files_in t.store t.next.path before.config.overwrite t.next.files)) path_is t.steps
 
   steps_end : EndStep false in_way from bytes h.end (held_files s.refuses h.files) t.turn held_now
   steps_end = end_step from bytes h.end (with_told before.store s.refuses) t.store s.path t.next.path before.config.overwrite t.turn h.files t.next.files steps_so

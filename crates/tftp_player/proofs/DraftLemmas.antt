@@ -6,6 +6,7 @@ use Rattle.std.proofs.lemmas.Option.{same_Some}
 use Rattle.tftp_wire.specs.declared.packet.Packet.{Packet}
 use Rattle.tftp_wire.specs.declared.packet.Packet.TheVariants.{Read, Write, Data, Ack, Error, Oack}
 use Rattle.tftp_wire.specs.Reading.{has_error_opcode}
+use Rattle.tftp_file.specs.Memory.{memory_source}
 use Rattle.tftp_file.specs.Sink.{Holding, UnlessTold, AppendsFreely, CommitsFreely, told_no_more, with_piece, as_committed}
 use Rattle.tftp_file.specs.declared.fault.StoreFault.{StoreFault}
 use Rattle.tftp_file.specs.declared.fault.StoreFault.TheVariants as faults
@@ -23,7 +24,7 @@ use Rattle.tftp_ends.specs.Receiver.{dally_response}
 use Rattle.tftp_ends.specs.Step.{Done, Turn, Acts, Appended, GoesOn, after, committed_turn, holding}
 use Rattle.tftp_file.specs.declared.files.Files.{Files}
 use Rattle.tftp_file.specs.declared.files.Files.TheVariants.{Source, Sink}
-use Rattle.tftp_server.specs.Draft.{drafting_holds, MayRefuseAppend, MayRefuseCommit, DraftingBecomes, files_in, KeepsStore}
+use Rattle.tftp_server.specs.Draft.{DraftingBecomes, files_in, KeepsStore, drafting_sink}
 use Rattle.tftp_server.specs.Memory.{memory_meaning}
 use Rattle.tftp_server.specs.State.{draft_of}
 use Rattle.tftp_server.specs.Steps.{StepIn}
@@ -33,7 +34,7 @@ use Rattle.tftp_player.specs.Clients.{left_in}
 use Rattle.tftp_player.specs.Played.{served_as}
 use Rattle.tftp_player.specs.Serving.{CommitsLast}
 use Rattle.tftp_player.specs.World.{StoredFile, OpenedEnd, end_after, has_committed}
-use Rattle.tftp_player.specs.WorldSteps.{IsStored, FilesAfter, never_fails}
+use Rattle.tftp_player.specs.WorldSteps.{IsStored, FilesAfter}
 use Rattle.tftp_player.specs.declared.served.Served.{Served}
 use Rattle.tftp_player.proofs.FileLemmas.{stored_so}
 use Rattle.tftp_player.proofs.ServerTurns.{Drafts, seen}
@@ -154,7 +155,7 @@ taken_by false before after h = same_Some after (as_committed before) h
 
 module _ (from : Endpoint) (bytes : List ℕ) (e : EndState) (turn : Turn) (d d' : Drafts) where
   appended_un : (piece : List ℕ) (mid : Drafts) (answer : Result Done StoreFault) → d.draft.committed ≡ false →
-      Appended (drafting_holds memory_meaning) (MayRefuseAppend memory_meaning) (MayRefuseCommit memory_meaning) (DraftingBecomes memory_meaning) piece d mid answer → IsUncommitted d mid
+      Appended (drafting_sink memory_meaning) piece d mid answer → IsUncommitted d mid
   appended_un [] mid answer un h = subst (IsUncommitted d) (sym h.1) (record { path = refl; replace = refl; files = refl; not_yet = un })
   appended_un (b ∷ piece) mid answer un h = record {
     path = h.2.path;
@@ -191,14 +192,14 @@ module _ (from : Endpoint) (bytes : List ℕ) (e : EndState) (turn : Turn) (d d'
   })
 
   goes_leaves : (terms : Terms) (number : ℕ) (last : Bool) (held : List ℕ) (mid : Drafts) (answer : Result Done StoreFault) → d.draft.committed ≡ false → IsUncommitted d mid →
-      GoesOn (drafting_holds memory_meaning) (MayRefuseAppend memory_meaning) (MayRefuseCommit memory_meaning) (DraftingBecomes memory_meaning) terms number from e last held mid answer turn d' → Leaves turn d d'
+      GoesOn (drafting_sink memory_meaning) terms number from e last held mid answer turn d' → Leaves turn d d'
   goes_leaves terms number last held mid (Err fault) un u h = leaves_uncommitted turn d d' (subst (IsUncommitted d) (sym h.1) u)
   goes_leaves terms number true held mid (Ok done) un u h = committed_leaves terms number held mid h.answer un u h.commits h.leaves h.answers
   goes_leaves terms number false held mid (Ok done) un u h = leaves_uncommitted turn d d' (subst (IsUncommitted d) (sym h.1) u)
 
   abbrev ActsSo : Action → Type 0
   ActsSo action =
-      Acts (λ (s : List ℕ). Some s) never_fails (drafting_holds memory_meaning) (MayRefuseAppend memory_meaning) (MayRefuseCommit memory_meaning) (DraftingBecomes memory_meaning) action from bytes e (Sink d) turn (Sink d')
+      Acts memory_source (drafting_sink memory_meaning) action from bytes e (Sink d) turn (Sink d')
 
   abbrev sink_in : Files (List ℕ) Drafts → Drafts
   sink_in (Source left) = d
@@ -227,7 +228,7 @@ pub record ServedLeaves (x : OpenedEnd) (turn : Turn) (held : Files (List ℕ) H
   pub commits : CommitsLast next turn.end.phase
 
 module _ (port : ℕ) (s : Served) (from : Endpoint) (bytes : List ℕ) (e : EndState) (request : List ℕ) (store store' : Stored) (path' : List ℕ) (replace : Bool) (turn : Turn) where
-  pub served_leaves : (files files' : Files (List ℕ) Drafted) → StepIn memory_meaning from bytes e (files_in store s.path replace files) turn (files_in store' path' replace files') →
+  pub served_leaves : (files files' : Files (List ℕ) Drafted) → StepIn memory_meaning memory_source from bytes e (files_in store s.path replace files) turn (files_in store' path' replace files') →
       KeepsStore files store store' → AreSame (λ (a b : List ℕ). ⊤) (λ (a b : Drafted). ⊤) files files' → CommitsLast files e.phase →
       ServedLeaves (served_as port s e (left_in files) (draft_of files) request) turn (held_files store'.refuses files') files' replace store.files store'.files
   served_leaves (Source left) (Source left') h stays kind k = record { files_after = ap (λ (st : Stored). st.files) stays; commits = tt }

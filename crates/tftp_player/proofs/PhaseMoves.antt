@@ -7,6 +7,7 @@ use Rattle.std.proofs.lemmas.Bool.{true≢false, ltb-true, eqb-true, ltb-false}
 use Rattle.tftp_wire.specs.declared.packet.Packet.{Packet as WirePacket}
 use Rattle.tftp_wire.specs.declared.packet.Packet.TheVariants.{Read, Write, Data, Ack, Error, Oack}
 use Rattle.tftp_wire.specs.Spelling.{Spells}
+use Rattle.tftp_file.specs.Memory.{memory_source}
 use Rattle.tftp_file.specs.declared.fault.StoreFault.{StoreFault}
 use Rattle.tftp_file.specs.declared.files.Files.{Files}
 use Rattle.tftp_file.specs.Block.{block_count}
@@ -33,7 +34,7 @@ use Rattle.tftp_player.specs.Rules.{message}
 use Rattle.tftp_player.specs.Said.{said}
 use Rattle.tftp_player.specs.Shows.{EndView, IsShown}
 use Rattle.tftp_player.specs.World.{OpenedEnd, files_of, end_after, text_of as text_of_end, view_of_end}
-use Rattle.tftp_player.specs.WorldSteps.{never_fails, may_refuse_append, nothing_else}
+use Rattle.tftp_player.specs.WorldSteps.{world_sink}
 use Rattle.tftp_player.specs.WorldKept.{EndKept, sent_text}
 use Rattle.tftp_player.proofs.Endpoints.{endpoint_from}
 use Rattle.tftp_player.proofs.Actions.{Stands, stores, refuses_next}
@@ -67,7 +68,7 @@ same_endpoints a b e =
 abbrev pub Acting : List EndView → List Message → ℕ → OpenedEnd → (Holding → StoreFault → Type 0) → Endpoint → List ℕ → Action → Type 0
 Acting views messages k x refuses_commit from bytes action =
     (turn : Turn) (held : Files (List ℕ) Holding) →
-    Acts (λ (s : List ℕ). Some s) never_fails (λ (h : Holding). Some h) may_refuse_append refuses_commit nothing_else action from bytes x.state (files_of x) turn held →
+    Acts memory_source (world_sink refuses_commit) action from bytes x.state (files_of x) turn held →
     Goes views messages k x turn (end_after x turn held)
 
 -- the packet that was heard was sent
@@ -176,7 +177,7 @@ module _ (views : List EndView) (messages : List Message) (k : ℕ) (x0 : Opened
       (λ f. refuse_receiver replies.FileTooLarge outcomes.TooLarge)
       (λ f. if_acts P (is_readable x0.state.mode x0.state.held piece last) (Store terms number) (Respond (Refuse (Some terms) replies.NotNetascii outcomes.NotNetascii))
       (λ readable turn held h. block_goes views messages k receiver terms number from piece kept got readable refuses_commit turn held
-      (subst (λ (bs : List ℕ). StoresIn (λ (z : List ℕ). Some z) never_fails (λ (z : Holding). Some z) may_refuse_append refuses_commit nothing_else terms number from bs receiver.state (files_of receiver) turn held) (data_of number piece bytes spelled) h))
+      (subst (λ (bs : List ℕ). StoresIn memory_source (world_sink refuses_commit) terms number from bs receiver.state (files_of receiver) turn held) (data_of number piece bytes spelled) h))
       (λ g. refuse_receiver replies.NotNetascii outcomes.NotNetascii)))
 
   data_acts : (number : ℕ) (piece : List ℕ) → Spells (Data number piece) bytes → Contains messages (message from x0.address (Says_data number piece)) →

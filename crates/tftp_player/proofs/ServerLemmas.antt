@@ -18,6 +18,7 @@ use Rattle.tftp_negotiate.specs.declared.known.Kind.TheVariants as kinds
 use Rattle.tftp_negotiate.specs.declared.known.Known.{Known}
 use Rattle.tftp_negotiate.specs.declared.limits.Limits.{Limits}
 use Rattle.tftp_negotiate.specs.declared.refusal.Refusal.{Refusal}
+use Rattle.tftp_file.specs.Memory.{memory_source}
 use Rattle.tftp_file.specs.Block.{block}
 use Rattle.tftp_file.specs.Netascii.{wire_text}
 use Rattle.tftp_file.specs.Source.{Fills, Moved}
@@ -40,7 +41,6 @@ use Rattle.tftp_player.specs.Machine.{Endpoint}
 use Rattle.tftp_player.specs.World.{WorldState, StoredFile, OpenedEnd, file_at, in_the_way}
 use Rattle.tftp_player.specs.Openings.{sending_end, receiving_end}
 use Rattle.tftp_server.specs.Port.{Ask, Ignores, Refuses, Reads, Writes, Service, Silent, Refused, Sends, Takes, accept_reply, asks, by_draft, by_file, by_length}
-use Rattle.tftp_player.specs.WorldSteps.{never_fails}
 use Rattle.tftp_player.specs.Requests.{begun_of, open_transfers, opened_of, served, service}
 use Rattle.tftp_player.specs.Serving.{PlayedServer, Transfer}
 use Rattle.tftp_player.proofs.WaitingMoves.{agreed_size}
@@ -89,7 +89,7 @@ cannot_be_short text m after piece e (Err file_faults.Memory) fills short memory
 
 -- a read that is served opens the end that the world says
 pub read_end : (w : WorldState) (peer : Endpoint) (request : List ℕ) (mode : Mode) (path file : List ℕ) (agreed : List Known) (m retries : ℕ) (rest : List ℕ) (e : EndState) →
-    m ≡ length (wire_text mode file) → retries ≡ w.retries → ServesRead (λ (s : List ℕ). Some s) never_fails agreed peer mode m retries (wire_text mode file) rest e →
+    m ≡ length (wire_text mode file) → retries ≡ w.retries → ServesRead memory_source agreed peer mode m retries (wire_text mode file) rest e →
     (e ≡ (sending_end w peer request mode path file agreed).state) × (rest ≡ (sending_end w peer request mode path file agreed).left)
 read_end w peer request mode path file [] m retries rest e whole r s =
     let text = wire_text mode file in
@@ -161,7 +161,7 @@ module _ (w : WorldState) (asking : PortAsking) (came : PortCame) (s : IsServerO
   Did what = PortDid w what asking (port_left came asking)
 
   abbrev Has_sent : Service → Opening (List ℕ) → Type 0
-  Has_sent what file = Sent memory_meaning asking.old asking.from asking.bytes what (Ok file) came
+  Has_sent what file = Sent memory_meaning memory_source asking.old asking.from asking.bytes what (Ok file) came
 
   refused : (reply : ErrorReply) → came ≡ An_error reply asking.old.store → Did (Refused reply)
   refused reply h = ap (λ (c : PortCame). port_left c asking) h
@@ -199,8 +199,8 @@ module _ (w : WorldState) (asking : PortAsking) (came : PortCame) (s : IsServerO
 
   -- the file was opened, or is not there
   by_store : (path : List ℕ) (mode : Mode) (options : List RawOption) (file : Result (Opening (List ℕ)) StoreFault) (there : Option (List ℕ)) → file_at w.files path ≡ there →
-      Opens (λ (t : List ℕ). Some t) (Some asking.old.store) path mode file → IfErr file (MayRefuseOpen asking.old.store path) → file ≢ Err store_faults.Memory →
-      Sent memory_meaning asking.old asking.from asking.bytes (by_file asking.old.config.limits path mode options (opened_length file)) file came → Did (by_file w.limits path mode options (opened_of mode there))
+      Opens memory_source (Some asking.old.store) path mode file → IfErr file (MayRefuseOpen asking.old.store path) → file ≢ Err store_faults.Memory →
+      Sent memory_meaning memory_source asking.old asking.from asking.bytes (by_file asking.old.config.limits path mode options (opened_length file)) file came → Did (by_file w.limits path mode options (opened_of mode there))
   by_store path mode options (Ok opened) None e opens may memory h =
       absurd (let f : None ≡ Some opens.0 = sym e ∙ (ap (λ (files : List StoredFile). file_at files path) (sym s.files) ∙ opens.1) in cc)
   by_store path mode options (Ok opened) (Some file) e opens may memory h =
@@ -222,7 +222,7 @@ module _ (w : WorldState) (asking : PortAsking) (came : PortCame) (s : IsServerO
   -- a draft was begun, or a file is in its way
   by_begun : (path : List ℕ) (mode : Mode) (agreed : List Known) (store : Stored) (draft : Result Drafted StoreFault) (there : Option (List ℕ)) → is_taken asking.old.config.overwrite path asking.old.store.files ≡ is_some there →
       Begins (λ (d : Drafted). Some d) (Some asking.old.store) (Some store) path asking.old.config.overwrite draft → IfErr draft (MayRefuseBegin asking.old.store path asking.old.config.overwrite) →
-      Taken memory_meaning asking.old asking.from asking.bytes (by_draft path mode agreed draft) draft store came → Did (by_draft path mode agreed (begun_of there))
+      Taken memory_meaning memory_source asking.old asking.from asking.bytes (by_draft path mode agreed draft) draft store came → Did (by_draft path mode agreed (begun_of there))
   by_begun path mode agreed store (Ok draft) None taken begins may h =
       let x = receiving_end w asking.from asking.bytes mode path agreed in
       ap (λ (c : PortCame). port_left c asking) (h
@@ -245,7 +245,7 @@ module _ (w : WorldState) (asking : PortAsking) (came : PortCame) (s : IsServerO
       ∙ ap (λ (files : List StoredFile). is_some (in_the_way w.overwrite (file_at files path))) s.files)
 
   -- what the port asked came to what it comes to in the world
-  port_did : (ask : Ask) → Goes memory_meaning asking.old asking.from asking.bytes ask came → Did (served w ask)
+  port_did : (ask : Ask) → Goes memory_meaning memory_source asking.old asking.from asking.bytes ask came → Did (served w ask)
   port_did Ignores h = ap (λ (c : PortCame). port_left c asking) h
   port_did (Refuses reply) h = refused reply h
   port_did (Reads path mode options) h = by_store path mode options h.file (file_at w.files path) refl h.opens h.refused h.memory h.goes_on
@@ -253,7 +253,7 @@ module _ (w : WorldState) (asking : PortAsking) (came : PortCame) (s : IsServerO
 
 -- the port did at a datagram as the world's server does
 pub request_did : (w : WorldState) (asking : PortAsking) (result : PortLeft) (s : IsServerOf w asking.old) (max : IsBlockSize w.limits.max_block) (decoded : Option Packet) → Decodes asking.bytes decoded →
-    (h : RequestStep memory_meaning asking.old asking.from asking.bytes asking.tid result) → PortDid w (service w h.repeated asking.bytes decoded) asking result
+    (h : RequestStep memory_meaning memory_source asking.old asking.from asking.bytes asking.tid result) → PortDid w (service w h.repeated asking.bytes decoded) asking result
 request_did w asking result s max decoded says h =
     let bytes = asking.bytes in
     let repeated = h.repeated in
@@ -264,4 +264,4 @@ request_did w asking result s max decoded says h =
     ∙ ap (λ (l : Limits). asks w.cap (open_transfers w.ends) repeated l bytes decoded) s.limits)) in
     subst (λ (r : PortLeft). PortDid w (service w repeated bytes decoded) asking r) (sym h.left)
     (port_did w asking h.came s max (asks w.cap (open_transfers w.ends) repeated w.limits bytes decoded)
-    (subst (λ (a : Ask). Goes memory_meaning asking.old asking.from asking.bytes a h.came) same h.goes))
+    (subst (λ (a : Ask). Goes memory_meaning memory_source asking.old asking.from asking.bytes a h.came) same h.goes))

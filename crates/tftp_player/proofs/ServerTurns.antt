@@ -1,7 +1,8 @@
 -- A turn of a transfer that the server holds, in the words of the world's ends.
-use Rattle.std.proofs.Common.{◌≡◌, ℕ, Bool, true, false, List, Some, refl, sym, ap, ◌∙◌, subst, inl, inr}
+use Rattle.std.proofs.Common.{◌≡◌, ℕ, Bool, true, false, List, refl, sym, ap, ◌∙◌, subst, inl, inr}
 use Rattle.std.specs.Prelude.{◌&&◌, not, if◌then◌else◌}
 use Rattle.std.proofs.lemmas.Option.{same_Some}
+use Rattle.tftp_file.specs.Memory.{memory_source}
 use Rattle.tftp_file.specs.Sink.{Holding}
 use Rattle.tftp_file.specs.declared.fault.StoreFault.{StoreFault}
 use Rattle.tftp_file.specs.declared.fault.StoreFault.TheVariants.{Missing, Exists, Full, Io, Memory}
@@ -10,13 +11,13 @@ use Rattle.tftp_file.specs.declared.files.Files.TheVariants.{Source, Sink}
 use Rattle.tftp_ends.specs.End.{EndState, is_sender}
 use Rattle.tftp_ends.specs.OtherSinks.{SourcesTell, SinksTell, step_as}
 use Rattle.tftp_ends.specs.Step.{Turn}
-use Rattle.tftp_server.specs.Draft.{Drafting, files_in, drafting_holds, MayRefuseAppend, MayRefuseCommit, DraftingBecomes}
+use Rattle.tftp_server.specs.Draft.{Drafting, files_in, MayRefuseAppend, MayRefuseCommit, DraftingBecomes, drafting_sink}
 use Rattle.tftp_server.specs.Memory.{memory_meaning}
 use Rattle.tftp_server.specs.Steps.{StepIn}
 use Rattle.tftp_server.specs.Store.{Stored, Drafted, FileList, is_taken}
 use Rattle.tftp_player.specs.Machine.{Endpoint}
 use Rattle.tftp_player.specs.World.{OpenedEnd, StoredFile, file_at, in_the_way, in_state, files_of, holding_of, with_files, end_after}
-use Rattle.tftp_player.specs.WorldSteps.{EndStep, never_fails, may_refuse_append, may_refuse_commit, nothing_else, FilesAfter}
+use Rattle.tftp_player.specs.WorldSteps.{EndStep, may_refuse_append, may_refuse_commit, FilesAfter, world_sink}
 use Rattle.tftp_player.proofs.FileLemmas.{not_taken, is_in_the_way}
 use Rattle.tftp_player.proofs.StageLemmas.{held_files}
 
@@ -77,19 +78,19 @@ module _ (replace : Bool) (path : List ℕ) (files : FileList) where
   still_for : (d d' : Drafts) → IsFor replace path files d → DraftingBecomes memory_meaning d d' false → IsFor replace path files d'
   still_for d d' p h = (h.path ∙ p.0, h.replace ∙ p.1, same_Some d'.store.files d.store.files h.files ∙ p.2)
 
-  sinks : SinksTell seen (IsFor replace path files) (drafting_holds memory_meaning) (MayRefuseAppend memory_meaning) (MayRefuseCommit memory_meaning) (DraftingBecomes memory_meaning)
-      (λ (h : Holding). Some h) may_refuse_append (may_refuse_commit false (in_the_way replace (file_at files path))) nothing_else
+  sinks : SinksTell seen (IsFor replace path files) (drafting_sink memory_meaning)
+      (world_sink (may_refuse_commit false (in_the_way replace (file_at files path))))
   sinks = record { tells = λ d. refl; keeps = still_for; appends = may_append; commits = may_commit; leaves = λ d d' committed p h. tt }
 
-sources : SourcesTell (λ (s : List ℕ). s) (λ (s : List ℕ). Some s) never_fails (λ (s : List ℕ). Some s) never_fails
+sources : SourcesTell (λ (s : List ℕ). s) memory_source memory_source
 sources = record { tells = λ s. refl; fails = λ s want h. h }
 
 -- a step of the transfer is a step of the end
 module _ (from : Endpoint) (bytes : List ℕ) (e : EndState) (store store' : Stored) (path path' : List ℕ) (replace : Bool) (turn : Turn) where
   pub end_step : (files files' : Files (List ℕ) Drafted) →
-      StepIn memory_meaning from bytes e (files_in store path replace files) turn (files_in store' path' replace files') →
+      StepIn memory_meaning memory_source from bytes e (files_in store path replace files) turn (files_in store' path' replace files') →
       EndStep false (in_the_way replace (file_at store.files path)) from bytes e (held_files store.refuses files) turn (held_files store'.refuses files')
-  end_step (Source left) (Source left') h = step_as _ _ _ _ _ _ _ _ _ _ _ _ (λ (s : List ℕ). s) seen (IsFor replace path store.files) sources (sinks replace path store.files) from bytes e _ turn _ tt h
-  end_step (Sink draft) (Sink draft') h = step_as _ _ _ _ _ _ _ _ _ _ _ _ (λ (s : List ℕ). s) seen (IsFor replace path store.files) sources (sinks replace path store.files) from bytes e _ turn _ (refl, refl, refl) h
-  end_step (Source left) (Sink draft') h = step_as _ _ _ _ _ _ _ _ _ _ _ _ (λ (s : List ℕ). s) seen (IsFor replace path store.files) sources (sinks replace path store.files) from bytes e _ turn _ tt h
-  end_step (Sink draft) (Source left') h = step_as _ _ _ _ _ _ _ _ _ _ _ _ (λ (s : List ℕ). s) seen (IsFor replace path store.files) sources (sinks replace path store.files) from bytes e _ turn _ (refl, refl, refl) h
+  end_step (Source left) (Source left') h = step_as _ _ _ _ (λ (s : List ℕ). s) seen (IsFor replace path store.files) sources (sinks replace path store.files) from bytes e _ turn _ tt h
+  end_step (Sink draft) (Sink draft') h = step_as _ _ _ _ (λ (s : List ℕ). s) seen (IsFor replace path store.files) sources (sinks replace path store.files) from bytes e _ turn _ (refl, refl, refl) h
+  end_step (Source left) (Sink draft') h = step_as _ _ _ _ (λ (s : List ℕ). s) seen (IsFor replace path store.files) sources (sinks replace path store.files) from bytes e _ turn _ tt h
+  end_step (Sink draft) (Source left') h = step_as _ _ _ _ (λ (s : List ℕ). s) seen (IsFor replace path store.files) sources (sinks replace path store.files) from bytes e _ turn _ (refl, refl, refl) h

@@ -4,6 +4,7 @@ use Rattle.std.specs.Prelude.{is_some, option_map}
 use Rattle.std.specs.BTreeMap.{is_at}
 use Rattle.std.proofs.lemmas.Option.{same_Some}
 use Rattle.std.specs.Ordering.{nat_cmp}
+use Rattle.tftp_file.specs.Memory.{memory_source}
 use Rattle.tftp_file.specs.Sink.{Holding}
 use Rattle.tftp_file.specs.declared.files.Files.{Files}
 use Rattle.tftp_file.specs.declared.files.Files.TheVariants.{Source, Sink}
@@ -13,7 +14,7 @@ use Rattle.tftp_ends.specs.declared.record.Step.{Step}
 use Rattle.tftp_ends.specs.End.{EndState, outcome_of, record_of}
 use Rattle.tftp_ends.specs.Files.{KeepsFiles}
 use Rattle.tftp_ends.specs.Step.{Turn, Carries, timeout_turn, told, reply_bytes}
-use Rattle.tftp_server.specs.Draft.{files_in, drafting_holds, DraftingBecomes, KeepsStore}
+use Rattle.tftp_server.specs.Draft.{files_in, KeepsStore, drafting_sink}
 use Rattle.tftp_server.specs.Memory.{memory_meaning, with_told}
 use Rattle.tftp_server.specs.State.{at, with_next, draft_of, is_closed}
 use Rattle.tftp_server.specs.Steps.{TimesOut, TakesDatagram, TakesRecorded, KeepsHeld, with_end}
@@ -92,7 +93,7 @@ abbrev pub server_told : PlayedServer → Bool → PlayedServer
 server_told server told = record server { store = with_told server.store told }
 
 module _ (port : ℕ) (from : Endpoint) (bytes : List ℕ) (was old new : Served) (before mid quieted after : PlayedServer) (step : Step) (start out : List ℕ) (effect : Effect) (r : Record) where
-  steps_so : start ≡ [] → (t : TakesDatagram memory_meaning port from bytes (server_told before was.refuses) mid step start out) → r ≡ record_of t.next.end →
+  steps_so : start ≡ [] → (t : TakesDatagram memory_meaning memory_source port from bytes (server_told before was.refuses) mid step start out) → r ≡ record_of t.next.end →
       mid ≡ record before { store = mid.store; held = mid.held } → old ≡ record was { refuses = mid.store.refuses } → quieted ≡ server_told mid false →
       Concludes port (at port quieted.held) old new quieted after → effect ≡ record { from = server_at port; to = step.to; bytes = out; closed = step.closed } →
       ServedDatagramStep port from bytes was new before after effect r
@@ -118,13 +119,13 @@ module _ (port : ℕ) (from : Endpoint) (bytes : List ℕ) (was old new : Served
   }
 
   -- the server, and what goes out, are told by equations
-  pub served_steps : (told : PlayedServer) → told ≡ server_told before was.refuses → start ≡ [] → TakesRecorded memory_meaning port from bytes told mid step r start out →
+  pub served_steps : (told : PlayedServer) → told ≡ server_told before was.refuses → start ≡ [] → TakesRecorded memory_meaning memory_source port from bytes told mid step r start out →
       mid ≡ record told { store = mid.store; held = mid.held } → old ≡ record was { refuses = mid.store.refuses } → quieted ≡ server_told mid false →
       Concludes port (at port quieted.held) old new quieted after → (from_here : Endpoint) → from_here ≡ server_at port → effect ≡ record { from = from_here; to = step.to; bytes = out; closed = step.closed } →
       ServedDatagramStep port from bytes was new before after effect r
   served_steps told told_is none t rest told_so quiet c here is_here made =
-      let taken : TakesRecorded memory_meaning port from bytes (server_told before was.refuses) mid step r start out =
-      subst (λ (s : PlayedServer). TakesRecorded memory_meaning port from bytes s mid step r start out) told_is t in
+      let taken : TakesRecorded memory_meaning memory_source port from bytes (server_told before was.refuses) mid step r start out =
+      subst (λ (s : PlayedServer). TakesRecorded memory_meaning memory_source port from bytes s mid step r start out) told_is t in
       steps_so none taken.0 taken.1
       (rest ∙ ap (λ (s : PlayedServer). record s { store = mid.store; held = mid.held }) told_is) told_so quiet c
       (made ∙ ap (λ (a : Endpoint). record { from = a; to = step.to; bytes = out; closed = step.closed }) is_here)
@@ -155,7 +156,7 @@ files_or None = []
 files_or (Some files) = files
 
 files_kept : (files files' : Files (List ℕ) Drafted) (store store' : Stored) (path path' : List ℕ) (replace : Bool) → KeepsStore files store store' →
-    KeepsFiles memory_meaning.left (drafting_holds memory_meaning) (DraftingBecomes memory_meaning) (files_in store path replace files) (files_in store' path' replace files') →
+    KeepsFiles memory_source (drafting_sink memory_meaning) (files_in store path replace files) (files_in store' path' replace files') →
     (files' ≡ files) × (store' ≡ store)
 files_kept (Source left) (Source left') store store' path path' replace stays k = (ap Source (same_Some left' left k), stays)
 files_kept (Sink draft) (Sink draft') store store' path path' replace stays k = (
@@ -174,12 +175,12 @@ transfer_is next h a b c d =
     ∙ ap (λ (q : List ℕ). record h { request = q }) d))
 
 pub not_taken : (port : ℕ) (was : Served) (before told mid quieted : PlayedServer) → ServedKept port was before.held → before.store.refuses ≡ false → told ≡ server_told before was.refuses →
-    KeepsHeld memory_meaning port (at port told.held) told mid → mid ≡ record told { store = mid.store; held = mid.held } → quieted ≡ server_told mid false → quieted ≡ before
+    KeepsHeld memory_meaning memory_source port (at port told.held) told mid → mid ≡ record told { store = mid.store; held = mid.held } → quieted ≡ server_told mid false → quieted ≡ before
 not_taken port was before told mid quieted kept none told_is k rest quiet =
     let h : Transfer = kept.transfer in
     let there : PlayedServer = server_told before was.refuses in
-    let so : KeepsHeld memory_meaning port (at port before.held) there mid = subst (λ (s : PlayedServer). KeepsHeld memory_meaning port (at port s.held) s mid) told_is k in
-    let s : KeepsHeld memory_meaning port (Some h) there mid = subst (λ (o : Option Transfer). KeepsHeld memory_meaning port o there mid) kept.found so in
+    let so : KeepsHeld memory_meaning memory_source port (at port before.held) there mid = subst (λ (s : PlayedServer). KeepsHeld memory_meaning memory_source port (at port s.held) s mid) told_is k in
+    let s : KeepsHeld memory_meaning memory_source port (Some h) there mid = subst (λ (o : Option Transfer). KeepsHeld memory_meaning memory_source port o there mid) kept.found so in
     let files = files_kept h.files s.0.files there.store mid.store h.path s.0.path before.config.overwrite s.1.stays s.1.files in
     let same : s.0 ≡ h = transfer_is s.0 h s.1.end files.0 s.1.path s.1.request in
     let held : mid.held ≡ before.held = s.2 ∙ (ap (λ (n : Transfer). with_next port n before.held) same ∙ next_same port h before.held kept.found) in

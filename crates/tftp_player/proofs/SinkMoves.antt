@@ -7,6 +7,7 @@ use Rattle.std.proofs.lemmas.Option.{same_Some}
 use Rattle.tftp_wire.specs.declared.mode.Mode.{Mode}
 use Rattle.tftp_wire.specs.declared.mode.Mode.TheVariants.{Octet, Netascii}
 use Rattle.tftp_wire.specs.declared.packet.Packet.TheVariants.{Ack}
+use Rattle.tftp_file.specs.Memory.{memory_source}
 use Rattle.tftp_file.specs.declared.fault.StoreFault.{StoreFault}
 use Rattle.tftp_file.specs.declared.fault.StoreFault.TheVariants as faults
 use Rattle.tftp_file.specs.declared.files.Files.{Files}
@@ -28,7 +29,7 @@ use Rattle.tftp_player.specs.Machine.{Endpoint, Ack as Says_ack, Error, Message}
 use Rattle.tftp_player.specs.Rules.{message}
 use Rattle.tftp_player.specs.Shows.{EndView, IsShown}
 use Rattle.tftp_player.specs.World.{OpenedEnd, files_of, holding_of, end_after, has_failed, goes_on, text_of as text_of_end, view_of_end}
-use Rattle.tftp_player.specs.WorldSteps.{never_fails, may_refuse_append, nothing_else}
+use Rattle.tftp_player.specs.WorldSteps.{may_refuse_append, world_sink}
 use Rattle.tftp_player.specs.WorldKept.{EndKept, HeldFits}
 use Rattle.tftp_player.proofs.HostBytes.{stored_more}
 use Rattle.tftp_player.proofs.SaidLemmas.{spells_own}
@@ -55,7 +56,7 @@ took_some false before after b bytes (Err faults.Io) is h may memory = absurd ma
 took_some false before after b bytes (Err faults.Memory) is h may memory = absurd (memory refl)
 
 pub took : (before after : Holding) (bytes : List ℕ) (answer : Result Done StoreFault) (refuses_commit : Holding → StoreFault → Type 0) →
-    Appended (λ (h : Holding). Some h) may_refuse_append refuses_commit nothing_else bytes before after answer → answer ≢ Err faults.Memory → Took before after bytes answer
+    Appended (world_sink refuses_commit) bytes before after answer → answer ≢ Err faults.Memory → Took before after bytes answer
 took before after [] answer refuses_commit h memory =
     All_of_it h.0 (ap (λ (z : Holding). z.bytes) h.1 ∙ sym (append-nil before.bytes)) (λ c. ap (λ (z : Holding). z.committed) h.1 ∙ c)
 took before after (b ∷ bytes) answer refuses_commit h memory = took_some before.refuses before after b bytes answer refl h.0 h.1 memory
@@ -116,8 +117,8 @@ text_else false f r e = refl
 
 -- a receiver works on a sink
 pub stores_in : (b : Bool) → b ≡ false → (refuses_commit : Holding → StoreFault → Type 0) (terms : Terms) (number : ℕ) (from : Endpoint) (piece : List ℕ) (e : EndState) (left : List ℕ) (sink : Holding) (turn : Turn) (held : Files (List ℕ) Holding) →
-    StoresIn (λ (s : List ℕ). Some s) never_fails (λ (h : Holding). Some h) may_refuse_append refuses_commit nothing_else terms number from piece e (if b then Source left else Sink sink) turn held →
-    (sink' : Holding) × (held ≡ Sink sink') × Stores (λ (h : Holding). Some h) may_refuse_append refuses_commit nothing_else terms number from piece e sink turn sink'
+    StoresIn memory_source (world_sink refuses_commit) terms number from piece e (if b then Source left else Sink sink) turn held →
+    (sink' : Holding) × (held ≡ Sink sink') × Stores (world_sink refuses_commit) terms number from piece e sink turn sink'
 stores_in true f refuses_commit terms number from piece e left sink turn held h = absurd (true≢false f)
 stores_in false f refuses_commit terms number from piece e left sink turn (Sink sink') h = (sink', refl, h)
 stores_in false f refuses_commit terms number from piece e left sink turn (Source l) h = absurd h
@@ -243,7 +244,7 @@ module _ (views : List EndView) (messages : List Message) (k : ℕ) (x : OpenedE
   -- after a commit
   commit_goes : Readable x terms piece → (refuses_commit : Holding → StoreFault → Type 0) (mid sink : Holding) (more after : List ℕ) (turn : Turn) → mid.bytes ≡ x.stored ++ more → mid.committed ≡ false →
       Decoded x.state.mode x.state.held piece more after → nat_lt (length piece) terms.size ≡ true →
-      Committed (λ (h : Holding). Some h) may_refuse_append refuses_commit nothing_else terms number from (holding after x.state) mid turn sink →
+      Committed (world_sink refuses_commit) terms number from (holding after x.state) mid turn sink →
       Goes views messages k x turn (end_after x turn (Sink sink))
   commit_goes readable refuses_commit mid sink more after turn bytes un d last c =
       by_commit c.answer c.answers (kept_by mid.refuses mid sink c.answer c.commits) where
@@ -262,7 +263,7 @@ module _ (views : List EndView) (messages : List Message) (k : ℕ) (x : OpenedE
   -- after an append
   append_goes : Readable x terms piece → (refuses_commit : Holding → StoreFault → Type 0) (mid sink : Holding) (more after : List ℕ) (turn : Turn) (answer : Result Done StoreFault) (last : Bool) → nat_lt (length piece) terms.size ≡ last →
       Decoded x.state.mode x.state.held piece more after → Took (holding_of x) mid more answer →
-      GoesOn (λ (h : Holding). Some h) may_refuse_append refuses_commit nothing_else terms number from x.state last after mid answer turn sink →
+      GoesOn (world_sink refuses_commit) terms number from x.state last after mid answer turn sink →
       Goes views messages k x turn (end_after x turn (Sink sink))
   append_goes readable refuses_commit mid sink more after turn (Err f) last is d (All_of_it ok same un) h = absurd (let e : Err f ≡ Ok tt = ok in cc)
   append_goes readable refuses_commit mid sink more after turn (Ok u) last is d (None_of_it fault err same still) h = absurd (let e : Ok u ≡ Err fault = err in cc)
@@ -285,7 +286,7 @@ module _ (views : List EndView) (messages : List Message) (k : ℕ) (x : OpenedE
 
   -- an action that stores has gone on
   pub block_goes : Readable x terms piece → (refuses_commit : Holding → StoreFault → Type 0) (turn : Turn) (held : Files (List ℕ) Holding) →
-      StoresIn (λ (s : List ℕ). Some s) never_fails (λ (h : Holding). Some h) may_refuse_append refuses_commit nothing_else terms number from piece x.state (files_of x) turn held →
+      StoresIn memory_source (world_sink refuses_commit) terms number from piece x.state (files_of x) turn held →
       Goes views messages k x turn (end_after x turn held)
   block_goes readable refuses_commit turn held h =
       let f = stores_in (is_sender x.state.side) r.receiver refuses_commit terms number from piece x.state x.left (holding_of x) turn held h in

@@ -8,6 +8,7 @@ use Rattle.std.proofs.lemmas.List.{append-nil, length-drop, length-take, take_mi
 use Rattle.std.proofs.lemmas.Option.{same_Some}
 use Rattle.tftp_wire.specs.declared.packet.Packet.TheVariants.{Data}
 use Rattle.tftp_wire.specs.Spelling.{IsValid}
+use Rattle.tftp_file.specs.Memory.{memory_source}
 use Rattle.tftp_file.specs.declared.fault.FileFault.{FileFault}
 use Rattle.tftp_file.specs.declared.fault.StoreFault.{StoreFault}
 use Rattle.tftp_file.specs.Source.{Fills}
@@ -28,7 +29,7 @@ use Rattle.tftp_player.specs.Rules.{message}
 use Rattle.tftp_player.specs.Said.{said}
 use Rattle.tftp_player.specs.Shows.{EndView, IsShown}
 use Rattle.tftp_player.specs.World.{OpenedEnd, files_of, holding_of, in_state, end_after, text_of as text_of_end, received_text, view_of_end}
-use Rattle.tftp_player.specs.WorldSteps.{never_fails, may_refuse_append, nothing_else}
+use Rattle.tftp_player.specs.WorldSteps.{world_sink}
 use Rattle.tftp_player.specs.WorldKept.{EndKept, sent_text}
 use Rattle.tftp_player.proofs.Actions.{Stands, sends, completes}
 use Rattle.tftp_player.proofs.SaidLemmas.{spells_own}
@@ -75,7 +76,7 @@ filled terms number from piece e answer h =
 -- a source in memory gives the next block
 pub block_sent : (terms : Terms) (n : ℕ) (from : Endpoint) (e : EndState) (text left : List ℕ) (turn : Turn) (left' : List ℕ) →
     e.length ≡ length text → left ≡ drop (n * terms.size) text →
-    Sends (λ (s : List ℕ). Some s) never_fails terms (n + 1) from e left turn left' → BlockSent terms n from e text turn left'
+    Sends memory_source terms (n + 1) from e left turn left' → BlockSent terms n from e text turn left'
 block_sent terms n from e text left turn left' measured behind h = by_answer h.answer h.reads.fills h.reads.read h.reads.memory h.answers where
   by_answer : (answer : Result ℕ FileFault) →
       Fills (Some left) (Some left') (block_length e.length terms.size (n + 1)) [] h.piece answer →
@@ -97,8 +98,8 @@ block_sent terms n from e text left turn left' measured behind h = by_answer h.a
 
 -- what an action that sends did
 pub sends_from : (b : Bool) → b ≡ true → (refuses_commit : Holding → StoreFault → Type 0) (terms : Terms) (number : ℕ) (from : Endpoint) (e : EndState) (left : List ℕ) (holding : Holding) (turn : Turn) (held : Files (List ℕ) Holding) →
-    SendsFrom (λ (s : List ℕ). Some s) never_fails (λ (h : Holding). Some h) may_refuse_append refuses_commit nothing_else terms number from e (if b then Source left else Sink holding) turn held →
-    (left' : List ℕ) × (held ≡ Source left') × Sends (λ (s : List ℕ). Some s) never_fails terms number from e left turn left'
+    SendsFrom memory_source (world_sink refuses_commit) terms number from e (if b then Source left else Sink holding) turn held →
+    (left' : List ℕ) × (held ≡ Source left') × Sends memory_source terms number from e left turn left'
 sends_from true t refuses_commit terms number from e left holding turn (Source left') h = (left', refl, h)
 sends_from true t refuses_commit terms number from e left holding turn (Sink k) h = absurd h
 sends_from false t refuses_commit terms number from e left holding turn held h = absurd (true≢false (sym t))
@@ -128,7 +129,7 @@ data_end x terms n from =
 pub data_goes : (views : List EndView) (messages : List Message) (k : ℕ) (x : OpenedEnd) (terms : Terms) (n : ℕ) (from : Endpoint) (turn : Turn) (held : Files (List ℕ) Holding) (refuses_commit : Holding → StoreFault → Type 0) →
     is_sender x.state.side ≡ true → x.state.length ≡ length (sent_text x) → x.left ≡ drop (n * terms.size) (sent_text x) →
     Goes views messages k x (data_turn x terms n from) (data_end x terms n from) →
-    SendsFrom (λ (s : List ℕ). Some s) never_fails (λ (h : Holding). Some h) may_refuse_append refuses_commit nothing_else terms (n + 1) from x.state (files_of x) turn held →
+    SendsFrom memory_source (world_sink refuses_commit) terms (n + 1) from x.state (files_of x) turn held →
     Goes views messages k x turn (end_after x turn held)
 data_goes views messages k x terms n from turn held refuses_commit sender measured behind g h =
     let f = sends_from (is_sender x.state.side) sender refuses_commit terms (n + 1) from x.state x.left (holding_of x) turn held h in

@@ -8,6 +8,7 @@ use Rattle.tftp_wire.specs.declared.packet.Packet.{Packet}
 use Rattle.tftp_wire.specs.declared.packet.Packet.TheVariants.{Data}
 use Rattle.tftp_wire.specs.Spelling.{Spells}
 use Rattle.tftp_wire.proofs.SpellingLemmas.{one_meaning, spelled_has_no_fault}
+use Rattle.tftp_file.specs.Memory.{memory_source}
 use Rattle.tftp_file.specs.Block.{block}
 use Rattle.tftp_file.specs.Netascii.{wire_text}
 use Rattle.tftp_file.specs.Sink.{Holding}
@@ -32,7 +33,7 @@ use Rattle.tftp_player.specs.Machine.{Endpoint}
 use Rattle.tftp_player.specs.Straight.{TookAll}
 use Rattle.tftp_player.specs.World.{WorldState, OpenedEnd, file_at, in_the_way, is_closed, datagram, replied, files_of, holding_of, with_files, in_state, end_after, closed_at, at_rest, resting}
 use Rattle.tftp_player.specs.WorldKept.{HeldFits, IsOk}
-use Rattle.tftp_player.specs.WorldSteps.{never_fails, may_refuse_append, may_refuse_commit, nothing_else, EndStep, OnDatagram, Arrives, At_request_port, At_open_end, At_closed_end, At_nobody, WorldStep}
+use Rattle.tftp_player.specs.WorldSteps.{may_refuse_commit, EndStep, OnDatagram, Arrives, At_request_port, At_open_end, At_closed_end, At_nobody, WorldStep, world_sink}
 use Rattle.tftp_player.specs.declared.datagram.Datagram.{Datagram}
 use Rattle.tftp_player.specs.declared.event.Event.TheVariants.{Deliver}
 use Rattle.tftp_player.specs.declared.report.Report.{Report}
@@ -123,7 +124,7 @@ module _ (w v : WorldState) (k : ℕ) (x : OpenedEnd) (from : Endpoint) (bytes :
 
   abbrev Acts_at : Action → Type 0
   Acts_at action =
-      Acts (λ (s : List ℕ). Some s) never_fails (λ (h : Holding). Some h) may_refuse_append refuses_commit nothing_else action from bytes x.state (files_of x) h.turn h.held
+      Acts memory_source (world_sink refuses_commit) action from bytes x.state (files_of x) h.turn h.held
 
   acts_as : (packet : Packet) (action : Action) → Spells packet bytes → datagram_action x.state from bytes (Some packet) ≡ action → Acts_at action
   acts_as packet action spelled is =
@@ -281,7 +282,7 @@ module _ (w v : WorldState) (k : ℕ) (x : OpenedEnd) (from : Endpoint) (bytes :
 
     appends_as : (mid sink : Holding) (bytes_now after : List ℕ) (answer : Result Done StoreFault) (last : Bool) → nat_lt (length piece) terms.size ≡ last → h.held ≡ Sink sink →
         Decoded x.state.mode x.state.held piece bytes_now after → Took (holding_of x) mid bytes_now answer →
-        GoesOn (λ (h : Holding). Some h) may_refuse_append refuses_commit nothing_else terms number from x.state last after mid answer h.turn sink → (y : OpenedEnd) × HasStored terms number piece y
+        GoesOn (world_sink refuses_commit) terms number from x.state last after mid answer h.turn sink → (y : OpenedEnd) × HasStored terms number piece y
     appends_as mid sink bytes_now after (Err fault) last is held d took_now g = absurd (fault_none DiskFull x.state g.0)
     appends_as mid sink bytes_now after (Ok done) last is held d (None_of_it fault err same still) g = absurd (let e : Ok done ≡ Err fault = err in cc)
     appends_as mid sink bytes_now after (Ok done) true is held d (All_of_it ok same un) g =
@@ -293,7 +294,7 @@ module _ (w v : WorldState) (k : ℕ) (x : OpenedEnd) (from : Endpoint) (bytes :
         (y : OpenedEnd) × HasStored terms number piece y
     hears_data spelled is receiver =
         let a = acts_as (Data number piece) (Store terms number) spelled is in
-        let s = subst (λ (bs : List ℕ). StoresIn (λ (z : List ℕ). Some z) never_fails (λ (z : Holding). Some z) may_refuse_append refuses_commit nothing_else terms number from bs x.state (files_of x) h.turn h.held) (data_of number piece bytes spelled) a in
+        let s = subst (λ (bs : List ℕ). StoresIn memory_source (world_sink refuses_commit) terms number from bs x.state (files_of x) h.turn h.held) (data_of number piece bytes spelled) a in
         let f = stores_in (is_sender x.state.side) receiver refuses_commit terms number from piece x.state x.left (holding_of x) h.turn h.held s in
         let b = f.2 in
         appends_as b.mid f.0 b.bytes b.after b.answer (nat_lt (length piece) terms.size) refl f.1 b.decoded

@@ -5,6 +5,7 @@ use Rattle.std.proofs.lemmas.Bool.{true≢false}
 use Rattle.std.proofs.lemmas.Bool.Decides.{eqb_tells}
 use Rattle.std.proofs.lemmas.Option.{same_Some, slice_get-map}
 use Rattle.tftp_wire.specs.Reading.{has_error_opcode}
+use Rattle.tftp_file.specs.Memory.{memory_source}
 use Rattle.tftp_file.specs.declared.files.Files.{Files}
 use Rattle.tftp_file.specs.declared.files.Files.TheVariants.{Source, Sink}
 use Rattle.tftp_file.specs.Sink.{Holding}
@@ -20,7 +21,7 @@ use Rattle.tftp_player.specs.Machine.{Endpoint, At_server, Elsewhere, host_of, r
 use Rattle.tftp_player.specs.Strangers.{HasNoStranger, IsRecordedSo, StraysChangeNoRecord, ClientsHaveServers}
 use Rattle.tftp_player.specs.World.{WorldState, OpenedEnd, file_at, in_the_way, files_of, end_after, at_rest, resting, peer_of, view_of_end}
 use Rattle.tftp_player.specs.WorldKept.{PhaseKept, IsOk}
-use Rattle.tftp_player.specs.WorldSteps.{never_fails, may_refuse_append, may_refuse_commit, nothing_else, Serves, Arrives, At_request_port, At_open_end, At_closed_end, At_nobody, Opens, OnDatagram}
+use Rattle.tftp_player.specs.WorldSteps.{may_refuse_commit, Serves, Arrives, At_request_port, At_open_end, At_closed_end, At_nobody, Opens, OnDatagram, world_sink}
 use Rattle.tftp_server.specs.Port.{Service, Silent, Refused, Sends, Takes}
 use Rattle.tftp_player.specs.declared.report.Report.{Report}
 use Rattle.tftp_player.proofs.EndMoves.{placed}
@@ -56,7 +57,7 @@ is_strange (Closed terms n complete outcome) x0 from kept far home o = absurd (t
 -- such an end is as it was
 module _ (w : WorldState) (k : ℕ) (x : OpenedEnd) (from : Endpoint) (bytes : List ℕ) (report : Report) (v : WorldState) (t : OnDatagram w k x from bytes report v) where
   abbrev Acts_at : Action → Type 0
-  Acts_at action = Acts (λ (s : List ℕ). Some s) never_fails (λ (h : Holding). Some h) may_refuse_append (may_refuse_commit (is_client x.state.side) (in_the_way w.overwrite (file_at w.files x.path))) nothing_else action from bytes x.state (files_of x) t.turn t.held
+  Acts_at action = Acts memory_source (world_sink (may_refuse_commit (is_client x.state.side) (in_the_way w.overwrite (file_at w.files x.path)))) action from bytes x.state (files_of x) t.turn t.held
 
   stays_by : (b : Bool) → Acts_at (if b then Respond Ignore else Respond Stranger) → t.turn.end ≡ x.state
   stays_by true h = ap (λ (u : Turn). u.end) h.0

@@ -6,6 +6,7 @@ use Rattle.tftp_wire.specs.Reading.{has_error_opcode}
 use Rattle.tftp_wire.specs.declared.mode.Mode.{Mode}
 use Rattle.tftp_wire.specs.declared.packet.Packet.{Packet}
 use Rattle.tftp_wire.specs.declared.packet.Packet.TheVariants.{Read, Write, Data, Ack, Error, Oack}
+use Rattle.tftp_file.specs.Memory.{memory_source}
 use Rattle.tftp_file.specs.declared.fault.FileFault.{FileFault}
 use Rattle.tftp_file.specs.declared.fault.StoreFault.{StoreFault}
 use Rattle.tftp_file.specs.declared.files.Files.{Files}
@@ -27,7 +28,7 @@ use Rattle.tftp_ends.specs.Receiver.{receiver_action, next_action, dally_respons
 use Rattle.tftp_ends.specs.Text.{is_readable}
 use Rattle.tftp_ends.specs.Step.{Turn, DatagramStep, Acts, SendsFrom, StoresIn, GoesOn, Done, response_turn, filled_turn, committed_turn, result_count_is, block_length, timeout_turn, holding}
 use Rattle.tftp_player.specs.Machine.{Endpoint}
-use Rattle.tftp_player.specs.WorldSteps.{never_fails, may_refuse_append, nothing_else}
+use Rattle.tftp_player.specs.WorldSteps.{world_sink}
 
 module _ (agreed : Terms) where
   -- the response and the action name no other terms
@@ -153,29 +154,29 @@ module _ (agreed : Terms) where
 
   module _ (refuses_commit : Holding → StoreFault → Type 0) (from : Endpoint) (bytes : List ℕ) (e : EndState) where
     goes_has : (terms : Terms) (number : ℕ) (last : Bool) (after : List ℕ) (mid sink' : Holding) (answer : Result Done StoreFault) (turn : Turn) → terms ≡ agreed →
-        GoesOn (λ (h : Holding). Some h) may_refuse_append refuses_commit nothing_else terms number from e last after mid answer turn sink' → Has turn.end
+        GoesOn (world_sink refuses_commit) terms number from e last after mid answer turn sink' → Has turn.end
     goes_has terms number last after mid sink' (Err fault) turn s g = kept turn _ g.0 (ap Some s)
     goes_has terms number true after mid sink' (Ok done) turn s g = kept turn _ g.answers (committed_has terms number from (holding after e) g.answer s)
     goes_has terms number false after mid sink' (Ok done) turn s g = kept turn _ g.0 (ap Some s)
 
     stores_has : (terms : Terms) (number : ℕ) (piece : List ℕ) (files files' : Files (List ℕ) Holding) (turn : Turn) → terms ≡ agreed →
-        StoresIn (λ (s : List ℕ). Some s) never_fails (λ (h : Holding). Some h) may_refuse_append refuses_commit nothing_else terms number from piece e files turn files' → Has turn.end
+        StoresIn memory_source (world_sink refuses_commit) terms number from piece e files turn files' → Has turn.end
     stores_has terms number piece (Sink sink) (Sink sink') turn s d = goes_has terms number _ d.after d.mid sink' d.answer turn s d.rest
     stores_has terms number piece (Sink sink) (Source left) turn s d = absurd d
     stores_has terms number piece (Source left) files' turn s d = absurd d
 
     sends_has : (terms : Terms) (number : ℕ) (files files' : Files (List ℕ) Holding) (turn : Turn) → terms ≡ agreed →
-        SendsFrom (λ (s : List ℕ). Some s) never_fails (λ (h : Holding). Some h) may_refuse_append refuses_commit nothing_else terms number from e files turn files' → Has turn.end
+        SendsFrom memory_source (world_sink refuses_commit) terms number from e files turn files' → Has turn.end
     sends_has terms number (Source left) (Source left') turn s d = kept turn _ d.answers (filled_has terms number from d.piece e d.answer s)
     sends_has terms number (Source left) (Sink sink) turn s d = absurd d
     sends_has terms number (Sink sink) files' turn s d = absurd d
 
     acts_has : (action : Action) (files files' : Files (List ℕ) Holding) (turn : Turn) → Names action → Has e →
-        Acts (λ (s : List ℕ). Some s) never_fails (λ (h : Holding). Some h) may_refuse_append refuses_commit nothing_else action from bytes e files turn files' → Has turn.end
+        Acts memory_source (world_sink refuses_commit) action from bytes e files turn files' → Has turn.end
     acts_has (Respond response) files files' turn s h a = kept turn _ a.0 (response_has response from e s h)
     acts_has (Send terms number) files files' turn s h a = sends_has terms number files files' turn s a
     acts_has (Store terms number) files files' turn s h a = stores_has terms number _ files files' turn s a
 
     pub step_has : (files files' : Files (List ℕ) Holding) (turn : Turn) → Has e →
-        DatagramStep (λ (s : List ℕ). Some s) never_fails (λ (h : Holding). Some h) may_refuse_append refuses_commit nothing_else from bytes e files turn files' → Has turn.end
+        DatagramStep memory_source (world_sink refuses_commit) from bytes e files turn files' → Has turn.end
     step_has files files' turn h d = acts_has (datagram_action e from bytes d.decoded) files files' turn (datagram_names e from bytes d.decoded h) h d.acts

@@ -1,6 +1,7 @@
 -- No turn of an end changes its side or its mode.
-use Rattle.std.proofs.Common.{◌≡◌, ℕ, Bool, true, false, List, Some, Result, Ok, Err, refl, sym, subst}
+use Rattle.std.proofs.Common.{◌≡◌, ℕ, Bool, true, false, List, Result, Ok, Err, refl, sym, subst}
 use Rattle.std.specs.Prelude.{if◌then◌else◌}
+use Rattle.tftp_file.specs.Memory.{memory_source}
 use Rattle.tftp_file.specs.declared.fault.FileFault.{FileFault}
 use Rattle.tftp_file.specs.declared.fault.StoreFault.{StoreFault}
 use Rattle.tftp_file.specs.declared.files.Files.{Files}
@@ -15,7 +16,7 @@ use Rattle.tftp_ends.specs.End.{EndState}
 use Rattle.tftp_ends.specs.Action.{datagram_action, timeout_response}
 use Rattle.tftp_ends.specs.Step.{Turn, DatagramStep, Acts, SendsFrom, StoresIn, GoesOn, Done, response_turn, filled_turn, committed_turn, result_count_is, block_length, timeout_turn, holding}
 use Rattle.tftp_player.specs.Machine.{Endpoint}
-use Rattle.tftp_player.specs.WorldSteps.{never_fails, may_refuse_append, nothing_else}
+use Rattle.tftp_player.specs.WorldSteps.{world_sink}
 
 -- an end is on the same side, and its transfer in the same mode
 pub record KeepsKind (old new : EndState) : Type 0 where
@@ -53,29 +54,29 @@ committed_keeps terms number from after e (Err fault) = record { side = refl; mo
 
 module _ (refuses_commit : Holding → StoreFault → Type 0) (from : Endpoint) (bytes : List ℕ) (e : EndState) where
   goes_keeps : (terms : Terms) (number : ℕ) (last : Bool) (after : List ℕ) (mid sink' : Holding) (answer : Result Done StoreFault) (turn : Turn) →
-      GoesOn (λ (h : Holding). Some h) may_refuse_append refuses_commit nothing_else terms number from e last after mid answer turn sink' → KeepsKind e turn.end
+      GoesOn (world_sink refuses_commit) terms number from e last after mid answer turn sink' → KeepsKind e turn.end
   goes_keeps terms number last after mid sink' (Err fault) turn g = kept e turn _ g.0 (record { side = refl; mode = refl })
   goes_keeps terms number true after mid sink' (Ok done) turn g = kept e turn _ g.answers (committed_keeps terms number from after e g.answer)
   goes_keeps terms number false after mid sink' (Ok done) turn g = kept e turn _ g.0 (record { side = refl; mode = refl })
 
   stores_keeps : (terms : Terms) (number : ℕ) (piece : List ℕ) (files files' : Files (List ℕ) Holding) (turn : Turn) →
-      StoresIn (λ (s : List ℕ). Some s) never_fails (λ (h : Holding). Some h) may_refuse_append refuses_commit nothing_else terms number from piece e files turn files' → KeepsKind e turn.end
+      StoresIn memory_source (world_sink refuses_commit) terms number from piece e files turn files' → KeepsKind e turn.end
   stores_keeps terms number piece (Sink sink) (Sink sink') turn s = goes_keeps terms number _ s.after s.mid sink' s.answer turn s.rest
   stores_keeps terms number piece (Sink sink) (Source left) turn s = absurd s
   stores_keeps terms number piece (Source left) files' turn s = absurd s
 
   sends_keeps : (terms : Terms) (number : ℕ) (files files' : Files (List ℕ) Holding) (turn : Turn) →
-      SendsFrom (λ (s : List ℕ). Some s) never_fails (λ (h : Holding). Some h) may_refuse_append refuses_commit nothing_else terms number from e files turn files' → KeepsKind e turn.end
+      SendsFrom memory_source (world_sink refuses_commit) terms number from e files turn files' → KeepsKind e turn.end
   sends_keeps terms number (Source left) (Source left') turn s = kept e turn _ s.answers (filled_keeps terms number from s.piece e s.answer)
   sends_keeps terms number (Source left) (Sink sink) turn s = absurd s
   sends_keeps terms number (Sink sink) files' turn s = absurd s
 
   acts_keeps : (action : Action) (files files' : Files (List ℕ) Holding) (turn : Turn) →
-      Acts (λ (s : List ℕ). Some s) never_fails (λ (h : Holding). Some h) may_refuse_append refuses_commit nothing_else action from bytes e files turn files' → KeepsKind e turn.end
+      Acts memory_source (world_sink refuses_commit) action from bytes e files turn files' → KeepsKind e turn.end
   acts_keeps (Respond response) files files' turn a = kept e turn _ a.0 (response_keeps response from e)
   acts_keeps (Send terms number) files files' turn a = sends_keeps terms number files files' turn a
   acts_keeps (Store terms number) files files' turn a = stores_keeps terms number _ files files' turn a
 
   pub step_keeps : (files files' : Files (List ℕ) Holding) (turn : Turn) →
-      DatagramStep (λ (s : List ℕ). Some s) never_fails (λ (h : Holding). Some h) may_refuse_append refuses_commit nothing_else from bytes e files turn files' → KeepsKind e turn.end
+      DatagramStep memory_source (world_sink refuses_commit) from bytes e files turn files' → KeepsKind e turn.end
   step_keeps files files' turn h = acts_keeps (datagram_action e from bytes h.decoded) files files' turn h.acts

@@ -19,6 +19,7 @@ use Rattle.tftp_negotiate.specs.Agreed.{size, IsAgreeable}
 use Rattle.tftp_negotiate.specs.Agreement.{agreement}
 use Rattle.tftp_negotiate.specs.Asked.{IsAskable}
 use Rattle.tftp_negotiate.proofs.LawsLemmas.{taken_may_be_agreed}
+use Rattle.tftp_file.specs.Memory.{memory_source}
 use Rattle.tftp_file.specs.declared.fault.StoreFault.{StoreFault}
 use Rattle.tftp_file.specs.Block.{block, block_count, Fits}
 use Rattle.tftp_file.specs.Netascii.{wire_text}
@@ -43,7 +44,7 @@ use Rattle.tftp_player.specs.Rules.{message}
 use Rattle.tftp_player.specs.Said.{said, oack_size}
 use Rattle.tftp_player.specs.Shows.{EndView, IsShown}
 use Rattle.tftp_player.specs.World.{OpenedEnd, files_of, holding_of, in_state, received_text, text_of as text_of_end, view_of_end}
-use Rattle.tftp_player.specs.WorldSteps.{never_fails, may_refuse_append, nothing_else}
+use Rattle.tftp_player.specs.WorldSteps.{world_sink}
 use Rattle.tftp_player.specs.WorldKept.{EndKept, sent_text}
 use Rattle.tftp_player.proofs.Actions.{Stands, IsWaiting, stores_first, refuses_first, accepts, sends_first, sends_first_with}
 use Rattle.tftp_player.proofs.SaidLemmas.{data_of, spells_own, taken_oack}
@@ -139,7 +140,7 @@ module _ (views : List EndView) (messages : List Message) (k : ℕ) (x0 : Opened
       (λ e. if_acts Answers (is_readable x0.state.mode [] piece last) (Store terms 1) (Respond (Refuse (Some terms) replies.NotNetascii outcomes.NotNetascii))
       (λ readable turn held h. block_goes views messages k waiter terms 1 from piece kept got
       (subst (λ (hs : List ℕ). is_readable x0.state.mode hs piece last ≡ true) (sym none) readable) refuses_commit turn held
-      (subst (λ (bs : List ℕ). StoresIn (λ (z : List ℕ). Some z) never_fails (λ (z : Holding). Some z) may_refuse_append refuses_commit nothing_else terms 1 from bs waiter.state (files_of waiter) turn held) (data_of 1 piece bytes spelled) h))
+      (subst (λ (bs : List ℕ). StoresIn memory_source (world_sink refuses_commit) terms 1 from bs waiter.state (files_of waiter) turn held) (data_of 1 piece bytes spelled) h))
       (λ g. refuse replies.NotNetascii outcomes.NotNetascii))
 
   first_cases : is_sender x0.state.side ≡ false → (number : ℕ) (piece : List ℕ) → number ≡ 1 → length piece ≤ 512 → Spells (Data number piece) bytes → Contains messages (message from x0.address (Says_data number piece)) →

@@ -1,5 +1,6 @@
 -- What an end of a world's server does, by what is kept of it beside the server.
 use Rattle.std.specs.Prelude.{ℕ, ◌≡◌, Bool, true, false, is_some, List, Option, Some, None, ⊤}
+use Rattle.tftp_file.specs.Memory.{memory_source}
 use Rattle.tftp_file.specs.declared.files.Files.{Files}
 use Rattle.tftp_file.specs.declared.files.Files.TheVariants.{Source, Sink}
 use Rattle.tftp_ends.specs.declared.outcome.Outcome.{Outcome}
@@ -74,7 +75,7 @@ pub record ServedDatagramStep (port : ℕ) (from : Endpoint) (bytes : List ℕ) 
   pub turn : Turn
   pub store : Stored
   pub found : at port before.held ≡ Some transfer
-  pub steps : StepIn memory_meaning from bytes transfer.end (files_in (with_told before.store old.refuses) transfer.path before.config.overwrite transfer.files) turn (files_in store next.path before.config.overwrite next.files)
+  pub steps : StepIn memory_meaning memory_source from bytes transfer.end (files_in (with_told before.store old.refuses) transfer.path before.config.overwrite transfer.files) turn (files_in store next.path before.config.overwrite next.files)
   pub stays : KeepsStore transfer.files (with_told before.store old.refuses) store
   pub kind : AreSame (λ (a b : List ℕ). ⊤) (λ (a b : Drafted). ⊤) transfer.files next.files
   pub path : next.path ≡ transfer.path

@@ -5,7 +5,8 @@ use Rattle.tftp_file.specs.declared.fault.StoreFault.{StoreFault}
 use Rattle.tftp_file.specs.declared.fault.StoreFault.TheVariants as faults
 use Rattle.tftp_file.specs.declared.files.Files.{Files}
 use Rattle.tftp_file.specs.Netascii.{wire_text}
-use Rattle.tftp_file.specs.Sink.{Holding}
+use Rattle.tftp_file.specs.Memory.{memory_source}
+use Rattle.tftp_file.specs.Sink.{Holding, SinkMeaning}
 use Rattle.tftp_ends.specs.End.{EndState, is_sender, is_client}
 use Rattle.tftp_ends.specs.Action.{Decodes}
 use Rattle.tftp_ends.specs.Step.{Turn, DatagramStep, timeout_turn, error_bytes}
@@ -21,10 +22,6 @@ use Rattle.tftp_player.specs.declared.report.Report.{Report}
 use Rattle.tftp_player.specs.declared.fault.WorldFault.{WorldFault}
 use Rattle.tftp_player.specs.declared.fault.WorldFault.TheVariants.{NoSuchDatagram, NoSuchEnd, NoPort, BadRequest, Memory}
 
--- a source in memory never fails to read
-abbrev pub never_fails : List ℕ → ℕ → Type 0
-never_fails left want = ⊥
-
 -- an append is refused only as it was told, or when out of memory
 abbrev pub may_refuse_append : Holding → List ℕ → StoreFault → Type 0
 may_refuse_append holding bytes faults.Full = holding.refuses ≡ true
@@ -38,14 +35,20 @@ may_refuse_commit false there holding faults.Full = (holding.refuses ≡ true) �
 may_refuse_commit false there holding faults.Exists = (holding.refuses ≡ false) × (there ≢ None)
 may_refuse_commit client there holding fault = ⊥
 
--- a sink of the world does no more than what it holds tells
-abbrev pub nothing_else : Holding → Holding → Bool → Type 0
-nothing_else before after committed = ⊤
+-- the meaning of a sink of the world whose commit may answer these faults: it does no more than what it holds tells
+abbrev pub world_sink : (Holding → StoreFault → Type 0) → SinkMeaning Holding
+world_sink may_commit =
+    record {
+      held = λ holding. Some holding;
+      may_refuse_append = may_refuse_append;
+      may_refuse_commit = may_commit;
+      becomes = λ before after committed. ⊤;
+    }
 
 -- what an open end does at a datagram with its file, where this stands in the way of what it stores
 abbrev pub EndStep : Bool → Option (List ℕ) → Endpoint → List ℕ → EndState → Files (List ℕ) Holding → Turn → Files (List ℕ) Holding → Type 0
 EndStep client there from bytes e files turn files' =
-    DatagramStep (λ (s : List ℕ). Some s) never_fails (λ (h : Holding). Some h) may_refuse_append (may_refuse_commit client there) nothing_else from bytes e files turn files'
+    DatagramStep memory_source (world_sink (may_refuse_commit client there)) from bytes e files turn files'
 
 -- the file now stands under a path where none was in the way, and the others stand where they stood
 pub record IsStored (overwrite : Bool) (path bytes : List ℕ) (old new : List StoredFile) : Type 0 where

@@ -57,14 +57,10 @@ impl Shelf {
 }
 
 impl Sink for Shelf {
-    ghost use Rattle.std.specs.Prelude.{Some, None, true, ⊤};
-    ghost use Rattle.tftp_player.specs.WorldSteps.{may_refuse_append, may_refuse_commit};
+    ghost use Rattle.std.specs.Prelude.{None, true, ⊤};
+    ghost use Rattle.tftp_player.specs.WorldSteps.{may_refuse_commit, world_sink};
 
-    ghost held = { λ s. Some s };
-
-    ghost may_refuse_append = { may_refuse_append };
-
-    ghost may_refuse_commit = { may_refuse_commit true None };
+    ghost meaning = { world_sink (may_refuse_commit true None) };
 
     ghost is_same = { λ _ _. ⊤ };
 

@@ -1,8 +1,8 @@
 -- An end that borrows its file steps as one that owns it.
-use Rattle.std.proofs.Common.{◌≡◌, ℕ, Bool, List, Option, Result, Ok, Err, IfOk, OnErr, refl, sym, ap, subst, ◌∙◌}
+use Rattle.std.proofs.Common.{◌≡◌, ℕ, List, Result, Ok, Err, IfOk, OnErr, refl, sym, ap, subst, ◌∙◌}
 use Rattle.std.specs.Borrow.{MutBor}
-use Rattle.tftp_file.specs.Sink.{Holding}
-use Rattle.tftp_file.specs.declared.fault.StoreFault.{StoreFault}
+use Rattle.tftp_file.specs.Source.{SourceMeaning, borrowed_source}
+use Rattle.tftp_file.specs.Sink.{SinkMeaning, borrowed_sink}
 use Rattle.tftp_file.specs.declared.files.Files.{Files}
 use Rattle.tftp_file.specs.declared.files.Files.TheVariants.{Source, Sink}
 use Rattle.tftp_ends.specs.declared.endpoint.Endpoint.{Endpoint}
@@ -32,60 +32,60 @@ sink_back {S = S} same_source same first second files last is h back =
     subst (λ (f : Files S (MutBor _)). AreSame same_source (λ s t. (t.ghost_name ≡ s.ghost_name) × same s.now t.now) (Sink first) f) is h in
     (back (sym both.0), both.1)
 
-module _ {S K R : Type 0} (left : S → Option (List ℕ)) (may_fail : S → ℕ → Type 0) (held : K → Option Holding) (may_refuse_append : K → List ℕ → StoreFault → Type 0) (may_refuse_commit : K → StoreFault → Type 0) (becomes : K → K → Bool → Type 0) (step_in : R → Step) (gives : R → Gives) where
+module _ {S K R : Type 0} (sources : SourceMeaning S) (sinks : SinkMeaning K) (step_in : R → Step) (gives : R → Gives) where
   -- what a call of an end over a borrowed source, or a borrowed sink, ensures where it has taken a datagram
   abbrev pub StepsOverSource : Endpoint → List ℕ → EndState → EndState → Files (MutBor S) K → Files (MutBor S) K → R → Type 0
   StepsOverSource from bytes e e' files files' r =
-      (turn : Turn) × DatagramStep (λ (s : MutBor S). left s.now) (λ (s : MutBor S) want. may_fail s.now want) held may_refuse_append may_refuse_commit becomes from bytes e files turn files'
+      (turn : Turn) × DatagramStep (borrowed_source sources) sinks from bytes e files turn files'
       × gives r turn e' (step_in r).to × (step_in r ≡ told e turn)
 
   abbrev pub StepsOverSink : Endpoint → List ℕ → EndState → EndState → Files S (MutBor K) → Files S (MutBor K) → R → Type 0
   StepsOverSink from bytes e e' files files' r =
-      (turn : Turn) × DatagramStep left may_fail (λ (k : MutBor K). held k.now) (λ (k : MutBor K) piece fault. may_refuse_append k.now piece fault) (λ (k : MutBor K) fault. may_refuse_commit k.now fault) (λ (k l : MutBor K) committed. becomes k.now l.now committed) from bytes e files turn files'
+      (turn : Turn) × DatagramStep sources (borrowed_sink sinks) from bytes e files turn files'
       × gives r turn e' (step_in r).to × (step_in r ≡ told e turn)
 
   pub source_steps : (from : Endpoint) (bytes : List ℕ) (e e' : EndState) (first second : MutBor S) (files : Files (MutBor S) K) (last : S) (result : Result R EndFault) → files ≡ Source second → last ≡ second.now →
       IfOk result (StepsOverSource from bytes e e' (Source first) files) →
-      IfOk result (λ r. MakesStep left may_fail held may_refuse_append may_refuse_commit becomes (gives r) from bytes e e' (Source first.now) (Source last) (step_in r))
+      IfOk result (λ r. MakesStep sources sinks (gives r) from bytes e e' (Source first.now) (Source last) (step_in r))
   source_steps from bytes e e' first second files last (Err fault) is same h = tt
   source_steps from bytes e e' first second files last (Ok r) is same h =
-      let steps = subst (λ (f : Files (MutBor S) K). DatagramStep (λ (s : MutBor S). left s.now) (λ (s : MutBor S) want. may_fail s.now want) held may_refuse_append may_refuse_commit becomes from bytes e (Source first) h.0 f) is h.1 in
-      let now : DatagramStep left may_fail held may_refuse_append may_refuse_commit becomes from bytes e (Source first.now) h.0 (Source second.now) =
-      source_step_as (λ (s : MutBor S). left s.now) (λ (s : MutBor S) want. may_fail s.now want) held may_refuse_append may_refuse_commit becomes left may_fail held may_refuse_append may_refuse_commit becomes
+      let steps = subst (λ (f : Files (MutBor S) K). DatagramStep (borrowed_source sources) sinks from bytes e (Source first) h.0 f) is h.1 in
+      let now : DatagramStep sources sinks from bytes e (Source first.now) h.0 (Source second.now) =
+      source_step_as (borrowed_source sources) sinks sources sinks
       (λ s. s.now) (record { tells = λ s. refl; fails = λ s want f. f }) from bytes e first h.0 second steps in
       record {
         turn = h.0;
-        steps = subst (λ (s : S). DatagramStep left may_fail held may_refuse_append may_refuse_commit becomes from bytes e (Source first.now) h.0 (Source s)) (sym same) now;
+        steps = subst (λ (s : S). DatagramStep sources sinks from bytes e (Source first.now) h.0 (Source s)) (sym same) now;
         carries = h.2;
         tells = h.3;
       }
 
   pub sink_steps : (from : Endpoint) (bytes : List ℕ) (e e' : EndState) (first second : MutBor K) (files : Files S (MutBor K)) (last : K) (result : Result R EndFault) → files ≡ Sink second → last ≡ second.now →
       IfOk result (StepsOverSink from bytes e e' (Sink first) files) →
-      IfOk result (λ r. MakesStep left may_fail held may_refuse_append may_refuse_commit becomes (gives r) from bytes e e' (Sink first.now) (Sink last) (step_in r))
+      IfOk result (λ r. MakesStep sources sinks (gives r) from bytes e e' (Sink first.now) (Sink last) (step_in r))
   sink_steps from bytes e e' first second files last (Err fault) is same h = tt
   sink_steps from bytes e e' first second files last (Ok r) is same h =
-      let steps = subst (λ (f : Files S (MutBor K)). DatagramStep left may_fail (λ (k : MutBor K). held k.now) (λ (k : MutBor K) piece fault. may_refuse_append k.now piece fault) (λ (k : MutBor K) fault. may_refuse_commit k.now fault) (λ (k l : MutBor K) committed. becomes k.now l.now committed) from bytes e (Sink first) h.0 f) is h.1 in
-      let now : DatagramStep left may_fail held may_refuse_append may_refuse_commit becomes from bytes e (Sink first.now) h.0 (Sink second.now) =
-      sink_step_as left may_fail (λ (k : MutBor K). held k.now) (λ (k : MutBor K) piece fault. may_refuse_append k.now piece fault) (λ (k : MutBor K) fault. may_refuse_commit k.now fault) (λ (k l : MutBor K) committed. becomes k.now l.now committed) left may_fail held may_refuse_append may_refuse_commit becomes
+      let steps = subst (λ (f : Files S (MutBor K)). DatagramStep sources (borrowed_sink sinks) from bytes e (Sink first) h.0 f) is h.1 in
+      let now : DatagramStep sources sinks from bytes e (Sink first.now) h.0 (Sink second.now) =
+      sink_step_as sources (borrowed_sink sinks) sources sinks
       (λ k. k.now) (λ k. Unit {0}) (record { tells = λ k. refl; keeps = λ k l p b. tt; appends = λ k piece fault p f. f; commits = λ k fault p f. f; leaves = λ k l committed p b. b }) from bytes e first h.0 second tt steps in
       record {
         turn = h.0;
-        steps = subst (λ (k : K). DatagramStep left may_fail held may_refuse_append may_refuse_commit becomes from bytes e (Sink first.now) h.0 (Sink k)) (sym same) now;
+        steps = subst (λ (k : K). DatagramStep sources sinks from bytes e (Sink first.now) h.0 (Sink k)) (sym same) now;
         carries = h.2;
         tells = h.3;
       }
 
 -- after a fault the borrowed file tells the same
-pub source_kept : {S K R : Type 0} (left : S → Option (List ℕ)) (held : K → Option Holding) (becomes : K → K → Bool → Type 0) (first second : MutBor S) (files : Files (MutBor S) K) (last : S) (A B : Type 0) (result : Result R EndFault) → files ≡ Source second → last ≡ second.now →
-    (A → KeepsFiles (λ (s : MutBor S). left s.now) held becomes (Source first) files) → (A → left last ≡ left first.now → B) → OnErr result A → OnErr result B
-source_kept left held becomes first second files last A B (Ok r) is same keeps then h = tt
-source_kept {S = S} {K = K} left held becomes first second files last A B (Err fault) is same keeps then h =
-    then h (ap left same ∙ subst (λ (f : Files (MutBor S) K). KeepsFiles (λ (s : MutBor S). left s.now) held becomes (Source first) f) is (keeps h))
+pub source_kept : {S K R : Type 0} (sources : SourceMeaning S) (sinks : SinkMeaning K) (first second : MutBor S) (files : Files (MutBor S) K) (last : S) (A B : Type 0) (result : Result R EndFault) → files ≡ Source second → last ≡ second.now →
+    (A → KeepsFiles (borrowed_source sources) sinks (Source first) files) → (A → sources.left last ≡ sources.left first.now → B) → OnErr result A → OnErr result B
+source_kept sources sinks first second files last A B (Ok r) is same keeps then h = tt
+source_kept {S = S} {K = K} sources sinks first second files last A B (Err fault) is same keeps then h =
+    then h (ap sources.left same ∙ subst (λ (f : Files (MutBor S) K). KeepsFiles (borrowed_source sources) sinks (Source first) f) is (keeps h))
 
-pub sink_kept : {S K R : Type 0} (left : S → Option (List ℕ)) (held : K → Option Holding) (becomes : K → K → Bool → Type 0) (first second : MutBor K) (files : Files S (MutBor K)) (last : K) (A B : Type 0) (result : Result R EndFault) → files ≡ Sink second → last ≡ second.now →
-    (A → KeepsFiles left (λ (k : MutBor K). held k.now) (λ (k l : MutBor K) committed. becomes k.now l.now committed) (Sink first) files) → (A → KeepsSink held becomes first.now last → B) → OnErr result A → OnErr result B
-sink_kept left held becomes first second files last A B (Ok r) is same keeps then h = tt
-sink_kept {S = S} {K = K} left held becomes first second files last A B (Err fault) is same keeps then h =
-    let kept = subst (λ (f : Files S (MutBor K)). KeepsFiles left (λ (k : MutBor K). held k.now) (λ (k l : MutBor K) committed. becomes k.now l.now committed) (Sink first) f) is (keeps h) in
-    then h (subst (λ (k : K). KeepsSink held becomes first.now k) (sym same) (record { holding = kept.holding; leaves = kept.leaves }))
+pub sink_kept : {S K R : Type 0} (sources : SourceMeaning S) (sinks : SinkMeaning K) (first second : MutBor K) (files : Files S (MutBor K)) (last : K) (A B : Type 0) (result : Result R EndFault) → files ≡ Sink second → last ≡ second.now →
+    (A → KeepsFiles sources (borrowed_sink sinks) (Sink first) files) → (A → KeepsSink sinks first.now last → B) → OnErr result A → OnErr result B
+sink_kept sources sinks first second files last A B (Ok r) is same keeps then h = tt
+sink_kept {S = S} {K = K} sources sinks first second files last A B (Err fault) is same keeps then h =
+    let kept = subst (λ (f : Files S (MutBor K)). KeepsFiles sources (borrowed_sink sinks) (Sink first) f) is (keeps h) in
+    then h (subst (λ (k : K). KeepsSink sinks first.now k) (sym same) (record { holding = kept.holding; leaves = kept.leaves }))

@@ -10,6 +10,7 @@ use Rattle.tftp_negotiate.specs.declared.known.Kind.{Kind}
 use Rattle.tftp_negotiate.specs.declared.limits.Limits.{Limits}
 use Rattle.tftp_negotiate.specs.declared.known.Known.{Known}
 use Rattle.tftp_file.specs.Path.{path_of_name}
+use Rattle.tftp_file.specs.Source.{SourceMeaning}
 use Rattle.tftp_file.specs.declared.fault.StoreFault.{StoreFault}
 use Rattle.tftp_file.specs.declared.fault.StoreFault.TheVariants.{Memory}
 use Rattle.tftp_file.specs.declared.files.Files.TheVariants.{Sink}
@@ -89,11 +90,11 @@ module _ (cap count : ℕ) (limits : Limits) where
       (decoded, repeated, says, repeats, h ∙ (ap (λ (b : Bool). by_repeat b (named kind request)) (sym new) ∙ asks_named bytes (Some (kind, request)) decoded repeated test is))
   asked_by_name from held bytes kind request decoded repeated (Err fault) test says is repeats new h = tt
 
-module _ {S F D : Type 0} (meaning : StoreMeaning S F D) (old : ServerState S F D) (from : Endpoint) (bytes : List ℕ) where
+module _ {S F D : Type 0} (meaning : StoreMeaning S D) (sources : SourceMeaning F) (old : ServerState S F D) (from : Endpoint) (bytes : List ℕ) where
   -- the file was opened, and this was decided of it
-  pub asks_to_read : {E : Type 0} (path : List ℕ) (mode : Mode) (options : List RawOption) (file : Opening F) (r : Result (Decision F D) E) → Opens meaning.left (meaning.stored old.store) path mode (Ok file) →
-      IfOk r (λ d. Sent meaning old from bytes (by_file old.config.limits path mode options (Ok file.length)) (Ok file) (came_to d old.store)) →
-      IfOk r (λ d. AsksToRead meaning old from bytes path mode options (came_to d old.store))
+  pub asks_to_read : {E : Type 0} (path : List ℕ) (mode : Mode) (options : List RawOption) (file : Opening F) (r : Result (Decision F D) E) → Opens sources (meaning.stored old.store) path mode (Ok file) →
+      IfOk r (λ d. Sent meaning sources old from bytes (by_file old.config.limits path mode options (Ok file.length)) (Ok file) (came_to d old.store)) →
+      IfOk r (λ d. AsksToRead meaning sources old from bytes path mode options (came_to d old.store))
   asks_to_read path mode options file (Ok d) o h =
       record { file = Ok file; opens = o; refused = tt; memory = λ e. cc; goes_on = h }
   asks_to_read path mode options file (Err e) o h = tt
@@ -102,7 +103,7 @@ module _ {S F D : Type 0} (meaning : StoreMeaning S F D) (old : ServerState S F 
   pub asks_to_write : (path : List ℕ) (mode : Mode) (agreed : List Known) (store : S) (draft : D) (end : EndState) (request : List ℕ) (held : Held F D) → Begins meaning.drafted (meaning.stored old.store) (meaning.stored store) path old.config.overwrite (Ok draft) →
       end ≡ serving_write agreed from mode old.config.retries → request ≡ bytes →
       held ≡ record { end = end; files = Sink draft; path = path; request = request } →
-      AsksToWrite meaning old from bytes path mode agreed (A_transfer held store)
+      AsksToWrite meaning sources old from bytes path mode agreed (A_transfer held store)
   asks_to_write path mode agreed store draft end request held begins opens copies is =
       let held-is : held ≡ record { end = serving_write agreed from mode old.config.retries; files = Sink draft; path = path; request = bytes } = rw (← opens, ← copies) is in
       record { store = store; draft = Ok draft; begins = begins; refused = tt; memory = λ e. cc; goes_on = ap (λ (h : Held F D). A_transfer h store) held-is }
@@ -111,7 +112,7 @@ module _ {S F D : Type 0} (meaning : StoreMeaning S F D) (old : ServerState S F 
   pub refused_to_write : {E : Type 0} (path : List ℕ) (mode : Mode) (agreed : List Known) (store : S) (fault : StoreFault) (r : Result (Decision F D) E) → Begins {K = D} meaning.drafted (meaning.stored old.store) (meaning.stored store) path old.config.overwrite (Err fault) →
       meaning.may_refuse_begin old.store path old.config.overwrite fault →
       IfOk r (λ d. (d ≡ Refuse (begin_reply fault)) × (fault ≢ Memory)) →
-      IfOk r (λ d. AsksToWrite meaning old from bytes path mode agreed (came_to d store))
+      IfOk r (λ d. AsksToWrite meaning sources old from bytes path mode agreed (came_to d store))
   refused_to_write path mode agreed store fault (Err e) begins may h = tt
   refused_to_write path mode agreed store fault (Ok d) begins may h =
       record { store = store; draft = Err fault; begins = begins; refused = may; memory = λ e. h.1 (cc); goes_on = ap (λ (d : Decision F D). came_to d store) h.0 }
@@ -134,21 +135,21 @@ module _ {S F D : Type 0} (meaning : StoreMeaning S F D) (old : ServerState S F 
   -- what the port asks, and what came of it, is its step
   request_step : (tid : ℕ) (ask : Ask) (came : Came S F D) (result : Left S F D) →
       IsAsked ask →
-      Goes meaning old from bytes ask came → result ≡ left_by came old from tid → RequestStep meaning old from bytes tid result
+      Goes meaning sources old from bytes ask came → result ≡ left_by came old from tid → RequestStep meaning sources old from bytes tid result
   request_step tid ask came result asked goes left =
-      record { decoded = asked.0; says = asked.2; repeated = asked.1; repeats = asked.3; came = came; goes = subst (λ (a : Ask). Goes meaning old from bytes a came) asked.4 goes; left = left }
+      record { decoded = asked.0; says = asked.2; repeated = asked.1; repeats = asked.3; came = came; goes = subst (λ (a : Ask). Goes meaning sources old from bytes a came) asked.4 goes; left = left }
 
   -- nothing comes of it
   pub stays_silent : (tid : ℕ) (out : List ℕ) →
       IsAsked Ignores →
-      (sent : List ℕ) × (out ≡ out ++ sent) × RequestStep meaning old from bytes tid (record { new = old; opened = record { tid = None; to = None }; sent = sent })
+      (sent : List ℕ) × (out ≡ out ++ sent) × RequestStep meaning sources old from bytes tid (record { new = old; opened = record { tid = None; to = None }; sent = sent })
   stays_silent tid out asked = ([], sym (append-nil out), request_step tid Ignores Nothing _ asked refl refl)
 
   -- an ERROR went out
   pub refuses : (tid : ℕ) (reply : ErrorReply) (before after : List ℕ) (r : Result Opened ServerFault) →
       IsAsked (Refuses reply) →
       IfOk r (λ opened. opened ≡ record { tid = None; to = Some from }) → OnOk r (after ≡ before ++ error_bytes reply) →
-      IfOk r (λ opened. (sent : List ℕ) × (after ≡ before ++ sent) × RequestStep meaning old from bytes tid (record { new = old; opened = opened; sent = sent }))
+      IfOk r (λ opened. (sent : List ℕ) × (after ≡ before ++ sent) × RequestStep meaning sources old from bytes tid (record { new = old; opened = opened; sent = sent }))
   refuses tid reply before after (Ok opened) asked tells ok = (
     error_bytes reply,
     ok,
@@ -160,14 +161,14 @@ module _ {S F D : Type 0} (meaning : StoreMeaning S F D) (old : ServerState S F 
   -- the store was asked for a file or a draft
   pub goes_on : (tid : ℕ) (ask : Ask) (before after : List ℕ) (new : ServerState S F D) (r : Result Opened ServerFault) →
       IsAsked ask →
-      IfOk r (λ opened. (came : Came S F D) × (sent : List ℕ) × Goes meaning old from bytes ask came
+      IfOk r (λ opened. (came : Came S F D) × (sent : List ℕ) × Goes meaning sources old from bytes ask came
       × (after ≡ before ++ sent) × (record { new = new; opened = opened; sent = sent } ≡ left_by came old from tid)) →
-      IfOk r (λ opened. (sent : List ℕ) × (after ≡ before ++ sent) × RequestStep meaning old from bytes tid (record { new = new; opened = opened; sent = sent }))
+      IfOk r (λ opened. (sent : List ℕ) × (after ≡ before ++ sent) × RequestStep meaning sources old from bytes tid (record { new = new; opened = opened; sent = sent }))
   goes_on tid ask before after new (Ok opened) asked h = (h.1, h.3, request_step tid ask h.0 _ asked h.2 h.4)
   goes_on tid ask before after new (Err fault) asked h = tt
 
 -- ---- a write, whose table has made room first
-module _ {S F D : Type 0} (meaning : StoreMeaning S F D) (config : Config) (store : S) (held none : List (ℕ × Held F D)) (from : Endpoint) (bytes : List ℕ) (path : List ℕ) (mode : Mode) (agreed : List Known) (after : ServerState S F D)
+module _ {S F D : Type 0} (meaning : StoreMeaning S D) (sources : SourceMeaning F) (config : Config) (store : S) (held none : List (ℕ × Held F D)) (from : Endpoint) (bytes : List ℕ) (path : List ℕ) (mode : Mode) (agreed : List Known) (after : ServerState S F D)
     (config' : Config) (store' : S) (others : List (ℕ × Held F D)) (table : List (ℕ × Held F D)) where
   abbrev before_write : List (ℕ × Held F D) → ServerState S F D
   before_write transfers = record { config = config; store = store; held = transfers }
@@ -183,30 +184,30 @@ module _ {S F D : Type 0} (meaning : StoreMeaning S F D) (config : Config) (stor
     store_kept = ap (λ (s : ServerState S F D). s.store) seen
 
     -- what the store was asked has nothing to do with the other transfers
-    asked_apart : (came : Came S F D) → AsksToWrite meaning (before_write none) from bytes path mode agreed came → AsksToWrite meaning (before_write held) from bytes path mode agreed came
+    asked_apart : (came : Came S F D) → AsksToWrite meaning sources (before_write none) from bytes path mode agreed came → AsksToWrite meaning sources (before_write held) from bytes path mode agreed came
     asked_apart came h = record { store = h.store; draft = h.draft; begins = h.begins; refused = h.refused; memory = h.memory; goes_on = h.goes_on }
 
     abbrev Written : ℕ → List ℕ → List ℕ → Opened → Type 0
     Written tid was out opened =
-        (came : Came S F D) × (sent : List ℕ) × AsksToWrite meaning (before_write held) from bytes path mode agreed came
+        (came : Came S F D) × (sent : List ℕ) × AsksToWrite meaning sources (before_write held) from bytes path mode agreed came
         × (out ≡ was ++ sent) × (record { new = after_write table; opened = opened; sent = sent } ≡ left_by came (before_write held) from tid)
 
-    pub write_opened : (tid : ℕ) (was out : List ℕ) (d : Decision F D) (transfer : Held F D) → d ≡ Open transfer → table ≡ with_new tid transfer held → AsksToWrite meaning (before_write none) from bytes path mode agreed (came_to d after.store) → out ≡ was ++ decided_bytes d →
+    pub write_opened : (tid : ℕ) (was out : List ℕ) (d : Decision F D) (transfer : Held F D) → d ≡ Open transfer → table ≡ with_new tid transfer held → AsksToWrite meaning sources (before_write none) from bytes path mode agreed (came_to d after.store) → out ≡ was ++ decided_bytes d →
         Written tid was out (record { tid = Some tid; to = Some from })
     write_opened tid was out d transfer is put asks sent = (
       A_transfer transfer after.store,
       transfer.end.last_sent,
-      asked_apart (A_transfer transfer after.store) (subst (λ (x : Decision F D). AsksToWrite meaning (before_write none) from bytes path mode agreed (came_to x after.store)) is asks),
+      asked_apart (A_transfer transfer after.store) (subst (λ (x : Decision F D). AsksToWrite meaning sources (before_write none) from bytes path mode agreed (came_to x after.store)) is asks),
       sent ∙ ap (λ (x : Decision F D). was ++ decided_bytes x) is,
       rw (config_kept, store_kept, put) refl,
     )
 
-    pub write_refused : (tid : ℕ) (was mid out : List ℕ) (d : Decision F D) (reply : ErrorReply) (opened : Opened) → d ≡ Refuse reply → table ≡ held → AsksToWrite meaning (before_write none) from bytes path mode agreed (came_to d after.store) → mid ≡ was ++ decided_bytes d →
+    pub write_refused : (tid : ℕ) (was mid out : List ℕ) (d : Decision F D) (reply : ErrorReply) (opened : Opened) → d ≡ Refuse reply → table ≡ held → AsksToWrite meaning sources (before_write none) from bytes path mode agreed (came_to d after.store) → mid ≡ was ++ decided_bytes d →
         opened ≡ record { tid = None; to = Some from } → out ≡ mid ++ error_bytes reply → Written tid was out opened
     write_refused tid was mid out d reply opened is back asks sent tells ok = (
       An_error reply after.store,
       error_bytes reply,
-      asked_apart (An_error reply after.store) (subst (λ (x : Decision F D). AsksToWrite meaning (before_write none) from bytes path mode agreed (came_to x after.store)) is asks),
+      asked_apart (An_error reply after.store) (subst (λ (x : Decision F D). AsksToWrite meaning sources (before_write none) from bytes path mode agreed (came_to x after.store)) is asks),
       ok ∙ ap (λ (x : List ℕ). x ++ error_bytes reply) (nothing_sent was mid d reply is sent),
       rw (config_kept, store_kept, back, tells) refl,
     )

@@ -4,10 +4,10 @@ use Rattle.std.specs.Prelude.{not, IsErrOf}
 use Rattle.std.proofs.lemmas.Map.Steps.{set_value_same}
 use Rattle.std.specs.BTreeMap.{is_at}
 use Rattle.std.specs.Ordering.{nat_cmp}
-use Rattle.tftp_file.specs.Sink.{Holding}
+use Rattle.tftp_file.specs.Source.{SourceMeaning}
+use Rattle.tftp_file.specs.Sink.{SinkMeaning, sink_through}
 use Rattle.tftp_file.specs.declared.files.Files.{Files}
 use Rattle.tftp_file.specs.declared.files.Files.TheVariants.{Source, Sink}
-use Rattle.tftp_file.specs.declared.fault.StoreFault.{StoreFault}
 use Rattle.tftp_ends.specs.declared.endpoint.Endpoint.{Endpoint}
 use Rattle.tftp_ends.specs.declared.fault.EndFault.{EndFault}
 use Rattle.tftp_ends.specs.declared.fault.EndFault.TheVariants as ends
@@ -21,7 +21,7 @@ use Rattle.tftp_ends.specs.Step.{IsAnswered, told, timeout_turn}
 use Rattle.tftp_wire.specs.declared.packet.Packet.{Packet}
 use Rattle.tftp_server.specs.declared.draft_sink.DraftSink.{DraftSink}
 use Rattle.tftp_server.specs.declared.fault.ServerFault.{ServerFault}
-use Rattle.tftp_server.specs.Draft.{Drafting, drafting_holds, MayRefuseAppend, MayRefuseCommit, DraftingBecomes}
+use Rattle.tftp_server.specs.Draft.{Drafting, drafting_sink}
 use Rattle.tftp_server.specs.Fault.{of_end}
 use Rattle.tftp_server.specs.State.{Held, ServerState, is_closed, at, with_next}
 use Rattle.tftp_server.specs.Steps.{Gives, MakesStep, StepIn, TakesBy, TakesDatagramBy, TimesOutBy, StaysAs, KeepsHeld, TimeoutFault, DatagramFaultBy, with_end}
@@ -40,16 +40,16 @@ drafting_now {S = S} {D = D} k store path replace s p r =
     let step-3 : ◌≡◌ {A = Drafting S D} (record { store = store; draft = k.draft.now; path = path; replace = k.replace }) (record { store = store; draft = k.draft.now; path = path; replace = replace }) = ap (λ (x : Bool). record { store = store; draft = k.draft.now; path = path; replace = x }) r in
     step-1 ∙ step-2 ∙ step-3
 
-module _ {S F D : Type 0} (meaning : StoreMeaning S F D) (gives : Gives) where
+module _ {S F D : Type 0} (meaning : StoreMeaning S D) (sources : SourceMeaning F) (gives : Gives) where
   -- a transfer that reads makes this step, whatever sinks there are
-  pub takes_from_source : {K : Type 0} (held : K → Option Holding) (may_refuse_append : K → List ℕ → StoreFault → Type 0) (may_refuse_commit : K → StoreFault → Type 0) (becomes : K → K → Bool → Type 0) (replace : Bool) (from : Endpoint) (bytes : List ℕ) (store : S) (e e' : EndState) (s s' : F) (path request : List ℕ) (step : Step) →
-      MakesStep meaning.left meaning.may_fail held may_refuse_append may_refuse_commit becomes gives from bytes e e' (Source s) (Source s') step →
-      TakesBy meaning gives replace from bytes store store (record { end = e; files = Source s; path = path; request = request }) (record { end = e'; files = Source s'; path = path; request = request }) step
-  takes_from_source held may_refuse_append may_refuse_commit becomes replace from bytes store e e' s s' path request step h =
+  pub takes_from_source : {K : Type 0} (sinks : SinkMeaning K) (replace : Bool) (from : Endpoint) (bytes : List ℕ) (store : S) (e e' : EndState) (s s' : F) (path request : List ℕ) (step : Step) →
+      MakesStep sources sinks gives from bytes e e' (Source s) (Source s') step →
+      TakesBy meaning sources gives replace from bytes store store (record { end = e; files = Source s; path = path; request = request }) (record { end = e'; files = Source s'; path = path; request = request }) step
+  takes_from_source sinks replace from bytes store e e' s s' path request step h =
       record {
         turn = h.turn;
         steps =
-            source_step_as meaning.left meaning.may_fail held may_refuse_append may_refuse_commit becomes meaning.left meaning.may_fail (drafting_holds meaning) (MayRefuseAppend meaning) (MayRefuseCommit meaning) (DraftingBecomes meaning)
+            source_step_as sources sinks sources (drafting_sink meaning)
             (λ s. s) (record { tells = λ s. refl; fails = λ s want f. f }) from bytes e s h.turn s' h.steps;
         carries = h.carries;
         tells = h.tells;
@@ -62,17 +62,17 @@ module _ {S F D : Type 0} (meaning : StoreMeaning S F D) (gives : Gives) where
   -- a transfer that stores makes this step, where the sink is a draft of the store
   pub takes_into_draft : {K : Type 0} (as_drafting : K → Drafting S D) (replace : Bool) (from : Endpoint) (bytes : List ℕ) (store store' : S) (e e' : EndState) (k k' : K) (draft draft' : D) (path request : List ℕ) (step : Step) →
       as_drafting k ≡ record { store = store; draft = draft; path = path; replace = replace } → as_drafting k' ≡ record { store = store'; draft = draft'; path = path; replace = replace } →
-      MakesStep meaning.left meaning.may_fail (λ k. drafting_holds meaning (as_drafting k)) (λ k piece fault. MayRefuseAppend meaning (as_drafting k) piece fault) (λ k fault. MayRefuseCommit meaning (as_drafting k) fault) (λ k l committed. DraftingBecomes meaning (as_drafting k) (as_drafting l) committed) gives from bytes e e' (Sink k) (Sink k') step →
-      TakesBy meaning gives replace from bytes store store' (record { end = e; files = Sink draft; path = path; request = request }) (record { end = e'; files = Sink draft'; path = path; request = request }) step
+      MakesStep sources (sink_through (drafting_sink meaning) as_drafting) gives from bytes e e' (Sink k) (Sink k') step →
+      TakesBy meaning sources gives replace from bytes store store' (record { end = e; files = Sink draft; path = path; request = request }) (record { end = e'; files = Sink draft'; path = path; request = request }) step
   takes_into_draft as_drafting replace from bytes store store' e e' k k' draft draft' path request step was is h =
       let steps =
-      sink_step_as meaning.left meaning.may_fail (λ k. drafting_holds meaning (as_drafting k)) (λ k piece fault. MayRefuseAppend meaning (as_drafting k) piece fault) (λ k fault. MayRefuseCommit meaning (as_drafting k) fault) (λ k l committed. DraftingBecomes meaning (as_drafting k) (as_drafting l) committed)
-      meaning.left meaning.may_fail (drafting_holds meaning) (MayRefuseAppend meaning) (MayRefuseCommit meaning) (DraftingBecomes meaning)
+      sink_step_as sources (sink_through (drafting_sink meaning) as_drafting)
+      sources (drafting_sink meaning)
       as_drafting (λ k. Unit {0}) (record { tells = λ k. refl; keeps = λ k l p b. tt; appends = λ k piece fault p f. f; commits = λ k fault p f. f; leaves = λ k l committed p b. b }) from bytes e k h.turn k' tt h.steps in
-      let last = subst (λ (d : Drafting S D). StepIn meaning from bytes e (Sink (as_drafting k)) h.turn (Sink d)) is steps in
+      let last = subst (λ (d : Drafting S D). StepIn meaning sources from bytes e (Sink (as_drafting k)) h.turn (Sink d)) is steps in
       record {
         turn = h.turn;
-        steps = subst (λ (d : Drafting S D). StepIn meaning from bytes e (Sink d) h.turn (Sink (record { store = store'; draft = draft'; path = path; replace = replace }))) was last;
+        steps = subst (λ (d : Drafting S D). StepIn meaning sources from bytes e (Sink d) h.turn (Sink (record { store = store'; draft = draft'; path = path; replace = replace }))) was last;
         carries = h.carries;
         tells = h.tells;
         stays = tt;
@@ -81,24 +81,24 @@ module _ {S F D : Type 0} (meaning : StoreMeaning S F D) (gives : Gives) where
         request = refl;
       }
 
-module _ {S F D R : Type 0} (meaning : StoreMeaning S F D) (step_in : R → Step) (gives : R → Gives) where
+module _ {S F D R : Type 0} (meaning : StoreMeaning S D) (sources : SourceMeaning F) (step_in : R → Step) (gives : R → Gives) where
   -- a call was answered, over a source or over a draft
-  pub source_taken : {K : Type 0} (held : K → Option Holding) (may_refuse_append : K → List ℕ → StoreFault → Type 0) (may_refuse_commit : K → StoreFault → Type 0) (becomes : K → K → Bool → Type 0) (replace : Bool) (from : Endpoint) (bytes : List ℕ) (store : S) (e e' : EndState) (files : Files F D) (s s' : F) (path request : List ℕ) (result : Result R EndFault) → files ≡ Source s →
-      IfOk result (λ r. MakesStep meaning.left meaning.may_fail held may_refuse_append may_refuse_commit becomes (gives r) from bytes e e' (Source s) (Source s') (step_in r)) →
-      IfOk result (λ r. TakesBy meaning (gives r) replace from bytes store store (record { end = e; files = files; path = path; request = request }) (record { end = e'; files = Source s'; path = path; request = request }) (step_in r))
-  source_taken held may_refuse_append may_refuse_commit becomes replace from bytes store e e' files s s' path request (Err fault) is h = tt
-  source_taken held may_refuse_append may_refuse_commit becomes replace from bytes store e e' files s s' path request (Ok r) is h =
-      subst (λ (f : Files F D). TakesBy meaning (gives r) replace from bytes store store (record { end = e; files = f; path = path; request = request }) (record { end = e'; files = Source s'; path = path; request = request }) (step_in r)) (sym is)
-      (takes_from_source meaning (gives r) held may_refuse_append may_refuse_commit becomes replace from bytes store e e' s s' path request (step_in r) h)
+  pub source_taken : {K : Type 0} (sinks : SinkMeaning K) (replace : Bool) (from : Endpoint) (bytes : List ℕ) (store : S) (e e' : EndState) (files : Files F D) (s s' : F) (path request : List ℕ) (result : Result R EndFault) → files ≡ Source s →
+      IfOk result (λ r. MakesStep sources sinks (gives r) from bytes e e' (Source s) (Source s') (step_in r)) →
+      IfOk result (λ r. TakesBy meaning sources (gives r) replace from bytes store store (record { end = e; files = files; path = path; request = request }) (record { end = e'; files = Source s'; path = path; request = request }) (step_in r))
+  source_taken sinks replace from bytes store e e' files s s' path request (Err fault) is h = tt
+  source_taken sinks replace from bytes store e e' files s s' path request (Ok r) is h =
+      subst (λ (f : Files F D). TakesBy meaning sources (gives r) replace from bytes store store (record { end = e; files = f; path = path; request = request }) (record { end = e'; files = Source s'; path = path; request = request }) (step_in r)) (sym is)
+      (takes_from_source meaning sources (gives r) sinks replace from bytes store e e' s s' path request (step_in r) h)
 
   pub draft_taken : (replace : Bool) (from : Endpoint) (bytes : List ℕ) (store store' : S) (e e' : EndState) (files : Files F D) (k k' : DraftSink S F D) (draft draft' : D) (path request : List ℕ) (result : Result R EndFault) → files ≡ Sink draft →
       drafting_of k ≡ record { store = store; draft = draft; path = path; replace = replace } → drafting_of k' ≡ record { store = store'; draft = draft'; path = path; replace = replace } →
-      IfOk result (λ r. MakesStep meaning.left meaning.may_fail (λ k. drafting_holds meaning (drafting_of k)) (λ k piece fault. MayRefuseAppend meaning (drafting_of k) piece fault) (λ k fault. MayRefuseCommit meaning (drafting_of k) fault) (λ k l committed. DraftingBecomes meaning (drafting_of k) (drafting_of l) committed) (gives r) from bytes e e' (Sink k) (Sink k') (step_in r)) →
-      IfOk result (λ r. TakesBy meaning (gives r) replace from bytes store store' (record { end = e; files = files; path = path; request = request }) (record { end = e'; files = Sink draft'; path = path; request = request }) (step_in r))
+      IfOk result (λ r. MakesStep sources (sink_through (drafting_sink meaning) drafting_of) (gives r) from bytes e e' (Sink k) (Sink k') (step_in r)) →
+      IfOk result (λ r. TakesBy meaning sources (gives r) replace from bytes store store' (record { end = e; files = files; path = path; request = request }) (record { end = e'; files = Sink draft'; path = path; request = request }) (step_in r))
   draft_taken replace from bytes store store' e e' files k k' draft draft' path request (Err fault) is was now h = tt
   draft_taken replace from bytes store store' e e' files k k' draft draft' path request (Ok r) is was now h =
-      subst (λ (f : Files F D). TakesBy meaning (gives r) replace from bytes store store' (record { end = e; files = f; path = path; request = request }) (record { end = e'; files = Sink draft'; path = path; request = request }) (step_in r)) (sym is)
-      (takes_into_draft meaning (gives r) drafting_of replace from bytes store store' e e' k k' draft draft' path request (step_in r) was now h)
+      subst (λ (f : Files F D). TakesBy meaning sources (gives r) replace from bytes store store' (record { end = e; files = f; path = path; request = request }) (record { end = e'; files = Sink draft'; path = path; request = request }) (step_in r)) (sym is)
+      (takes_into_draft meaning sources (gives r) drafting_of replace from bytes store store' e e' k k' draft draft' path request (step_in r) was now h)
 
 -- ---- why an event was not taken
 different : {R : Type 0} (fault : EndFault) → fault ≡ ends.Memory → IsErrOf {T = R} (Err fault) ends.Closed → ⊥
@@ -147,8 +147,8 @@ module _ {F D : Type 0} where
   pub nothing_written : (tid : ℕ) (table : List (ℕ × Held F D)) (transfer next : Held F D) → Some transfer ≡ at tid table → next ≡ transfer → with_next tid next table ≡ table
   nothing_written tid table transfer next found same = ap (λ (t : Held F D). with_next tid t table) same ∙ set_value_same (is_at (nat_cmp tid)) table transfer (sym found)
 
-module _ {S F D : Type 0} (meaning : StoreMeaning S F D) (tid : ℕ) (old new : ServerState S F D) (table : List (ℕ × Held F D)) (transfer next : Held F D) (same : table ≡ old.held) (found : Some transfer ≡ at tid table) (written : new.held ≡ with_next tid next table) where
-  pub takes_datagram : (gives : Gives) (from : Endpoint) (bytes : List ℕ) (step : Step) → TakesBy meaning gives old.config.overwrite from bytes old.store new.store transfer next step → TakesDatagramBy meaning gives tid from bytes old new step
+module _ {S F D : Type 0} (meaning : StoreMeaning S D) (sources : SourceMeaning F) (tid : ℕ) (old new : ServerState S F D) (table : List (ℕ × Held F D)) (transfer next : Held F D) (same : table ≡ old.held) (found : Some transfer ≡ at tid table) (written : new.held ≡ with_next tid next table) where
+  pub takes_datagram : (gives : Gives) (from : Endpoint) (bytes : List ℕ) (step : Step) → TakesBy meaning sources gives old.config.overwrite from bytes old.store new.store transfer next step → TakesDatagramBy meaning sources gives tid from bytes old new step
   takes_datagram gives from bytes step h =
       record {
         transfer = transfer;
@@ -158,11 +158,11 @@ module _ {S F D : Type 0} (meaning : StoreMeaning S F D) (tid : ℕ) (old new : 
         held = written ∙ ap (with_next tid next) same;
       }
 
-  pub takes_recorded : (gives : Gives) (from : Endpoint) (bytes : List ℕ) (step : Step) (r : Record) → TakesBy meaning gives old.config.overwrite from bytes old.store new.store transfer next step → r ≡ record_of next.end →
-      (taken : TakesDatagramBy meaning gives tid from bytes old new step) × (r ≡ record_of taken.next.end)
+  pub takes_recorded : (gives : Gives) (from : Endpoint) (bytes : List ℕ) (step : Step) (r : Record) → TakesBy meaning sources gives old.config.overwrite from bytes old.store new.store transfer next step → r ≡ record_of next.end →
+      (taken : TakesDatagramBy meaning sources gives tid from bytes old new step) × (r ≡ record_of taken.next.end)
   unfolding takes_datagram
   takes_recorded gives from bytes step r h is = (takes_datagram gives from bytes step h, is)
 
-  pub keeps_held : StaysAs meaning old.config.overwrite old.store new.store transfer next → KeepsHeld meaning tid (at tid old.held) old new
+  pub keeps_held : StaysAs meaning sources old.config.overwrite old.store new.store transfer next → KeepsHeld meaning sources tid (at tid old.held) old new
   keeps_held h =
-      subst (λ (t : Option (Held F D)). KeepsHeld meaning tid t old new) (sym (found_now tid table old.held transfer same found)) (next, h, written ∙ ap (with_next tid next) same)
+      subst (λ (t : Option (Held F D)). KeepsHeld meaning sources tid t old new) (sym (found_now tid table old.held transfer same found)) (next, h, written ∙ ap (with_next tid next) same)

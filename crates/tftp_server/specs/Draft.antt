@@ -1,6 +1,6 @@
 -- A store with one of its drafts, as the sink of a transfer.
 use Rattle.std.specs.Prelude.{ℕ, ◌≡◌, Bool, true, false, List, Option, Ok}
-use Rattle.tftp_file.specs.Sink.{Holding}
+use Rattle.tftp_file.specs.Sink.{Holding, SinkMeaning}
 use Rattle.tftp_file.specs.declared.fault.StoreFault.{StoreFault}
 use Rattle.tftp_file.specs.declared.files.Files.{Files}
 use Rattle.tftp_file.specs.declared.files.Files.TheVariants.{Source, Sink}
@@ -26,7 +26,7 @@ abbrev pub FilesBy : Bool → Option Stored → Option Stored → Option Drafted
 FilesBy true before after draft path replace = Puts {A = Done} before after draft path replace (Ok tt)
 FilesBy false before after draft path replace = files_of after ≡ files_of before
 
-module _ {S F D : Type 0} (meaning : StoreMeaning S F D) where
+module _ {S D : Type 0} (meaning : StoreMeaning S D) where
   -- what the draft holds, and whether the next append or commit was told to be refused
   abbrev pub drafting_holds : Drafting S D → Option Holding
   drafting_holds d = holding_of (meaning.stored d.store) (meaning.drafted d.draft)
@@ -43,6 +43,16 @@ module _ {S F D : Type 0} (meaning : StoreMeaning S F D) where
     pub path : after.path ≡ before.path
     pub replace : after.replace ≡ before.replace
     pub files : FilesBy committed (meaning.stored before.store) (meaning.stored after.store) (meaning.drafted before.draft) before.path before.replace
+
+  -- the meaning of a store with one of its drafts
+  abbrev pub drafting_sink : SinkMeaning (Drafting S D)
+  drafting_sink =
+      record {
+        held = drafting_holds;
+        may_refuse_append = MayRefuseAppend;
+        may_refuse_commit = MayRefuseCommit;
+        becomes = DraftingBecomes;
+      }
 
 -- a transfer that reads leaves the store as it was
 abbrev pub KeepsStore : {S F D : Type 0} → Files F D → S → S → Type 0

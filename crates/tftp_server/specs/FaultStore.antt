@@ -2,9 +2,10 @@
 use Rattle.std.specs.Prelude.{ℕ, ◌≡◌, Bool, true, false, ◌-◌, ◌==◌, if◌then◌else◌, ◌⊎◌, Option, Some, None, Result, Err}
 use Rattle.tftp_file.specs.declared.fault.StoreFault.{StoreFault}
 use Rattle.tftp_file.specs.declared.fault.StoreFault.TheVariants.{Full, Io, Memory}
-use Rattle.tftp_server.specs.Store.{Stored}
+use Rattle.tftp_file.specs.Source.{SourceMeaning}
+use Rattle.tftp_server.specs.Store.{Stored, StoreMeaning}
 
--- the meaning of a store that is made to fail
+-- what a store that is made to fail is
 pub record FaultStoreState (S : Type 0) : Type 0 where
   -- the store below it
   pub inner : S
@@ -17,7 +18,7 @@ pub record FaultStoreState (S : Type 0) : Type 0 where
   -- a source that it opens fails at every fill
   pub fails_fill : Bool
 
--- the meaning of a source that such a store opened: the inner store's source, and whether every fill fails
+-- what a source that such a store opened is: the inner store's source, and whether every fill fails
 pub record OpenedSourceState (F : Type 0) : Type 0 where
   pub source : F
   pub fails : Bool
@@ -56,3 +57,26 @@ MayAnswer false own fault inner = inner
 abbrev pub never_told : Option Stored → Option Stored
 never_told None = None
 never_told (Some store) = Some (record store { refuses = false })
+
+-- the meaning of such a store: that of the one below it, but for the call that it refuses
+abbrev pub fault_meaning : {S D : Type 0} → StoreMeaning S D → StoreMeaning (FaultStoreState S) D
+fault_meaning inner =
+    record {
+      stored = λ s. never_told (inner.stored s.inner);
+      drafted = inner.drafted;
+      may_refuse_open = λ s path fault. MayAnswer s.refuses_open s.fault fault (inner.may_refuse_open s.inner path fault);
+      may_refuse_begin = λ s path replace fault.
+          MayAnswer (is_due s.calls_left) s.fault fault (inner.may_refuse_begin s.inner path replace fault);
+      may_refuse_append = λ s draft bytes fault.
+          MayAnswer (is_due s.calls_left) s.fault fault (inner.may_refuse_append s.inner draft bytes fault);
+      may_refuse_commit = λ s path draft replace fault.
+          MayAnswer (is_due s.calls_left) s.fault fault (inner.may_refuse_commit s.inner path draft replace fault);
+    }
+
+-- the meaning of a source that it opened
+abbrev pub opened_meaning : {F : Type 0} → SourceMeaning F → SourceMeaning (OpenedSourceState F)
+opened_meaning inner =
+    record {
+      left = λ s. inner.left s.source;
+      may_fail = λ s want. (s.fails ≡ true) ⊎ inner.may_fail s.source want;
+    }

@@ -51,13 +51,11 @@ MayRefuseCommit stored path draft replace Full = (stored.refuses ≡ true) ⊎ (
 MayRefuseCommit stored path draft replace _ = ⊥
 
 -- what a store in memory tells of itself
-abbrev pub memory_meaning : StoreMeaning Stored (List ℕ) Drafted
+abbrev pub memory_meaning : StoreMeaning Stored Drafted
 memory_meaning =
     record {
       stored = λ s. Some s;
-      left = λ source. Some source;
       drafted = λ draft. Some draft;
-      may_fail = λ source want. ⊥;
       may_refuse_open = MayRefuseOpen;
       may_refuse_begin = MayRefuseBegin;
       may_refuse_append = MayRefuseAppend;

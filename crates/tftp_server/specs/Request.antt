@@ -10,6 +10,7 @@ use Rattle.tftp_wire.specs.declared.packet.RequestRef.{RequestRef}
 use Rattle.tftp_negotiate.specs.declared.known.Kind.{Kind}
 use Rattle.tftp_negotiate.specs.declared.known.Kind.TheVariants as kinds
 use Rattle.tftp_negotiate.specs.declared.known.Known.{Known}
+use Rattle.tftp_file.specs.Source.{SourceMeaning}
 use Rattle.tftp_file.specs.declared.fault.StoreFault.{StoreFault}
 use Rattle.tftp_file.specs.declared.fault.StoreFault.TheVariants.{Memory}
 use Rattle.tftp_file.specs.declared.files.Files.TheVariants.{Source, Sink}
@@ -67,19 +68,19 @@ module _ {S F D : Type 0} where
         sent = held.end.last_sent;
       }
 
-module _ {S F D : Type 0} (meaning : StoreMeaning S F D) (old : ServerState S F D) (from : Endpoint) (bytes : List ℕ) where
+module _ {S F D : Type 0} (meaning : StoreMeaning S D) (sources : SourceMeaning F) (old : ServerState S F D) (from : Endpoint) (bytes : List ℕ) where
   -- the end of a read opens with DATA 1 or the OACK
   pub record Serves (path : List ℕ) (mode : Mode) (length : ℕ) (agreed : List Known) (source : F) (came : Came S F D) : Type 0 where
     pub rest : F
     pub end : EndState
-    pub serves : ServesRead meaning.left meaning.may_fail agreed from mode length old.config.retries source rest end
+    pub serves : ServesRead sources agreed from mode length old.config.retries source rest end
     pub opens : came ≡ A_transfer (record { end = end; files = Source rest; path = path; request = bytes }) old.store
 
   -- or, where no option is agreed and DATA 1 can't be had, the file has changed
   abbrev pub Starts : List ℕ → Mode → ℕ → List Known → F → Came S F D → Type 0
   Starts path mode length agreed source came =
       Serves path mode length agreed source came
-      ⊎ ((agreed ≡ []) × CannotStart meaning.left meaning.may_fail length source × (came ≡ An_error FileChanged old.store))
+      ⊎ ((agreed ≡ []) × CannotStart sources length source × (came ≡ An_error FileChanged old.store))
 
   -- what comes of a file that was opened, or could not be
   abbrev pub Sent : Service → Result (Opening F) StoreFault → Came S F D → Type 0
@@ -90,7 +91,7 @@ module _ {S F D : Type 0} (meaning : StoreMeaning S F D) (old : ServerState S F 
   -- a read: the store is asked for the file
   pub record AsksToRead (path : List ℕ) (mode : Mode) (options : List RawOption) (came : Came S F D) : Type 0 where
     pub file : Result (Opening F) StoreFault
-    pub opens : Opens meaning.left (meaning.stored old.store) path mode file
+    pub opens : Opens sources (meaning.stored old.store) path mode file
     pub refused : IfErr file (meaning.may_refuse_open old.store path)
     pub memory : file ≢ Err Memory
     pub goes_on : Sent (by_file old.config.limits path mode options (opened_length file)) file came

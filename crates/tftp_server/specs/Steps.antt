@@ -1,8 +1,8 @@
 -- How an event handles the transfer that it is for.
 use Rattle.std.specs.Prelude.{ℕ, ◌≡◌, Bool, false, List, Option, Some, None, ⊤}
 use Rattle.tftp_wire.specs.declared.packet.Packet.{Packet}
-use Rattle.tftp_file.specs.Sink.{Holding}
-use Rattle.tftp_file.specs.declared.fault.StoreFault.{StoreFault}
+use Rattle.tftp_file.specs.Source.{SourceMeaning}
+use Rattle.tftp_file.specs.Sink.{SinkMeaning}
 use Rattle.tftp_file.specs.declared.files.Files.{Files}
 use Rattle.tftp_ends.specs.declared.endpoint.Endpoint.{Endpoint}
 use Rattle.tftp_ends.specs.declared.record.Record.{Record}
@@ -15,7 +15,7 @@ use Rattle.tftp_ends.specs.declared.action.Action.{Action}
 use Rattle.tftp_ends.specs.declared.outgoing.Outgoing.{Outgoing}
 use Rattle.tftp_server.specs.declared.fault.ServerFault.{ServerFault}
 use Rattle.tftp_server.specs.declared.fault.ServerFault.TheVariants.{NoSuchTid, Memory}
-use Rattle.tftp_server.specs.Draft.{Drafting, files_in, drafting_holds, MayRefuseAppend, MayRefuseCommit, DraftingBecomes, KeepsStore}
+use Rattle.tftp_server.specs.Draft.{Drafting, files_in, drafting_sink, KeepsStore}
 use Rattle.tftp_server.specs.State.{Held, ServerState, at, is_open, is_closed, with_next}
 use Rattle.tftp_server.specs.Store.{StoreMeaning}
 
@@ -32,11 +32,9 @@ abbrev pub lends : Outgoing → Gives
 lends outgoing turn e to = Lends turn e to outgoing
 
 -- an end with its file makes the step of a datagram, which gives this
-pub record MakesStep {S K : Type 0} (left : S → Option (List ℕ)) (may_fail : S → ℕ → Type 0) (held : K → Option Holding)
-    (may_refuse_append : K → List ℕ → StoreFault → Type 0) (may_refuse_commit : K → StoreFault → Type 0) (becomes : K → K → Bool → Type 0)
-    (gives : Gives) (from : Endpoint) (bytes : List ℕ) (e e' : EndState) (files files' : Files S K) (step : Step) : Type 0 where
+pub record MakesStep {S K : Type 0} (sources : SourceMeaning S) (sinks : SinkMeaning K) (gives : Gives) (from : Endpoint) (bytes : List ℕ) (e e' : EndState) (files files' : Files S K) (step : Step) : Type 0 where
   pub turn : Turn
-  pub steps : DatagramStep left may_fail held may_refuse_append may_refuse_commit becomes from bytes e files turn files'
+  pub steps : DatagramStep sources sinks from bytes e files turn files'
   pub carries : gives turn e' step.to
   pub tells : step ≡ told e turn
 
@@ -81,11 +79,11 @@ module _ {F D : Type 0} where
   abbrev pub DatagramFaultLent : Endpoint → List ℕ → Option (Held F D) → ServerFault → Type 0
   DatagramFaultLent from bytes transfer fault = DatagramFaultBy UsesFile from bytes transfer fault
 
-module _ {S F D : Type 0} (meaning : StoreMeaning S F D) where
+module _ {S F D : Type 0} (meaning : StoreMeaning S D) (sources : SourceMeaning F) where
   -- what an end does at a datagram with the file of its transfer, which is a source or a draft of the store
   abbrev pub StepIn : Endpoint → List ℕ → EndState → Files F (Drafting S D) → Turn → Files F (Drafting S D) → Type 0
   StepIn from bytes e files turn files' =
-      DatagramStep meaning.left meaning.may_fail (drafting_holds meaning) (MayRefuseAppend meaning) (MayRefuseCommit meaning) (DraftingBecomes meaning) from bytes e files turn files'
+      DatagramStep sources (drafting_sink meaning) from bytes e files turn files'
 
   -- the transfer made the step of a datagram, which gave this, and the store has become that
   pub record TakesBy (gives : Gives) (replace : Bool) (from : Endpoint) (bytes : List ℕ) (store store' : S) (transfer next : Held F D) (step : Step) : Type 0 where
@@ -127,7 +125,7 @@ module _ {S F D : Type 0} (meaning : StoreMeaning S F D) where
     pub path : next.path ≡ transfer.path
     pub request : next.request ≡ transfer.request
     pub stays : KeepsStore transfer.files store store'
-    pub files : KeepsFiles meaning.left (drafting_holds meaning) (DraftingBecomes meaning) (files_in store transfer.path replace transfer.files) (files_in store' next.path replace next.files)
+    pub files : KeepsFiles sources (drafting_sink meaning) (files_in store transfer.path replace transfer.files) (files_in store' next.path replace next.files)
 
   -- nothing has changed; the file of the transfer at the identifier tells the same, and so does the store
   abbrev pub KeepsHeld : ℕ → Option (Held F D) → ServerState S F D → ServerState S F D → Type 0

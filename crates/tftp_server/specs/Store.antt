@@ -7,6 +7,7 @@ use Rattle.std.specs.BTreeMap.{insert_entry, is_at}
 use Rattle.std.specs.Map.{lookup}
 use Rattle.tftp_wire.specs.declared.mode.Mode.{Mode}
 use Rattle.tftp_file.specs.Netascii.{wire_text}
+use Rattle.tftp_file.specs.Source.{SourceMeaning}
 use Rattle.tftp_file.specs.Sink.{Holding}
 use Rattle.tftp_file.specs.declared.fault.StoreFault.{StoreFault}
 use Rattle.tftp_file.specs.declared.fault.StoreFault.TheVariants.{Missing, Exists, Memory}
@@ -17,42 +18,30 @@ use Rattle.tftp_server.specs.declared.store.Opening.{Opening}
 abbrev pub FileList : Type 0
 FileList = List (List ℕ × List ℕ)
 
--- the meaning of a store: its files, and whether it was told to refuse its next append or commit
+-- what a store holds: its files, and whether it was told to refuse its next append or commit
 pub record Stored : Type 0 where
   pub files : List (List ℕ × List ℕ)
   pub refuses : Bool
 
--- the meaning of a draft: its bytes, and whether they are committed
+-- what a draft holds: its bytes, and whether they are committed
 pub record Drafted : Type 0 where
   pub bytes : List ℕ
   pub committed : Bool
 
--- what a store, its sources and its drafts tell of themselves, and which faults they may answer
-pub record StoreMeaning (S F D : Type 0) : Type 1 where
+-- the meaning of stores of one type, whose drafts are of that type
+pub record StoreMeaning (S D : Type 0) : Type 1 where
+  -- its files, and whether its next append or commit was told to be refused, where it tells them
   pub stored : S → Option Stored
-  pub left : F → Option (List ℕ)
+  -- what a draft holds, where it tells it
   pub drafted : D → Option Drafted
-  pub may_fail : F → ℕ → Type 0
+  -- an opening of the path may answer this fault
   pub may_refuse_open : S → List ℕ → StoreFault → Type 0
+  -- a draft of the path, to replace a file or not, may be refused with this fault
   pub may_refuse_begin : S → List ℕ → Bool → StoreFault → Type 0
+  -- an append of these bytes may answer this fault
   pub may_refuse_append : S → D → List ℕ → StoreFault → Type 0
+  -- a commit under the path, to replace a file or not, may answer this fault
   pub may_refuse_commit : S → List ℕ → D → Bool → StoreFault → Type 0
-
--- the meaning of a store by its parts
-abbrev pub meaning_by : {S F D : Type 0} → (S → Option Stored) → (F → Option (List ℕ)) → (D → Option Drafted) →
-    (F → ℕ → Type 0) → (S → List ℕ → StoreFault → Type 0) → (S → List ℕ → Bool → StoreFault → Type 0) →
-    (S → D → List ℕ → StoreFault → Type 0) → (S → List ℕ → D → Bool → StoreFault → Type 0) → StoreMeaning S F D
-meaning_by stored left drafted may_fail may_refuse_open may_refuse_begin may_refuse_append may_refuse_commit =
-    record {
-      stored = stored;
-      left = left;
-      drafted = drafted;
-      may_fail = may_fail;
-      may_refuse_open = may_refuse_open;
-      may_refuse_begin = may_refuse_begin;
-      may_refuse_append = may_refuse_append;
-      may_refuse_commit = may_refuse_commit;
-    }
 
 -- a draft as it begins
 abbrev pub new_draft : Drafted
@@ -88,14 +77,14 @@ holding_of None draft = None
 abbrev pub files_of : Option Stored → Option FileList
 files_of stored = option_map (λ s. s.files) stored
 
-module _ {S : Type 0} (left : S → Option (List ℕ)) where
+module _ {F : Type 0} (sources : SourceMeaning F) where
   -- a file was opened: its source has all of its wire text left
-  pub record IsOpening (mode : Mode) (bytes : List ℕ) (opening : Opening S) : Type 0 where
-    pub source : left opening.source ≡ Some (wire_text mode bytes)
+  pub record IsOpening (mode : Mode) (bytes : List ℕ) (opening : Opening F) : Type 0 where
+    pub source : sources.left opening.source ≡ Some (wire_text mode bytes)
     pub length : opening.length ≡ measured mode bytes
 
   -- what an opening answers, by what the store holds; out of memory is the last refusal
-  abbrev pub Opens : Option Stored → List ℕ → Mode → Result (Opening S) StoreFault → Type 0
+  abbrev pub Opens : Option Stored → List ℕ → Mode → Result (Opening F) StoreFault → Type 0
   Opens None path mode result = ⊤
   Opens (Some stored) path mode (Ok opening) = (bytes : List ℕ) × (file_at path stored.files ≡ Some bytes) × IsOpening mode bytes opening
   Opens (Some stored) path mode (Err Missing) = file_at path stored.files ≡ None

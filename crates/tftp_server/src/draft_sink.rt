@@ -25,35 +25,19 @@ pub(crate) struct DraftSink<'s, 'd, 'p, S: Store> {
 impl<'s, 'd, 'p, S: Store> Sink for DraftSink<'s, 'd, 'p, S> {
     ghost use Rattle.std.specs.Prelude.{◌≡◌, refl};
     ghost use Rattle.std.proofs.Common.{◌∙◌};
-    ghost use Rattle.tftp_server.specs.Draft.{DraftingBecomes};
-    ghost use Rattle.tftp_server.specs.Store.{holding_of, meaning_by};
+    ghost use Rattle.tftp_file.specs.Sink.{sink_through};
+    ghost use Rattle.tftp_server.specs.Draft.{drafting_sink};
 
-    ghost held = { λ d. holding_of (S.stored d.store.now) (S.drafted d.draft.now) };
-
-    ghost may_refuse_append = { λ d bytes fault.
-        S.may_refuse_append d.store.now d.draft.now bytes fault };
-
-    ghost may_refuse_commit = { λ d fault.
-        S.may_refuse_commit d.store.now d.path.now d.draft.now d.replace fault };
+    ghost meaning = { sink_through (drafting_sink S.meaning) (λ d. record {
+      store = d.store.now;
+      draft = d.draft.now;
+      path = d.path.now;
+      replace = d.replace;
+    }) };
 
     ghost is_same = { λ d e. (e.store.ghost_name ≡ d.store.ghost_name)
         × (e.draft.ghost_name ≡ d.draft.ghost_name) × (e.path.now ≡ d.path.now)
         × (e.replace ≡ d.replace) };
-
-    ghost becomes = { λ d e committed. DraftingBecomes (meaning_by
-        S.stored S.Source.left S.drafted S.Source.may_fail S.may_refuse_open
-        S.may_refuse_begin S.may_refuse_append S.may_refuse_commit)
-        (record {
-          store = d.store.now;
-          draft = d.draft.now;
-          path = d.path.now;
-          replace = d.replace;
-        }) (record {
-          store = e.store.now;
-          draft = e.draft.now;
-          path = e.path.now;
-          replace = e.replace;
-        }) committed };
 
     ghost stays = { λ a. (refl, refl, refl, refl) };
 

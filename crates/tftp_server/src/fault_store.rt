@@ -117,27 +117,13 @@ impl<S: Store> Store for FaultStore<S> {
     ghost use Rattle.std.specs.Prelude.{◌≡◌, ◌≢◌, Err, IfErr, IfOk, IsErrOf, true};
     ghost use Rattle.tftp_file.specs.Sink.{Appends, Commits};
     ghost use Rattle.tftp_server.specs.Store.{Opens, Begins, holding_of, files_of, Puts};
-    ghost use Rattle.tftp_server.specs.FaultStore.{Counts, MayAnswer, is_due, never_told};
+    ghost use Rattle.tftp_server.specs.FaultStore.{Counts, MayAnswer, fault_meaning, is_due, never_told, opened_meaning};
 
     type Source = OpenedSource<S::Source>;
 
     type Draft = S::Draft;
 
-    ghost stored = { λ s. never_told (S.stored s.inner) };
-
-    ghost drafted = { S.drafted };
-
-    ghost may_refuse_open = { λ s path fault. MayAnswer s.refuses_open s.fault fault
-        (S.may_refuse_open s.inner path fault) };
-
-    ghost may_refuse_begin = { λ s path replace fault. MayAnswer (is_due s.calls_left) s.fault fault
-        (S.may_refuse_begin s.inner path replace fault) };
-
-    ghost may_refuse_append = { λ s draft bytes fault. MayAnswer (is_due s.calls_left) s.fault fault
-        (S.may_refuse_append s.inner draft bytes fault) };
-
-    ghost may_refuse_commit = { λ s path draft replace fault. MayAnswer (is_due s.calls_left)
-        s.fault fault (S.may_refuse_commit s.inner path draft replace fault) };
+    ghost meaning = { fault_meaning S.meaning };
 
     fn open(
         &self,
@@ -145,10 +131,10 @@ impl<S: Store> Store for FaultStore<S> {
         path: &Path,
         mode: Mode,
     ) -> Result<Opening<OpenedSource<S::Source>>, StoreFault>
-        ensures opens { Opens (λ s. S.Source.left s.source) (never_told (S.stored self.now.inner))
-            path.now mode result }
+        ensures opens { Opens (opened_meaning S.Source.meaning)
+            (never_told (S.meaning.stored self.now.inner)) path.now mode result }
         ensures refused { IfErr result (λ fault. MayAnswer self.now.refuses_open self.now.fault
-            fault (S.may_refuse_open self.now.inner path.now fault)) }
+            fault (S.meaning.may_refuse_open self.now.inner path.now fault)) }
         ensures fails { self.now.refuses_open ≡ true → result ≡ Err self.now.fault }
         ensures source { IfOk result (λ file. file.source.fails ≡ self.now.fails_fill) }
     {
@@ -166,10 +152,11 @@ impl<S: Store> Store for FaultStore<S> {
     }
 
     fn begin(&mut self, alloc: Global, path: &Path, replace: bool) -> Result<S::Draft, StoreFault>
-        ensures begins { Begins S.drafted (never_told (S.stored self.old.inner))
-            (never_told (S.stored self.new.inner)) path.now replace result }
+        ensures begins { Begins S.meaning.drafted (never_told (S.meaning.stored self.old.inner))
+            (never_told (S.meaning.stored self.new.inner)) path.now replace result }
         ensures refused { IfErr result (λ fault. MayAnswer (is_due self.old.calls_left)
-            self.old.fault fault (S.may_refuse_begin self.old.inner path.now replace fault)) }
+            self.old.fault fault (S.meaning.may_refuse_begin self.old.inner path.now replace
+            fault)) }
         ensures memory { IsErrOf result StoreFault.Memory → self.new ≡ self.old }
         ensures counts { Counts self.old self.new result }
     {
@@ -182,13 +169,15 @@ impl<S: Store> Store for FaultStore<S> {
     }
 
     fn append(&mut self, draft: &mut S::Draft, bytes: &[u8]) -> Result<(), StoreFault>
-        ensures appends { Appends (holding_of (never_told (S.stored self.old.inner)) (S.drafted
-            draft.old)) (holding_of (never_told (S.stored self.new.inner)) (S.drafted draft.new))
+        ensures appends { Appends
+            (holding_of (never_told (S.meaning.stored self.old.inner)) (S.meaning.drafted draft.old))
+            (holding_of (never_told (S.meaning.stored self.new.inner)) (S.meaning.drafted draft.new))
             bytes.now result }
-        ensures files { files_of (never_told (S.stored self.new.inner))
-            ≡ files_of (never_told (S.stored self.old.inner)) }
+        ensures files { files_of (never_told (S.meaning.stored self.new.inner))
+            ≡ files_of (never_told (S.meaning.stored self.old.inner)) }
         ensures refused { IfErr result (λ fault. MayAnswer (is_due self.old.calls_left)
-            self.old.fault fault (S.may_refuse_append self.old.inner draft.old bytes.now fault)) }
+            self.old.fault fault (S.meaning.may_refuse_append self.old.inner draft.old bytes.now
+            fault)) }
         ensures memory { IsErrOf result StoreFault.Memory → (self.new ≡ self.old)
             × (draft.new ≡ draft.old) }
         ensures counts { Counts self.old self.new result }
@@ -203,13 +192,15 @@ impl<S: Store> Store for FaultStore<S> {
     }
 
     fn commit(&mut self, path: &Path, draft: &mut S::Draft, replace: bool) -> Result<(), StoreFault>
-        ensures commits { Commits (holding_of (never_told (S.stored self.old.inner)) (S.drafted
-            draft.old)) (holding_of (never_told (S.stored self.new.inner)) (S.drafted draft.new))
+        ensures commits { Commits
+            (holding_of (never_told (S.meaning.stored self.old.inner)) (S.meaning.drafted draft.old))
+            (holding_of (never_told (S.meaning.stored self.new.inner)) (S.meaning.drafted draft.new))
             result }
-        ensures files { Puts (never_told (S.stored self.old.inner)) (never_told (S.stored
-            self.new.inner)) (S.drafted draft.old) path.now replace result }
+        ensures files { Puts (never_told (S.meaning.stored self.old.inner))
+            (never_told (S.meaning.stored self.new.inner)) (S.meaning.drafted draft.old) path.now
+            replace result }
         ensures refused { IfErr result (λ fault. MayAnswer (is_due self.old.calls_left)
-            self.old.fault fault (S.may_refuse_commit self.old.inner path.now draft.old
+            self.old.fault fault (S.meaning.may_refuse_commit self.old.inner path.now draft.old
             replace fault)) }
         ensures not_memory { result ≢ Err StoreFault.Memory }
         ensures counts { Counts self.old self.new result }
@@ -243,11 +234,9 @@ impl<F> Model for OpenedSource<F> {
 impl<F: Source> Source for OpenedSource<F> {
     ghost use Rattle.std.specs.Prelude.{◌≡◌, ◌≤◌, ◌⊎◌, true, Err, vec_capacity};
     ghost use Rattle.tftp_file.specs.Source.{Fills};
-    ghost use Rattle.tftp_file.specs.declared.fault.FileFault.TheVariants.{Read};
+    ghost use Rattle.tftp_server.specs.FaultStore.{opened_meaning};
 
-    ghost left = { λ s. F.left s.source };
-
-    ghost may_fail = { λ s want. (s.fails ≡ true) ⊎ F.may_fail s.source want };
+    ghost meaning = { opened_meaning F.meaning };
 
     /// The inner store's source is the same.
     ghost is_same = { λ s t. F.is_same s.source t.source };
@@ -257,10 +246,10 @@ impl<F: Source> Source for OpenedSource<F> {
     ghost joins = { λ a b c p q. F.joins a.source b.source c.source p q };
 
     fn fill(&mut self, want: usize, out: &mut Vec<u8>) -> Result<usize, FileFault>
-        ensures fills { Fills (F.left self.old.source) (F.left self.new.source) want
+        ensures fills { Fills (F.meaning.left self.old.source) (F.meaning.left self.new.source) want
             out.old.items out.new.items result }
         ensures read { result ≡ Err FileFault.Read → (self.old.fails ≡ true)
-            ⊎ F.may_fail self.old.source want }
+            ⊎ F.meaning.may_fail self.old.source want }
         ensures capacity { vec_capacity out.old ≤ vec_capacity out.new }
         ensures same { F.is_same self.old.source self.new.source }
         ensures made { self.new.fails ≡ self.old.fails }

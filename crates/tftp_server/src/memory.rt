@@ -102,24 +102,13 @@ impl MemDraft {
 }
 
 impl Store for MemStore {
-    ghost use Rattle.std.specs.Prelude.{Some};
-    ghost use Rattle.tftp_server.specs.Memory.{MayRefuseOpen, MayRefuseBegin, MayRefuseAppend, MayRefuseCommit};
+    ghost use Rattle.tftp_server.specs.Memory.{memory_meaning};
 
     type Source = MemSource;
 
     type Draft = MemDraft;
 
-    ghost stored = { λ s. Some s };
-
-    ghost drafted = { λ d. Some d };
-
-    ghost may_refuse_open = { MayRefuseOpen };
-
-    ghost may_refuse_begin = { MayRefuseBegin };
-
-    ghost may_refuse_append = { MayRefuseAppend };
-
-    ghost may_refuse_commit = { MayRefuseCommit };
+    ghost meaning = { memory_meaning };
 
     fn open(
         &self,

@@ -20,14 +20,14 @@ pub(crate) fn on_datagram_of_source<S: Source, K: Sink>(
     out: &mut Vec<u8>,
 ) -> Result<Step, EndFault>
     requires { is_sender end.old.side ≡ true }
-    ensures steps { IfOk result (MakesStep S.left S.may_fail K.held K.may_refuse_append
-        K.may_refuse_commit K.becomes (appends out.old.items out.new.items) from bytes.now end.old
-        end.new (Files.Source source.old) (Files.Source source.new)) }
+    ensures steps { IfOk result (MakesStep S.meaning K.meaning
+        (appends out.old.items out.new.items) from bytes.now end.old end.new
+        (Files.Source source.old) (Files.Source source.new)) }
     ensures closed { IsErrOf result EndFault.Closed ↔ IsSome (outcome_of end.old.phase) }
     ensures memory { IsErrOf result EndFault.Memory → (decoded : Option Packet)
         × Decodes bytes.now decoded × IsAnswered (datagram_action end.old from bytes.now decoded) }
     ensures err { OnErr result ((end.new ≡ end.old) × (out.new.items ≡ out.old.items)
-        × (S.left source.new ≡ S.left source.old)) }
+        × (S.meaning.left source.new ≡ S.meaning.left source.old)) }
     ensures side { is_sender end.new.side ≡ true }
 {
     let mut files: Files<&mut S, K> = Files::Source(source);
@@ -47,14 +47,14 @@ pub(crate) fn on_datagram_of_sink<S: Source, K: Sink>(
     out: &mut Vec<u8>,
 ) -> Result<Step, EndFault>
     requires { is_sender end.old.side ≡ false }
-    ensures steps { IfOk result (MakesStep S.left S.may_fail K.held K.may_refuse_append
-        K.may_refuse_commit K.becomes (appends out.old.items out.new.items) from bytes.now end.old
-        end.new (Files.Sink sink.old) (Files.Sink sink.new)) }
+    ensures steps { IfOk result (MakesStep S.meaning K.meaning
+        (appends out.old.items out.new.items) from bytes.now end.old end.new
+        (Files.Sink sink.old) (Files.Sink sink.new)) }
     ensures closed { IsErrOf result EndFault.Closed ↔ IsSome (outcome_of end.old.phase) }
     ensures memory { IsErrOf result EndFault.Memory → (decoded : Option Packet)
         × Decodes bytes.now decoded × IsAnswered (datagram_action end.old from bytes.now decoded) }
     ensures err { OnErr result ((end.new ≡ end.old) × (out.new.items ≡ out.old.items)
-        × KeepsSink K.held K.becomes sink.old sink.new) }
+        × KeepsSink K.meaning sink.old sink.new) }
     ensures same { K.is_same sink.old sink.new }
     ensures side { is_sender end.new.side ≡ false }
 {
@@ -74,14 +74,14 @@ pub(crate) fn handle_datagram_of_source<S: Source, K: Sink>(
     bytes: &[u8],
 ) -> Result<(Step, Outgoing), EndFault>
     requires { is_sender end.old.side ≡ true }
-    ensures steps { IfOk result (λ answer. MakesStep S.left S.may_fail K.held K.may_refuse_append
-        K.may_refuse_commit K.becomes (lends answer.1) from bytes.now end.old end.new
+    ensures steps { IfOk result (λ answer. MakesStep S.meaning K.meaning
+        (lends answer.1) from bytes.now end.old end.new
         (Files.Source source.old) (Files.Source source.new) answer.0) }
     ensures closed { IsErrOf result EndFault.Closed ↔ IsSome (outcome_of end.old.phase) }
     ensures memory { IsErrOf result EndFault.Memory → (decoded : Option Packet)
         × Decodes bytes.now decoded × UsesFile (datagram_action end.old from bytes.now decoded) }
     ensures err { OnErr result ((end.new ≡ end.old)
-        × (S.left source.new ≡ S.left source.old)) }
+        × (S.meaning.left source.new ≡ S.meaning.left source.old)) }
     ensures side { is_sender end.new.side ≡ true }
 {
     let mut files: Files<&mut S, K> = Files::Source(source);
@@ -100,14 +100,14 @@ pub(crate) fn handle_datagram_of_sink<S: Source, K: Sink>(
     bytes: &[u8],
 ) -> Result<(Step, Outgoing), EndFault>
     requires { is_sender end.old.side ≡ false }
-    ensures steps { IfOk result (λ answer. MakesStep S.left S.may_fail K.held K.may_refuse_append
-        K.may_refuse_commit K.becomes (lends answer.1) from bytes.now end.old end.new
+    ensures steps { IfOk result (λ answer. MakesStep S.meaning K.meaning
+        (lends answer.1) from bytes.now end.old end.new
         (Files.Sink sink.old) (Files.Sink sink.new) answer.0) }
     ensures closed { IsErrOf result EndFault.Closed ↔ IsSome (outcome_of end.old.phase) }
     ensures memory { IsErrOf result EndFault.Memory → (decoded : Option Packet)
         × Decodes bytes.now decoded × UsesFile (datagram_action end.old from bytes.now decoded) }
     ensures err { OnErr result ((end.new ≡ end.old)
-        × KeepsSink K.held K.becomes sink.old sink.new) }
+        × KeepsSink K.meaning sink.old sink.new) }
     ensures same { K.is_same sink.old sink.new }
     ensures side { is_sender end.new.side ≡ false }
 {

@@ -12,7 +12,6 @@ ghost use Rattle.tftp_wire.specs.declared.packet.Packet.{Packet};
 ghost use Rattle.tftp_ends.specs.Action.{Decodes};
 ghost use Rattle.tftp_server.specs.Port.{asks, asks_store};
 ghost use Rattle.tftp_server.specs.State.{IsRepeated, at, draft_at, is_open, open_records, taken_of, without};
-ghost use Rattle.tftp_server.specs.Store.{meaning_by};
 ghost use Rattle.tftp_server.specs.Steps.{TimesOut, TimesOutLent, TimeoutFault, TakesDatagram, TakesDatagramLent, TakesRecorded, DatagramFault, DatagramFaultLent, KeepsHeld};
 ghost use Rattle.std.specs.Borrow.{Lends, sem};
 
@@ -128,20 +127,14 @@ impl<S: Store> Server<S> {
         bytes: &[u8],
         out: &mut Vec<u8>,
     ) -> Result<Step, ServerFault>
-        ensures takes { IfOk result (λ step. TakesDatagram (meaning_by
-            S.stored S.Source.left S.drafted S.Source.may_fail S.may_refuse_open
-            S.may_refuse_begin S.may_refuse_append S.may_refuse_commit)
-            tid from bytes.now
-            self.old self.new step out.old.items out.new.items) }
+        ensures takes { IfOk result (λ step. TakesDatagram S.meaning S.Source.meaning
+            tid from bytes.now self.old self.new step out.old.items out.new.items) }
         ensures rest { self.new ≡ record self.old { store = self.new.store; held = self.new.held } }
         ensures no_such_tid { IsErrOf result ServerFault.NoSuchTid
             ↔ (is_open (at tid self.old.held) ≡ false) }
         ensures fault { IfErr result (DatagramFault from bytes.now (at tid self.old.held)) }
-        ensures err { OnErr result (KeepsHeld (meaning_by
-            S.stored S.Source.left S.drafted S.Source.may_fail S.may_refuse_open
-            S.may_refuse_begin S.may_refuse_append S.may_refuse_commit)
-            tid (at tid self.old.held) self.old self.new
-            × (out.new.items ≡ out.old.items)) }
+        ensures err { OnErr result (KeepsHeld S.meaning S.Source.meaning
+            tid (at tid self.old.held) self.old self.new × (out.new.items ≡ out.old.items)) }
     {
         match self.on_datagram_recorded(tid, from, bytes, out) {
             Ok((step, _)) => Ok(step),
@@ -157,20 +150,14 @@ impl<S: Store> Server<S> {
         bytes: &[u8],
         out: &mut Vec<u8>,
     ) -> Result<(Step, Record), ServerFault>
-        ensures takes { IfOk result (λ answer. TakesRecorded (meaning_by
-            S.stored S.Source.left S.drafted S.Source.may_fail S.may_refuse_open
-            S.may_refuse_begin S.may_refuse_append S.may_refuse_commit)
-            tid from bytes.now
-            self.old self.new answer.0 answer.1 out.old.items out.new.items) }
+        ensures takes { IfOk result (λ answer. TakesRecorded S.meaning S.Source.meaning
+            tid from bytes.now self.old self.new answer.0 answer.1 out.old.items out.new.items) }
         ensures rest { self.new ≡ record self.old { store = self.new.store; held = self.new.held } }
         ensures no_such_tid { IsErrOf result ServerFault.NoSuchTid
             ↔ (is_open (at tid self.old.held) ≡ false) }
         ensures fault { IfErr result (DatagramFault from bytes.now (at tid self.old.held)) }
-        ensures err { OnErr result (KeepsHeld (meaning_by
-            S.stored S.Source.left S.drafted S.Source.may_fail S.may_refuse_open
-            S.may_refuse_begin S.may_refuse_append S.may_refuse_commit)
-            tid (at tid self.old.held) self.old self.new
-            × (out.new.items ≡ out.old.items)) }
+        ensures err { OnErr result (KeepsHeld S.meaning S.Source.meaning
+            tid (at tid self.old.held) self.old self.new × (out.new.items ≡ out.old.items)) }
     {
         let Some(transfer) = self.table.get_mut(tid) else {
             return Err(ServerFault::NoSuchTid);
@@ -217,20 +204,14 @@ impl<S: Store> Server<S> {
         from: Endpoint,
         bytes: &[u8],
     ) -> Result<(Step, Outgoing), ServerFault>
-        ensures takes { IfOk result (λ answer. TakesDatagramLent (meaning_by
-            S.stored S.Source.left S.drafted S.Source.may_fail S.may_refuse_open
-            S.may_refuse_begin S.may_refuse_append S.may_refuse_commit)
-            tid from bytes.now
-            self.old self.new answer.0 answer.1) }
+        ensures takes { IfOk result (λ answer. TakesDatagramLent S.meaning S.Source.meaning
+            tid from bytes.now self.old self.new answer.0 answer.1) }
         ensures rest { self.new ≡ record self.old { store = self.new.store; held = self.new.held } }
         ensures no_such_tid { IsErrOf result ServerFault.NoSuchTid
             ↔ (is_open (at tid self.old.held) ≡ false) }
         ensures fault { IfErr result (DatagramFaultLent from bytes.now (at tid self.old.held)) }
-        ensures err { OnErr result (KeepsHeld (meaning_by
-            S.stored S.Source.left S.drafted S.Source.may_fail S.may_refuse_open
-            S.may_refuse_begin S.may_refuse_append S.may_refuse_commit)
-            tid (at tid self.old.held) self.old
-            self.new) }
+        ensures err { OnErr result (KeepsHeld S.meaning S.Source.meaning
+            tid (at tid self.old.held) self.old self.new) }
     {
         let Some(transfer) = self.table.get_mut(tid) else {
             return Err(ServerFault::NoSuchTid);
@@ -287,10 +268,7 @@ impl<S: Store> Server<S> {
     ) -> Result<Opened, ServerFault>
         ensures steps { IfOk result (λ opened. (sent : List ℕ)
             × (out.new.items ≡ out.old.items ++ sent)
-            × RequestStep (meaning_by
-            S.stored S.Source.left S.drafted S.Source.may_fail S.may_refuse_open
-            S.may_refuse_begin S.may_refuse_append S.may_refuse_commit)
-            self.old from bytes.now tid
+            × RequestStep S.meaning S.Source.meaning self.old from bytes.now tid
             (record { new = self.new; opened = opened; sent = sent })) }
         ensures in_use { IsErrOf result ServerFault.TidInUse ↔ IsSome (at tid self.old.held) }
         ensures fault { IfErr result (λ fault. (fault ≡ ServerFault.TidInUse) ⊎
@@ -329,10 +307,8 @@ impl<S: Store> Server<S> {
         requires { at tid self.old.held ≡ None }
         ensures reads { IfOk result (λ opened. (came : Came S S.Source S.Draft)
             × (sent : List ℕ)
-            × AsksToRead (meaning_by
-            S.stored S.Source.left S.drafted S.Source.may_fail S.may_refuse_open
-            S.may_refuse_begin S.may_refuse_append S.may_refuse_commit)
-            self.old from bytes.now path request.now.mode request.now.options came
+            × AsksToRead S.meaning S.Source.meaning self.old from bytes.now path request.now.mode
+            request.now.options came
             × (out.new.items ≡ out.old.items ++ sent) × (record {
               new = self.new;
               opened = opened;
@@ -373,10 +349,7 @@ impl<S: Store> Server<S> {
         requires { at tid self.old.held ≡ None }
         ensures writes { IfOk result (λ opened. (came : Came S S.Source S.Draft)
             × (sent : List ℕ)
-            × AsksToWrite (meaning_by
-            S.stored S.Source.left S.drafted S.Source.may_fail S.may_refuse_open
-            S.may_refuse_begin S.may_refuse_append S.may_refuse_commit)
-            self.old from bytes.now path mode agreed.now came
+            × AsksToWrite S.meaning S.Source.meaning self.old from bytes.now path mode agreed.now came
             × (out.new.items ≡ out.old.items ++ sent) × (record {
               new = self.new;
               opened = opened;

@@ -1,9 +1,8 @@
 //! Where a server's files are: they are read as sources, and written as drafts.
 
-ghost use Rattle.std.specs.Prelude.{◌≡◌, ◌≢◌, Err, IfErr, IsErrOf, Bool, List, ℕ, Option};
+ghost use Rattle.std.specs.Prelude.{◌≡◌, ◌≢◌, Err, IfErr, IsErrOf};
 ghost use Rattle.tftp_file.specs.Sink.{Appends, Commits};
-ghost use Rattle.tftp_file.specs.declared.fault.StoreFault.{StoreFault};
-ghost use Rattle.tftp_server.specs.Store.{Stored, Drafted, Opens, Begins, holding_of, files_of, Puts};
+ghost use Rattle.tftp_server.specs.Store.{StoreMeaning, Opens, Begins, holding_of, files_of, Puts};
 
 use std::alloc::Global;
 use tftp_file::{Path, Source, StoreFault};
@@ -31,26 +30,9 @@ pub trait Store {
     /// A file that is written and not yet committed.
     type Draft: Drop;
 
-    /// Its files, and whether its next append or commit was told to be refused, where it tells them.
-    ghost stored: { Self → Option Stored };
-
-    /// What a draft holds, where it tells it.
-    ghost drafted: { Self.Draft → Option Drafted };
-
-    /// An opening of the path may answer this fault.
-    ghost may_refuse_open: { Self → List ℕ → StoreFault → Type 0 } = { λ _ _ _. Unit {0} };
-
-    /// A draft of the path, to replace a file or not, may be refused with this fault.
-    ghost may_refuse_begin: { Self → List ℕ → Bool → StoreFault
-        → Type 0 } = { λ _ _ _ _. Unit {0} };
-
-    /// An append of these bytes may answer this fault.
-    ghost may_refuse_append: { Self → Self.Draft → List ℕ → StoreFault
-        → Type 0 } = { λ _ _ _ _. Unit {0} };
-
-    /// A commit under the path, to replace a file or not, may answer this fault.
-    ghost may_refuse_commit: { Self → List ℕ → Self.Draft → Bool → StoreFault
-        → Type 0 } = { λ _ _ _ _ _. Unit {0} };
+    /// What it and its drafts tell (`stored`, `drafted`), and which faults its calls may answer
+    /// (`may_refuse_open`, `may_refuse_begin`, `may_refuse_append`, `may_refuse_commit`).
+    ghost meaning: { StoreMeaning Self Self.Draft };
 
     /// Opens the file to be read in the mode.
     ///
@@ -62,8 +44,8 @@ pub trait Store {
         path: &Path,
         mode: Mode,
     ) -> Result<Opening<Self::Source>, StoreFault>
-        ensures opens { Opens Self.Source.left (stored self.now) path.now mode result }
-        ensures refused { IfErr result (may_refuse_open self.now path.now) };
+        ensures opens { Opens Self.Source.meaning (meaning.stored self.now) path.now mode result }
+        ensures refused { IfErr result (meaning.may_refuse_open self.now path.now) };
 
     /// Begins a draft, which is empty. With `replace` there may be a file at the path.
     ///
@@ -75,9 +57,9 @@ pub trait Store {
         path: &Path,
         replace: bool,
     ) -> Result<Self::Draft, StoreFault>
-        ensures begins { Begins drafted (stored self.old) (stored self.new) path.now replace
-            result }
-        ensures refused { IfErr result (may_refuse_begin self.old path.now replace) }
+        ensures begins { Begins meaning.drafted (meaning.stored self.old)
+            (meaning.stored self.new) path.now replace result }
+        ensures refused { IfErr result (meaning.may_refuse_begin self.old path.now replace) }
         ensures memory { IsErrOf result StoreFault.Memory → self.new ≡ self.old };
 
     /// Puts the bytes at the end of a draft.
@@ -85,10 +67,12 @@ pub trait Store {
     /// After `Memory` nothing has changed. After another fault some first of the bytes may have been
     /// added, and none before them has gone.
     fn append(&mut self, draft: &mut Self::Draft, bytes: &[u8]) -> Result<(), StoreFault>
-        ensures appends { Appends (holding_of (stored self.old) (drafted draft.old)) (holding_of
-            (stored self.new) (drafted draft.new)) bytes.now result }
-        ensures files { files_of (stored self.new) ≡ files_of (stored self.old) }
-        ensures refused { IfErr result (may_refuse_append self.old draft.old bytes.now) }
+        ensures appends { Appends
+            (holding_of (meaning.stored self.old) (meaning.drafted draft.old))
+            (holding_of (meaning.stored self.new) (meaning.drafted draft.new)) bytes.now result }
+        ensures files { files_of (meaning.stored self.new)
+            ≡ files_of (meaning.stored self.old) }
+        ensures refused { IfErr result (meaning.may_refuse_append self.old draft.old bytes.now) }
         ensures memory { IsErrOf result StoreFault.Memory → (self.new ≡ self.old)
             × (draft.new ≡ draft.old) };
 
@@ -103,10 +87,11 @@ pub trait Store {
         draft: &mut Self::Draft,
         replace: bool,
     ) -> Result<(), StoreFault>
-        ensures commits { Commits (holding_of (stored self.old) (drafted draft.old)) (holding_of
-            (stored self.new) (drafted draft.new)) result }
-        ensures files { Puts (stored self.old) (stored self.new)
-            (drafted draft.old) path.now replace result }
-        ensures refused { IfErr result (may_refuse_commit self.old path.now draft.old replace) }
+        ensures commits { Commits
+            (holding_of (meaning.stored self.old) (meaning.drafted draft.old))
+            (holding_of (meaning.stored self.new) (meaning.drafted draft.new)) result }
+        ensures files { Puts (meaning.stored self.old) (meaning.stored self.new)
+            (meaning.drafted draft.old) path.now replace result }
+        ensures refused { IfErr result (meaning.may_refuse_commit self.old path.now draft.old replace) }
         ensures not_memory { result ≢ Err StoreFault.Memory };
 }

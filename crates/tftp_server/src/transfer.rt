@@ -5,7 +5,6 @@ ghost use Rattle.tftp_ends.specs.End.{record_of};
 ghost use Rattle.tftp_server.specs.State.{is_closed, draft_of, Repeats};
 ghost use Rattle.tftp_wire.specs.Borrowed.{owned};
 ghost use Rattle.tftp_ends.specs.Files.{AreFilesOf};
-ghost use Rattle.tftp_server.specs.Store.{meaning_by};
 ghost use Rattle.tftp_server.specs.Steps.{with_end, lends, TakesBy, TakesIn, StaysAs};
 ghost use Rattle.tftp_ends.specs.Action.{Decodes, datagram_action, timeout_action};
 ghost use Rattle.tftp_ends.specs.Step.{Carries, Lends, IsAnswered, UsesFile, lent, timeout_turn, told};
@@ -148,18 +147,14 @@ impl<F: Source, D> Transfer<F, D> {
         bytes: &[u8],
         out: &mut Vec<u8>,
     ) -> Result<Step, EndFault>
-        ensures takes { IfOk result (λ step. TakesIn (meaning_by
-            S.stored F.left S.drafted F.may_fail S.may_refuse_open
-            S.may_refuse_begin S.may_refuse_append S.may_refuse_commit)
+        ensures takes { IfOk result (λ step. TakesIn S.meaning F.meaning
             replace from bytes.now store.old store.new self.old
             self.new step out.old.items out.new.items) }
         ensures closed { IsErrOf result EndFault.Closed ↔ (is_closed self.old ≡ true) }
         ensures memory { IsErrOf result EndFault.Memory → (decoded : Option Packet)
             × Decodes bytes.now decoded × IsAnswered (datagram_action self.old.end from bytes.now
             decoded) }
-        ensures err { OnErr result (StaysAs (meaning_by
-            S.stored F.left S.drafted F.may_fail S.may_refuse_open
-            S.may_refuse_begin S.may_refuse_append S.may_refuse_commit)
+        ensures err { OnErr result (StaysAs S.meaning F.meaning
             replace store.old store.new self.old self.new
             × (out.new.items ≡ out.old.items)) }
     {
@@ -194,18 +189,14 @@ impl<F: Source, D> Transfer<F, D> {
         from: Endpoint,
         bytes: &[u8],
     ) -> Result<(Step, Outgoing), EndFault>
-        ensures takes { IfOk result (λ answer. TakesBy (meaning_by
-            S.stored F.left S.drafted F.may_fail S.may_refuse_open
-            S.may_refuse_begin S.may_refuse_append S.may_refuse_commit)
+        ensures takes { IfOk result (λ answer. TakesBy S.meaning F.meaning
             (lends answer.1) replace from bytes.now store.old store.new self.old self.new
             answer.0) }
         ensures closed { IsErrOf result EndFault.Closed ↔ (is_closed self.old ≡ true) }
         ensures memory { IsErrOf result EndFault.Memory → (decoded : Option Packet)
             × Decodes bytes.now decoded × UsesFile (datagram_action self.old.end from bytes.now
             decoded) }
-        ensures err { OnErr result (StaysAs (meaning_by
-            S.stored F.left S.drafted F.may_fail S.may_refuse_open
-            S.may_refuse_begin S.may_refuse_append S.may_refuse_commit)
+        ensures err { OnErr result (StaysAs S.meaning F.meaning
             replace store.old store.new self.old self.new) }
     {
         match &mut self.files {

@@ -146,14 +146,13 @@ impl End {
         requires piece { PieceFits self.old (drop 4 bytes.now) action }
         requires files { AreFilesOf self.old.side files.old }
         ensures acts { IfOk result (λ answer. (turn : Turn)
-            × Acts S.left S.may_fail K.held K.may_refuse_append K.may_refuse_commit K.becomes
-            action from bytes.now self.old files.old turn files.new
+            × Acts S.meaning K.meaning action from bytes.now self.old files.old turn files.new
             × Lends turn self.new answer.0 answer.1) }
         ensures room { IfOk result (λ answer.
             length (lent answer.1 self.new) ≤ room_of self.old action) }
         ensures uses { OnErr result (UsesFile action) }
         ensures err { OnErr result ((self.new ≡ self.old)
-            × KeepsFiles S.left K.held K.becomes files.old files.new) }
+            × KeepsFiles S.meaning K.meaning files.old files.new) }
         ensures same { AreSame S.is_same K.is_same files.old files.new }
         ensures files { AreFilesOf self.new.side files.new }
     {

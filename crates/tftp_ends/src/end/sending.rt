@@ -43,10 +43,11 @@ pub(crate) fn read_data<S: Source>(
     buffer: &mut Vec<u8>,
 ) -> Result<BlockRead, AllocError>
     requires { want ≤ 65535 }
-    ensures reads { IfOk result (λ read. ReadsData (S.left source.old) (S.left source.new)
-        (S.may_fail source.old want) number want buffer.new.items (is_whole read)) }
+    ensures reads { IfOk result (λ read. ReadsData (S.meaning.left source.old)
+        (S.meaning.left source.new) (S.meaning.may_fail source.old want) number want
+        buffer.new.items (is_whole read)) }
     ensures room { OnOk result (4 ≤ vec_capacity buffer.new) }
-    ensures err { OnErr result (S.left source.new ≡ S.left source.old) }
+    ensures err { OnErr result (S.meaning.left source.new ≡ S.meaning.left source.old) }
     ensures same { S.is_same source.old source.new }
 {
     buffer.clear();
@@ -78,12 +79,12 @@ impl End {
         requires sends { IsSending self.old terms }
         requires sent { SentFits self.old (Some terms) }
         ensures sends { IfOk result (λ outgoing. (turn : Turn)
-            × Sends S.left S.may_fail terms number from self.old source.old turn source.new
+            × Sends S.meaning terms number from self.old source.old turn source.new
             × Lends turn self.new (Some from) outgoing) }
         ensures room { IfOk result (λ outgoing.
             length (lent outgoing self.new) ≤ room_of self.old (Action.Send terms number)) }
         ensures err { OnErr result ((self.new ≡ self.old)
-            × (S.left source.new ≡ S.left source.old)) }
+            × (S.meaning.left source.new ≡ S.meaning.left source.old)) }
         ensures same { S.is_same source.old source.new }
         ensures side { self.new.side ≡ self.old.side }
     {

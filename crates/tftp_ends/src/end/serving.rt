@@ -63,17 +63,17 @@ impl End {
     ) -> Result<(End, Step), OpenFault>
         requires { AreFilesOf Side.ServerRead files.old }
         ensures serves { IfOk result (λ opened.
-            ServesFiles S.left S.may_fail agreed.now peer mode length retries files.old files.new opened.0
+            ServesFiles S.meaning agreed.now peer mode length retries files.old files.new opened.0
             × (out.new.items ≡ out.old.items ++ opened.0.last_sent)) }
         ensures step { IfOk result (λ opened. opened.1 ≡ opening_step peer) }
         ensures ok { OnOk result (length < 65535 * size agreed.now) }
         ensures bad_request { IsErrOf result OpenFault.BadRequest → ⊥ }
         ensures too_large { IsErrOf result OpenFault.TooLarge → 65535 * size agreed.now ≤ length }
         ensures source { IsErrOf result OpenFault.SourceFault → (length < 65535 * size agreed.now)
-            × FilesCannotStart S.left S.may_fail length files.old }
+            × FilesCannotStart S.meaning length files.old }
         ensures plain { IsErrOf result OpenFault.SourceFault → agreed.now ≡ [] }
         ensures memory { IsErrOf result OpenFault.Memory → (length < 65535 * size agreed.now)
-            × KeepsFiles S.left K.held K.becomes files.old files.new }
+            × KeepsFiles S.meaning K.meaning files.old files.new }
         ensures err { OnErr result (out.new.items ≡ out.old.items) }
         ensures same { AreSame S.is_same K.is_same files.old files.new }
         ensures files { IfOk result (λ opened. AreFilesOf opened.0.side files.new) }
@@ -100,13 +100,13 @@ impl End {
         requires files { AreFilesOf Side.ServerRead files.old }
         requires fits { length < 65535 * DEFAULT_BLOCK }
         ensures serves { IfOk result (λ opened.
-            ServesFiles S.left S.may_fail [] peer mode length retries files.old files.new opened.0
+            ServesFiles S.meaning [] peer mode length retries files.old files.new opened.0
             × (out.new.items ≡ out.old.items ++ opened.0.last_sent)) }
         ensures step { IfOk result (λ opened. opened.1 ≡ opening_step peer) }
         ensures source { IsErrOf result OpenFault.SourceFault
-            → FilesCannotStart S.left S.may_fail length files.old }
+            → FilesCannotStart S.meaning length files.old }
         ensures memory { IsErrOf result OpenFault.Memory
-            → KeepsFiles S.left K.held K.becomes files.old files.new }
+            → KeepsFiles S.meaning K.meaning files.old files.new }
         ensures err { IfErr result (λ fault.
             ((fault ≡ OpenFault.SourceFault) ⊎ (fault ≡ OpenFault.Memory))
             × (out.new.items ≡ out.old.items)) }

@@ -33,8 +33,7 @@ enum BlockStored {
 
 /// Hands a block's bytes to the sink, if there are any.
 fn append_block<K: Sink>(sink: &mut K, piece: &[u8]) -> Result<(), StoreFault>
-    ensures appended { Appended K.held K.may_refuse_append K.may_refuse_commit K.becomes
-        piece.now sink.old sink.new result }
+    ensures appended { Appended K.meaning piece.now sink.old sink.new result }
     ensures same { K.is_same sink.old sink.new }
 {
     match piece {
@@ -57,8 +56,7 @@ fn commit_reply(fault: StoreFault) -> ErrorReply
 
 /// Has the whole committed.
 fn commit<K: Sink>(sink: &mut K) -> BlockStored
-    ensures takes { StoresLast K.held K.may_refuse_append K.may_refuse_commit K.becomes
-        sink.old sink.new result }
+    ensures takes { StoresLast K.meaning sink.old sink.new result }
     ensures same { K.is_same sink.old sink.new }
 {
     match sink.commit() {
@@ -74,9 +72,8 @@ fn store_block<K: Sink>(
     is_last: bool,
 ) -> Result<BlockStored, AllocError>
     ensures takes { IfOk result (λ block_stored.
-        StoresBlock K.held K.may_refuse_append K.may_refuse_commit K.becomes
-        piece.now is_last sink.old sink.new block_stored) }
-    ensures err { OnErr result (KeepsSink K.held K.becomes sink.old sink.new) }
+        StoresBlock K.meaning piece.now is_last sink.old sink.new block_stored) }
+    ensures err { OnErr result (KeepsSink K.meaning sink.old sink.new) }
     ensures same { K.is_same sink.old sink.new }
 {
     match append_block(sink, piece) {
@@ -126,9 +123,8 @@ fn store_piece<K: Sink>(
 ) -> Result<(BlockStored, NetDecoder), AllocError>
     requires { is_readable mode decoder piece.now is_last ≡ true }
     ensures takes { IfOk result (λ stored.
-        StoresPiece K.held K.may_refuse_append K.may_refuse_commit K.becomes
-        mode decoder piece.now is_last sink.old sink.new stored.0 stored.1) }
-    ensures err { OnErr result (KeepsSink K.held K.becomes sink.old sink.new) }
+        StoresPiece K.meaning mode decoder piece.now is_last sink.old sink.new stored.0 stored.1) }
+    ensures err { OnErr result (KeepsSink K.meaning sink.old sink.new) }
     ensures same { K.is_same sink.old sink.new }
 {
     match mode {
@@ -160,12 +156,11 @@ impl End {
         requires reads { is_readable self.old.mode self.old.held piece.now
             (nat_lt (length piece.now) terms.size) ≡ true }
         ensures stores { IfOk result (λ outgoing. (turn : Turn)
-            × Stores K.held K.may_refuse_append K.may_refuse_commit K.becomes
-            terms number from piece.now self.old sink.old turn sink.new
+            × Stores K.meaning terms number from piece.now self.old sink.old turn sink.new
             × Lends turn self.new (Some from) outgoing) }
         ensures room { IfOk result (λ outgoing. length (lent outgoing self.new) ≤ 24) }
         ensures err { OnErr result ((self.new ≡ self.old)
-            × KeepsSink K.held K.becomes sink.old sink.new) }
+            × KeepsSink K.meaning sink.old sink.new) }
         ensures same { K.is_same sink.old sink.new }
         ensures side { self.new.side ≡ self.old.side }
     {

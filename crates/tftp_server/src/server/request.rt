@@ -11,7 +11,6 @@ ghost use Rattle.tftp_ends.specs.Action.{Decodes};
 ghost use Rattle.tftp_ends.specs.End.{is_sender};
 ghost use Rattle.tftp_ends.specs.Opening.{ServesRead, CannotStart, serving_write};
 ghost use Rattle.tftp_server.specs.State.{IsRepeated, source_of};
-ghost use Rattle.tftp_server.specs.Store.{meaning_by};
 ghost use Rattle.tftp_server.specs.Port.{accept_reply, asks, begin_reply, by_file, by_kind, by_name, by_options, by_room, by_length};
 ghost use Rattle.tftp_server.specs.Request.{AsksToRead, AsksToWrite, IsRequest, Sent, ask_of, came_to, decided_bytes, kind_and_request};
 
@@ -157,7 +156,7 @@ fn serve_source<F: Source + Drop>(
     retries: u8,
     out: &mut Vec<u8>,
 ) -> Result<(End, F), OpenFault>
-    ensures serves { IfOk result (λ opened. ServesRead F.left F.may_fail agreed.now peer mode length
+    ensures serves { IfOk result (λ opened. ServesRead F.meaning agreed.now peer mode length
         retries source opened.1 opened.0
         × (out.new.items ≡ out.old.items ++ opened.0.last_sent)) }
     ensures sends { IfOk result (λ opened. is_sender opened.0.side ≡ true) }
@@ -165,7 +164,7 @@ fn serve_source<F: Source + Drop>(
     ensures bad_request { IsErrOf result OpenFault.BadRequest → ⊥ }
     ensures too_large { IsErrOf result OpenFault.TooLarge → 65535 * size agreed.now ≤ length }
     ensures source { IsErrOf result OpenFault.SourceFault → (length < 65535 * size agreed.now)
-        × CannotStart F.left F.may_fail length source }
+        × CannotStart F.meaning length source }
     ensures plain { IsErrOf result OpenFault.SourceFault → agreed.now ≡ [] }
     ensures err { OnErr result (out.new.items ≡ out.old.items) }
 {
@@ -254,11 +253,8 @@ impl<S: Store> Server<S> {
         file: Opening<S::Source>,
         out: &mut Vec<u8>,
     ) -> Result<Decision<S::Source, S::Draft>, ServerFault>
-        ensures opens { IfOk result (λ decision. Sent (meaning_by
-            S.stored S.Source.left S.drafted S.Source.may_fail S.may_refuse_open
-            S.may_refuse_begin S.may_refuse_append S.may_refuse_commit)
-            self.now from bytes.now
-            (by_length path mode file.length (Ok agreed.now)) (Ok file)
+        ensures opens { IfOk result (λ decision. Sent S.meaning S.Source.meaning
+            self.now from bytes.now (by_length path mode file.length (Ok agreed.now)) (Ok file)
             (came_to decision self.now.store)) }
         ensures sent { IfOk result (λ decision. out.new.items ≡ out.old.items ++ decided_bytes
             decision) }
@@ -295,12 +291,9 @@ impl<S: Store> Server<S> {
         file: Opening<S::Source>,
         out: &mut Vec<u8>,
     ) -> Result<Decision<S::Source, S::Draft>, ServerFault>
-        ensures sends { IfOk result (λ decision. Sent (meaning_by
-            S.stored S.Source.left S.drafted S.Source.may_fail S.may_refuse_open
-            S.may_refuse_begin S.may_refuse_append S.may_refuse_commit)
-            self.now from bytes.now
-            (by_file self.now.config.limits path request.now.mode request.now.options
-            (Ok file.length)) (Ok file) (came_to decision self.now.store)) }
+        ensures sends { IfOk result (λ decision. Sent S.meaning S.Source.meaning
+            self.now from bytes.now (by_file self.now.config.limits path request.now.mode
+            request.now.options (Ok file.length)) (Ok file) (came_to decision self.now.store)) }
         ensures sent { IfOk result (λ decision. out.new.items ≡ out.old.items ++ decided_bytes
             decision) }
         ensures memory { IfErr result (λ fault. fault ≡ ServerFault.Memory) }
@@ -323,11 +316,9 @@ impl<S: Store> Server<S> {
         request: &RequestRef<'_>,
         out: &mut Vec<u8>,
     ) -> Result<Decision<S::Source, S::Draft>, ServerFault>
-        ensures asks { IfOk result (λ decision. AsksToRead (meaning_by
-            S.stored S.Source.left S.drafted S.Source.may_fail S.may_refuse_open
-            S.may_refuse_begin S.may_refuse_append S.may_refuse_commit)
-            self.now from bytes.now
-            path request.now.mode request.now.options (came_to decision self.now.store)) }
+        ensures asks { IfOk result (λ decision. AsksToRead S.meaning S.Source.meaning
+            self.now from bytes.now path request.now.mode request.now.options
+            (came_to decision self.now.store)) }
         ensures sent { IfOk result (λ decision. out.new.items ≡ out.old.items ++ decided_bytes
             decision) }
         ensures memory { IfErr result (λ fault. fault ≡ ServerFault.Memory) }
@@ -355,11 +346,8 @@ impl<S: Store> Server<S> {
         bytes: &[u8],
         out: &mut Vec<u8>,
     ) -> Result<Decision<S::Source, S::Draft>, ServerFault>
-        ensures asks { IfOk result (λ decision. AsksToWrite (meaning_by
-            S.stored S.Source.left S.drafted S.Source.may_fail S.may_refuse_open
-            S.may_refuse_begin S.may_refuse_append S.may_refuse_commit)
-            self.old from bytes.now
-            path mode agreed.now (came_to decision self.new.store)) }
+        ensures asks { IfOk result (λ decision. AsksToWrite S.meaning S.Source.meaning
+            self.old from bytes.now path mode agreed.now (came_to decision self.new.store)) }
         ensures sent { IfOk result (λ decision. out.new.items ≡ out.old.items ++ decided_bytes
             decision) }
         ensures rest { self.new ≡ record self.old { store = self.new.store } }

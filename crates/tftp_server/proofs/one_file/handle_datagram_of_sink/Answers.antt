@@ -10,7 +10,7 @@ returns-clause-steps g c =
     let first : MutBor g.row.K.Denot = record { ref_ptr = c.args.sink.ref_ptr; ghost_name = _; now = c.args.sink.now } in
     let back = sink_back g.S.Source.is_same g.K.Sink.is_same first c.in-Sink._sink c.handle_datagram-result.new.files _ c.in-Sink.is c.handle_datagram-result.ensures.same c.in-Sink.sink-1-own.given.1 in
     sink_steps
-    g.S.Source.left g.S.Source.may_fail g.K.Sink.held g.K.Sink.may_refuse_append g.K.Sink.may_refuse_commit g.K.Sink.becomes
+    g.S.Source.meaning g.K.Sink.meaning
     (λ (answer : Step × Outgoing). answer.0) (λ answer. lends answer.1)
     c.args.from c.args.bytes.now c.args.end.now c.handle_datagram-result.new.self first c.in-Sink._sink c.handle_datagram-result.new.files _ c.handle_datagram-result.result
     c.in-Sink.is back.0 c.handle_datagram-result.ensures.steps
@@ -19,7 +19,7 @@ pub returns-clause-err : goal.returns-clause-err
 returns-clause-err g c =
     let first : MutBor g.row.K.Denot = record { ref_ptr = c.args.sink.ref_ptr; ghost_name = _; now = c.args.sink.now } in
     let back = sink_back g.S.Source.is_same g.K.Sink.is_same first c.in-Sink._sink c.handle_datagram-result.new.files _ c.in-Sink.is c.handle_datagram-result.ensures.same c.in-Sink.sink-1-own.given.1 in
-    sink_kept g.S.Source.left g.K.Sink.held g.K.Sink.becomes first c.in-Sink._sink c.handle_datagram-result.new.files _ _ _ c.handle_datagram-result.result
+    sink_kept g.S.Source.meaning g.K.Sink.meaning first c.in-Sink._sink c.handle_datagram-result.new.files _ _ _ c.handle_datagram-result.result
     c.in-Sink.is back.0 (λ h. h.1) (λ h kept. (h.0, kept)) c.handle_datagram-result.ensures.err
 
 pub returns-clause-same : goal.returns-clause-same

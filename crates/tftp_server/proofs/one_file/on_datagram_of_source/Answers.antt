@@ -9,7 +9,7 @@ returns-clause-steps g c =
     let first : MutBor g.row.S.Denot = record { ref_ptr = c.args.source.ref_ptr; ghost_name = _; now = c.args.source.now } in
     let back = source_back g.S.Source.is_same g.K.Sink.is_same first c.in-Source._source c.on_datagram-result.new.files _ c.in-Source.is c.on_datagram-result.ensures.same c.in-Source.source-1-own.given.1 in
     source_steps
-    g.S.Source.left g.S.Source.may_fail g.K.Sink.held g.K.Sink.may_refuse_append g.K.Sink.may_refuse_commit g.K.Sink.becomes
+    g.S.Source.meaning g.K.Sink.meaning
     (λ (step : Step). step) (λ step. appends c.args.out.now.items c.on_datagram-result.new.out.items)
     c.args.from c.args.bytes.now c.args.end.now c.on_datagram-result.new.self first c.in-Source._source c.on_datagram-result.new.files _ c.on_datagram-result.result
     c.in-Source.is back.0 c.on_datagram-result.ensures.steps
@@ -18,5 +18,5 @@ pub returns-clause-err : goal.returns-clause-err
 returns-clause-err g c =
     let first : MutBor g.row.S.Denot = record { ref_ptr = c.args.source.ref_ptr; ghost_name = _; now = c.args.source.now } in
     let back = source_back g.S.Source.is_same g.K.Sink.is_same first c.in-Source._source c.on_datagram-result.new.files _ c.in-Source.is c.on_datagram-result.ensures.same c.in-Source.source-1-own.given.1 in
-    source_kept g.S.Source.left g.K.Sink.held g.K.Sink.becomes first c.in-Source._source c.on_datagram-result.new.files _ _ _ c.on_datagram-result.result
+    source_kept g.S.Source.meaning g.K.Sink.meaning first c.in-Source._source c.on_datagram-result.new.files _ _ _ c.on_datagram-result.result
     c.in-Source.is back.0 (λ h. h.2) (λ h kept. (h.0, h.1, kept)) c.on_datagram-result.ensures.err

@@ -4,7 +4,6 @@ use Rattle.tftp_ends.specs.Step.{UsesFile}
 use Rattle.tftp_ends.specs.declared.outgoing.Outgoing.{Outgoing}
 use Rattle.tftp_ends.specs.declared.record.Step.{Step}
 use Rattle.tftp_server.specs.Steps.{lends}
-use Rattle.tftp_server.specs.Store.{meaning_by}
 use Rattle.tftp_server.proofs.StepsLemmas.{found_now, datagram_fault, takes_datagram, keeps_held}
 use Rattle.tftp_server.proofs.server.Server.handle_datagram.Goals as goal
 use Rattle.tftp_server.proofs.server.Server.handle_datagram.Goals.{in-Ok, in-Err}
@@ -26,7 +25,7 @@ returns-clause-takes g c =
     elim c.match-handle_datagram.branch [
       | in-Ok w ↦
           rw (w.result-is, ← c.self.view_is)
-          (takes_datagram (meaning_by g.S.Store.stored g.S.Source.Source.left g.S.Store.drafted g.S.Source.Source.may_fail g.S.Store.may_refuse_open g.S.Store.may_refuse_begin g.S.Store.may_refuse_append g.S.Store.may_refuse_commit) c.args.tid _ _ c.self.inside.table c.in-Some.transfer.now c.handle_datagram.new.self refl c.in-Some.ensures.value refl
+          (takes_datagram g.S.Store.meaning g.S.Source.Source.meaning c.args.tid _ _ c.self.inside.table c.in-Some.transfer.now c.handle_datagram.new.self refl c.in-Some.ensures.value refl
           (lends w.in-Ok.answer.1) c.args.from c.args.bytes.now w.in-Ok.answer.0 w.in-Ok.ensures.takes)
       | in-Err w ↦ rw w.result-is tt
     ]
@@ -37,5 +36,5 @@ returns-clause-err g c =
     let new : ServerState g.row.S.Denot g.row.S-Source.Denot g.row.S-Draft.Denot = record { config = c.self.inside.config; store = c.handle_datagram.new.store; held = with_next c.args.tid c.handle_datagram.new.self c.self.inside.table } in
     elim c.match-handle_datagram.branch [
       | in-Ok w ↦ rw w.result-is tt
-      | in-Err w ↦ rw (w.result-is, ← c.self.view_is) (keeps_held (meaning_by g.S.Store.stored g.S.Source.Source.left g.S.Store.drafted g.S.Source.Source.may_fail g.S.Store.may_refuse_open g.S.Store.may_refuse_begin g.S.Store.may_refuse_append g.S.Store.may_refuse_commit) c.args.tid old new c.self.inside.table c.in-Some.transfer.now c.handle_datagram.new.self refl c.in-Some.ensures.value refl w.in-Err.ensures.err)
+      | in-Err w ↦ rw (w.result-is, ← c.self.view_is) (keeps_held g.S.Store.meaning g.S.Source.Source.meaning c.args.tid old new c.self.inside.table c.in-Some.transfer.now c.handle_datagram.new.self refl c.in-Some.ensures.value refl w.in-Err.ensures.err)
     ]

@@ -3,7 +3,6 @@ use Rattle.tftp_server.specs.State.{ServerState, at, with_next}
 use Rattle.tftp_ends.specs.Step.{IsAnswered}
 use Rattle.tftp_ends.specs.declared.record.Step.{Step}
 use Rattle.tftp_server.specs.Steps.{appends}
-use Rattle.tftp_server.specs.Store.{meaning_by}
 use Rattle.tftp_server.proofs.StepsLemmas.{found_now, datagram_fault, takes_recorded, keeps_held}
 use Rattle.tftp_server.proofs.server.Server.on_datagram_recorded.Goals as goal
 use Rattle.tftp_server.proofs.server.Server.on_datagram_recorded.Goals.{in-Ok, in-Err}
@@ -25,7 +24,7 @@ returns-clause-takes g c =
     elim c.match-answer.branch [
       | in-Ok w ↦
           rw (w.result-is, ← c.self.view_is)
-          (takes_recorded (meaning_by g.S.Store.stored g.S.Source.Source.left g.S.Store.drafted g.S.Source.Source.may_fail g.S.Store.may_refuse_open g.S.Store.may_refuse_begin g.S.Store.may_refuse_append g.S.Store.may_refuse_commit) c.args.tid _ _ c.self.inside.table c.in-Some.transfer.now c.on_datagram-answer.new.self refl c.in-Some.ensures.value refl
+          (takes_recorded g.S.Store.meaning g.S.Source.Source.meaning c.args.tid _ _ c.self.inside.table c.in-Some.transfer.now c.on_datagram-answer.new.self refl c.in-Some.ensures.value refl
           (appends c.args.out.now.items c.on_datagram-answer.new.out.items) c.args.from c.args.bytes.now w.in-Ok.step c.record-record.result w.in-Ok.ensures.takes c.record-record.ensures)
       | in-Err w ↦ rw w.result-is tt
     ]
@@ -36,5 +35,5 @@ returns-clause-err g c =
     let new : ServerState g.row.S.Denot g.row.S-Source.Denot g.row.S-Draft.Denot = record { config = c.self.inside.config; store = c.on_datagram-answer.new.store; held = with_next c.args.tid c.on_datagram-answer.new.self c.self.inside.table } in
     elim c.match-answer.branch [
       | in-Ok w ↦ rw w.result-is tt
-      | in-Err w ↦ rw (w.result-is, ← c.self.view_is) (keeps_held (meaning_by g.S.Store.stored g.S.Source.Source.left g.S.Store.drafted g.S.Source.Source.may_fail g.S.Store.may_refuse_open g.S.Store.may_refuse_begin g.S.Store.may_refuse_append g.S.Store.may_refuse_commit) c.args.tid old new c.self.inside.table c.in-Some.transfer.now c.on_datagram-answer.new.self refl c.in-Some.ensures.value refl w.in-Err.ensures.err.0, w.in-Err.ensures.err.1)
+      | in-Err w ↦ rw (w.result-is, ← c.self.view_is) (keeps_held g.S.Store.meaning g.S.Source.Source.meaning c.args.tid old new c.self.inside.table c.in-Some.transfer.now c.on_datagram-answer.new.self refl c.in-Some.ensures.value refl w.in-Err.ensures.err.0, w.in-Err.ensures.err.1)
     ]

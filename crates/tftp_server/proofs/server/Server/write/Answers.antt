@@ -2,7 +2,6 @@ use Rattle.std.proofs.Common.{◌≡◌, ◌≢◌, length, rules}
 use Rattle.tftp_file.specs.declared.fault.StoreFault.TheVariants.{Memory}
 use Rattle.tftp_server.specs.Port.{begin_reply}
 use Rattle.tftp_server.specs.State.{ServerState}
-use Rattle.tftp_server.specs.Store.{meaning_by}
 use Rattle.tftp_server.proofs.RequestLemmas.{asks_to_write, refused_to_write, refused_bytes, cut_on_err, nothing_begun}
 use Rattle.tftp_server.proofs.server.Server.write.Goals as goal
 use Rattle.tftp_server.proofs.server.Server.write.Goals.{in-Ok-begin, in-Err}
@@ -26,7 +25,7 @@ returns-clause-err g c =
       | in-Ok-begin w ↦ rw w.result-is tt
       | in-Err w ↦
           rw (w.result-is, w.out-is, ← c.self.view_is)
-          (nothing_begun (meaning_by g.S.Store.stored g.S.Source.Source.left g.S.Store.drafted g.S.Source.Source.may_fail g.S.Store.may_refuse_open g.S.Store.may_refuse_begin g.S.Store.may_refuse_append g.S.Store.may_refuse_commit) old c.args.from c.args.bytes.now c.begin.new.self w.in-Err.fault c.args.out.now.items w.truncate.new.self.items w.begin_refused.result w.in-Err.ensures.memory w.begin_refused.ensures.why
+          (nothing_begun g.S.Store.meaning g.S.Source.Source.meaning old c.args.from c.args.bytes.now c.begin.new.self w.in-Err.fault c.args.out.now.items w.truncate.new.self.items w.begin_refused.result w.in-Err.ensures.memory w.begin_refused.ensures.why
           (cut_on_err c.args.out.now.items c.in-Ok.end.last_sent c.prepare.new.out.items w.truncate.new.self.items c.len-start.result w.begin_refused.result start c.in-Ok.ensures.end.1 w.truncate.ensures.items))
     ]
 
@@ -36,9 +35,9 @@ returns-clause-asks g c =
     elim c.match-begin.branch [
       | in-Ok-begin w ↦
           rw (w.result-is, ← c.self.view_is)
-          (asks_to_write (meaning_by g.S.Store.stored g.S.Source.Source.left g.S.Store.drafted g.S.Source.Source.may_fail g.S.Store.may_refuse_open g.S.Store.may_refuse_begin g.S.Store.may_refuse_append g.S.Store.may_refuse_commit) old c.args.from c.args.bytes.now c.args.path c.args.mode c.args.agreed.now c.begin.new.self w.in-Ok-begin.draft c.in-Ok.end c.in-Ok.request.items w.new-transfer.result
+          (asks_to_write g.S.Store.meaning g.S.Source.Source.meaning old c.args.from c.args.bytes.now c.args.path c.args.mode c.args.agreed.now c.begin.new.self w.in-Ok-begin.draft c.in-Ok.end c.in-Ok.request.items w.new-transfer.result
           w.in-Ok-begin.ensures.begins c.in-Ok.ensures.end.0 c.in-Ok.ensures.request w.new-transfer.ensures)
       | in-Err w ↦
           rw (w.result-is, ← c.self.view_is)
-          (refused_to_write (meaning_by g.S.Store.stored g.S.Source.Source.left g.S.Store.drafted g.S.Source.Source.may_fail g.S.Store.may_refuse_open g.S.Store.may_refuse_begin g.S.Store.may_refuse_append g.S.Store.may_refuse_commit) old c.args.from c.args.bytes.now c.args.path c.args.mode c.args.agreed.now c.begin.new.self w.in-Err.fault w.begin_refused.result w.in-Err.ensures.begins w.in-Err.ensures.refused w.begin_refused.ensures.refused)
+          (refused_to_write g.S.Store.meaning g.S.Source.Source.meaning old c.args.from c.args.bytes.now c.args.path c.args.mode c.args.agreed.now c.begin.new.self w.in-Err.fault w.begin_refused.result w.in-Err.ensures.begins w.in-Err.ensures.refused w.begin_refused.ensures.refused)
     ]

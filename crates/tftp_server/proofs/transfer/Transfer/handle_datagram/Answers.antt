@@ -1,31 +1,28 @@
-use Rattle.std.proofs.Common.{Some, refl, sym}
+use Rattle.std.proofs.Common.{refl, sym}
 use Rattle.tftp_ends.specs.declared.outgoing.Outgoing.{Outgoing}
 use Rattle.tftp_ends.specs.declared.record.Step.{Step}
 use Rattle.tftp_server.specs.Steps.{lends}
-use Rattle.tftp_file.specs.Memory.{MemSinkState, MayRefuseAppend, MayRefuseCommit}
-use Rattle.tftp_server.specs.Store.{StoreMeaning, meaning_by}
+use Rattle.tftp_file.specs.Memory.{memory_sink}
 use Rattle.tftp_server.proofs.StepsLemmas.{source_taken, draft_taken, drafting_now}
 use Rattle.tftp_server.proofs.transfer.Transfer.handle_datagram.Goals as goal
 
 pub returns-in-Sink-clause-takes : goal.returns-in-Sink-clause-takes
 returns-in-Sink-clause-takes g c =
-    let meaning : StoreMeaning g.row.S.Denot g.row.F.Denot g.row.D.Denot = meaning_by g.S.Store.stored g.F.Source.left g.S.Store.drafted g.F.Source.may_fail g.S.Store.may_refuse_open g.S.Store.may_refuse_begin g.S.Store.may_refuse_append g.S.Store.may_refuse_commit in
     let same = c.handle_datagram_of_sink.ensures.same in
     let last = drafting_now c.handle_datagram_of_sink.new.sink _ c.self.inside.path c.args.replace (c.store-1.given.1 (sym same.0)) same.2 same.3 in
     rw (← c.self.view_is)
     (draft_taken
-    meaning (λ (answer : Step × Outgoing). answer.0) (λ answer. lends answer.1)
+    g.S.Store.meaning g.F.Source.meaning (λ (answer : Step × Outgoing). answer.0) (λ answer. lends answer.1)
     c.args.replace c.args.from c.args.bytes.now c.args.store.now _ c.self.inside.end c.handle_datagram_of_sink.new.end c.self.inside.files
     _ c.handle_datagram_of_sink.new.sink c.in-Sink.draft _ c.self.inside.path c.self.inside.request.items c.handle_datagram_of_sink.result
     c.in-Sink.is refl last c.handle_datagram_of_sink.ensures.steps)
 
 pub returns-in-Source-clause-takes : goal.returns-in-Source-clause-takes
 returns-in-Source-clause-takes g c =
-    let meaning : StoreMeaning g.row.S.Denot g.row.F.Denot g.row.D.Denot = meaning_by g.S.Store.stored g.F.Source.left g.S.Store.drafted g.F.Source.may_fail g.S.Store.may_refuse_open g.S.Store.may_refuse_begin g.S.Store.may_refuse_append g.S.Store.may_refuse_commit in
     rw (← c.self.view_is)
     (source_taken
-    meaning (λ (answer : Step × Outgoing). answer.0) (λ answer. lends answer.1)
-    (λ (s : MemSinkState). Some s.holding) MayRefuseAppend MayRefuseCommit (λ s t committed. Unit {0})
+    g.S.Store.meaning g.F.Source.meaning (λ (answer : Step × Outgoing). answer.0) (λ answer. lends answer.1)
+    memory_sink
     c.args.replace c.args.from c.args.bytes.now c.args.store.now c.self.inside.end c.handle_datagram_of_source.new.end c.self.inside.files
     c.in-Source.source c.handle_datagram_of_source.new.source c.self.inside.path c.self.inside.request.items c.handle_datagram_of_source.result
     c.in-Source.is c.handle_datagram_of_source.ensures.steps)
