@@ -8,11 +8,12 @@ ghost use Rattle.tftp_server.specs.Memory.{contents, has_distinct_paths};
 use crate::play::PlayFault;
 use crate::script::{Playable, Statement};
 use crate::show::show_datagram;
+use itoa::Buffer;
 use rand_core::SeedableRng;
 use rand_pcg::Pcg32;
 use std::alloc::{AllocError, Global};
 use std::io::{BufWriter, Write};
-use tftp_ends::{Record, Side};
+use tftp_ends::{Endpoint, Record, Side};
 use tftp_file::Path;
 use tftp_player::{Event, Report, World, WorldFault, draw};
 use tftp_server::Config;
@@ -23,8 +24,9 @@ const MAX_SETTLED: usize = 1_000_000;
 /// A script that runs: its world, and the output that says what happened in it.
 #[derive(Drop)]
 pub(crate) struct ScriptRun<W: Write + Drop> {
-    alloc: Global,
     world: World,
+    /// The line of a datagram, which is written whole.
+    line: String,
     output: BufWriter<W>,
 }
 
@@ -40,8 +42,8 @@ impl<W: Write + Drop> ScriptRun<W> {
         requires valid { IsConfig config }
     {
         Ok(ScriptRun {
-            alloc,
             world: World::new(alloc, files, config).map_err(|_| AllocError)?,
+            line: String::new(alloc),
             output: BufWriter::new(alloc, output)?,
         })
     }
@@ -127,13 +129,36 @@ impl<W: Write + Drop> ScriptRun<W> {
         let Some(datagram) = self.world.sent().get(place) else {
             return Ok(());
         };
-        let mut shown = String::new(self.alloc);
-        show_datagram(datagram.bytes.as_slice(), &mut shown).map_err(|_| AllocError)?;
-        let from = datagram.from;
-        let to = datagram.to;
-        writeln!(self.output, "#{place} {from} > {to} {shown}")?;
+        self.line.clear();
+        self.line.push('#')?;
+        push_number(&mut self.line, place)?;
+        self.line.push(' ')?;
+        push_endpoint(&mut self.line, datagram.from)?;
+        self.line.push_str(" > ")?;
+        push_endpoint(&mut self.line, datagram.to)?;
+        self.line.push(' ')?;
+        show_datagram(datagram.bytes.as_slice(), &mut self.line).map_err(|_| AllocError)?;
+        self.line.push('\n')?;
+        self.output.write_all(self.line.as_bytes())?;
         Ok(())
     }
+}
+
+/// Appends an endpoint as its `Display` writes it, and faster: there are two in the line of each
+/// datagram.
+fn push_endpoint(line: &mut String, endpoint: Endpoint) -> Result<(), AllocError> {
+    let [a, b, c, d] = endpoint.ip;
+    push_number(line, usize::from(a))?;
+    for byte in [b, c, d] {
+        line.push('.')?;
+        push_number(line, usize::from(byte))?;
+    }
+    line.push(':')?;
+    push_number(line, usize::from(endpoint.port))
+}
+
+fn push_number(line: &mut String, number: usize) -> Result<(), AllocError> {
+    line.push_str(Buffer::new().format(number))
 }
 
 /// Writes how far an end came.

@@ -85,12 +85,20 @@ pub(crate) fn content(alloc: Global, word: &[u8]) -> Result<Vec<u8>, LineFault>
 fn repeated(alloc: Global, digits: &str, count: usize) -> Result<Vec<u8>, LineFault>
     ensures { IfOk result (λ bytes. vec_len bytes ≤ MAX_CONTENT) }
 {
-    let bytes = hex::decode(alloc, digits)?;
+    let mut bytes = hex::decode(alloc, digits)?;
     let length = bytes.len().checked_mul(count).ok_or(LineFault::Faulty)?;
     if length == 0 || length > MAX_CONTENT {
         return Err(LineFault::Faulty);
     }
-    Ok(bytes.as_slice().repeat(alloc, count)?)
+    match bytes.as_slice() {
+        // One byte fills a file at once.
+        [byte] => {
+            let byte = *byte;
+            bytes.resize(length, byte)?;
+            Ok(bytes)
+        }
+        _ => Ok(bytes.as_slice().repeat(alloc, count)?),
+    }
 }
 
 /// The bytes that hexadecimal digits stand for.
