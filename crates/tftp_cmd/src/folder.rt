@@ -207,9 +207,10 @@ fn write_fault(error: &io::Error) -> StoreFault
     ensures not_memory { result ≢ Memory }
 {
     match error.kind() {
-        ErrorKind::StorageFull | ErrorKind::QuotaExceeded | ErrorKind::OutOfMemory => {
-            StoreFault::Full
-        }
+        ErrorKind::StorageFull
+        | ErrorKind::QuotaExceeded
+        | ErrorKind::FileTooLarge
+        | ErrorKind::OutOfMemory => StoreFault::Full,
         _ => StoreFault::Io,
     }
 }

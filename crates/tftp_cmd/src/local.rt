@@ -180,9 +180,10 @@ fn store_fault(error: &io::Error) -> StoreFault
 {
     match error.kind() {
         ErrorKind::AlreadyExists => StoreFault::Exists,
-        ErrorKind::StorageFull | ErrorKind::QuotaExceeded | ErrorKind::OutOfMemory => {
-            StoreFault::Full
-        }
+        ErrorKind::StorageFull
+        | ErrorKind::QuotaExceeded
+        | ErrorKind::FileTooLarge
+        | ErrorKind::OutOfMemory => StoreFault::Full,
         _ => StoreFault::Io,
     }
 }
