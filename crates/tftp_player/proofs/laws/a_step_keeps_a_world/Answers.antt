@@ -1,3 +1,4 @@
+-- The lemmas that are the law.
 use Rattle.tftp_player.proofs.WorldRuns.{step_keeps}
 use Rattle.tftp_player.proofs.WorldSafe.{kept_is_safe}
 use Rattle.tftp_player.proofs.laws.a_step_keeps_a_world.Goals as goal

@@ -1,3 +1,4 @@
+-- The lemmas that are the law.
 use Rattle.tftp_player.proofs.OptionsWitness.{read_is_straight as read_with_options}
 use Rattle.tftp_player.proofs.ReadWitness.{read_is_straight}
 use Rattle.tftp_player.proofs.WriteWitness.{write_is_straight}

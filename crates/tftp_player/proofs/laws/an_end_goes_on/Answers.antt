@@ -1,3 +1,4 @@
+-- The lemma that is the law.
 use Rattle.tftp_player.proofs.Shown.{shown_acts}
 use Rattle.tftp_player.proofs.laws.an_end_goes_on.Goals as goal
 

@@ -1,3 +1,4 @@
+-- The lemmas that are the law.
 use Rattle.tftp_player.specs.Rules.{start, run}
 use Rattle.tftp_player.proofs.RecordedKept.{recorded_run, recorded_start}
 use Rattle.tftp_player.proofs.Runs.{Holds-start, Holds-run, IsSafeMachine-holds}

@@ -1,3 +1,4 @@
+-- The lemmas that are the law.
 use Rattle.tftp_player.proofs.ReadWitness.{read_transfers}
 use Rattle.tftp_player.proofs.WriteWitness.{write_transfers}
 use Rattle.tftp_player.proofs.NetasciiWitness.{netascii_transfers}

@@ -1,3 +1,4 @@
+-- The lemmas that are the law.
 use Rattle.tftp_player.proofs.Shown.{shown_start}
 use Rattle.tftp_player.proofs.ViewSafe.{shown_safe, shown_at_home}
 use Rattle.tftp_player.proofs.laws.what_is_shown_is_safe.Goals as goal

@@ -1,3 +1,4 @@
+-- What is read from the bytes is the packet that they spell.
 use Rattle.std.proofs.Common.{Some}
 use Rattle.std.proofs.lemmas.Result.{IfOk-weaker}
 use Rattle.tftp_wire.specs.Borrowed.{owned}

@@ -1,3 +1,4 @@
+-- One more file is put in its place among those before it.
 use Rattle.std.proofs.Common.{ap, sym, ◌∙◌}
 use Rattle.tftp_server.specs.Store.{with_file}
 use Rattle.tftp_server.specs.Memory.{contents, in_path_order}

@@ -1,3 +1,4 @@
+-- A step of an end with its files is one of the end with its source.
 use Rattle.std.specs.Borrow.{MutBor}
 use Rattle.tftp_ends.specs.declared.record.Step.{Step}
 use Rattle.tftp_server.specs.Steps.{appends}

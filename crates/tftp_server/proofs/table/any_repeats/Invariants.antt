@@ -1,9 +1,9 @@
+-- One of the keys that are left leads to the request exactly if one of all keys does.
 use Rattle.std.proofs.Common.{map}
 use Rattle.tftp_wire.specs.Borrowed.{owned}
 use Rattle.tftp_server.specs.Table.{AnyKeyRepeats}
 use Rattle.tftp_server.proofs.table.any_repeats.Given as goal
 
--- one of the keys that are left leads to it exactly if one of all keys does
 abbrev pub invariant-loop-key : goal.invariant-loop-key
 invariant-loop-key g l =
     (goal.iterator-loop-key g).can_next l.key-iterator

@@ -1,8 +1,8 @@
+-- What was appended and what is left are the keys, and there is room for the rest.
 use Rattle.std.proofs.Common.{◌≡◌, ◌+◌, ◌≤◌, ◌++◌, length, vec_capacity}
 use Rattle.std.specs.Map.{keys_of}
 use Rattle.tftp_server.proofs.table.append_keys.Given as goal
 
--- what was appended, and what is left, are the keys, and there is room for the rest
 abbrev pub invariant-loop-tid : goal.invariant-loop-tid
 invariant-loop-tid l =
     (goal.iterator-loop-tid).can_next l.tid-iterator

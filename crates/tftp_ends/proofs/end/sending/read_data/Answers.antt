@@ -1,3 +1,4 @@
+-- Less than was asked of the source is no whole block.
 use Rattle.tftp_ends.proofs.ReadingBlocks.{reads_short}
 use Rattle.tftp_ends.proofs.end.sending.read_data.Goals as goal
 

@@ -1,3 +1,4 @@
+-- A datagram arrives at the request port, at an end, or nowhere.
 use Rattle.std.proofs.Common.{◌≡◌, length, refl, rules}
 use Rattle.std.proofs.lemmas.Result.{IfOk-weaker}
 use Rattle.tftp_player.proofs.ArrivalLemmas.{step_arrives, nobody_arrives, asks_arrive}

@@ -1,3 +1,4 @@
+-- A step of the server's transfer is one of the end, which keeps what it tells at its close.
 use Rattle.std.proofs.Common.{◌≡◌, ◌∙◌, false, refl, ap}
 use Rattle.tftp_server.specs.Memory.{with_told}
 use Rattle.tftp_server.specs.Store.{Stored}

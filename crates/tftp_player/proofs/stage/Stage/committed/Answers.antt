@@ -1,3 +1,4 @@
+-- Whether the end at the port has committed, where there is one.
 use Rattle.std.proofs.Common.{◌≡◌, ◌<◌, length, rules, ◌∙◌}
 use Rattle.tftp_player.proofs.TellingLemmas.{committed_here, committed_nowhere}
 use Rattle.tftp_player.proofs.stage.Stage.committed.Goals as goal

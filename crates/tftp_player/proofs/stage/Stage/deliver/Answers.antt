@@ -1,3 +1,4 @@
+-- A datagram of the list arrives as it was sent.
 use Rattle.std.proofs.Common.{◌<◌, length, refl, rules}
 use Rattle.tftp_player.specs.declared.fault.WorldFault.TheVariants.{NoPort, Memory}
 use Rattle.tftp_player.proofs.ArrivalLemmas.{delivers_told, delivery_fault}

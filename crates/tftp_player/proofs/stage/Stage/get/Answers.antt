@@ -1,3 +1,4 @@
+-- A client that asks for a file opens, or has its least reason to be refused.
 use Rattle.std.proofs.Common.{◌≡◌, length, subst, sym, rules}
 use Rattle.std.proofs.lemmas.Result.{IfOk-weaker, IfErr-weaker}
 use Rattle.tftp_ends.specs.Opening.{MayGet}

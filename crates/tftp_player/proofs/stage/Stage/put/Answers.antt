@@ -1,3 +1,4 @@
+-- A client that sends a file opens, or has its least reason to be refused.
 use Rattle.std.proofs.Common.{◌≡◌, length, subst, sym, rules}
 use Rattle.std.proofs.lemmas.Result.{IfOk-weaker, IfErr-weaker}
 use Rattle.tftp_file.specs.Netascii.{wire_text}

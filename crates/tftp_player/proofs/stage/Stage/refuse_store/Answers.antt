@@ -1,3 +1,4 @@
+-- The end at the port is told to refuse, or there is none.
 use Rattle.std.proofs.Common.{◌≡◌, ◌<◌, length, sym, subst, rules}
 use Rattle.std.specs.Prelude.{slice_set}
 use Rattle.tftp_player.specs.Stage.{IsStaged, world_of}

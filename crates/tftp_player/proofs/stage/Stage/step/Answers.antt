@@ -1,3 +1,4 @@
+-- Each event is its step.
 use Rattle.std.proofs.Common.{sym, subst}
 use Rattle.std.specs.Prelude.{IfOk}
 use Rattle.tftp_player.specs.WorldSteps.{WorldStep}

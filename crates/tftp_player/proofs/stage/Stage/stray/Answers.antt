@@ -1,3 +1,4 @@
+-- A stray arrives like a datagram, and is not added to the list.
 use Rattle.std.proofs.Common.{List, ℕ, subst}
 use Rattle.std.proofs.lemmas.Result.{IfOk-weaker}
 use Rattle.tftp_player.specs.WorldSteps.{Lands}

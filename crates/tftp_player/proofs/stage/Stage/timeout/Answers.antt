@@ -1,3 +1,4 @@
+-- A timeout of the end at the port is its step, or there is none.
 use Rattle.std.proofs.Common.{◌≡◌, ◌<◌, length, refl, subst, rules}
 use Rattle.tftp_player.specs.World.{WorldState}
 use Rattle.tftp_player.specs.WorldSteps.{NoneAt}

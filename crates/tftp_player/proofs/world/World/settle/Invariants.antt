@@ -1,3 +1,4 @@
+-- So many deliveries were made, and the world is safe behind each.
 use Rattle.std.proofs.Common.{◌≡◌, ◌-◌, ◌≤◌, List, length}
 use Rattle.tftp_player.specs.PlayedWorld.{IsHome}
 use Rattle.tftp_player.specs.WorldSafety.{IsSafe}

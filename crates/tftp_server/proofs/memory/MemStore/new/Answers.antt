@@ -1,3 +1,4 @@
+-- A file is found among the files in path order as among those handed in.
 use Rattle.std.proofs.Common.{ap, ◌∙◌}
 use Rattle.tftp_server.specs.Store.{file_at}
 use Rattle.tftp_server.specs.Memory.{contents}

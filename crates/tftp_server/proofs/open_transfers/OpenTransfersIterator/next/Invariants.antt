@@ -1,9 +1,9 @@
+-- Only closed transfers were passed over.
 use Rattle.std.proofs.Common.{◌≡◌, length}
 use Rattle.tftp_server.specs.State.{open_records}
 use Rattle.tftp_server.specs.Table.{joined}
 use Rattle.tftp_server.proofs.open_transfers.OpenTransfersIterator.next.Given as goal
 
--- only closed transfers were passed over
 abbrev pub invariant-loop-tid : goal.invariant-loop-tid
 invariant-loop-tid g l = open_records (joined l.self-inside.index l.self-inside.slots.now) ≡ l.fn.self
 

@@ -1,3 +1,4 @@
+-- The tests that ask no store, in their order.
 use Rattle.std.proofs.Common.{◌≡◌, ap, sym, length, subst, List, ℕ, option_map, ◌∙◌}
 use Rattle.tftp_wire.specs.Borrowed.{owned, owned_request}
 use Rattle.tftp_server.specs.State.{Held, ServerState, IsRepeated}

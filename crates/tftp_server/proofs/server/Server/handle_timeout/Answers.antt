@@ -1,3 +1,4 @@
+-- A timeout of the transfer at the identifier is the server's.
 use Rattle.std.proofs.Common.{◌≡◌, ap, ◌∙◌, List, ℕ}
 use Rattle.tftp_server.specs.State.{ServerState, Held}
 use Rattle.tftp_server.specs.Steps.{lends}

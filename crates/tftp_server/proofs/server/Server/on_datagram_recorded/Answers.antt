@@ -1,3 +1,4 @@
+-- A fault comes from the transfer at the identifier, or from there being none.
 use Rattle.std.proofs.Common.{◌≡◌, refl, ap}
 use Rattle.tftp_server.specs.State.{ServerState, at, with_next}
 use Rattle.tftp_ends.specs.Step.{IsAnswered}

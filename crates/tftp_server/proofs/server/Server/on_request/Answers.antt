@@ -1,3 +1,4 @@
+-- What the port's tests say is done: nothing, an ERROR, a read or a write.
 use Rattle.tftp_server.specs.declared.server.request.Asked.TheVariants as asked
 use Rattle.tftp_server.specs.Port.{Reads, Writes}
 use Rattle.tftp_server.proofs.RequestLemmas.{asked_as, stays_silent, refuses, goes_on}

@@ -1,3 +1,4 @@
+-- A fault comes from the transfer at the identifier, or from there being none.
 use Rattle.std.proofs.Common.{◌≡◌, ap, ◌∙◌, List, ℕ}
 use Rattle.tftp_server.specs.State.{ServerState, Held, at}
 use Rattle.tftp_server.specs.Steps.{appends}

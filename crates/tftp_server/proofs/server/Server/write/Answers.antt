@@ -1,3 +1,4 @@
+-- A write sends the first datagram of its end, or an ERROR.
 use Rattle.std.proofs.Common.{◌≡◌, ◌≢◌, length, rules}
 use Rattle.tftp_file.specs.declared.fault.StoreFault.TheVariants.{Memory}
 use Rattle.tftp_server.specs.Port.{begin_reply}

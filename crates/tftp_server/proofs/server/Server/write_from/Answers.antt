@@ -1,3 +1,4 @@
+-- A draft that the store began fills the place that was reserved.
 use Rattle.std.proofs.Common.{ap, ◌∙◌}
 use Rattle.std.specs.BTreeMap.{insert_entry}
 use Rattle.std.specs.Ordering.{nat_cmp}

@@ -1,3 +1,4 @@
+-- Without the reserved entry, index and slots are as before.
 use Rattle.std.proofs.Common.{refl, ap, ◌∙◌}
 use Rattle.std.specs.BTreeMap.{is_at}
 use Rattle.std.specs.Map.{remove_entry}

@@ -1,3 +1,4 @@
+-- The keys of the index are the identifiers.
 use Rattle.std.proofs.Common.{◌≡◌, ◌∙◌, ap, sym}
 use Rattle.std.specs.Map.{keys_of}
 use Rattle.tftp_server.proofs.TableLemmas.{joined-keys}

@@ -1,3 +1,4 @@
+-- An identifier is in the table exactly if it is in the index.
 use Rattle.std.proofs.Common.{ap, sym, ◌∙◌, is_some}
 use Rattle.std.specs.Map.{lookup}
 use Rattle.std.specs.BTreeMap.{is_at}

@@ -1,3 +1,4 @@
+-- The value in the slot that the index names is the identifier's.
 use Rattle.std.proofs.Common.{ap, sym, ◌∙◌}
 use Rattle.std.specs.Map.{lookup}
 use Rattle.std.specs.BTreeMap.{is_at}

@@ -1,3 +1,4 @@
+-- The value in the slot that the index names is lent, and the others stay.
 use Rattle.std.proofs.Common.{◌≡◌, ap, ◌∙◌, refl}
 use Rattle.std.specs.Map.{lookup, set_value}
 use Rattle.std.specs.BTreeMap.{is_at}

@@ -1,3 +1,4 @@
+-- Index and table have one length.
 use Rattle.std.proofs.Common.{◌∙◌, ap, sym, length}
 use Rattle.tftp_server.proofs.TableLemmas.{joined-length}
 use Rattle.tftp_server.proofs.table.Table.len.Goals as goal

@@ -1,3 +1,4 @@
+-- Without the entry and its slot, index and slots are joined as before.
 use Rattle.std.proofs.Common.{ap, sym, refl, ◌∙◌}
 use Rattle.std.specs.Map.{lookup, remove_entry}
 use Rattle.std.specs.BTreeMap.{is_at}

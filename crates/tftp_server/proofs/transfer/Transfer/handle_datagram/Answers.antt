@@ -1,3 +1,4 @@
+-- A step over the store and the draft as a sink is the transfer's.
 use Rattle.std.proofs.Common.{refl, sym}
 use Rattle.tftp_ends.specs.declared.outgoing.Outgoing.{Outgoing}
 use Rattle.tftp_ends.specs.declared.record.Step.{Step}
