@@ -1,7 +1,6 @@
 #!/bin/sh
 # Proves and builds programs and the crates below them. Usage: build.sh CRATE..
-# The libraries are built one after another, lowest first, each by as many processors as there are, and then the
-# programs side by side.
+# Each crate is built as soon as those that it uses are, beside others that are ready: crates.txt says which.
 # Prints a line for each crate that it proves: its name, how many functions it has, and the seconds that this took.
 # The prover's own log of a crate is out/CRATE.log, and its end is printed where the crate fails.
 set -u
@@ -26,8 +25,9 @@ crates_of() {
     ' crates.txt
 }
 
-is_program() {
-    test -f "crates/$1/src/main.rt"
+# the crates below this one
+crates_below() {
+    crates_of "$1" | grep -v "^$1\$"
 }
 
 # proves and builds one crate of the repository at this folder
@@ -35,7 +35,7 @@ build() {
     log=$PWD/out/$1.log
     verb=lib
     # a program runs once it is built: it only prints its help
-    is_program "$1" && verb="run -- --help"
+    test ! -f "crates/$1/src/main.rt" || verb="run -- --help"
     start=$(date +%s)
     (cd "$2/crates/$1" && rt $verb) < /dev/null > "$log.new" 2>&1
     status=$?
@@ -54,22 +54,24 @@ build() {
     test -z "$functions" || echo "$1: $functions functions, $(($(date +%s) - start)) s"
 }
 
-# proves and builds a program beside others: rt lets in one run at a time to a crate and those below it, so this run has
+# proves and builds a crate beside others: rt lets in one run at a time to a crate and those below it, so this run has
 # a repository of hard links of its own
 build_apart() {
     room=$PWD/out/$1.room
     rm -rf "$room"
-    mkdir -p "$room/crates"
+    mkdir -p "$room/crates/$1/out"
     cp HANDLES "$room"
-    for crate in $(crates_of "$1"); do
+    for crate in $(crates_below "$1"); do
         grep "^$crate:" crates.txt >> "$room/crates.txt"
         mkdir -p "$room/crates/$crate/out"
         for part in src specs proofs out/rlib; do
             test ! -d "crates/$crate/$part" || cp -al "crates/$crate/$part" "$room/crates/$crate/$part"
         done
     done
-    # what earlier runs kept of the program
-    test ! -d "crates/$1/out" || cp -al "crates/$1/out/." "$room/crates/$1/out"
+    grep "^$1:" crates.txt >> "$room/crates.txt"
+    for part in src specs proofs out; do
+        test ! -d "crates/$1/$part" || cp -al "crates/$1/$part/." "$room/crates/$1/$part"
+    done
     build "$1" "$room"
     built=$?
     rm -rf "crates/$1/out"
@@ -78,19 +80,18 @@ build_apart() {
     return $built
 }
 
-crates=$(crates_of "$@")
-for crate in $crates; do
-    is_program "$crate" || build "$crate" . || exit 1
-done
-jobs=
-for crate in $crates; do
-    if is_program "$crate"; then
-        build_apart "$crate" &
-        jobs="$jobs $!"
-    fi
-done
-failed=0
-for job in $jobs; do
-    wait "$job" || failed=1
-done
-exit $failed
+if test "$1" = --one; then
+    build_apart "$2"
+    exit
+fi
+
+# a rule for each crate, so that make finds out which can be built side by side
+{
+    echo ".PHONY: all $(crates_of "$@" | tr '\n' ' ')"
+    echo "all: $*"
+    for crate in $(crates_of "$@"); do
+        echo "$crate: $(crates_below "$crate" | tr '\n' ' ')"
+        printf '\t@tools/build.sh --one %s\n' "$crate"
+    done
+} > out/build.mk
+exec env -u MAKEFLAGS -u MAKELEVEL make -j 4 -f out/build.mk all

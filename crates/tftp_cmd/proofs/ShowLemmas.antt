@@ -8,21 +8,13 @@ use Rattle.std.specs.Io.BufRead.{take_through, drop_through, strip_last, DropsTh
 use Rattle.std.specs.Io.KnownBytes.{Appends}
 use Rattle.hex.specs.Hex.{decode_of}
 use Rattle.hex.specs.declared.error.FromHexError.{FromHexError}
-use Rattle.tftp_wire.specs.declared.packet.Packet.{Packet}
-use Rattle.tftp_wire.specs.Line.{line}
-use Rattle.tftp_wire.specs.Parts.{packet_in}
-use Rattle.tftp_wire.specs.Reading.{first_fault}
-use Rattle.tftp_cmd.specs.Show.{onto_first, lines_of, datagram_shown, line_shown, spells_packet, Decodes, are_packets, input_shown}
+use Rattle.tftp_cmd.specs.Show.{onto_first, lines_of, line_shown, spells_packet, Decodes, are_packets, input_shown}
 
 by_test : {G : Type 0} (b : Bool) → (b ≡ true → G) → (b ≡ false → G) → G
 by_test true holds fails = holds refl
 by_test false holds fails = fails refl
 
 -- ---- a line
-
--- the line of bytes without a fault is that of the packet that is found in them
-pub packet_shown : (p : Packet) (bytes : List ℕ) → first_fault bytes ≡ None → packet_in bytes ≡ p → line p ≡ datagram_shown bytes (first_fault bytes)
-packet_shown p bytes none found = sym (ap (datagram_shown bytes) none ∙ ap line found)
 
 -- digits that are hexadecimal
 pub is_decoded : (d : Result (List ℕ) FromHexError) (b : Bool) (new : List ℕ) → Decodes d b new → b ≡ true → d ≡ Ok new

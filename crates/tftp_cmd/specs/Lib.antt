@@ -1,10 +1,3 @@
-pub mod ClientEnd
-pub mod Fallback
-pub mod Folder
-pub mod LogLine
 pub mod Play
 pub mod Playable
-pub mod Printed
-pub mod Progress
 pub mod Show
-pub mod Watch

@@ -1,13 +1,9 @@
 -- What `tftp-show` prints for an input, and its status (own).
-use Rattle.std.specs.Prelude.{ℕ, ◌≡◌, ◌==◌, Bool, true, false, if◌then◌else◌, List, [], ◌∷◌, ◌++◌, codes, Option, Some, None, is_none, Result, Ok, Err}
+use Rattle.std.specs.Prelude.{ℕ, ◌≡◌, ◌==◌, Bool, true, false, if◌then◌else◌, List, [], ◌∷◌, ◌++◌, codes, is_none, Result, Ok, Err}
 use Rattle.std.specs.List.{flat_map, list_all}
-use Rattle.std.specs.Fmt.{decimal}
 use Rattle.hex.specs.Hex.{decode_of}
 use Rattle.hex.specs.declared.error.FromHexError.{FromHexError}
-use Rattle.tftp_wire.specs.declared.fault.PacketFault.{PacketFault}
-use Rattle.tftp_wire.specs.Faults.{kind_name}
-use Rattle.tftp_wire.specs.Line.{line}
-use Rattle.tftp_wire.specs.Parts.{packet_in}
+use Rattle.tftp_wire.specs.Datagram.{datagram_shown}
 use Rattle.tftp_wire.specs.Reading.{first_fault}
 
 -- a byte in front of the first line, or a line of it alone
@@ -19,11 +15,6 @@ onto_first b (first ∷ others) = (b ∷ first) ∷ others
 abbrev pub lines_of : List ℕ → List (List ℕ)
 lines_of [] = []
 lines_of (b ∷ input) = if b == 10 then [] ∷ lines_of input else onto_first b (lines_of input)
-
--- the line of a datagram: its packet, or its first fault
-abbrev pub datagram_shown : List ℕ → Option PacketFault → List ℕ
-datagram_shown bytes None = line (packet_in bytes)
-datagram_shown bytes (Some fault) = codes "fault " ++ (kind_name fault.kind ++ (32 ∷ decimal fault.at))
 
 -- the line of what digits decode to
 abbrev pub decoded_shown : Result (List ℕ) FromHexError → List ℕ

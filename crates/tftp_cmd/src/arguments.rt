@@ -1,16 +1,16 @@
-//! The command lines of the programs.
+//! The command lines of `tftp-show` and `tftp-play`.
 
 ghost use Rattle.std.specs.Prelude.{◌≤◌};
 
 use crate::play::{PlayFault, play_run};
 use crate::show::show_run;
-use anyhow::Result;
 use clap::{Arg, Command};
 use std::alloc::{AllocError, Global};
 use std::convert::AsStr;
 use std::io::Write;
 use std::rt::Runtime;
-use std::{env, fs, io};
+use std::{fs, io};
+use tftp_arguments::{own_words, print_usage};
 
 /// Runs `tftp-show` with the program's own command line, and returns its status.
 ///
@@ -35,15 +35,6 @@ pub fn play_command<R: Runtime + AllocGlobal, E: Write + Drop>(rt: &R, errors: E
         Ok(words) => play_words(rt, words.as_slice(), errors),
         Err(_) => 2,
     }
-}
-
-/// The words of the program's own command line.
-pub(crate) fn own_words<R: Runtime + AllocGlobal>(rt: &R) -> Result<Vec<String>> {
-    let mut words = Vec::new(rt.alloc());
-    for word in env::args(rt)? {
-        words.push(word)?;
-    }
-    Ok(words)
 }
 
 /// Runs `tftp-show` over standard input and output, as a command line says, and returns its status.
@@ -92,17 +83,6 @@ fn play_syntax<'a>(alloc: Global) -> Result<Command<'a>, AllocError> {
         .about("Plays a script of TFTP transfers over a lossy network in memory")
         .version("0.1.0")
         .arg(script)
-}
-
-/// Prints the help, the version or what is wrong with a command line, and returns the status for it.
-pub(crate) fn print_usage<R: Print + Eprint>(rt: &R, error: &clap::Error) -> u8
-    ensures { result ≤ 2 }
-{
-    if error.print(rt).is_err() || error.use_stderr() {
-        2
-    } else {
-        0
-    }
 }
 
 /// Plays the script in the file at the path, or on standard input.

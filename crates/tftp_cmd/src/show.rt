@@ -2,18 +2,17 @@
 
 mod digits;
 
-ghost use Rattle.std.specs.Prelude.{◌≡◌, ◌≤◌, ◌++◌, ◌⊎◌, IfOk, IfSome, OnOk, is_none};
+ghost use Rattle.std.specs.Prelude.{◌≡◌, ◌≤◌, ◌++◌, ◌⊎◌, IfOk, IfSome, OnOk};
 ghost use Rattle.std.specs.Io.BufRead.{strip_last};
 ghost use Rattle.std.specs.Io.KnownBytes.{Appends};
 ghost use Rattle.std.specs.String.{string_bytes};
 ghost use Rattle.hex.specs.Hex.{decode_of};
-ghost use Rattle.tftp_wire.specs.Reading.{first_fault};
-ghost use Rattle.tftp_cmd.specs.Show.{datagram_shown, line_shown, spells_packet, are_packets, input_shown, status_of};
+ghost use Rattle.tftp_cmd.specs.Show.{line_shown, spells_packet, are_packets, input_shown, status_of};
 
 use crate::show::digits::decode_digits;
 use std::alloc::{AllocError, Global};
 use std::io::{self, BufRead, BufReader, BufWriter, ErrorKind, Read, Write};
-use tftp_wire::{PacketFault, decode_ref, laws, show_ref};
+use tftp_wire::show_datagram;
 
 /// Reads lines of hexadecimal digits, each a datagram, and writes for each its packet, or
 /// `fault KIND AT`, or `not hex`.
@@ -98,28 +97,4 @@ fn show_line(digits: &[u8], bytes: &mut Vec<u8>, text: &mut String) -> Result<bo
         return Ok(false);
     }
     show_datagram(bytes.as_slice(), text).map_err(|_| AllocError)
-}
-
-/// Appends the packet of a datagram, or its first fault, and answers whether it is a packet. It
-/// fails only when out of memory.
-pub(crate) fn show_datagram(bytes: &[u8], text: &mut String) -> Result<bool, PacketFault>
-    ensures is_packet { IfOk result (λ is_packet. is_packet ≡ is_none (first_fault bytes.now)) }
-    ensures appended { OnOk result (string_bytes text.new
-        ≡ string_bytes text.old ++ datagram_shown bytes.now (first_fault bytes.now)) }
-{
-    match decode_ref(bytes) {
-        Ok(packet) => {
-            // What is spelled has no fault, and is what the definition of a packet finds.
-            laws::fault_or_packet();
-            laws::spelled_is_found();
-            show_ref(&packet, text)?;
-            Ok(true)
-        }
-        Err(fault) => {
-            let kind = fault.kind.name();
-            let at = fault.at;
-            write!(text, "fault {kind} {at}")?;
-            Ok(false)
-        }
-    }
 }

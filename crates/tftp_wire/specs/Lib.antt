@@ -7,5 +7,6 @@ pub mod Faults
 pub mod Reading
 pub mod Parts
 pub mod Line
+pub mod Datagram
 pub mod Laws
 pub mod Room

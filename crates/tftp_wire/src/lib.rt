@@ -9,6 +9,7 @@
 
 mod append;
 mod bytes;
+mod datagram;
 mod fault;
 pub mod laws;
 mod limits;
@@ -28,8 +29,9 @@ pub use append::{
     append_read, append_write,
 };
 pub use bytes::Bytes;
+pub use datagram::show_datagram;
 pub use fault::{PacketFault, PacketFaultKind};
-pub use limits::{HEADER, MAX_BLOCK, MAX_REQUEST};
+pub use limits::{HEADER, MAX_BLOCK, MAX_DATA, MAX_REQUEST};
 pub use line::{show, show_ref};
 pub use mode::Mode;
 pub use opcode::has_error_opcode;

@@ -12,5 +12,5 @@ pub const MAX_REQUEST: usize = 512;
 /// Specification").
 pub const MAX_BLOCK: u16 = 65_464;
 
-/// No DATA is longer, in bytes.
-pub(crate) const MAX_DATA: usize = HEADER + MAX_BLOCK as usize;
+/// No DATA, and so no packet, is longer, in bytes.
+pub const MAX_DATA: usize = HEADER + MAX_BLOCK as usize;

@@ -7,7 +7,6 @@ ghost use Rattle.tftp_server.specs.Memory.{contents, has_distinct_paths};
 
 use crate::play::PlayFault;
 use crate::script::{Playable, Statement};
-use crate::show::show_datagram;
 use itoa::Buffer;
 use rand_core::SeedableRng;
 use rand_pcg::Pcg32;
@@ -17,6 +16,7 @@ use tftp_ends::{Endpoint, Record, Side};
 use tftp_file::Path;
 use tftp_player::{Event, Report, World, WorldFault, draw};
 use tftp_server::Config;
+use tftp_wire::show_datagram;
 
 /// Most deliveries of one settling.
 const MAX_SETTLED: usize = 1_000_000;

@@ -1,3 +1,4 @@
+-- Digits that decode are shown as their datagram.
 use Rattle.std.proofs.Common.{◌≡◌, ap, sym, subst, ◌∙◌, ◌++◌}
 use Rattle.std.specs.Prelude.{IfOk, OnOk, Ok}
 use Rattle.std.specs.String.{string_bytes}

@@ -1,3 +1,4 @@
+-- What is written and what is due for the bytes that are left is due for all.
 use Rattle.tftp_cmd.proofs.ShowLemmas.{GoesOn}
 use Rattle.tftp_cmd.proofs.show.show_lines.Given as goal
 

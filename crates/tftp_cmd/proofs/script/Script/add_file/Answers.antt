@@ -1,3 +1,4 @@
+-- A file whose path none has leaves the paths distinct.
 use Rattle.std.proofs.Common.{rules, ◌≡◌, is_some, is_ok, false}
 use Rattle.tftp_server.specs.Memory.{contents}
 use Rattle.tftp_server.specs.Store.{file_at}

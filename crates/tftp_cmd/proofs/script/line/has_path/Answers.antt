@@ -1,3 +1,4 @@
+-- A path is among the files exactly if a file is found by it.
 use Rattle.std.proofs.Common.{rules, tests, ◌∙◌, nat_eq}
 use Rattle.std.specs.Cmp.Lexicographic.{pointwise}
 use Rattle.std.proofs.lemmas.Iterator.{YieldsList-from_slice}

@@ -1,3 +1,4 @@
+-- One more pair of digits goes on from those before it.
 use Rattle.std.proofs.Common.{arith}
 use Rattle.tftp_cmd.proofs.DigitsLemmas.{pairs_begin, pairs_go_on, pairs_end}
 use Rattle.tftp_cmd.proofs.show.digits.decode_pairs.Goals as goal

@@ -1,3 +1,4 @@
+-- The pairs before the place are decoded, as far as they are digits.
 use Rattle.tftp_cmd.proofs.DigitsLemmas.{PairsSoFar}
 use Rattle.tftp_cmd.proofs.show.digits.decode_pairs.Given as goal
 

@@ -1,0 +1,59 @@
+//! The words of a command line, and what is printed where they are not understood.
+
+ghost use Rattle.std.specs.Prelude.{◌≤◌};
+
+use anyhow::Result;
+use clap::builder::ValueParser;
+use clap::{Arg, ArgAction};
+use std::alloc::Global;
+use std::env;
+use std::rt::Runtime;
+
+/// The words of the program's own command line.
+pub fn own_words<R: Runtime + AllocGlobal>(rt: &R) -> Result<Vec<String>> {
+    let mut words = Vec::new(rt.alloc());
+    for word in env::args(rt)? {
+        words.push(word)?;
+    }
+    Ok(words)
+}
+
+/// Prints the help, the version or what is wrong with a command line, and returns the status for it.
+pub fn print_usage<R: Print + Eprint>(rt: &R, error: &clap::Error) -> u8
+    ensures { result ≤ 2 }
+{
+    if error.print(rt).is_err() || error.use_stderr() {
+        2
+    } else {
+        0
+    }
+}
+
+/// A positional word that has to be there.
+pub fn word<'a>(alloc: Global, name: &'a str, help: &'a str) -> Arg<'a> {
+    Arg::new(alloc, name).required(true).help(help)
+}
+
+/// An option `--name N` with a number. Its range stands in the place of its value, so that the help and each
+/// fault name it.
+pub fn number<'a>(
+    alloc: Global,
+    name: &'a str,
+    range: &'a str,
+    parser: ValueParser<'a>,
+    help: &'a str,
+) -> Arg<'a> {
+    Arg::new(alloc, name)
+        .long(name)
+        .value_name(range)
+        .value_parser(parser)
+        .help(help)
+}
+
+/// An option `--name` without a value.
+pub fn flag<'a>(alloc: Global, name: &'a str, help: &'a str) -> Arg<'a> {
+    Arg::new(alloc, name)
+        .long(name)
+        .action(ArgAction::SetTrue)
+        .help(help)
+}

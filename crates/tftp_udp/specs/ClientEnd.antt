@@ -1,0 +1,33 @@
+-- What `tftp` prints at its end, and its status (own).
+use Rattle.std.specs.Prelude.{ℕ, List, ◌++◌, codes}
+use Rattle.std.specs.Fmt.{decimal}
+use Rattle.tftp_ends.specs.Outcome.{outcome_text}
+use Rattle.tftp_ends.specs.declared.fault.OpenFault.{OpenFault}
+use Rattle.tftp_ends.specs.declared.fault.OpenFault.TheVariants as open_faults
+use Rattle.tftp_udp.specs.declared.client_end.ClientEnd.{ClientEnd}
+use Rattle.tftp_udp.specs.declared.client_end.ClientEnd.TheVariants.{Complete, Failed, FileFault, SocketFault, NotOpened, Memory}
+
+-- the status: 0 for a complete transfer, 1 for one that failed, 2 where none was opened
+abbrev pub status_of : ClientEnd → ℕ
+status_of (Complete count) = 0
+status_of (Failed outcome) = 1
+status_of FileFault = 2
+status_of SocketFault = 2
+status_of (NotOpened fault) = 2
+status_of Memory = 2
+
+-- the word for a transfer that was not opened
+abbrev pub open_fault_word : OpenFault → List ℕ
+open_fault_word open_faults.BadRequest = codes "BadRequest"
+open_fault_word open_faults.TooLarge = codes "TooLarge"
+open_fault_word open_faults.SourceFault = codes "SourceFault"
+open_fault_word open_faults.Memory = codes "Memory"
+
+-- the line, without its end
+abbrev pub end_text : ClientEnd → List ℕ
+end_text (Complete count) = codes "complete " ++ decimal count
+end_text (Failed outcome) = codes "tftp: " ++ outcome_text outcome
+end_text FileFault = codes "tftp: file fault"
+end_text SocketFault = codes "tftp: socket fault"
+end_text (NotOpened fault) = codes "tftp: " ++ open_fault_word fault
+end_text Memory = codes "tftp: out of memory"

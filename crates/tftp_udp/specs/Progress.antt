@@ -1,0 +1,32 @@
+-- How far a client's transfer came, as a line (own).
+use Rattle.std.specs.Prelude.{ℕ, ◌≤◌, ◌-◌, ◌*◌, ◌/◌, ◌%◌, nat_le, max, if◌then◌else◌, List, ◌++◌, codes, Option, Some, None}
+use Rattle.std.specs.Fmt.{decimal}
+use Rattle.tftp_udp.specs.declared.progress.Progress.{Progress}
+
+-- a line is due: there is none yet, or the newest one is a tenth of a second old
+abbrev pub IsLineDue : Option ℕ → ℕ → Type 0
+IsLineDue None now = Unit {0}
+IsLineDue (Some written_at) now = 100 ≤ now - written_at
+
+-- the share of a whole in percent, rounded down, 100 at most
+abbrev pub percent_of : ℕ → ℕ → ℕ
+percent_of bytes total = if nat_le total bytes then 100 else (bytes * 100) / total
+
+-- the speed in tenths of a megabyte a second, rounded down; a shorter time counts as a millisecond
+abbrev pub tenths_of : ℕ → ℕ → ℕ
+tenths_of bytes millis = (bytes / 100) / max millis 1
+
+-- ` MB/s` behind tenths
+abbrev pub speed_text : ℕ → List ℕ
+speed_text tenths = decimal (tenths / 10) ++ (codes "." ++ (decimal (tenths % 10) ++ codes " MB/s"))
+
+-- `, N%` where the whole is known
+abbrev pub share_text : ℕ → Option ℕ → List ℕ → List ℕ
+share_text bytes None rest = rest
+share_text bytes (Some total) rest = decimal (percent_of bytes total) ++ (codes "%, " ++ rest)
+
+-- the line, without its end
+abbrev pub progress_text : Progress → List ℕ
+progress_text progress =
+    decimal progress.bytes
+    ++ (codes " bytes, " ++ share_text progress.bytes progress.total (speed_text (tenths_of progress.bytes progress.millis)))

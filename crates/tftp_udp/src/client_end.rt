@@ -1,0 +1,75 @@
+//! How a run of `tftp` ended: its last line and its status.
+
+ghost use Rattle.std.specs.Prelude.{◌≡◌};
+ghost use Rattle.tftp_udp.specs.ClientEnd.{open_fault_word, status_of};
+
+use std::fmt;
+use tftp_ends::{OpenFault, Outcome};
+
+/// How a run of `tftp` ended. `{}` writes the line that it prints: a complete transfer on standard
+/// output, and any other on standard error.
+#[derive(Clone, Copy, Debug, PartialEq, Eq)]
+pub enum ClientEnd {
+    /// The transfer is complete; the bytes of the file on this host.
+    Complete(u64),
+    /// The transfer was opened, and ended otherwise.
+    Failed(Outcome),
+    /// The local file is there already, or cannot be opened.
+    FileFault,
+    /// There is no socket.
+    SocketFault,
+    /// The transfer was not opened.
+    NotOpened(OpenFault),
+    /// Out of memory.
+    Memory,
+}
+
+impl ClientEnd {
+    /// The status of the program: 0 for a complete transfer, 1 for one that failed, and 2 where none
+    /// was opened.
+    pub fn status(self) -> u8
+        ensures { result ≡ status_of self }
+    {
+        match self {
+            ClientEnd::Complete(_) => 0,
+            ClientEnd::Failed(_) => 1,
+            ClientEnd::FileFault
+            | ClientEnd::SocketFault
+            | ClientEnd::NotOpened(_)
+            | ClientEnd::Memory => 2,
+        }
+    }
+}
+
+/// The word for a transfer that was not opened.
+fn open_fault_word(fault: OpenFault) -> &'static str
+    ensures { result.now ≡ open_fault_word fault }
+{
+    match fault {
+        OpenFault::BadRequest => "BadRequest",
+        OpenFault::TooLarge => "TooLarge",
+        OpenFault::SourceFault => "SourceFault",
+        OpenFault::Memory => "Memory",
+    }
+}
+
+impl fmt::Display for ClientEnd {
+    ghost use Rattle.std.specs.Prelude.{Some};
+    ghost use Rattle.tftp_udp.specs.ClientEnd.{end_text};
+
+    ghost output = { λ end. Some (end_text end) };
+
+    fn fmt<W: fmt::Write>(&self, f: &mut fmt::Formatter<W>) -> fmt::Result {
+        match *self {
+            ClientEnd::Complete(count) => write!(f, "complete {count}"),
+            ClientEnd::Failed(outcome) => write!(f, "tftp: {outcome}"),
+            ClientEnd::FileFault => f.write_str("tftp: file fault"),
+            ClientEnd::SocketFault => f.write_str("tftp: socket fault"),
+            ClientEnd::NotOpened(fault) => {
+                let word = open_fault_word(fault);
+                write!(f, "tftp: {word}")
+            }
+            ClientEnd::Memory => f.write_str("tftp: out of memory"),
+        }
+    }
+}

@@ -1,0 +1,329 @@
+//! A store over a folder: a server's files are those in it and below it.
+
+ghost use Rattle.std.specs.Prelude.{◌≢◌, IfErr};
+ghost use Rattle.tftp_udp.specs.Folder.{MayNotOpen, MayNotStore, MayNotName};
+ghost use Rattle.tftp_file.specs.declared.fault.StoreFault.TheVariants.{Memory};
+
+use crate::local::length_on_wire;
+use std::alloc::Global;
+use std::fs::{self, Metadata, OpenFile, OpenOptions};
+use std::io::{self, BufReader, BufWriter, ErrorKind, Write};
+use std::os::unix::fs::MetadataExt;
+use std::rt::Files;
+use tftp_file::{FileFault, Path, ReadSource, StoreFault};
+use tftp_server::{Opening, Store};
+use tftp_wire::Mode;
+
+/// The bytes of a file that are read or written at once. Blocks of this size and more pass the buffer.
+const BUFFER: usize = 32_768;
+
+/// The files in a folder and below it. It tells no meaning: what a disk holds between calls is not
+/// known.
+///
+/// A name is opened where it leads to a regular file in the folder, and through links as long as these
+/// stay in it. A new file is written as a draft in the folder, `.tftp-PORT`, and gets its name at the
+/// commit.
+#[derive(Drop)]
+pub struct FolderStore<R: Files + Drop> {
+    files: R,
+    /// Without links, and without a slash at its end.
+    root: String,
+    port: u16,
+}
+
+/// A file that is being written to a [`FolderStore`].
+#[derive(Drop)]
+pub struct FolderDraft<F: Write + Drop> {
+    writer: BufWriter<F>,
+    draft: String,
+    target: String,
+}
+
+/// Where a path of the store leads.
+#[derive(Drop)]
+struct Place {
+    /// The path on the system.
+    path: String,
+    /// A link stands on the way, or at its end.
+    has_link: bool,
+    /// What is there, links not followed.
+    found: Option<Metadata>,
+}
+
+impl<R: Files + Drop> FolderStore<R> {
+    /// The store over a folder. It fails where there is no such folder, or when out of memory.
+    pub fn new(files: R, alloc: Global, root: &str) -> io::Result<FolderStore<R>> {
+        let rt = (&files, alloc);
+        let canonical = fs::canonicalize(&rt, root)?;
+        if !fs::metadata(&rt, canonical.as_path())?.is_dir() {
+            return Err(io::Error::from(ErrorKind::NotADirectory));
+        }
+        let text = canonical.as_path().as_str();
+        let root = String::from_str(alloc, text.strip_suffix('/').unwrap_or(text))?;
+        Ok(FolderStore {
+            files,
+            root,
+            port: 0,
+        })
+    }
+
+    /// Tells the port of the next transfer, for which its draft is named.
+    pub fn set_port(&mut self, port: u16) {
+        self.port = port;
+    }
+
+    /// Goes along a path, from the folder on. `Missing` if a folder on the way is.
+    fn walk(&self, alloc: Global, path: &Path) -> Result<Place, StoreFault>
+        ensures { IfErr result MayNotOpen }
+    {
+        let Ok(name) = str::from_utf8(path.as_bytes()) else {
+            return Err(StoreFault::Missing);
+        };
+        let mut place = Place {
+            path: String::from_str(alloc, self.root.as_str())?,
+            has_link: false,
+            found: None,
+        };
+        let mut is_missing = false;
+        for segment in name.split('/') {
+            if is_missing {
+                return Err(StoreFault::Missing);
+            }
+            place.path.push('/')?;
+            place.path.push_str(segment)?;
+            match fs::symlink_metadata(&self.files, place.path.as_str()) {
+                Ok(found) => {
+                    place.has_link |= found.is_symlink();
+                    place.found = Some(found);
+                }
+                Err(error) if error.kind() == ErrorKind::NotFound => {
+                    is_missing = true;
+                    place.found = None;
+                }
+                Err(error) => return Err(open_fault(&error)),
+            }
+        }
+        Ok(place)
+    }
+
+    /// Where a path with links leads, if that is in the folder; else `Io`.
+    fn follow(&self, alloc: Global, path: &str) -> Result<Place, StoreFault>
+        ensures { IfErr result MayNotOpen }
+    {
+        let rt = (&self.files, alloc);
+        let canonical = match fs::canonicalize(&rt, path) {
+            Ok(canonical) => canonical,
+            Err(error) => return Err(open_fault(&error)),
+        };
+        let text = canonical.as_path().as_str();
+        let is_inside = text
+            .strip_prefix(self.root.as_str())
+            .is_some_and(|rest| rest.starts_with('/'));
+        if !is_inside {
+            return Err(StoreFault::Io);
+        }
+        match fs::symlink_metadata(&self.files, text) {
+            Ok(found) => Ok(Place {
+                path: String::from_str(alloc, text)?,
+                has_link: false,
+                found: Some(found),
+            }),
+            Err(error) => Err(open_fault(&error)),
+        }
+    }
+
+    /// Opens the regular file at the path, and tells its length in host bytes. A folder is `Missing`, what
+    /// else is no regular file `Io`: it is looked at before it is opened, since opening a FIFO would wait.
+    fn open_file(&self, alloc: Global, path: &Path) -> Result<(R::File, u64), StoreFault>
+        ensures { IfErr result MayNotOpen }
+    {
+        let mut place = self.walk(alloc, path)?;
+        if place.has_link {
+            place = self.follow(alloc, place.path.as_str())?;
+        }
+        let Some(found) = place.found else {
+            return Err(StoreFault::Missing);
+        };
+        if found.is_dir() {
+            return Err(StoreFault::Missing);
+        }
+        if !found.is_file() {
+            return Err(StoreFault::Io);
+        }
+        let file = match fs::open(&self.files, place.path.as_str()) {
+            Ok(file) => file,
+            Err(error) => return Err(open_fault(&error)),
+        };
+        let Ok(opened) = file.metadata() else {
+            return Err(StoreFault::Io);
+        };
+        // Another file came to its place in between.
+        if opened.dev() != found.dev() || opened.ino() != found.ino() {
+            return Err(StoreFault::Io);
+        }
+        Ok((file, opened.len()))
+    }
+
+    /// Gives a draft its name.
+    fn name(&self, draft: &str, target: &str, replace: bool) -> io::Result<()> {
+        if replace {
+            return fs::rename(&self.files, draft, target);
+        }
+        fs::hard_link(&self.files, draft, target)?;
+        let _ = fs::remove_file(&self.files, draft);
+        Ok(())
+    }
+
+    /// Makes the draft of the next transfer anew, in the place of an old one.
+    fn make_draft(&self, draft: &str) -> Result<R::File, StoreFault>
+        ensures { IfErr result MayNotStore }
+    {
+        let _ = fs::remove_file(&self.files, draft);
+        match OpenOptions::new()
+            .write(true)
+            .create_new(true)
+            .open(&self.files, draft)
+        {
+            Ok(file) => Ok(file),
+            Err(error) => Err(write_fault(&error)),
+        }
+    }
+}
+
+/// Why a file was not opened.
+fn open_fault(error: &io::Error) -> StoreFault
+    ensures { MayNotOpen result }
+{
+    match error.kind() {
+        ErrorKind::NotFound | ErrorKind::NotADirectory => StoreFault::Missing,
+        ErrorKind::OutOfMemory => StoreFault::Memory,
+        _ => StoreFault::Io,
+    }
+}
+
+/// Why bytes were not stored.
+fn write_fault(error: &io::Error) -> StoreFault
+    ensures stored { MayNotStore result }
+    ensures not_memory { result ≢ Memory }
+{
+    match error.kind() {
+        ErrorKind::StorageFull
+        | ErrorKind::QuotaExceeded
+        | ErrorKind::FileTooLarge
+        | ErrorKind::OutOfMemory => StoreFault::Full,
+        _ => StoreFault::Io,
+    }
+}
+
+/// Why a draft did not get its name.
+fn name_fault(error: &io::Error, replace: bool) -> StoreFault
+    ensures named { MayNotName replace result }
+    ensures not_memory { result ≢ Memory }
+{
+    if !replace && error.kind() == ErrorKind::AlreadyExists {
+        return StoreFault::Exists;
+    }
+    write_fault(error)
+}
+
+impl<R: Files + Drop> Store for FolderStore<R> {
+    ghost use Rattle.std.specs.Prelude.{None};
+    ghost use Rattle.tftp_udp.specs.Folder.{MayNotOpen, MayNotStore, MayNotBegin, MayNotName};
+
+    type Source = ReadSource<BufReader<R::File>>;
+
+    type Draft = FolderDraft<R::File>;
+
+    ghost meaning = { record {
+      stored = λ _. None;
+      drafted = λ _. None;
+      may_refuse_open = λ _ _ fault. MayNotOpen fault;
+      may_refuse_begin = λ _ _ replace fault. MayNotBegin replace fault;
+      may_refuse_append = λ _ _ _ fault. MayNotStore fault;
+      may_refuse_commit = λ _ _ _ replace fault. MayNotName replace fault;
+    } };
+
+    fn open(
+        &self,
+        alloc: Global,
+        path: &Path,
+        mode: Mode,
+    ) -> Result<Opening<ReadSource<BufReader<R::File>>>, StoreFault> {
+        let (mut file, length) = self.open_file(alloc, path)?;
+        let Ok(length) = length_on_wire(&mut file, mode, length) else {
+            return Err(StoreFault::Io);
+        };
+        let Ok(reader) = BufReader::with_capacity(alloc, BUFFER, file) else {
+            return Err(StoreFault::Memory);
+        };
+        Ok(Opening {
+            source: ReadSource::new(reader, mode),
+            length,
+        })
+    }
+
+    /// It follows no link, and makes no folder. What is no regular file is never replaced.
+    fn begin(
+        &mut self,
+        alloc: Global,
+        path: &Path,
+        replace: bool,
+    ) -> Result<FolderDraft<R::File>, StoreFault> {
+        let place = match self.walk(alloc, path) {
+            Ok(place) => place,
+            Err(StoreFault::Memory) => return Err(StoreFault::Memory),
+            // A folder that is missing is not made.
+            Err(_) => return Err(StoreFault::Io),
+        };
+        if place.found.is_some() && !replace {
+            return Err(StoreFault::Exists);
+        }
+        if place.has_link || place.found.is_some_and(|found| !found.is_file()) {
+            return Err(StoreFault::Io);
+        }
+        let root = self.root.as_str();
+        let port = self.port;
+        let draft = format!(in alloc; "{root}/.tftp-{port}")?;
+        let file = self.make_draft(draft.as_str())?;
+        let Ok(writer) = BufWriter::with_capacity(alloc, BUFFER, file) else {
+            return Err(StoreFault::Memory);
+        };
+        Ok(FolderDraft {
+            writer,
+            draft,
+            target: place.path,
+        })
+    }
+
+    fn append(&mut self, draft: &mut FolderDraft<R::File>, bytes: &[u8]) -> Result<(), StoreFault> {
+        match draft.writer.write_all(bytes) {
+            Ok(()) => Ok(()),
+            Err(error) => Err(write_fault(&error)),
+        }
+    }
+
+    /// The draft is on the disk before it gets its name. It gets it by a hard link, which never takes
+    /// the place of a file; to replace one it is renamed, which leaves the old file or the new one.
+    fn commit(
+        &mut self,
+        _path: &Path,
+        draft: &mut FolderDraft<R::File>,
+        replace: bool,
+    ) -> Result<(), StoreFault> {
+        if let Err(error) = draft.write_out() {
+            return Err(write_fault(&error));
+        }
+        match self.name(draft.draft.as_str(), draft.target.as_str(), replace) {
+            Ok(()) => Ok(()),
+            Err(error) => Err(name_fault(&error, replace)),
+        }
+    }
+}
+
+impl<F: Write + OpenFile + Drop> FolderDraft<F> {
+    /// Brings all that was appended to the disk.
+    fn write_out(&mut self) -> io::Result<()> {
+        self.writer.flush()?;
+        self.writer.get_ref().sync_all()
+    }
+}

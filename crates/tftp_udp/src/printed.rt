@@ -1,0 +1,35 @@
+//! The lines that `tftpd` prints.
+
+use std::fmt;
+use tftp_ends::{Endpoint, Outcome};
+
+/// A line that `tftpd` prints on standard output.
+#[derive(Clone, Copy, Debug, PartialEq, Eq)]
+pub enum Printed {
+    /// A server waits for requests here.
+    Listening(Endpoint),
+    /// A server's transfer closed: its port, its peer's port and how.
+    Closed {
+        port: u16,
+        peer: u16,
+        outcome: Outcome,
+    },
+}
+
+impl fmt::Display for Printed {
+    ghost use Rattle.std.specs.Prelude.{Some};
+    ghost use Rattle.tftp_udp.specs.Printed.{line_text};
+
+    ghost output = { λ line. Some (line_text line) };
+
+    fn fmt<W: fmt::Write>(&self, f: &mut fmt::Formatter<W>) -> fmt::Result {
+        match self {
+            Printed::Listening(endpoint) => write!(f, "listening {endpoint}"),
+            Printed::Closed {
+                port,
+                peer,
+                outcome,
+            } => write!(f, "{port} {peer} {outcome}"),
+        }
+    }
+}

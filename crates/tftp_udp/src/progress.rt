@@ -1,0 +1,84 @@
+//! How far a client's transfer came, as a line, and when a line is due.
+
+ghost use Rattle.std.specs.Prelude.{◌≡◌, ◌↔◌, IsTrue, if◌then◌else◌, Some};
+ghost use Rattle.tftp_udp.specs.Progress.{IsLineDue, percent_of, tenths_of};
+
+use std::fmt;
+
+/// The least time between two lines, in milliseconds: ten lines a second at most.
+const LINE_INTERVAL: u64 = 100;
+
+/// When the newest line was written.
+#[derive(Clone, Copy, Debug, Default, PartialEq, Eq)]
+pub struct LineClock {
+    /// The time of the newest line, in milliseconds, once there is one.
+    pub written_at: Option<u64>,
+}
+
+impl LineClock {
+    /// Whether a line is due at this time, in milliseconds: none was written yet, or the newest one a
+    /// tenth of a second ago. A line that is due counts as written.
+    pub fn take_due(&mut self, now: u64) -> bool
+        ensures due { IsTrue result ↔ IsLineDue self.old.written_at now }
+        ensures taken { self.new.written_at ≡ (if result then Some now else self.old.written_at) }
+    {
+        let is_due = self.written_at.is_none_or(|written_at| now.saturating_sub(written_at)
+            >= LINE_INTERVAL);
+        if is_due {
+            self.written_at = Some(now);
+        }
+        is_due
+    }
+}
+
+/// How far a transfer came. `{}` writes its bytes, their share of the whole where that is known, and
+/// their speed.
+#[derive(Clone, Copy, Debug, PartialEq, Eq)]
+pub struct Progress {
+    /// The bytes that were transferred.
+    pub bytes: u64,
+    /// The bytes of the whole file, where they are known.
+    pub total: Option<u64>,
+    /// The time that this took, in milliseconds.
+    pub millis: u64,
+}
+
+impl Progress {
+    /// The share of the whole in percent, 100 at most.
+    fn percent(self, total: u64) -> u64
+        ensures { result ≡ percent_of self.bytes total }
+    {
+        if self.bytes >= total {
+            return 100;
+        }
+        let share = u128::from(self.bytes) * 100 / u128::from(total);
+        share as u64
+    }
+
+    /// The speed in tenths of a megabyte (100,000 bytes) a second.
+    fn tenths(self) -> u64
+        ensures { result ≡ tenths_of self.bytes self.millis }
+    {
+        self.bytes / 100 / self.millis.max(1)
+    }
+}
+
+impl fmt::Display for Progress {
+    ghost use Rattle.std.specs.Prelude.{Some};
+    ghost use Rattle.tftp_udp.specs.Progress.{progress_text};
+
+    ghost output = { λ progress. Some (progress_text progress) };
+
+    fn fmt<W: fmt::Write>(&self, f: &mut fmt::Formatter<W>) -> fmt::Result {
+        let bytes = self.bytes;
+        let tenths = self.tenths();
+        let (whole, tenth) = (tenths / 10, tenths % 10);
+        match self.total {
+            Some(total) => {
+                let percent = self.percent(total);
+                write!(f, "{bytes} bytes, {percent}%, {whole}.{tenth} MB/s")
+            }
+            None => write!(f, "{bytes} bytes, {whole}.{tenth} MB/s"),
+        }
+    }
+}

@@ -1,0 +1,12 @@
+-- A datagram as a line of text (own).
+use Rattle.std.specs.Prelude.{ℕ, List, ◌∷◌, ◌++◌, codes, Option, Some, None}
+use Rattle.std.specs.Fmt.{decimal}
+use Rattle.tftp_wire.specs.declared.fault.PacketFault.{PacketFault}
+use Rattle.tftp_wire.specs.Faults.{kind_name}
+use Rattle.tftp_wire.specs.Line.{line}
+use Rattle.tftp_wire.specs.Parts.{packet_in}
+
+-- the line of a datagram: its packet's, or its first fault by name and place
+abbrev pub datagram_shown : List ℕ → Option PacketFault → List ℕ
+datagram_shown bytes None = line (packet_in bytes)
+datagram_shown bytes (Some fault) = codes "fault " ++ (kind_name fault.kind ++ (32 ∷ decimal fault.at))
