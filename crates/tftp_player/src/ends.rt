@@ -2,7 +2,7 @@
 
 mod arriving;
 
-ghost use Rattle.std.specs.Prelude.{◌≡◌, ◌<◌, ◌+◌, ◌++◌, ◌∷◌, [], true, length, slice_get, IfOk, IfErr, OnOk, OnErr};
+ghost use Rattle.std.specs.Prelude.{◌≡◌, ◌<◌, ◌+◌, ◌++◌, ◌∷◌, [], true, length, slice_get, ◌≤◌, ◌⊎◌, IfSome, IfNone, IfOk, IfErr, OnOk, OnErr};
 ghost use Rattle.tftp_ends.specs.End.{is_client};
 ghost use Rattle.tftp_player.specs.Stage.{HangTogether, AreAsBefore, StageTimeoutStep, ends_of, record_closed};
 ghost use Rattle.tftp_player.specs.declared.player.Player.TheVariants as players;
@@ -24,7 +24,41 @@ pub(crate) struct Ends {
     pub(crate) records: Vec<(u16, Record)>,
 }
 
+/// The port of the first end that opens.
+const FIRST_PORT: u16 = 1024;
+
 impl Ends {
+    /// The port of the next end, if there are so many ports.
+    pub(crate) fn next_port(&self) -> Option<u16>
+        ensures some { IfSome result (λ port. port ≡ 1024 + length self.now.players.items) }
+        ensures fits { IfSome result (λ port. port < 65536) }
+        ensures none { IfNone result (65535 < 1024 + length self.now.players.items) }
+    {
+        let place = self.players.len();
+        if place > 64_511 {
+            return None;
+        }
+        Some(place as u16 + FIRST_PORT)
+    }
+
+    /// The place of the end at this port, if one has it.
+    pub(crate) fn place_of(&self, port: u16) -> Option<usize>
+        ensures some { IfSome result (λ place.
+            (port ≡ 1024 + place) × (place < length self.now.players.items)) }
+        ensures none { IfNone result
+            ((port < 1024) ⊎ (1024 + length self.now.players.items ≤ port)) }
+    {
+        if port < FIRST_PORT {
+            return None;
+        }
+        let place = usize::from(port - FIRST_PORT);
+        if place < self.players.len() {
+            Some(place)
+        } else {
+            None
+        }
+    }
+
     /// A client more, at the next port.
     pub(crate) fn enter(&mut self, port: u16, client: Client) -> Result<(), WorldFault>
         requires staged { HangTogether self.old }

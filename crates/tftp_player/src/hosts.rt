@@ -1,6 +1,6 @@
-//! The two hosts of a world and the ports of its ends.
+//! The two hosts of a world.
 
-ghost use Rattle.std.specs.Prelude.{◌≡◌, ◌+◌, ◌<◌, ◌≤◌, ◌⊎◌, IfSome, IfNone, IsTrue, ◌↔◌};
+ghost use Rattle.std.specs.Prelude.{◌≡◌, IsTrue, ◌↔◌};
 ghost use Rattle.tftp_player.specs.Machine.{host_of, Elsewhere};
 ghost use Rattle.tftp_player.specs.Clients.{client_at, server_at};
 
@@ -17,33 +17,6 @@ pub(crate) const REQUEST_PORT: Endpoint = Endpoint {
     ip: SERVER_IP,
     port: 69,
 };
-
-/// The port of the first end that opens.
-const FIRST_PORT: u16 = 1024;
-
-/// The port of the end at this place, if there are so many ports.
-pub(crate) fn port_of(place: usize) -> Option<u16>
-    ensures some { IfSome result (λ port. port ≡ 1024 + place) }
-    ensures fits { IfSome result (λ port. port < 65536) }
-    ensures none { IfNone result (65535 < 1024 + place) }
-{
-    if place > 64_511 {
-        return None;
-    }
-    Some(place as u16 + FIRST_PORT)
-}
-
-/// The place of the end at this port, of so many ends.
-pub(crate) fn place_of(port: u16, count: usize) -> Option<usize>
-    ensures some { IfSome result (λ place. (port ≡ 1024 + place) × (place < count)) }
-    ensures none { IfNone result ((port < 1024) ⊎ (1024 + count ≤ port)) }
-{
-    if port < FIRST_PORT {
-        return None;
-    }
-    let place = usize::from(port - FIRST_PORT);
-    if place < count { Some(place) } else { None }
-}
 
 /// The endpoint of a client's end at this port.
 pub(crate) fn client_at(port: u16) -> Endpoint

@@ -18,7 +18,6 @@ use crate::effect::write_down;
 use crate::ends::Ends;
 use crate::event::Event;
 use crate::fault::WorldFault;
-use crate::hosts::place_of;
 use crate::report::Report;
 use std::alloc::Global;
 use std::marker::Model;
@@ -101,7 +100,7 @@ impl Stage {
     pub(crate) fn stored(&self, port: u16) -> Option<&[u8]>
         ensures { option_map (λ bytes. bytes.now) result ≡ stored_at self.now.ends port }
     {
-        match place_of(port, self.ends.players.len()) {
+        match self.ends.place_of(port) {
             None => None,
             Some(place) => self.ends.players[place].stored(&self.ends.server, port),
         }
@@ -111,7 +110,7 @@ impl Stage {
     pub(crate) fn committed(&self, port: u16) -> bool
         ensures { result ≡ committed_at self.now.ends port }
     {
-        match place_of(port, self.ends.players.len()) {
+        match self.ends.place_of(port) {
             None => false,
             Some(place) => self.ends.players[place].committed(&self.ends.server, port),
         }
@@ -152,7 +151,7 @@ impl Stage {
         ensures refused { IfErr result (WorldRefuses self.old (Timeout port)) }
         ensures err { OnErr result (self.new ≡ self.old) }
     {
-        let Some(place) = place_of(port, self.ends.players.len()) else {
+        let Some(place) = self.ends.place_of(port) else {
             return Err(WorldFault::NoSuchEnd);
         };
         let Ok(()) = self.sent.reserve(1) else {
@@ -171,7 +170,7 @@ impl Stage {
         ensures refused { IfErr result (WorldRefuses self.old (RefuseStore port)) }
         ensures err { OnErr result (self.new ≡ self.old) }
     {
-        let Some(place) = place_of(port, self.ends.players.len()) else {
+        let Some(place) = self.ends.place_of(port) else {
             return Err(WorldFault::NoSuchEnd);
         };
         let player = &mut self.ends.players[place];

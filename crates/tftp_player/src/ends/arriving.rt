@@ -9,7 +9,7 @@ ghost use Rattle.tftp_player.specs.Arriving.{StageAsks, StageArrives, StageLacks
 use crate::WorldFault;
 use crate::effect::{Effect, no_effect};
 use crate::ends::{Ends, is_recorded_closed};
-use crate::hosts::{REQUEST_PORT, place_of, port_of, server_at};
+use crate::hosts::{REQUEST_PORT, server_at};
 use crate::player::Player;
 use crate::served::wanted_end;
 use tftp_ends::Endpoint;
@@ -24,7 +24,7 @@ impl Ends {
         if differs(to, REQUEST_PORT) {
             return false;
         }
-        match port_of(self.players.len()) {
+        match self.next_port() {
             Some(_) => false,
             None => true,
         }
@@ -50,7 +50,7 @@ impl Ends {
         if !differs(to, REQUEST_PORT) {
             return self.ask(from, bytes);
         }
-        match place_of(to.port, self.players.len()) {
+        match self.place_of(to.port) {
             Some(place) => self.on_datagram(place, from, to, bytes),
             None => Ok(no_effect(self.alloc, to)),
         }
@@ -102,7 +102,7 @@ impl Ends {
         ensures refused { IfErr result (StageRefuses request_port self.old.players.items) }
         ensures err { OnErr result (AreAsBefore self.old self.new) }
     {
-        let Some(port) = port_of(self.players.len()) else {
+        let Some(port) = self.next_port() else {
             return Err(WorldFault::NoPort);
         };
         let Ok(()) = self.players.reserve(1) else {

@@ -10,7 +10,6 @@ ghost use Rattle.tftp_player.specs.declared.event.Event.TheVariants.{Get, Put};
 
 use crate::client::Client;
 use crate::effect::{Effect, write_down};
-use crate::hosts::port_of;
 use crate::stage::Stage;
 use crate::{Report, WorldFault};
 use tftp_ends::EndConfig;
@@ -30,7 +29,7 @@ impl Stage {
         ensures refused { IfErr result (WorldRefuses self.old (Get name.now mode asked.now)) }
         ensures err { OnErr result (self.new ≡ self.old) }
     {
-        let Some(port) = port_of(self.ends.players.len()) else {
+        let Some(port) = self.ends.next_port() else {
             return Err(WorldFault::NoPort);
         };
         let config = EndConfig {
@@ -56,7 +55,7 @@ impl Stage {
         ensures refused { IfErr result (WorldRefuses self.old (Put name.now mode asked.now file)) }
         ensures err { OnErr result (self.new ≡ self.old) }
     {
-        let Some(port) = port_of(self.ends.players.len()) else {
+        let Some(port) = self.ends.next_port() else {
             return Err(WorldFault::NoPort);
         };
         let config = EndConfig {

@@ -19,6 +19,5 @@ returns-in-Some-clause-arrives c =
 
 pub returns-in-None-clause-arrives : goal.returns-in-None-clause-arrives
 returns-in-None-clause-arrives c =
-    let count : c.len.result ≡ length c.args.self.now.players.items = search rules in
     nobody_arrives c.args.from c.args.to c.args.bytes.now c.args.self.now.server c.args.self.now.server c.args.self.now.players.items c.args.self.now.players.items c.no_effect.result (c.differs.ensures.differs c.if-not-differs.false) c.requires.staged.kept
-    c.len.result count c.in-None.ensures.none refl refl c.no_effect.ensures
+    _ refl c.in-None.ensures.none refl refl c.no_effect.ensures

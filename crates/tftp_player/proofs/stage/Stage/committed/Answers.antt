@@ -1,15 +1,13 @@
 -- Whether the end at the port has committed, where there is one.
-use Rattle.std.proofs.Common.{◌≡◌, ◌<◌, length, rules, ◌∙◌}
+use Rattle.std.proofs.Common.{refl, ◌≡◌, ◌<◌, length, rules, ◌∙◌}
 use Rattle.tftp_player.proofs.TellingLemmas.{committed_here, committed_nowhere}
 use Rattle.tftp_player.proofs.stage.Stage.committed.Goals as goal
 
 pub returns-in-None : goal.returns-in-None
 returns-in-None c =
-    let count : c.len.result ≡ length c.self.inside.ends.players.items = search rules in
-    committed_nowhere c.self.inside.config c.self.inside.sent.items c.self.inside.ends.server c.self.inside.ends.players.items c.self.inside.ends.records.items c.args.self.now c.self.view_is c.self.invariant.1 c.args.port c.len.result count c.in-None.ensures.none
+    committed_nowhere c.self.inside.config c.self.inside.sent.items c.self.inside.ends.server c.self.inside.ends.players.items c.self.inside.ends.records.items c.args.self.now c.self.view_is c.self.invariant.1 c.args.port _ refl c.in-None.ensures.none
 
 pub returns-in-Some : goal.returns-in-Some
 returns-in-Some c =
-    let within : c.in-Some.place < length c.self.inside.ends.players.items = search rules in
     c.committed.ensures
-    ∙ committed_here c.self.inside.config c.self.inside.sent.items c.self.inside.ends.server c.self.inside.ends.players.items c.self.inside.ends.records.items c.args.self.now c.self.view_is c.self.invariant.1 c.args.port c.in-Some.place c.index.result.now within c.in-Some.ensures.some.0 c.index.ensures
+    ∙ committed_here c.self.inside.config c.self.inside.sent.items c.self.inside.ends.server c.self.inside.ends.players.items c.self.inside.ends.records.items c.args.self.now c.self.view_is c.self.invariant.1 c.args.port c.in-Some.place c.index.result.now c.in-Some.ensures.some.1 c.in-Some.ensures.some.0 c.index.ensures

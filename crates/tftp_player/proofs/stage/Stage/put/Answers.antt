@@ -1,5 +1,5 @@
 -- A client that sends a file opens, or has its least reason to be refused.
-use Rattle.std.proofs.Common.{◌≡◌, length, subst, sym, rules}
+use Rattle.std.proofs.Common.{refl, ◌≡◌, length, subst, sym, rules}
 use Rattle.std.proofs.lemmas.Result.{IfOk-weaker, IfErr-weaker}
 use Rattle.tftp_file.specs.Netascii.{wire_text}
 use Rattle.tftp_ends.specs.Opening.{MayPut}
@@ -12,18 +12,15 @@ use Rattle.tftp_player.proofs.stage.Stage.put.Goals as goal
 
 pub returns-in_default-clause-refused : goal.returns-in_default-clause-refused
 returns-in_default-clause-refused c =
-    let count : c.len.result ≡ length c.self.inside.ends.players.items = search rules in
-    no_port c.self.inside.config c.self.inside.sent.items c.self.inside.ends.server c.self.inside.ends.players.items _ c.len.result c.self.view_is count c.in_default.ensures.none
+    no_port c.self.inside.config c.self.inside.sent.items c.self.inside.ends.server c.self.inside.ends.players.items _ _ c.self.view_is refl c.in_default.ensures.none
 
 pub enter-requires-clause-port : goal.enter-requires-clause-port
 enter-requires-clause-port c =
-    let count : c.len.result ≡ length c.self.inside.ends.players.items = search rules in
-    port_found c.self.inside.config c.self.inside.sent.items c.self.inside.ends.server c.self.inside.ends.players.items _ c.len.result c.in-Some.port c.self.view_is count c.in-Some.ensures.some
+    port_found c.self.inside.config c.self.inside.sent.items c.self.inside.ends.server c.self.inside.ends.players.items _ _ c.in-Some.port c.self.view_is refl c.in-Some.ensures.some
 
 pub returns-in-Ok-clause-steps : goal.returns-in-Ok-clause-steps
 returns-in-Ok-clause-steps c =
-    let count : c.len.result ≡ length c.self.inside.ends.players.items = search rules in
-    let at : c.in-Some.port ≡ next_port c.args.self.now = port_found c.self.inside.config c.self.inside.sent.items c.self.inside.ends.server c.self.inside.ends.players.items c.args.self.now c.len.result c.in-Some.port c.self.view_is count c.in-Some.ensures.some in
+    let at : c.in-Some.port ≡ next_port c.args.self.now = port_found c.self.inside.config c.self.inside.sent.items c.self.inside.ends.server c.self.inside.ends.players.items c.args.self.now _ c.in-Some.port c.self.view_is refl c.in-Some.ensures.some in
     IfOk-weaker c.enter.result _ _
     (λ report e. has_put c.self.inside.config c.self.inside.sent.items c.self.inside.ends.server c.self.inside.ends.players.items c.self.inside.ends.records.items c.args.self.now c.self.view_is c.self.invariant.1 c.args.name.now c.args.mode c.args.asked.now c.in-Ok.client c.in-Ok.effect c.in-Some.port
     at c.in-Some.ensures.fits report c.enter.new.self c.args.file c.in-Ok.ensures.ok c.in-Ok.ensures.client c.in-Ok.ensures.effect e)
@@ -31,15 +28,13 @@ returns-in-Ok-clause-steps c =
 
 pub returns-in-Ok-clause-refused : goal.returns-in-Ok-clause-refused
 returns-in-Ok-clause-refused c =
-    let count : c.len.result ≡ length c.self.inside.ends.players.items = search rules in
-    let has : HasPort c.args.self.now = has_port c.self.inside.config c.self.inside.sent.items c.self.inside.ends.server c.self.inside.ends.players.items c.args.self.now c.len.result c.in-Some.port c.self.view_is count c.in-Some.ensures.some c.in-Some.ensures.fits in
+    let has : HasPort c.args.self.now = has_port c.self.inside.config c.self.inside.sent.items c.self.inside.ends.server c.self.inside.ends.players.items c.args.self.now _ c.in-Some.port c.self.view_is refl c.in-Some.ensures.some c.in-Some.ensures.fits in
     IfErr-weaker c.enter.result _ _
     (λ fault e. put_refused c.args.self.now c.args.name.now c.args.mode c.args.asked.now has c.args.file fault (subst (λ (f : WorldFault). AskRefuses (MayPut c.args.name.now c.args.mode c.args.asked.now (length (wire_text c.args.mode c.args.file))) f) (sym e) c.in-Ok.ensures.ok))
     c.enter.ensures.memory
 
 pub returns-in-Err-clause-refused : goal.returns-in-Err-clause-refused
 returns-in-Err-clause-refused c =
-    let count : c.len.result ≡ length c.self.inside.ends.players.items = search rules in
     put_refused c.args.self.now c.args.name.now c.args.mode c.args.asked.now
-    (has_port c.self.inside.config c.self.inside.sent.items c.self.inside.ends.server c.self.inside.ends.players.items c.args.self.now c.len.result c.in-Some.port c.self.view_is count c.in-Some.ensures.some c.in-Some.ensures.fits) c.args.file c.in-Err.fault
+    (has_port c.self.inside.config c.self.inside.sent.items c.self.inside.ends.server c.self.inside.ends.players.items c.args.self.now _ c.in-Some.port c.self.view_is refl c.in-Some.ensures.some c.in-Some.ensures.fits) c.args.file c.in-Err.fault
     c.in-Err.ensures.refused

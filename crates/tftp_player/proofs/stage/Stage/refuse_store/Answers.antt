@@ -1,5 +1,5 @@
 -- The end at the port is told to refuse, or there is none.
-use Rattle.std.proofs.Common.{◌≡◌, ◌<◌, length, sym, subst, rules}
+use Rattle.std.proofs.Common.{refl, ◌≡◌, ◌<◌, length, sym, subst, rules}
 use Rattle.std.specs.Prelude.{slice_set}
 use Rattle.tftp_player.specs.Stage.{IsStaged, world_of}
 use Rattle.tftp_player.specs.declared.event.Event.TheVariants.{RefuseStore}
@@ -12,27 +12,23 @@ use Rattle.tftp_player.proofs.stage.Stage.refuse_store.Goals as goal
 
 pub returns-in_default-clause-refused : goal.returns-in_default-clause-refused
 returns-in_default-clause-refused c =
-    let count : c.len.result ≡ length c.self.inside.ends.players.items = search rules in
-    subst (λ (w : WorldState). NoneAt w c.args.port) c.self.view_is (none_here c.self.inside.ends.server c.self.inside.ends.players.items c.len.result c.args.port count c.in_default.ensures.none)
+    subst (λ (w : WorldState). NoneAt w c.args.port) c.self.view_is (none_here c.self.inside.ends.server c.self.inside.ends.players.items _ c.args.port refl c.in_default.ensures.none)
 
 pub refuse_next-requires : goal.refuse_next-requires
 refuse_next-requires c =
-    let within : c.in-Some.place < length c.self.inside.ends.players.items = search rules in
-    read_kept c.self.inside.ends.server c.self.inside.ends.players.items c.self.inside.ends.records.items c.in-Some.place c.args.port c.index_mut-player.result.now c.self.invariant.1 (within, c.in-Some.ensures.some.0) c.index_mut-player.ensures.value
+    read_kept c.self.inside.ends.server c.self.inside.ends.players.items c.self.inside.ends.records.items c.in-Some.place c.args.port c.index_mut-player.result.now c.self.invariant.1 (c.in-Some.ensures.some.1, c.in-Some.ensures.some.0) c.index_mut-player.ensures.value
 
 pub invariant_of-self : goal.invariant_of-self
-invariant_of-self c =
-    let within : c.in-Some.place < length c.self.inside.ends.players.items = search rules in (
-      c.self.invariant.0,
-      subst (λ (q : Player). IsStaged c.self.inside.ends.server (slice_set c.self.inside.ends.players.items c.in-Some.place q) c.self.inside.ends.records.items) (sym c.refuse_next.ensures)
-          (refused_staged c.self.inside.config c.self.inside.sent.items c.self.inside.ends.server c.self.inside.ends.players.items c.self.inside.ends.records.items c.args.self.now c.self.view_is c.self.invariant.1
-          c.args.port c.in-Some.place c.index_mut-player.result.now within c.in-Some.ensures.some.0 c.index_mut-player.ensures.value),
-      c.self.invariant.2,
-    )
+invariant_of-self c = (
+  c.self.invariant.0,
+  subst (λ (q : Player). IsStaged c.self.inside.ends.server (slice_set c.self.inside.ends.players.items c.in-Some.place q) c.self.inside.ends.records.items) (sym c.refuse_next.ensures)
+      (refused_staged c.self.inside.config c.self.inside.sent.items c.self.inside.ends.server c.self.inside.ends.players.items c.self.inside.ends.records.items c.args.self.now c.self.view_is c.self.invariant.1
+      c.args.port c.in-Some.place c.index_mut-player.result.now c.in-Some.ensures.some.1 c.in-Some.ensures.some.0 c.index_mut-player.ensures.value),
+  c.self.invariant.2,
+)
 
 pub returns-clause-steps : goal.returns-clause-steps
 returns-clause-steps c =
-    let within : c.in-Some.place < length c.self.inside.ends.players.items = search rules in
     subst (λ (q : Player). WorldStep c.args.self.now (RefuseStore c.args.port) no_report (world_of c.self.inside.config c.self.inside.sent.items c.self.inside.ends.server (slice_set c.self.inside.ends.players.items c.in-Some.place q))) (sym c.refuse_next.ensures)
     (refused_step c.self.inside.config c.self.inside.sent.items c.self.inside.ends.server c.self.inside.ends.players.items c.self.inside.ends.records.items c.args.self.now c.self.view_is c.self.invariant.1
-    c.args.port c.in-Some.place c.index_mut-player.result.now within c.in-Some.ensures.some.0 c.index_mut-player.ensures.value)
+    c.args.port c.in-Some.place c.index_mut-player.result.now c.in-Some.ensures.some.1 c.in-Some.ensures.some.0 c.index_mut-player.ensures.value)

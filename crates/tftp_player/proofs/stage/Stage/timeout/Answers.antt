@@ -1,5 +1,5 @@
 -- A timeout of the end at the port is its step, or there is none.
-use Rattle.std.proofs.Common.{◌≡◌, ◌<◌, length, refl, subst, rules}
+use Rattle.std.proofs.Common.{refl, subst}
 use Rattle.tftp_player.specs.World.{WorldState}
 use Rattle.tftp_player.specs.WorldSteps.{NoneAt}
 use Rattle.tftp_player.specs.declared.fault.WorldFault.TheVariants.{Memory}
@@ -8,8 +8,7 @@ use Rattle.tftp_player.proofs.stage.Stage.timeout.Goals as goal
 
 pub returns-in_default-clause-refused : goal.returns-in_default-clause-refused
 returns-in_default-clause-refused c =
-    let count : c.len.result ≡ length c.self.inside.ends.players.items = search rules in
-    subst (λ (w : WorldState). NoneAt w c.args.port) c.self.view_is (none_here c.self.inside.ends.server c.self.inside.ends.players.items c.len.result c.args.port count c.in_default.ensures.none)
+    subst (λ (w : WorldState). NoneAt w c.args.port) c.self.view_is (none_here c.self.inside.ends.server c.self.inside.ends.players.items _ c.args.port refl c.in_default.ensures.none)
 
 pub returns-in-Ok-on_timeout-clause-steps : goal.returns-in-Ok-on_timeout-clause-steps
 returns-in-Ok-on_timeout-clause-steps c =
@@ -18,12 +17,8 @@ returns-in-Ok-on_timeout-clause-steps c =
 
 pub returns-in_default-reserve-clause-refused : goal.returns-in_default-reserve-clause-refused
 returns-in_default-reserve-clause-refused c =
-    let count : c.len.result ≡ length c.self.inside.ends.players.items = search rules in
-    let within : c.in-Some.place < length c.self.inside.ends.players.items = search rules in
-    timeout_refused c.self.inside.config c.self.inside.sent.items c.self.inside.ends.server c.self.inside.ends.players.items c.args.self.now c.args.port c.in-Some.place c.self.view_is c.in-Some.ensures.some.0 within Memory refl
+    timeout_refused c.self.inside.config c.self.inside.sent.items c.self.inside.ends.server c.self.inside.ends.players.items c.args.self.now c.args.port c.in-Some.place c.self.view_is c.in-Some.ensures.some.0 c.in-Some.ensures.some.1 Memory refl
 
 pub returns-in-Err-clause-refused : goal.returns-in-Err-clause-refused
 returns-in-Err-clause-refused c =
-    let count : c.len.result ≡ length c.self.inside.ends.players.items = search rules in
-    let within : c.in-Some.place < length c.self.inside.ends.players.items = search rules in
-    timeout_refused c.self.inside.config c.self.inside.sent.items c.self.inside.ends.server c.self.inside.ends.players.items c.args.self.now c.args.port c.in-Some.place c.self.view_is c.in-Some.ensures.some.0 within c.in-Err.fault c.in-Err.ensures.memory
+    timeout_refused c.self.inside.config c.self.inside.sent.items c.self.inside.ends.server c.self.inside.ends.players.items c.args.self.now c.args.port c.in-Some.place c.self.view_is c.in-Some.ensures.some.0 c.in-Some.ensures.some.1 c.in-Err.fault c.in-Err.ensures.memory
