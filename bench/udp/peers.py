@@ -38,7 +38,8 @@ class TftpdHpa(Server):
 
 
 class Atftpd(Server):
-    name = program = "atftpd"
+    name = "atftpd"
+    program = os.environ.get("ATFTPD", "atftpd")
 
     def words(self, root, port):
         address = ["--bind-address", HOST, "--port", str(port)]

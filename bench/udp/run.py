@@ -29,11 +29,19 @@ CASES = [
     Case(verb, block, count, size)
     for verb in ["get", "put"]
     for block, count, size in [
-        (512, 1, 16 * MB), (1428, 1, 32 * MB), (8192, 1, 128 * MB), (65464, 1, 256 * MB),
-        (512, 16, 2 * MB), (512, 64, MB // 2), (1428, 16, 4 * MB), (1428, 64, MB),
+        (512, 1, 2 * MB), (1428, 1, 4 * MB), (8192, 1, 32 * MB), (65464, 1, 128 * MB),
+        (512, 16, MB // 2), (1428, 16, 2 * MB), (8192, 16, 8 * MB), (65464, 16, 32 * MB),
+        (512, 64, MB // 4), (1428, 64, MB // 2), (8192, 64, 4 * MB), (65464, 64, 8 * MB),
     ]
 ]
-TRACED = [Case("get", 512, 1, 4 * MB), Case("get", 512, 16, MB // 2), Case("put", 512, 1, 4 * MB)]
+TRACED = [
+    Case(verb, block, count, size)
+    for verb in ["get", "put"]
+    for block, count, size in [
+        (512, 1, MB), (1428, 1, 2 * MB), (8192, 1, 16 * MB), (65464, 1, 128 * MB),
+        (512, 16, MB // 4), (65464, 16, 16 * MB),
+    ]
+]
 TINY = Case("get", 512, 1, 100)
 TINY_FILES = 1_000
 LAST_CPU = os.cpu_count() - 1
@@ -56,7 +64,7 @@ def request(verb, name, block=None):
 
 
 def answer(port, datagram, wait=1.0):
-    """How the answer to a request begins, if one comes; what it opened is given up."""
+    """The answer to a request, if one comes; what it opened is given up."""
     with socket.socket(socket.AF_INET, socket.SOCK_DGRAM) as end:
         end.settimeout(wait)
         try:
@@ -65,7 +73,7 @@ def answer(port, datagram, wait=1.0):
             end.sendto(b"\0\5\0\0\0", peer)
         except OSError:
             return None
-        return answered[:2]
+        return answered
 
 
 def start_server(server, room, stack):
@@ -85,7 +93,7 @@ def watched(words, log, process):
     """A tool that watches a process and its children, and writes its log at the end."""
     words = [*words, "-o", log, "-p", str(process.pid)]
     tool = subprocess.Popen(words, stdout=subprocess.DEVNULL, stderr=subprocess.DEVNULL)
-    time.sleep(0.3)
+    time.sleep(0.1)
     yield
     tool.send_signal(signal.SIGINT)
     tool.wait()
@@ -133,10 +141,13 @@ def transfer(client, port, case, room, before=()):
         peak = max(peak, memory(jobs[0][0]))
         time.sleep(0.001)
     seconds = time.monotonic() - start
-    whole = [job.wait() == 0 for job, _ in jobs]
-    spent = children_seconds() - spent
-    # a server may still write what it has acknowledged
+    # a server may still write what it has acknowledged, and a client acknowledge what it has
     time.sleep(0.02)
+    for job, _ in jobs:
+        if early:
+            job.terminate()
+    whole = [job.wait() == 0 or early for job, _ in jobs]
+    spent = children_seconds() - spent
     for _, made in jobs:
         whole.append(os.path.exists(made) and os.path.getsize(made) == case.size)
         if os.path.exists(made):
@@ -144,12 +155,20 @@ def transfer(client, port, case, room, before=()):
     return (seconds, spent, peak) if all(whole) else None
 
 
+def agrees(oack, block):
+    """Whether an answer is an OACK with this block size."""
+    if not oack or oack[:2] != b"\0\6":
+        return False
+    words = oack[2:].lower().split(b"\0")
+    return str(block).encode() in words[1:-1:2]
+
+
 def supports(client, server, port, case, room):
     """Whether the pair carries a short file so."""
     if case.block not in client.blocks or case.verb == "put" and not server.writes:
         return False
     name = "100" if case.verb == "get" else "new-0"
-    if case.block != 512 and answer(port, request(case.verb, name, case.block)) != b"\0\6":
+    if case.block != 512 and not agrees(answer(port, request(case.verb, name, case.block)), case.block):
         return False
     time.sleep(0.02)
     if os.path.exists(f"{room}/new-0"):
@@ -193,6 +212,9 @@ def compare(names, rounds, run):
         best = max((result.rate for result in others if result), default=None)
         if ours and best:
             ratios.append(ours.rate / best)
+    rates = [max((result.rate for result in results[name] if result), default=0) for name in names]
+    if max(rates[1:], default=0) > 0:
+        print(f"  ratio of the best rounds {rates[0] / max(rates[1:]):.2f}")
     for at, name in enumerate(names):
         done = [result for result in results[name] if result]
         if not done:
