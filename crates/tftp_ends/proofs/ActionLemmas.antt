@@ -40,7 +40,7 @@ data_behind : (number : ℕ) (piece bytes : List ℕ) → Spells (Data number pi
 data_behind number piece bytes s = sym (ap (drop 4) s.whole)
 
 -- terms of an end that had none allow its request
-pub sent_any : (e : EndState) (terms : Option Terms) → length e.last_sent ≤ MAX_REQUEST → SentFits e terms
+pub sent_any : (e : EndState) (terms : Option Terms) → length e.progress.last_sent ≤ MAX_REQUEST → SentFits e terms
 sent_any e None w = w
 sent_any e (Some terms) w = omega (arith, w)
 
@@ -49,15 +49,15 @@ module _ (e : EndState) (from : Endpoint) (bytes : List ℕ) where
   abbrev Fits : Action → Type 0
   Fits action = PieceFits e (drop 4 bytes) action
 
-  acked_fits : (terms : Terms) (number acked : ℕ) → SentFits e (Some terms) → Fits (acked_action e.length terms number acked)
+  acked_fits : (terms : Terms) (number acked : ℕ) → SentFits e (Some terms) → Fits (acked_action e.role.length terms number acked)
   acked_fits terms number acked s =
-      let next = if nat_lt number (e.length / terms.size + 1) then Send terms (number + 1) else Respond Complete in
+      let next = if nat_lt number (e.role.length / terms.size + 1) then Send terms (number + 1) else Respond Complete in
       let other = if nat_lt acked number then Respond Ignore else illegal_action terms in
       if_either Fits (acked == number) next other
-      (λ _. if_either Fits (nat_lt number (e.length / terms.size + 1)) (Send terms (number + 1)) (Respond Complete) (λ _. s) (λ _. tt))
+      (λ _. if_either Fits (nat_lt number (e.role.length / terms.size + 1)) (Send terms (number + 1)) (Respond Complete) (λ _. s) (λ _. tt))
       (λ _. if_either Fits (nat_lt acked number) (Respond Ignore) (illegal_action terms) (λ _. tt) (λ _. s))
 
-  sender_fits : (client : Bool) (terms : Terms) (number : ℕ) (decoded : Option Packet) → SentFits e (Some terms) → Fits (sender_action client e.length terms number decoded)
+  sender_fits : (client : Bool) (terms : Terms) (number : ℕ) (decoded : Option Packet) → SentFits e (Some terms) → Fits (sender_action client e.role.length terms number decoded)
   sender_fits client terms number None s = s
   sender_fits client terms number (Some (Read r)) s = s
   sender_fits client terms number (Some (Write r)) s = s
@@ -67,31 +67,31 @@ module _ (e : EndState) (from : Endpoint) (bytes : List ℕ) where
   sender_fits client terms number (Some (Oack options)) s =
       if_either Fits (client && terms.by_oack) (Respond Ignore) (illegal_action terms) (λ _. tt) (λ _. s)
 
-  next_fits : (held : List ℕ) (terms : Terms) (number : ℕ) (piece : List ℕ) → SentFits e (Some terms) → e.held ≡ held → piece ≡ drop 4 bytes → Fits (next_action e.mode held terms number piece)
+  next_fits : (held : List ℕ) (terms : Terms) (number : ℕ) (piece : List ℕ) → SentFits e (Some terms) → e.progress.held ≡ held → piece ≡ drop 4 bytes → Fits (next_action e.role.mode held terms number piece)
   next_fits held terms number piece s h p =
       let last = nat_lt (length piece) terms.size in
-      let store = if is_readable e.mode held piece last then Store terms number else Respond (Refuse (Some terms) NotNetascii outcomes.NotNetascii) in
+      let store = if is_readable e.role.mode held piece last then Store terms number else Respond (Refuse (Some terms) NotNetascii outcomes.NotNetascii) in
       let fitting = if number == 65535 && (length piece == terms.size) then Respond (Refuse (Some terms) FileTooLarge outcomes.TooLarge) else store in
       if_either Fits (nat_lt terms.size (length piece)) (illegal_action terms) fitting (λ _. s)
       (λ _. if_either Fits (number == 65535 && (length piece == terms.size)) (Respond (Refuse (Some terms) FileTooLarge outcomes.TooLarge)) store (λ _. s)
-      (λ _. if_either Fits (is_readable e.mode held piece last) (Store terms number) (Respond (Refuse (Some terms) NotNetascii outcomes.NotNetascii))
+      (λ _. if_either Fits (is_readable e.role.mode held piece last) (Store terms number) (Respond (Refuse (Some terms) NotNetascii outcomes.NotNetascii))
       (λ readable. (
         s,
-        subst (λ (t : List ℕ). is_readable e.mode t (drop 4 bytes) (nat_lt (length (drop 4 bytes)) terms.size) ≡ true) (sym h)
-            (subst (λ (t : List ℕ). is_readable e.mode held t (nat_lt (length t) terms.size) ≡ true) p readable),
+        subst (λ (t : List ℕ). is_readable e.role.mode t (drop 4 bytes) (nat_lt (length (drop 4 bytes)) terms.size) ≡ true) (sym h)
+            (subst (λ (t : List ℕ). is_readable e.role.mode held t (nat_lt (length t) terms.size) ≡ true) p readable),
       ))
       (λ _. s)))
 
-  data_fits : (held : List ℕ) (terms : Terms) (stored number : ℕ) (piece : List ℕ) → SentFits e (Some terms) → e.held ≡ held → piece ≡ drop 4 bytes → Fits (data_action e.mode held terms stored number piece)
+  data_fits : (held : List ℕ) (terms : Terms) (stored number : ℕ) (piece : List ℕ) → SentFits e (Some terms) → e.progress.held ≡ held → piece ≡ drop 4 bytes → Fits (data_action e.role.mode held terms stored number piece)
   data_fits held terms stored number piece s h p =
-      let next = if number == stored + 1 then next_action e.mode held terms number piece else illegal_action terms in
+      let next = if number == stored + 1 then next_action e.role.mode held terms number piece else illegal_action terms in
       let other = if nat_lt number stored then Respond Ignore else next in
       if_either Fits (number == stored) (Respond ResendReply) other (λ _. tt)
       (λ _. if_either Fits (nat_lt number stored) (Respond Ignore) next (λ _. tt)
-      (λ _. if_either Fits (number == stored + 1) (next_action e.mode held terms number piece) (illegal_action terms)
+      (λ _. if_either Fits (number == stored + 1) (next_action e.role.mode held terms number piece) (illegal_action terms)
       (λ _. next_fits held terms number piece s h p) (λ _. s)))
 
-  receiver_fits : (client : Bool) (held : List ℕ) (terms : Terms) (stored : ℕ) (decoded : Option Packet) → SentFits e (Some terms) → e.held ≡ held → Decodes bytes decoded → Fits (receiver_action client e.mode held terms stored decoded)
+  receiver_fits : (client : Bool) (held : List ℕ) (terms : Terms) (stored : ℕ) (decoded : Option Packet) → SentFits e (Some terms) → e.progress.held ≡ held → Decodes bytes decoded → Fits (receiver_action client e.role.mode held terms stored decoded)
   receiver_fits client held terms stored None s h d = s
   receiver_fits client held terms stored (Some (Read r)) s h d = s
   receiver_fits client held terms stored (Some (Write r)) s h d = s
@@ -103,52 +103,52 @@ module _ (e : EndState) (from : Endpoint) (bytes : List ℕ) where
       if_either Fits (client && terms.by_oack) again (illegal_action terms)
       (λ _. if_either Fits (stored == 0) (Respond ResendReply) (Respond Ignore) (λ _. tt) (λ _. tt)) (λ _. s)
 
-  refusal_fits : (refusal : Refusal) → length e.last_sent ≤ MAX_REQUEST → Fits (refusal_action refusal)
+  refusal_fits : (refusal : Refusal) → length e.progress.last_sent ≤ MAX_REQUEST → Fits (refusal_action refusal)
   refusal_fits refusals.Repeated w = w
   refusal_fits refusals.TooLarge w = w
   refusal_fits refusals.NotAsked w = w
   refusal_fits refusals.BadValue w = w
 
-  accept_fits : (answer : Result (List Known) Refusal) → length e.last_sent ≤ MAX_REQUEST → Fits (accept_action from answer)
+  accept_fits : (answer : Result (List Known) Refusal) → length e.progress.last_sent ≤ MAX_REQUEST → Fits (accept_action from answer)
   accept_fits (Ok agreed) w = tt
   accept_fits (Err refusal) w = refusal_fits refusal w
 
-  begin_fits : (length_now : ℕ) (terms : Terms) → length e.last_sent ≤ MAX_REQUEST → Fits (begin_action length_now terms)
+  begin_fits : (length_now : ℕ) (terms : Terms) → length e.progress.last_sent ≤ MAX_REQUEST → Fits (begin_action length_now terms)
   begin_fits length_now terms w =
       if_either Fits (nat_lt length_now (65535 * terms.size)) (Send terms 1) (Respond (Refuse None FileTooLarge outcomes.TooLarge)) (λ _. sent_any e (Some terms) w) (λ _. w)
 
-  begin_with_fits : (length_now : ℕ) (answer : Result (List Known) Refusal) → length e.last_sent ≤ MAX_REQUEST → Fits (begin_with_action from length_now answer)
+  begin_with_fits : (length_now : ℕ) (answer : Result (List Known) Refusal) → length e.progress.last_sent ≤ MAX_REQUEST → Fits (begin_with_action from length_now answer)
   begin_with_fits length_now (Ok agreed) w = begin_fits length_now (agreed_terms from agreed) w
   begin_with_fits length_now (Err refusal) w = refusal_fits refusal w
 
-  reader_fits : (asked : Asked) (limit : ℕ) (decoded : Option Packet) → length e.last_sent ≤ MAX_REQUEST → e.held ≡ [] → Decodes bytes decoded → Fits (reader_action e.mode asked limit from decoded)
+  reader_fits : (asked : Asked) (limit : ℕ) (decoded : Option Packet) → length e.progress.last_sent ≤ MAX_REQUEST → e.progress.held ≡ [] → Decodes bytes decoded → Fits (reader_action e.role.mode asked limit from decoded)
   reader_fits asked limit None w h d = w
   reader_fits asked limit (Some (Read r)) w h d = w
   reader_fits asked limit (Some (Write r)) w h d = w
   reader_fits asked limit (Some (Data number piece)) w h d =
-      let first = receiver_action true e.mode [] (default_terms from) 0 (Some (Data number piece)) in
+      let first = receiver_action true e.role.mode [] (default_terms from) 0 (Some (Data number piece)) in
       if_either Fits (number == 1 && nat_le (length piece) DEFAULT_BLOCK) first no_answer
       (λ _. receiver_fits true [] (default_terms from) 0 (Some (Data number piece)) (sent_any e (Some (default_terms from)) w) h d) (λ _. w)
   reader_fits asked limit (Some (Ack acked)) w h d = w
   reader_fits asked limit (Some (Error code text)) w h d = tt
-  reader_fits asked limit (Some (Oack options)) w h d = accept_fits (agreement asked kinds.Read e.mode options limit) w
+  reader_fits asked limit (Some (Oack options)) w h d = accept_fits (agreement asked kinds.Read e.role.mode options limit) w
 
-  writer_fits : (asked : Asked) (limit : ℕ) (decoded : Option Packet) → length e.last_sent ≤ MAX_REQUEST → Fits (writer_action e.mode asked limit e.length from decoded)
+  writer_fits : (asked : Asked) (limit : ℕ) (decoded : Option Packet) → length e.progress.last_sent ≤ MAX_REQUEST → Fits (writer_action e.role.mode asked limit e.role.length from decoded)
   writer_fits asked limit None w = w
   writer_fits asked limit (Some (Read r)) w = w
   writer_fits asked limit (Some (Write r)) w = w
   writer_fits asked limit (Some (Data number piece)) w = w
   writer_fits asked limit (Some (Ack number)) w =
-      if_either Fits (number == 0) (begin_action e.length (default_terms from)) no_answer (λ _. begin_fits e.length (default_terms from) w) (λ _. w)
+      if_either Fits (number == 0) (begin_action e.role.length (default_terms from)) no_answer (λ _. begin_fits e.role.length (default_terms from) w) (λ _. w)
   writer_fits asked limit (Some (Error code text)) w = tt
-  writer_fits asked limit (Some (Oack options)) w = begin_with_fits e.length (agreement asked kinds.Write e.mode options limit) w
+  writer_fits asked limit (Some (Oack options)) w = begin_with_fits e.role.length (agreement asked kinds.Write e.role.mode options limit) w
 
   phase_fits : (decoded : Option Packet) (phase : Phase) → PhaseFits e phase → SentFits e (terms_of phase) → Decodes bytes decoded → Fits (packet_action e from decoded phase)
   phase_fits decoded (Waiting asked limit) fits s d =
-      if_either Fits (is_sender e.side) (writer_action e.mode asked limit e.length from decoded) (reader_action e.mode asked limit from decoded)
+      if_either Fits (is_sender e.role.side) (writer_action e.role.mode asked limit e.role.length from decoded) (reader_action e.role.mode asked limit from decoded)
       (λ _. writer_fits asked limit decoded s) (λ _. reader_fits asked limit decoded s fits.2 d)
-  phase_fits decoded (Sending terms number) fits s d = sender_fits (is_client e.side) terms number decoded s
-  phase_fits decoded (Receiving terms number) fits s d = receiver_fits (is_client e.side) e.held terms number decoded s refl d
+  phase_fits decoded (Sending terms number) fits s d = sender_fits (is_client e.role.side) terms number decoded s
+  phase_fits decoded (Receiving terms number) fits s d = receiver_fits (is_client e.role.side) e.progress.held terms number decoded s refl d
   phase_fits decoded (Dallying terms number dally) fits s d = dally_fits decoded where
     dally_fits : (decoded : Option Packet) → Fits (Respond (dally_response number decoded))
     dally_fits None = tt
@@ -161,5 +161,5 @@ module _ (e : EndState) (from : Endpoint) (bytes : List ℕ) where
   phase_fits decoded (Closed terms number complete outcome) fits s d = tt
 
   -- whatever an end finds at a packet
-  pub packet_fits : (decoded : Option Packet) → IsSound e → Decodes bytes decoded → Fits (packet_action e from decoded e.phase)
-  packet_fits decoded sound d = phase_fits decoded e.phase sound.phase sound.sent d
+  pub packet_fits : (decoded : Option Packet) → IsSound e → Decodes bytes decoded → Fits (packet_action e from decoded e.progress.phase)
+  packet_fits decoded sound d = phase_fits decoded e.progress.phase sound.phase sound.sent d

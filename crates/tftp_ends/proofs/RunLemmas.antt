@@ -19,42 +19,33 @@ use Rattle.tftp_ends.specs.End.{EndState, is_sender, is_progress, outcome_of, te
 use Rattle.tftp_ends.specs.Opening.{serving_read, serving_write}
 use Rattle.tftp_ends.specs.Phase.{closed}
 use Rattle.tftp_ends.specs.Run.{IsOpening, Gets, Puts, Serves_read, Serves_write, Event, Datagram, Timeout, Taken, IsOpen, Takes, IsRun, AnswersByProgress, end_behind, count_if, is_timeout, is_data, is_oack, progress_count, timeout_count, data_count, datagram_count, opened_by_data}
-use Rattle.tftp_ends.specs.Step.{Turn, response_turn, timeout_turn}
+use Rattle.tftp_ends.specs.Step.{Turn, after_turn, response_turn, timeout_turn, with_progress}
 use Rattle.tftp_ends.proofs.RunSteps.{Kept, rank, waits, datagram_moves, one_at_most, not_below_itself, no_progress, waits_at_most, number_kept, refused_rises}
 
 -- ---- what a timeout leaves
 pub record Waits (e : EndState) (turn : Turn) : Type 0 where
-  pub side : turn.end.side ≡ e.side
-  pub retries : turn.end.retries ≡ e.retries
-  pub length : turn.end.length ≡ e.length
-  pub kept : Kept turn.end.side turn.end.length turn.end.phase
-  pub still : is_progress e.phase turn.end.phase ≡ false
-  pub rises : rank e.phase ≤ rank turn.end.phase
-  pub spent : IsOpen turn.end → turn.end.retries_left + 1 + waits e.phase ≤ e.retries_left + waits turn.end.phase
+  pub kept : Kept e.role.side e.role.length turn.progress.phase
+  pub still : is_progress e.progress.phase turn.progress.phase ≡ false
+  pub rises : rank e.progress.phase ≤ rank turn.progress.phase
+  pub spent : IsOpen (after_turn e turn) → turn.progress.retries_left + 1 + waits e.progress.phase ≤ e.progress.retries_left + waits turn.progress.phase
 
 -- an end that closes at a timeout
-gives_up : (e : EndState) (outcome : Outcome) → IsOpen e → Kept e.side e.length e.phase → is_progress e.phase (closed outcome e.phase) ≡ false → Waits e (response_turn (Close outcome) e.last_sent_to e)
+gives_up : (e : EndState) (outcome : Outcome) → IsOpen e → Kept e.role.side e.role.length e.progress.phase → is_progress e.progress.phase (closed outcome e.progress.phase) ≡ false → Waits e (response_turn (Close outcome) e.progress.last_sent_to e)
 gives_up e outcome o kept still =
-    let rises = refused_rises e.phase (terms_of e.phase) outcome o in
+    let rises = refused_rises e.progress.phase (terms_of e.progress.phase) outcome o in
     record {
-      side = refl;
-      retries = refl;
-      length = refl;
-      kept = number_kept e.side e.length e.phase kept;
+      kept = number_kept e.role.side e.role.length e.progress.phase kept;
       still = still;
       rises = omega (arith, rises);
       spent = λ h. absurd (true≢false h);
     }
 
 -- one that sends its last datagram again
-sends_again : (e : EndState) → 0 < e.retries_left → Kept e.side e.length e.phase → Waits e (response_turn Retransmit e.last_sent_to e)
+sends_again : (e : EndState) → 0 < e.progress.retries_left → Kept e.role.side e.role.length e.progress.phase → Waits e (response_turn Retransmit e.progress.last_sent_to e)
 sends_again e l kept =
     record {
-      side = refl;
-      retries = refl;
-      length = refl;
       kept = kept;
-      still = no_progress e.phase;
+      still = no_progress e.progress.phase;
       rises = omega arith;
       spent = λ h. omega arith;
     }
@@ -67,38 +58,37 @@ closed_still (Dallying terms number dally) outcome o = rw (not_below_itself numb
 closed_still (Closed terms number complete was) outcome o = absurd (true≢false o)
 
 -- one that may try again, or not
-tries : (e : EndState) → IsOpen e → Kept e.side e.length e.phase → Waits e (response_turn (if e.retries_left == 0 then Close outcomes.TimedOut else Retransmit) e.last_sent_to e)
-tries e o kept = elim (cases_eq e.retries_left 0) [
-  | inl none ↦ rw (eq-eqb e.retries_left 0 none) (gives_up e outcomes.TimedOut o kept (closed_still e.phase outcomes.TimedOut o))
-  | inr some ↦ rw (ne_eqb e.retries_left 0 some) (sends_again e (omega arith) kept)
+tries : (e : EndState) → IsOpen e → Kept e.role.side e.role.length e.progress.phase → Waits e (response_turn (if e.progress.retries_left == 0 then Close outcomes.TimedOut else Retransmit) e.progress.last_sent_to e)
+tries e o kept = elim (cases_eq e.progress.retries_left 0) [
+  | inl none ↦ rw (eq-eqb e.progress.retries_left 0 none) (gives_up e outcomes.TimedOut o kept (closed_still e.progress.phase outcomes.TimedOut o))
+  | inr some ↦ rw (ne_eqb e.progress.retries_left 0 some) (sends_again e (omega arith) kept)
 ]
 
-timeout_at : (e : EndState) (p : Phase) → is_some (outcome_of p) ≡ false → Kept e.side e.length p → Waits (record e { phase = p }) (timeout_turn (record e { phase = p }))
-timeout_at e (Waiting asked limit) o kept = tries (record e { phase = Waiting asked limit }) o kept
-timeout_at e (Sending terms number) o kept = tries (record e { phase = Sending terms number }) o kept
-timeout_at e (Receiving terms number) o kept = tries (record e { phase = Receiving terms number }) o kept
+-- the end in a phase
+abbrev in_phase_alone : Phase → EndState → EndState
+in_phase_alone p e = with_progress (record e.progress { phase = p }) e
+
+timeout_at : (e : EndState) (p : Phase) → is_some (outcome_of p) ≡ false → Kept e.role.side e.role.length p → Waits (in_phase_alone p e) (timeout_turn (in_phase_alone p e))
+timeout_at e (Waiting asked limit) o kept = tries (in_phase_alone (Waiting asked limit) e) o kept
+timeout_at e (Sending terms number) o kept = tries (in_phase_alone (Sending terms number) e) o kept
+timeout_at e (Receiving terms number) o kept = tries (in_phase_alone (Receiving terms number) e) o kept
 timeout_at e (Dallying terms number Fresh) o kept =
     record {
-      side = refl;
-      retries = refl;
-      length = refl;
       kept = kept;
       still = rw (not_below_itself number) refl;
       rises = omega arith;
       spent = λ h. omega arith;
     }
 timeout_at e (Dallying terms number Waited) o kept =
-    gives_up (record e { phase = Dallying terms number Waited }) outcomes.Complete o kept (closed_still (Dallying terms number Waited) outcomes.Complete o)
+    gives_up (in_phase_alone (Dallying terms number Waited) e) outcomes.Complete o kept (closed_still (Dallying terms number Waited) outcomes.Complete o)
 timeout_at e (Closed terms number complete outcome) o kept = absurd (true≢false o)
 
 -- ---- what one step leaves
 pub record Steps (e : EndState) (event : Event) (turn : Turn) : Type 0 where
-  pub side : turn.end.side ≡ e.side
-  pub retries : turn.end.retries ≡ e.retries
-  pub kept : Kept turn.end.side turn.end.length turn.end.phase
-  pub rises : rank e.phase + count_if (is_progress e.phase turn.end.phase) ≤ rank turn.end.phase
-  pub sends : is_sender e.side ≡ true → count_if (is_data turn.reply || is_oack turn.reply) ≤ count_if (is_progress e.phase turn.end.phase) + count_if (is_timeout event)
-  pub spent : IsOpen turn.end → count_if (is_timeout event) + turn.end.retries_left + waits e.phase ≤ e.retries_left + e.retries * count_if (is_progress e.phase turn.end.phase) + waits turn.end.phase
+  pub kept : Kept e.role.side e.role.length turn.progress.phase
+  pub rises : rank e.progress.phase + count_if (is_progress e.progress.phase turn.progress.phase) ≤ rank turn.progress.phase
+  pub sends : is_sender e.role.side ≡ true → count_if (is_data turn.reply || is_oack turn.reply) ≤ count_if (is_progress e.progress.phase turn.progress.phase) + count_if (is_timeout event)
+  pub spent : IsOpen (after_turn e turn) → count_if (is_timeout event) + turn.progress.retries_left + waits e.progress.phase ≤ e.progress.retries_left + e.role.retries * count_if (is_progress e.progress.phase turn.progress.phase) + waits turn.progress.phase
 
 -- DATA alone, and only with progress
 counts : (block oack progress : Bool) → oack ≡ false → (block ≡ true → progress ≡ true) → count_if (block || oack) ≤ count_if progress + 0
@@ -111,23 +101,19 @@ gives_back true left left' retries w w' e h = omega arith
 gives_back false left left' retries w w' e h = omega arith
 
 module _ {S K : Type 0} (sources : SourceMeaning S) (sinks : SinkMeaning K) where
-  step : (e : EndState) (event : Event) (turn : Turn) → IsOpen e → Kept e.side e.length e.phase → Takes sources sinks e event turn → Steps e event turn
+  step : (e : EndState) (event : Event) (turn : Turn) → IsOpen e → Kept e.role.side e.role.length e.progress.phase → Takes sources sinks e event turn → Steps e event turn
   step e (Datagram from bytes) turn o kept h =
       let m = datagram_moves sources sinks e from bytes h.0 h.1 turn o kept h.2 in
       record {
-        side = m.side;
-        retries = m.retries;
         kept = m.kept;
         rises = m.rises;
-        sends = λ s. counts (is_data turn.reply) (is_oack turn.reply) (is_progress e.phase turn.end.phase) (m.oack s) (m.sends s);
-        spent = λ _. gives_back (is_progress e.phase turn.end.phase) e.retries_left turn.end.retries_left e.retries (waits e.phase) (waits turn.end.phase) m.left m.waiting;
+        sends = λ s. counts (is_data turn.reply) (is_oack turn.reply) (is_progress e.progress.phase turn.progress.phase) (m.oack s) (m.sends s);
+        spent = λ _. gives_back (is_progress e.progress.phase turn.progress.phase) e.progress.retries_left turn.progress.retries_left e.role.retries (waits e.progress.phase) (waits turn.progress.phase) m.left m.waiting;
       }
   step e Timeout turn o kept h =
-      let w : Waits e turn = subst (λ (t : Turn). Waits e t) (sym h) (timeout_at e e.phase o kept) in
-      let none : count_if (is_progress e.phase turn.end.phase) ≡ 0 = ap count_if w.still in
+      let w : Waits e turn = subst (λ (t : Turn). Waits e t) (sym h) (timeout_at e e.progress.phase o kept) in
+      let none : count_if (is_progress e.progress.phase turn.progress.phase) ≡ 0 = ap count_if w.still in
       record {
-        side = w.side;
-        retries = w.retries;
         kept = w.kept;
         rises = omega (arith, none, w.rises);
         sends = λ s. let one = one_at_most (is_data turn.reply || is_oack turn.reply) in omega arith;
@@ -136,42 +122,41 @@ module _ {S K : Type 0} (sources : SourceMeaning S) (sinks : SinkMeaning K) wher
 
   -- ---- what a run leaves
   record Behind (e : EndState) (run : List Taken) : Type 0 where
-    pub side : (end_behind e run).side ≡ e.side
-    pub kept : Kept (end_behind e run).side (end_behind e run).length (end_behind e run).phase
-    pub rises : rank e.phase + progress_count e run ≤ rank (end_behind e run).phase
-    pub sends : is_sender e.side ≡ true → data_count run ≤ progress_count e run + timeout_count run
-    pub spent : IsOpen (end_behind e run) → timeout_count run + (end_behind e run).retries_left + waits e.phase ≤ e.retries_left + e.retries * progress_count e run + waits (end_behind e run).phase
+    pub side : (end_behind e run).role.side ≡ e.role.side
+    pub kept : Kept (end_behind e run).role.side (end_behind e run).role.length (end_behind e run).progress.phase
+    pub rises : rank e.progress.phase + progress_count e run ≤ rank (end_behind e run).progress.phase
+    pub sends : is_sender e.role.side ≡ true → data_count run ≤ progress_count e run + timeout_count run
+    pub spent : IsOpen (end_behind e run) → timeout_count run + (end_behind e run).progress.retries_left + waits e.progress.phase ≤ e.progress.retries_left + e.role.retries * progress_count e run + waits (end_behind e run).progress.phase
 
   open_before : (run : List Taken) (e : EndState) → IsRun sources sinks e run → IsOpen (end_behind e run) → IsOpen e
   open_before [] e r o = o
   open_before (taken ∷ run) e r o = r.0
 
-  spent_all : (ct T lf w l1 w1 l R R' cp P wf : ℕ) → R' ≡ R → T + lf + w1 ≤ l1 + R' * P + wf → ct + l1 + w ≤ l + R * cp + w1 → ct + T + lf + w ≤ l + R * (cp + P) + wf
-  spent_all ct T lf w l1 w1 l R R' cp P wf e h g =
-      let k : T + lf + w1 ≤ l1 + R * P + wf = subst (λ (r : ℕ). T + lf + w1 ≤ l1 + r * P + wf) e h in
+  spent_all : (ct T lf w l1 w1 l R cp P wf : ℕ) → T + lf + w1 ≤ l1 + R * P + wf → ct + l1 + w ≤ l + R * cp + w1 → ct + T + lf + w ≤ l + R * (cp + P) + wf
+  spent_all ct T lf w l1 w1 l R cp P wf h g =
       let d : R * (cp + P) ≡ R * cp + R * P = mul-add R cp P in
       omega arith
 
-  behind : (run : List Taken) (e : EndState) → Kept e.side e.length e.phase → IsRun sources sinks e run → Behind e run
+  behind : (run : List Taken) (e : EndState) → Kept e.role.side e.role.length e.progress.phase → IsRun sources sinks e run → Behind e run
   behind [] e kept r =
-      record { side = refl; kept = kept; rises = omega arith; sends = λ s. omega arith; spent = λ o. let z : e.retries * 0 ≡ 0 = omega arith in omega arith }
+      record { side = refl; kept = kept; rises = omega arith; sends = λ s. omega arith; spent = λ o. let z : e.role.retries * 0 ≡ 0 = omega arith in omega arith }
   behind (taken ∷ run) e kept r =
       let a = step e taken.event taken.turn r.0 kept r.1 in
-      let b = behind run taken.turn.end a.kept r.2 in
+      let b = behind run (after_turn e taken.turn) a.kept r.2 in
       record {
-        side = b.side ∙ a.side;
+        side = b.side;
         kept = b.kept;
         rises = omega (arith, a.rises, b.rises);
-        sends = λ s. let one = a.sends s in let more = b.sends (ap is_sender a.side ∙ s) in omega arith;
-        spent = λ o. spent_all (count_if (is_timeout taken.event)) (timeout_count run) (end_behind taken.turn.end run).retries_left (waits e.phase) taken.turn.end.retries_left (waits taken.turn.end.phase) e.retries_left e.retries taken.turn.end.retries
-            (count_if (is_progress e.phase taken.turn.end.phase)) (progress_count taken.turn.end run) (waits (end_behind taken.turn.end run).phase) a.retries (b.spent o) (a.spent (open_before run taken.turn.end r.2 o));
+        sends = λ s. let one = a.sends s in let more = b.sends s in omega arith;
+        spent = λ o. spent_all (count_if (is_timeout taken.event)) (timeout_count run) (end_behind (after_turn e taken.turn) run).progress.retries_left (waits e.progress.phase) taken.turn.progress.retries_left (waits taken.turn.progress.phase) e.progress.retries_left e.role.retries
+            (count_if (is_progress e.progress.phase taken.turn.progress.phase)) (progress_count (after_turn e taken.turn) run) (waits (end_behind (after_turn e taken.turn) run).progress.phase) (b.spent o) (a.spent (open_before run (after_turn e taken.turn) r.2 o));
       }
 
   -- ---- from an opening
   record Opened (e : EndState) : Type 0 where
-    pub kept : Kept e.side e.length e.phase
-    pub fresh : waits e.phase ≡ 0
-    pub all : e.retries_left ≡ e.retries
+    pub kept : Kept e.role.side e.role.length e.progress.phase
+    pub fresh : waits e.progress.phase ≡ 0
+    pub all : e.progress.retries_left ≡ e.role.retries
 
   served : (agreed : List Known) (peer : Endpoint) (mode : Mode) (length retries : ℕ) (piece : List ℕ) → length < 65535 * size agreed → Opened (serving_read agreed peer mode length retries piece)
   served [] peer mode length retries piece l = record { kept = (omega arith, l); fresh = refl; all = refl }
@@ -198,31 +183,31 @@ module _ {S K : Type 0} (sources : SourceMeaning S) (sinks : SinkMeaning K) wher
   progress_bound e run o r =
       let b = behind run e (opened e o).kept r in
       let f = end_behind e run in
-      let top = rank_below f.side f.length f.phase b.kept in
+      let top = rank_below f.role.side f.role.length f.progress.phase b.kept in
       omega (arith, b.rises)
 
-  pub timeout_bound : (e : EndState) (run : List Taken) → IsOpening e → IsRun sources sinks e run → IsOpen (end_behind e run) → timeout_count run ≤ e.retries * (progress_count e run + 1) + 1
+  pub timeout_bound : (e : EndState) (run : List Taken) → IsOpening e → IsRun sources sinks e run → IsOpen (end_behind e run) → timeout_count run ≤ e.role.retries * (progress_count e run + 1) + 1
   timeout_bound e run o r live =
       let p = opened e o in
       let b = (behind run e p.kept r).spent live in
-      let top = waits_at_most (end_behind e run).phase in
-      let d : e.retries * (progress_count e run + 1) ≡ e.retries * progress_count e run + e.retries * 1 = mul-add e.retries (progress_count e run) 1 in
-      let one : e.retries * 1 ≡ e.retries = omega arith in
+      let top = waits_at_most (end_behind e run).progress.phase in
+      let d : e.role.retries * (progress_count e run + 1) ≡ e.role.retries * progress_count e run + e.role.retries * 1 = mul-add e.role.retries (progress_count e run) 1 in
+      let one : e.role.retries * 1 ≡ e.role.retries = omega arith in
       omega (arith, b, p.fresh, p.all)
 
-  pub data_bound : (e : EndState) (run : List Taken) → IsOpening e → IsRun sources sinks e run → is_sender e.side ≡ true →
+  pub data_bound : (e : EndState) (run : List Taken) → IsOpening e → IsRun sources sinks e run → is_sender e.role.side ≡ true →
       count_if (opened_by_data e) + data_count run ≤ 1 + progress_count e run + timeout_count run
   data_bound e run o r s =
       let one = one_at_most (opened_by_data e) in
       let more = (behind run e (opened e o).kept r).sends s in
       omega arith
 
-  pub answers : (e : EndState) (run : List Taken) → IsOpening e → IsRun sources sinks e run → IsOpen (end_behind e run) → is_sender e.side ≡ true →
+  pub answers : (e : EndState) (run : List Taken) → IsOpening e → IsRun sources sinks e run → IsOpen (end_behind e run) → is_sender e.role.side ≡ true →
       AnswersByProgress sources sinks (end_behind e run)
   answers e run o r live s from bytes turn h =
       let b = behind run e (opened e o).kept r in
       let m = datagram_moves sources sinks (end_behind e run) from bytes h.0 h.1 turn live b.kept h.2 in
-      let sender : is_sender (end_behind e run).side ≡ true = ap is_sender b.side ∙ s in
+      let sender : is_sender (end_behind e run).role.side ≡ true = ap is_sender b.side ∙ s in
       (m.oack sender, m.sends sender)
 
 -- each step has one answer at most

@@ -39,7 +39,7 @@ use Rattle.tftp_ends.specs.Phase.{refused, completed}
 use Rattle.tftp_ends.specs.Receiver.{receiver_action, data_action, next_action, dally_response}
 use Rattle.tftp_ends.specs.Run.{IsOpen, count_if, is_data, is_oack}
 use Rattle.tftp_ends.specs.Sender.{sender_action, acked_action, illegal_action}
-use Rattle.tftp_ends.specs.Step.{Done, Reply, Turn, Acts, DatagramStep, GoesOn, response_turn, refused_turn, sent_turn, committed_turn, commit_reply, holding, ack_bytes, data_bytes, error_bytes, block_length, result_count_is}
+use Rattle.tftp_ends.specs.Step.{Done, Reply, Turn, Acts, DatagramStep, GoesOn, with_progress, response_turn, refused_turn, sent_turn, committed_turn, commit_reply, holding, ack_bytes, data_bytes, error_bytes, block_length, result_count_is}
 use Rattle.tftp_ends.specs.Text.{is_readable}
 use Rattle.tftp_ends.specs.Waiting.{reader_action, writer_action, accept_action, begin_action, begin_with_action, refusal_action, default_terms, agreed_terms, no_answer}
 
@@ -71,15 +71,12 @@ waits (Closed terms number complete outcome) = 1
 
 -- what a datagram leaves of an end
 pub record Moves (e : EndState) (turn : Turn) : Type 0 where
-  pub side : turn.end.side ≡ e.side
-  pub retries : turn.end.retries ≡ e.retries
-  pub length : turn.end.length ≡ e.length
-  pub kept : Kept turn.end.side turn.end.length turn.end.phase
-  pub left : turn.end.retries_left ≡ (if is_progress e.phase turn.end.phase then e.retries else e.retries_left)
-  pub rises : rank e.phase + count_if (is_progress e.phase turn.end.phase) ≤ rank turn.end.phase
-  pub waiting : waits e.phase ≤ waits turn.end.phase
-  pub oack : is_sender e.side ≡ true → is_oack turn.reply ≡ false
-  pub sends : is_sender e.side ≡ true → is_data turn.reply ≡ true → is_progress e.phase turn.end.phase ≡ true
+  pub kept : Kept e.role.side e.role.length turn.progress.phase
+  pub left : turn.progress.retries_left ≡ (if is_progress e.progress.phase turn.progress.phase then e.role.retries else e.progress.retries_left)
+  pub rises : rank e.progress.phase + count_if (is_progress e.progress.phase turn.progress.phase) ≤ rank turn.progress.phase
+  pub waiting : waits e.progress.phase ≤ waits turn.progress.phase
+  pub oack : is_sender e.role.side ≡ true → is_oack turn.reply ≡ false
+  pub sends : is_sender e.role.side ≡ true → is_data turn.reply ≡ true → is_progress e.progress.phase turn.progress.phase ≡ true
 
 -- either way of a test
 pub if_either : {A : Type 0} (P : A → Type 0) (b : Bool) (r s : A) → (b ≡ true → P r) → (b ≡ false → P s) → P (if b then r else s)
@@ -105,16 +102,13 @@ no_progress (Closed (Some terms) number true outcome) = rw (not_below_itself num
 no_progress (Closed (Some terms) number false outcome) = rw (not_below_itself number) refl
 
 -- an end that stays as it is, with no DATA and no OACK where it sends
-stays : (e : EndState) (reply : Option Reply) → Kept e.side e.length e.phase → (is_sender e.side ≡ true → (is_oack reply ≡ false) × (is_data reply ≡ false)) →
-    Moves e (record { end = e; reply = reply })
+stays : (e : EndState) (reply : Option Reply) → Kept e.role.side e.role.length e.progress.phase → (is_sender e.role.side ≡ true → (is_oack reply ≡ false) × (is_data reply ≡ false)) →
+    Moves e (record { progress = e.progress; reply = reply })
 stays e reply kept quiet =
-    let n : is_progress e.phase e.phase ≡ false = no_progress e.phase in
+    let n : is_progress e.progress.phase e.progress.phase ≡ false = no_progress e.progress.phase in
     record {
-      side = refl;
-      retries = refl;
-      length = refl;
       kept = kept;
-      left = ap (λ (b : Bool). if b then e.retries else e.retries_left) (sym n);
+      left = ap (λ (b : Bool). if b then e.role.retries else e.progress.retries_left) (sym n);
       rises = omega (arith, ap count_if n);
       waiting = omega arith;
       oack = λ s. (quiet s).0;
@@ -153,15 +147,12 @@ refused_rises (Dallying t number dally) terms outcome o =
 refused_rises (Closed t number complete was) terms outcome o = absurd (true≢false o)
 
 -- an end that goes into another phase
-goes_into : (e : EndState) (p : Phase) (sent : List ℕ) (to : Endpoint) (reply : Option Reply) → Kept e.side e.length p →
-    rank e.phase + count_if (is_progress e.phase p) ≤ rank p → waits e.phase ≤ waits p →
-    (is_sender e.side ≡ true → (is_oack reply ≡ false) × (is_data reply ≡ true → is_progress e.phase p ≡ true)) →
-    Moves e (record { end = record e { phase = p; retries_left = if is_progress e.phase p then e.retries else e.retries_left; last_sent = sent; last_sent_to = to }; reply = reply })
+goes_into : (e : EndState) (p : Phase) (sent : List ℕ) (to : Endpoint) (reply : Option Reply) → Kept e.role.side e.role.length p →
+    rank e.progress.phase + count_if (is_progress e.progress.phase p) ≤ rank p → waits e.progress.phase ≤ waits p →
+    (is_sender e.role.side ≡ true → (is_oack reply ≡ false) × (is_data reply ≡ true → is_progress e.progress.phase p ≡ true)) →
+    Moves e (record { progress = record e.progress { phase = p; retries_left = if is_progress e.progress.phase p then e.role.retries else e.progress.retries_left; last_sent = sent; last_sent_to = to }; reply = reply })
 goes_into e p sent to reply kept rises waiting quiet =
     record {
-      side = refl;
-      retries = refl;
-      length = refl;
       kept = kept;
       left = refl;
       rises = rises;
@@ -170,15 +161,15 @@ goes_into e p sent to reply kept rises waiting quiet =
       sends = λ s d. (quiet s).1 d;
     }
 
-closes : (e : EndState) (terms : Option Terms) (outcome : Outcome) (reply : Option Reply) → IsOpen e → Kept e.side e.length e.phase → is_oack reply ≡ false → is_data reply ≡ false →
-    Moves e (record { end = record e { phase = refused terms outcome e.phase; retries_left = if is_progress e.phase (refused terms outcome e.phase) then e.retries else e.retries_left }; reply = reply })
+closes : (e : EndState) (terms : Option Terms) (outcome : Outcome) (reply : Option Reply) → IsOpen e → Kept e.role.side e.role.length e.progress.phase → is_oack reply ≡ false → is_data reply ≡ false →
+    Moves e (record { progress = record e.progress { phase = refused terms outcome e.progress.phase; retries_left = if is_progress e.progress.phase (refused terms outcome e.progress.phase) then e.role.retries else e.progress.retries_left }; reply = reply })
 closes e terms outcome reply o kept oack sends =
-    goes_into e (refused terms outcome e.phase) e.last_sent e.last_sent_to reply (number_kept e.side e.length e.phase kept) (refused_rises e.phase terms outcome o) (waits_at_most e.phase)
+    goes_into e (refused terms outcome e.progress.phase) e.progress.last_sent e.progress.last_sent_to reply (number_kept e.role.side e.role.length e.progress.phase kept) (refused_rises e.progress.phase terms outcome o) (waits_at_most e.progress.phase)
     (λ s. (oack, λ d. absurd (true≢false (sym d ∙ sends))))
 
 -- ---- what a datagram leaves
 module _ {S K : Type 0} (sources : SourceMeaning S) (sinks : SinkMeaning K)
-    (e : EndState) (from : Endpoint) (bytes : List ℕ) (open_now : IsOpen e) (kept : Kept e.side e.length e.phase) where
+    (e : EndState) (from : Endpoint) (bytes : List ℕ) (open_now : IsOpen e) (kept : Kept e.role.side e.role.length e.progress.phase) where
   -- an action leaves this
   abbrev Moving : Action → Type 0
   Moving action = (turn : Turn) (files files' : Files S K) → Acts sources sinks action from bytes e files turn files' → Moves e turn
@@ -192,26 +183,26 @@ module _ {S K : Type 0} (sources : SourceMeaning S) (sinks : SinkMeaning K)
   tells_stranger : Moving (Respond Stranger)
   tells_stranger = responds Stranger (stays e (Some (record { to = from; bytes = error_bytes replies.UnknownTransferId })) kept (λ _. (refl, refl)))
 
-  answers_again : is_sender e.side ≡ false → Moving (Respond ResendReply)
-  answers_again r = responds ResendReply (stays e (Some (record { to = from; bytes = e.last_sent })) kept (λ s. absurd (true≢false (sym s ∙ r))))
+  answers_again : is_sender e.role.side ≡ false → Moving (Respond ResendReply)
+  answers_again r = responds ResendReply (stays e (Some (record { to = from; bytes = e.progress.last_sent })) kept (λ s. absurd (true≢false (sym s ∙ r))))
 
   gives_up : (outcome : Outcome) → Moving (Respond (Close outcome))
-  gives_up outcome = responds (Close outcome) (closes e (terms_of e.phase) outcome None open_now kept refl refl)
+  gives_up outcome = responds (Close outcome) (closes e (terms_of e.progress.phase) outcome None open_now kept refl refl)
 
   refuses : (terms : Option Terms) (reply : ErrorReply) (outcome : Outcome) → Moving (Respond (Refuse terms reply outcome))
   refuses terms reply outcome = responds (Refuse terms reply outcome) (closes e terms outcome (Some (record { to = from; bytes = error_bytes reply })) open_now kept refl refl)
 
   -- a source was asked for a block
-  filled : (terms : Terms) (number : ℕ) (piece : List ℕ) (b : Bool) → number ≤ 65535 → e.length < 65535 * terms.size → rank e.phase + 1 ≤ number → waits e.phase ≡ 0 → is_progress e.phase (Sending terms number) ≡ true →
+  filled : (terms : Terms) (number : ℕ) (piece : List ℕ) (b : Bool) → number ≤ 65535 → e.role.length < 65535 * terms.size → rank e.progress.phase + 1 ≤ number → waits e.progress.phase ≡ 0 → is_progress e.progress.phase (Sending terms number) ≡ true →
       Moves e (if b then sent_turn (Sending terms number) from (data_bytes number piece) e else refused_turn terms replies.FileChanged outcomes.SourceFault from e)
   filled terms number piece true n fits r w p =
-      let one = one_at_most (is_progress e.phase (Sending terms number)) in
+      let one = one_at_most (is_progress e.progress.phase (Sending terms number)) in
       goes_into e (Sending terms number) (data_bytes number piece) from (Some (record { to = from; bytes = data_bytes number piece })) (n, fits) (omega arith) (omega (arith, w)) (λ s. (refl, λ d. p))
   filled terms number piece false n fits r w p = closes e (Some terms) outcomes.SourceFault (Some (record { to = from; bytes = error_bytes replies.FileChanged })) open_now kept refl refl
 
-  sends : (terms : Terms) (number : ℕ) → number ≤ 65535 → e.length < 65535 * terms.size → rank e.phase + 1 ≤ number → waits e.phase ≡ 0 → is_progress e.phase (Sending terms number) ≡ true → Moving (Send terms number)
+  sends : (terms : Terms) (number : ℕ) → number ≤ 65535 → e.role.length < 65535 * terms.size → rank e.progress.phase + 1 ≤ number → waits e.progress.phase ≡ 0 → is_progress e.progress.phase (Sending terms number) ≡ true → Moving (Send terms number)
   sends terms number n fits r w p turn (Source source) (Source source') h =
-      subst (λ (t : Turn). Moves e t) (sym h.answers) (filled terms number h.piece (result_count_is (block_length e.length terms.size number) h.answer) n fits r w p)
+      subst (λ (t : Turn). Moves e t) (sym h.answers) (filled terms number h.piece (result_count_is (block_length e.role.length terms.size number) h.answer) n fits r w p)
   sends terms number n fits r w p turn (Source source) (Sink sink') h = absurd h
   sends terms number n fits r w p turn (Sink sink) (Source source') h = absurd h
   sends terms number n fits r w p turn (Sink sink) (Sink sink') h = absurd h
@@ -219,15 +210,15 @@ module _ {S K : Type 0} (sources : SourceMeaning S) (sinks : SinkMeaning K)
   -- what is held back has no part in it
   from_holding : (after : List ℕ) (turn : Turn) → Moves (holding after e) turn → Moves e turn
   from_holding after turn m =
-      record { side = m.side; retries = m.retries; length = m.length; kept = m.kept; left = m.left; rises = m.rises; waiting = m.waiting; oack = m.oack; sends = m.sends }
+      record { kept = m.kept; left = m.left; rises = m.rises; waiting = m.waiting; oack = m.oack; sends = m.sends }
 
-  acknowledges : (p : Phase) (after : List ℕ) (number : ℕ) → is_sender e.side ≡ false → Kept e.side e.length p → rank e.phase + 1 ≤ rank p → waits e.phase ≤ waits p → Moves e (sent_turn p from (ack_bytes number) (holding after e))
+  acknowledges : (p : Phase) (after : List ℕ) (number : ℕ) → is_sender e.role.side ≡ false → Kept e.role.side e.role.length p → rank e.progress.phase + 1 ≤ rank p → waits e.progress.phase ≤ waits p → Moves e (sent_turn p from (ack_bytes number) (holding after e))
   acknowledges p after number r k l w =
-      let one = one_at_most (is_progress e.phase p) in
+      let one = one_at_most (is_progress e.progress.phase p) in
       from_holding after (sent_turn p from (ack_bytes number) (holding after e))
       (goes_into (holding after e) p (ack_bytes number) from (Some (record { to = from; bytes = ack_bytes number })) k (omega arith) w (λ s. absurd (true≢false (sym s ∙ r))))
 
-  committed : (terms : Terms) (number : ℕ) (after : List ℕ) (answer : Result Done StoreFault) → is_sender e.side ≡ false → number ≤ 65535 → rank e.phase ≤ number → waits e.phase ≡ 0 →
+  committed : (terms : Terms) (number : ℕ) (after : List ℕ) (answer : Result Done StoreFault) → is_sender e.role.side ≡ false → number ≤ 65535 → rank e.progress.phase ≤ number → waits e.progress.phase ≡ 0 →
       Moves e (committed_turn terms number from (holding after e) answer)
   committed terms number after (Ok done) r n l w =
       acknowledges (Dallying terms number Fresh) after number r (n, r) (omega arith) (omega (arith, w))
@@ -235,7 +226,7 @@ module _ {S K : Type 0} (sources : SourceMeaning S) (sinks : SinkMeaning K)
       from_holding after (refused_turn terms (commit_reply fault) outcomes.StoreFault from (holding after e))
       (closes (holding after e) (Some terms) outcomes.StoreFault (Some (record { to = from; bytes = error_bytes (commit_reply fault) })) open_now kept refl refl)
 
-  stored : (terms : Terms) (number : ℕ) (last : Bool) (after : List ℕ) (mid sink' : K) (answer : Result Done StoreFault) (turn : Turn) → is_sender e.side ≡ false → number ≤ 65535 → rank e.phase ≤ number → waits e.phase ≡ 0 →
+  stored : (terms : Terms) (number : ℕ) (last : Bool) (after : List ℕ) (mid sink' : K) (answer : Result Done StoreFault) (turn : Turn) → is_sender e.role.side ≡ false → number ≤ 65535 → rank e.progress.phase ≤ number → waits e.progress.phase ≡ 0 →
       GoesOn sinks terms number from e last after mid answer turn sink' → Moves e turn
   stored terms number true after mid sink' (Err fault) turn r n l w h =
       subst (λ (t : Turn). Moves e t) (sym h.0) (closes e (Some terms) outcomes.StoreFault (Some (record { to = from; bytes = error_bytes replies.DiskFull })) open_now kept refl refl)
@@ -246,7 +237,7 @@ module _ {S K : Type 0} (sources : SourceMeaning S) (sinks : SinkMeaning K)
   stored terms number false after mid sink' (Ok done) turn r n l w h =
       subst (λ (t : Turn). Moves e t) (sym h.0) (acknowledges (Receiving terms number) after number r (n, r) (omega arith) (omega (arith, w)))
 
-  stores : (terms : Terms) (number : ℕ) → is_sender e.side ≡ false → number ≤ 65535 → rank e.phase ≤ number → waits e.phase ≡ 0 → Moving (Store terms number)
+  stores : (terms : Terms) (number : ℕ) → is_sender e.role.side ≡ false → number ≤ 65535 → rank e.progress.phase ≤ number → waits e.progress.phase ≡ 0 → Moving (Store terms number)
   stores terms number r n l w turn (Sink sink) (Sink sink') h =
       stored terms number (nat_lt (length (drop 4 bytes)) terms.size) h.after h.mid sink' h.answer turn r n l w h.rest
   stores terms number r n l w turn (Sink sink) (Source source') h = absurd h
@@ -258,48 +249,48 @@ module _ {S K : Type 0} (sources : SourceMeaning S) (sinks : SinkMeaning K)
     (e0 : EndState) (from : Endpoint) (bytes : List ℕ) where
   -- the end in a phase
   abbrev at : Phase → EndState
-  at p = record e0 { phase = p }
+  at p = with_progress (record e0.progress { phase = p }) e0
 
   -- what an action leaves of it
-  abbrev Going : (p : Phase) → is_some (outcome_of p) ≡ false → Kept e0.side e0.length p → Action → Type 0
+  abbrev Going : (p : Phase) → is_some (outcome_of p) ≡ false → Kept e0.role.side e0.role.length p → Action → Type 0
   Going p o kept action = Moving sources sinks (at p) from bytes o kept action
 
-  ignored : (p : Phase) (o : is_some (outcome_of p) ≡ false) (kept : Kept e0.side e0.length p) → Going p o kept (Respond Ignore)
+  ignored : (p : Phase) (o : is_some (outcome_of p) ≡ false) (kept : Kept e0.role.side e0.role.length p) → Going p o kept (Respond Ignore)
   ignored p o kept = ignores sources sinks (at p) from bytes o kept
 
-  refused_by : (p : Phase) (o : is_some (outcome_of p) ≡ false) (kept : Kept e0.side e0.length p) (terms : Option Terms) (reply : ErrorReply) (outcome : Outcome) → Going p o kept (Respond (Refuse terms reply outcome))
+  refused_by : (p : Phase) (o : is_some (outcome_of p) ≡ false) (kept : Kept e0.role.side e0.role.length p) (terms : Option Terms) (reply : ErrorReply) (outcome : Outcome) → Going p o kept (Respond (Refuse terms reply outcome))
   refused_by p o kept = refuses sources sinks (at p) from bytes o kept
 
-  gone : (p : Phase) (o : is_some (outcome_of p) ≡ false) (kept : Kept e0.side e0.length p) (outcome : Outcome) → Going p o kept (Respond (Close outcome))
+  gone : (p : Phase) (o : is_some (outcome_of p) ≡ false) (kept : Kept e0.role.side e0.role.length p) (outcome : Outcome) → Going p o kept (Respond (Close outcome))
   gone p o kept = gives_up sources sinks (at p) from bytes o kept
 
-  again : (p : Phase) (o : is_some (outcome_of p) ≡ false) (kept : Kept e0.side e0.length p) → is_sender e0.side ≡ false → Going p o kept (Respond ResendReply)
+  again : (p : Phase) (o : is_some (outcome_of p) ≡ false) (kept : Kept e0.role.side e0.role.length p) → is_sender e0.role.side ≡ false → Going p o kept (Respond ResendReply)
   again p o kept = answers_again sources sinks (at p) from bytes o kept
 
-  next : (p : Phase) (o : is_some (outcome_of p) ≡ false) (kept : Kept e0.side e0.length p) (terms : Terms) (number : ℕ) → number ≤ 65535 → e0.length < 65535 * terms.size → rank p + 1 ≤ number → waits p ≡ 0 → is_progress p (Sending terms number) ≡ true → Going p o kept (Send terms number)
+  next : (p : Phase) (o : is_some (outcome_of p) ≡ false) (kept : Kept e0.role.side e0.role.length p) (terms : Terms) (number : ℕ) → number ≤ 65535 → e0.role.length < 65535 * terms.size → rank p + 1 ≤ number → waits p ≡ 0 → is_progress p (Sending terms number) ≡ true → Going p o kept (Send terms number)
   next p o kept = sends sources sinks (at p) from bytes o kept
 
-  store : (p : Phase) (o : is_some (outcome_of p) ≡ false) (kept : Kept e0.side e0.length p) (terms : Terms) (number : ℕ) → is_sender e0.side ≡ false → number ≤ 65535 → rank p ≤ number → waits p ≡ 0 → Going p o kept (Store terms number)
+  store : (p : Phase) (o : is_some (outcome_of p) ≡ false) (kept : Kept e0.role.side e0.role.length p) (terms : Terms) (number : ℕ) → is_sender e0.role.side ≡ false → number ≤ 65535 → rank p ≤ number → waits p ≡ 0 → Going p o kept (Store terms number)
   store p o kept = stores sources sinks (at p) from bytes o kept
 
   -- a sender
-  completes : (terms : Terms) (n : ℕ) (kept : Kept e0.side e0.length (Sending terms n)) → Going (Sending terms n) refl kept (Respond Complete)
+  completes : (terms : Terms) (n : ℕ) (kept : Kept e0.role.side e0.role.length (Sending terms n)) → Going (Sending terms n) refl kept (Respond Complete)
   completes terms n kept =
       let one = one_at_most (is_progress (Sending terms n) (completed (Sending terms n))) in
       responds sources sinks (at (Sending terms n)) from bytes refl kept Complete
-      (goes_into (at (Sending terms n)) (completed (Sending terms n)) e0.last_sent e0.last_sent_to None kept.0 (omega arith) (omega arith) (λ s. (refl, λ d. absurd (true≢false (sym d)))))
+      (goes_into (at (Sending terms n)) (completed (Sending terms n)) e0.progress.last_sent e0.progress.last_sent_to None kept.0 (omega arith) (omega arith) (λ s. (refl, λ d. absurd (true≢false (sym d)))))
 
-  acked_goes : (terms : Terms) (n acked : ℕ) (kept : Kept e0.side e0.length (Sending terms n)) → Going (Sending terms n) refl kept (acked_action e0.length terms n acked)
+  acked_goes : (terms : Terms) (n acked : ℕ) (kept : Kept e0.role.side e0.role.length (Sending terms n)) → Going (Sending terms n) refl kept (acked_action e0.role.length terms n acked)
   acked_goes terms n acked kept =
       let P = Going (Sending terms n) refl kept in
-      let onward = if nat_lt n (e0.length / terms.size + 1) then Send terms (n + 1) else Respond Complete in
+      let onward = if nat_lt n (e0.role.length / terms.size + 1) then Send terms (n + 1) else Respond Complete in
       let other = if nat_lt acked n then Respond Ignore else illegal_action terms in
-      let fits : e0.length < 65535 * terms.size = kept.1 in
+      let fits : e0.role.length < 65535 * terms.size = kept.1 in
       let positive : 0 < terms.size = omega arith in
-      let d : e0.length / terms.size < 65535 = (div-lt_iff_lt-mul {k = terms.size} {x = e0.length} {y = 65535} positive).1 fits in
+      let d : e0.role.length / terms.size < 65535 = (div-lt_iff_lt-mul {k = terms.size} {x = e0.role.length} {y = 65535} positive).1 fits in
       if_either P (acked == n) onward other
-      (λ _. if_either P (nat_lt n (e0.length / terms.size + 1)) (Send terms (n + 1)) (Respond Complete)
-      (λ l. let more : n < e0.length / terms.size + 1 = ltb-true n (e0.length / terms.size + 1) l in
+      (λ _. if_either P (nat_lt n (e0.role.length / terms.size + 1)) (Send terms (n + 1)) (Respond Complete)
+      (λ l. let more : n < e0.role.length / terms.size + 1 = ltb-true n (e0.role.length / terms.size + 1) l in
       let step : nat_lt n (n + 1) ≡ true = lt-ltb n (n + 1) (omega arith) in
       next (Sending terms n) refl kept terms (n + 1) (omega arith) fits (omega arith) refl (rw step refl))
       (λ _. completes terms n kept))
@@ -307,7 +298,7 @@ module _ {S K : Type 0} (sources : SourceMeaning S) (sinks : SinkMeaning K)
       (λ _. ignored (Sending terms n) refl kept)
       (λ _. refused_by (Sending terms n) refl kept (Some terms) replies.IllegalOperation outcomes.Illegal))
 
-  sender_goes : (client : Bool) (terms : Terms) (n : ℕ) (kept : Kept e0.side e0.length (Sending terms n)) (decoded : Option Packet) → Going (Sending terms n) refl kept (sender_action client e0.length terms n decoded)
+  sender_goes : (client : Bool) (terms : Terms) (n : ℕ) (kept : Kept e0.role.side e0.role.length (Sending terms n)) (decoded : Option Packet) → Going (Sending terms n) refl kept (sender_action client e0.role.length terms n decoded)
   sender_goes client terms n kept None = refused_by (Sending terms n) refl kept (Some terms) replies.IllegalOperation outcomes.Illegal
   sender_goes client terms n kept (Some (Read r)) = refused_by (Sending terms n) refl kept (Some terms) replies.IllegalOperation outcomes.Illegal
   sender_goes client terms n kept (Some (Write r)) = refused_by (Sending terms n) refl kept (Some terms) replies.IllegalOperation outcomes.Illegal
@@ -320,30 +311,30 @@ module _ {S K : Type 0} (sources : SourceMeaning S) (sinks : SinkMeaning K)
       (λ _. refused_by (Sending terms n) refl kept (Some terms) replies.IllegalOperation outcomes.Illegal)
 
   -- a receiver, in a phase of this rank at most
-  data_goes : (p : Phase) (o : is_some (outcome_of p) ≡ false) (kept : Kept e0.side e0.length p) (text : List ℕ) (terms : Terms) (stored number : ℕ) (piece : List ℕ) → is_sender e0.side ≡ false → number ≤ 65535 → rank p ≤ stored + 1 → waits p ≡ 0 →
-      Going p o kept (data_action e0.mode text terms stored number piece)
+  data_goes : (p : Phase) (o : is_some (outcome_of p) ≡ false) (kept : Kept e0.role.side e0.role.length p) (text : List ℕ) (terms : Terms) (stored number : ℕ) (piece : List ℕ) → is_sender e0.role.side ≡ false → number ≤ 65535 → rank p ≤ stored + 1 → waits p ≡ 0 →
+      Going p o kept (data_action e0.role.mode text terms stored number piece)
   data_goes p o kept text terms stored number piece r n l w =
       let P = Going p o kept in
       let last = nat_lt (length piece) terms.size in
-      let storing = if is_readable e0.mode text piece last then Store terms number else Respond (Refuse (Some terms) replies.NotNetascii outcomes.NotNetascii) in
+      let storing = if is_readable e0.role.mode text piece last then Store terms number else Respond (Refuse (Some terms) replies.NotNetascii outcomes.NotNetascii) in
       let fitting = if number == 65535 && (length piece == terms.size) then Respond (Refuse (Some terms) replies.FileTooLarge outcomes.TooLarge) else storing in
-      let onward = if number == stored + 1 then next_action e0.mode text terms number piece else illegal_action terms in
+      let onward = if number == stored + 1 then next_action e0.role.mode text terms number piece else illegal_action terms in
       let other = if nat_lt number stored then Respond Ignore else onward in
       if_either P (number == stored) (Respond ResendReply) other (λ _. again p o kept r)
       (λ _. if_either P (nat_lt number stored) (Respond Ignore) onward (λ _. ignored p o kept)
-      (λ _. if_either P (number == stored + 1) (next_action e0.mode text terms number piece) (illegal_action terms)
+      (λ _. if_either P (number == stored + 1) (next_action e0.role.mode text terms number piece) (illegal_action terms)
       (λ is. let next_is : number ≡ stored + 1 = eqb-true number (stored + 1) is in
       if_either P (nat_lt terms.size (length piece)) (illegal_action terms) fitting
       (λ _. refused_by p o kept (Some terms) replies.IllegalOperation outcomes.Illegal)
       (λ _. if_either P (number == 65535 && (length piece == terms.size)) (Respond (Refuse (Some terms) replies.FileTooLarge outcomes.TooLarge)) storing
       (λ _. refused_by p o kept (Some terms) replies.FileTooLarge outcomes.TooLarge)
-      (λ _. if_either P (is_readable e0.mode text piece last) (Store terms number) (Respond (Refuse (Some terms) replies.NotNetascii outcomes.NotNetascii))
+      (λ _. if_either P (is_readable e0.role.mode text piece last) (Store terms number) (Respond (Refuse (Some terms) replies.NotNetascii outcomes.NotNetascii))
       (λ _. store p o kept terms number r n (omega arith) w)
       (λ _. refused_by p o kept (Some terms) replies.NotNetascii outcomes.NotNetascii))))
       (λ _. refused_by p o kept (Some terms) replies.IllegalOperation outcomes.Illegal)))
 
-  receiver_goes : (p : Phase) (o : is_some (outcome_of p) ≡ false) (kept : Kept e0.side e0.length p) (client : Bool) (text : List ℕ) (terms : Terms) (stored : ℕ) (decoded : Option Packet) → is_sender e0.side ≡ false → Decodes bytes decoded → rank p ≤ stored + 1 → waits p ≡ 0 →
-      Going p o kept (receiver_action client e0.mode text terms stored decoded)
+  receiver_goes : (p : Phase) (o : is_some (outcome_of p) ≡ false) (kept : Kept e0.role.side e0.role.length p) (client : Bool) (text : List ℕ) (terms : Terms) (stored : ℕ) (decoded : Option Packet) → is_sender e0.role.side ≡ false → Decodes bytes decoded → rank p ≤ stored + 1 → waits p ≡ 0 →
+      Going p o kept (receiver_action client e0.role.mode text terms stored decoded)
   receiver_goes p o kept client text terms stored None r d l w = refused_by p o kept (Some terms) replies.IllegalOperation outcomes.Illegal
   receiver_goes p o kept client text terms stored (Some (Read q)) r d l w = refused_by p o kept (Some terms) replies.IllegalOperation outcomes.Illegal
   receiver_goes p o kept client text terms stored (Some (Write q)) r d l w = refused_by p o kept (Some terms) replies.IllegalOperation outcomes.Illegal
@@ -359,7 +350,7 @@ module _ {S K : Type 0} (sources : SourceMeaning S) (sinks : SinkMeaning K)
       (λ _. if_either P (stored == 0) (Respond ResendReply) (Respond Ignore) (λ _. again p o kept r) (λ _. ignored p o kept))
       (λ _. refused_by p o kept (Some terms) replies.IllegalOperation outcomes.Illegal)
 
-  dally_goes : (terms : Terms) (n : ℕ) (dally : Dally) (kept : Kept e0.side e0.length (Dallying terms n dally)) (decoded : Option Packet) → Going (Dallying terms n dally) refl kept (Respond (dally_response n decoded))
+  dally_goes : (terms : Terms) (n : ℕ) (dally : Dally) (kept : Kept e0.role.side e0.role.length (Dallying terms n dally)) (decoded : Option Packet) → Going (Dallying terms n dally) refl kept (Respond (dally_response n decoded))
   dally_goes terms n dally kept None = ignored (Dallying terms n dally) refl kept
   dally_goes terms n dally kept (Some (Read r)) = ignored (Dallying terms n dally) refl kept
   dally_goes terms n dally kept (Some (Write r)) = ignored (Dallying terms n dally) refl kept
@@ -384,57 +375,57 @@ module _ {S K : Type 0} (sources : SourceMeaning S) (sinks : SinkMeaning K)
     refusal_goes refusals.NotAsked = refused_by waiting refl tt None replies.OptionRefused (outcomes.Refused refusals.NotAsked)
     refusal_goes refusals.BadValue = refused_by waiting refl tt None replies.OptionRefused (outcomes.Refused refusals.BadValue)
 
-    accept_goes : is_sender e0.side ≡ false → (answer : Result (List Known) Refusal) → Going waiting refl tt (accept_action from answer)
+    accept_goes : is_sender e0.role.side ≡ false → (answer : Result (List Known) Refusal) → Going waiting refl tt (accept_action from answer)
     accept_goes r (Ok agreed) =
         let terms = agreed_terms from agreed in
         responds sources sinks (at waiting) from bytes refl tt (Accept terms)
         (goes_into (at waiting) (Receiving terms 0) (ack_bytes 0) from (Some (record { to = from; bytes = ack_bytes 0 })) (omega arith, r) (omega arith) (omega arith) (λ s. absurd (true≢false (sym s ∙ r))))
     accept_goes r (Err refusal) = refusal_goes refusal
 
-    begin_goes : (terms : Terms) → Going waiting refl tt (begin_action e0.length terms)
+    begin_goes : (terms : Terms) → Going waiting refl tt (begin_action e0.role.length terms)
     begin_goes terms =
-        if_either (Going waiting refl tt) (nat_lt e0.length (65535 * terms.size)) (Send terms 1) (Respond (Refuse None replies.FileTooLarge outcomes.TooLarge))
-        (λ l. next waiting refl tt terms 1 (omega arith) (ltb-true e0.length (65535 * terms.size) l) (omega arith) refl refl)
+        if_either (Going waiting refl tt) (nat_lt e0.role.length (65535 * terms.size)) (Send terms 1) (Respond (Refuse None replies.FileTooLarge outcomes.TooLarge))
+        (λ l. next waiting refl tt terms 1 (omega arith) (ltb-true e0.role.length (65535 * terms.size) l) (omega arith) refl refl)
         (λ _. refused_by waiting refl tt None replies.FileTooLarge outcomes.TooLarge)
 
-    begin_with_goes : (answer : Result (List Known) Refusal) → Going waiting refl tt (begin_with_action from e0.length answer)
+    begin_with_goes : (answer : Result (List Known) Refusal) → Going waiting refl tt (begin_with_action from e0.role.length answer)
     begin_with_goes (Ok agreed) = begin_goes (agreed_terms from agreed)
     begin_with_goes (Err refusal) = refusal_goes refusal
 
-    reader_goes : is_sender e0.side ≡ false → (decoded : Option Packet) → Decodes bytes decoded → Going waiting refl tt (reader_action e0.mode asked limit from decoded)
+    reader_goes : is_sender e0.role.side ≡ false → (decoded : Option Packet) → Decodes bytes decoded → Going waiting refl tt (reader_action e0.role.mode asked limit from decoded)
     reader_goes r None d = no_answer_goes
     reader_goes r (Some (Read q)) d = no_answer_goes
     reader_goes r (Some (Write q)) d = no_answer_goes
     reader_goes r (Some (Data number piece)) d =
-        let first = receiver_action true e0.mode [] (default_terms from) 0 (Some (Data number piece)) in
+        let first = receiver_action true e0.role.mode [] (default_terms from) 0 (Some (Data number piece)) in
         if_either (Going waiting refl tt) (number == 1 && nat_le (length piece) DEFAULT_BLOCK) first no_answer
         (λ _. receiver_goes waiting refl tt true [] (default_terms from) 0 (Some (Data number piece)) r d (omega arith) refl)
         (λ _. no_answer_goes)
     reader_goes r (Some (Ack acked)) d = no_answer_goes
     reader_goes r (Some (Error code text)) d = gone waiting refl tt (outcomes.PeerError code)
-    reader_goes r (Some (Oack options)) d = accept_goes r (agreement asked kinds.Read e0.mode options limit)
+    reader_goes r (Some (Oack options)) d = accept_goes r (agreement asked kinds.Read e0.role.mode options limit)
 
-    writer_goes : (decoded : Option Packet) → Going waiting refl tt (writer_action e0.mode asked limit e0.length from decoded)
+    writer_goes : (decoded : Option Packet) → Going waiting refl tt (writer_action e0.role.mode asked limit e0.role.length from decoded)
     writer_goes None = no_answer_goes
     writer_goes (Some (Read q)) = no_answer_goes
     writer_goes (Some (Write q)) = no_answer_goes
     writer_goes (Some (Data number piece)) = no_answer_goes
     writer_goes (Some (Ack number)) =
-        if_either (Going waiting refl tt) (number == 0) (begin_action e0.length (default_terms from)) no_answer
+        if_either (Going waiting refl tt) (number == 0) (begin_action e0.role.length (default_terms from)) no_answer
         (λ _. begin_goes (default_terms from)) (λ _. no_answer_goes)
     writer_goes (Some (Error code text)) = gone waiting refl tt (outcomes.PeerError code)
-    writer_goes (Some (Oack options)) = begin_with_goes (agreement asked kinds.Write e0.mode options limit)
+    writer_goes (Some (Oack options)) = begin_with_goes (agreement asked kinds.Write e0.role.mode options limit)
 
-  packet_goes : (p : Phase) (o : is_some (outcome_of p) ≡ false) (kept : Kept e0.side e0.length p) (decoded : Option Packet) → Decodes bytes decoded → Going p o kept (packet_action (at p) from decoded p)
+  packet_goes : (p : Phase) (o : is_some (outcome_of p) ≡ false) (kept : Kept e0.role.side e0.role.length p) (decoded : Option Packet) → Decodes bytes decoded → Going p o kept (packet_action (at p) from decoded p)
   packet_goes (Waiting asked limit) o kept decoded d =
-      if_either (Going (Waiting asked limit) o kept) (is_sender e0.side) (writer_action e0.mode asked limit e0.length from decoded) (reader_action e0.mode asked limit from decoded)
+      if_either (Going (Waiting asked limit) o kept) (is_sender e0.role.side) (writer_action e0.role.mode asked limit e0.role.length from decoded) (reader_action e0.role.mode asked limit from decoded)
       (λ _. writer_goes asked limit decoded) (λ r. reader_goes asked limit r decoded d)
-  packet_goes (Sending terms n) o kept decoded d = sender_goes (is_client e0.side) terms n kept decoded
-  packet_goes (Receiving terms n) o kept decoded d = receiver_goes (Receiving terms n) o kept (is_client e0.side) e0.held terms n decoded kept.1 d (omega arith) refl
+  packet_goes (Sending terms n) o kept decoded d = sender_goes (is_client e0.role.side) terms n kept decoded
+  packet_goes (Receiving terms n) o kept decoded d = receiver_goes (Receiving terms n) o kept (is_client e0.role.side) e0.progress.held terms n decoded kept.1 d (omega arith) refl
   packet_goes (Dallying terms n dally) o kept decoded d = dally_goes terms n dally kept decoded
   packet_goes (Closed terms n complete outcome) o kept decoded d = absurd (true≢false o)
 
-  garbled_goes : (p : Phase) (o : is_some (outcome_of p) ≡ false) (kept : Kept e0.side e0.length p) → Going p o kept (Respond (garbled_response p))
+  garbled_goes : (p : Phase) (o : is_some (outcome_of p) ≡ false) (kept : Kept e0.role.side e0.role.length p) → Going p o kept (Respond (garbled_response p))
   garbled_goes (Waiting asked limit) o kept = gone (Waiting asked limit) o kept outcomes.Illegal
   garbled_goes (Sending terms n) o kept = gone (Sending terms n) o kept outcomes.Illegal
   garbled_goes (Receiving terms n) o kept = gone (Receiving terms n) o kept outcomes.Illegal
@@ -442,12 +433,12 @@ module _ {S K : Type 0} (sources : SourceMeaning S) (sinks : SinkMeaning K)
   garbled_goes (Closed terms n complete outcome) o kept = absurd (true≢false o)
 
   -- any datagram
-  datagram_goes : (p : Phase) (o : is_some (outcome_of p) ≡ false) (kept : Kept e0.side e0.length p) (decoded : Option Packet) → Decodes bytes decoded → Going p o kept (datagram_action (at p) from bytes decoded)
+  datagram_goes : (p : Phase) (o : is_some (outcome_of p) ≡ false) (kept : Kept e0.role.side e0.role.length p) (decoded : Option Packet) → Decodes bytes decoded → Going p o kept (datagram_action (at p) from bytes decoded)
   datagram_goes p o kept decoded d =
       let P = Going p o kept in
       let strange = if has_error_opcode bytes then Respond Ignore else Respond Stranger in
       let known = if has_error_opcode bytes && is_none decoded then Respond (garbled_response p) else packet_action (at p) from decoded p in
-      if_either P (is_stranger (terms_of p) e0.last_sent_to from) strange known
+      if_either P (is_stranger (terms_of p) e0.progress.last_sent_to from) strange known
       (λ _. if_either P (has_error_opcode bytes) (Respond Ignore) (Respond Stranger) (λ _. ignored p o kept)
       (λ _. tells_stranger sources sinks (at p) from bytes o kept))
       (λ _. if_either P (has_error_opcode bytes && is_none decoded) (Respond (garbled_response p)) (packet_action (at p) from decoded p)
@@ -455,7 +446,7 @@ module _ {S K : Type 0} (sources : SourceMeaning S) (sinks : SinkMeaning K)
 
 -- what a datagram leaves of an open end
 pub datagram_moves : {S K : Type 0} (sources : SourceMeaning S) (sinks : SinkMeaning K)
-    (e : EndState) (from : Endpoint) (bytes : List ℕ) (files files' : Files S K) (turn : Turn) → IsOpen e → Kept e.side e.length e.phase →
+    (e : EndState) (from : Endpoint) (bytes : List ℕ) (files files' : Files S K) (turn : Turn) → IsOpen e → Kept e.role.side e.role.length e.progress.phase →
     DatagramStep sources sinks from bytes e files turn files' → Moves e turn
 datagram_moves sources sinks e from bytes files files' turn o kept step =
-    datagram_goes sources sinks e from bytes e.phase o kept step.decoded step.says turn files files' step.acts
+    datagram_goes sources sinks e from bytes e.progress.phase o kept step.decoded step.says turn files files' step.acts

@@ -49,23 +49,23 @@ garbled_response (Closed terms number complete outcome) = Ignore
 -- how a client that waits handles a packet
 abbrev pub waiting_action : EndState → Endpoint → Option Packet → Phase → Action
 waiting_action e from decoded (Waiting asked limit) =
-    if is_sender e.side then writer_action e.mode asked limit e.length from decoded else reader_action e.mode asked limit from decoded
+    if is_sender e.role.side then writer_action e.role.mode asked limit e.role.length from decoded else reader_action e.role.mode asked limit from decoded
 waiting_action e from decoded _ = Respond Ignore
 
 -- how an open end handles a packet from its peer, or from the server while it has none
 abbrev pub packet_action : EndState → Endpoint → Option Packet → Phase → Action
 packet_action e from decoded (Waiting asked limit) = waiting_action e from decoded (Waiting asked limit)
-packet_action e from decoded (Sending terms number) = sender_action (is_client e.side) e.length terms number decoded
-packet_action e from decoded (Receiving terms number) = receiver_action (is_client e.side) e.mode e.held terms number decoded
+packet_action e from decoded (Sending terms number) = sender_action (is_client e.role.side) e.role.length terms number decoded
+packet_action e from decoded (Receiving terms number) = receiver_action (is_client e.role.side) e.role.mode e.progress.held terms number decoded
 packet_action e from decoded (Dallying terms number dally) = Respond (dally_response number decoded)
 packet_action e from decoded (Closed terms number complete outcome) = Respond Ignore
 
 -- how an open end handles a datagram: first from whom it is, then whether it can be answered at all
 abbrev pub datagram_action : EndState → Endpoint → List ℕ → Option Packet → Action
 datagram_action e from bytes decoded =
-    if is_stranger (terms_of e.phase) e.last_sent_to from then (if has_error_opcode bytes then Respond Ignore else Respond Stranger)
-    else if has_error_opcode bytes && is_none decoded then Respond (garbled_response e.phase)
-    else packet_action e from decoded e.phase
+    if is_stranger (terms_of e.progress.phase) e.progress.last_sent_to from then (if has_error_opcode bytes then Respond Ignore else Respond Stranger)
+    else if has_error_opcode bytes && is_none decoded then Respond (garbled_response e.progress.phase)
+    else packet_action e from decoded e.progress.phase
 
 -- how an open end handles a timeout (RFC 1350, sections 2 and 6)
 abbrev pub timeout_response : ℕ → Phase → Response

@@ -1,25 +1,20 @@
 -- The state of an end, and what it tells of itself.
 use Rattle.std.specs.Prelude.{ℕ, Bool, true, false, ◌&&◌, ◌||◌, not, nat_lt, List, Option, Some, None, is_some, option_map, length as list_length}
-use Rattle.tftp_wire.specs.declared.mode.Mode.{Mode}
 use Rattle.tftp_negotiate.specs.declared.limits.TheConstants.{DEFAULT_BLOCK}
 use Rattle.tftp_ends.specs.declared.endpoint.Endpoint.{Endpoint}
 use Rattle.tftp_ends.specs.declared.outcome.Outcome.{Outcome}
 use Rattle.tftp_ends.specs.declared.phase.Terms.{Terms}
 use Rattle.tftp_ends.specs.declared.phase.Phase.{Phase}
 use Rattle.tftp_ends.specs.declared.phase.Phase.TheVariants.{Waiting, Sending, Receiving, Dallying, Closed}
+use Rattle.tftp_ends.specs.declared.role.Role.{Role}
 use Rattle.tftp_ends.specs.declared.side.Side.{Side}
 use Rattle.tftp_ends.specs.declared.side.Side.TheVariants.{ClientRead, ClientWrite, ServerRead, ServerWrite}
 use Rattle.tftp_ends.specs.declared.record.Held.{Held}
 use Rattle.tftp_ends.specs.declared.record.Record.{Record}
 use Rattle.tftp_ends.specs.declared.record.Step.{Step}
 
--- all that an end's steps depend on and change
-pub record EndState : Type 0 where
-  pub side : Side
-  pub mode : Mode
-  -- a sender's file as it was measured, in bytes of wire text
-  pub length : ℕ
-  pub retries : ℕ
+-- how far an end came
+pub record Progress : Type 0 where
   pub retries_left : ℕ
   -- what a timeout sends again, and where to
   pub last_sent : List ℕ
@@ -27,6 +22,11 @@ pub record EndState : Type 0 where
   -- a receiver's wire text that awaits its next byte
   pub held : List ℕ
   pub phase : Phase
+
+-- an end: what it is from its opening on, and how far it came, which alone its steps change
+pub record EndState : Type 0 where
+  pub role : Role
+  pub progress : Progress
 
 -- the end sends DATA
 abbrev pub is_sender : Side → Bool
@@ -97,18 +97,18 @@ interval_of terms = or_one (timeout_of terms)
 abbrev pub record_of : EndState → Record
 record_of e =
     record {
-      side = e.side;
-      peer = option_map (λ t. t.peer) (terms_of e.phase);
-      size = size_of (terms_of e.phase);
-      timeout = timeout_of (terms_of e.phase);
-      number = number_of e.phase;
-      complete = is_complete e.phase;
-      outcome = outcome_of e.phase;
+      side = e.role.side;
+      peer = option_map (λ t. t.peer) (terms_of e.progress.phase);
+      size = size_of (terms_of e.progress.phase);
+      timeout = timeout_of (terms_of e.progress.phase);
+      number = number_of e.progress.phase;
+      complete = is_complete e.progress.phase;
+      outcome = outcome_of e.progress.phase;
     }
 
 -- how many bytes an end keeps between two events
 abbrev pub held_by : EndState → Held
-held_by e = record { datagram = list_length e.last_sent; text = list_length e.held }
+held_by e = record { datagram = list_length e.progress.last_sent; text = list_length e.progress.held }
 
 -- the peer was taken, the number rose, or the end became complete
 abbrev pub is_progress : Phase → Phase → Bool

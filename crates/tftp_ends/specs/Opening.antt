@@ -19,6 +19,7 @@ use Rattle.tftp_ends.specs.declared.endpoint.Endpoint.{Endpoint}
 use Rattle.tftp_ends.specs.declared.phase.Phase.{Phase}
 use Rattle.tftp_ends.specs.declared.phase.Phase.TheVariants.{Waiting, Sending, Receiving}
 use Rattle.tftp_ends.specs.declared.record.Step.{Step}
+use Rattle.tftp_ends.specs.declared.role.Role.{Role}
 use Rattle.tftp_ends.specs.declared.side.Side.{Side}
 use Rattle.tftp_ends.specs.declared.side.Side.TheVariants.{ClientRead, ClientWrite, ServerRead, ServerWrite}
 use Rattle.tftp_ends.specs.End.{EndState}
@@ -27,19 +28,16 @@ use Rattle.tftp_ends.specs.Waiting.{default_terms, agreed_terms}
 
 -- ---- what each is, and what it sends
 -- an end as it opens, with all its retries, after it sent these bytes
-abbrev pub opened : Side → Mode → ℕ → ℕ → Phase → Endpoint → List ℕ → EndState
-opened side mode length retries phase to sent =
+abbrev pub opened : Role → Phase → Endpoint → List ℕ → EndState
+opened role phase to sent =
     record {
-      side = side;
-      mode = mode;
-      length = length;
-      retries = retries;
-      retries_left = retries;
-      last_sent = sent;
-      last_sent_to = to;
-      held = [];
-      phase = phase;
+      role = role;
+      progress = record { retries_left = role.retries; last_sent = sent; last_sent_to = to; held = []; phase = phase };
     }
+
+-- what an end is
+abbrev pub role_of : Side → Mode → ℕ → ℕ → Role
+role_of side mode length retries = record { side = side; mode = mode; length = length; retries = retries }
 
 -- the request of a client
 abbrev pub request_of : List ℕ → Mode → Asked → Request
@@ -48,12 +46,12 @@ request_of name mode asked = record { name = name; mode = mode; options = asked_
 -- a client that has asked to read
 abbrev pub getting : Endpoint → List ℕ → Mode → Asked → ℕ → ℕ → EndState
 getting to name mode asked limit retries =
-    opened ClientRead mode 0 retries (Waiting asked limit) to (canonical (Read (request_of name mode asked)))
+    opened (role_of ClientRead mode 0 retries) (Waiting asked limit) to (canonical (Read (request_of name mode asked)))
 
 -- a client that has asked to write a file of that length
 abbrev pub putting : Endpoint → List ℕ → Mode → Asked → ℕ → ℕ → ℕ → EndState
 putting to name mode asked length limit retries =
-    opened ClientWrite mode length retries (Waiting asked limit) to (canonical (Write (request_of name mode asked)))
+    opened (role_of ClientWrite mode length retries) (Waiting asked limit) to (canonical (Write (request_of name mode asked)))
 
 -- the OACK of the options that were agreed on
 abbrev pub oack_bytes : List Known → List ℕ
@@ -62,15 +60,15 @@ oack_bytes agreed = canonical (Oack (agreed_options agreed))
 -- a server's end that sends a file of that length: DATA 1 with the first piece, or where options are agreed their OACK
 abbrev pub serving_read : List Known → Endpoint → Mode → ℕ → ℕ → List ℕ → EndState
 serving_read [] peer mode length retries piece =
-    opened ServerRead mode length retries (Sending (default_terms peer) 1) peer (data_bytes 1 piece)
+    opened (role_of ServerRead mode length retries) (Sending (default_terms peer) 1) peer (data_bytes 1 piece)
 serving_read (known ∷ others) peer mode length retries piece =
-    opened ServerRead mode length retries (Sending (agreed_terms peer (known ∷ others)) 0) peer (oack_bytes (known ∷ others))
+    opened (role_of ServerRead mode length retries) (Sending (agreed_terms peer (known ∷ others)) 0) peer (oack_bytes (known ∷ others))
 
 -- a server's end that receives: ACK 0, or where options are agreed their OACK
 abbrev pub serving_write : List Known → Endpoint → Mode → ℕ → EndState
-serving_write [] peer mode retries = opened ServerWrite mode 0 retries (Receiving (default_terms peer) 0) peer (ack_bytes 0)
+serving_write [] peer mode retries = opened (role_of ServerWrite mode 0 retries) (Receiving (default_terms peer) 0) peer (ack_bytes 0)
 serving_write (known ∷ others) peer mode retries =
-    opened ServerWrite mode 0 retries (Receiving (agreed_terms peer (known ∷ others)) 0) peer (oack_bytes (known ∷ others))
+    opened (role_of ServerWrite mode 0 retries) (Receiving (agreed_terms peer (known ∷ others)) 0) peer (oack_bytes (known ∷ others))
 
 -- what an opening tells
 abbrev pub opening_step : Endpoint → Step

@@ -10,7 +10,7 @@ use Rattle.tftp_file.specs.declared.files.Files.{Files}
 use Rattle.tftp_ends.specs.declared.endpoint.Endpoint.{Endpoint}
 use Rattle.tftp_ends.specs.End.{EndState, outcome_of, is_progress}
 use Rattle.tftp_ends.specs.Opening.{getting, putting, serving_read, serving_write}
-use Rattle.tftp_ends.specs.Step.{Reply, Turn, DatagramStep, timeout_turn}
+use Rattle.tftp_ends.specs.Step.{Reply, Turn, DatagramStep, after_turn, timeout_turn}
 
 -- an end as it opens, in one of its four ways; of one that sends, the blocks of its file can be numbered
 pub data IsOpening (e : EndState) : Type 0 where
@@ -24,7 +24,7 @@ pub data Event : Type 0 where
   Datagram : Endpoint → List ℕ → Event
   Timeout : Event
 
--- an event, and the end and its answer behind it
+-- an event, and how far the end came and its answer behind it
 pub record Taken : Type 0 where
   pub event : Event
   pub turn : Turn
@@ -32,11 +32,11 @@ pub record Taken : Type 0 where
 -- the end behind some steps
 abbrev pub end_behind : EndState → List Taken → EndState
 end_behind e [] = e
-end_behind e (taken ∷ run) = end_behind taken.turn.end run
+end_behind e (taken ∷ run) = end_behind (after_turn e taken.turn) run
 
 -- the end is open
 abbrev pub IsOpen : EndState → Type 0
-IsOpen e = is_some (outcome_of e.phase) ≡ false
+IsOpen e = is_some (outcome_of e.progress.phase) ≡ false
 
 -- a datagram has this opcode
 abbrev pub has_opcode : ℕ → List ℕ → Bool
@@ -64,12 +64,12 @@ module _ {S K : Type 0} (sources : SourceMeaning S) (sinks : SinkMeaning K) wher
   -- steps of which each begins, at an open end, where the one before it ended
   abbrev pub IsRun : EndState → List Taken → Type 0
   IsRun e [] = Unit {0}
-  IsRun e (taken ∷ run) = IsOpen e × Takes e taken.event taken.turn × IsRun taken.turn.end run
+  IsRun e (taken ∷ run) = IsOpen e × Takes e taken.event taken.turn × IsRun (after_turn e taken.turn) run
 
   -- it answers a datagram by DATA only where that is progress, and never by an OACK
   abbrev pub AnswersByProgress : EndState → Type 0
   AnswersByProgress e = (from : Endpoint) (bytes : List ℕ) (turn : Turn) → Takes e (Datagram from bytes) turn →
-      (is_oack turn.reply ≡ false) × (is_data turn.reply ≡ true → is_progress e.phase turn.end.phase ≡ true)
+      (is_oack turn.reply ≡ false) × (is_data turn.reply ≡ true → is_progress e.progress.phase turn.progress.phase ≡ true)
 
 -- one, where it holds
 abbrev pub count_if : Bool → ℕ
@@ -79,7 +79,7 @@ count_if false = 0
 -- how many steps were progress
 abbrev pub progress_count : EndState → List Taken → ℕ
 progress_count e [] = 0
-progress_count e (taken ∷ run) = count_if (is_progress e.phase taken.turn.end.phase) + progress_count taken.turn.end run
+progress_count e (taken ∷ run) = count_if (is_progress e.progress.phase taken.turn.progress.phase) + progress_count (after_turn e taken.turn) run
 
 abbrev pub is_timeout : Event → Bool
 is_timeout (Datagram from bytes) = false
@@ -97,7 +97,7 @@ data_count (taken ∷ run) = count_if (is_data taken.turn.reply || is_oack taken
 
 -- whether the datagram that opened an end was
 abbrev pub opened_by_data : EndState → Bool
-opened_by_data e = has_opcode 3 e.last_sent || has_opcode 6 e.last_sent
+opened_by_data e = has_opcode 3 e.progress.last_sent || has_opcode 6 e.progress.last_sent
 
 -- how many datagrams went out
 abbrev pub datagram_count : List Taken → ℕ

@@ -23,7 +23,7 @@ use Rattle.tftp_ends.specs.declared.action.Response.{Response}
 use Rattle.tftp_ends.specs.declared.action.Response.TheVariants.{Ignore, Stranger, ResendReply, Retransmit, Wait, Close, Refuse, Accept, Complete}
 use Rattle.tftp_ends.specs.declared.outgoing.Outgoing.{Outgoing}
 use Rattle.tftp_ends.specs.declared.outgoing.Outgoing.TheVariants.{Nothing, LastSent, Error}
-use Rattle.tftp_ends.specs.End.{EndState, is_progress, step_of}
+use Rattle.tftp_ends.specs.End.{Progress, EndState, is_progress, step_of}
 use Rattle.tftp_ends.specs.ErrorReply.{error_packet}
 use Rattle.tftp_ends.specs.Phase.{closed, refused, completed, waited}
 use Rattle.tftp_ends.specs.Action.{Decodes, datagram_action, timeout_response}
@@ -43,13 +43,20 @@ pub record Reply : Type 0 where
   pub bytes : List ℕ
 
 -- an end in another phase: progress gives its retries back
-abbrev pub in_phase : Phase → EndState → EndState
+abbrev pub in_phase : Phase → EndState → Progress
 in_phase phase e =
-    record e { phase = phase; retries_left = if is_progress e.phase phase then e.retries else e.retries_left }
+    record e.progress {
+      phase = phase;
+      retries_left = if is_progress e.progress.phase phase then e.role.retries else e.progress.retries_left;
+    }
 
--- an end that has sent a new datagram, which a timeout will send again
-abbrev pub having_sent : Reply → EndState → EndState
-having_sent reply e = record e { last_sent = reply.bytes; last_sent_to = reply.to }
+-- a new datagram was sent, which a timeout will send again
+abbrev pub having_sent : Reply → Progress → Progress
+having_sent reply progress = record progress { last_sent = reply.bytes; last_sent_to = reply.to }
+
+-- the end, having come so far
+abbrev pub with_progress : Progress → EndState → EndState
+with_progress progress e = record e { progress = progress }
 
 -- the bytes of an ERROR, and of an ACK
 abbrev pub error_bytes : ErrorReply → List ℕ
@@ -61,38 +68,42 @@ ack_bytes number = canonical (Ack number)
 abbrev pub data_bytes : ℕ → List ℕ → List ℕ
 data_bytes number bytes = canonical (Data number bytes)
 
--- the end after what touches no file, where a datagram came from there
-abbrev pub after : Response → Endpoint → EndState → EndState
-after Ignore from e = e
-after Stranger from e = e
-after ResendReply from e = e
-after Retransmit from e = record e { retries_left = e.retries_left - 1 }
-after Wait from e = record e { phase = waited e.phase }
-after (Close outcome) from e = in_phase (closed outcome e.phase) e
-after (Refuse terms reply outcome) from e = in_phase (refused terms outcome e.phase) e
+-- how far the end came after what touches no file, where a datagram came from there
+abbrev pub after : Response → Endpoint → EndState → Progress
+after Ignore from e = e.progress
+after Stranger from e = e.progress
+after ResendReply from e = e.progress
+after Retransmit from e = record e.progress { retries_left = e.progress.retries_left - 1 }
+after Wait from e = record e.progress { phase = waited e.progress.phase }
+after (Close outcome) from e = in_phase (closed outcome e.progress.phase) e
+after (Refuse terms reply outcome) from e = in_phase (refused terms outcome e.progress.phase) e
 after (Accept terms) from e = having_sent (record { to = from; bytes = ack_bytes 0 }) (in_phase (Receiving terms 0) e)
-after Complete from e = in_phase (completed e.phase) e
+after Complete from e = in_phase (completed e.progress.phase) e
 
 -- what is answered where no file is touched
 abbrev pub reply_at : Response → Endpoint → EndState → Option Reply
 reply_at Ignore from e = None
 reply_at Stranger from e = Some (record { to = from; bytes = error_bytes replies.UnknownTransferId })
-reply_at ResendReply from e = Some (record { to = from; bytes = e.last_sent })
-reply_at Retransmit from e = Some (record { to = e.last_sent_to; bytes = e.last_sent })
+reply_at ResendReply from e = Some (record { to = from; bytes = e.progress.last_sent })
+reply_at Retransmit from e = Some (record { to = e.progress.last_sent_to; bytes = e.progress.last_sent })
 reply_at Wait from e = None
 reply_at (Close outcome) from e = None
 reply_at (Refuse terms reply outcome) from e = Some (record { to = from; bytes = error_bytes reply })
 reply_at (Accept terms) from e = Some (record { to = from; bytes = ack_bytes 0 })
 reply_at Complete from e = None
 
--- an end after an event, and its answer
+-- how far an end came after an event, and its answer
 pub record Turn : Type 0 where
-  pub end : EndState
+  pub progress : Progress
   pub reply : Option Reply
+
+-- the end after a turn
+abbrev pub after_turn : EndState → Turn → EndState
+after_turn e turn = with_progress turn.progress e
 
 -- the turn of what touches no file
 abbrev pub response_turn : Response → Endpoint → EndState → Turn
-response_turn response from e = record { end = after response from e; reply = reply_at response from e }
+response_turn response from e = record { progress = after response from e; reply = reply_at response from e }
 
 -- an ERROR, and closed with these terms
 abbrev pub refused_turn : Terms → ErrorReply → Outcome → Endpoint → EndState → Turn
@@ -102,7 +113,7 @@ refused_turn terms reply outcome from e = response_turn (Refuse (Some terms) rep
 abbrev pub sent_turn : Phase → Endpoint → List ℕ → EndState → Turn
 sent_turn phase from bytes e =
     let reply : Reply = record { to = from; bytes = bytes } in
-    record { end = having_sent reply (in_phase phase e); reply = Some reply }
+    record { progress = having_sent reply (in_phase phase e); reply = Some reply }
 
 -- how many bytes DATA of this number carries, of a file of that length
 abbrev pub block_length : ℕ → ℕ → ℕ → ℕ
@@ -116,7 +127,7 @@ result_count_is want (Err fault) = false
 -- what a sender does when its source has answered a fill: DATA if the block is there, and else the file has changed
 abbrev pub filled_turn : Terms → ℕ → Endpoint → List ℕ → EndState → Result ℕ FileFault → Turn
 filled_turn terms number from piece e answer =
-    if result_count_is (block_length e.length terms.size number) answer then sent_turn (Sending terms number) from (data_bytes number piece) e
+    if result_count_is (block_length e.role.length terms.size number) answer then sent_turn (Sending terms number) from (data_bytes number piece) e
     else refused_turn terms replies.FileChanged outcomes.SourceFault from e
 
 -- the fault of a commit, as it is answered
@@ -134,7 +145,7 @@ committed_turn terms number from e (Err fault) = refused_turn terms (commit_repl
 
 -- a receiver that holds back this much text
 abbrev pub holding : List ℕ → EndState → EndState
-holding held e = record e { held = held }
+holding held e = with_progress (record e.progress { held = held }) e
 
 -- a source was asked for so many bytes, and this came of it; one that may not fail to read hasn't
 pub record ReadsBlock (before after : Option (List ℕ)) (may_fail : Type 0) (want : ℕ) (piece : List ℕ) (answer : Result ℕ FileFault) : Type 0 where
@@ -151,7 +162,7 @@ module _ {S : Type 0} (sources : SourceMeaning S) where
   pub record Sends (terms : Terms) (number : ℕ) (from : Endpoint) (e : EndState) (source : S) (turn : Turn) (source' : S) : Type 0 where
     pub answer : Result ℕ FileFault
     pub piece : List ℕ
-    pub reads : AsksFor (block_length e.length terms.size number) source (sources.left source') piece answer
+    pub reads : AsksFor (block_length e.role.length terms.size number) source (sources.left source') piece answer
     pub answers : turn ≡ filled_turn terms number from piece e answer
 
 module _ {K : Type 0} (sinks : SinkMeaning K) where
@@ -184,7 +195,7 @@ module _ {K : Type 0} (sinks : SinkMeaning K) where
     pub after : List ℕ
     pub mid : K
     pub answer : Result Done StoreFault
-    pub decoded : Decoded e.mode e.held piece bytes after
+    pub decoded : Decoded e.role.mode e.progress.held piece bytes after
     pub appended : Appended bytes sink mid answer
     pub memory : answer ≢ Err store_faults.Memory
     pub rest : GoesOn terms number from e (nat_lt (length piece) terms.size) after mid answer turn sink'
@@ -214,11 +225,11 @@ module _ {S K : Type 0} (sources : SourceMeaning S) (sinks : SinkMeaning K) wher
 
 -- what an open end does at a timeout
 abbrev pub timeout_turn : EndState → Turn
-timeout_turn e = response_turn (timeout_response e.retries_left e.phase) e.last_sent_to e
+timeout_turn e = response_turn (timeout_response e.progress.retries_left e.progress.phase) e.progress.last_sent_to e
 
 -- what a call tells of a turn
 abbrev pub told : EndState → Turn → Step
-told e turn = step_of e.phase turn.end.phase (option_map (λ (r : Reply). r.to) turn.reply)
+told e turn = step_of e.progress.phase turn.progress.phase (option_map (λ (r : Reply). r.to) turn.reply)
 
 -- what a call appends
 abbrev pub reply_bytes : Option Reply → List ℕ
@@ -252,15 +263,15 @@ UsesFile (Store terms number) = Unit {0}
 -- the bytes that an end lends of what goes out
 abbrev pub lent : Outgoing → EndState → List ℕ
 lent Nothing e = []
-lent LastSent e = e.last_sent
+lent LastSent e = e.progress.last_sent
 lent (Error reply) e = error_bytes reply
 
 -- the most bytes that go out where no file is touched
 abbrev pub response_room : EndState → Response → ℕ
 response_room e Ignore = 0
 response_room e Stranger = 24
-response_room e ResendReply = length e.last_sent
-response_room e Retransmit = length e.last_sent
+response_room e ResendReply = length e.progress.last_sent
+response_room e Retransmit = length e.progress.last_sent
 response_room e Wait = 0
 response_room e (Close outcome) = 0
 response_room e (Refuse terms reply outcome) = 24
@@ -270,18 +281,18 @@ response_room e Complete = 0
 -- the most bytes that go out at an action
 abbrev pub room_of : EndState → Action → ℕ
 room_of e (Respond response) = response_room e response
-room_of e (Send terms number) = 24 + block_length e.length terms.size number
+room_of e (Send terms number) = 24 + block_length e.role.length terms.size number
 room_of e (Store terms number) = 24
 
--- a call has led to this turn: the end, where the answer goes, and what the end lends of it
-pub record Lends (turn : Turn) (e : EndState) (to : Option Endpoint) (outgoing : Outgoing) : Type 0 where
-  pub state : e ≡ turn.end
+-- a call of an end has led to this turn: what it is then, where the answer goes, and what it lends of that
+pub record Lends (before : EndState) (turn : Turn) (e : EndState) (to : Option Endpoint) (outgoing : Outgoing) : Type 0 where
+  pub state : e ≡ after_turn before turn
   pub goes : to ≡ option_map (λ (r : Reply). r.to) turn.reply
   pub bytes : lent outgoing e ≡ reply_bytes turn.reply
 
--- a call has led to this turn: the end, where the answer goes, and what was appended
-pub record Carries (turn : Turn) (e : EndState) (to : Option Endpoint) (old new : List ℕ) : Type 0 where
-  pub state : e ≡ turn.end
+-- a call of an end has led to this turn: what it is then, where the answer goes, and what was appended
+pub record Carries (before : EndState) (turn : Turn) (e : EndState) (to : Option Endpoint) (old new : List ℕ) : Type 0 where
+  pub state : e ≡ after_turn before turn
   pub goes : to ≡ option_map (λ (r : Reply). r.to) turn.reply
   pub appended : new ≡ old ++ reply_bytes turn.reply
 

@@ -20,13 +20,13 @@ use crate::outgoing::Outgoing;
 use crate::phase::{Dally, Phase, Terms};
 use crate::receiver::{dally_response, receiver_action};
 use crate::record::{Held, Record, Step};
+use crate::role::Role;
 use crate::sender::sender_action;
-use crate::side::Side;
 use crate::waiting::{reader_action, writer_action};
 use std::marker::Model;
 use tftp_file::{Files, NetDecoder, Sink, Source};
 use tftp_negotiate::DEFAULT_BLOCK;
-use tftp_wire::{Mode, PacketRef, has_error_opcode};
+use tftp_wire::{PacketRef, has_error_opcode};
 
 /// One end of a transfer.
 ///
@@ -38,10 +38,7 @@ use tftp_wire::{Mode, PacketRef, has_error_opcode};
 /// refused.
 #[derive(Debug, Drop)]
 pub struct End {
-    side: Side,
-    mode: Mode,
-    length: u64,
-    retries: u8,
+    role: Role,
     retries_left: u8,
     last_sent: Vec<u8>,
     spare: Vec<u8>,
@@ -58,27 +55,25 @@ impl Model for End {
     ghost Value = { EndState };
 
     ghost view = { λ e. record {
-      side = e.side;
-      mode = e.mode;
-      length = e.length;
-      retries = e.retries;
-      retries_left = e.retries_left;
-      last_sent = e.last_sent.items;
-      last_sent_to = e.last_sent_to;
-      held = e.decoder;
-      phase = e.phase;
+      role = e.role;
+      progress = record {
+        retries_left = e.retries_left;
+        last_sent = e.last_sent.items;
+        last_sent_to = e.last_sent_to;
+        held = e.decoder;
+        phase = e.phase;
+      };
     } };
 
     ghost invariant = { λ e. IsSound (record {
-      side = e.side;
-      mode = e.mode;
-      length = e.length;
-      retries = e.retries;
-      retries_left = e.retries_left;
-      last_sent = e.last_sent.items;
-      last_sent_to = e.last_sent_to;
-      held = e.decoder;
-      phase = e.phase;
+      role = e.role;
+      progress = record {
+        retries_left = e.retries_left;
+        last_sent = e.last_sent.items;
+        last_sent_to = e.last_sent_to;
+        held = e.decoder;
+        phase = e.phase;
+      };
     }) × (4 ≤ vec_capacity e.last_sent) };
 }
 
@@ -92,11 +87,11 @@ impl End {
     /// How far the end came. What a repeated block is answered by is the ACK of the number.
     pub fn record(&self) -> Record
         ensures record { result ≡ record_of self.now }
-        ensures resends { ResendsAck self.now self.now.phase }
+        ensures resends { ResendsAck self.now self.now.progress.phase }
     {
         let terms = self.phase.terms();
         Record {
-            side: self.side,
+            side: self.role.side,
             peer: terms.map(|terms| terms.peer),
             size: terms.map_or(DEFAULT_BLOCK, |terms| terms.size),
             timeout: terms.and_then(|terms| terms.timeout),
@@ -108,7 +103,7 @@ impl End {
 
     /// How the end closed, once it is closed.
     pub fn outcome(&self) -> Option<Outcome>
-        ensures { result ≡ outcome_of self.now.phase }
+        ensures { result ≡ outcome_of self.now.progress.phase }
     {
         self.phase.outcome()
     }
@@ -117,7 +112,7 @@ impl End {
     /// of the agreed size, or 512 for a request or an OACK, and of text one at most.
     pub fn held(&self) -> Held
         ensures held { result ≡ held_by self.now }
-        ensures datagram { result.datagram ≤ longest_sent (terms_of self.now.phase) }
+        ensures datagram { result.datagram ≤ longest_sent (terms_of self.now.progress.phase) }
         ensures text { result.text ≤ 1 }
     {
         Held {
@@ -129,7 +124,7 @@ impl End {
     /// The seconds that the caller lets pass in silence before a timeout: the agreed ones (RFC 2349,
     /// "Timeout Interval Option Specification"), or 1.
     pub fn interval(&self) -> u8
-        ensures { result ≡ interval_of (terms_of self.now.phase) }
+        ensures { result ≡ interval_of (terms_of self.now.progress.phase) }
     {
         let agreed = self.phase.terms().and_then(|terms| terms.timeout);
         agreed.unwrap_or(1)
@@ -138,7 +133,8 @@ impl End {
     /// Whether a datagram from there is not from the other end, or, before there is one, not from
     /// the server's address.
     fn is_stranger(&self, from: Endpoint) -> bool
-        ensures { result ≡ is_stranger (terms_of self.now.phase) self.now.last_sent_to from }
+        ensures { result ≡ is_stranger (terms_of self.now.progress.phase)
+            self.now.progress.last_sent_to from }
     {
         match self.phase.terms() {
             Some(terms) => terms.peer != from,
@@ -148,7 +144,7 @@ impl End {
 
     /// What begins as an ERROR and is none ends the transfer in silence, but not a dally.
     fn garbled_response(&self) -> Response
-        ensures { result ≡ garbled_response self.now.phase }
+        ensures { result ≡ garbled_response self.now.progress.phase }
     {
         match self.phase {
             Phase::Waiting { .. } | Phase::Sending { .. } | Phase::Receiving { .. } =>
@@ -162,24 +158,25 @@ impl End {
     /// How the end handles a packet from its peer, or from the server while it has none.
     fn packet_action(&self, from: Endpoint, decoded: &Option<PacketRef<'_>>) -> Action
         ensures action { result
-            ≡ packet_action self.now from (option_map owned decoded.now) self.now.phase }
+            ≡ packet_action self.now from (option_map owned decoded.now) self.now.progress.phase }
         ensures fits { ActionFits self.now result }
         ensures sound { IsSound self.now }
     {
+        let role = self.role;
         match self.phase {
             Phase::Waiting { asked, limit } => {
-                if self.side.is_sender() {
-                    writer_action(self.mode, &asked, limit, self.length, from, decoded)
+                if role.side.is_sender() {
+                    writer_action(role.mode, &asked, limit, role.length, from, decoded)
                 } else {
-                    reader_action(self.mode, &asked, limit, from, decoded)
+                    reader_action(role.mode, &asked, limit, from, decoded)
                 }
             }
             Phase::Sending { terms, number } => {
-                sender_action(self.side, self.length, terms, number, decoded)
+                sender_action(role.side, role.length, terms, number, decoded)
             }
             Phase::Receiving { terms, number } => receiver_action(
-                self.side,
-                self.mode,
+                role.side,
+                role.mode,
                 self.decoder,
                 terms,
                 number,
@@ -214,7 +211,8 @@ impl End {
 
     /// How the end handles a timeout (RFC 1350, sections 2 and 6).
     fn timeout_response(&self) -> Response
-        ensures response { result ≡ timeout_response self.now.retries_left self.now.phase }
+        ensures response { result ≡ timeout_response self.now.progress.retries_left
+            self.now.progress.phase }
         ensures fits { ResponseFits self.now result }
         ensures refusal { RefusalFits self.now result }
     {
@@ -238,14 +236,14 @@ impl End {
 
     /// Whether the end is closed.
     fn is_closed(&self) -> bool
-        ensures { result ≡ is_some (outcome_of self.now.phase) }
+        ensures { result ≡ is_some (outcome_of self.now.progress.phase) }
     {
         self.outcome().is_some()
     }
 
     /// Where the end stands.
     fn phase(&self) -> Phase
-        ensures { result ≡ self.now.phase }
+        ensures { result ≡ self.now.progress.phase }
     {
         self.phase
     }
@@ -273,18 +271,19 @@ impl End {
         from: Endpoint,
         bytes: &[u8],
     ) -> Result<(Step, Outgoing), EndFault>
-        requires { AreFilesOf self.old.side files.old }
+        requires { AreFilesOf self.old.role.side files.old }
         ensures steps { IfOk result (λ answer. (turn : Turn)
             × DatagramStep S.meaning K.meaning from bytes.now self.old files.old turn files.new
-            × Lends turn self.new answer.0.to answer.1 × (answer.0 ≡ told self.old turn)) }
-        ensures closed { IsErrOf result EndFault.Closed ↔ IsSome (outcome_of self.old.phase) }
+            × Lends self.old turn self.new answer.0.to answer.1 × (answer.0 ≡ told self.old turn)) }
+        ensures closed { IsErrOf result EndFault.Closed
+            ↔ IsSome (outcome_of self.old.progress.phase) }
         ensures memory { IsErrOf result EndFault.Memory → (decoded : Option Packet)
             × Decodes bytes.now decoded
             × UsesFile (datagram_action self.old from bytes.now decoded) }
         ensures err { OnErr result ((self.new ≡ self.old)
             × KeepsFiles S.meaning K.meaning files.old files.new) }
         ensures same { AreSame S.is_same K.is_same files.old files.new }
-        ensures files { AreFilesOf self.new.side files.new }
+        ensures files { AreFilesOf self.new.role.side files.new }
     {
         if self.is_closed() {
             return Err(EndFault::Closed);
@@ -299,12 +298,12 @@ impl End {
     /// which nothing has changed.
     pub fn handle_timeout(&mut self) -> Result<(Step, Outgoing), EndFault>
         ensures steps { IfOk result (λ answer.
-            Lends (timeout_turn self.old) self.new answer.0.to answer.1
+            Lends self.old (timeout_turn self.old) self.new answer.0.to answer.1
             × (answer.0 ≡ told self.old (timeout_turn self.old))) }
-        ensures closed { IsErrOf result EndFault.Closed ↔ IsSome (outcome_of self.old.phase) }
+        ensures closed { IsErrOf result EndFault.Closed
+            ↔ IsSome (outcome_of self.old.progress.phase) }
         ensures memory { IsErrOf result EndFault.Memory → ⊥ }
         ensures err { OnErr result (self.new ≡ self.old) }
-        ensures side { self.new.side ≡ self.old.side }
     {
         if self.is_closed() {
             return Err(EndFault::Closed);
@@ -337,19 +336,20 @@ impl End {
         bytes: &[u8],
         out: &mut Vec<u8>,
     ) -> Result<Step, EndFault>
-        requires { AreFilesOf self.old.side files.old }
+        requires { AreFilesOf self.old.role.side files.old }
         ensures steps { IfOk result (λ step. (turn : Turn)
             × DatagramStep S.meaning K.meaning from bytes.now self.old files.old turn files.new
-            × Carries turn self.new step.to out.old.items out.new.items
+            × Carries self.old turn self.new step.to out.old.items out.new.items
             × (step ≡ told self.old turn)) }
-        ensures closed { IsErrOf result EndFault.Closed ↔ IsSome (outcome_of self.old.phase) }
+        ensures closed { IsErrOf result EndFault.Closed
+            ↔ IsSome (outcome_of self.old.progress.phase) }
         ensures memory { IsErrOf result EndFault.Memory → (decoded : Option Packet)
             × Decodes bytes.now decoded
             × IsAnswered (datagram_action self.old from bytes.now decoded) }
         ensures err { OnErr result ((self.new ≡ self.old) × (out.new.items ≡ out.old.items)
             × KeepsFiles S.meaning K.meaning files.old files.new) }
         ensures same { AreSame S.is_same K.is_same files.old files.new }
-        ensures files { AreFilesOf self.new.side files.new }
+        ensures files { AreFilesOf self.new.role.side files.new }
     {
         if self.is_closed() {
             return Err(EndFault::Closed);
@@ -369,13 +369,13 @@ impl End {
     /// after `Memory` nothing has changed.
     pub fn on_timeout(&mut self, out: &mut Vec<u8>) -> Result<Step, EndFault>
         ensures steps { IfOk result (λ step.
-            Carries (timeout_turn self.old) self.new step.to out.old.items out.new.items
+            Carries self.old (timeout_turn self.old) self.new step.to out.old.items out.new.items
             × (step ≡ told self.old (timeout_turn self.old))) }
-        ensures closed { IsErrOf result EndFault.Closed ↔ IsSome (outcome_of self.old.phase) }
+        ensures closed { IsErrOf result EndFault.Closed
+            ↔ IsSome (outcome_of self.old.progress.phase) }
         ensures memory { IsErrOf result EndFault.Memory
-            → IsAnswered (timeout_action self.old.retries_left self.old.phase) }
+            → IsAnswered (timeout_action self.old.progress.retries_left self.old.progress.phase) }
         ensures err { OnErr result ((self.new ≡ self.old) × (out.new.items ≡ out.old.items)) }
-        ensures side { self.new.side ≡ self.old.side }
     {
         if self.is_closed() {
             return Err(EndFault::Closed);

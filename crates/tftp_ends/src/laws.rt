@@ -23,15 +23,15 @@ pub fn run_bounds<S: Source, K: Sink>()
     ensures timeouts { (e : EndState) (run : List Taken) → IsOpening e
         → IsRun S.meaning K.meaning e run
         → IsOpen (end_behind e run)
-        → timeout_count run ≤ e.retries * (progress_count e run + 1) + 1 }
+        → timeout_count run ≤ e.role.retries * (progress_count e run + 1) + 1 }
     ensures sent { (e : EndState) (run : List Taken) → IsOpening e
         → IsRun S.meaning K.meaning e run
-        → is_sender e.side ≡ true
+        → is_sender e.role.side ≡ true
         → count_if (opened_by_data e) + data_count run
         ≤ 1 + progress_count e run + timeout_count run }
     ensures answers { (e : EndState) (run : List Taken) → IsOpening e
         → IsRun S.meaning K.meaning e run
-        → IsOpen (end_behind e run) → is_sender e.side ≡ true
+        → IsOpen (end_behind e run) → is_sender e.role.side ≡ true
         → AnswersByProgress S.meaning K.meaning (end_behind e run) }
     ensures datagrams { (run : List Taken) → datagram_count run ≤ length run }
 {}

@@ -23,6 +23,7 @@ mod receiver;
 mod record;
 mod reply;
 mod request;
+mod role;
 mod sender;
 mod side;
 mod waiting;

@@ -227,8 +227,8 @@ module _ (from : Endpoint) (bytes : List ℕ) (before : PlayedServer) (ps : List
         record {
           transfer = transfer [];
           found = found [];
-          is_open = ap (λ (e : EndState). is_some (outcome_of e.phase)) new.state ∙ new.still;
-          side = ap (λ (e : EndState). is_client e.side) new.state ∙ new.side;
+          is_open = ap (λ (e : EndState). is_some (outcome_of e.progress.phase)) new.state ∙ new.still;
+          side = ap (λ (e : EndState). is_client e.role.side) new.state ∙ new.side;
           files = new.files;
           commits = new.commits;
           mode = new.mode;
@@ -293,17 +293,17 @@ module _ (from : Endpoint) (bytes : List ℕ) (before : PlayedServer) (ps : List
         StageAsks from bytes before after ps ps1 (record { from = here; to = opened.to; bytes = given; closed = None })
     opened_asks kept here ps0 ps1 start given e at_here a b empty is_out sent =
         let new_end = (q sent).is_new in
-        let d = datagram (x sent).address (x sent).state.last_sent_to (x sent).state.last_sent in
-        let bytes_are : given ≡ (x sent).state.last_sent = is_out ∙ (ap (λ (s : List ℕ). s ++ out) empty ∙ (q sent).sent) in
+        let d = datagram (x sent).address (x sent).state.progress.last_sent_to (x sent).state.progress.last_sent in
+        let bytes_are : given ≡ (x sent).state.progress.last_sent = is_out ∙ (ap (λ (s : List ℕ). s ++ out) empty ∙ (q sent).sent) in
         let place : here ≡ (x sent).address = at_here ∙ (ap server_at (port_world sent) ∙ sym new_end.address) in
-        let goes : opened.to ≡ Some (x sent).state.last_sent_to = (q sent).to ∙ ap (λ (p : Endpoint). Some p) (sym new_end.to) in
+        let goes : opened.to ≡ Some (x sent).state.progress.last_sent_to = (q sent).to ∙ ap (λ (p : Endpoint). Some p) (sym new_end.to) in
         let players : ps1 ≡ ps ++ Server (own sent) ∷ [] = b ∙ (ap (λ (qs : List Player). qs ++ Server kept ∷ []) a ∙ ap (λ (s : Served). ps ++ Server s ∷ []) (same_served kept sent e)) in
         let report : report_by sent (record { from = here; to = opened.to; bytes = given; closed = None }) ≡ sent_report (w sent) =
         ap (λ (p : Option Endpoint). report_by sent (record { from = here; to = p; bytes = given; closed = None })) goes in
         let new : world_of before.config (sent ++ said_by here opened.to given) after ps1 ≡ opened_in (w sent) (x sent) =
         ap (λ (p : Endpoint). world_of before.config (sent ++ said_by p opened.to given) after ps1) place
         ∙ (ap (λ (p : Option Endpoint). world_of before.config (sent ++ said_by (x sent).address p given) after ps1) goes
-        ∙ (ap (λ (bs : List ℕ). world_of before.config (sent ++ datagram (x sent).address (x sent).state.last_sent_to bs ∷ []) after ps1) bytes_are
+        ∙ (ap (λ (bs : List ℕ). world_of before.config (sent ++ datagram (x sent).address (x sent).state.progress.last_sent_to bs ∷ []) after ps1) bytes_are
         ∙ (ap (λ (s : Stored). record (world_of before.config (sent ++ d ∷ []) after ps1) { files = s.files }) (ap (λ (s : PlayedServer). s.store) (q sent).new)
         ∙ (ap (λ (qs : List Player). record (w sent) { sent = sent ++ d ∷ []; ends = ends_of after qs }) players
         ∙ ap (λ (xs : List OpenedEnd). record (w sent) { sent = sent ++ d ∷ []; ends = xs }) (ends_now sent))))) in

@@ -20,7 +20,7 @@ use Rattle.tftp_player.specs.Played.{client_end, end_at, PlayerKept, PlayerDatag
 use Rattle.tftp_player.specs.Serving.{PlayedServer, Transfer, CommitsLast, ServedKept, ServedDatagramStep}
 use Rattle.tftp_player.specs.Stage.{ends_of, IsStaged, LostAt, StageDatagramStep, record_closed}
 use Rattle.tftp_player.specs.World.{OpenedEnd, file_at, in_the_way, is_closed, files_of, end_after, has_committed}
-use Rattle.tftp_player.specs.WorldSteps.{EndStep, may_refuse_commit, FilesAfter}
+use Rattle.tftp_player.specs.WorldSteps.{EndStep, FilesAfter}
 use Rattle.tftp_player.specs.declared.effect.Effect.{Effect}
 use Rattle.tftp_player.specs.declared.player.Player.{Player}
 use Rattle.tftp_player.specs.declared.player.Player.TheVariants.{Client, Server}
@@ -31,14 +31,13 @@ use Rattle.tftp_player.proofs.ServerTurns.{end_step}
 use Rattle.tftp_player.proofs.StageLemmas.{Stepped, client_files, client_open, held_end, held_files, served_files, served_is, served_kept, served_steps, same_transfer, keeps_told}
 use Rattle.tftp_player.proofs.StepLemmas.{client_files as client_commits}
 use Rattle.tftp_player.proofs.PlayLemmas.{ends_get, kept_at, list_get, turn_ends, turn_staged, closed_is, has_not_ended, address_is}
-use Rattle.tftp_player.proofs.TurnKeeps.{step_keeps}
 
 -- the player at this port, whose end is x, took a datagram
 pub record PlayerStepped (port : ℕ) (p : Player) (x : OpenedEnd) (p' : Player) (before after : PlayedServer) (from : Endpoint) (bytes : List ℕ) (effect : Effect) (r : Record) : Type 0 where
   pub turn : Turn
   pub held : Files (List ℕ) Holding
-  pub steps : EndStep (is_client x.state.side) (in_the_way before.config.overwrite (file_at before.store.files x.path)) from bytes x.state (files_of x) turn held
-  pub commits : FilesAfter before.config.overwrite (not (is_client x.state.side) && has_committed x (end_after x turn held)) x.path (end_after x turn held).stored before.store.files after.store.files
+  pub steps : EndStep (is_client x.state.role.side) (in_the_way before.config.overwrite (file_at before.store.files x.path)) from bytes x.state (files_of x) turn held
+  pub commits : FilesAfter before.config.overwrite (not (is_client x.state.role.side) && has_committed x (end_after x turn held)) x.path (end_after x turn held).stored before.store.files after.store.files
   pub stepped : Stepped port p x p' before after turn held effect r
 
 -- the step of a client does not ask what stands in its way
@@ -47,17 +46,17 @@ client_step : (there : Option (List ℕ)) (client : Bool) (from : Endpoint) (byt
 client_step there client from bytes e files files' turn is h = subst (λ (b : Bool). EndStep b there from bytes e files turn files') (sym is) h
 
 client_stepped : (port : ℕ) (c c' : PlayedClient) (server : PlayedServer) (from : Endpoint) (bytes : List ℕ) (effect : Effect) (r : Record) →
-    PlayerKept port server.held (Client c) → is_some (outcome_of c.end.phase) ≡ false → ClientDatagramStep port from bytes c c' effect r →
+    PlayerKept port server.held (Client c) → is_some (outcome_of c.end.progress.phase) ≡ false → ClientDatagramStep port from bytes c c' effect r →
     PlayerStepped port (Client c) (client_end port c) (Client c') server server from bytes effect r
 client_stepped port c c' server from bytes effect r kept open_now t =
     let there = in_the_way server.config.overwrite (file_at server.store.files []) in
     record {
       turn = t.turn;
       held = c'.files;
-      steps = subst (λ (f : Files (List ℕ) Holding). EndStep (is_client c.end.side) there from bytes c.end f t.turn c'.files) (sym (client_files port c kept.1))
-          (client_step there (is_client c.end.side) from bytes c.end c.files c'.files t.turn kept.0 t.steps);
-      commits = client_commits server.config.overwrite (is_client c.end.side) _ [] _ server.store.files kept.0;
-      stepped = client_open port c c' server t.turn c'.files effect r kept open_now t.turns t.kind (step_keeps (may_refuse_commit true None) from bytes c.end c.files c'.files t.turn t.steps);
+      steps = subst (λ (f : Files (List ℕ) Holding). EndStep (is_client c.end.role.side) there from bytes c.end f t.turn c'.files) (sym (client_files port c kept.1))
+          (client_step there (is_client c.end.role.side) from bytes c.end c.files c'.files t.turn kept.0 t.steps);
+      commits = client_commits server.config.overwrite (is_client c.end.role.side) _ [] _ server.store.files kept.0;
+      stepped = client_open port c c' server t.turn c'.files effect r kept open_now t.turns t.kind;
     }
 
 module _ (port : ℕ) (s s' : Served) (before after : PlayedServer) (from : Endpoint) (bytes : List ℕ) (effect : Effect) (r : Record)
@@ -80,17 +79,17 @@ module _ (port : ℕ) (s s' : Served) (before after : PlayedServer) (from : Endp
   is_kept : h ≡ kept_here.transfer
   is_kept = same_transfer h kept_here.transfer (sym t.found ∙ kept_here.found)
 
-  server_side : is_client h.end.side ≡ false
-  server_side = ap (λ (k : Transfer). is_client k.end.side) is_kept ∙ kept_here.side
+  server_side : is_client h.end.role.side ≡ false
+  server_side = ap (λ (k : Transfer). is_client k.end.role.side) is_kept ∙ kept_here.side
 
   path_is : h.path ≡ s.path
   path_is = ap (λ (k : Transfer). k.path) is_kept ∙ kept_here.path
 
-  files_fit : AreFilesOf h.end.side h.files
-  files_fit = subst (λ (k : Transfer). AreFilesOf k.end.side k.files) (sym is_kept) kept_here.files
+  files_fit : AreFilesOf h.end.role.side h.files
+  files_fit = subst (λ (k : Transfer). AreFilesOf k.end.role.side k.files) (sym is_kept) kept_here.files
 
-  commits_last : CommitsLast h.files h.end.phase
-  commits_last = subst (λ (k : Transfer). CommitsLast k.files k.end.phase) (sym is_kept) kept_here.commits
+  commits_last : CommitsLast h.files h.end.progress.phase
+  commits_last = subst (λ (k : Transfer). CommitsLast k.files k.end.progress.phase) (sym is_kept) kept_here.commits
 
   steps_so : StepIn memory_meaning memory_source from bytes h.end (files_in (with_told before.store s.refuses) s.path before.config.overwrite h.files) t.turn (files_in t.store t.next.path before.config.overwrite t.next.files)
   steps_so = subst (λ (p : List ℕ). StepIn memory_meaning memory_source from bytes h.end (files_in (with_told before.store s.refuses) p before.config.overwrite h.files) t.turn (files_in t.store t.next.path before.config.overwrite t.next.files)) path_is t.steps
@@ -98,23 +97,22 @@ module _ (port : ℕ) (s s' : Served) (before after : PlayedServer) (from : Endp
   steps_end : EndStep false in_way from bytes h.end (held_files s.refuses h.files) t.turn held_now
   steps_end = end_step from bytes h.end (with_told before.store s.refuses) t.store s.path t.next.path before.config.overwrite t.turn h.files t.next.files steps_so
 
-  steps_here : EndStep (is_client h.end.side) in_way from bytes h.end (files_of x0) t.turn held_now
+  steps_here : EndStep (is_client h.end.role.side) in_way from bytes h.end (files_of x0) t.turn held_now
   steps_here =
-      subst (λ (f : Files (List ℕ) Holding). EndStep (is_client h.end.side) in_way from bytes h.end f t.turn held_now) (sym (served_files port s h.end h.files h.request files_fit))
+      subst (λ (f : Files (List ℕ) Holding). EndStep (is_client h.end.role.side) in_way from bytes h.end f t.turn held_now) (sym (served_files port s h.end h.files h.request files_fit))
       (subst (λ (b : Bool). EndStep b in_way from bytes h.end (held_files s.refuses h.files) t.turn held_now) (sym server_side) steps_end)
 
   leaves : ServedLeaves x0 t.turn held_now t.next.files before.config.overwrite before.store.files t.store.files
   leaves = served_leaves port s from bytes h.end h.request (with_told before.store s.refuses) t.store t.next.path before.config.overwrite t.turn h.files t.next.files steps_so t.stays t.kind commits_last
 
-  commits_here : FilesAfter before.config.overwrite (not (is_client h.end.side) && has_committed x0 (end_after x0 t.turn held_now)) s.path (end_after x0 t.turn held_now).stored before.store.files after.store.files
+  commits_here : FilesAfter before.config.overwrite (not (is_client h.end.role.side) && has_committed x0 (end_after x0 t.turn held_now)) s.path (end_after x0 t.turn held_now).stored before.store.files after.store.files
   commits_here =
-      subst (λ (v : PlayedServer). FilesAfter before.config.overwrite (not (is_client h.end.side) && has_committed x0 (end_after x0 t.turn held_now)) s.path (end_after x0 t.turn held_now).stored before.store.files v.store.files) (sym t.turns.server)
+      subst (λ (v : PlayedServer). FilesAfter before.config.overwrite (not (is_client h.end.role.side) && has_committed x0 (end_after x0 t.turn held_now)) s.path (end_after x0 t.turn held_now).stored before.store.files v.store.files) (sym t.turns.server)
       (subst (λ (b : Bool). FilesAfter before.config.overwrite (not b && has_committed x0 (end_after x0 t.turn held_now)) s.path (end_after x0 t.turn held_now).stored before.store.files t.store.files) (sym server_side) leaves.files_after)
 
   stepped_here : Stepped port (Server s) (end_at port before.held (Server s)) (Server s') before after t.turn held_now effect r
   stepped_here =
       served_steps port s s' before after h t.next t.turn t.store.refuses (with_told t.store false) effect r t.found open_now kept
-      (step_keeps (may_refuse_commit false in_way) from bytes h.end (held_files s.refuses h.files) held_now t.turn steps_end)
       t.kind t.path t.request (keeps_told h.files before.store t.store s.refuses t.stays) leaves.commits (λ quiet. refl) t.turns
 
   served_stepped : PlayerStepped port (Server s) (end_at port before.held (Server s)) (Server s') before after from bytes effect r

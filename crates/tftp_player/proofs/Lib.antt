@@ -48,7 +48,6 @@ pub mod OackLemmas
 pub mod WorldRuns
 pub mod WorldSafe
 pub mod ServingLemmas
-pub mod TurnKeeps
 pub mod StageLemmas
 pub mod PlayLemmas
 pub mod DatagramLemmas

@@ -54,7 +54,7 @@ length_push ps p = omega (arith, length-append ps (p ∷ []))
 
 -- a client more
 pub client_staged : (server : PlayedServer) (ps : List Player) (records : List (ℕ × Record)) (c : PlayedClient) (port : ℕ) (r : Record) →
-    IsStaged server ps records → port ≡ 1024 + length ps → r ≡ record_of c.end → is_client c.end.side ≡ true → AreFilesOf c.end.side c.files →
+    IsStaged server ps records → port ≡ 1024 + length ps → r ≡ record_of c.end → is_client c.end.role.side ≡ true → AreFilesOf c.end.role.side c.files →
     IsStaged server (ps ++ Client c ∷ []) (records ++ (port, r) ∷ [])
 client_staged server ps records c port r staged is told client fits =
     let x = end_at (1024 + length ps) server.held (Client c) in
@@ -79,7 +79,7 @@ client_staged server ps records c port r staged is told client fits =
 
 -- and as it is told
 pub client_entered : (server : PlayedServer) (ps ps0 ps1 : List Player) (records records0 records1 : List (ℕ × Record)) (c : PlayedClient) (port : ℕ) (r : Record) →
-    IsStaged server ps records → port ≡ 1024 + length (ends_of server ps) → is_client c.end.side ≡ true → AreFilesOf c.end.side c.files → r ≡ record_of c.end →
+    IsStaged server ps records → port ≡ 1024 + length (ends_of server ps) → is_client c.end.role.side ≡ true → AreFilesOf c.end.role.side c.files → r ≡ record_of c.end →
     ps0 ≡ ps → ps1 ≡ ps0 ++ Client c ∷ [] → records0 ≡ records → records1 ≡ records0 ++ (port, r) ∷ [] → IsStaged server ps1 records1
 client_entered server ps ps0 ps1 records records0 records1 c port r staged is client fits told a b d e =
     subst (λ (qs : List Player). IsStaged server qs records1) (sym (b ∙ ap (λ (qs : List Player). qs ++ Client c ∷ []) a))
@@ -108,7 +108,7 @@ entered config sent sent0 sent1 server server1 ps ps1 old c effect port report v
 
 -- what a new end sends
 abbrev first_effect : OpenedEnd → Effect
-first_effect x = record { from = x.address; to = Some x.state.last_sent_to; bytes = x.state.last_sent; closed = None }
+first_effect x = record { from = x.address; to = Some x.state.progress.last_sent_to; bytes = x.state.progress.last_sent; closed = None }
 
 -- a client that entered is the end that its event opens
 opens_so : (w : WorldState) (event : Event) (c : PlayedClient) (effect : Effect) (port : ℕ) (report : Report) (new : WorldState) (x : OpenedEnd) →
@@ -119,7 +119,7 @@ opens_so w event c effect port report new x is effects e step =
     (subst (λ (v : WorldState). WorldStep w event (sent_report w) v)
     (sym (e.is
     ∙ (ap (λ (f : Effect). record w { sent = w.sent ++ said_by f.from f.to f.bytes; ends = w.ends ++ at_rest (client_end port c) ∷ [] }) effects
-    ∙ ap (λ (y : OpenedEnd). record w { sent = w.sent ++ said_by x.address (Some x.state.last_sent_to) x.state.last_sent; ends = w.ends ++ y ∷ [] }) is)))
+    ∙ ap (λ (y : OpenedEnd). record w { sent = w.sent ++ said_by x.address (Some x.state.progress.last_sent_to) x.state.progress.last_sent; ends = w.ends ++ y ∷ [] }) is)))
     step)
 
 module _ (config : Config) (sent : List Datagram) (server : PlayedServer) (ps : List Player) (records : List (ℕ × Record)) (old : WorldState)

@@ -76,14 +76,14 @@ abbrev pub OfDecoded : List Message → Endpoint → OpenedEnd → Option WirePa
 OfDecoded messages from x decoded = (p : WirePacket) → decoded ≡ Some p → Contains messages (message from x.address (said p))
 
 module _ (views : List EndView) (messages : List Message) (k : ℕ) (x : OpenedEnd) (s : Stands views messages k (view_of_end x)) (kept : EndKept x)
-    (refuses_commit : Holding → StoreFault → Type 0) (from : Endpoint) (bytes : List ℕ) (open_now : is_some (outcome_of x.state.phase) ≡ false) where
+    (refuses_commit : Holding → StoreFault → Type 0) (from : Endpoint) (bytes : List ℕ) (open_now : is_some (outcome_of x.state.progress.phase) ≡ false) where
   pub ignore_acts : Acting views messages k x refuses_commit from bytes (Respond Ignore)
   ignore_acts turn held h = from_response views messages k x Ignore from turn held (ignores views messages k x s kept from open_now) h
 
   pub stranger_acts : Acting views messages k x refuses_commit from bytes (Respond Stranger)
   stranger_acts turn held h = from_response views messages k x Stranger from turn held (tells_stranger views messages k x s kept from open_now) h
 
-  pub again_acts : from ≡ x.state.last_sent_to → IsThere messages x.address x.state.last_sent_to x.state.last_sent → Acting views messages k x refuses_commit from bytes (Respond ResendReply)
+  pub again_acts : from ≡ x.state.progress.last_sent_to → IsThere messages x.address x.state.progress.last_sent_to x.state.progress.last_sent → Acting views messages k x refuses_commit from bytes (Respond ResendReply)
   again_acts same old turn held h = from_response views messages k x ResendReply from turn held (answers_again views messages k x s kept from open_now same old) h
 
 module _ (views : List EndView) (messages : List Message) (k : ℕ) (x0 : OpenedEnd) (terms : Terms) (n : ℕ)
@@ -98,20 +98,20 @@ module _ (views : List EndView) (messages : List Message) (k : ℕ) (x0 : Opened
 
   -- a sender with an ACK
   acked_acts : (acked : ℕ) → terms.peer ≡ from → Contains messages (message from x0.address (Says_ack acked)) →
-      Acting views messages k sender refuses_commit from bytes (acked_action x0.state.length terms n acked)
+      Acting views messages k sender refuses_commit from bytes (acked_action x0.state.role.length terms n acked)
   acked_acts acked peer come =
       let P = Acting views messages k sender refuses_commit from bytes in
       let u = kept.phase in
       let text = sent_text x0 in
-      let measured : x0.state.length ≡ length text = u.measured in
-      if_acts P (acked == n) (if nat_lt n (x0.state.length / terms.size + 1) then Send terms (n + 1) else Respond Complete) (if nat_lt acked n then Respond Ignore else illegal_action terms)
+      let measured : x0.state.role.length ≡ length text = u.measured in
+      if_acts P (acked == n) (if nat_lt n (x0.state.role.length / terms.size + 1) then Send terms (n + 1) else Respond Complete) (if nat_lt acked n then Respond Ignore else illegal_action terms)
       (λ e.
       let here : Contains messages (message from x0.address (Says_ack n)) = subst (λ (m : ℕ). Contains messages (message from x0.address (Says_ack m))) (eqb-true acked n e) come in
-      if_acts P (nat_lt n (x0.state.length / terms.size + 1)) (Send terms (n + 1)) (Respond Complete)
-      (λ l. let more : n < block_count text terms.size = subst (λ (m : ℕ). n < m / terms.size + 1) measured (ltb-true n (x0.state.length / terms.size + 1) l) in
+      if_acts P (nat_lt n (x0.state.role.length / terms.size + 1)) (Send terms (n + 1)) (Respond Complete)
+      (λ l. let more : n < block_count text terms.size = subst (λ (m : ℕ). n < m / terms.size + 1) measured (ltb-true n (x0.state.role.length / terms.size + 1) l) in
       λ turn held h. data_goes views messages k sender terms n from turn held refuses_commit u.sender measured u.left
       (sends_next views messages k x0 terms n s kept from peer here more) h)
-      (λ l. let least : block_count text terms.size ≤ n = subst (λ (m : ℕ). m / terms.size + 1 ≤ n) measured (ltb-false n (x0.state.length / terms.size + 1) l) in
+      (λ l. let least : block_count text terms.size ≤ n = subst (λ (m : ℕ). m / terms.size + 1 ≤ n) measured (ltb-false n (x0.state.role.length / terms.size + 1) l) in
       let most = u.so_far in
       let last : n ≡ block_count text terms.size = omega arith in
       λ turn held h. from_response views messages k sender Complete from turn held (ends_whole views messages k x0 terms n s kept from peer here last) h))
@@ -121,7 +121,7 @@ module _ (views : List EndView) (messages : List Message) (k : ℕ) (x0 : Opened
 
   -- a sender with any packet
   pub sender_acts : (client : Bool) (decoded : Option WirePacket) → terms.peer ≡ from → OfDecoded messages from x0 decoded →
-      Acting views messages k sender refuses_commit from bytes (sender_action client x0.state.length terms n decoded)
+      Acting views messages k sender refuses_commit from bytes (sender_action client x0.state.role.length terms n decoded)
   sender_acts client None peer come = illegal_sender
   sender_acts client (Some (Read r)) peer come = illegal_sender
   sender_acts client (Some (Write r)) peer come = illegal_sender
@@ -136,7 +136,7 @@ module _ (views : List EndView) (messages : List Message) (k : ℕ) (x0 : Opened
 module _ (views : List EndView) (messages : List Message) (k : ℕ) (x0 : OpenedEnd) (terms : Terms) (n : ℕ)
     (s : Stands views messages k (view_of_end (placed (Receiving terms n) x0))) (kept : EndKept (placed (Receiving terms n) x0))
     (refuses_commit : Holding → StoreFault → Type 0) (from : Endpoint) (bytes : List ℕ)
-    (peer : terms.peer ≡ from) (old : IsThere messages x0.address x0.state.last_sent_to x0.state.last_sent) where
+    (peer : terms.peer ≡ from) (old : IsThere messages x0.address x0.state.progress.last_sent_to x0.state.progress.last_sent) where
   abbrev receiver : OpenedEnd
   receiver = placed (Receiving terms n) x0
 
@@ -152,11 +152,11 @@ module _ (views : List EndView) (messages : List Message) (k : ℕ) (x0 : Opened
 
   -- a receiver with its next block
   next_acts : (number : ℕ) (piece : List ℕ) → number ≡ n + 1 → Spells (Data number piece) bytes → Contains messages (message from x0.address (Says_data number piece)) →
-      Acting views messages k receiver refuses_commit from bytes (next_action x0.state.mode x0.state.held terms number piece)
+      Acting views messages k receiver refuses_commit from bytes (next_action x0.state.role.mode x0.state.progress.held terms number piece)
   next_acts number piece is spelled come =
       let P = Acting views messages k receiver refuses_commit from bytes in
       let last = nat_lt (length piece) terms.size in
-      let store = if is_readable x0.state.mode x0.state.held piece last then Store terms number else Respond (Refuse (Some terms) replies.NotNetascii outcomes.NotNetascii) in
+      let store = if is_readable x0.state.role.mode x0.state.progress.held piece last then Store terms number else Respond (Refuse (Some terms) replies.NotNetascii outcomes.NotNetascii) in
       if_acts P (nat_lt terms.size (length piece)) (illegal_action terms)
       (if number == 65535 && (length piece == terms.size) then Respond (Refuse (Some terms) replies.FileTooLarge outcomes.TooLarge) else store)
       (λ e. refuse_receiver replies.IllegalOperation outcomes.Illegal)
@@ -175,27 +175,27 @@ module _ (views : List EndView) (messages : List Message) (k : ℕ) (x0 : Opened
       } in
       if_acts P (number == 65535 && (length piece == terms.size)) (Respond (Refuse (Some terms) replies.FileTooLarge outcomes.TooLarge)) store
       (λ f. refuse_receiver replies.FileTooLarge outcomes.TooLarge)
-      (λ f. if_acts P (is_readable x0.state.mode x0.state.held piece last) (Store terms number) (Respond (Refuse (Some terms) replies.NotNetascii outcomes.NotNetascii))
+      (λ f. if_acts P (is_readable x0.state.role.mode x0.state.progress.held piece last) (Store terms number) (Respond (Refuse (Some terms) replies.NotNetascii outcomes.NotNetascii))
       (λ readable turn held h. block_goes views messages k receiver terms number from piece kept got readable refuses_commit turn held
       (subst (λ (bs : List ℕ). StoresIn memory_source (world_sink refuses_commit) terms number from bs receiver.state (files_of receiver) turn held) (data_of number piece bytes spelled) h))
       (λ g. refuse_receiver replies.NotNetascii outcomes.NotNetascii)))
 
   data_acts : (number : ℕ) (piece : List ℕ) → Spells (Data number piece) bytes → Contains messages (message from x0.address (Says_data number piece)) →
-      Acting views messages k receiver refuses_commit from bytes (data_action x0.state.mode x0.state.held terms n number piece)
+      Acting views messages k receiver refuses_commit from bytes (data_action x0.state.role.mode x0.state.progress.held terms n number piece)
   data_acts number piece spelled come =
       let P = Acting views messages k receiver refuses_commit from bytes in
-      let later = if number == n + 1 then next_action x0.state.mode x0.state.held terms number piece else illegal_action terms in
+      let later = if number == n + 1 then next_action x0.state.role.mode x0.state.progress.held terms number piece else illegal_action terms in
       if_acts P (number == n) (Respond ResendReply) (if nat_lt number n then Respond Ignore else later)
       (λ e. again_receiver)
       (λ e. if_acts P (nat_lt number n) (Respond Ignore) later
       (λ f. ignore_receiver)
-      (λ f. if_acts P (number == n + 1) (next_action x0.state.mode x0.state.held terms number piece) (illegal_action terms)
+      (λ f. if_acts P (number == n + 1) (next_action x0.state.role.mode x0.state.progress.held terms number piece) (illegal_action terms)
       (λ g. next_acts number piece (eqb-true number (n + 1) g) spelled come)
       (λ g. refuse_receiver replies.IllegalOperation outcomes.Illegal)))
 
   -- a receiver with any packet
   pub receiver_acts : (client : Bool) (decoded : Option WirePacket) → ((p : WirePacket) → decoded ≡ Some p → Spells p bytes) → OfDecoded messages from x0 decoded →
-      Acting views messages k receiver refuses_commit from bytes (receiver_action client x0.state.mode x0.state.held terms n decoded)
+      Acting views messages k receiver refuses_commit from bytes (receiver_action client x0.state.role.mode x0.state.progress.held terms n decoded)
   receiver_acts client None spelled come = refuse_receiver replies.IllegalOperation outcomes.Illegal
   receiver_acts client (Some (Read r)) spelled come = refuse_receiver replies.IllegalOperation outcomes.Illegal
   receiver_acts client (Some (Write r)) spelled come = refuse_receiver replies.IllegalOperation outcomes.Illegal
@@ -212,7 +212,7 @@ module _ (views : List EndView) (messages : List Message) (k : ℕ) (x0 : Opened
 module _ (views : List EndView) (messages : List Message) (k : ℕ) (x0 : OpenedEnd) (terms : Terms) (n : ℕ) (dally : Dally)
     (s : Stands views messages k (view_of_end (placed (Dallying terms n dally) x0))) (kept : EndKept (placed (Dallying terms n dally) x0))
     (refuses_commit : Holding → StoreFault → Type 0) (from : Endpoint) (bytes : List ℕ)
-    (peer : terms.peer ≡ from) (old : IsThere messages x0.address x0.state.last_sent_to x0.state.last_sent) where
+    (peer : terms.peer ≡ from) (old : IsThere messages x0.address x0.state.progress.last_sent_to x0.state.progress.last_sent) where
   abbrev dallier : OpenedEnd
   dallier = placed (Dallying terms n dally) x0
 

@@ -121,7 +121,7 @@ module _ {P T : Type 0} (Kept_at : ℕ → List (ℕ × T) → P → Type 0) whe
 -- ---- how many ends of the server are open
 -- it is the server's and not closed
 abbrev pub is_transfer : OpenedEnd → Bool
-is_transfer x = not (is_client x.state.side) && not (is_closed x)
+is_transfer x = not (is_client x.state.role.side) && not (is_closed x)
 
 abbrev one_if : Bool → ℕ
 one_if true = 1
@@ -173,4 +173,4 @@ rest_side (Dallying terms number dally) x = refl
 rest_side (Closed terms number complete outcome) x = refl
 
 pub is_transfer-rest : (x : OpenedEnd) → is_transfer (at_rest x) ≡ is_transfer x
-is_transfer-rest x = rest_side x.state.phase x
+is_transfer-rest x = rest_side x.state.progress.phase x

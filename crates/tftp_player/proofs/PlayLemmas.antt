@@ -17,7 +17,7 @@ use Rattle.tftp_ends.specs.declared.phase.Phase.TheVariants.{Waiting, Sending, R
 use Rattle.tftp_ends.specs.declared.phase.Dally.TheVariants.{Fresh, Waited}
 use Rattle.tftp_ends.specs.Files.{AreFilesOf}
 use Rattle.tftp_ends.specs.End.{EndState, is_complete, outcome_of, record_of}
-use Rattle.tftp_ends.specs.Step.{Turn, Reply, reply_bytes, timeout_turn}
+use Rattle.tftp_ends.specs.Step.{Turn, Reply, reply_bytes, timeout_turn, after_turn, with_progress}
 use Rattle.tftp_server.specs.State.{at}
 use Rattle.tftp_server.specs.declared.config.Config.{Config}
 use Rattle.tftp_player.specs.Machine.{Endpoint}
@@ -43,7 +43,6 @@ use Rattle.tftp_player.proofs.PlacedEnds.{told-length, told-get, told-set, Kept_
 use Rattle.tftp_player.proofs.Resting.{IsAtRest, at_rest_open, at_rest_twice, at_rest_closed}
 use Rattle.tftp_player.proofs.StageLemmas.{by_port, kept_by_port, Stepped, same_kind, client_steps, client_at_rest, held_end, held_files, served_steps, served_is, served_kept, served_files, same_transfer, same_draft_kind, same_told}
 use Rattle.tftp_player.proofs.StepLemmas.{turned, timeout_step, timeout_rests}
-use Rattle.tftp_player.proofs.TurnKeeps.{timeout_keeps}
 
 -- the ends, one after another
 pub ends_length : (held : List (ℕ × Transfer)) (ps : List Player) → length (ends_from 1024 held ps) ≡ length ps
@@ -124,7 +123,7 @@ restated port p x p' before after turn turn' held held' effect r e f s =
     subst (λ (h : Files (List ℕ) Holding). Stepped port p x p' before after turn' h effect r) f (subst (λ (u : Turn). Stepped port p x p' before after u held effect r) e s)
 
 -- an end that is not complete after a timeout was not before
-not_yet : (phase : Phase) (e : EndState) → is_complete (timeout_turn (record e { phase = phase })).end.phase ≡ false → is_some (outcome_of phase) ≡ false → is_complete phase ≡ false
+not_yet : (phase : Phase) (e : EndState) → is_complete (timeout_turn (with_progress (record e.progress { phase = phase }) e)).progress.phase ≡ false → is_some (outcome_of phase) ≡ false → is_complete phase ≡ false
 not_yet (Waiting asked limit) e k open_now = refl
 not_yet (Sending terms number) e k open_now = refl
 not_yet (Receiving terms number) e k open_now = refl
@@ -132,9 +131,9 @@ not_yet (Dallying terms number Fresh) e k open_now = k
 not_yet (Dallying terms number Waited) e k open_now = k
 not_yet (Closed terms number complete outcome) e k open_now = absurd (true≢false open_now)
 
-timeout_commits : (files : Files (List ℕ) Drafted) (e : EndState) → is_some (outcome_of e.phase) ≡ false → CommitsLast files e.phase → CommitsLast files (timeout_turn e).end.phase
+timeout_commits : (files : Files (List ℕ) Drafted) (e : EndState) → is_some (outcome_of e.progress.phase) ≡ false → CommitsLast files e.progress.phase → CommitsLast files (timeout_turn e).progress.phase
 timeout_commits (Source left) e open_now k = tt
-timeout_commits (Sink draft) e open_now k = λ f. k (not_yet e.phase e f open_now)
+timeout_commits (Sink draft) e open_now k = λ f. k (not_yet e.progress.phase e f open_now)
 
 pub player_times_out : (port : ℕ) (p p' : Player) (before after : PlayedServer) (effect : Effect) (r : Record) →
     PlayerKept port before.held p → has_ended p ≡ false → PlayerTimeoutStep port p p' before after effect r →
@@ -144,19 +143,19 @@ player_times_out port (Client c) (Client c') before after effect r kept open_now
     restated port (Client c) (end_at port before.held (Client c)) (Client c') before after (timeout_turn c.end) _ c.files _ effect r
     (ap timeout_turn (sym (ap (λ (y : OpenedEnd). y.state) x.1 ∙ x.2)))
     (sym (ap files_of x.1 ∙ x.3))
-    (client_steps port c c' before after (timeout_turn c.end) c.files effect r kept open_now t.0 t.1 (same_kind c.files) (timeout_keeps c.end))
+    (client_steps port c c' before after (timeout_turn c.end) c.files effect r kept open_now t.0 t.1 (same_kind c.files))
 player_times_out port (Server s) (Server s') before after effect r kept open_now t =
     let h = t.0 in
     let x : end_at port before.held (Server s) ≡ held_end port s h = served_is port s before.held h open_now t.1 in
     let k = served_kept port s before.held open_now kept in
     let here : h ≡ k.transfer = same_transfer h k.transfer (sym t.1 ∙ k.found) in
-    let fits : AreFilesOf h.end.side h.files = subst (λ (v : Transfer). AreFilesOf v.end.side v.files) (sym here) k.files in
-    let commits : CommitsLast h.files (timeout_turn h.end).end.phase =
-    timeout_commits h.files h.end (ap (λ (v : Transfer). is_some (outcome_of v.end.phase)) here ∙ k.is_open) (subst (λ (v : Transfer). CommitsLast v.files v.end.phase) (sym here) k.commits) in
+    let fits : AreFilesOf h.end.role.side h.files = subst (λ (v : Transfer). AreFilesOf v.end.role.side v.files) (sym here) k.files in
+    let commits : CommitsLast h.files (timeout_turn h.end).progress.phase =
+    timeout_commits h.files h.end (ap (λ (v : Transfer). is_some (outcome_of v.end.progress.phase)) here ∙ k.is_open) (subst (λ (v : Transfer). CommitsLast v.files v.end.progress.phase) (sym here) k.commits) in
     restated port (Server s) (end_at port before.held (Server s)) (Server s') before after (timeout_turn h.end) _ (held_files s.refuses h.files) _ effect r
     (ap timeout_turn (sym (ap (λ (y : OpenedEnd). y.state) x)))
     (sym (ap files_of x ∙ served_files port s h.end h.files h.request fits))
-    (served_steps port s s' before after h (with_end (timeout_turn h.end).end h) (timeout_turn h.end) s.refuses before.store effect r t.1 open_now kept (timeout_keeps h.end)
+    (served_steps port s s' before after h (with_end (after_turn h.end (timeout_turn h.end)) h) (timeout_turn h.end) s.refuses before.store effect r t.1 open_now kept
     (same_draft_kind h.files) refl refl (same_told h.files s.refuses) commits (λ q. q) t.2)
 player_times_out port (Client c) (Server s') before after effect r kept open_now t = absurd t
 player_times_out port (Server s) (Client c') before after effect r kept open_now t = absurd t
@@ -221,7 +220,8 @@ peers_rest r (Some peer) = refl
 
 served_rests : (port : ℕ) (s : Served) (held : List (ℕ × Transfer)) (o : Option Record) → IsServed port s o held → at_rest (served_end port s o (at port held)) ≡ served_end port s o (at port held)
 served_rests port s held (Some r) k =
-    ap (λ (terms : Option Terms). served_as port s (record (closed_state s.mode r (ended_as r.outcome)) { phase = Closed terms r.number r.complete (ended_as r.outcome) }) [] s.draft []) (peers_rest r r.peer)
+    let e : EndState = closed_state s.mode r (ended_as r.outcome) in
+    ap (λ (terms : Option Terms). served_as port s (with_progress (record e.progress { phase = Closed terms r.number r.complete (ended_as r.outcome) }) e) [] s.draft []) (peers_rest r r.peer)
 served_rests port s held None k = subst (λ (h : Option Transfer). at_rest (served_end port s None h) ≡ served_end port s None h) (sym k.found) (at_rest_open (served_end port s None (Some k.transfer)) k.is_open)
 
 pub ends_rest : (port : ℕ) (held : List (ℕ × Transfer)) (ps : List Player) → AllKept port held ps → map at_rest (ends_from port held ps) ≡ ends_from port held ps
@@ -243,7 +243,7 @@ placed_is w (Some reply) = refl
 
 pub report_is : (w : WorldState) (x : OpenedEnd) (turn : Turn) (effect : Effect) → effect ≡ effect_of x.address turn → report_by w.sent effect ≡ report_of w x turn
 report_is w x turn effect e =
-    ap (report_by w.sent) e ∙ ap (λ (a : Option ℕ). record { added = a; closed = closed_at x.address (outcome_of turn.end.phase) }) (placed_is w turn.reply)
+    ap (report_by w.sent) e ∙ ap (λ (a : Option ℕ). record { added = a; closed = closed_at x.address (outcome_of turn.progress.phase) }) (placed_is w turn.reply)
 
 timed_by : (b : Bool) (config : Config) (sent : List Datagram) (place : ℕ) (before after : PlayedServer) (ps ps' : List Player) (effect : Effect) (port : ℕ) (x : OpenedEnd) →
     IsAtRest (world_of config sent before ps) → IsAtPort (world_of config sent before ps) port place x → is_closed x ≡ b →

@@ -122,11 +122,11 @@ pub record IsNewEnd (w : WorldState) (from : Endpoint) (s : Served) (transfer : 
   pub end : served_as (next_port w) s transfer.end (left_in transfer.files) (draft_of transfer.files) transfer.request ≡ x
   pub address : x.address ≡ server_at (next_port w)
   pub still : is_closed x ≡ false
-  pub to : x.state.last_sent_to ≡ from
-  pub side : is_client x.state.side ≡ false
-  pub files : AreFilesOf transfer.end.side transfer.files
-  pub commits : CommitsLast transfer.files transfer.end.phase
-  pub mode : transfer.end.mode ≡ s.mode
+  pub to : x.state.progress.last_sent_to ≡ from
+  pub side : is_client x.state.role.side ≡ false
+  pub files : AreFilesOf transfer.end.role.side transfer.files
+  pub commits : CommitsLast transfer.files transfer.end.progress.phase
+  pub mode : transfer.end.role.mode ≡ s.mode
   pub path : transfer.path ≡ s.path
   pub ended : s.ended ≡ None
 
@@ -201,7 +201,7 @@ module _ (w : WorldState) (asking : PortAsking) (result : PortLeft) where
     pub is_new : IsNewEnd w asking.from (new_served mode path file) transfer end
     pub tid : result.opened.tid ≡ Some asking.tid
     pub to : result.opened.to ≡ Some asking.from
-    pub sent : result.sent ≡ end.state.last_sent
+    pub sent : result.sent ≡ end.state.progress.last_sent
     pub new : result.new ≡ record asking.old { held = with_new asking.tid transfer asking.old.held }
     pub serves : Serves what w asking.from asking.bytes (sent_report w) (opened_in w end)
 

@@ -35,7 +35,7 @@ use Rattle.tftp_player.proofs.StageLemmas.{by_port, kept_by_port}
 use Rattle.tftp_player.proofs.StepLemmas.{refuse_step}
 
 -- a sender and a closed end are told nothing
-told_sender : (x : OpenedEnd) → is_sender x.state.side ≡ true → told_to_refuse x ≡ x
+told_sender : (x : OpenedEnd) → is_sender x.state.role.side ≡ true → told_to_refuse x ≡ x
 told_sender x e = ap (λ (b : Bool). if b then x else if is_closed x then x else record x { refuses = true }) e
 
 by_both : (x : OpenedEnd) (b : Bool) → (if b then x else x) ≡ x
@@ -43,13 +43,13 @@ by_both x true = refl
 by_both x false = refl
 
 told_closed : (x : OpenedEnd) → is_closed x ≡ true → told_to_refuse x ≡ x
-told_closed x e = ap (λ (b : Bool). if is_sender x.state.side then x else if b then x else record x { refuses = true }) e ∙ by_both x (is_sender x.state.side)
+told_closed x e = ap (λ (b : Bool). if is_sender x.state.role.side then x else if b then x else record x { refuses = true }) e ∙ by_both x (is_sender x.state.role.side)
 
-told_open : (x : OpenedEnd) → is_sender x.state.side ≡ false → is_closed x ≡ false → told_to_refuse x ≡ record x { refuses = true }
+told_open : (x : OpenedEnd) → is_sender x.state.role.side ≡ false → is_closed x ≡ false → told_to_refuse x ≡ record x { refuses = true }
 told_open x e f =
     ap (λ (b : Bool). if b then x else if is_closed x then x else record x { refuses = true }) e ∙ ap (λ (b : Bool). if b then x else record x { refuses = true }) f
 
-client_told_in : (port : ℕ) (c : PlayedClient) (files : Files (List ℕ) Holding) → AreFilesOf c.end.side files → is_some (outcome_of c.end.phase) ≡ false →
+client_told_in : (port : ℕ) (c : PlayedClient) (files : Files (List ℕ) Holding) → AreFilesOf c.end.role.side files → is_some (outcome_of c.end.progress.phase) ≡ false →
     client_end port (record { end = c.end; files = told_files files; file = c.file }) ≡ told_to_refuse (client_end port (record { end = c.end; files = files; file = c.file }))
 client_told_in port c (Source left) fits open_now = sym (told_sender (client_end port (record { end = c.end; files = Source left; file = c.file })) fits)
 client_told_in port c (Sink holding) fits open_now = sym (told_open (client_end port (record { end = c.end; files = Sink holding; file = c.file })) fits open_now)
@@ -59,20 +59,20 @@ fits_told side (Source left) f = f
 fits_told side (Sink holding) f = f
 
 -- a client, by whether it is closed
-client_told : (port : ℕ) (c : PlayedClient) (b : Bool) → is_some (outcome_of c.end.phase) ≡ b → AreFilesOf c.end.side c.files →
+client_told : (port : ℕ) (c : PlayedClient) (b : Bool) → is_some (outcome_of c.end.progress.phase) ≡ b → AreFilesOf c.end.role.side c.files →
     at_rest (client_end port (if b then c else record c { files = told_files c.files })) ≡ told_to_refuse (at_rest (client_end port c))
 client_told port c true e fits = sym (told_closed (at_rest (client_end port c)) (at_rest_closed (client_end port c) ∙ e))
 client_told port c false e fits =
     at_rest_open (client_end port (record c { files = told_files c.files })) e
     ∙ (client_told_in port c c.files fits e ∙ ap told_to_refuse (sym (at_rest_open (client_end port c) e)))
 
-kept_told : (c : PlayedClient) (b : Bool) → (is_client c.end.side ≡ true) × AreFilesOf c.end.side c.files →
-    (is_client (if b then c else record c { files = told_files c.files }).end.side ≡ true) × AreFilesOf (if b then c else record c { files = told_files c.files }).end.side (if b then c else record c { files = told_files c.files }).files
+kept_told : (c : PlayedClient) (b : Bool) → (is_client c.end.role.side ≡ true) × AreFilesOf c.end.role.side c.files →
+    (is_client (if b then c else record c { files = told_files c.files }).end.role.side ≡ true) × AreFilesOf (if b then c else record c { files = told_files c.files }).end.role.side (if b then c else record c { files = told_files c.files }).files
 kept_told c true k = (k.0, k.1)
-kept_told c false k = (k.0, fits_told c.end.side c.files k.1)
+kept_told c false k = (k.0, fits_told c.end.role.side c.files k.1)
 
 -- an end of the server, by the file that it is held with
-transfer_told : (port : ℕ) (s : Served) (e : EndState) (files : Files (List ℕ) Drafted) (request : List ℕ) → AreFilesOf e.side files → is_some (outcome_of e.phase) ≡ false →
+transfer_told : (port : ℕ) (s : Served) (e : EndState) (files : Files (List ℕ) Drafted) (request : List ℕ) → AreFilesOf e.role.side files → is_some (outcome_of e.progress.phase) ≡ false →
     served_as port (told_served (draft_of files) s) e (left_in files) (draft_of files) request ≡ told_to_refuse (served_as port s e (left_in files) (draft_of files) request)
 transfer_told port s e (Source left) request fits open_now = sym (told_sender (served_as port s e left None request) fits)
 transfer_told port s e (Sink draft) request fits open_now = sym (told_open (served_as port s e [] (Some draft) request) fits open_now)
@@ -113,7 +113,7 @@ told_ended None h s = drafts_ended (draft_at h) s
 
 pub player_told : (port : ℕ) (held : List (ℕ × Transfer)) (p : Player) → PlayerKept port held p →
     (end_at port held (told_player port held p) ≡ told_to_refuse (end_at port held p)) × PlayerKept port held (told_player port held p)
-player_told port held (Client c) k = (client_told port c (is_some (outcome_of c.end.phase)) refl k.1, kept_told c (is_some (outcome_of c.end.phase)) (k.0, k.1))
+player_told port held (Client c) k = (client_told port c (is_some (outcome_of c.end.progress.phase)) refl k.1, kept_told c (is_some (outcome_of c.end.progress.phase)) (k.0, k.1))
 player_told port held (Server s) k =
     let t = told_served_end port held s in
     let same : t.ended ≡ s.ended = told_ended s.ended (at port held) s in (
@@ -150,7 +150,7 @@ module _ (config : Config) (sent : List Datagram) (server : PlayedServer) (ps : 
       (player_told (1024 + place) server.held p (kept_at server.held ps place p staged.kept there))
 
   same_flags : (record_of (told_to_refuse x).state ≡ record_of x.state) × (is_transfer (told_to_refuse x) ≡ is_transfer x)
-  same_flags = flag_only x (is_sender x.state.side) (is_closed x)
+  same_flags = flag_only x (is_sender x.state.role.side) (is_closed x)
 
   new_ends : ends_of server (slice_set ps place q) ≡ slice_set (ends_of server ps) place (told_to_refuse x)
   new_ends =

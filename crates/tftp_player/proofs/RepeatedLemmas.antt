@@ -48,9 +48,9 @@ module _ (from : Endpoint) (packet : Packet) where
     served_here port s ended t lives found =
         ap (λ (o : Option Record). served_end port s o (at port held)) lives ∙ ap (λ (o : Option Transfer). served_end port s None o) found
 
-    served_side : (port : ℕ) (s : Served) (ended : Option Record) (t : Transfer) → ended ≡ None → at port held ≡ Some t → IsServed port s ended held → is_client t.end.side ≡ false
+    served_side : (port : ℕ) (s : Served) (ended : Option Record) (t : Transfer) → ended ≡ None → at port held ≡ Some t → IsServed port s ended held → is_client t.end.role.side ≡ false
     served_side port s (Some r) t lives found kept = absurd (let f : Some r ≡ None = lives in cc)
-    served_side port s None t lives found kept = ap (λ (u : Transfer). is_client u.end.side) (same_Some t kept.transfer (sym found ∙ kept.found)) ∙ kept.side
+    served_side port s None t lives found kept = ap (λ (u : Transfer). is_client u.end.role.side) (same_Some t kept.transfer (sym found ∙ kept.found)) ∙ kept.side
 
     -- what repeats a transfer repeats the end that has it
     module _ (ps : List Player) (all : AllKept 1024 held ps) where

@@ -16,7 +16,7 @@ use Rattle.tftp_file.specs.declared.files.Files.TheVariants.{Source, Sink}
 use Rattle.tftp_file.specs.Sink.{Holding}
 use Rattle.tftp_ends.specs.declared.phase.Phase.{Phase}
 use Rattle.tftp_ends.specs.declared.phase.Terms.{Terms}
-use Rattle.tftp_ends.specs.End.{is_client, is_sender, terms_of}
+use Rattle.tftp_ends.specs.End.{is_sender, terms_of}
 use Rattle.tftp_ends.specs.declared.error_reply.ErrorReply.TheVariants.{IllegalOperation}
 use Rattle.tftp_ends.specs.Action.{Decodes}
 use Rattle.tftp_ends.specs.Step.{Turn, timeout_turn}
@@ -35,7 +35,6 @@ use Rattle.tftp_player.proofs.Resting.{at_rest_open, at_rest_closed, rest_at}
 use Rattle.tftp_player.proofs.Places.{slice_get-push_old, slice_get-set_cases}
 use Rattle.tftp_player.proofs.ServerLemmas.{says_one}
 use Rattle.tftp_player.proofs.TermsKept.{step_has, timeout_has}
-use Rattle.tftp_player.proofs.TurnKeeps.{step_keeps, timeout_keeps}
 use Rattle.tftp_player.proofs.WorldTurns.{view_at}
 
 -- ---- what repeats a request is ignored
@@ -177,13 +176,13 @@ module _ (from : Endpoint) (packet : Packet) where
   abbrev Lasts : OpenedEnd → Type 0
   Lasts x = is_closed x ≡ false → Repeats from packet x
 
-  turn_lasts : (x : OpenedEnd) (turn : Turn) (held : Files (List ℕ) Holding) → turn.end.side ≡ x.state.side →
-      ((agreed : Terms) → terms_of x.state.phase ≡ Some agreed → terms_of turn.end.phase ≡ Some agreed) → Repeats from packet x → Lasts (end_after x turn held)
-  turn_lasts x turn (Source left) side stays r o = record { server = ap is_client side ∙ r.server; still = o; peer = same_peer x.state.phase turn.end.phase from r.peer stays; same = r.same }
-  turn_lasts x turn (Sink holding) side stays r o = record { server = ap is_client side ∙ r.server; still = o; peer = same_peer x.state.phase turn.end.phase from r.peer stays; same = r.same }
+  turn_lasts : (x : OpenedEnd) (turn : Turn) (held : Files (List ℕ) Holding) →
+      ((agreed : Terms) → terms_of x.state.progress.phase ≡ Some agreed → terms_of turn.progress.phase ≡ Some agreed) → Repeats from packet x → Lasts (end_after x turn held)
+  turn_lasts x turn (Source left) stays r o = record { server = r.server; still = o; peer = same_peer x.state.progress.phase turn.progress.phase from r.peer stays; same = r.same }
+  turn_lasts x turn (Sink holding) stays r o = record { server = r.server; still = o; peer = same_peer x.state.progress.phase turn.progress.phase from r.peer stays; same = r.same }
 
   told_lasts : (x : OpenedEnd) → Repeats from packet x → Repeats from packet (told_to_refuse x)
-  told_lasts x r = by_tests (is_sender x.state.side) (is_closed x) where
+  told_lasts x r = by_tests (is_sender x.state.role.side) (is_closed x) where
     by_tests : (sender closed : Bool) → Repeats from packet (if sender then x else if closed then x else record x { refuses = true })
     by_tests true closed = r
     by_tests false true = r
@@ -216,7 +215,7 @@ module _ (from : Endpoint) (packet : Packet) where
     at_arrival by to bytes (At_request_port asked port decoded says repeated same s) = at_service _ bytes by s
     at_arrival by to bytes (At_open_end j y there_now at open_now t) =
         set_at j y (end_after y t.turn t.held) (ap (λ (w : WorldState). w.ends) t.turns.is) there_now
-        (turn_lasts y t.turn t.held (step_keeps _ by bytes y.state (files_of y) t.held t.turn t.steps).side (λ agreed h. step_has agreed _ by bytes y.state (files_of y) t.held t.turn h t.steps))
+        (turn_lasts y t.turn t.held (λ agreed h. step_has agreed _ by bytes y.state (files_of y) t.held t.turn h t.steps))
     at_arrival by to bytes (At_closed_end j y there_now at closed_now s) = same_world s
     at_arrival by to bytes (At_nobody away nobody s) = same_world s
 
@@ -224,7 +223,7 @@ module _ (from : Endpoint) (packet : Packet) where
     at_timeout true j y at s = same_world s
     at_timeout false j y at t =
         set_at j y (end_after y (timeout_turn y.state) (files_of y)) (ap (λ (w : WorldState). w.ends) t.is) at
-        (turn_lasts y (timeout_turn y.state) (files_of y) (timeout_keeps y.state).side (λ agreed h. timeout_has agreed y.state h))
+        (turn_lasts y (timeout_turn y.state) (files_of y) (λ agreed h. timeout_has agreed y.state h))
 
     at_event : (event : Event) → EventStep old event report mid → Lasts z
     at_event (Get name mode asked) s = pushed _ s.2

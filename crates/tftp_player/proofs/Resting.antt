@@ -59,22 +59,22 @@ record_in (Closed (Some terms) number complete outcome) x = refl
 
 -- an end at rest is at rest
 pub at_rest_twice : (x : OpenedEnd) → at_rest (at_rest x) ≡ at_rest x
-at_rest_twice x = twice_in x.state.phase x
+at_rest_twice x = twice_in x.state.progress.phase x
 
 -- an open end is kept whole
 pub at_rest_open : (x : OpenedEnd) → is_closed x ≡ false → at_rest x ≡ x
-at_rest_open x e = open_in x.state.phase x e
+at_rest_open x e = open_in x.state.progress.phase x e
 
 -- it is closed if it was
 pub at_rest_closed : (x : OpenedEnd) → is_closed (at_rest x) ≡ is_closed x
-at_rest_closed x = closed_in x.state.phase x
+at_rest_closed x = closed_in x.state.progress.phase x
 
 -- what is to be told of it is the same
 pub at_rest_view : (x : OpenedEnd) → view_of_end (at_rest x) ≡ view_of_end x
-at_rest_view x = view_in x.state.phase x
+at_rest_view x = view_in x.state.progress.phase x
 
 pub at_rest_record : (x : OpenedEnd) → record_of (at_rest x).state ≡ record_of x.state
-at_rest_record x = record_in x.state.phase x
+at_rest_record x = record_in x.state.progress.phase x
 
 pub rest_views : (ends : List OpenedEnd) → map view_of_end (map at_rest ends) ≡ map view_of_end ends
 rest_views [] = refl
@@ -100,7 +100,7 @@ kept_in w (Sending terms number) x h = record { kept = h.kept; last_sent = h.las
 kept_in w (Receiving terms number) x h = record { kept = h.kept; last_sent = h.last_sent; stored = h.stored }
 kept_in w (Dallying terms number dally) x h = record { kept = h.kept; last_sent = h.last_sent; stored = h.stored }
 kept_in w (Closed terms number complete outcome) x h = record {
-  kept = record { phase = tt; held = no_held x.state.mode; committed = h.kept.committed };
+  kept = record { phase = tt; held = no_held x.state.role.mode; committed = h.kept.committed };
   last_sent = λ o. absurd (true≢false o);
   stored = h.stored;
 }
@@ -116,7 +116,7 @@ resting_ok strangers w ok = record {
   max_block = ok.max_block;
   ends = λ k z i.
       let h = rest_at w.ends k z i in
-      subst (λ (u : OpenedEnd). IsKeptIn (resting w) u) h.2 (kept_in w h.0.state.phase h.0 (ok.ends k h.0 h.1));
+      subst (λ (u : OpenedEnd). IsKeptIn (resting w) u) h.2 (kept_in w h.0.state.progress.phase h.0 (ok.ends k h.0 h.1));
 }
 
 -- the world has no more of its closed ends than their records
@@ -141,12 +141,12 @@ resting_opened w x r open_now =
     ∙ (ap (λ (ends : List OpenedEnd). ends ++ at_rest x ∷ []) r ∙ ap (λ (y : OpenedEnd). w.ends ++ y ∷ []) (at_rest_open x open_now)))
 
 -- the state of a closed end is what its record tells
-pub rest_is_record : (x : OpenedEnd) (outcome : Outcome) → outcome_of x.state.phase ≡ Some outcome → (at_rest x).state ≡ closed_state x.state.mode (record_of x.state) outcome
-rest_is_record x outcome e = by_phase x.state.phase e where
-  by_phase : (phase : Phase) → outcome_of phase ≡ Some outcome → rest_state phase (placed phase x).state ≡ closed_state x.state.mode (record_of (placed phase x).state) outcome
+pub rest_is_record : (x : OpenedEnd) (outcome : Outcome) → outcome_of x.state.progress.phase ≡ Some outcome → (at_rest x).state ≡ closed_state x.state.role.mode (record_of x.state) outcome
+rest_is_record x outcome e = by_phase x.state.progress.phase e where
+  by_phase : (phase : Phase) → outcome_of phase ≡ Some outcome → rest_state phase (placed phase x).state ≡ closed_state x.state.role.mode (record_of (placed phase x).state) outcome
   by_phase (Waiting asked limit) f = absurd (let g : None ≡ Some outcome = f in cc)
   by_phase (Sending terms number) f = absurd (let g : None ≡ Some outcome = f in cc)
   by_phase (Receiving terms number) f = absurd (let g : None ≡ Some outcome = f in cc)
   by_phase (Dallying terms number dally) f = absurd (let g : None ≡ Some outcome = f in cc)
-  by_phase (Closed None number complete o) f = ap (λ (q : Outcome). closed_state x.state.mode (record_of (placed (Closed None number complete o) x).state) q) (same_Some o outcome f)
-  by_phase (Closed (Some terms) number complete o) f = ap (λ (q : Outcome). closed_state x.state.mode (record_of (placed (Closed (Some terms) number complete o) x).state) q) (same_Some o outcome f)
+  by_phase (Closed None number complete o) f = ap (λ (q : Outcome). closed_state x.state.role.mode (record_of (placed (Closed None number complete o) x).state) q) (same_Some o outcome f)
+  by_phase (Closed (Some terms) number complete o) f = ap (λ (q : Outcome). closed_state x.state.role.mode (record_of (placed (Closed (Some terms) number complete o) x).state) q) (same_Some o outcome f)

@@ -29,8 +29,8 @@ rested mid new e h = subst HasSentEach (sym e) (let n = length-map mid.ends at_r
 opens : (old new : WorldState) (x : OpenedEnd) (report : Report) → Opens old x report new → HasSentEach old → HasSentEach new
 opens old new x report o h =
     subst HasSentEach (sym o.is)
-    (let a = length-append old.ends (x ∷ []) in let b = length-append old.sent (record { from = x.address; to = x.state.last_sent_to; bytes = x.state.last_sent } ∷ []) in
-    let l : length (old.ends ++ x ∷ []) ≤ length (old.sent ++ record { from = x.address; to = x.state.last_sent_to; bytes = x.state.last_sent } ∷ []) = omega (arith, a, b, h) in l)
+    (let a = length-append old.ends (x ∷ []) in let b = length-append old.sent (record { from = x.address; to = x.state.progress.last_sent_to; bytes = x.state.progress.last_sent } ∷ []) in
+    let l : length (old.ends ++ x ∷ []) ≤ length (old.sent ++ record { from = x.address; to = x.state.progress.last_sent_to; bytes = x.state.progress.last_sent } ∷ []) = omega (arith, a, b, h) in l)
 
 -- nothing happened
 stays : (old new : WorldState) (report : Report) → Stays old report new → HasSentEach old → HasSentEach new

@@ -10,7 +10,7 @@ use Rattle.tftp_file.specs.declared.files.Files.{Files}
 use Rattle.tftp_file.specs.declared.files.Files.TheVariants.{Source, Sink}
 use Rattle.tftp_ends.specs.End.{EndState, is_sender}
 use Rattle.tftp_ends.specs.OtherSinks.{SourcesTell, SinksTell, step_as}
-use Rattle.tftp_ends.specs.Step.{Turn}
+use Rattle.tftp_ends.specs.Step.{Turn, after_turn}
 use Rattle.tftp_server.specs.Draft.{Drafting, files_in, MayRefuseAppend, MayRefuseCommit, DraftingBecomes, drafting_sink}
 use Rattle.tftp_server.specs.Memory.{memory_meaning}
 use Rattle.tftp_server.specs.Steps.{StepIn}
@@ -40,8 +40,8 @@ same_with : (b : Bool) (x : OpenedEnd) → with_files x (if b then Source x.left
 same_with true x = refl
 same_with false x = refl
 
-pub timeout_after : (x : OpenedEnd) (turn : Turn) → end_after x turn (files_of x) ≡ in_state turn.end x
-timeout_after x turn = same_with (is_sender x.state.side) (in_state turn.end x)
+pub timeout_after : (x : OpenedEnd) (turn : Turn) → end_after x turn (files_of x) ≡ in_state (after_turn x.state turn) x
+timeout_after x turn = same_with (is_sender x.state.role.side) (in_state (after_turn x.state turn) x)
 
 -- ---- a datagram, at a transfer of the server: its draft and the store are a sink of the world
 abbrev pub Drafts : Type 0

@@ -13,7 +13,7 @@ use Rattle.tftp_ends.specs.declared.record.Record.{Record}
 use Rattle.tftp_ends.specs.declared.record.Step.{Step}
 use Rattle.tftp_ends.specs.End.{EndState, outcome_of, record_of}
 use Rattle.tftp_ends.specs.Files.{KeepsFiles}
-use Rattle.tftp_ends.specs.Step.{Turn, Carries, timeout_turn, told, reply_bytes}
+use Rattle.tftp_ends.specs.Step.{Turn, Carries, after_turn, timeout_turn, told, reply_bytes}
 use Rattle.tftp_server.specs.Draft.{files_in, KeepsStore, drafting_sink}
 use Rattle.tftp_server.specs.Memory.{memory_meaning, with_told}
 use Rattle.tftp_server.specs.State.{at, with_next, draft_of, is_closed}
@@ -28,10 +28,10 @@ use Rattle.tftp_player.specs.declared.served.Served.{Served}
 use Rattle.tftp_player.proofs.HeldLemmas.{at-with_next}
 
 -- a transfer that made a step has closed as the step told
-pub closes_as : (port : ℕ) (h next : Transfer) (held held' : List (ℕ × Transfer)) (turn : Turn) (step : Step) → at port held ≡ Some h → held' ≡ with_next port next held → next.end ≡ turn.end → step ≡ told h.end turn →
+pub closes_as : (port : ℕ) (h next : Transfer) (held held' : List (ℕ × Transfer)) (turn : Turn) (step : Step) → at port held ≡ Some h → held' ≡ with_next port next held → next.end ≡ after_turn h.end turn → step ≡ told h.end turn →
     ClosesAs step.closed (at port held')
 closes_as port h next held held' turn step found e is tells =
-    subst (ClosesAs step.closed) (sym (ap (at port) e ∙ at-with_next port h next held found)) (ap (λ (s : Step). s.closed) tells ∙ ap (λ (e : EndState). outcome_of e.phase) (sym is))
+    subst (ClosesAs step.closed) (sym (ap (at port) e ∙ at-with_next port h next held found)) (ap (λ (s : Step). s.closed) tells ∙ ap (λ (e : EndState). outcome_of e.progress.phase) (sym is))
 
 pub times_out_closes : (port : ℕ) (old new : List (ℕ × Transfer)) (step : Step) (before after : List ℕ) → TimesOut port old new step before after → ClosesAs step.closed (at port new)
 times_out_closes port old new step before after t = closes_as port t.transfer (with_end t.end t.transfer) old new (timeout_turn t.transfer.end) step t.found t.held t.carries.state t.tells
@@ -42,28 +42,28 @@ is_recorded closed None r c e none = c
 is_recorded closed (Some h) r c e none = let f : Some (record_of h.end) ≡ None = sym e ∙ none in cc
 
 -- what a step of an end there comes to
-pub effect_is : (at : Endpoint) (e e' : EndState) (turn : Turn) (step : Step) (start out : List ℕ) → start ≡ [] → Carries turn e' step.to start out → step ≡ told e turn →
+pub effect_is : (at : Endpoint) (e e' : EndState) (turn : Turn) (step : Step) (start out : List ℕ) → start ≡ [] → Carries e turn e' step.to start out → step ≡ told e turn →
     (let effect : Effect = record { from = at; to = step.to; bytes = out; closed = step.closed } in effect) ≡ effect_of at turn
 effect_is at e e' turn step start out none c tells =
     ap (λ (s : Step). record { from = at; to = s.to; bytes = out; closed = s.closed }) tells
-    ∙ ap (λ (bytes : List ℕ). record { from = at; to = (told e turn).to; bytes = bytes; closed = outcome_of turn.end.phase }) (c.appended ∙ ap (λ (s : List ℕ). s ++ reply_bytes turn.reply) none)
+    ∙ ap (λ (bytes : List ℕ). record { from = at; to = (told e turn).to; bytes = bytes; closed = outcome_of turn.progress.phase }) (c.appended ∙ ap (λ (s : List ℕ). s ++ reply_bytes turn.reply) none)
 
 -- what it left at the server, which has become that, where it was taken out if it has closed
-turns_served : (port : ℕ) (was old new : Served) (before mid after : PlayedServer) (turn : Turn) (next : Transfer) (refuses : Bool) (store : Stored) (effect : Effect) (r : Record) →
-    next.end ≡ turn.end → at port mid.held ≡ Some next → mid ≡ record before { store = store; held = with_next port next before.held } → old ≡ record was { refuses = refuses } →
+turns_served : (port : ℕ) (was old new : Served) (before mid after : PlayedServer) (e : EndState) (turn : Turn) (next : Transfer) (refuses : Bool) (store : Stored) (effect : Effect) (r : Record) →
+    next.end ≡ after_turn e turn → at port mid.held ≡ Some next → mid ≡ record before { store = store; held = with_next port next before.held } → old ≡ record was { refuses = refuses } →
     Concludes port (at port mid.held) old new mid after → r ≡ record_of next.end → effect ≡ effect_of (server_at port) turn →
-    ServedTurns port was new before after turn next refuses store effect r
-turns_served port was old new before mid after turn next refuses store effect r is found server told_so c recorded effects =
+    ServedTurns port was new before after e turn next refuses store effect r
+turns_served port was old new before mid after e turn next refuses store effect r is found server told_so c recorded effects =
     let d : Concludes port (Some next) old new mid after = subst (λ (o : Option Transfer). Concludes port o old new mid after) found c in
-    let closed : is_closed next ≡ is_some (outcome_of turn.end.phase) = ap (λ (e : EndState). is_some (outcome_of e.phase)) is in
+    let closed : is_closed next ≡ is_some (outcome_of turn.progress.phase) = ap (λ (e : EndState). is_some (outcome_of e.progress.phase)) is in
     record {
       end = is;
       effects = effects;
       recorded = recorded ∙ ap record_of is;
       served = d.0 ∙ (ap (λ (r : Record). rested_served (is_closed next) r (draft_of next.files) old) (sym recorded)
-          ∙ (ap (λ (b : Bool). rested_served b r (draft_of next.files) old) closed ∙ ap (rested_served (is_some (outcome_of turn.end.phase)) r (draft_of next.files)) told_so));
+          ∙ (ap (λ (b : Bool). rested_served b r (draft_of next.files) old) closed ∙ ap (rested_served (is_some (outcome_of turn.progress.phase)) r (draft_of next.files)) told_so));
       server = d.1 ∙ (ap (λ (b : Bool). record mid { held = rested_held b port mid.held }) closed
-          ∙ ap (λ (m : PlayedServer). record m { held = rested_held (is_some (outcome_of turn.end.phase)) port m.held }) server);
+          ∙ ap (λ (m : PlayedServer). record m { held = rested_held (is_some (outcome_of turn.progress.phase)) port m.held }) server);
     }
 
 pub served_times_out : (port : ℕ) (old new : Served) (before mid after : PlayedServer) (step : Step) (start out : List ℕ) (effect : Effect) (r : Record) → start ≡ [] →
@@ -73,12 +73,12 @@ pub served_times_out : (port : ℕ) (old new : Served) (before mid after : Playe
     ServedTimeoutStep port old new before after effect r
 served_times_out port old new before mid after step start out effect r none t rest c recorded here is_here made =
     let turn : Turn = timeout_turn t.transfer.end in
-    let next : Transfer = with_end turn.end t.transfer in
+    let next : Transfer = with_end (after_turn t.transfer.end turn) t.transfer in
     let held : mid.held ≡ with_next port next before.held = t.held ∙ ap (λ (e : EndState). with_next port (with_end e t.transfer) before.held) t.carries.state in
     let found : at port mid.held ≡ Some next = ap (at port) held ∙ at-with_next port t.transfer next before.held t.found in (
       t.transfer,
       t.found,
-      turns_served port old old new before mid after turn next old.refuses before.store effect r refl
+      turns_served port old old new before mid after t.transfer.end turn next old.refuses before.store effect r refl
           (ap (at port) held ∙ at-with_next port t.transfer next before.held t.found)
           (rest ∙ ap (λ (held : List (ℕ × Transfer)). record before { held = held }) held)
           refl
@@ -108,7 +108,7 @@ module _ (port : ℕ) (from : Endpoint) (bytes : List ℕ) (was old new : Served
     kind = t.takes.kind;
     path = t.takes.path;
     request = t.takes.request;
-    turns = turns_served port was old new before quieted after t.takes.turn t.next mid.store.refuses (with_told mid.store false) effect r t.takes.carries.state
+    turns = turns_served port was old new before quieted after t.transfer.end t.takes.turn t.next mid.store.refuses (with_told mid.store false) effect r t.takes.carries.state
         (ap (λ (s : PlayedServer). at port s.held) quiet ∙ (ap (at port) t.held ∙ at-with_next port t.transfer t.next before.held t.found))
         (quiet ∙ (ap (λ (s : PlayedServer). server_told (record s { store = mid.store }) false) rest
         ∙ ap (λ (held : List (ℕ × Transfer)). record before { store = with_told mid.store false; held = held }) t.held))

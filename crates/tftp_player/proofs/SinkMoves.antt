@@ -125,47 +125,47 @@ stores_in false f refuses_commit terms number from piece e left sink turn (Sourc
 
 -- what the machine has for a receiver that was sent this block
 pub record Receives (views : List EndView) (messages : List Message) (k : ℕ) (x : OpenedEnd) (terms : Terms) (number : ℕ) (from : Endpoint) (piece : List ℕ) : Type 0 where
-  pub receiver : is_sender x.state.side ≡ false
-  pub going : goes_on x.state.phase ≡ true
-  pub incomplete : is_complete x.state.phase ≡ false
+  pub receiver : is_sender x.state.role.side ≡ false
+  pub going : goes_on x.state.progress.phase ≡ true
+  pub incomplete : is_complete x.state.progress.phase ≡ false
   pub peer : from ≡ terms.peer
   pub fits : number < 2 ^ 16
   pub stored : IsShown (set views k (record (view_of_end x) { peer = Some terms.peer; size = terms.size; number = number; done = nat_lt (length piece) terms.size; text = text_of_end x ++ piece })) (messages ++ message x.address from (Says_ack number) ∷ [])
   pub refused : (t : List ℕ) → IsBeginningOf t (text_of_end x ++ piece) →
-      IsShown (set views k (record (view_of_end x) { peer = Some terms.peer; size = terms.size; number = number_of x.state.phase; failed = true; text = t })) (messages ++ message x.address from Error ∷ [])
+      IsShown (set views k (record (view_of_end x) { peer = Some terms.peer; size = terms.size; number = number_of x.state.progress.phase; failed = true; text = t })) (messages ++ message x.address from Error ∷ [])
 
 -- the block goes on with netascii, or is octet
 abbrev pub Readable : OpenedEnd → Terms → List ℕ → Type 0
-Readable x terms piece = is_readable x.state.mode x.state.held piece (nat_lt (length piece) terms.size) ≡ true
+Readable x terms piece = is_readable x.state.role.mode x.state.progress.held piece (nat_lt (length piece) terms.size) ≡ true
 
 module _ (views : List EndView) (messages : List Message) (k : ℕ) (x : OpenedEnd) (terms : Terms) (number : ℕ) (from : Endpoint) (piece : List ℕ)
     (kept : EndKept x) (r : Receives views messages k x terms number from piece) where
   -- what it has of its peer's text
-  pub told : text_of_end x ≡ wire_text x.state.mode x.stored ++ x.state.held
+  pub told : text_of_end x ≡ wire_text x.state.role.mode x.stored ++ x.state.progress.held
   told =
-      let w = wire_text x.state.mode x.stored in
-      text_else (is_sender x.state.side) (wire_text x.state.mode x.file) (if goes_on x.state.phase then w ++ x.state.held else w) r.receiver
-      ∙ ap (λ (b : Bool). if b then w ++ x.state.held else w) r.going
+      let w = wire_text x.state.role.mode x.stored in
+      text_else (is_sender x.state.role.side) (wire_text x.state.role.mode x.file) (if goes_on x.state.progress.phase then w ++ x.state.progress.held else w) r.receiver
+      ∙ ap (λ (b : Bool). if b then w ++ x.state.progress.held else w) r.going
 
   uncommitted : x.committed ≡ false
   uncommitted = kept.committed r.receiver ∙ r.incomplete
 
   -- the text, with the block
-  more_text : (more after : List ℕ) → Decoded x.state.mode x.state.held piece more after →
-      text_of_end x ++ piece ≡ wire_text x.state.mode (x.stored ++ more) ++ after
+  more_text : (more after : List ℕ) → Decoded x.state.role.mode x.state.progress.held piece more after →
+      text_of_end x ++ piece ≡ wire_text x.state.role.mode (x.stored ++ more) ++ after
   more_text more after d =
       ap (λ (t : List ℕ). t ++ piece) told
-      ∙ stored_more x.state.mode x.stored x.state.held piece more after (goes_on_with x.state.mode x.state.held piece more after kept.held d)
+      ∙ stored_more x.state.role.mode x.stored x.state.progress.held piece more after (goes_on_with x.state.role.mode x.state.progress.held piece more after kept.held d)
 
   -- the store refused it
-  pub refused_goes : (held : List ℕ) (sink : Holding) (reply : ErrorReply) (outcome : Outcome) → HeldFits x.state.mode held → sink.committed ≡ false →
-      IsBeginningOf (wire_text x.state.mode sink.bytes) (text_of_end x ++ piece) →
+  pub refused_goes : (held : List ℕ) (sink : Holding) (reply : ErrorReply) (outcome : Outcome) → HeldFits x.state.role.mode held → sink.committed ≡ false →
+      IsBeginningOf (wire_text x.state.role.mode sink.bytes) (text_of_end x ++ piece) →
       let turn = refused_turn terms reply outcome from (holding held x.state) in
       Goes views messages k x turn (end_after x turn (Sink sink))
   refused_goes held sink reply outcome fits un begins =
       let turn = refused_turn terms reply outcome from (holding held x.state) in
       let y = end_after x turn (Sink sink) in
-      let t = text_else (is_sender x.state.side) (wire_text x.state.mode x.file) (wire_text x.state.mode sink.bytes) r.receiver in
+      let t = text_else (is_sender x.state.role.side) (wire_text x.state.role.mode x.file) (wire_text x.state.role.mode sink.bytes) r.receiver in
       let shown_now = r.refused (text_of_end y) (subst (λ (z : List ℕ). IsBeginningOf z (text_of_end x ++ piece)) (sym t) begins) in
       record {
         said_now = message x.address from Error ∷ [];
@@ -179,8 +179,8 @@ module _ (views : List EndView) (messages : List Message) (k : ℕ) (x : OpenedE
       }
 
   -- the block is acknowledged: stored, or stored and committed
-  acknowledged : (sink : Holding) (more after : List ℕ) → sink.bytes ≡ x.stored ++ more → Decoded x.state.mode x.state.held piece more after →
-      (t : List ℕ) → wire_text x.state.mode (x.stored ++ more) ++ after ≡ t → (done : Bool) → nat_lt (length piece) terms.size ≡ done →
+  acknowledged : (sink : Holding) (more after : List ℕ) → sink.bytes ≡ x.stored ++ more → Decoded x.state.role.mode x.state.progress.held piece more after →
+      (t : List ℕ) → wire_text x.state.role.mode (x.stored ++ more) ++ after ≡ t → (done : Bool) → nat_lt (length piece) terms.size ≡ done →
       IsShown (set views k (record (view_of_end x) { peer = Some terms.peer; size = terms.size; number = number; done = done; text = t })) (messages ++ message x.address from (Says_ack number) ∷ [])
   acknowledged sink more after bytes d t text done last =
       subst (λ (z : List ℕ). IsShown (set views k (record (view_of_end x) { peer = Some terms.peer; size = terms.size; number = number; done = done; text = z })) (messages ++ message x.address from (Says_ack number) ∷ []))
@@ -188,8 +188,8 @@ module _ (views : List EndView) (messages : List Message) (k : ℕ) (x : OpenedE
       (subst (λ (b : Bool). IsShown (set views k (record (view_of_end x) { peer = Some terms.peer; size = terms.size; number = number; done = b; text = text_of_end x ++ piece })) (messages ++ message x.address from (Says_ack number) ∷ []))
       last r.stored)
 
-  failed_not : has_failed x.state.phase ≡ false
-  failed_not = (going_live x.state.phase r.going).1
+  failed_not : has_failed x.state.progress.phase ≡ false
+  failed_not = (going_live x.state.progress.phase r.going).1
 
   -- it is no failure
   sound_view : (t : List ℕ) (done : Bool) (ms : List Message) →
@@ -197,45 +197,45 @@ module _ (views : List EndView) (messages : List Message) (k : ℕ) (x : OpenedE
       IsShown (set views k (record (view_of_end x) { peer = Some terms.peer; size = terms.size; number = number; done = done; failed = false; text = t })) ms
   sound_view t done ms h = subst (λ (b : Bool). IsShown (set views k (record (view_of_end x) { peer = Some terms.peer; size = terms.size; number = number; done = done; failed = b; text = t })) ms) failed_not h
 
-  next_goes : (sink : Holding) (more after : List ℕ) → sink.bytes ≡ x.stored ++ more → sink.committed ≡ false → Decoded x.state.mode x.state.held piece more after →
+  next_goes : (sink : Holding) (more after : List ℕ) → sink.bytes ≡ x.stored ++ more → sink.committed ≡ false → Decoded x.state.role.mode x.state.progress.held piece more after →
       nat_lt (length piece) terms.size ≡ false →
       let turn = sent_turn (Receiving terms number) from (ack_bytes number) (holding after x.state) in
       Goes views messages k x turn (end_after x turn (Sink sink))
   next_goes sink more after bytes un d last =
       let turn = sent_turn (Receiving terms number) from (ack_bytes number) (holding after x.state) in
       let y = end_after x turn (Sink sink) in
-      let text : wire_text x.state.mode (x.stored ++ more) ++ after ≡ text_of_end y =
-      ap (λ (z : List ℕ). wire_text x.state.mode z ++ after) (sym bytes)
-      ∙ sym (text_else (is_sender x.state.side) (wire_text x.state.mode x.file) (wire_text x.state.mode sink.bytes ++ after) r.receiver) in
+      let text : wire_text x.state.role.mode (x.stored ++ more) ++ after ≡ text_of_end y =
+      ap (λ (z : List ℕ). wire_text x.state.role.mode z ++ after) (sym bytes)
+      ∙ sym (text_else (is_sender x.state.role.side) (wire_text x.state.role.mode x.file) (wire_text x.state.role.mode sink.bytes ++ after) r.receiver) in
       record {
         said_now = message x.address from (Says_ack number) ∷ [];
         shown = sound_view (text_of_end y) false (messages ++ message x.address from (Says_ack number) ∷ []) (acknowledged sink more after bytes d (text_of_end y) text false last);
         replies = (Ack number, spells_own (Ack number) r.fits, refl);
-        kept = record { phase = (r.receiver, r.peer); held = held_fits x.state.mode x.state.held piece more after kept.held d; committed = λ _. un };
+        kept = record { phase = (r.receiver, r.peer); held = held_fits x.state.role.mode x.state.progress.held piece more after kept.held d; committed = λ _. un };
         side = refl;
         last_sent = inr refl;
         stored = λ c. absurd (true≢false (sym c ∙ r.incomplete));
       }
 
-  whole_goes : Readable x terms piece → (sink : Holding) (more after : List ℕ) → sink.bytes ≡ x.stored ++ more → sink.committed ≡ true → Decoded x.state.mode x.state.held piece more after →
+  whole_goes : Readable x terms piece → (sink : Holding) (more after : List ℕ) → sink.bytes ≡ x.stored ++ more → sink.committed ≡ true → Decoded x.state.role.mode x.state.progress.held piece more after →
       nat_lt (length piece) terms.size ≡ true →
       let turn = sent_turn (Dallying terms number Fresh) from (ack_bytes number) (holding after x.state) in
       Goes views messages k x turn (end_after x turn (Sink sink))
   whole_goes readable sink more after bytes done d last =
       let turn = sent_turn (Dallying terms number Fresh) from (ack_bytes number) (holding after x.state) in
       let y = end_after x turn (Sink sink) in
-      let none : after ≡ [] = none_held x.state.mode x.state.held piece more after kept.held d
-      (subst (λ (b : Bool). is_readable x.state.mode x.state.held piece b ≡ true) last readable) in
-      let text : wire_text x.state.mode (x.stored ++ more) ++ after ≡ text_of_end y =
-      ap (λ (z : List ℕ). wire_text x.state.mode (x.stored ++ more) ++ z) none
-      ∙ (append-nil (wire_text x.state.mode (x.stored ++ more))
-      ∙ (ap (wire_text x.state.mode) (sym bytes)
-      ∙ sym (text_else (is_sender x.state.side) (wire_text x.state.mode x.file) (wire_text x.state.mode sink.bytes) r.receiver))) in
+      let none : after ≡ [] = none_held x.state.role.mode x.state.progress.held piece more after kept.held d
+      (subst (λ (b : Bool). is_readable x.state.role.mode x.state.progress.held piece b ≡ true) last readable) in
+      let text : wire_text x.state.role.mode (x.stored ++ more) ++ after ≡ text_of_end y =
+      ap (λ (z : List ℕ). wire_text x.state.role.mode (x.stored ++ more) ++ z) none
+      ∙ (append-nil (wire_text x.state.role.mode (x.stored ++ more))
+      ∙ (ap (wire_text x.state.role.mode) (sym bytes)
+      ∙ sym (text_else (is_sender x.state.role.side) (wire_text x.state.role.mode x.file) (wire_text x.state.role.mode sink.bytes) r.receiver))) in
       record {
         said_now = message x.address from (Says_ack number) ∷ [];
         shown = sound_view (text_of_end y) true (messages ++ message x.address from (Says_ack number) ∷ []) (acknowledged sink more after bytes d (text_of_end y) text true last);
         replies = (Ack number, spells_own (Ack number) r.fits, refl);
-        kept = record { phase = (r.receiver, r.peer); held = held_fits x.state.mode x.state.held piece more after kept.held d; committed = λ _. done };
+        kept = record { phase = (r.receiver, r.peer); held = held_fits x.state.role.mode x.state.progress.held piece more after kept.held d; committed = λ _. done };
         side = refl;
         last_sent = inr refl;
         stored = λ c. absurd (true≢false (sym c ∙ r.incomplete));
@@ -243,7 +243,7 @@ module _ (views : List EndView) (messages : List Message) (k : ℕ) (x : OpenedE
 
   -- after a commit
   commit_goes : Readable x terms piece → (refuses_commit : Holding → StoreFault → Type 0) (mid sink : Holding) (more after : List ℕ) (turn : Turn) → mid.bytes ≡ x.stored ++ more → mid.committed ≡ false →
-      Decoded x.state.mode x.state.held piece more after → nat_lt (length piece) terms.size ≡ true →
+      Decoded x.state.role.mode x.state.progress.held piece more after → nat_lt (length piece) terms.size ≡ true →
       Committed (world_sink refuses_commit) terms number from (holding after x.state) mid turn sink →
       Goes views messages k x turn (end_after x turn (Sink sink))
   commit_goes readable refuses_commit mid sink more after turn bytes un d last c =
@@ -255,28 +255,28 @@ module _ (views : List EndView) (messages : List Message) (k : ℕ) (x : OpenedE
             subst (λ (z : Turn). Goes views messages k x z (end_after x z (Sink sink))) (sym turn_is) (whole_goes readable sink more after (same ∙ bytes) done d last)
         by_commit answer t (Not_yet fault err same still) =
             let turn_is : turn ≡ refused_turn terms (commit_reply fault) outcomes.StoreFault from (holding after x.state) = t ∙ ap (committed_turn terms number from (holding after x.state)) err in
-            let begins : IsBeginningOf (wire_text x.state.mode sink.bytes) (text_of_end x ++ piece) =
-            (after, ap (λ (z : List ℕ). wire_text x.state.mode z ++ after) (same ∙ bytes) ∙ sym (more_text more after d)) in
+            let begins : IsBeginningOf (wire_text x.state.role.mode sink.bytes) (text_of_end x ++ piece) =
+            (after, ap (λ (z : List ℕ). wire_text x.state.role.mode z ++ after) (same ∙ bytes) ∙ sym (more_text more after d)) in
             subst (λ (z : Turn). Goes views messages k x z (end_after x z (Sink sink))) (sym turn_is)
-            (refused_goes after sink (commit_reply fault) outcomes.StoreFault (held_fits x.state.mode x.state.held piece more after kept.held d) (still ∙ un) begins)
+            (refused_goes after sink (commit_reply fault) outcomes.StoreFault (held_fits x.state.role.mode x.state.progress.held piece more after kept.held d) (still ∙ un) begins)
 
   -- after an append
   append_goes : Readable x terms piece → (refuses_commit : Holding → StoreFault → Type 0) (mid sink : Holding) (more after : List ℕ) (turn : Turn) (answer : Result Done StoreFault) (last : Bool) → nat_lt (length piece) terms.size ≡ last →
-      Decoded x.state.mode x.state.held piece more after → Took (holding_of x) mid more answer →
+      Decoded x.state.role.mode x.state.progress.held piece more after → Took (holding_of x) mid more answer →
       GoesOn (world_sink refuses_commit) terms number from x.state last after mid answer turn sink →
       Goes views messages k x turn (end_after x turn (Sink sink))
   append_goes readable refuses_commit mid sink more after turn (Err f) last is d (All_of_it ok same un) h = absurd (let e : Err f ≡ Ok tt = ok in cc)
   append_goes readable refuses_commit mid sink more after turn (Ok u) last is d (None_of_it fault err same still) h = absurd (let e : Ok u ≡ Err fault = err in cc)
   append_goes readable refuses_commit mid sink more after turn (Err f) last is d (None_of_it fault err same still) h =
-      let w = wire_text x.state.mode x.stored in
-      let begins : IsBeginningOf (wire_text x.state.mode mid.bytes) (text_of_end x ++ piece) = (
-        x.state.held ++ piece,
-        ap (λ (z : List ℕ). wire_text x.state.mode z ++ (x.state.held ++ piece)) same
-            ∙ (sym (append_assoc w x.state.held piece) ∙ ap (λ (z : List ℕ). z ++ piece) (sym told)),
+      let w = wire_text x.state.role.mode x.stored in
+      let begins : IsBeginningOf (wire_text x.state.role.mode mid.bytes) (text_of_end x ++ piece) = (
+        x.state.progress.held ++ piece,
+        ap (λ (z : List ℕ). wire_text x.state.role.mode z ++ (x.state.progress.held ++ piece)) same
+            ∙ (sym (append_assoc w x.state.progress.held piece) ∙ ap (λ (z : List ℕ). z ++ piece) (sym told)),
       ) in
       subst (λ (z : Holding). Goes views messages k x turn (end_after x turn (Sink z))) (sym h.1)
       (subst (λ (t : Turn). Goes views messages k x t (end_after x t (Sink mid))) (sym h.0)
-      (refused_goes x.state.held mid replies.DiskFull outcomes.StoreFault kept.held (still ∙ uncommitted) begins))
+      (refused_goes x.state.progress.held mid replies.DiskFull outcomes.StoreFault kept.held (still ∙ uncommitted) begins))
   append_goes readable refuses_commit mid sink more after turn (Ok u) true is d (All_of_it ok same un) h =
       commit_goes readable refuses_commit mid sink more after turn same (un uncommitted) d is h
   append_goes readable refuses_commit mid sink more after turn (Ok u) false is d (All_of_it ok same un) h =
@@ -289,7 +289,7 @@ module _ (views : List EndView) (messages : List Message) (k : ℕ) (x : OpenedE
       StoresIn memory_source (world_sink refuses_commit) terms number from piece x.state (files_of x) turn held →
       Goes views messages k x turn (end_after x turn held)
   block_goes readable refuses_commit turn held h =
-      let f = stores_in (is_sender x.state.side) r.receiver refuses_commit terms number from piece x.state x.left (holding_of x) turn held h in
+      let f = stores_in (is_sender x.state.role.side) r.receiver refuses_commit terms number from piece x.state x.left (holding_of x) turn held h in
       let b = f.2 in
       subst (λ (fs : Files (List ℕ) Holding). Goes views messages k x turn (end_after x turn fs)) (sym f.1)
       (append_goes readable refuses_commit b.mid f.0 b.bytes b.after turn b.answer (nat_lt (length piece) terms.size) refl b.decoded

@@ -23,7 +23,7 @@ use Rattle.tftp_ends.specs.declared.phase.Phase.TheVariants.{Sending}
 use Rattle.tftp_ends.specs.declared.phase.Terms.{Terms}
 use Rattle.tftp_ends.specs.declared.action.Response.TheVariants.{Complete}
 use Rattle.tftp_ends.specs.End.{EndState, is_sender}
-use Rattle.tftp_ends.specs.Step.{Turn, response_turn, after, Sends, SendsFrom, sent_turn, refused_turn, data_bytes, block_length, filled_turn, result_count_is}
+use Rattle.tftp_ends.specs.Step.{Turn, response_turn, after, Sends, SendsFrom, sent_turn, refused_turn, data_bytes, block_length, filled_turn, result_count_is, after_turn, with_progress}
 use Rattle.tftp_player.specs.Machine.{Endpoint, Data as Says_data, Ack as Says_ack, Message}
 use Rattle.tftp_player.specs.Rules.{message}
 use Rattle.tftp_player.specs.Said.{said}
@@ -44,12 +44,12 @@ back : (n : ℕ) → n + 1 - 1 ≡ n
 back n = omega arith
 
 -- as much is wanted of the source as it can give of a block
-requested_end : (terms : Terms) (n : ℕ) (e : EndState) (text left : List ℕ) → e.length ≡ length text → left ≡ drop (n * terms.size) text →
-    block_length e.length terms.size (n + 1) ≡ min terms.size (length left)
+requested_end : (terms : Terms) (n : ℕ) (e : EndState) (text left : List ℕ) → e.role.length ≡ length text → left ≡ drop (n * terms.size) text →
+    block_length e.role.length terms.size (n + 1) ≡ min terms.size (length left)
 requested_end terms n e text left measured behind =
     let rest : length left ≡ length text - n * terms.size = ap length behind ∙ length-drop (n * terms.size) text in
-    let first : block_length e.length terms.size (n + 1) ≡ min terms.size (e.length - n * terms.size) =
-    ap (λ (m : ℕ). min terms.size (e.length - m * terms.size)) (back n) in
+    let first : block_length e.role.length terms.size (n + 1) ≡ min terms.size (e.role.length - n * terms.size) =
+    ap (λ (m : ℕ). min terms.size (e.role.length - m * terms.size)) (back n) in
     first ∙ ap (min terms.size) (ap (λ (l : ℕ). l - n * terms.size) measured ∙ sym rest)
 
 whole_count : (size l : ℕ) → min (min size l) l ≡ min size l
@@ -68,18 +68,18 @@ counted : (want : ℕ) (k : ℕ) → k ≡ want → result_count_is want (Ok k) 
 counted want k e = eq-eqb k want e
 
 filled : (terms : Terms) (number : ℕ) (from : Endpoint) (piece : List ℕ) (e : EndState) (answer : Result ℕ FileFault) →
-    result_count_is (block_length e.length terms.size number) answer ≡ true →
+    result_count_is (block_length e.role.length terms.size number) answer ≡ true →
     filled_turn terms number from piece e answer ≡ sent_turn (Sending terms number) from (data_bytes number piece) e
 filled terms number from piece e answer h =
     ap (λ (b : Bool). if b then sent_turn (Sending terms number) from (data_bytes number piece) e else refused_turn terms replies.FileChanged outcomes.SourceFault from e) h
 
 -- a source in memory gives the next block
 pub block_sent : (terms : Terms) (n : ℕ) (from : Endpoint) (e : EndState) (text left : List ℕ) (turn : Turn) (left' : List ℕ) →
-    e.length ≡ length text → left ≡ drop (n * terms.size) text →
+    e.role.length ≡ length text → left ≡ drop (n * terms.size) text →
     Sends memory_source terms (n + 1) from e left turn left' → BlockSent terms n from e text turn left'
 block_sent terms n from e text left turn left' measured behind h = by_answer h.answer h.reads.fills h.reads.read h.reads.memory h.answers where
   by_answer : (answer : Result ℕ FileFault) →
-      Fills (Some left) (Some left') (block_length e.length terms.size (n + 1)) [] h.piece answer →
+      Fills (Some left) (Some left') (block_length e.role.length terms.size (n + 1)) [] h.piece answer →
       (answer ≡ Err file_faults.Read → ⊥) → answer ≢ Err file_faults.Memory → turn ≡ filled_turn terms (n + 1) from h.piece e answer →
       BlockSent terms n from e text turn left'
   by_answer (Err file_faults.Read) f r m a = absurd (r refl)
@@ -87,7 +87,7 @@ block_sent terms n from e text left turn left' measured behind h = by_answer h.a
   by_answer (Ok k) f r m a =
       let want = requested_end terms n e text left measured behind in
       let count : k ≡ min terms.size (length left) = f.count ∙ (ap (λ (w : ℕ). min w (length left)) want ∙ whole_count terms.size (length left)) in
-      let turns = filled terms (n + 1) from h.piece e (Ok k) (counted (block_length e.length terms.size (n + 1)) k (count ∙ sym want)) in
+      let turns = filled terms (n + 1) from h.piece e (Ok k) (counted (block_length e.role.length terms.size (n + 1)) k (count ∙ sym want)) in
       let piece : h.piece ≡ block text terms.size (n + 1) =
       f.given ∙ (ap (λ (j : ℕ). take j left) count ∙ (take_min terms.size left ∙ block_next text left terms.size n behind)) in
       let rest : left' ≡ drop k left = same_Some left' (drop k left) f.rest in
@@ -123,23 +123,23 @@ data_turn x terms n from =
 -- the end after it
 abbrev pub data_end : OpenedEnd → Terms → ℕ → Endpoint → OpenedEnd
 data_end x terms n from =
-    record (in_state (data_turn x terms n from).end x) { left = drop ((n + 1) * terms.size) (sent_text x) }
+    record (in_state (after_turn x.state (data_turn x terms n from)) x) { left = drop ((n + 1) * terms.size) (sent_text x) }
 
 -- an action that sends has sent the next block
 pub data_goes : (views : List EndView) (messages : List Message) (k : ℕ) (x : OpenedEnd) (terms : Terms) (n : ℕ) (from : Endpoint) (turn : Turn) (held : Files (List ℕ) Holding) (refuses_commit : Holding → StoreFault → Type 0) →
-    is_sender x.state.side ≡ true → x.state.length ≡ length (sent_text x) → x.left ≡ drop (n * terms.size) (sent_text x) →
+    is_sender x.state.role.side ≡ true → x.state.role.length ≡ length (sent_text x) → x.left ≡ drop (n * terms.size) (sent_text x) →
     Goes views messages k x (data_turn x terms n from) (data_end x terms n from) →
     SendsFrom memory_source (world_sink refuses_commit) terms (n + 1) from x.state (files_of x) turn held →
     Goes views messages k x turn (end_after x turn held)
 data_goes views messages k x terms n from turn held refuses_commit sender measured behind g h =
-    let f = sends_from (is_sender x.state.side) sender refuses_commit terms (n + 1) from x.state x.left (holding_of x) turn held h in
+    let f = sends_from (is_sender x.state.role.side) sender refuses_commit terms (n + 1) from x.state x.left (holding_of x) turn held h in
     let b = block_sent terms n from x.state (sent_text x) x.left turn f.0 measured behind f.2 in
     subst (λ (fs : Files (List ℕ) Holding). Goes views messages k x turn (end_after x turn fs)) (sym f.1)
     (subst (λ (t : Turn). Goes views messages k x t (end_after x t (Source f.0))) (sym b.turn_is)
     (subst (λ (l : List ℕ). Goes views messages k x (data_turn x terms n from) (end_after x (data_turn x terms n from) (Source l))) (sym b.left_is) g))
 
 -- the sender's state after a block is kept
-pub data_kept : (x : OpenedEnd) (terms : Terms) (n : ℕ) (from : Endpoint) → EndKept x → x.state.length ≡ length (sent_text x) → is_sender x.state.side ≡ true → 0 < terms.size → terms.size ≤ 65464 →
+pub data_kept : (x : OpenedEnd) (terms : Terms) (n : ℕ) (from : Endpoint) → EndKept x → x.state.role.length ≡ length (sent_text x) → is_sender x.state.role.side ≡ true → 0 < terms.size → terms.size ≤ 65464 →
     Fits (sent_text x) terms.size → n + 1 ≤ block_count (sent_text x) terms.size → from ≡ terms.peer → EndKept (data_end x terms n from)
 data_kept x terms n from kept measured sender positive small fits l peer = record {
   phase = record { sender = sender; positive = positive; size = small; fits = fits; so_far = l; left = refl; last_sent_to = peer; measured = measured };
@@ -161,7 +161,7 @@ module _ (views : List EndView) (messages : List Message) (k : ℕ) (x0 : Opened
       let x = placed (Sending terms n) x0 in
       let u = kept.phase in
       let text = sent_text x in
-      let told : text_of_end x ≡ text = text_if (is_sender x.state.side) text (received_text x) u.sender in
+      let told : text_of_end x ≡ text = text_if (is_sender x.state.role.side) text (received_text x) u.sender in
       let l : n + 1 ≤ block_count text terms.size = omega arith in
       let packet = Data (n + 1) (block text terms.size (n + 1)) in
       let room : n < block_count (text_of_end x) terms.size = subst (λ (t : List ℕ). n < block_count t terms.size) (sym told) more in
@@ -178,16 +178,16 @@ module _ (views : List EndView) (messages : List Message) (k : ℕ) (x0 : Opened
 
   -- the last block is acknowledged
   pub ends_whole : (from : Endpoint) → terms.peer ≡ from → Contains messages (message from x0.address (Says_ack n)) → n ≡ block_count (sent_text x0) terms.size →
-      Goes views messages k (placed (Sending terms n) x0) (response_turn Complete from (placed (Sending terms n) x0).state) (in_state (after Complete from (placed (Sending terms n) x0).state) (placed (Sending terms n) x0))
+      Goes views messages k (placed (Sending terms n) x0) (response_turn Complete from (placed (Sending terms n) x0).state) (in_state (with_progress (after Complete from (placed (Sending terms n) x0).state) (placed (Sending terms n) x0).state) (placed (Sending terms n) x0))
   ends_whole from peer acked last =
       let x = placed (Sending terms n) x0 in
       let u = kept.phase in
       let text = sent_text x in
-      let told : text_of_end x ≡ text = text_if (is_sender x.state.side) text (received_text x) u.sender in
+      let told : text_of_end x ≡ text = text_if (is_sender x.state.role.side) text (received_text x) u.sender in
       let whole : n ≡ block_count (text_of_end x) terms.size = subst (λ (t : List ℕ). n ≡ block_count t terms.size) (sym told) last in
       let shown_now = completes views messages k (view_of_end x) s from (refl, refl) u.sender (ap Some peer) acked whole in
-      let y = in_state (after Complete from x.state) x in
-      let still : text_of_end x ≡ text_of_end y = told ∙ sym (text_if (is_sender x.state.side) text (received_text y) u.sender) in
+      let y = in_state (with_progress (after Complete from x.state) x.state) x in
+      let still : text_of_end x ≡ text_of_end y = told ∙ sym (text_if (is_sender x.state.role.side) text (received_text y) u.sender) in
       record {
         said_now = [];
         shown = subst (λ (ms : List Message). IsShown (set views k (view_of_end y)) ms) (sym (append-nil messages))

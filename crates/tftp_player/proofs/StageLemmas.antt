@@ -9,7 +9,7 @@ use Rattle.tftp_ends.specs.declared.outcome.Outcome.{Outcome}
 use Rattle.tftp_ends.specs.declared.record.Record.{Record}
 use Rattle.tftp_ends.specs.End.{EndState, is_sender, is_client, outcome_of, record_of}
 use Rattle.tftp_ends.specs.Files.{AreFilesOf, AreSame}
-use Rattle.tftp_ends.specs.Step.{Turn}
+use Rattle.tftp_ends.specs.Step.{Turn, after_turn}
 use Rattle.tftp_server.specs.Draft.{KeepsStore}
 use Rattle.tftp_server.specs.Memory.{with_told}
 use Rattle.tftp_server.specs.State.{at, draft_of, with_next, without}
@@ -30,7 +30,6 @@ use Rattle.tftp_player.proofs.HeldLemmas.{AreBelow, AllKeys-with_next, AllKeys-w
 use Rattle.tftp_player.proofs.OwnedLemmas.{AllOwned, client_owned, server_owned, closed_owned}
 use Rattle.tftp_player.proofs.PlacedEnds.{is_transfer, is_transfer-rest}
 use Rattle.tftp_player.proofs.Resting.{at_rest_open, at_rest_record, rest_is_record}
-use Rattle.tftp_player.proofs.TurnKeeps.{KeepsKind}
 
 -- an end is told by what is held at its port
 pub by_port : (port : ℕ) (held held' : List (ℕ × Transfer)) (p : Player) → at port held' ≡ at port held → end_at port held' p ≡ end_at port held p
@@ -72,8 +71,8 @@ pub record Stepped (port : ℕ) (p : Player) (x : OpenedEnd) (p' : Player) (befo
   pub config : after.config ≡ before.config
 
 -- ---- a client
-pub client_files : (port : ℕ) (c : PlayedClient) → AreFilesOf c.end.side c.files → files_of (client_end port c) ≡ c.files
-client_files port c fits = by_kind c.end.side c.files fits where
+pub client_files : (port : ℕ) (c : PlayedClient) → AreFilesOf c.end.role.side c.files → files_of (client_end port c) ≡ c.files
+client_files port c fits = by_kind c.end.role.side c.files fits where
   by_kind : (side : _) (files : Files (List ℕ) Holding) → AreFilesOf side files →
       (if is_sender side then Source (left_in files) else Sink (record { bytes = (holding_in files).bytes; committed = (holding_in files).committed; refuses = (holding_in files).refuses })) ≡ files
   by_kind side (Source left) f = ap (λ (b : Bool). if b then Source left else Sink no_holding) f
@@ -88,25 +87,25 @@ same_kind (Source left) = tt
 same_kind (Sink holding) = tt
 
 client_after : (port : ℕ) (c : PlayedClient) (turn : Turn) (old new : Files (List ℕ) Holding) → SameKind old new →
-    client_end port (record { end = turn.end; files = new; file = c.file }) ≡ end_after (client_end port (record { end = c.end; files = old; file = c.file })) turn new
+    client_end port (record { end = after_turn c.end turn; files = new; file = c.file }) ≡ end_after (client_end port (record { end = c.end; files = old; file = c.file })) turn new
 client_after port c turn (Source left) (Source left') k = refl
 client_after port c turn (Sink holding) (Sink holding') k = refl
 client_after port c turn (Source left) (Sink holding) k = absurd k
 client_after port c turn (Sink holding) (Source left) k = absurd k
 
-files_kept : (side side' : _) (old new : Files (List ℕ) Holding) → is_sender side' ≡ is_sender side → SameKind old new → AreFilesOf side old → AreFilesOf side' new
-files_kept side side' (Source left) (Source left') e k f = e ∙ f
-files_kept side side' (Sink holding) (Sink holding') e k f = e ∙ f
-files_kept side side' (Source left) (Sink holding) e k f = absurd k
-files_kept side side' (Sink holding) (Source left) e k f = absurd k
+files_kept : (side : _) (old new : Files (List ℕ) Holding) → SameKind old new → AreFilesOf side old → AreFilesOf side new
+files_kept side (Source left) (Source left') k f = f
+files_kept side (Sink holding) (Sink holding') k f = f
+files_kept side (Source left) (Sink holding) k f = absurd k
+files_kept side (Sink holding) (Source left) k f = absurd k
 
-pub no_transfer : (x : OpenedEnd) → is_client x.state.side ≡ true → is_transfer x ≡ false
+pub no_transfer : (x : OpenedEnd) → is_client x.state.role.side ≡ true → is_transfer x ≡ false
 no_transfer x e = ap (λ (b : Bool). not b && not (is_closed x)) e
 
 pub client_open : (port : ℕ) (c c' : PlayedClient) (server : PlayedServer) (turn : Turn) (files : Files (List ℕ) Holding) (effect : Effect) (r : Record) →
-    PlayerKept port server.held (Client c) → is_some (outcome_of c.end.phase) ≡ false → ClientTurns port c c' turn files effect r → SameKind c.files files → KeepsKind c.end turn.end →
+    PlayerKept port server.held (Client c) → is_some (outcome_of c.end.progress.phase) ≡ false → ClientTurns port c c' turn files effect r → SameKind c.files files →
     Stepped port (Client c) (client_end port c) (Client c') server server turn files effect r
-client_open port c c' server turn files effect r kept open_now t kind keeps =
+client_open port c c' server turn files effect r kept open_now t kind =
     let client : client_end port c' ≡ end_after (client_end port c) turn files = ap (client_end port) t.client ∙ client_after port c turn c.files files kind in
     record {
       open_now = open_now;
@@ -114,14 +113,14 @@ client_open port c c' server turn files effect r kept open_now t kind keeps =
       end = ap at_rest client;
       recorded = t.recorded ∙ (ap (λ (k : PlayedClient). record_of k.end) (sym t.client) ∙ sym (at_rest_record (client_end port c')));
       kept = (
-        ap (λ (k : PlayedClient). is_client k.end.side) t.client ∙ (ap is_client keeps.side ∙ kept.0),
-        subst (λ (k : PlayedClient). AreFilesOf k.end.side k.files) (sym t.client) (files_kept c.end.side turn.end.side c.files files (ap is_sender keeps.side) kind kept.1),
+        ap (λ (k : PlayedClient). is_client k.end.role.side) t.client ∙ kept.0,
+        subst (λ (k : PlayedClient). AreFilesOf k.end.role.side k.files) (sym t.client) (files_kept c.end.role.side c.files files kind kept.1),
       );
       others = λ other n. refl;
       below = λ tid b. b;
       counted = inl (
         is_transfer-rest (client_end port c')
-            ∙ (no_transfer (client_end port c') (ap (λ (k : PlayedClient). is_client k.end.side) t.client ∙ (ap is_client keeps.side ∙ kept.0))
+            ∙ (no_transfer (client_end port c') (ap (λ (k : PlayedClient). is_client k.end.role.side) t.client ∙ kept.0)
             ∙ sym (no_transfer (client_end port c) kept.0)),
         refl,
       );
@@ -133,15 +132,15 @@ client_open port c c' server turn files effect r kept open_now t kind keeps =
 
 -- as it stands in the world
 pub client_steps : (port : ℕ) (c c' : PlayedClient) (before after : PlayedServer) (turn : Turn) (files : Files (List ℕ) Holding) (effect : Effect) (r : Record) →
-    PlayerKept port before.held (Client c) → is_some (outcome_of c.end.phase) ≡ false → ClientTurns port c c' turn files effect r → after ≡ before → SameKind c.files files → KeepsKind c.end turn.end →
+    PlayerKept port before.held (Client c) → is_some (outcome_of c.end.progress.phase) ≡ false → ClientTurns port c c' turn files effect r → after ≡ before → SameKind c.files files →
     Stepped port (Client c) (end_at port before.held (Client c)) (Client c') before after turn files effect r
-client_steps port c c' before after turn files effect r kept open_now t same kind keeps =
+client_steps port c c' before after turn files effect r kept open_now t same kind =
     subst (λ (s : PlayedServer). Stepped port (Client c) (end_at port before.held (Client c)) (Client c') before s turn files effect r) (sym same)
     (subst (λ (x : OpenedEnd). Stepped port (Client c) x (Client c') before before turn files effect r) (sym (at_rest_open (client_end port c) open_now))
-    (client_open port c c' before turn files effect r kept open_now t kind keeps))
+    (client_open port c c' before turn files effect r kept open_now t kind))
 
 -- what its end has for a file
-pub client_at_rest : (port : ℕ) (c : PlayedClient) (held : List (ℕ × Transfer)) → AreFilesOf c.end.side c.files → is_some (outcome_of c.end.phase) ≡ false →
+pub client_at_rest : (port : ℕ) (c : PlayedClient) (held : List (ℕ × Transfer)) → AreFilesOf c.end.role.side c.files → is_some (outcome_of c.end.progress.phase) ≡ false →
     (x : OpenedEnd) × (end_at port held (Client c) ≡ x) × (x.state ≡ c.end) × (files_of x ≡ c.files)
 client_at_rest port c held fits open_now = (client_end port c, at_rest_open (client_end port c) open_now, refl, client_files port c fits)
 
@@ -169,7 +168,7 @@ abbrev pub held_files : Bool → Files (List ℕ) Drafted → Files (List ℕ) H
 held_files refuses (Source left) = Source left
 held_files refuses (Sink draft) = Sink (record { bytes = draft.bytes; committed = draft.committed; refuses = refuses })
 
-pub served_files : (port : ℕ) (s : Served) (e : EndState) (files : Files (List ℕ) Drafted) (request : List ℕ) → AreFilesOf e.side files →
+pub served_files : (port : ℕ) (s : Served) (e : EndState) (files : Files (List ℕ) Drafted) (request : List ℕ) → AreFilesOf e.role.side files →
     files_of (served_as port s e (left_in files) (draft_of files) request) ≡ held_files s.refuses files
 served_files port s e (Source left) request fits =
     ap (λ (b : Bool). if b then Source left else Sink (record { bytes = []; committed = false; refuses = s.refuses })) fits
@@ -184,11 +183,11 @@ pub same_draft_kind : (files : Files (List ℕ) Drafted) → SameDraftKind files
 same_draft_kind (Source left) = tt
 same_draft_kind (Sink draft) = tt
 
-drafts_kept : (side side' : _) (old new : Files (List ℕ) Drafted) → is_sender side' ≡ is_sender side → SameDraftKind old new → AreFilesOf side old → AreFilesOf side' new
-drafts_kept side side' (Source left) (Source left') e k f = e ∙ f
-drafts_kept side side' (Sink draft) (Sink draft') e k f = e ∙ f
-drafts_kept side side' (Source left) (Sink draft) e k f = absurd k
-drafts_kept side side' (Sink draft) (Source left) e k f = absurd k
+drafts_kept : (side : _) (old new : Files (List ℕ) Drafted) → SameDraftKind old new → AreFilesOf side old → AreFilesOf side new
+drafts_kept side (Source left) (Source left') k f = f
+drafts_kept side (Sink draft) (Sink draft') k f = f
+drafts_kept side (Source left) (Sink draft) k f = absurd k
+drafts_kept side (Sink draft) (Source left) k f = absurd k
 
 -- a receiver has a draft
 pub has_draft : (side : _) (files : Files (List ℕ) Drafted) → AreFilesOf side files → is_some (draft_of files) ≡ not (is_sender side)
@@ -210,9 +209,9 @@ keeps_told (Sink draft) before after told k = tt
 
 -- a turn of its end in the world
 served_after : (port : ℕ) (s : Served) (e : EndState) (turn : Turn) (old new : Files (List ℕ) Drafted) (refuses : Bool) (request : List ℕ) → SameDraftKind old new → KeepsTold old s.refuses refuses →
-    end_after (served_as port s e (left_in old) (draft_of old) request) turn (held_files refuses new) ≡ served_as port (record s { refuses = refuses }) turn.end (left_in new) (draft_of new) request
+    end_after (served_as port s e (left_in old) (draft_of old) request) turn (held_files refuses new) ≡ served_as port (record s { refuses = refuses }) (after_turn e turn) (left_in new) (draft_of new) request
 served_after port s e turn (Source left) (Source left') refuses request k told =
-    ap (λ (b : Bool). served_as port (record s { refuses = b }) turn.end left' None request) (sym told)
+    ap (λ (b : Bool). served_as port (record s { refuses = b }) (after_turn e turn) left' None request) (sym told)
 served_after port s e turn (Sink draft) (Sink draft') refuses request k told = refl
 served_after port s e turn (Source left) (Sink draft) refuses request k told = absurd k
 served_after port s e turn (Sink draft) (Source left) refuses request k told = absurd k
@@ -226,15 +225,15 @@ some_of (Some a) e = (a, refl)
 
 -- what a turn of a transfer h makes of it, next, beside its end
 pub record TransferGoes (h next : Transfer) (turn : Turn) (was refuses : Bool) : Type 0 where
-  pub end : next.end ≡ turn.end
+  pub end : next.end ≡ after_turn h.end turn
   pub kind : SameDraftKind h.files next.files
   pub path : next.path ≡ h.path
   pub request : next.request ≡ h.request
   pub told : KeepsTold h.files was refuses
-  pub commits : CommitsLast next.files turn.end.phase
+  pub commits : CommitsLast next.files turn.progress.phase
 
 module _ (port : ℕ) (s : Served) (before : PlayedServer) (h next : Transfer) (turn : Turn) (refuses : Bool) (store : Stored) (effect : Effect) (r : Record)
-    (found : at port before.held ≡ Some h) (open_now : is_some s.ended ≡ false) (kept : ServedKept port s before.held) (keeps : KeepsKind h.end turn.end) (recorded : r ≡ record_of turn.end)
+    (found : at port before.held ≡ Some h) (open_now : is_some s.ended ≡ false) (kept : ServedKept port s before.held) (recorded : r ≡ record_of (after_turn h.end turn))
     (goes : TransferGoes h next turn s.refuses refuses) where
   abbrev told : Served
   told = record s { refuses = refuses }
@@ -251,62 +250,62 @@ module _ (port : ℕ) (s : Served) (before : PlayedServer) (h next : Transfer) (
   here : h ≡ kept.transfer
   here = same_transfer h kept.transfer (sym found ∙ kept.found)
 
-  mode_is : turn.end.mode ≡ s.mode
-  mode_is = keeps.mode ∙ (ap (λ (t : Transfer). t.end.mode) here ∙ kept.mode)
+  mode_is : h.end.role.mode ≡ s.mode
+  mode_is = ap (λ (t : Transfer). t.end.role.mode) here ∙ kept.mode
 
-  side_is : is_client turn.end.side ≡ false
-  side_is = ap is_client keeps.side ∙ (ap (λ (t : Transfer). is_client t.end.side) here ∙ kept.side)
+  side_is : is_client h.end.role.side ≡ false
+  side_is = ap (λ (t : Transfer). is_client t.end.role.side) here ∙ kept.side
 
   path_is : next.path ≡ s.path
   path_is = goes.path ∙ (ap (λ (t : Transfer). t.path) here ∙ kept.path)
 
-  fits : AreFilesOf turn.end.side next.files
-  fits = drafts_kept h.end.side turn.end.side h.files next.files (ap is_sender keeps.side) goes.kind (subst (λ (t : Transfer). AreFilesOf t.end.side t.files) (sym here) kept.files)
+  fits : AreFilesOf h.end.role.side next.files
+  fits = drafts_kept h.end.role.side h.files next.files goes.kind (subst (λ (t : Transfer). AreFilesOf t.end.role.side t.files) (sym here) kept.files)
 
-  after_is : x1 ≡ served_as port told turn.end (left_in next.files) draft h.request
+  after_is : x1 ≡ served_as port told (after_turn h.end turn) (left_in next.files) draft h.request
   after_is = served_after port s h.end turn h.files next.files refuses h.request goes.kind goes.told
 
-  phase_is : x1.state ≡ turn.end
+  phase_is : x1.state ≡ after_turn h.end turn
   phase_is = ap (λ (y : OpenedEnd). y.state) after_is
 
   -- the end, by whether it has closed
-  end_by : (b : Bool) → is_some (outcome_of turn.end.phase) ≡ b →
+  end_by : (b : Bool) → is_some (outcome_of turn.progress.phase) ≡ b →
       end_at port (rested_held b port (with_next port next before.held)) (Server (rested_served b r draft told)) ≡ at_rest x1
   end_by true closed =
-      let o = some_of (outcome_of turn.end.phase) closed in
-      let y = served_as port told turn.end (left_in next.files) draft h.request in
+      let o = some_of (outcome_of turn.progress.phase) closed in
+      let y = served_as port told (after_turn h.end turn) (left_in next.files) draft h.request in
       let outcome : r.outcome ≡ Some o.0 = ap (λ (q : Record). q.outcome) recorded ∙ o.1 in
-      let state : closed_state s.mode r (ended_as r.outcome) ≡ rest_state turn.end.phase turn.end =
+      let state : closed_state s.mode r (ended_as r.outcome) ≡ rest_state turn.progress.phase (after_turn h.end turn) =
       ap (λ (q : Outcome). closed_state s.mode r q) (ended_is r.outcome o.0 outcome)
       ∙ (ap (λ (m : _). closed_state m r o.0) (sym mode_is)
-      ∙ (ap (λ (q : Record). closed_state turn.end.mode q o.0) recorded
+      ∙ (ap (λ (q : Record). closed_state h.end.role.mode q o.0) recorded
       ∙ sym (rest_is_record y o.0 o.1))) in
-      let none : (bytes : List ℕ) → [] ≡ while_open turn.end.phase bytes = λ bytes. ap (λ (b : Bool). if b then [] else bytes) (sym closed) in
+      let none : (bytes : List ℕ) → [] ≡ while_open turn.progress.phase bytes = λ bytes. ap (λ (b : Bool). if b then [] else bytes) (sym closed) in
       ap (λ (e : EndState). served_as port told e [] draft []) state
-      ∙ (ap (λ (l : List ℕ). served_as port told (rest_state turn.end.phase turn.end) l draft []) (none (left_in next.files))
-      ∙ (ap (λ (l : List ℕ). served_as port told (rest_state turn.end.phase turn.end) (while_open turn.end.phase (left_in next.files)) draft l) (none h.request)
+      ∙ (ap (λ (l : List ℕ). served_as port told (rest_state turn.progress.phase (after_turn h.end turn)) l draft []) (none (left_in next.files))
+      ∙ (ap (λ (l : List ℕ). served_as port told (rest_state turn.progress.phase (after_turn h.end turn)) (while_open turn.progress.phase (left_in next.files)) draft l) (none h.request)
       ∙ ap at_rest (sym after_is)))
   end_by false still =
       served_is port told (with_next port next before.held) next open_now (at-with_next port h next before.held found)
       ∙ (ap (λ (e : EndState). served_as port told e (left_in next.files) draft next.request) goes.end
-      ∙ (ap (λ (l : List ℕ). served_as port told turn.end (left_in next.files) draft l) goes.request
-      ∙ (sym after_is ∙ sym (at_rest_open x1 (ap (λ (e : EndState). is_some (outcome_of e.phase)) phase_is ∙ still)))))
+      ∙ (ap (λ (l : List ℕ). served_as port told (after_turn h.end turn) (left_in next.files) draft l) goes.request
+      ∙ (sym after_is ∙ sym (at_rest_open x1 (ap (λ (e : EndState). is_some (outcome_of e.progress.phase)) phase_is ∙ still)))))
 
-  kept_by : (b : Bool) → is_some (outcome_of turn.end.phase) ≡ b → PlayerKept port (rested_held b port (with_next port next before.held)) (Server (rested_served b r draft told))
+  kept_by : (b : Bool) → is_some (outcome_of turn.progress.phase) ≡ b → PlayerKept port (rested_held b port (with_next port next before.held)) (Server (rested_served b r draft told))
   kept_by true closed = record {
     closed = ap (λ (q : Record). is_some q.outcome) recorded ∙ closed;
     side = ap (λ (q : Record). is_client q.side) recorded ∙ side_is;
-    draft = has_draft turn.end.side next.files fits ∙ ap (λ (q : Record). not (is_sender q.side)) (sym recorded);
+    draft = has_draft h.end.role.side next.files fits ∙ ap (λ (q : Record). not (is_sender q.side)) (sym recorded);
   }
   kept_by false still =
       subst (λ (o : Option Record). IsServed port told o (with_next port next before.held)) (sym (not_some s.ended open_now)) (record {
         transfer = next;
         found = at-with_next port h next before.held found;
-        is_open = ap (λ (e : EndState). is_some (outcome_of e.phase)) goes.end ∙ still;
-        side = ap (λ (e : EndState). is_client e.side) goes.end ∙ side_is;
-        files = subst (λ (e : EndState). AreFilesOf e.side next.files) (sym goes.end) fits;
-        commits = subst (λ (e : EndState). CommitsLast next.files e.phase) (sym goes.end) goes.commits;
-        mode = ap (λ (e : EndState). e.mode) goes.end ∙ mode_is;
+        is_open = ap (λ (e : EndState). is_some (outcome_of e.progress.phase)) goes.end ∙ still;
+        side = ap (λ (e : EndState). is_client e.role.side) goes.end ∙ side_is;
+        files = subst (λ (e : EndState). AreFilesOf e.role.side next.files) (sym goes.end) fits;
+        commits = subst (λ (e : EndState). CommitsLast next.files e.progress.phase) (sym goes.end) goes.commits;
+        mode = ap (λ (e : EndState). e.role.mode) goes.end ∙ mode_is;
         path = path_is;
       })
 
@@ -330,20 +329,20 @@ module _ (port : ℕ) (s : Served) (before : PlayedServer) (h next : Transfer) (
   owned_by false place ps is there rises all =
       server_owned ps place (Server s) told (with_next port next before.held) there (not_some s.ended open_now) (AllKeys-with_next (IsOwned ps) port next before.held all)
 
-  transfer_now : (b : Bool) → is_some (outcome_of turn.end.phase) ≡ b →
+  transfer_now : (b : Bool) → is_some (outcome_of turn.progress.phase) ≡ b →
       is_transfer (end_at port (rested_held b port (with_next port next before.held)) (Server (rested_served b r draft told))) ≡ not b
   transfer_now b e =
       ap is_transfer (end_by b e)
       ∙ (is_transfer-rest x1
-      ∙ (ap (λ (q : EndState). not (is_client q.side) && not (is_some (outcome_of q.phase))) phase_is
-      ∙ (ap (λ (c : Bool). not c && not (is_some (outcome_of turn.end.phase))) side_is ∙ ap not e)))
+      ∙ (ap (λ (q : EndState). not (is_client q.role.side) && not (is_some (outcome_of q.progress.phase))) phase_is
+      ∙ (ap (λ (c : Bool). not c && not (is_some (outcome_of turn.progress.phase))) side_is ∙ ap not e)))
 
   transfer_was : is_transfer x0 ≡ true
   transfer_was =
-      ap (λ (t : Transfer). not (is_client t.end.side) && not (server.is_closed t)) here
+      ap (λ (t : Transfer). not (is_client t.end.role.side) && not (server.is_closed t)) here
       ∙ (ap (λ (c : Bool). not c && not (server.is_closed kept.transfer)) kept.side ∙ ap not kept.is_open)
 
-  counted_by : (b : Bool) → is_some (outcome_of turn.end.phase) ≡ b →
+  counted_by : (b : Bool) → is_some (outcome_of turn.progress.phase) ≡ b →
       ((is_transfer (end_at port (rested_held b port (with_next port next before.held)) (Server (rested_served b r draft told))) ≡ is_transfer x0) × (length (rested_held b port (with_next port next before.held)) ≡ length before.held))
       ⊎ ((is_transfer x0 ≡ true) × (is_transfer (end_at port (rested_held b port (with_next port next before.held)) (Server (rested_served b r draft told))) ≡ false) × (suc (length (rested_held b port (with_next port next before.held))) ≡ length before.held))
   counted_by true e =
@@ -354,7 +353,7 @@ module _ (port : ℕ) (s : Served) (before : PlayedServer) (h next : Transfer) (
   served_open = ap (λ (t : Transfer). server.is_closed t) here ∙ kept.is_open
 
   abbrev ended : Bool
-  ended = is_some (outcome_of turn.end.phase)
+  ended = is_some (outcome_of turn.progress.phase)
 
   stepped_so : effect ≡ effect_of (server_at port) turn → (before.store.refuses ≡ false → store.refuses ≡ false) →
       Stepped port (Server s) x0 (Server (rested_served ended r draft told)) before (record before { store = store; held = rested_held ended port (with_next port next before.held) }) turn (held_files refuses next.files)
@@ -376,13 +375,13 @@ module _ (port : ℕ) (s : Served) (before : PlayedServer) (h next : Transfer) (
 
 -- an end of the server whose transfer made a turn, as it stands in the world
 pub served_steps : (port : ℕ) (s s' : Served) (before after : PlayedServer) (h next : Transfer) (turn : Turn) (refuses : Bool) (store : Stored) (effect : Effect) (r : Record) →
-    at port before.held ≡ Some h → is_some s.ended ≡ false → PlayerKept port before.held (Server s) → KeepsKind h.end turn.end →
-    SameDraftKind h.files next.files → next.path ≡ h.path → next.request ≡ h.request → KeepsTold h.files s.refuses refuses → CommitsLast next.files turn.end.phase → (before.store.refuses ≡ false → store.refuses ≡ false) →
-    ServedTurns port s s' before after turn next refuses store effect r →
+    at port before.held ≡ Some h → is_some s.ended ≡ false → PlayerKept port before.held (Server s) →
+    SameDraftKind h.files next.files → next.path ≡ h.path → next.request ≡ h.request → KeepsTold h.files s.refuses refuses → CommitsLast next.files turn.progress.phase → (before.store.refuses ≡ false → store.refuses ≡ false) →
+    ServedTurns port s s' before after h.end turn next refuses store effect r →
     Stepped port (Server s) (end_at port before.held (Server s)) (Server s') before after turn (held_files refuses next.files) effect r
-served_steps port s s' before after h next turn refuses store effect r found open_now kept keeps kind path request told commits quiet t =
+served_steps port s s' before after h next turn refuses store effect r found open_now kept kind path request told commits quiet t =
     let goes : TransferGoes h next turn s.refuses refuses = record { end = t.end; kind = kind; path = path; request = request; told = told; commits = commits } in
     subst (λ (x : OpenedEnd). Stepped port (Server s) x (Server s') before after turn (held_files refuses next.files) effect r) (sym (served_is port s before.held h open_now found))
     (subst (λ (q : Served). Stepped port (Server s) (held_end port s h) (Server q) before after turn (held_files refuses next.files) effect r) (sym t.served)
-    (subst (λ (v : PlayedServer). Stepped port (Server s) (held_end port s h) (Server (rested_served (is_some (outcome_of turn.end.phase)) r (draft_of next.files) (record s { refuses = refuses }))) before v turn (held_files refuses next.files) effect r) (sym t.server)
-    (stepped_so port s before h next turn refuses store effect r found open_now (served_kept port s before.held open_now kept) keeps t.recorded goes t.effects quiet)))
+    (subst (λ (v : PlayedServer). Stepped port (Server s) (held_end port s h) (Server (rested_served (is_some (outcome_of turn.progress.phase)) r (draft_of next.files) (record s { refuses = refuses }))) before v turn (held_files refuses next.files) effect r) (sym t.server)
+    (stepped_so port s before h next turn refuses store effect r found open_now (served_kept port s before.held open_now kept) t.recorded goes t.effects quiet)))

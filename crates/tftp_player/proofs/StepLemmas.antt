@@ -30,7 +30,7 @@ turned_rests w k x turn held r = sym (resting_after w k x turn held w.files r)
 
 -- the turn, where the end is a client's or commits nothing now
 pub turns_as : (w : WorldState) (k : ℕ) (x : OpenedEnd) (turn : Turn) (held : Files (List ℕ) Holding) →
-    FilesAfter w.overwrite (not (is_client x.state.side) && has_committed x (end_after x turn held)) x.path (end_after x turn held).stored w.files w.files →
+    FilesAfter w.overwrite (not (is_client x.state.role.side) && has_committed x (end_after x turn held)) x.path (end_after x turn held).stored w.files w.files →
     Turns w k x turn held (report_of w x turn) (world_after w k x turn held w.files)
 turns_as w k x turn held same = record { files = w.files; stored = same; tells = refl; is = refl }
 
@@ -57,7 +57,7 @@ timeout_step w port k x r at open_now =
     let turn = timeout_turn x.state in
     let held = files_of x in
     let mid = world_after w k x turn held w.files in
-    let same = files_same w.overwrite (is_client x.state.side) x.committed (end_after x turn held).committed x.path (end_after x turn held).stored w.files (ap (λ (z : OpenedEnd). z.committed) (timeout_after x turn)) in
+    let same = files_same w.overwrite (is_client x.state.role.side) x.committed (end_after x turn held).committed x.path (end_after x turn held).stored w.files (ap (λ (z : OpenedEnd). z.committed) (timeout_after x turn)) in
     (mid, (k, x, at, subst (λ (b : Bool). TimesOut b w k x (report_of w x turn) mid) (sym open_now) (turns_as w k x turn held same)), turned_rests w k x turn held r)
 
 pub timeout_rests : (w : WorldState) (port k : ℕ) (x : OpenedEnd) → IsAtRest w → IsAtPort w port k x → is_closed x ≡ true → WorldStep w (Timeout port) no_report w
@@ -66,7 +66,7 @@ timeout_rests w port k x r at closed_now =
 
 -- an end was told to refuse its next append or commit
 told_rests : (phase : Phase) (x : OpenedEnd) → at_rest (placed phase x) ≡ placed phase x → at_rest (told_to_refuse (placed phase x)) ≡ told_to_refuse (placed phase x)
-told_rests phase x r = by_tests (is_sender (placed phase x).state.side) (is_closed (placed phase x)) where
+told_rests phase x r = by_tests (is_sender (placed phase x).state.role.side) (is_closed (placed phase x)) where
   by_tests : (b c : Bool) → at_rest (if b then placed phase x else if c then placed phase x else record (placed phase x) { refuses = true })
       ≡ (if b then placed phase x else if c then placed phase x else record (placed phase x) { refuses = true })
   by_tests true c = r
@@ -82,7 +82,7 @@ pub refuse_step : (w : WorldState) (port k : ℕ) (x : OpenedEnd) → IsAtRest w
 refuse_step w port k x r at =
     let y = told_to_refuse x in
     let v = record w { ends = slice_set w.ends k y } in
-    let own : at_rest y ≡ y = told_rests x.state.phase x (set_here w.ends k x at.there r) in
+    let own : at_rest y ≡ y = told_rests x.state.progress.phase x (set_here w.ends k x at.there r) in
     let rests : map at_rest (slice_set w.ends k y) ≡ slice_set w.ends k y =
     map-set at_rest w.ends k y ∙ (ap (λ (ends : List OpenedEnd). slice_set ends k (at_rest y)) r ∙ ap (λ (z : OpenedEnd). slice_set w.ends k z) own) in
     (v, (k, x, at, refl, refl), sym (resting_same v rests))
@@ -94,8 +94,8 @@ turned_with w k x turn held files =
 
 -- at an open end that heard it
 pub open_arrives : (w : WorldState) (k : ℕ) (x : OpenedEnd) (from : Endpoint) (bytes : List ℕ) (turn : Turn) (held : Files (List ℕ) Holding) (files : List StoredFile) → IsAtRest w → slice_get w.ends k ≡ Some x → is_closed x ≡ false →
-    EndStep (is_client x.state.side) (in_the_way w.overwrite (file_at w.files x.path)) from bytes x.state (files_of x) turn held →
-    FilesAfter w.overwrite (not (is_client x.state.side) && has_committed x (end_after x turn held)) x.path (end_after x turn held).stored w.files files →
+    EndStep (is_client x.state.role.side) (in_the_way w.overwrite (file_at w.files x.path)) from bytes x.state (files_of x) turn held →
+    FilesAfter w.overwrite (not (is_client x.state.role.side) && has_committed x (end_after x turn held)) x.path (end_after x turn held).stored w.files files →
     Lands w from x.address bytes (report_of w x turn) (turned_with w k x turn held files)
 open_arrives w k x from bytes turn held files r at open_now steps stored =
     let turns : Turns w k x turn held (report_of w x turn) (world_after w k x turn held files) = record { files = files; stored = stored; tells = refl; is = refl } in

@@ -49,20 +49,20 @@ use Rattle.tftp_player.proofs.WorldKeeps.{answered_values}
 -- ---- both ends are open
 pub record HasBegun (strangers : Bool) (old new : WorldState) (c x : OpenedEnd) : Type 0 where
   pub w : WorldState
-  pub ready : IsReady strangers w (length old.sent + 1) (datagram x.address x.state.last_sent_to x.state.last_sent)
+  pub ready : IsReady strangers w (length old.sent + 1) (datagram x.address x.state.progress.last_sent_to x.state.progress.last_sent)
   pub client_at : slice_get w.ends (length old.ends) ≡ Some c
   pub server_at : slice_get w.ends (length old.ends + 1) ≡ Some x
   pub left : IsLeft w (length old.sent + 1) new
 
-begins : (strangers : Bool) (old new w : WorldState) (c x : OpenedEnd) (accepts : Service) → HasAsked strangers old w c → c.state.last_sent_to ≡ request_port → IsLeft w (length old.sent) new → IsAccepted w c accepts →
-    is_closed x ≡ false → at_rest x ≡ x → ((report : Report) (mid : WorldState) → Serves accepts w c.address c.state.last_sent report mid → Opens w x report mid) → HasBegun strangers old new c x
+begins : (strangers : Bool) (old new w : WorldState) (c x : OpenedEnd) (accepts : Service) → HasAsked strangers old w c → c.state.progress.last_sent_to ≡ request_port → IsLeft w (length old.sent) new → IsAccepted w c accepts →
+    is_closed x ≡ false → at_rest x ≡ x → ((report : Report) (mid : WorldState) → Serves accepts w c.address c.state.progress.last_sent report mid → Opens w x report mid) → HasBegun strangers old new c x
 begins strangers old new w c x accepts has to left accepted still own opens =
     let i = length old.sent in
     let k = length old.ends in
-    let d0 = datagram c.address c.state.last_sent_to c.state.last_sent in
-    let d1 = datagram x.address x.state.last_sent_to x.state.last_sent in
+    let d0 = datagram c.address c.state.progress.last_sent_to c.state.progress.last_sent in
+    let d1 = datagram x.address x.state.progress.last_sent_to x.state.progress.last_sent in
     let g = goes_on w new i has.count left in
-    let p = port_comes w g.mid i c g.report accepts (ports_of strangers w has.ok) accepted (has.newest ∙ ap (λ (a : Endpoint). Some (datagram c.address a c.state.last_sent)) to) g.step in
+    let p = port_comes w g.mid i c g.report accepts (ports_of strangers w has.ok) accepted (has.newest ∙ ap (λ (a : Endpoint). Some (datagram c.address a c.state.progress.last_sent)) to) g.step in
     let o = has_opened w g.mid p.0 x g.report has.rests still own p.1 (opens g.report p.0 p.2) in
     let first : IsReady strangers w i d0 = record { ok = has.ok; rests = has.rests; newest = has.newest; count = has.count } in
     record {
@@ -126,7 +126,7 @@ module _ (strangers : Bool) (old new : WorldState) (name : List ℕ) (mode : Mod
 
   -- the server's end
   abbrev server_of : (agreed : List Known) → ReadsStraight old new name mode asked file agreed → OpenedEnd
-  server_of agreed h = sending_end h.run.asked reader.address reader.state.last_sent mode h.path file agreed
+  server_of agreed h = sending_end h.run.asked reader.address reader.state.progress.last_sent mode h.path file agreed
 
   server_open : (agreed : List Known) (h : ReadsStraight old new name mode asked file agreed) → (is_closed (server_of agreed h) ≡ false) × (at_rest (server_of agreed h) ≡ server_of agreed h)
   server_open [] h = (refl, refl)
@@ -140,7 +140,7 @@ module _ (strangers : Bool) (old new : WorldState) (name : List ℕ) (mode : Mod
       begins strangers old new h.run.asked reader (server_of agreed h) (Sends h.path mode h.length agreed) has refl left h.accepted own.0 own.1
       (λ report mid s.
       let same : s.0 ≡ file = same_Some s.0 file (sym s.1 ∙ (ap (λ (files : List StoredFile). file_at files h.path) has.files ∙ h.there)) in
-      subst (λ (f : List ℕ). Opens h.run.asked (sending_end h.run.asked reader.address reader.state.last_sent mode h.path f agreed) report mid) same s.2)
+      subst (λ (f : List ℕ). Opens h.run.asked (sending_end h.run.asked reader.address reader.state.progress.last_sent mode h.path f agreed) report mid) same s.2)
 
   read_plainly : IsOk strangers old → ReadsStraight old new name mode asked file [] → IsThrough old new (read_count [] (block_count text 512))
   read_plainly ok h =
@@ -177,8 +177,8 @@ module _ (strangers : Bool) (old new : WorldState) (name : List ℕ) (mode : Mod
       reader_through old new (length old.sent + 1 + 2 + 2 * m) (read_count [] (block_count text 512)) over (omega arith)
 
   -- from the server's OACK on, which the client accepts
-  read_on : (x : OpenedEnd) (st rt : Terms) (packet : Packet) → HasBegun strangers old new reader x → x.state.last_sent_to ≡ reader.address → x.state.phase ≡ Sending st 0 → x.file ≡ file → x.state.mode ≡ mode →
-      Spells packet x.state.last_sent → datagram_action reader.state x.address x.state.last_sent (Some packet) ≡ Respond (Accept rt) → st.peer ≡ reader.address → rt.peer ≡ x.address → rt.size ≡ st.size →
+  read_on : (x : OpenedEnd) (st rt : Terms) (packet : Packet) → HasBegun strangers old new reader x → x.state.progress.last_sent_to ≡ reader.address → x.state.progress.phase ≡ Sending st 0 → x.file ≡ file → x.state.role.mode ≡ mode →
+      Spells packet x.state.progress.last_sent → datagram_action reader.state x.address x.state.progress.last_sent (Some packet) ≡ Respond (Accept rt) → st.peer ≡ reader.address → rt.peer ≡ x.address → rt.size ≡ st.size →
       IsThrough old new (3 + 2 * block_count text st.size)
   read_on x st rt packet b to phase file_is mode_is spelled accepts sp rp same =
       let i = length old.sent in
@@ -186,10 +186,10 @@ module _ (strangers : Bool) (old new : WorldState) (name : List ℕ) (mode : Mod
       let sa = x.address in
       let ra = reader.address in
       let g = goes_on b.w new (i + 1) b.ready.count b.left in
-      let heard = delivered b.w g.mid (i + 1) k reader sa x.state.last_sent g.report (ports_of strangers b.w b.ready.ok) b.ready.rests
-      (b.ready.newest ∙ ap (λ (a : Endpoint). Some (datagram sa a x.state.last_sent)) to) b.client_at refl g.step in
-      let y = hears_oack b.w g.mid k reader sa x.state.last_sent g.report heard packet rt spelled accepts in
-      let d1 = datagram sa x.state.last_sent_to x.state.last_sent in
+      let heard = delivered b.w g.mid (i + 1) k reader sa x.state.progress.last_sent g.report (ports_of strangers b.w b.ready.ok) b.ready.rests
+      (b.ready.newest ∙ ap (λ (a : Endpoint). Some (datagram sa a x.state.progress.last_sent)) to) b.client_at refl g.step in
+      let y = hears_oack b.w g.mid k reader sa x.state.progress.last_sent g.report heard packet rt spelled accepts in
+      let d1 = datagram sa x.state.progress.last_sent_to x.state.progress.last_sent in
       let d2 = datagram ra sa (ack_bytes 0) in
       let ready = ready_next strangers b.w g.mid (i + 1) d1 d2 g.report b.ready g.step heard.rests y.4.sent in
       let sender : SendsAt strangers (k + 1) k (before_next k) sa ra st rt mode file sp rp same g.mid 0 =
@@ -201,7 +201,7 @@ module _ (strangers : Bool) (old new : WorldState) (name : List ℕ) (mode : Mod
       let first : 0 + 1 ≤ blocks = omega (arith, rest) in
       let receiver = awaits_now strangers (k + 1) k (before_next k) sa ra st rt mode file sp rp same g.mid y.0 0 fit first
       (set_at b.w g.mid k reader y.0 y.4.ends b.client_at) y.4.address y.1 (ap is_sender y.4.side) y.4.mode
-      (new_text mode y.0.state.mode y.0.stored y.0.state.held st.size text y.4.mode y.2 y.3) (new_held mode y.0.state.mode y.0.state.held y.4.mode y.3) in
+      (new_text mode y.0.state.role.mode y.0.stored y.0.state.progress.held st.size text y.4.mode y.2 y.3) (new_held mode y.0.state.role.mode y.0.state.progress.held y.4.mode y.3) in
       let n = goes_on g.mid new (i + 1 + 1) ready.count g.left in
       let ready_then = ack_ready strangers (k + 1) k (before_next k) sa ra st rt mode file sp rp same g.mid n.mid (i + 1 + 1) 0 n.report ready sender (omega arith) n.step first in
       let sender_then = ack_sender strangers (k + 1) k (before_next k) sa ra st rt mode file sp rp same g.mid n.mid (i + 1 + 1) 0 n.report ready sender (omega arith) n.step first in
@@ -250,7 +250,7 @@ module _ (strangers : Bool) (old new : WorldState) (name : List ℕ) (mode : Mod
 
   -- the server's end
   abbrev taker_of : (agreed : List Known) → WritesStraight old new name mode asked file agreed → OpenedEnd
-  taker_of agreed h = receiving_end h.run.asked writer.address writer.state.last_sent mode h.path agreed
+  taker_of agreed h = receiving_end h.run.asked writer.address writer.state.progress.last_sent mode h.path agreed
 
   taker_open : (agreed : List Known) (h : WritesStraight old new name mode asked file agreed) → (is_closed (taker_of agreed h) ≡ false) × (at_rest (taker_of agreed h) ≡ taker_of agreed h)
   taker_open [] h = (refl, refl)
@@ -264,9 +264,9 @@ module _ (strangers : Bool) (old new : WorldState) (name : List ℕ) (mode : Mod
       begins strangers old new h.run.asked writer (taker_of agreed h) (Takes h.path mode agreed) has refl left h.accepted own.0 own.1 (λ report mid s. s)
 
   -- from the server's answer on, which has the client send DATA 1
-  write_on : (x : OpenedEnd) (st rt : Terms) (packet : Packet) → HasBegun strangers old new writer x → x.state.last_sent_to ≡ writer.address → x.state.phase ≡ Receiving rt 0 →
-      is_sender x.state.side ≡ false → x.state.mode ≡ mode → x.stored ≡ [] → x.state.held ≡ [] → Spells packet x.state.last_sent →
-      datagram_action writer.state x.address x.state.last_sent (Some packet) ≡ Send st 1 → st.peer ≡ x.address → rt.peer ≡ writer.address → rt.size ≡ st.size →
+  write_on : (x : OpenedEnd) (st rt : Terms) (packet : Packet) → HasBegun strangers old new writer x → x.state.progress.last_sent_to ≡ writer.address → x.state.progress.phase ≡ Receiving rt 0 →
+      is_sender x.state.role.side ≡ false → x.state.role.mode ≡ mode → x.stored ≡ [] → x.state.progress.held ≡ [] → Spells packet x.state.progress.last_sent →
+      datagram_action writer.state x.address x.state.progress.last_sent (Some packet) ≡ Send st 1 → st.peer ≡ x.address → rt.peer ≡ writer.address → rt.size ≡ st.size →
       IsThrough old new (write_count (block_count written st.size))
   write_on x st rt packet b to phase receives mode_is stored held spelled sends sp rp same =
       let i = length old.sent in
@@ -274,11 +274,11 @@ module _ (strangers : Bool) (old new : WorldState) (name : List ℕ) (mode : Mod
       let sa = writer.address in
       let ra = x.address in
       let g = goes_on b.w new (i + 1) b.ready.count b.left in
-      let heard = delivered b.w g.mid (i + 1) k writer ra x.state.last_sent g.report (ports_of strangers b.w b.ready.ok) b.ready.rests
-      (b.ready.newest ∙ ap (λ (a : Endpoint). Some (datagram ra a x.state.last_sent)) to) b.client_at refl g.step in
+      let heard = delivered b.w g.mid (i + 1) k writer ra x.state.progress.last_sent g.report (ports_of strangers b.w b.ready.ok) b.ready.rests
+      (b.ready.newest ∙ ap (λ (a : Endpoint). Some (datagram ra a x.state.progress.last_sent)) to) b.client_at refl g.step in
       let behind : written ≡ drop (0 * st.size) written = ap (λ (n : ℕ). drop n written) (let z : 0 ≡ 0 * st.size = omega arith in z) in
-      let y = hears_send b.w g.mid k writer ra x.state.last_sent g.report heard packet st 0 written spelled sends refl refl behind in
-      let d1 = datagram ra x.state.last_sent_to x.state.last_sent in
+      let y = hears_send b.w g.mid k writer ra x.state.progress.last_sent g.report heard packet st 0 written spelled sends refl refl behind in
+      let d1 = datagram ra x.state.progress.last_sent_to x.state.progress.last_sent in
       let d2 = datagram sa ra (data_bytes (0 + 1) (block written st.size (0 + 1))) in
       let ready = ready_next strangers b.w g.mid (i + 1) d1 d2 g.report b.ready g.step heard.rests y.2.sent in
       let sender : SendsAt strangers k (k + 1) (behind_last k) sa ra st rt mode file sp rp same g.mid (0 + 1) =
@@ -290,7 +290,7 @@ module _ (strangers : Bool) (old new : WorldState) (name : List ℕ) (mode : Mod
       let first : 0 + 1 ≤ blocks = omega (arith, rest) in
       let receiver = awaits_now strangers k (k + 1) (behind_last k) sa ra st rt mode file sp rp same g.mid x 0 fit first
       (stays_at b.w g.mid k (k + 1) x y.0 y.2.ends (behind_last k) b.server_at) refl phase receives mode_is
-      (new_text mode x.state.mode x.stored x.state.held st.size written mode_is stored held) (new_held mode x.state.mode x.state.held mode_is held) in
+      (new_text mode x.state.role.mode x.stored x.state.progress.held st.size written mode_is stored held) (new_held mode x.state.role.mode x.state.progress.held mode_is held) in
       let over = from_data strangers k (k + 1) (behind_last k) sa ra st rt mode file sp rp same m (i + 1 + 1) 0 g.mid new rest ready sender receiver g.left in
       writer_through old new (i + 1 + 1 + 2 + 2 * m) (write_count blocks) over (omega (arith, rest))
 

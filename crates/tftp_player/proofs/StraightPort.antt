@@ -40,8 +40,8 @@ use Rattle.tftp_player.proofs.WorldRuns.{step_keeps}
 pub record HasAsked (strangers : Bool) (old w : WorldState) (c : OpenedEnd) : Type 0 where
   pub ok : IsOk strangers w
   pub rests : IsAtRest w
-  pub sent : w.sent ≡ old.sent ++ datagram c.address c.state.last_sent_to c.state.last_sent ∷ []
-  pub newest : slice_get w.sent (length old.sent) ≡ Some (datagram c.address c.state.last_sent_to c.state.last_sent)
+  pub sent : w.sent ≡ old.sent ++ datagram c.address c.state.progress.last_sent_to c.state.progress.last_sent ∷ []
+  pub newest : slice_get w.sent (length old.sent) ≡ Some (datagram c.address c.state.progress.last_sent_to c.state.progress.last_sent)
   pub count : length w.sent ≡ length old.sent + 1
   pub ends : length w.ends ≡ length old.ends + 1
   pub there : slice_get w.ends (length old.ends) ≡ Some c
@@ -54,7 +54,7 @@ rest_twice (x ∷ ends) = ap (λ (y : OpenedEnd). y ∷ map at_rest (map at_rest
 pub has_asked : (strangers : Bool) (old w : WorldState) (c : OpenedEnd) (event : Event) (report : Report) → MayHappen strangers event → IsOk strangers old → WorldStep old event report w →
     w ≡ resting (opened_in old c) → at_rest c ≡ c → HasAsked strangers old w c
 has_asked strangers old w c event report may ok s is rests =
-    let d = datagram c.address c.state.last_sent_to c.state.last_sent in
+    let d = datagram c.address c.state.progress.last_sent_to c.state.progress.last_sent in
     let ends : w.ends ≡ map at_rest (old.ends ++ c ∷ []) = ap (λ (u : WorldState). u.ends) is in
     let sent : w.sent ≡ old.sent ++ d ∷ [] = ap (λ (u : WorldState). u.sent) is in
     let split : w.ends ≡ map at_rest old.ends ++ c ∷ [] =
@@ -87,15 +87,15 @@ same_repeated from (Some packet) ends a b f g = same_answer a b f g
 module _ (w v : WorldState) (i : ℕ) (c : OpenedEnd) (report : Report) (accepts : Service) (ports : HasPorts w) (accepted : IsAccepted w c accepts) where
   -- what the port did
   abbrev pub Comes : Type 0
-  Comes = (mid : WorldState) × (v ≡ resting mid) × Serves accepts w c.address c.state.last_sent report mid
+  Comes = (mid : WorldState) × (v ≡ resting mid) × Serves accepts w c.address c.state.progress.last_sent report mid
 
   -- no end has the request port
   outside : (k : ℕ) (x : OpenedEnd) → slice_get w.ends k ≡ Some x → x.address ≡ request_port → ⊥
   outside k x there here = let a = ports k x there in let b = ap (λ (p : Endpoint). p.port) here in omega (arith, a, b)
 
-  arrived : (mid : WorldState) → v ≡ resting mid → Arrives w c.address request_port c.state.last_sent report mid → Comes
+  arrived : (mid : WorldState) → v ≡ resting mid → Arrives w c.address request_port c.state.progress.last_sent report mid → Comes
   arrived mid is (At_request_port here port decoded says repeated same serves) =
-      let bytes = c.state.last_sent in
+      let bytes = c.state.progress.last_sent in
       let one : decoded ≡ accepted.decoded = says_one bytes decoded accepted.decoded says accepted.says in
       let same_now : IsRepeated repeated c.address accepted.decoded w.ends = subst (λ (d : Option Packet). IsRepeated repeated c.address d w.ends) one same in
       let two : repeated ≡ accepted.repeated = same_repeated c.address accepted.decoded w.ends repeated accepted.repeated same_now accepted.repeats in
@@ -106,16 +106,16 @@ module _ (w v : WorldState) (i : ℕ) (c : OpenedEnd) (report : Report) (accepts
   arrived mid is (At_closed_end k x at here closed_now s) = absurd (outside k x at here)
   arrived mid is (At_nobody away nobody s) = absurd (away refl)
 
-  pub port_comes : slice_get w.sent i ≡ Some (datagram c.address request_port c.state.last_sent) → WorldStep w (Deliver i) report v → Comes
+  pub port_comes : slice_get w.sent i ≡ Some (datagram c.address request_port c.state.progress.last_sent) → WorldStep w (Deliver i) report v → Comes
   port_comes newest s =
-      let d = datagram c.address request_port c.state.last_sent in
+      let d = datagram c.address request_port c.state.progress.last_sent in
       let same : s.1.0 ≡ d = same_Some s.1.0 d (sym s.1.1 ∙ newest) in
       arrived s.0 s.2 (subst (λ (z : Datagram). Arrives w z.from z.to z.bytes report s.0) same s.1.2)
 
 -- an end opened
 pub record HasOpened (w v : WorldState) (x : OpenedEnd) : Type 0 where
   pub rests : IsAtRest v
-  pub sent : v.sent ≡ w.sent ++ datagram x.address x.state.last_sent_to x.state.last_sent ∷ []
+  pub sent : v.sent ≡ w.sent ++ datagram x.address x.state.progress.last_sent_to x.state.progress.last_sent ∷ []
   pub ends : v.ends ≡ w.ends ++ x ∷ []
 
 pub has_opened : (w v mid : WorldState) (x : OpenedEnd) (report : Report) → IsAtRest w → is_closed x ≡ false → at_rest x ≡ x → v ≡ resting mid → Opens w x report mid → HasOpened w v x
@@ -187,4 +187,4 @@ module _ (w : WorldState) where
 
 -- so is what it accepts
 pub accepted_answers : (w : WorldState) (c : OpenedEnd) (accepts : Service) → IsAccepted w c accepts → IsAnswer w accepts
-accepted_answers w c accepts h = subst (IsAnswer w) h.is (service_answers w h.repeated c.state.last_sent h.decoded)
+accepted_answers w c accepts h = subst (IsAnswer w) h.is (service_answers w h.repeated c.state.progress.last_sent h.decoded)

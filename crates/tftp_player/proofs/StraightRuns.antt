@@ -137,9 +137,9 @@ module _ (strangers : Bool) (ks kr : ℕ) (apart : kr ≢ ks) (sa ra : Endpoint)
     pub x : OpenedEnd
     pub there : slice_get w.ends ks ≡ Some x
     pub address : x.address ≡ sa
-    pub phase : x.state.phase ≡ Sending st n
+    pub phase : x.state.progress.phase ≡ Sending st n
     pub file_is : x.file ≡ file
-    pub mode_is : x.state.mode ≡ mode
+    pub mode_is : x.state.role.mode ≡ mode
 
   -- a receiver that has so many blocks, and stores the next one
   pub record AwaitsAt (w : WorldState) (n : ℕ) : Type 0 where
@@ -147,10 +147,10 @@ module _ (strangers : Bool) (ks kr : ℕ) (apart : kr ≢ ks) (sa ra : Endpoint)
     pub there : slice_get w.ends kr ≡ Some x
     pub address : x.address ≡ ra
     pub still : is_closed x ≡ false
-    pub receiver : is_sender x.state.side ≡ false
-    pub mode_is : x.state.mode ≡ mode
-    pub received : wire_text x.state.mode x.stored ++ x.state.held ≡ take (n * st.size) text
-    pub holds : HeldFits x.state.mode x.state.held
+    pub receiver : is_sender x.state.role.side ≡ false
+    pub mode_is : x.state.role.mode ≡ mode
+    pub received : wire_text x.state.role.mode x.stored ++ x.state.progress.held ≡ take (n * st.size) text
+    pub holds : HeldFits x.state.role.mode x.state.progress.held
     pub stores : datagram_action x.state sa (data_bytes (n + 1) (piece n)) (Some (Data (n + 1) (piece n))) ≡ Store rt (n + 1)
 
   -- a receiver that has all
@@ -203,30 +203,30 @@ module _ (strangers : Bool) (ks kr : ℕ) (apart : kr ≢ ks) (sa ra : Endpoint)
   }
 
   -- a receiver stores the next block of its sender's text
-  pub next_is_stored : (x : OpenedEnd) (n : ℕ) → IsFit → n + 1 ≤ blocks → x.state.mode ≡ mode → wire_text x.state.mode x.stored ++ x.state.held ≡ take (n * st.size) text →
-      next_action x.state.mode x.state.held rt (n + 1) (piece n) ≡ Store rt (n + 1)
+  pub next_is_stored : (x : OpenedEnd) (n : ℕ) → IsFit → n + 1 ≤ blocks → x.state.role.mode ≡ mode → wire_text x.state.role.mode x.stored ++ x.state.progress.held ≡ take (n * st.size) text →
+      next_action x.state.role.mode x.state.progress.held rt (n + 1) (piece n) ≡ Store rt (n + 1)
   next_is_stored x n f l mode_is received =
       let within : length (piece n) ≤ rt.size = let e = block_within text st.size f.positive f.fits n l in omega (arith, e, same_size) in
-      let text_is : wire_text x.state.mode file ≡ text = ap (λ (m : Mode). wire_text m file) mode_is in
+      let text_is : wire_text x.state.role.mode file ≡ text = ap (λ (m : Mode). wire_text m file) mode_is in
       let rest = drop ((n + 1) * st.size) text in
-      let whole : ((wire_text x.state.mode x.stored ++ x.state.held) ++ piece n) ++ rest ≡ wire_text x.state.mode file =
+      let whole : ((wire_text x.state.role.mode x.stored ++ x.state.progress.held) ++ piece n) ++ rest ≡ wire_text x.state.role.mode file =
       ap (λ (t : List ℕ). (t ++ piece n) ++ rest) received
       ∙ (ap (λ (t : List ℕ). t ++ rest) (take-block text n st.size)
       ∙ (take-append-drop ((n + 1) * st.size) text ∙ sym text_is)) in
-      next_stores x.state.mode x.state.held rt (n + 1) (piece n) within
+      next_stores x.state.role.mode x.state.progress.held rt (n + 1) (piece n) within
       (λ a b. never_long text st.size f.positive f.fits n l a (b ∙ same_size))
-      (piece_readable x.state.mode file x.stored x.state.held (piece n) rest (nat_lt (length (piece n)) rt.size) whole
+      (piece_readable x.state.role.mode file x.stored x.state.progress.held (piece n) rest (nat_lt (length (piece n)) rt.size) whole
       (λ e. last_rest text st.size f.positive f.fits n (ap (nat_lt (length (piece n))) (sym same_size) ∙ e)))
 
-  receiving_stores : (x : OpenedEnd) (n : ℕ) → IsFit → n + 1 ≤ blocks → x.state.phase ≡ Receiving rt n → x.state.mode ≡ mode → wire_text x.state.mode x.stored ++ x.state.held ≡ take (n * st.size) text →
+  receiving_stores : (x : OpenedEnd) (n : ℕ) → IsFit → n + 1 ≤ blocks → x.state.progress.phase ≡ Receiving rt n → x.state.role.mode ≡ mode → wire_text x.state.role.mode x.stored ++ x.state.progress.held ≡ take (n * st.size) text →
       datagram_action x.state sa (data_bytes (n + 1) (piece n)) (Some (Data (n + 1) (piece n))) ≡ Store rt (n + 1)
   receiving_stores x n f l phase mode_is received =
       from_peer x.state (Receiving rt n) rt sa (data_bytes (n + 1) (piece n)) (Data (n + 1) (piece n)) phase refl receiver_peer
-      ∙ (data_next x.state.mode x.state.held rt n (piece n) ∙ next_is_stored x n f l mode_is received)
+      ∙ (data_next x.state.role.mode x.state.progress.held rt n (piece n) ∙ next_is_stored x n f l mode_is received)
 
   -- a receiver that takes this phase with what it has
-  pub awaits_now : (w : WorldState) (x : OpenedEnd) (n : ℕ) → IsFit → n + 1 ≤ blocks → slice_get w.ends kr ≡ Some x → x.address ≡ ra → x.state.phase ≡ Receiving rt n → is_sender x.state.side ≡ false →
-      x.state.mode ≡ mode → wire_text x.state.mode x.stored ++ x.state.held ≡ take (n * st.size) text → HeldFits x.state.mode x.state.held → AwaitsAt w n
+  pub awaits_now : (w : WorldState) (x : OpenedEnd) (n : ℕ) → IsFit → n + 1 ≤ blocks → slice_get w.ends kr ≡ Some x → x.address ≡ ra → x.state.progress.phase ≡ Receiving rt n → is_sender x.state.role.side ≡ false →
+      x.state.role.mode ≡ mode → wire_text x.state.role.mode x.stored ++ x.state.progress.held ≡ take (n * st.size) text → HeldFits x.state.role.mode x.state.progress.held → AwaitsAt w n
   awaits_now w x n f l there address phase receiver mode_is received holds = record {
     x = x;
     there = there;
@@ -261,9 +261,9 @@ module _ (strangers : Bool) (ks kr : ℕ) (apart : kr ≢ ks) (sa ra : Endpoint)
     pub data_sender : SendsAt v (n + 1)
     data_sender = sender_stays w v (n + 1) stored.0 stored.1.becomes.ends s
 
-    has_more : wire_text stored.0.state.mode stored.0.stored ++ stored.0.state.held ≡ take ((n + 1) * st.size) text
+    has_more : wire_text stored.0.state.role.mode stored.0.stored ++ stored.0.state.progress.held ≡ take ((n + 1) * st.size) text
     has_more =
-        ap (λ (m : Mode). wire_text m stored.0.stored ++ stored.0.state.held) stored.1.becomes.mode
+        ap (λ (m : Mode). wire_text m stored.0.stored ++ stored.0.state.progress.held) stored.1.becomes.mode
         ∙ (stored.1.received ∙ (ap (λ (t : List ℕ). t ++ piece n) r.received ∙ take-block text n st.size))
 
     -- which is not the last
@@ -273,7 +273,7 @@ module _ (strangers : Bool) (ks kr : ℕ) (apart : kr ≢ ks) (sa ra : Endpoint)
         let full : length (piece n) ≡ rt.size = block_full text st.size fit.positive fit.fits n more ∙ sym same_size in
         awaits_now v y (n + 1) fit (let m : n + 1 + 1 ≤ blocks = omega (arith, more) in m) (set_at w v kr r.x y stored.1.becomes.ends r.there) (stored.1.becomes.address ∙ r.address)
         (stored.1.phase ∙ stored_more_phase rt (n + 1) (length (piece n)) full) (ap is_sender stored.1.becomes.side ∙ r.receiver)
-        (stored.1.becomes.mode ∙ r.mode_is) has_more (subst (λ (m : Mode). HeldFits m y.state.held) (sym stored.1.becomes.mode) stored.1.holds)
+        (stored.1.becomes.mode ∙ r.mode_is) has_more (subst (λ (m : Mode). HeldFits m y.state.progress.held) (sym stored.1.becomes.mode) stored.1.holds)
 
     -- or the last
     pub data_all : n + 1 ≡ blocks → HasAllAt v
@@ -305,16 +305,16 @@ module _ (strangers : Bool) (ks kr : ℕ) (apart : kr ≢ ks) (sa ra : Endpoint)
     ack_spelled : Spells (Ack n) (ack_bytes n)
     ack_spelled = spells_own (Ack n) (number_fits text st.size n fit_now.positive fit_now.fits small)
 
-    measured : s.x.state.length ≡ length text
+    measured : s.x.state.role.length ≡ length text
     measured = way.measured ∙ ap length (text_of_sender w n s)
 
     -- and more is to be sent
     module _ (more : n < blocks) where
       sends_more : datagram_action s.x.state ra (ack_bytes n) (Some (Ack n)) ≡ Send st (n + 1)
       sends_more = from_peer s.x.state (Sending st n) st ra (ack_bytes n) (Ack n) s.phase refl sender_peer
-          ∙ acked_more s.x.state.length n st (subst (λ (m : ℕ). n < m / st.size + 1) (sym measured) more)
+          ∙ acked_more s.x.state.role.length n st (subst (λ (m : ℕ). n < m / st.size + 1) (sym measured) more)
 
-      sent_more : (y : OpenedEnd) × (y.state.phase ≡ Sending st (n + 1)) × Becomes w v ks s.x ra (ack_bytes n) report heard_ack y (datagram s.x.address ra (data_bytes (n + 1) (piece n)) ∷ [])
+      sent_more : (y : OpenedEnd) × (y.state.progress.phase ≡ Sending st (n + 1)) × Becomes w v ks s.x ra (ack_bytes n) report heard_ack y (datagram s.x.address ra (data_bytes (n + 1) (piece n)) ∷ [])
       sent_more = hears_send w v ks s.x ra (ack_bytes n) report heard_ack (Ack n) st n text ack_spelled sends_more way.sender measured
           (way.left ∙ ap (drop (n * st.size)) (text_of_sender w n s))
 
@@ -339,10 +339,10 @@ module _ (strangers : Bool) (ks kr : ℕ) (apart : kr ≢ ks) (sa ra : Endpoint)
     module _ (last : n ≡ blocks) (r : HasAllAt w) where
       sends_none : datagram_action s.x.state ra (ack_bytes n) (Some (Ack n)) ≡ Respond Complete
       sends_none = from_peer s.x.state (Sending st n) st ra (ack_bytes n) (Ack n) s.phase refl sender_peer
-          ∙ acked_last s.x.state.length n st
+          ∙ acked_last s.x.state.role.length n st
           (subst (λ (m : ℕ). m / st.size + 1 ≤ n) (sym measured) (let e : blocks ≤ n = omega (arith, last) in e))
 
-      is_done : (y : OpenedEnd) × (is_complete y.state.phase ≡ true) × Becomes w v ks s.x ra (ack_bytes n) report heard_ack y []
+      is_done : (y : OpenedEnd) × (is_complete y.state.progress.phase ≡ true) × Becomes w v ks s.x ra (ack_bytes n) report heard_ack y []
       is_done = hears_last w v ks s.x ra (ack_bytes n) report heard_ack (Ack n) ack_spelled sends_none
 
       pub ack_over : IsOver v ks kr (i + 1)

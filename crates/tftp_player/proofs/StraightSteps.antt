@@ -27,7 +27,7 @@ use Rattle.tftp_ends.specs.declared.phase.Phase.TheVariants.{Sending, Receiving,
 use Rattle.tftp_ends.specs.declared.phase.Terms.{Terms}
 use Rattle.tftp_ends.specs.End.{EndState, is_sender, is_client, is_complete, outcome_of}
 use Rattle.tftp_ends.specs.Action.{Decodes, datagram_action}
-use Rattle.tftp_ends.specs.Step.{Turn, Done, Acts, GoesOn, StoresIn, response_turn, sent_turn, refused_turn, committed_turn, commit_reply, holding, ack_bytes, data_bytes}
+use Rattle.tftp_ends.specs.Step.{Turn, Done, Acts, GoesOn, StoresIn, response_turn, sent_turn, refused_turn, committed_turn, commit_reply, holding, ack_bytes, data_bytes, after_turn}
 use Rattle.tftp_ends.specs.Text.{Decoded}
 use Rattle.tftp_player.specs.Machine.{Endpoint}
 use Rattle.tftp_player.specs.Straight.{TookAll}
@@ -53,10 +53,10 @@ ports_of strangers w ok k x e = (ok.shown.3.ends k _ (view_at w.ends k x e)).1
 pub record Hears (w : WorldState) (k : ℕ) (x : OpenedEnd) (from : Endpoint) (bytes : List ℕ) (report : Report) (v : WorldState) : Type 0 where
   pub turn : Turn
   pub held : Files (List ℕ) Holding
-  pub steps : EndStep (is_client x.state.side) (in_the_way w.overwrite (file_at w.files x.path)) from bytes x.state (files_of x) turn held
+  pub steps : EndStep (is_client x.state.role.side) (in_the_way w.overwrite (file_at w.files x.path)) from bytes x.state (files_of x) turn held
   pub sent : v.sent ≡ w.sent ++ replied x.address turn.reply
   pub ends : v.ends ≡ slice_set w.ends k (at_rest (end_after x turn held))
-  pub closed : report.closed ≡ closed_at x.address (outcome_of turn.end.phase)
+  pub closed : report.closed ≡ closed_at x.address (outcome_of turn.progress.phase)
   pub rests : IsAtRest v
 
 -- two ends at one address are one
@@ -120,7 +120,7 @@ stored_phase terms number false = Receiving terms number
 
 module _ (w v : WorldState) (k : ℕ) (x : OpenedEnd) (from : Endpoint) (bytes : List ℕ) (report : Report) (h : Hears w k x from bytes report v) where
   abbrev refuses_commit : Holding → StoreFault → Type 0
-  refuses_commit = may_refuse_commit (is_client x.state.side) (in_the_way w.overwrite (file_at w.files x.path))
+  refuses_commit = may_refuse_commit (is_client x.state.role.side) (in_the_way w.overwrite (file_at w.files x.path))
 
   abbrev Acts_at : Action → Type 0
   Acts_at action =
@@ -136,19 +136,19 @@ module _ (w v : WorldState) (k : ℕ) (x : OpenedEnd) (from : Endpoint) (bytes :
     pub ends : v.ends ≡ slice_set w.ends k y
     pub address : y.address ≡ x.address
     pub file : y.file ≡ x.file
-    pub mode : y.state.mode ≡ x.state.mode
-    pub side : y.state.side ≡ x.state.side
+    pub mode : y.state.role.mode ≡ x.state.role.mode
+    pub side : y.state.role.side ≡ x.state.role.side
 
   -- ---- a sender sends
   abbrev pub data_turn_at : Terms → ℕ → List ℕ → Turn
   data_turn_at terms n piece = sent_turn (Sending terms (n + 1)) from (data_bytes (n + 1) piece) x.state
 
   pub hears_send : (packet : Packet) (terms : Terms) (n : ℕ) (text : List ℕ) → Spells packet bytes → datagram_action x.state from bytes (Some packet) ≡ Send terms (n + 1) →
-      is_sender x.state.side ≡ true → x.state.length ≡ length text → x.left ≡ drop (n * terms.size) text →
-      (y : OpenedEnd) × (y.state.phase ≡ Sending terms (n + 1)) × Becomes y (datagram x.address from (data_bytes (n + 1) (block text terms.size (n + 1))) ∷ [])
+      is_sender x.state.role.side ≡ true → x.state.role.length ≡ length text → x.left ≡ drop (n * terms.size) text →
+      (y : OpenedEnd) × (y.state.progress.phase ≡ Sending terms (n + 1)) × Becomes y (datagram x.address from (data_bytes (n + 1) (block text terms.size (n + 1))) ∷ [])
   hears_send packet terms n text spelled is sender measured left =
       let a = acts_as packet (Send terms (n + 1)) spelled is in
-      let f = sends_from (is_sender x.state.side) sender refuses_commit terms (n + 1) from x.state x.left (holding_of x) h.turn h.held a in
+      let f = sends_from (is_sender x.state.role.side) sender refuses_commit terms (n + 1) from x.state x.left (holding_of x) h.turn h.held a in
       let b = block_sent terms n from x.state text x.left h.turn f.0 measured left f.2 in
       let turn = data_turn_at terms n (block text terms.size (n + 1)) in
       let y = end_after x turn (Source f.0) in (
@@ -172,11 +172,11 @@ module _ (w v : WorldState) (k : ℕ) (x : OpenedEnd) (from : Endpoint) (bytes :
   same_with false z = refl
 
   pub hears_last : (packet : Packet) → Spells packet bytes → datagram_action x.state from bytes (Some packet) ≡ Respond Complete →
-      (y : OpenedEnd) × (is_complete y.state.phase ≡ true) × Becomes y []
+      (y : OpenedEnd) × (is_complete y.state.progress.phase ≡ true) × Becomes y []
   hears_last packet spelled is =
       let a = acts_as packet (Respond Complete) spelled is in
       let turn = response_turn Complete from x.state in
-      let y = at_rest (in_state turn.end x) in (
+      let y = at_rest (in_state (after_turn x.state turn) x) in (
         y,
         refl,
         record {
@@ -184,7 +184,7 @@ module _ (w v : WorldState) (k : ℕ) (x : OpenedEnd) (from : Endpoint) (bytes :
           ends = h.ends
               ∙ (ap (λ (t : Turn). slice_set w.ends k (at_rest (end_after x t h.held))) a.0
               ∙ (ap (λ (fs : Files (List ℕ) Holding). slice_set w.ends k (at_rest (end_after x turn fs))) a.1
-              ∙ ap (λ (z : OpenedEnd). slice_set w.ends k (at_rest z)) (same_with (is_sender x.state.side) (in_state turn.end x))));
+              ∙ ap (λ (z : OpenedEnd). slice_set w.ends k (at_rest z)) (same_with (is_sender x.state.role.side) (in_state (after_turn x.state turn) x))));
           address = refl;
           file = refl;
           mode = refl;
@@ -194,11 +194,11 @@ module _ (w v : WorldState) (k : ℕ) (x : OpenedEnd) (from : Endpoint) (bytes :
 
   -- ---- a reader accepts an OACK
   pub hears_oack : (packet : Packet) (terms : Terms) → Spells packet bytes → datagram_action x.state from bytes (Some packet) ≡ Respond (Accept terms) →
-      (y : OpenedEnd) × (y.state.phase ≡ Receiving terms 0) × (y.stored ≡ x.stored) × (y.state.held ≡ x.state.held) × Becomes y (datagram x.address from (ack_bytes 0) ∷ [])
+      (y : OpenedEnd) × (y.state.progress.phase ≡ Receiving terms 0) × (y.stored ≡ x.stored) × (y.state.progress.held ≡ x.state.progress.held) × Becomes y (datagram x.address from (ack_bytes 0) ∷ [])
   hears_oack packet terms spelled is =
       let a = acts_as packet (Respond (Accept terms)) spelled is in
       let turn = response_turn (Accept terms) from x.state in
-      let y = in_state turn.end x in (
+      let y = in_state (after_turn x.state turn) x in (
         y,
         refl,
         refl,
@@ -208,7 +208,7 @@ module _ (w v : WorldState) (k : ℕ) (x : OpenedEnd) (from : Endpoint) (bytes :
           ends = h.ends
               ∙ (ap (λ (t : Turn). slice_set w.ends k (at_rest (end_after x t h.held))) a.0
               ∙ (ap (λ (fs : Files (List ℕ) Holding). slice_set w.ends k (at_rest (end_after x turn fs))) a.1
-              ∙ ap (λ (z : OpenedEnd). slice_set w.ends k (at_rest z)) (same_with (is_sender x.state.side) (in_state turn.end x))));
+              ∙ ap (λ (z : OpenedEnd). slice_set w.ends k (at_rest z)) (same_with (is_sender x.state.role.side) (in_state (after_turn x.state turn) x))));
           address = refl;
           file = refl;
           mode = refl;
@@ -219,26 +219,26 @@ module _ (w v : WorldState) (k : ℕ) (x : OpenedEnd) (from : Endpoint) (bytes :
   -- ---- a receiver stores a block that its store takes
   -- the end has this block and what it had before
   pub record HasStored (terms : Terms) (number : ℕ) (piece : List ℕ) (y : OpenedEnd) : Type 0 where
-    pub phase : y.state.phase ≡ stored_phase terms number (nat_lt (length piece) terms.size)
-    pub received : wire_text x.state.mode y.stored ++ y.state.held ≡ (wire_text x.state.mode x.stored ++ x.state.held) ++ piece
-    pub holds : HeldFits x.state.mode y.state.held
+    pub phase : y.state.progress.phase ≡ stored_phase terms number (nat_lt (length piece) terms.size)
+    pub received : wire_text x.state.role.mode y.stored ++ y.state.progress.held ≡ (wire_text x.state.role.mode x.stored ++ x.state.progress.held) ++ piece
+    pub holds : HeldFits x.state.role.mode y.state.progress.held
     pub becomes : Becomes y (datagram x.address from (ack_bytes number) ∷ [])
 
-  module _ (terms : Terms) (number : ℕ) (piece : List ℕ) (holds : HeldFits x.state.mode x.state.held) (all : TookAll report.closed) where
+  module _ (terms : Terms) (number : ℕ) (piece : List ℕ) (holds : HeldFits x.state.role.mode x.state.progress.held) (all : TookAll report.closed) where
     -- no turn is that of a store that refused
     fault_none : (reply : ErrorReply) (e : EndState) → h.turn ≡ refused_turn terms reply outcomes.StoreFault from e → ⊥
-    fault_none reply e is = (subst TookAll (h.closed ∙ ap (λ (t : Turn). closed_at x.address (outcome_of t.end.phase)) is) all) refl
+    fault_none reply e is = (subst TookAll (h.closed ∙ ap (λ (t : Turn). closed_at x.address (outcome_of t.progress.phase)) is) all) refl
 
     stores_as : (last : Bool) (sink : Holding) (bytes_now after : List ℕ) → nat_lt (length piece) terms.size ≡ last →
         h.turn ≡ sent_turn (stored_phase terms number last) from (ack_bytes number) (holding after x.state) → h.held ≡ Sink sink →
-        sink.bytes ≡ x.stored ++ bytes_now → Decoded x.state.mode x.state.held piece bytes_now after → (y : OpenedEnd) × HasStored terms number piece y
+        sink.bytes ≡ x.stored ++ bytes_now → Decoded x.state.role.mode x.state.progress.held piece bytes_now after → (y : OpenedEnd) × HasStored terms number piece y
     stores_as true sink bytes_now after is turns held same d = (
       end_after x (sent_turn (Dallying terms number Fresh) from (ack_bytes number) (holding after x.state)) (Sink sink),
       record {
         phase = ap (stored_phase terms number) (sym is);
-        received = ap (λ (z : List ℕ). wire_text x.state.mode z ++ after) same
-            ∙ sym (stored_more x.state.mode x.stored x.state.held piece bytes_now after (goes_on_with x.state.mode x.state.held piece bytes_now after holds d));
-        holds = held_fits x.state.mode x.state.held piece bytes_now after holds d;
+        received = ap (λ (z : List ℕ). wire_text x.state.role.mode z ++ after) same
+            ∙ sym (stored_more x.state.role.mode x.stored x.state.progress.held piece bytes_now after (goes_on_with x.state.role.mode x.state.progress.held piece bytes_now after holds d));
+        holds = held_fits x.state.role.mode x.state.progress.held piece bytes_now after holds d;
         becomes = record {
           sent = h.sent ∙ ap (λ (t : Turn). w.sent ++ replied x.address t.reply) turns;
           ends = h.ends
@@ -255,9 +255,9 @@ module _ (w v : WorldState) (k : ℕ) (x : OpenedEnd) (from : Endpoint) (bytes :
       end_after x (sent_turn (Receiving terms number) from (ack_bytes number) (holding after x.state)) (Sink sink),
       record {
         phase = ap (stored_phase terms number) (sym is);
-        received = ap (λ (z : List ℕ). wire_text x.state.mode z ++ after) same
-            ∙ sym (stored_more x.state.mode x.stored x.state.held piece bytes_now after (goes_on_with x.state.mode x.state.held piece bytes_now after holds d));
-        holds = held_fits x.state.mode x.state.held piece bytes_now after holds d;
+        received = ap (λ (z : List ℕ). wire_text x.state.role.mode z ++ after) same
+            ∙ sym (stored_more x.state.role.mode x.stored x.state.progress.held piece bytes_now after (goes_on_with x.state.role.mode x.state.progress.held piece bytes_now after holds d));
+        holds = held_fits x.state.role.mode x.state.progress.held piece bytes_now after holds d;
         becomes = record {
           sent = h.sent ∙ ap (λ (t : Turn). w.sent ++ replied x.address t.reply) turns;
           ends = h.ends
@@ -273,7 +273,7 @@ module _ (w v : WorldState) (k : ℕ) (x : OpenedEnd) (from : Endpoint) (bytes :
 
     -- a commit that was not refused
     commits_as : (mid sink : Holding) (bytes_now after : List ℕ) → nat_lt (length piece) terms.size ≡ true → h.held ≡ Sink sink → mid.bytes ≡ x.stored ++ bytes_now →
-        Decoded x.state.mode x.state.held piece bytes_now after →
+        Decoded x.state.role.mode x.state.progress.held piece bytes_now after →
         (answer : Result Done StoreFault) → h.turn ≡ committed_turn terms number from (holding after x.state) answer → Kept_all mid sink answer → (y : OpenedEnd) × HasStored terms number piece y
     commits_as mid sink bytes_now after is held same d answer t (For_good ok kept_bytes done) =
         stores_as true sink bytes_now after is (t ∙ ap (committed_turn terms number from (holding after x.state)) ok) held (kept_bytes ∙ same) d
@@ -281,7 +281,7 @@ module _ (w v : WorldState) (k : ℕ) (x : OpenedEnd) (from : Endpoint) (bytes :
         absurd (fault_none (commit_reply fault) (holding after x.state) (t ∙ ap (committed_turn terms number from (holding after x.state)) err))
 
     appends_as : (mid sink : Holding) (bytes_now after : List ℕ) (answer : Result Done StoreFault) (last : Bool) → nat_lt (length piece) terms.size ≡ last → h.held ≡ Sink sink →
-        Decoded x.state.mode x.state.held piece bytes_now after → Took (holding_of x) mid bytes_now answer →
+        Decoded x.state.role.mode x.state.progress.held piece bytes_now after → Took (holding_of x) mid bytes_now answer →
         GoesOn (world_sink refuses_commit) terms number from x.state last after mid answer h.turn sink → (y : OpenedEnd) × HasStored terms number piece y
     appends_as mid sink bytes_now after (Err fault) last is held d took_now g = absurd (fault_none DiskFull x.state g.0)
     appends_as mid sink bytes_now after (Ok done) last is held d (None_of_it fault err same still) g = absurd (let e : Ok done ≡ Err fault = err in cc)
@@ -290,12 +290,12 @@ module _ (w v : WorldState) (k : ℕ) (x : OpenedEnd) (from : Endpoint) (bytes :
     appends_as mid sink bytes_now after (Ok done) false is held d (All_of_it ok same un) g =
         stores_as false sink bytes_now after is g.0 held (ap (λ (z : Holding). z.bytes) g.1 ∙ same) d
 
-    pub hears_data : Spells (Data number piece) bytes → datagram_action x.state from bytes (Some (Data number piece)) ≡ Store terms number → is_sender x.state.side ≡ false →
+    pub hears_data : Spells (Data number piece) bytes → datagram_action x.state from bytes (Some (Data number piece)) ≡ Store terms number → is_sender x.state.role.side ≡ false →
         (y : OpenedEnd) × HasStored terms number piece y
     hears_data spelled is receiver =
         let a = acts_as (Data number piece) (Store terms number) spelled is in
         let s = subst (λ (bs : List ℕ). StoresIn memory_source (world_sink refuses_commit) terms number from bs x.state (files_of x) h.turn h.held) (data_of number piece bytes spelled) a in
-        let f = stores_in (is_sender x.state.side) receiver refuses_commit terms number from piece x.state x.left (holding_of x) h.turn h.held s in
+        let f = stores_in (is_sender x.state.role.side) receiver refuses_commit terms number from piece x.state x.left (holding_of x) h.turn h.held s in
         let b = f.2 in
         appends_as b.mid f.0 b.bytes b.after b.answer (nat_lt (length piece) terms.size) refl f.1 b.decoded
         (took (holding_of x) b.mid b.bytes b.answer refuses_commit b.appended b.memory) b.rest

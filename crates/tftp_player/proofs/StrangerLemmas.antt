@@ -14,9 +14,9 @@ use Rattle.tftp_ends.specs.declared.action.Action.TheVariants.{Respond}
 use Rattle.tftp_ends.specs.declared.action.Response.TheVariants.{Ignore, Stranger}
 use Rattle.tftp_ends.specs.declared.phase.Phase.{Phase}
 use Rattle.tftp_ends.specs.declared.phase.Phase.TheVariants.{Waiting, Sending, Receiving, Dallying, Closed}
-use Rattle.tftp_ends.specs.End.{is_client, terms_of, outcome_of, record_of}
+use Rattle.tftp_ends.specs.End.{is_client, terms_of, outcome_of, record_of, Progress}
 use Rattle.tftp_ends.specs.Action.{same_address, same_endpoint, is_stranger, garbled_response, packet_action}
-use Rattle.tftp_ends.specs.Step.{Turn, Acts}
+use Rattle.tftp_ends.specs.Step.{Turn, Acts, with_progress}
 use Rattle.tftp_player.specs.Machine.{Endpoint, At_server, Elsewhere, host_of, request_port}
 use Rattle.tftp_player.specs.Strangers.{HasNoStranger, IsRecordedSo, StraysChangeNoRecord, ClientsHaveServers}
 use Rattle.tftp_player.specs.World.{WorldState, OpenedEnd, file_at, in_the_way, files_of, end_after, at_rest, resting, peer_of, view_of_end}
@@ -43,9 +43,9 @@ not_server from far same =
 
 -- to an open end whose peer is no stranger
 is_strange : (phase : Phase) (x0 : OpenedEnd) (from : Endpoint) → PhaseKept (placed phase x0) phase → host_of from ≡ Elsewhere → ((p : Endpoint) → peer_of phase ≡ Some p → host_of p ≢ Elsewhere) →
-    is_some (outcome_of phase) ≡ false → is_stranger (terms_of phase) x0.state.last_sent_to from ≡ true
+    is_some (outcome_of phase) ≡ false → is_stranger (terms_of phase) x0.state.progress.last_sent_to from ≡ true
 is_strange (Waiting asked limit) x0 from kept far home o =
-    fails (same_address x0.state.last_sent_to from) (λ e. not_server from far (sym (same_ips x0.state.last_sent_to from e) ∙ ap (λ (p : Endpoint). p.ip) kept.2))
+    fails (same_address x0.state.progress.last_sent_to from) (λ e. not_server from far (sym (same_ips x0.state.progress.last_sent_to from e) ∙ ap (λ (p : Endpoint). p.ip) kept.2))
 is_strange (Sending terms n) x0 from kept far home o =
     fails (same_endpoint terms.peer from) (λ e. home terms.peer refl (ap host_of (same_endpoints terms.peer from e) ∙ far))
 is_strange (Receiving terms n) x0 from kept far home o =
@@ -57,22 +57,22 @@ is_strange (Closed terms n complete outcome) x0 from kept far home o = absurd (t
 -- such an end is as it was
 module _ (w : WorldState) (k : ℕ) (x : OpenedEnd) (from : Endpoint) (bytes : List ℕ) (report : Report) (v : WorldState) (t : OnDatagram w k x from bytes report v) where
   abbrev Acts_at : Action → Type 0
-  Acts_at action = Acts memory_source (world_sink (may_refuse_commit (is_client x.state.side) (in_the_way w.overwrite (file_at w.files x.path)))) action from bytes x.state (files_of x) t.turn t.held
+  Acts_at action = Acts memory_source (world_sink (may_refuse_commit (is_client x.state.role.side) (in_the_way w.overwrite (file_at w.files x.path)))) action from bytes x.state (files_of x) t.turn t.held
 
-  stays_by : (b : Bool) → Acts_at (if b then Respond Ignore else Respond Stranger) → t.turn.end ≡ x.state
-  stays_by true h = ap (λ (u : Turn). u.end) h.0
-  stays_by false h = ap (λ (u : Turn). u.end) h.0
+  stays_by : (b : Bool) → Acts_at (if b then Respond Ignore else Respond Stranger) → t.turn.progress ≡ x.state.progress
+  stays_by true h = ap (λ (u : Turn). u.progress) h.0
+  stays_by false h = ap (λ (u : Turn). u.progress) h.0
 
-  strange_same : is_stranger (terms_of x.state.phase) x.state.last_sent_to from ≡ true → t.turn.end ≡ x.state
+  strange_same : is_stranger (terms_of x.state.progress.phase) x.state.progress.last_sent_to from ≡ true → t.turn.progress ≡ x.state.progress
   strange_same strange =
-      let near = if has_error_opcode bytes && is_none t.steps.decoded then Respond (garbled_response x.state.phase) else packet_action x.state from t.steps.decoded x.state.phase in
+      let near = if has_error_opcode bytes && is_none t.steps.decoded then Respond (garbled_response x.state.progress.phase) else packet_action x.state from t.steps.decoded x.state.progress.phase in
       stays_by (has_error_opcode bytes)
       (subst (λ (b : Bool). Acts_at (if b then (if has_error_opcode bytes then Respond Ignore else Respond Stranger) else near)) strange t.steps.acts)
 
 -- what is recorded of an end whose state stayed
-after_state : (x : OpenedEnd) (turn : Turn) (held : Files (List ℕ) Holding) → turn.end ≡ x.state → record_of (end_after x turn held).state ≡ record_of x.state
-after_state x turn (Source left) same = ap record_of same
-after_state x turn (Sink holding) same = ap record_of same
+after_state : (x : OpenedEnd) (turn : Turn) (held : Files (List ℕ) Holding) → turn.progress ≡ x.state.progress → record_of (end_after x turn held).state ≡ record_of x.state
+after_state x turn (Source left) same = ap (λ (p : Progress). record_of (with_progress p x.state)) same
+after_state x turn (Sink holding) same = ap (λ (p : Progress). record_of (with_progress p x.state)) same
 
 equal_or_not : (a b : ℕ) → (a ≡ b) ⊎ (a ≢ b)
 equal_or_not a b = elim (eqb_tells a b) [
@@ -112,7 +112,7 @@ arrived strangers old new from to bytes report k x ok far (At_open_end j y at ad
     same_place old new k j x y (end_after y t.turn t.held) (ap (λ (w : WorldState). w.ends) t.turns.is) at there
     (λ here. let e : y ≡ x = same_Some y x (sym at ∙ (ap (slice_get old.ends) (sym here) ∙ there)) in
     let own : HasNoStranger y = subst HasNoStranger (sym e) home in
-    let same = strange_same old j y from bytes report new t (is_strange y.state.phase y from (ok.ends j y at).kept.phase far own open_now) in
+    let same = strange_same old j y from bytes report new t (is_strange y.state.progress.phase y from (ok.ends j y at).kept.phase far own open_now) in
     after_state y t.turn t.held same ∙ ap (λ (z : OpenedEnd). record_of z.state) e)
     (equal_or_not k j)
 arrived strangers old new from to bytes report k x ok far (At_closed_end j y at address closed_now s) there home = as_is old new k x (ap (λ (w : WorldState). w.ends) s.is) there

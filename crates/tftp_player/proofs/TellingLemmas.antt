@@ -28,10 +28,10 @@ use Rattle.tftp_player.proofs.Resting.{at_rest_record}
 use Rattle.tftp_player.proofs.StageLemmas.{has_draft}
 
 -- a client's side, at rest or not
-rest_side : (x : OpenedEnd) → (at_rest x).state.side ≡ x.state.side
+rest_side : (x : OpenedEnd) → (at_rest x).state.role.side ≡ x.state.role.side
 rest_side x = ap (λ (r : Record). r.side) (at_rest_record x)
 
-client_stores : (c : PlayedClient) (b : Bool) (files : Files (List ℕ) Holding) → AreFilesOf c.end.side files → is_sender c.end.side ≡ b →
+client_stores : (c : PlayedClient) (b : Bool) (files : Files (List ℕ) Holding) → AreFilesOf c.end.role.side files → is_sender c.end.role.side ≡ b →
     stored_by files ≡ (if b then None else Some (holding_in files).bytes)
 client_stores c true (Source left) f e = refl
 client_stores c false (Source left) f e = absurd (true≢false (sym f ∙ e))
@@ -50,7 +50,7 @@ served_stores : (port : ℕ) (s : Served) (o : Option Record) (held : List (ℕ 
 served_stores port s (Some r) held k = draft_stores s.draft (is_sender r.side) k.draft
 served_stores port s None held k =
     subst (λ (h : Option Transfer). option_map (λ (d : Drafted). d.bytes) (served_draft s None h) ≡ stored_in (served_end port s None h)) (sym k.found)
-    (draft_stores (draft_of k.transfer.files) (is_sender k.transfer.end.side) (has_draft k.transfer.end.side k.transfer.files k.files))
+    (draft_stores (draft_of k.transfer.files) (is_sender k.transfer.end.role.side) (has_draft k.transfer.end.role.side k.transfer.files k.files))
 
 served_commits : (port : ℕ) (s : Served) (o : Option Record) (h : Option Transfer) → (draft_or_new (served_draft s o h)).committed ≡ (served_end port s o h).committed
 served_commits port s (Some r) h = refl
@@ -59,7 +59,7 @@ served_commits port s None None = refl
 
 pub stores_is : (port : ℕ) (held : List (ℕ × Transfer)) (p : Player) → PlayerKept port held p → stored_of port held p ≡ stored_in (end_at port held p)
 stores_is port held (Client c) k =
-    client_stores c (is_sender c.end.side) c.files k.1 refl
+    client_stores c (is_sender c.end.role.side) c.files k.1 refl
     ∙ ap (λ (b : Bool). if b then None else Some (holding_in c.files).bytes) (sym (ap is_sender (rest_side (client_end port c))))
 stores_is port held (Server s) k = served_stores port s s.ended held k
 

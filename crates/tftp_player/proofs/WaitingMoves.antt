@@ -36,7 +36,7 @@ use Rattle.tftp_ends.specs.declared.action.Response.TheVariants.{Close, Refuse, 
 use Rattle.tftp_ends.specs.End.{is_sender}
 use Rattle.tftp_ends.specs.Receiver.{receiver_action}
 use Rattle.tftp_ends.specs.Sender.{illegal_action}
-use Rattle.tftp_ends.specs.Step.{StoresIn, response_turn, after}
+use Rattle.tftp_ends.specs.Step.{StoresIn, response_turn, after, with_progress}
 use Rattle.tftp_ends.specs.Text.{is_readable}
 use Rattle.tftp_ends.specs.Waiting.{default_terms, agreed_terms, no_answer, refusal_action, accept_action, begin_action, begin_with_action, reader_action, writer_action}
 use Rattle.tftp_player.specs.Machine.{Endpoint, server_ip, Data as Says_data, Ack as Says_ack, Oack as Says_oack, Message}
@@ -90,13 +90,13 @@ module _ (views : List EndView) (messages : List Message) (k : ℕ) (x0 : Opened
   refusal_acts refusals.BadValue = refuse_waiter replies.OptionRefused (outcomes.Refused refusals.BadValue)
 
   -- a reader takes an OACK
-  accept_acts : is_sender x0.state.side ≡ false → (options : List RawOption) (known : List Known) → Contains messages (message from x0.address (Says_oack (oack_size options))) →
-      agreement asked kinds.Read x0.state.mode options limit ≡ Ok known → Answers (Respond (Accept (agreed_terms from known)))
+  accept_acts : is_sender x0.state.role.side ≡ false → (options : List RawOption) (known : List Known) → Contains messages (message from x0.address (Says_oack (oack_size options))) →
+      agreement asked kinds.Read x0.state.role.mode options limit ≡ Ok known → Answers (Respond (Accept (agreed_terms from known)))
   accept_acts reader options known come e turn held h =
       let response = Accept (agreed_terms from known) in
-      let y = in_state (after response from waiter.state) waiter in
+      let y = in_state (with_progress (after response from waiter.state) waiter.state) waiter in
       let here : Contains messages (message from x0.address (Says_oack (size known))) =
-      subst (λ (n : ℕ). Contains messages (message from x0.address (Says_oack n))) (taken_oack asked kinds.Read x0.state.mode options limit known e) come in
+      subst (λ (n : ℕ). Contains messages (message from x0.address (Says_oack n))) (taken_oack asked kinds.Read x0.state.role.mode options limit known e) come in
       let goes_now : Goes views messages k waiter (response_turn response from waiter.state) y = record {
         said_now = message x0.address from (Says_ack 0) ∷ [];
         shown = accepts views messages k (view_of_end waiter) s from (size known) ((refl, refl), kept.phase.0, refl, server) reader here;
@@ -108,18 +108,18 @@ module _ (views : List EndView) (messages : List Message) (k : ℕ) (x0 : Opened
       } in
       from_response views messages k waiter response from turn held goes_now h
 
-  accept_cases : is_sender x0.state.side ≡ false → (options : List RawOption) → Contains messages (message from x0.address (Says_oack (oack_size options))) →
-      (r : Result (List Known) Refusal) → agreement asked kinds.Read x0.state.mode options limit ≡ r → Answers (accept_action from r)
+  accept_cases : is_sender x0.state.role.side ≡ false → (options : List RawOption) → Contains messages (message from x0.address (Says_oack (oack_size options))) →
+      (r : Result (List Known) Refusal) → agreement asked kinds.Read x0.state.role.mode options limit ≡ r → Answers (accept_action from r)
   accept_cases reader options come (Ok known) e = accept_acts reader options known come e
   accept_cases reader options come (Err refusal) e = refusal_acts refusal
 
   -- a reader gets DATA 1
-  first_acts : is_sender x0.state.side ≡ false → (piece : List ℕ) → length piece ≤ 512 → Spells (Data 1 piece) bytes → Contains messages (message from x0.address (Says_data 1 piece)) →
-      Answers (receiver_action true x0.state.mode [] (default_terms from) 0 (Some (Data 1 piece)))
+  first_acts : is_sender x0.state.role.side ≡ false → (piece : List ℕ) → length piece ≤ 512 → Spells (Data 1 piece) bytes → Contains messages (message from x0.address (Says_data 1 piece)) →
+      Answers (receiver_action true x0.state.role.mode [] (default_terms from) 0 (Some (Data 1 piece)))
   first_acts reader piece l spelled come =
       let terms = default_terms from in
       let last = nat_lt (length piece) 512 in
-      let none : x0.state.held ≡ [] = kept.phase.4 reader in
+      let none : x0.state.progress.held ≡ [] = kept.phase.4 reader in
       let waits : IsWaiting (view_of_end waiter) from = ((refl, refl), kept.phase.0, refl, server) in
       let got : Receives views messages k waiter terms 1 from piece = record {
         receiver = reader;
@@ -132,50 +132,50 @@ module _ (views : List EndView) (messages : List Message) (k : ℕ) (x0 : Opened
       } in
       let refuse : (reply : ErrorReply) (outcome : Outcome) → Answers (Respond (Refuse (Some terms) reply outcome)) =
       λ reply outcome turn held h. from_response views messages k waiter (Refuse (Some terms) reply outcome) from turn held
-      (refused_goes views messages k waiter terms 1 from piece kept got x0.state.held (holding_of waiter) reply outcome kept.held (kept.committed reader)
-      (x0.state.held ++ piece, sym (append_assoc (wire_text x0.state.mode x0.stored) x0.state.held piece) ∙ ap (λ (t : List ℕ). t ++ piece) (sym (told views messages k waiter terms 1 from piece kept got)))) h in
+      (refused_goes views messages k waiter terms 1 from piece kept got x0.state.progress.held (holding_of waiter) reply outcome kept.held (kept.committed reader)
+      (x0.state.progress.held ++ piece, sym (append_assoc (wire_text x0.state.role.mode x0.stored) x0.state.progress.held piece) ∙ ap (λ (t : List ℕ). t ++ piece) (sym (told views messages k waiter terms 1 from piece kept got)))) h in
       if_acts Answers (nat_lt 512 (length piece)) (illegal_action terms)
-      (if is_readable x0.state.mode [] piece last then Store terms 1 else Respond (Refuse (Some terms) replies.NotNetascii outcomes.NotNetascii))
+      (if is_readable x0.state.role.mode [] piece last then Store terms 1 else Respond (Refuse (Some terms) replies.NotNetascii outcomes.NotNetascii))
       (λ e. refuse replies.IllegalOperation outcomes.Illegal)
-      (λ e. if_acts Answers (is_readable x0.state.mode [] piece last) (Store terms 1) (Respond (Refuse (Some terms) replies.NotNetascii outcomes.NotNetascii))
+      (λ e. if_acts Answers (is_readable x0.state.role.mode [] piece last) (Store terms 1) (Respond (Refuse (Some terms) replies.NotNetascii outcomes.NotNetascii))
       (λ readable turn held h. block_goes views messages k waiter terms 1 from piece kept got
-      (subst (λ (hs : List ℕ). is_readable x0.state.mode hs piece last ≡ true) (sym none) readable) refuses_commit turn held
+      (subst (λ (hs : List ℕ). is_readable x0.state.role.mode hs piece last ≡ true) (sym none) readable) refuses_commit turn held
       (subst (λ (bs : List ℕ). StoresIn memory_source (world_sink refuses_commit) terms 1 from bs waiter.state (files_of waiter) turn held) (data_of 1 piece bytes spelled) h))
       (λ g. refuse replies.NotNetascii outcomes.NotNetascii))
 
-  first_cases : is_sender x0.state.side ≡ false → (number : ℕ) (piece : List ℕ) → number ≡ 1 → length piece ≤ 512 → Spells (Data number piece) bytes → Contains messages (message from x0.address (Says_data number piece)) →
-      Answers (receiver_action true x0.state.mode [] (default_terms from) 0 (Some (Data number piece)))
+  first_cases : is_sender x0.state.role.side ≡ false → (number : ℕ) (piece : List ℕ) → number ≡ 1 → length piece ≤ 512 → Spells (Data number piece) bytes → Contains messages (message from x0.address (Says_data number piece)) →
+      Answers (receiver_action true x0.state.role.mode [] (default_terms from) 0 (Some (Data number piece)))
   first_cases reader number piece is l =
-      subst (λ (n : ℕ). Spells (Data n piece) bytes → Contains messages (message from x0.address (Says_data n piece)) → Answers (receiver_action true x0.state.mode [] (default_terms from) 0 (Some (Data n piece))))
+      subst (λ (n : ℕ). Spells (Data n piece) bytes → Contains messages (message from x0.address (Says_data n piece)) → Answers (receiver_action true x0.state.role.mode [] (default_terms from) 0 (Some (Data n piece))))
       (sym is) (first_acts reader piece l)
 
   -- a waiting reader with any packet
-  pub reader_acts : is_sender x0.state.side ≡ false → (decoded : Option WirePacket) → ((p : WirePacket) → decoded ≡ Some p → Spells p bytes) → OfDecoded messages from x0 decoded →
-      Answers (reader_action x0.state.mode asked limit from decoded)
+  pub reader_acts : is_sender x0.state.role.side ≡ false → (decoded : Option WirePacket) → ((p : WirePacket) → decoded ≡ Some p → Spells p bytes) → OfDecoded messages from x0 decoded →
+      Answers (reader_action x0.state.role.mode asked limit from decoded)
   reader_acts reader None spelled come = refuse_waiter replies.IllegalOperation outcomes.Illegal
   reader_acts reader (Some (Read r)) spelled come = refuse_waiter replies.IllegalOperation outcomes.Illegal
   reader_acts reader (Some (Write r)) spelled come = refuse_waiter replies.IllegalOperation outcomes.Illegal
   reader_acts reader (Some (Data number piece)) spelled come =
-      if_acts Answers (number == 1 && nat_le (length piece) 512) (receiver_action true x0.state.mode [] (default_terms from) 0 (Some (Data number piece))) no_answer
+      if_acts Answers (number == 1 && nat_le (length piece) 512) (receiver_action true x0.state.role.mode [] (default_terms from) 0 (Some (Data number piece))) no_answer
       (λ e. let b = both_true (number == 1) (nat_le (length piece) 512) e in
       first_cases reader number piece (eqb-true number 1 b.0) (leb-true (length piece) 512 b.1) (spelled (Data number piece) refl) (come (Data number piece) refl))
       (λ e. refuse_waiter replies.IllegalOperation outcomes.Illegal)
   reader_acts reader (Some (Ack acked)) spelled come = refuse_waiter replies.IllegalOperation outcomes.Illegal
   reader_acts reader (Some (Error code text)) spelled come = close_waiter (outcomes.PeerError code)
   reader_acts reader (Some (Oack options)) spelled come =
-      accept_cases reader options (come (Oack options) refl) (agreement asked kinds.Read x0.state.mode options limit) refl
+      accept_cases reader options (come (Oack options) refl) (agreement asked kinds.Read x0.state.role.mode options limit) refl
 
   -- a writer begins
-  begin_acts : is_sender x0.state.side ≡ true → (terms : Terms) → terms.peer ≡ from → 0 < terms.size → terms.size ≤ 65464 →
+  begin_acts : is_sender x0.state.role.side ≡ true → (terms : Terms) → terms.peer ≡ from → 0 < terms.size → terms.size ≤ 65464 →
       (Fits (text_of_end waiter) terms.size → IsShown (set views k (record (view_of_end waiter) { peer = Some from; size = terms.size; number = 1 })) (messages ++ message x0.address from (Says_data 1 (block (text_of_end waiter) terms.size 1)) ∷ [])) →
-      Answers (begin_action x0.state.length terms)
+      Answers (begin_action x0.state.role.length terms)
   begin_acts writer terms peer positive small shown =
-      if_acts Answers (nat_lt x0.state.length (65535 * terms.size)) (Send terms 1) (Respond (Refuse None replies.FileTooLarge outcomes.TooLarge))
+      if_acts Answers (nat_lt x0.state.role.length (65535 * terms.size)) (Send terms 1) (Respond (Refuse None replies.FileTooLarge outcomes.TooLarge))
       (λ e.
       let text = sent_text x0 in
-      let measured : x0.state.length ≡ length text = kept.phase.5 writer in
-      let fits : Fits text terms.size = subst (λ (n : ℕ). n < 65535 * terms.size) measured (ltb-true x0.state.length (65535 * terms.size) e) in
-      let told_now : text_of_end waiter ≡ text = text_if (is_sender x0.state.side) text (received_text waiter) writer in
+      let measured : x0.state.role.length ≡ length text = kept.phase.5 writer in
+      let fits : Fits text terms.size = subst (λ (n : ℕ). n < 65535 * terms.size) measured (ltb-true x0.state.role.length (65535 * terms.size) e) in
+      let told_now : text_of_end waiter ≡ text = text_if (is_sender x0.state.role.side) text (received_text waiter) writer in
       let zero_blocks : 0 * terms.size ≡ 0 = omega arith in
       let behind : x0.left ≡ drop (0 * terms.size) text = kept.phase.3 ∙ ap (λ (n : ℕ). drop n text) (sym zero_blocks) in
       let l : 1 ≤ block_count text terms.size = omega arith in
@@ -194,32 +194,32 @@ module _ (views : List EndView) (messages : List Message) (k : ℕ) (x0 : Opened
       λ turn held h. data_goes views messages k waiter terms 0 from turn held refuses_commit writer measured behind goes_now h)
       (λ e. refuse_waiter replies.FileTooLarge outcomes.TooLarge)
 
-  begin_plain : is_sender x0.state.side ≡ true → Contains messages (message from x0.address (Says_ack 0)) → Answers (begin_action x0.state.length (default_terms from))
+  begin_plain : is_sender x0.state.role.side ≡ true → Contains messages (message from x0.address (Says_ack 0)) → Answers (begin_action x0.state.role.length (default_terms from))
   begin_plain writer come =
       begin_acts writer (default_terms from) refl (omega arith) (omega arith)
       (λ fits. sends_first views messages k (view_of_end waiter) s from ((refl, refl), kept.phase.0, refl, server) writer come fits)
 
-  begin_with : is_sender x0.state.side ≡ true → (options : List RawOption) → Contains messages (message from x0.address (Says_oack (oack_size options))) →
-      (r : Result (List Known) Refusal) → agreement asked kinds.Write x0.state.mode options limit ≡ r → Answers (begin_with_action from x0.state.length r)
+  begin_with : is_sender x0.state.role.side ≡ true → (options : List RawOption) → Contains messages (message from x0.address (Says_oack (oack_size options))) →
+      (r : Result (List Known) Refusal) → agreement asked kinds.Write x0.state.role.mode options limit ≡ r → Answers (begin_with_action from x0.state.role.length r)
   begin_with writer options come (Ok known) e =
-      let b = taken_size asked kinds.Write options x0.state.mode limit known kept.phase.1 e in
+      let b = taken_size asked kinds.Write options x0.state.role.mode limit known kept.phase.1 e in
       let here : Contains messages (message from x0.address (Says_oack (size known))) =
-      subst (λ (n : ℕ). Contains messages (message from x0.address (Says_oack n))) (taken_oack asked kinds.Write x0.state.mode options limit known e) come in
+      subst (λ (n : ℕ). Contains messages (message from x0.address (Says_oack n))) (taken_oack asked kinds.Write x0.state.role.mode options limit known e) come in
       begin_acts writer (agreed_terms from known) refl b.0 b.1
       (λ fits. sends_first_with views messages k (view_of_end waiter) s from (size known) ((refl, refl), kept.phase.0, refl, server) writer here fits)
   begin_with writer options come (Err refusal) e = refusal_acts refusal
 
   -- a waiting writer with any packet
-  pub writer_acts : is_sender x0.state.side ≡ true → (decoded : Option WirePacket) → OfDecoded messages from x0 decoded →
-      Answers (writer_action x0.state.mode asked limit x0.state.length from decoded)
+  pub writer_acts : is_sender x0.state.role.side ≡ true → (decoded : Option WirePacket) → OfDecoded messages from x0 decoded →
+      Answers (writer_action x0.state.role.mode asked limit x0.state.role.length from decoded)
   writer_acts writer None come = refuse_waiter replies.IllegalOperation outcomes.Illegal
   writer_acts writer (Some (Read r)) come = refuse_waiter replies.IllegalOperation outcomes.Illegal
   writer_acts writer (Some (Write r)) come = refuse_waiter replies.IllegalOperation outcomes.Illegal
   writer_acts writer (Some (Data number piece)) come = refuse_waiter replies.IllegalOperation outcomes.Illegal
   writer_acts writer (Some (Ack acked)) come =
-      if_acts Answers (acked == 0) (begin_action x0.state.length (default_terms from)) no_answer
+      if_acts Answers (acked == 0) (begin_action x0.state.role.length (default_terms from)) no_answer
       (λ e. begin_plain writer (subst (λ (n : ℕ). Contains messages (message from x0.address (Says_ack n))) (eqb-true acked 0 e) (come (Ack acked) refl)))
       (λ e. refuse_waiter replies.IllegalOperation outcomes.Illegal)
   writer_acts writer (Some (Error code text)) come = close_waiter (outcomes.PeerError code)
   writer_acts writer (Some (Oack options)) come =
-      begin_with writer options (come (Oack options) refl) (agreement asked kinds.Write x0.state.mode options limit) refl
+      begin_with writer options (come (Oack options) refl) (agreement asked kinds.Write x0.state.role.mode options limit) refl

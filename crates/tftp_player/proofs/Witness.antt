@@ -34,7 +34,7 @@ bytes_below (b ∷ bytes) e zero = ltb-true b 256 (first_of (nat_lt b 256) (all_
 bytes_below (b ∷ bytes) e (suc k) = bytes_below bytes (second_of (nat_lt b 256) (all_bytes bytes) e) k
 
 -- where one client is, its request is the first
-pub first_request : (from : Endpoint) (packet : Packet) (x : OpenedEnd) → is_client x.state.side ≡ true → IsRepeated false from (Some packet) (x ∷ [])
+pub first_request : (from : Endpoint) (packet : Packet) (x : OpenedEnd) → is_client x.state.role.side ≡ true → IsRepeated false from (Some packet) (x ∷ [])
 first_request from packet x client = (
   λ f. absurd (true≢false (sym f)),
   λ any. elim any [
@@ -46,8 +46,8 @@ first_request from packet x client = (
 -- an open end took a datagram
 pub takes : (w : WorldState) (i k : ℕ) (d : Datagram) (x : OpenedEnd) (turn : Turn) (held : Files (List ℕ) Holding) (files : List StoredFile) → IsAtRest w →
     slice_get w.sent i ≡ Some d → slice_get w.ends k ≡ Some x → x.address ≡ d.to → is_closed x ≡ false →
-    EndStep (is_client x.state.side) (in_the_way w.overwrite (file_at w.files x.path)) d.from d.bytes x.state (files_of x) turn held →
-    FilesAfter w.overwrite (not (is_client x.state.side) && has_committed x (end_after x turn held)) x.path (end_after x turn held).stored w.files files →
+    EndStep (is_client x.state.role.side) (in_the_way w.overwrite (file_at w.files x.path)) d.from d.bytes x.state (files_of x) turn held →
+    FilesAfter w.overwrite (not (is_client x.state.role.side) && has_committed x (end_after x turn held)) x.path (end_after x turn held).stored w.files files →
     WorldStep w (Deliver i) (report_of w x turn)
     (record w { sent = w.sent ++ replied x.address turn.reply; files = files; ends = slice_set w.ends k (at_rest (end_after x turn held)) })
 takes w i k d x turn held files r sent there at open_now steps stored =

@@ -74,9 +74,9 @@ module _ (strangers : Bool) (w v : WorldState) (ok : IsOk strangers w) (report :
       let s : Stands views ok.messages k (view_of_end x) = record { shown = ok.shown; place = view_at w.ends k x at } in
       let kept = ok.ends k x at in
       let spelled = says_spelled bytes h.steps.decoded h.steps.says in
-      let old = there_now strangers w ok x.address x.state.last_sent_to x.state.last_sent (kept.last_sent open_now) in
-      let goes_now = by_datagram views ok.messages k x (may_refuse_commit (is_client x.state.side) (in_the_way w.overwrite (file_at w.files x.path))) from bytes h.steps.decoded spelled
-      (λ p e. come p (spelled p e)) old x.state.phase s kept.kept open_now h.turn h.held h.steps.acts in
+      let old = there_now strangers w ok x.address x.state.progress.last_sent_to x.state.progress.last_sent (kept.last_sent open_now) in
+      let goes_now = by_datagram views ok.messages k x (may_refuse_commit (is_client x.state.role.side) (in_the_way w.overwrite (file_at w.files x.path))) from bytes h.steps.decoded spelled
+      (λ p e. come p (spelled p e)) old x.state.progress.phase s kept.kept open_now h.turn h.held h.steps.acts in
       turn_keeps strangers w v ok k x h.turn h.held report at open_now goes_now h.turns
 
   -- a datagram that came keeps the world
@@ -98,10 +98,10 @@ module _ (strangers : Bool) (w v : WorldState) (ok : IsOk strangers w) (report :
       let views = map view_of_end w.ends in
       let s : Stands views ok.messages k (view_of_end x) = record { shown = ok.shown; place = view_at w.ends k x at } in
       let kept = ok.ends k x at in
-      let old = there_now strangers w ok x.address x.state.last_sent_to x.state.last_sent (kept.last_sent open_now) in
-      let g = by_timeout views ok.messages k x old x.state.phase s kept.kept open_now in
+      let old = there_now strangers w ok x.address x.state.progress.last_sent_to x.state.progress.last_sent (kept.last_sent open_now) in
+      let g = by_timeout views ok.messages k x old x.state.progress.phase s kept.kept open_now in
       turn_keeps strangers w v ok k x (timeout_turn x.state) (files_of x) report at open_now
-      (from_response views ok.messages k x (timeout_response x.state.retries_left x.state.phase) x.state.last_sent_to (timeout_turn x.state) (files_of x) g (refl, refl)) t
+      (from_response views ok.messages k x (timeout_response x.state.progress.retries_left x.state.progress.phase) x.state.progress.last_sent_to (timeout_turn x.state) (files_of x) g (refl, refl)) t
 
 -- what is to be refused has no part in what an end tells
 told_view : (b c : Bool) (x : OpenedEnd) → view_of_end (if b then x else if c then x else record x { refuses = true }) ≡ view_of_end x
@@ -129,7 +129,7 @@ phase_told (Closed terms number complete outcome) x h = tt
 same_kept : (w v : WorldState) (x : OpenedEnd) → v.sent ≡ w.sent → v.files ≡ w.files → v.overwrite ≡ w.overwrite → IsKeptIn w x → IsKeptIn v x
 same_kept w v x s f set h = record {
   kept = h.kept;
-  last_sent = λ o. subst (λ (ds : List Datagram). Contains ds (datagram x.address x.state.last_sent_to x.state.last_sent)) (sym s) (h.last_sent o);
+  last_sent = λ o. subst (λ (ds : List Datagram). Contains ds (datagram x.address x.state.progress.last_sent_to x.state.progress.last_sent)) (sym s) (h.last_sent o);
   stored = λ o c r d. subst (λ (files : List StoredFile). file_at files x.path ≡ Some x.stored) (sym f) (h.stored (sym set ∙ o) c r d);
 }
 
@@ -138,7 +138,7 @@ told_kept w v true c x s f set h = same_kept w v x s f set h
 told_kept w v false true x s f set h = same_kept w v x s f set h
 told_kept w v false false x s f set h =
     let g = same_kept w v x s f set h in record {
-      kept = record { phase = phase_told x.state.phase x g.kept.phase; held = g.kept.held; committed = g.kept.committed };
+      kept = record { phase = phase_told x.state.progress.phase x g.kept.phase; held = g.kept.held; committed = g.kept.committed };
       last_sent = g.last_sent;
       stored = g.stored;
     }
@@ -149,7 +149,7 @@ told_keeps : (strangers : Bool) (w : WorldState) (ok : IsOk strangers w) (k : �
 told_keeps strangers w ok k x at =
     let y = told_to_refuse x in
     let v = record w { ends = set w.ends k y } in
-    let b = is_sender x.state.side in
+    let b = is_sender x.state.role.side in
     let c = is_closed x in
     let same : map view_of_end (set w.ends k y) ≡ map view_of_end w.ends =
     map-set view_of_end w.ends k y ∙ (ap (λ (e : EndView). set (map view_of_end w.ends) k e) (told_view b c x)

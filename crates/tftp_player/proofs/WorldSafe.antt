@@ -60,17 +60,17 @@ module _ (strangers : Bool) (w : WorldState) (ok : IsOk strangers w) where
   among : (x : OpenedEnd) → IsIn w x → IsAmong (map view_of_end w.ends) (view_of_end x)
   among x i = (i.0, view_at w.ends i.0 x i.1)
 
-  begins : (x : OpenedEnd) → is_sender x.state.side ≡ false → IsBeginningOf (wire_text x.state.mode x.stored) (text_of_end x)
-  begins x r = stored_begins (is_sender x.state.side) (goes_on x.state.phase) (wire_text x.state.mode x.file) (wire_text x.state.mode x.stored) x.state.held r
+  begins : (x : OpenedEnd) → is_sender x.state.role.side ≡ false → IsBeginningOf (wire_text x.state.role.mode x.stored) (text_of_end x)
+  begins x r = stored_begins (is_sender x.state.role.side) (goes_on x.state.progress.phase) (wire_text x.state.role.mode x.file) (wire_text x.state.role.mode x.stored) x.state.progress.held r
 
-  whole : (x : OpenedEnd) → is_sender x.state.side ≡ false → is_complete x.state.phase ≡ true → text_of_end x ≡ wire_text x.state.mode x.stored
+  whole : (x : OpenedEnd) → is_sender x.state.role.side ≡ false → is_complete x.state.progress.phase ≡ true → text_of_end x ≡ wire_text x.state.role.mode x.stored
   whole x r d =
-      let t = wire_text x.state.mode x.stored in
-      text_else (is_sender x.state.side) (wire_text x.state.mode x.file) (received_text x) r
-      ∙ ap (λ (b : Bool). if b then t ++ x.state.held else t) (complete_stops x.state.phase d)
+      let t = wire_text x.state.role.mode x.stored in
+      text_else (is_sender x.state.role.side) (wire_text x.state.role.mode x.file) (received_text x) r
+      ∙ ap (λ (b : Bool). if b then t ++ x.state.progress.held else t) (complete_stops x.state.progress.phase d)
 
-  sends : (z : OpenedEnd) → is_sender z.state.side ≡ true → text_of_end z ≡ wire_text z.state.mode z.file
-  sends z s = text_if (is_sender z.state.side) (wire_text z.state.mode z.file) (received_text z) s
+  sends : (z : OpenedEnd) → is_sender z.state.role.side ≡ true → text_of_end z ≡ wire_text z.state.role.mode z.file
+  sends z s = text_if (is_sender z.state.role.side) (wire_text z.state.role.mode z.file) (received_text z) s
 
   pub ok_safe : IsSafe w
   ok_safe = record {
@@ -83,19 +83,19 @@ module _ (strangers : Bool) (w : WorldState) (ok : IsOk strangers w) where
     same_size = λ x y i j e f. safe.same_size (view_of_end x) (view_of_end y) (among x i) (among y j) e f;
     is_empty = λ x i r e.
         let t = safe.is_empty (view_of_end x) (among x i) r e in
-        let b = subst (λ (z : List ℕ). IsBeginningOf (wire_text x.state.mode x.stored) z) (t ∙ sym (nothing_travels x.state.mode)) (begins x r) in
-        first_of_empty x.stored (wire_beginning x.state.mode x.stored [] b);
+        let b = subst (λ (z : List ℕ). IsBeginningOf (wire_text x.state.role.mode x.stored) z) (t ∙ sym (nothing_travels x.state.role.mode)) (begins x r) in
+        first_of_empty x.stored (wire_beginning x.state.role.mode x.stored [] b);
     is_beginning = λ x p i r e own.
         let h = safe.is_beginning (view_of_end x) p (among x i) r e own in
         let y = end_of w h.0 h.1.0 in
         let z = y.0 in
-        let sender : is_sender z.state.side ≡ true = ap (λ (v : EndView). v.sender) y.2 ∙ h.2 in
-        let mode : z.state.mode ≡ x.state.mode = ap (λ (v : EndView). v.mode) y.2 ∙ h.3 in
-        let text : h.0.text ≡ wire_text x.state.mode z.file =
+        let sender : is_sender z.state.role.side ≡ true = ap (λ (v : EndView). v.sender) y.2 ∙ h.2 in
+        let mode : z.state.role.mode ≡ x.state.role.mode = ap (λ (v : EndView). v.mode) y.2 ∙ h.3 in
+        let text : h.0.text ≡ wire_text x.state.role.mode z.file =
         ap (λ (v : EndView). v.text) (sym y.2) ∙ (sends z sender ∙ ap (λ (m : Mode). wire_text m z.file) mode) in
-        let b = subst (λ (t : List ℕ). IsBeginningOf (wire_text x.state.mode x.stored) t) text
-        (IsBeginningOf-trans (wire_text x.state.mode x.stored) (text_of_end x) h.0.text (begins x r) h.4) in
-        (z, ((y.1, ap (λ (v : EndView). v.address) y.2 ∙ h.1.1), sender), wire_beginning x.state.mode x.stored z.file b);
+        let b = subst (λ (t : List ℕ). IsBeginningOf (wire_text x.state.role.mode x.stored) t) text
+        (IsBeginningOf-trans (wire_text x.state.role.mode x.stored) (text_of_end x) h.0.text (begins x r) h.4) in
+        (z, ((y.1, ap (λ (v : EndView). v.address) y.2 ∙ h.1.1), sender), wire_beginning x.state.role.mode x.stored z.file b);
     is_committed = λ x i r d. (ok.ends i.0 x i.1).kept.committed r ∙ d;
     is_whole = λ x i r d.
         let g = safe.is_whole (view_of_end x) (among x i) r d in (
@@ -105,11 +105,11 @@ module _ (strangers : Bool) (w : WorldState) (ok : IsOk strangers w) where
               let h = g.2 own in
               let y = end_of w h.0 h.1.0 in
               let z = y.0 in
-              let sender : is_sender z.state.side ≡ true = ap (λ (v : EndView). v.sender) y.2 ∙ h.2 in
-              let mode : z.state.mode ≡ x.state.mode = ap (λ (v : EndView). v.mode) y.2 ∙ h.3 in
-              let text : h.0.text ≡ wire_text x.state.mode z.file =
+              let sender : is_sender z.state.role.side ≡ true = ap (λ (v : EndView). v.sender) y.2 ∙ h.2 in
+              let mode : z.state.role.mode ≡ x.state.role.mode = ap (λ (v : EndView). v.mode) y.2 ∙ h.3 in
+              let text : h.0.text ≡ wire_text x.state.role.mode z.file =
               ap (λ (v : EndView). v.text) (sym y.2) ∙ (sends z sender ∙ ap (λ (m : Mode). wire_text m z.file) mode) in
-              (z, ((y.1, ap (λ (v : EndView). v.address) y.2 ∙ h.1.1), sender), wire_same x.state.mode x.stored z.file (sym (whole x r d) ∙ (h.4 ∙ text))),
+              (z, ((y.1, ap (λ (v : EndView). v.address) y.2 ∙ h.1.1), sender), wire_same x.state.role.mode x.stored z.file (sym (whole x r d) ∙ (h.4 ∙ text))),
         );
     is_at_path = λ o x i r d c. (ok.ends i.0 x i.1).stored o c r d;
     sender_last = λ x i s d.

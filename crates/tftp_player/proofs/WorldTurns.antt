@@ -12,7 +12,7 @@ use Rattle.tftp_file.specs.declared.files.Files.{Files}
 use Rattle.tftp_file.specs.declared.files.Files.TheVariants.{Source, Sink}
 use Rattle.tftp_file.specs.Sink.{Holding}
 use Rattle.tftp_ends.specs.End.{is_sender, is_client, is_complete}
-use Rattle.tftp_ends.specs.Step.{Turn, Reply}
+use Rattle.tftp_ends.specs.Step.{Turn, Reply, after_turn}
 use Rattle.tftp_player.specs.Machine.{Endpoint, Elsewhere, host_of, Message}
 use Rattle.tftp_player.specs.Rules.{message}
 use Rattle.tftp_player.specs.Said.{said}
@@ -97,7 +97,7 @@ still_kept : (w v : WorldState) (added : List Datagram) (x : OpenedEnd) → v.se
     v.overwrite ≡ w.overwrite → (w.overwrite ≡ false → (q c : List ℕ) → file_at w.files q ≡ Some c → file_at v.files q ≡ Some c) → IsKeptIn w x → IsKeptIn v x
 still_kept w v added x more set stay h = record {
   kept = h.kept;
-  last_sent = λ o. subst (λ (ds : List Datagram). Contains ds (datagram x.address x.state.last_sent_to x.state.last_sent)) (sym more) (Contains-append_left w.sent added (datagram x.address x.state.last_sent_to x.state.last_sent) (h.last_sent o));
+  last_sent = λ o. subst (λ (ds : List Datagram). Contains ds (datagram x.address x.state.progress.last_sent_to x.state.progress.last_sent)) (sym more) (Contains-append_left w.sent added (datagram x.address x.state.progress.last_sent_to x.state.progress.last_sent) (h.last_sent o));
   stored = λ o c r d. let kept = sym set ∙ o in stay kept x.path x.stored (h.stored kept c r d);
 }
 
@@ -140,29 +140,29 @@ pub turn_keeps : (strangers : Bool) (w v : WorldState) (ok : IsOk strangers w) (
     slice_get w.ends k ≡ Some x → is_closed x ≡ false → Goes (map view_of_end w.ends) ok.messages k x turn (end_after x turn held) → Turns w k x turn held report v → IsOk strangers v
 turn_keeps strangers w v ok k x turn held report at open_now g t = subst (λ (z : WorldState). IsOk strangers z) (sym t.is) later where
   last_sent_is : (to : Endpoint) (bytes : List ℕ) → Newest x turn (end_after x turn held) →
-      Contains (w.sent ++ replied x.address turn.reply) (datagram x.address (end_after x turn held).state.last_sent_to (end_after x turn held).state.last_sent)
+      Contains (w.sent ++ replied x.address turn.reply) (datagram x.address (end_after x turn held).state.progress.last_sent_to (end_after x turn held).state.progress.last_sent)
   last_sent_is to bytes (inl e) =
-      let there = Contains-append_left w.sent (replied x.address turn.reply) (datagram x.address x.state.last_sent_to x.state.last_sent) ((ok.ends k x at).last_sent open_now) in
-      subst (λ (p : Endpoint). Contains (w.sent ++ replied x.address turn.reply) (datagram x.address p (end_after x turn held).state.last_sent)) (sym e.0)
-      (subst (λ (b : List ℕ). Contains (w.sent ++ replied x.address turn.reply) (datagram x.address x.state.last_sent_to b)) (sym e.1) there)
+      let there = Contains-append_left w.sent (replied x.address turn.reply) (datagram x.address x.state.progress.last_sent_to x.state.progress.last_sent) ((ok.ends k x at).last_sent open_now) in
+      subst (λ (p : Endpoint). Contains (w.sent ++ replied x.address turn.reply) (datagram x.address p (end_after x turn held).state.progress.last_sent)) (sym e.0)
+      (subst (λ (b : List ℕ). Contains (w.sent ++ replied x.address turn.reply) (datagram x.address x.state.progress.last_sent_to b)) (sym e.1) there)
   last_sent_is to bytes (inr e) =
-      let d = datagram x.address (end_after x turn held).state.last_sent_to (end_after x turn held).state.last_sent in
+      let d = datagram x.address (end_after x turn held).state.progress.last_sent_to (end_after x turn held).state.progress.last_sent in
       Contains-append_right w.sent (replied x.address turn.reply) d
       (subst (λ (r : Option Reply). Contains (replied x.address r) d) (sym e) (here_in d))
 
   stays : w.overwrite ≡ false → (q c : List ℕ) → file_at w.files q ≡ Some c → file_at t.files q ≡ Some c
-  stays = files_stay w.overwrite (not (is_client x.state.side) && has_committed x (end_after x turn held)) x.path (end_after x turn held).stored w.files t.files t.stored
+  stays = files_stay w.overwrite (not (is_client x.state.role.side) && has_committed x (end_after x turn held)) x.path (end_after x turn held).stored w.files t.files t.stored
 
-  stored_is : w.overwrite ≡ false → is_client (end_after x turn held).state.side ≡ false → is_sender (end_after x turn held).state.side ≡ false → is_complete (end_after x turn held).state.phase ≡ true →
+  stored_is : w.overwrite ≡ false → is_client (end_after x turn held).state.role.side ≡ false → is_sender (end_after x turn held).state.role.side ≡ false → is_complete (end_after x turn held).state.progress.phase ≡ true →
       file_at t.files (end_after x turn held).path ≡ Some (end_after x turn held).stored
   stored_is o c r d =
       let y = end_after x turn held in
-      let path = (same_place (record x { state = turn.end }) held).1 in
-      let client : is_client x.state.side ≡ false = ap is_client (sym g.side) ∙ c in
-      let receiver : is_sender x.state.side ≡ false = ap is_sender (sym g.side) ∙ r in
+      let path = (same_place (record x { state = after_turn x.state turn }) held).1 in
+      let client : is_client x.state.role.side ≡ false = ap is_client (sym g.side) ∙ c in
+      let receiver : is_sender x.state.role.side ≡ false = ap is_sender (sym g.side) ∙ r in
       let old = (ok.ends k x at).kept.committed receiver in
       let new : y.committed ≡ true = g.kept.committed r ∙ d in
-      let under : file_at t.files x.path ≡ Some y.stored = elim (complete_then (is_complete x.state.phase) (is_client x.state.side) x.committed y.committed old new client) [
+      let under : file_at t.files x.path ≡ Some y.stored = elim (complete_then (is_complete x.state.progress.phase) (is_client x.state.role.side) x.committed y.committed old new client) [
         | inl h ↦ stays o x.path y.stored ((ok.ends k x at).stored o client receiver h.0 ∙ ap (λ (z : List ℕ). Some z) (sym (g.stored h.0)))
         | inr h ↦ (subst (λ (b : Bool). FilesAfter w.overwrite b x.path y.stored w.files t.files) h t.stored).here
       ] in
@@ -171,7 +171,7 @@ turn_keeps strangers w v ok k x turn held report at open_now g t = subst (λ (z 
   later : IsOk strangers (world_after w k x turn held t.files)
   later =
       let y = end_after x turn held in
-      let place = (same_place (record x { state = turn.end }) held).0 in
+      let place = (same_place (record x { state = after_turn x.state turn }) held).0 in
       let own = at_home strangers w ok k x at in
       record {
         messages = ok.messages ++ g.said_now;
@@ -183,7 +183,7 @@ turn_keeps strangers w v ok k x turn held report at open_now g t = subst (λ (z 
         ends = λ j z i. elim (slice_get-set_cases w.ends k j y z i) [
           | inl h ↦ subst (λ (u : OpenedEnd). IsKeptIn (world_after w k x turn held t.files) u) (sym h.1) (record {
             kept = g.kept;
-            last_sent = λ _. subst (λ (a : Endpoint). Contains (w.sent ++ replied x.address turn.reply) (datagram a y.state.last_sent_to y.state.last_sent)) (sym place) (last_sent_is y.state.last_sent_to y.state.last_sent g.last_sent);
+            last_sent = λ _. subst (λ (a : Endpoint). Contains (w.sent ++ replied x.address turn.reply) (datagram a y.state.progress.last_sent_to y.state.progress.last_sent)) (sym place) (last_sent_is y.state.progress.last_sent_to y.state.progress.last_sent g.last_sent);
             stored = stored_is;
           })
           | inr h ↦ still_kept w (world_after w k x turn held t.files) (replied x.address turn.reply) z refl refl stays (ok.ends j z h.1)
@@ -192,13 +192,13 @@ turn_keeps strangers w v ok k x turn held report at open_now g t = subst (λ (z 
 
 -- an end that opened keeps the world
 pub opening_keeps : (strangers : Bool) (w v : WorldState) (ok : IsOk strangers w) (x : OpenedEnd) (report : Report) (p : WirePacket) →
-    Spells p x.state.last_sent → IsShown (map view_of_end w.ends ++ view_of_end x ∷ []) (ok.messages ++ message x.address x.state.last_sent_to (said p) ∷ []) →
-    host_of x.address ≢ Elsewhere → EndKept x → is_complete x.state.phase ≡ false → Opens w x report v → IsOk strangers v
+    Spells p x.state.progress.last_sent → IsShown (map view_of_end w.ends ++ view_of_end x ∷ []) (ok.messages ++ message x.address x.state.progress.last_sent_to (said p) ∷ []) →
+    host_of x.address ≢ Elsewhere → EndKept x → is_complete x.state.progress.phase ≡ false → Opens w x report v → IsOk strangers v
 opening_keeps strangers w v ok x report p spells shown own kept incomplete o = subst (λ (z : WorldState). IsOk strangers z) (sym o.is) later where
   later : IsOk strangers (opened_in w x)
   later =
-      let reply : Option Reply = Some (record { to = x.state.last_sent_to; bytes = x.state.last_sent }) in
-      let m = message x.address x.state.last_sent_to (said p) in
+      let reply : Option Reply = Some (record { to = x.state.progress.last_sent_to; bytes = x.state.progress.last_sent }) in
+      let m = message x.address x.state.progress.last_sent_to (said p) in
       let r : Replies x.address reply (m ∷ []) = (p, spells, refl) in
       record {
         messages = ok.messages ++ m ∷ [];
@@ -211,7 +211,7 @@ opening_keeps strangers w v ok x report p spells shown own kept incomplete o = s
           | inl h ↦ still_kept w (opened_in w x) (replied x.address reply) z refl refl (λ o q c e. e) (ok.ends j z h)
           | inr h ↦ subst (λ (u : OpenedEnd). IsKeptIn (opened_in w x) u) (sym h.1) (record {
             kept = kept;
-            last_sent = λ _. Contains-append_right w.sent (replied x.address reply) (datagram x.address x.state.last_sent_to x.state.last_sent) (here_in (datagram x.address x.state.last_sent_to x.state.last_sent));
+            last_sent = λ _. Contains-append_right w.sent (replied x.address reply) (datagram x.address x.state.progress.last_sent_to x.state.progress.last_sent) (here_in (datagram x.address x.state.progress.last_sent_to x.state.progress.last_sent));
             stored = λ o c f d. absurd (true≢false (sym d ∙ incomplete));
           })
         ];

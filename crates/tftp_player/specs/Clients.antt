@@ -13,7 +13,7 @@ use Rattle.tftp_ends.specs.declared.record.Record.{Record}
 use Rattle.tftp_ends.specs.End.{EndState, record_of, outcome_of}
 use Rattle.tftp_ends.specs.Files.{AreSame}
 use Rattle.tftp_ends.specs.Opening.{request_of}
-use Rattle.tftp_ends.specs.Step.{Turn}
+use Rattle.tftp_ends.specs.Step.{Turn, after_turn}
 use Rattle.tftp_player.specs.Machine.{Endpoint, server_ip, client_ip, request_port}
 use Rattle.tftp_player.specs.Effect.{effect_of}
 use Rattle.tftp_player.specs.PlayedClient.{PlayedClient}
@@ -46,8 +46,8 @@ holding_in (Sink holding) = holding
 -- a client made a turn, and its file is this now
 pub record ClientTurns (port : ℕ) (old new : PlayedClient) (turn : Turn) (files : Files (List ℕ) Holding) (effect : Effect) (r : Record) : Type 0 where
   pub effects : effect ≡ effect_of (client_at port) turn
-  pub recorded : r ≡ record_of turn.end
-  pub client : new ≡ record old { end = turn.end; files = files }
+  pub recorded : r ≡ record_of (after_turn old.end turn)
+  pub client : new ≡ record old { end = after_turn old.end turn; files = files }
 
 -- a client took a datagram
 pub record ClientDatagramStep (port : ℕ) (from : Endpoint) (bytes : List ℕ) (old new : PlayedClient) (effect : Effect) (r : Record) : Type 0 where
@@ -86,7 +86,7 @@ told_files (Sink holding) = Sink (record holding { refuses = true })
 
 -- the client, told so while it is open
 abbrev pub told_client : PlayedClient → PlayedClient
-told_client c = if is_some (outcome_of c.end.phase) then c else record c { files = told_files c.files }
+told_client c = if is_some (outcome_of c.end.progress.phase) then c else record c { files = told_files c.files }
 
 -- why the world has no new client
 abbrev pub open_fault : OpenFault → WorldFault

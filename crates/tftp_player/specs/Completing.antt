@@ -22,7 +22,7 @@ pub record IsTransferred (w : WorldState) (bytes : List ℕ) : Type 0 where
   pub receiver : OpenedEnd
   pub sender_in : IsIn w sender
   pub receiver_in : IsIn w receiver
-  pub sends : is_sender sender.state.side ≡ true
+  pub sends : is_sender sender.state.role.side ≡ true
   pub receives : IsReceiver receiver
   pub sender_peer : HasPeer sender receiver.address
   pub receiver_peer : HasPeer receiver sender.address

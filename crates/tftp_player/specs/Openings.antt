@@ -14,7 +14,7 @@ use Rattle.tftp_player.specs.World.{WorldState, OpenedEnd, next_port, ip_of}
 abbrev pub opening : WorldState → EndState → List ℕ → List ℕ → List ℕ → List ℕ → OpenedEnd
 opening w state request path file left =
     record {
-      address = record { ip = ip_of state.side; port = next_port w };
+      address = record { ip = ip_of state.role.side; port = next_port w };
       state = state;
       path = path;
       file = file;

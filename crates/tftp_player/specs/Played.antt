@@ -97,7 +97,7 @@ IsServed port s None held = ServedKept port s held
 
 -- what holds of an end
 abbrev pub PlayerKept : ℕ → List (ℕ × Transfer) → Player → Type 0
-PlayerKept port held (Client c) = (is_client c.end.side ≡ true) × AreFilesOf c.end.side c.files
+PlayerKept port held (Client c) = (is_client c.end.role.side ≡ true) × AreFilesOf c.end.role.side c.files
 PlayerKept port held (Server s) = IsServed port s s.ended held
 
 -- of each
@@ -119,7 +119,7 @@ PlayerDatagramStep port from bytes _ _ before after effect r = ⊥
 
 -- an end takes events no more
 abbrev pub has_ended : Player → Bool
-has_ended (Client c) = is_some (outcome_of c.end.phase)
+has_ended (Client c) = is_some (outcome_of c.end.progress.phase)
 has_ended (Server s) = is_some s.ended
 
 -- where it is

@@ -13,7 +13,7 @@ use Rattle.tftp_player.specs.World.{WorldState, OpenedEnd, file_at, in_the_way, 
 
 -- how many transfers the server holds: its ends that are not closed
 abbrev pub open_transfers : List OpenedEnd → ℕ
-open_transfers ends = count_by (λ x. not (is_client x.state.side) && not (is_closed x)) ends
+open_transfers ends = count_by (λ x. not (is_client x.state.role.side) && not (is_closed x)) ends
 
 -- the length of the file that is opened, as it is counted, which a program stops counting where no block size could carry
 -- the file
@@ -37,9 +37,9 @@ service w repeated bytes decoded = served w (asks w.cap (open_transfers w.ends) 
 
 -- an open end of the server was asked for from there by a datagram that spells this packet
 pub record Repeats (from : Endpoint) (packet : Packet) (x : OpenedEnd) : Type 0 where
-  pub server : is_client x.state.side ≡ false
+  pub server : is_client x.state.role.side ≡ false
   pub still : is_closed x ≡ false
-  pub peer : peer_of x.state.phase ≡ Some from
+  pub peer : peer_of x.state.progress.phase ≡ Some from
   pub same : Spells packet x.request
 
 -- one of the ends was

@@ -6,9 +6,9 @@ use Rattle.tftp_file.specs.declared.files.Files.TheVariants.{Source, Sink}
 use Rattle.tftp_ends.specs.declared.outcome.Outcome.{Outcome}
 use Rattle.tftp_ends.specs.declared.phase.Phase.{Phase}
 use Rattle.tftp_ends.specs.declared.record.Record.{Record}
-use Rattle.tftp_ends.specs.End.{is_client, is_complete, outcome_of, record_of}
+use Rattle.tftp_ends.specs.End.{EndState, is_client, is_complete, outcome_of, record_of}
 use Rattle.tftp_ends.specs.Files.{AreFilesOf, AreSame}
-use Rattle.tftp_ends.specs.Step.{Turn, timeout_turn}
+use Rattle.tftp_ends.specs.Step.{Turn, after_turn, timeout_turn}
 use Rattle.tftp_server.specs.Draft.{files_in, KeepsStore}
 use Rattle.tftp_server.specs.Memory.{memory_meaning, with_told}
 use Rattle.tftp_server.specs.State.{Held, ServerState, at, draft_of, with_next, without}
@@ -38,10 +38,10 @@ pub record ServedKept (port : ℕ) (s : Served) (held : List (ℕ × Transfer)) 
   pub transfer : Transfer
   pub found : at port held ≡ Some transfer
   pub is_open : server.is_closed transfer ≡ false
-  pub side : is_client transfer.end.side ≡ false
-  pub files : AreFilesOf transfer.end.side transfer.files
-  pub commits : CommitsLast transfer.files transfer.end.phase
-  pub mode : transfer.end.mode ≡ s.mode
+  pub side : is_client transfer.end.role.side ≡ false
+  pub files : AreFilesOf transfer.end.role.side transfer.files
+  pub commits : CommitsLast transfer.files transfer.end.progress.phase
+  pub mode : transfer.end.role.mode ≡ s.mode
   pub path : transfer.path ≡ s.path
 
 -- the server's end with its record and its draft, if it has closed
@@ -54,19 +54,19 @@ abbrev pub rested_held : Bool → ℕ → List (ℕ × Transfer) → List (ℕ �
 rested_held true port held = without port held
 rested_held false port held = held
 
--- an end of the server made a turn: its transfer is this now, and the store that
-pub record ServedTurns (port : ℕ) (old new : Served) (before after : PlayedServer) (turn : Turn) (next : Transfer) (refuses : Bool) (store : Stored) (effect : Effect) (r : Record) : Type 0 where
-  pub end : next.end ≡ turn.end
+-- an end of the server, which was so, made a turn: its transfer is this now, and the store that
+pub record ServedTurns (port : ℕ) (old new : Served) (before after : PlayedServer) (e : EndState) (turn : Turn) (next : Transfer) (refuses : Bool) (store : Stored) (effect : Effect) (r : Record) : Type 0 where
+  pub end : next.end ≡ after_turn e turn
   pub effects : effect ≡ effect_of (server_at port) turn
-  pub recorded : r ≡ record_of turn.end
-  pub served : new ≡ rested_served (is_some (outcome_of turn.end.phase)) r (draft_of next.files) (record old { refuses = refuses })
-  pub server : after ≡ record before { store = store; held = rested_held (is_some (outcome_of turn.end.phase)) port (with_next port next before.held) }
+  pub recorded : r ≡ record_of (after_turn e turn)
+  pub served : new ≡ rested_served (is_some (outcome_of turn.progress.phase)) r (draft_of next.files) (record old { refuses = refuses })
+  pub server : after ≡ record before { store = store; held = rested_held (is_some (outcome_of turn.progress.phase)) port (with_next port next before.held) }
 
 -- a timeout did
 abbrev pub ServedTimeoutStep : ℕ → Served → Served → PlayedServer → PlayedServer → Effect → Record → Type 0
 ServedTimeoutStep port old new before after effect r =
     (h : Transfer) × (at port before.held ≡ Some h)
-    × ServedTurns port old new before after (timeout_turn h.end) (with_end (timeout_turn h.end).end h) old.refuses before.store effect r
+    × ServedTurns port old new before after h.end (timeout_turn h.end) (with_end (after_turn h.end (timeout_turn h.end)) h) old.refuses before.store effect r
 
 -- a datagram did: while it was handled the store was told what the end is told
 pub record ServedDatagramStep (port : ℕ) (from : Endpoint) (bytes : List ℕ) (old new : Served) (before after : PlayedServer) (effect : Effect) (r : Record) : Type 0 where
@@ -80,12 +80,12 @@ pub record ServedDatagramStep (port : ℕ) (from : Endpoint) (bytes : List ℕ) 
   pub kind : AreSame (λ (a b : List ℕ). ⊤) (λ (a b : Drafted). ⊤) transfer.files next.files
   pub path : next.path ≡ transfer.path
   pub request : next.request ≡ transfer.request
-  pub turns : ServedTurns port old new before after turn next store.refuses (with_told store false) effect r
+  pub turns : ServedTurns port old new before after transfer.end turn next store.refuses (with_told store false) effect r
 
 -- how the transfer has closed, as its step told
 abbrev pub ClosesAs : Option Outcome → Option Transfer → Type 0
 ClosesAs closed None = ⊥
-ClosesAs closed (Some h) = closed ≡ outcome_of h.end.phase
+ClosesAs closed (Some h) = closed ≡ outcome_of h.end.progress.phase
 
 -- it was taken out with its record and its draft, if it has closed
 abbrev pub Concludes : ℕ → Option Transfer → Served → Served → PlayedServer → PlayedServer → Type 0

@@ -94,7 +94,7 @@ opened_at ends port = if nat_lt port 1024 then None else slice_get ends (port - 
 
 -- what a receiver has stored
 abbrev pub stored_in : OpenedEnd → Option (List ℕ)
-stored_in x = if is_sender x.state.side then None else Some x.stored
+stored_in x = if is_sender x.state.role.side then None else Some x.stored
 
 abbrev pub stored_at : List OpenedEnd → ℕ → Option (List ℕ)
 stored_at ends port = option_and_then stored_in (opened_at ends port)
@@ -134,8 +134,8 @@ pub record DatagramAt (place : ℕ) (x : OpenedEnd) (from : Endpoint) (bytes : L
   pub open_now : is_closed x ≡ false
   pub turn : Turn
   pub held : Files (List ℕ) Holding
-  pub steps : EndStep (is_client x.state.side) (in_the_way overwrite (file_at files x.path)) from bytes x.state (files_of x) turn held
-  pub commits : FilesAfter overwrite (not (is_client x.state.side) && has_committed x (end_after x turn held)) x.path (end_after x turn held).stored files files'
+  pub steps : EndStep (is_client x.state.role.side) (in_the_way overwrite (file_at files x.path)) from bytes x.state (files_of x) turn held
+  pub commits : FilesAfter overwrite (not (is_client x.state.role.side) && has_committed x (end_after x turn held)) x.path (end_after x turn held).stored files files'
   pub turns : EndTurns place x turn held ends ends' effect
 
 -- nothing came of it

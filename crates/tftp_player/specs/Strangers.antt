@@ -28,4 +28,4 @@ StraysChangeNoRecord =
 abbrev pub ClientsHaveServers : Type 0
 ClientsHaveServers =
     (strangers : Bool) (w : WorldState) (x : OpenedEnd) (p : Endpoint) →
-    IsOk strangers w → IsIn w x → is_client x.state.side ≡ true → HasPeer x p → host_of p ≡ At_server
+    IsOk strangers w → IsIn w x → is_client x.state.role.side ≡ true → HasPeer x p → host_of p ≡ At_server

@@ -18,7 +18,7 @@ use Rattle.tftp_ends.specs.declared.phase.Terms.{Terms}
 use Rattle.tftp_ends.specs.declared.record.Record.{Record}
 use Rattle.tftp_ends.specs.declared.side.Side.{Side}
 use Rattle.tftp_ends.specs.End.{EndState, is_sender, is_client, terms_of, number_of, is_complete, outcome_of, size_of}
-use Rattle.tftp_ends.specs.Step.{Turn, Reply}
+use Rattle.tftp_ends.specs.Step.{Turn, Reply, after_turn}
 use Rattle.tftp_player.specs.Machine.{Endpoint, server_ip, client_ip, request_port}
 use Rattle.tftp_player.specs.Shows.{EndView}
 use Rattle.tftp_player.specs.declared.datagram.Datagram.{Datagram}
@@ -93,7 +93,7 @@ ip_of side = if is_client side then client_ip else server_ip
 
 -- the end takes no event any more
 abbrev pub is_closed : OpenedEnd → Bool
-is_closed x = is_some (outcome_of x.state.phase)
+is_closed x = is_some (outcome_of x.state.progress.phase)
 
 -- a datagram
 abbrev pub datagram : Endpoint → Endpoint → List ℕ → Datagram
@@ -110,7 +110,7 @@ holding_of x = record { bytes = x.stored; committed = x.committed; refuses = x.r
 
 -- the file that an end works on
 abbrev pub files_of : OpenedEnd → Files (List ℕ) Holding
-files_of x = if is_sender x.state.side then Source x.left else Sink (holding_of x)
+files_of x = if is_sender x.state.role.side then Source x.left else Sink (holding_of x)
 
 -- the end, with what is left of its source or held by its sink
 abbrev pub with_files : OpenedEnd → Files (List ℕ) Holding → OpenedEnd
@@ -123,7 +123,7 @@ in_state state x = record x { state = state }
 
 -- the end after a turn
 abbrev pub end_after : OpenedEnd → Turn → Files (List ℕ) Holding → OpenedEnd
-end_after x turn files = with_files (in_state turn.end x) files
+end_after x turn files = with_files (in_state (after_turn x.state turn) x) files
 
 -- the end has committed what it stored, and had not before
 abbrev pub has_committed : OpenedEnd → OpenedEnd → Bool
@@ -151,7 +151,7 @@ closed_at at (Some outcome) = Some (at.port, outcome)
 -- what is reported of a turn of an open end
 abbrev pub report_of : WorldState → OpenedEnd → Turn → Report
 report_of w x turn =
-    record { added = added_at w turn.reply; closed = closed_at x.address (outcome_of turn.end.phase) }
+    record { added = added_at w turn.reply; closed = closed_at x.address (outcome_of turn.progress.phase) }
 
 -- nothing was sent, and no end closed
 abbrev pub no_report : Report
@@ -160,7 +160,7 @@ no_report = record { added = None; closed = None }
 -- the world, after an end opened and sent its first datagram
 abbrev pub opened_in : WorldState → OpenedEnd → WorldState
 opened_in w x =
-    record w { sent = w.sent ++ datagram x.address x.state.last_sent_to x.state.last_sent ∷ []; ends = w.ends ++ x ∷ [] }
+    record w { sent = w.sent ++ datagram x.address x.state.progress.last_sent_to x.state.progress.last_sent ∷ []; ends = w.ends ++ x ∷ [] }
 
 -- a datagram was sent, and no end changed
 abbrev pub said_in : WorldState → Datagram → WorldState
@@ -189,11 +189,11 @@ goes_on (Closed terms number complete outcome) = false
 -- what a receiver has of its peer's text: what it stored, as it travels, and the text held back
 abbrev pub received_text : OpenedEnd → List ℕ
 received_text x =
-    if goes_on x.state.phase then wire_text x.state.mode x.stored ++ x.state.held else wire_text x.state.mode x.stored
+    if goes_on x.state.progress.phase then wire_text x.state.role.mode x.stored ++ x.state.progress.held else wire_text x.state.role.mode x.stored
 
 -- a sender's text, or what a receiver has of its peer's
 abbrev pub text_of : OpenedEnd → List ℕ
-text_of x = if is_sender x.state.side then wire_text x.state.mode x.file else received_text x
+text_of x = if is_sender x.state.role.side then wire_text x.state.role.mode x.file else received_text x
 
 -- the endpoint of the other end
 abbrev pub peer_of : Phase → Option Endpoint
@@ -204,14 +204,14 @@ abbrev pub view_of_end : OpenedEnd → EndView
 view_of_end x =
     record {
       address = x.address;
-      client = is_client x.state.side;
-      sender = is_sender x.state.side;
-      mode = x.state.mode;
-      peer = peer_of x.state.phase;
-      size = size_of (terms_of x.state.phase);
-      number = number_of x.state.phase;
-      done = is_complete x.state.phase;
-      failed = has_failed x.state.phase;
+      client = is_client x.state.role.side;
+      sender = is_sender x.state.role.side;
+      mode = x.state.role.mode;
+      peer = peer_of x.state.progress.phase;
+      size = size_of (terms_of x.state.progress.phase);
+      number = number_of x.state.progress.phase;
+      done = is_complete x.state.progress.phase;
+      failed = has_failed x.state.progress.phase;
       text = text_of x;
     }
 
@@ -227,15 +227,15 @@ rest_state (Receiving terms number) e = e
 rest_state (Dallying terms number dally) e = e
 rest_state (Closed terms number complete outcome) e =
     record {
-      side = e.side;
-      mode = e.mode;
-      length = 0;
-      retries = 0;
-      retries_left = 0;
-      last_sent = [];
-      last_sent_to = request_port;
-      held = [];
-      phase = Closed (option_map rest_terms terms) number complete outcome;
+      role = record { side = e.role.side; mode = e.role.mode; length = 0; retries = 0 };
+      progress =
+          record {
+            retries_left = 0;
+            last_sent = [];
+            last_sent_to = request_port;
+            held = [];
+            phase = Closed (option_map rest_terms terms) number complete outcome;
+          };
     }
 
 -- nor has it a source any more, nor the request that asked for it
@@ -246,9 +246,9 @@ while_open phase bytes = if is_some (outcome_of phase) then [] else bytes
 abbrev pub at_rest : OpenedEnd → OpenedEnd
 at_rest x =
     record x {
-      state = rest_state x.state.phase x.state;
-      left = while_open x.state.phase x.left;
-      request = while_open x.state.phase x.request;
+      state = rest_state x.state.progress.phase x.state;
+      left = while_open x.state.progress.phase x.left;
+      request = while_open x.state.progress.phase x.request;
     }
 
 -- a world whose closed ends are at rest
@@ -264,13 +264,13 @@ recorded_terms r (Some peer) = Some (record { peer = peer; size = r.size; timeou
 abbrev pub closed_state : Mode → Record → Outcome → EndState
 closed_state mode r outcome =
     record {
-      side = r.side;
-      mode = mode;
-      length = 0;
-      retries = 0;
-      retries_left = 0;
-      last_sent = [];
-      last_sent_to = request_port;
-      held = [];
-      phase = Closed (recorded_terms r r.peer) r.number r.complete outcome;
+      role = record { side = r.side; mode = mode; length = 0; retries = 0 };
+      progress =
+          record {
+            retries_left = 0;
+            last_sent = [];
+            last_sent_to = request_port;
+            held = [];
+            phase = Closed (recorded_terms r r.peer) r.number r.complete outcome;
+          };
     }

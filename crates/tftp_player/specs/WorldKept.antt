@@ -22,29 +22,29 @@ use Rattle.tftp_player.specs.declared.datagram.Datagram.{Datagram}
 
 -- the wire text of a sender's file
 abbrev pub sent_text : OpenedEnd → List ℕ
-sent_text x = wire_text x.state.mode x.file
+sent_text x = wire_text x.state.role.mode x.file
 
 -- a sender whose newest block is this one: its source has left what the text holds behind it
 pub record IsUnderWay (x : OpenedEnd) (terms : Terms) (number : ℕ) : Type 0 where
-  pub sender : is_sender x.state.side ≡ true
+  pub sender : is_sender x.state.role.side ≡ true
   pub positive : 0 < terms.size
   pub size : terms.size ≤ 65464
   pub fits : Fits (sent_text x) terms.size
   pub so_far : number ≤ block_count (sent_text x) terms.size
   pub left : x.left ≡ drop (number * terms.size) (sent_text x)
-  pub last_sent_to : x.state.last_sent_to ≡ terms.peer
+  pub last_sent_to : x.state.progress.last_sent_to ≡ terms.peer
   -- its file is as long as it was measured
-  pub measured : x.state.length ≡ length (sent_text x)
+  pub measured : x.state.role.length ≡ length (sent_text x)
 
 -- what holds of an end in this phase
 abbrev pub PhaseKept : OpenedEnd → Phase → Type 0
 PhaseKept x (Waiting asked limit) =
-    (is_client x.state.side ≡ true) × IsAskable asked × (x.state.last_sent_to ≡ request_port) × (x.left ≡ sent_text x)
-    × (is_sender x.state.side ≡ false → x.state.held ≡ [])
-    × (is_sender x.state.side ≡ true → x.state.length ≡ length (sent_text x))
+    (is_client x.state.role.side ≡ true) × IsAskable asked × (x.state.progress.last_sent_to ≡ request_port) × (x.left ≡ sent_text x)
+    × (is_sender x.state.role.side ≡ false → x.state.progress.held ≡ [])
+    × (is_sender x.state.role.side ≡ true → x.state.role.length ≡ length (sent_text x))
 PhaseKept x (Sending terms number) = IsUnderWay x terms number
-PhaseKept x (Receiving terms number) = (is_sender x.state.side ≡ false) × (x.state.last_sent_to ≡ terms.peer)
-PhaseKept x (Dallying terms number dally) = (is_sender x.state.side ≡ false) × (x.state.last_sent_to ≡ terms.peer)
+PhaseKept x (Receiving terms number) = (is_sender x.state.role.side ≡ false) × (x.state.progress.last_sent_to ≡ terms.peer)
+PhaseKept x (Dallying terms number dally) = (is_sender x.state.role.side ≡ false) × (x.state.progress.last_sent_to ≡ terms.peer)
 PhaseKept x (Closed terms number complete outcome) = Unit {0}
 
 -- in octet no text is held back
@@ -54,18 +54,18 @@ HeldFits Netascii held = Unit {0}
 
 -- what holds of an end, whatever was sent
 pub record EndKept (x : OpenedEnd) : Type 0 where
-  pub phase : PhaseKept x x.state.phase
-  pub held : HeldFits x.state.mode x.state.held
+  pub phase : PhaseKept x x.state.progress.phase
+  pub held : HeldFits x.state.role.mode x.state.progress.held
   -- a receiver has committed what it stored exactly if it is complete
-  pub committed : is_sender x.state.side ≡ false → x.committed ≡ is_complete x.state.phase
+  pub committed : is_sender x.state.role.side ≡ false → x.committed ≡ is_complete x.state.progress.phase
 
 -- what holds of an end in its world
 pub record IsKeptIn (w : WorldState) (x : OpenedEnd) : Type 0 where
   pub kept : EndKept x
   -- the last datagram sent of an open end was sent
-  pub last_sent : is_closed x ≡ false → Contains w.sent (datagram x.address x.state.last_sent_to x.state.last_sent)
+  pub last_sent : is_closed x ≡ false → Contains w.sent (datagram x.address x.state.progress.last_sent_to x.state.progress.last_sent)
   -- what a complete receiver stored stands under its path at the server, where no write replaces it
-  pub stored : w.overwrite ≡ false → is_client x.state.side ≡ false → is_sender x.state.side ≡ false → is_complete x.state.phase ≡ true →
+  pub stored : w.overwrite ≡ false → is_client x.state.role.side ≡ false → is_sender x.state.role.side ≡ false → is_complete x.state.progress.phase ≡ true →
       file_at w.files x.path ≡ Some x.stored
 
 -- the datagram says this

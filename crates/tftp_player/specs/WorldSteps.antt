@@ -64,7 +64,7 @@ FilesAfter overwrite false path bytes old new = new ≡ old
 -- the end at place k has made this turn of an event, and its file is this now
 pub record Turns (old : WorldState) (k : ℕ) (x : OpenedEnd) (turn : Turn) (held : Files (List ℕ) Holding) (report : Report) (new : WorldState) : Type 0 where
   pub files : List StoredFile
-  pub stored : FilesAfter old.overwrite (not (is_client x.state.side) && has_committed x (end_after x turn held)) x.path (end_after x turn held).stored old.files files
+  pub stored : FilesAfter old.overwrite (not (is_client x.state.role.side) && has_committed x (end_after x turn held)) x.path (end_after x turn held).stored old.files files
   pub tells : report ≡ report_of old x turn
   pub is : new ≡ world_after old k x turn held files
 
@@ -95,7 +95,7 @@ Serves (Takes path mode agreed) old from bytes report new = Opens old (receiving
 pub record OnDatagram (old : WorldState) (k : ℕ) (x : OpenedEnd) (from : Endpoint) (bytes : List ℕ) (report : Report) (new : WorldState) : Type 0 where
   pub turn : Turn
   pub held : Files (List ℕ) Holding
-  pub steps : EndStep (is_client x.state.side) (in_the_way old.overwrite (file_at old.files x.path)) from bytes x.state (files_of x) turn held
+  pub steps : EndStep (is_client x.state.role.side) (in_the_way old.overwrite (file_at old.files x.path)) from bytes x.state (files_of x) turn held
   pub turns : Turns old k x turn held report new
 
 -- what a datagram did where it came to
@@ -121,7 +121,7 @@ TimesOut false old k x report new = Turns old k x (timeout_turn x.state) (files_
 
 -- an open receiver was told to refuse its next append or commit; another end cannot be told
 abbrev pub told_to_refuse : OpenedEnd → OpenedEnd
-told_to_refuse x = if is_sender x.state.side then x else if is_closed x then x else record x { refuses = true }
+told_to_refuse x = if is_sender x.state.role.side then x else if is_closed x then x else record x { refuses = true }
 
 -- the end at this port, whose place is k
 pub record IsAtPort (w : WorldState) (port k : ℕ) (x : OpenedEnd) : Type 0 where

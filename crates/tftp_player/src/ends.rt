@@ -63,7 +63,7 @@ impl Ends {
     pub(crate) fn enter(&mut self, port: u16, client: Client) -> Result<(), WorldFault>
         requires staged { HangTogether self.old }
         requires port { port ≡ 1024 + length (ends_of self.old.server self.old.players.items) }
-        requires client { is_client client.end.side ≡ true }
+        requires client { is_client client.end.role.side ≡ true }
         ensures enters { OnOk result (self.new.players.items
             ≡ self.old.players.items ++ players.Client client ∷ []) }
         ensures staged { HangTogether self.new }

@@ -37,12 +37,12 @@ module _ {S K R : Type 0} (sources : SourceMeaning S) (sinks : SinkMeaning K) (s
   abbrev pub StepsOverSource : Endpoint → List ℕ → EndState → EndState → Files (MutBor S) K → Files (MutBor S) K → R → Type 0
   StepsOverSource from bytes e e' files files' r =
       (turn : Turn) × DatagramStep (borrowed_source sources) sinks from bytes e files turn files'
-      × gives r turn e' (step_in r).to × (step_in r ≡ told e turn)
+      × gives r e turn e' (step_in r).to × (step_in r ≡ told e turn)
 
   abbrev pub StepsOverSink : Endpoint → List ℕ → EndState → EndState → Files S (MutBor K) → Files S (MutBor K) → R → Type 0
   StepsOverSink from bytes e e' files files' r =
       (turn : Turn) × DatagramStep sources (borrowed_sink sinks) from bytes e files turn files'
-      × gives r turn e' (step_in r).to × (step_in r ≡ told e turn)
+      × gives r e turn e' (step_in r).to × (step_in r ≡ told e turn)
 
   pub source_steps : (from : Endpoint) (bytes : List ℕ) (e e' : EndState) (first second : MutBor S) (files : Files (MutBor S) K) (last : S) (result : Result R EndFault) → files ≡ Source second → last ≡ second.now →
       IfOk result (StepsOverSource from bytes e e' (Source first) files) →

@@ -112,11 +112,11 @@ module _ {F D : Type 0} where
       by true h = absurd (different {R = R} fault memory (closed.1 h))
       by false h = refl
 
-  pub timeout_fault : (transfer : Option (Held F D)) (held : Held F D) (fault : EndFault) (server : ServerFault) → transfer ≡ Some held → server ≡ of_end fault → (IsErrOf {T = Step} (Err fault) ends.Closed ↔ (is_closed held ≡ true)) → (IsErrOf {T = Step} (Err fault) ends.Memory → IsAnswered (timeout_action held.end.retries_left held.end.phase)) → TimeoutFault transfer server
+  pub timeout_fault : (transfer : Option (Held F D)) (held : Held F D) (fault : EndFault) (server : ServerFault) → transfer ≡ Some held → server ≡ of_end fault → (IsErrOf {T = Step} (Err fault) ends.Closed ↔ (is_closed held ≡ true)) → (IsErrOf {T = Step} (Err fault) ends.Memory → IsAnswered (timeout_action held.end.progress.retries_left held.end.progress.phase)) → TimeoutFault transfer server
   timeout_fault transfer held fault server there same closed memory =
       subst (λ (t : Option (Held F D)). TimeoutFault t server) (sym there) (subst (λ (f : ServerFault). TimeoutFault (Some held) f) (sym same) (by fault closed memory))
     where
-      by : (f : EndFault) → (IsErrOf {T = Step} (Err f) ends.Closed ↔ (is_closed held ≡ true)) → (IsErrOf {T = Step} (Err f) ends.Memory → IsAnswered (timeout_action held.end.retries_left held.end.phase)) → TimeoutFault (Some held) (of_end f)
+      by : (f : EndFault) → (IsErrOf {T = Step} (Err f) ends.Closed ↔ (is_closed held ≡ true)) → (IsErrOf {T = Step} (Err f) ends.Memory → IsAnswered (timeout_action held.end.progress.retries_left held.end.progress.phase)) → TimeoutFault (Some held) (of_end f)
       by ends.Closed c m = ap not (c.0 refl)
       by ends.Memory c m = (open_unless_closed {R = Step} held ends.Memory c refl, m refl)
 
@@ -132,7 +132,7 @@ module _ {F D : Type 0} where
   pub found_now : (tid : ℕ) (table now : List (ℕ × Held F D)) (transfer : Held F D) → table ≡ now → Some transfer ≡ at tid table → at tid now ≡ Some transfer
   found_now tid table now transfer same found = ap (at tid) (sym same) ∙ sym found
 
-  pub times_out : (gives : Gives) (tid : ℕ) (table now : List (ℕ × Held F D)) (transfer next : Held F D) (step : Step) → table ≡ now → Some transfer ≡ at tid table → gives (timeout_turn transfer.end) next.end step.to × (step ≡ told transfer.end (timeout_turn transfer.end)) × (next ≡ with_end next.end transfer) → TimesOutBy gives tid now (with_next tid next table) step
+  pub times_out : (gives : Gives) (tid : ℕ) (table now : List (ℕ × Held F D)) (transfer next : Held F D) (step : Step) → table ≡ now → Some transfer ≡ at tid table → gives transfer.end (timeout_turn transfer.end) next.end step.to × (step ≡ told transfer.end (timeout_turn transfer.end)) × (next ≡ with_end next.end transfer) → TimesOutBy gives tid now (with_next tid next table) step
   times_out gives tid table now transfer next step same found h =
       record {
         transfer = transfer;

@@ -19,23 +19,23 @@ use Rattle.tftp_server.specs.Draft.{Drafting, files_in, drafting_sink, KeepsStor
 use Rattle.tftp_server.specs.State.{Held, ServerState, at, is_open, is_closed, with_next}
 use Rattle.tftp_server.specs.Store.{StoreMeaning}
 
--- what a call gives of a turn, by the end that it leaves and where the answer goes
+-- what a call gives of a turn of an end, by the end that it leaves and where the answer goes
 abbrev pub Gives : Type 1
-Gives = Turn → EndState → Option Endpoint → Type 0
+Gives = EndState → Turn → EndState → Option Endpoint → Type 0
 
 -- the answer, behind what was there
 abbrev pub appends : List ℕ → List ℕ → Gives
-appends before after turn e to = Carries turn e to before after
+appends before after e turn e' to = Carries e turn e' to before after
 
 -- the answer, which the end lends
 abbrev pub lends : Outgoing → Gives
-lends outgoing turn e to = Lends turn e to outgoing
+lends outgoing e turn e' to = Lends e turn e' to outgoing
 
 -- an end with its file makes the step of a datagram, which gives this
 pub record MakesStep {S K : Type 0} (sources : SourceMeaning S) (sinks : SinkMeaning K) (gives : Gives) (from : Endpoint) (bytes : List ℕ) (e e' : EndState) (files files' : Files S K) (step : Step) : Type 0 where
   pub turn : Turn
   pub steps : DatagramStep sources sinks from bytes e files turn files'
-  pub carries : gives turn e' step.to
+  pub carries : gives e turn e' step.to
   pub tells : step ≡ told e turn
 
 module _ {F D : Type 0} where
@@ -48,7 +48,7 @@ module _ {F D : Type 0} where
     pub transfer : Held F D
     pub found : at tid old ≡ Some transfer
     pub end : EndState
-    pub carries : gives (timeout_turn transfer.end) end step.to
+    pub carries : gives transfer.end (timeout_turn transfer.end) end step.to
     pub tells : step ≡ told transfer.end (timeout_turn transfer.end)
     pub held : new ≡ with_next tid (with_end end transfer) old
 
@@ -62,7 +62,7 @@ module _ {F D : Type 0} where
   -- why a timeout was not taken: there is no open transfer, or there is no memory for its datagram
   abbrev pub TimeoutFault : Option (Held F D) → ServerFault → Type 0
   TimeoutFault transfer NoSuchTid = is_open transfer ≡ false
-  TimeoutFault (Some held) Memory = (is_closed held ≡ false) × IsAnswered (timeout_action held.end.retries_left held.end.phase)
+  TimeoutFault (Some held) Memory = (is_closed held ≡ false) × IsAnswered (timeout_action held.end.progress.retries_left held.end.progress.phase)
   TimeoutFault transfer _ = ⊥
 
   -- why a datagram was not taken: there is no open transfer, or no memory for an action of this kind
@@ -89,7 +89,7 @@ module _ {S F D : Type 0} (meaning : StoreMeaning S D) (sources : SourceMeaning 
   pub record TakesBy (gives : Gives) (replace : Bool) (from : Endpoint) (bytes : List ℕ) (store store' : S) (transfer next : Held F D) (step : Step) : Type 0 where
     pub turn : Turn
     pub steps : StepIn from bytes transfer.end (files_in store transfer.path replace transfer.files) turn (files_in store' next.path replace next.files)
-    pub carries : gives turn next.end step.to
+    pub carries : gives transfer.end turn next.end step.to
     pub tells : step ≡ told transfer.end turn
     pub stays : KeepsStore transfer.files store store'
     pub kind : AreSame (λ (a b : F). ⊤) (λ (a b : D). ⊤) transfer.files next.files

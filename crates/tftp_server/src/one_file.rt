@@ -19,16 +19,16 @@ pub(crate) fn on_datagram_of_source<S: Source, K: Sink>(
     bytes: &[u8],
     out: &mut Vec<u8>,
 ) -> Result<Step, EndFault>
-    requires { is_sender end.old.side ≡ true }
+    requires { is_sender end.old.role.side ≡ true }
     ensures steps { IfOk result (MakesStep S.meaning K.meaning
         (appends out.old.items out.new.items) from bytes.now end.old end.new
         (Files.Source source.old) (Files.Source source.new)) }
-    ensures closed { IsErrOf result EndFault.Closed ↔ IsSome (outcome_of end.old.phase) }
+    ensures closed { IsErrOf result EndFault.Closed ↔ IsSome (outcome_of end.old.progress.phase) }
     ensures memory { IsErrOf result EndFault.Memory → (decoded : Option Packet)
         × Decodes bytes.now decoded × IsAnswered (datagram_action end.old from bytes.now decoded) }
     ensures err { OnErr result ((end.new ≡ end.old) × (out.new.items ≡ out.old.items)
         × (S.meaning.left source.new ≡ S.meaning.left source.old)) }
-    ensures side { is_sender end.new.side ≡ true }
+    ensures side { is_sender end.new.role.side ≡ true }
 {
     let mut files: Files<&mut S, K> = Files::Source(source);
     let result = end.on_datagram(&mut files, from, bytes, out);
@@ -46,17 +46,17 @@ pub(crate) fn on_datagram_of_sink<S: Source, K: Sink>(
     bytes: &[u8],
     out: &mut Vec<u8>,
 ) -> Result<Step, EndFault>
-    requires { is_sender end.old.side ≡ false }
+    requires { is_sender end.old.role.side ≡ false }
     ensures steps { IfOk result (MakesStep S.meaning K.meaning
         (appends out.old.items out.new.items) from bytes.now end.old end.new
         (Files.Sink sink.old) (Files.Sink sink.new)) }
-    ensures closed { IsErrOf result EndFault.Closed ↔ IsSome (outcome_of end.old.phase) }
+    ensures closed { IsErrOf result EndFault.Closed ↔ IsSome (outcome_of end.old.progress.phase) }
     ensures memory { IsErrOf result EndFault.Memory → (decoded : Option Packet)
         × Decodes bytes.now decoded × IsAnswered (datagram_action end.old from bytes.now decoded) }
     ensures err { OnErr result ((end.new ≡ end.old) × (out.new.items ≡ out.old.items)
         × KeepsSink K.meaning sink.old sink.new) }
     ensures same { K.is_same sink.old sink.new }
-    ensures side { is_sender end.new.side ≡ false }
+    ensures side { is_sender end.new.role.side ≡ false }
 {
     let mut files: Files<S, &mut K> = Files::Sink(sink);
     let result = end.on_datagram(&mut files, from, bytes, out);
@@ -73,16 +73,16 @@ pub(crate) fn handle_datagram_of_source<S: Source, K: Sink>(
     from: Endpoint,
     bytes: &[u8],
 ) -> Result<(Step, Outgoing), EndFault>
-    requires { is_sender end.old.side ≡ true }
+    requires { is_sender end.old.role.side ≡ true }
     ensures steps { IfOk result (λ answer. MakesStep S.meaning K.meaning
         (lends answer.1) from bytes.now end.old end.new
         (Files.Source source.old) (Files.Source source.new) answer.0) }
-    ensures closed { IsErrOf result EndFault.Closed ↔ IsSome (outcome_of end.old.phase) }
+    ensures closed { IsErrOf result EndFault.Closed ↔ IsSome (outcome_of end.old.progress.phase) }
     ensures memory { IsErrOf result EndFault.Memory → (decoded : Option Packet)
         × Decodes bytes.now decoded × UsesFile (datagram_action end.old from bytes.now decoded) }
     ensures err { OnErr result ((end.new ≡ end.old)
         × (S.meaning.left source.new ≡ S.meaning.left source.old)) }
-    ensures side { is_sender end.new.side ≡ true }
+    ensures side { is_sender end.new.role.side ≡ true }
 {
     let mut files: Files<&mut S, K> = Files::Source(source);
     let result = end.handle_datagram(&mut files, from, bytes);
@@ -99,17 +99,17 @@ pub(crate) fn handle_datagram_of_sink<S: Source, K: Sink>(
     from: Endpoint,
     bytes: &[u8],
 ) -> Result<(Step, Outgoing), EndFault>
-    requires { is_sender end.old.side ≡ false }
+    requires { is_sender end.old.role.side ≡ false }
     ensures steps { IfOk result (λ answer. MakesStep S.meaning K.meaning
         (lends answer.1) from bytes.now end.old end.new
         (Files.Sink sink.old) (Files.Sink sink.new) answer.0) }
-    ensures closed { IsErrOf result EndFault.Closed ↔ IsSome (outcome_of end.old.phase) }
+    ensures closed { IsErrOf result EndFault.Closed ↔ IsSome (outcome_of end.old.progress.phase) }
     ensures memory { IsErrOf result EndFault.Memory → (decoded : Option Packet)
         × Decodes bytes.now decoded × UsesFile (datagram_action end.old from bytes.now decoded) }
     ensures err { OnErr result ((end.new ≡ end.old)
         × KeepsSink K.meaning sink.old sink.new) }
     ensures same { K.is_same sink.old sink.new }
-    ensures side { is_sender end.new.side ≡ false }
+    ensures side { is_sender end.new.role.side ≡ false }
 {
     let mut files: Files<S, &mut K> = Files::Sink(sink);
     let result = end.handle_datagram(&mut files, from, bytes);

@@ -43,13 +43,13 @@ impl<F, D> Model for Transfer<F, D> {
       request = t.request.items;
     } };
 
-    ghost invariant = { λ t. AreFilesOf t.end.side t.files };
+    ghost invariant = { λ t. AreFilesOf t.end.role.side t.files };
 }
 
 impl<F, D> Transfer<F, D> {
     /// A transfer of the file at the path, which the datagram asked for.
     pub(crate) fn new(end: End, files: Files<F, D>, path: Path, request: Vec<u8>) -> Transfer<F, D>
-        requires { AreFilesOf end.side files }
+        requires { AreFilesOf end.role.side files }
         ensures { result ≡ record {
           end = end;
           files = files;
@@ -103,13 +103,14 @@ impl<F, D> Transfer<F, D> {
 impl<F, D> Transfer<F, D> {
     /// Its end takes a timeout. After a fault nothing has changed.
     pub(crate) fn on_timeout(&mut self, out: &mut Vec<u8>) -> Result<Step, EndFault>
-        ensures steps { IfOk result (λ step. Carries (timeout_turn self.old.end) self.new.end
-            step.to out.old.items out.new.items
+        ensures steps { IfOk result (λ step. Carries self.old.end (timeout_turn self.old.end)
+            self.new.end step.to out.old.items out.new.items
             × (step ≡ told self.old.end (timeout_turn self.old.end))
             × (self.new ≡ with_end self.new.end self.old)) }
         ensures closed { IsErrOf result EndFault.Closed ↔ (is_closed self.old ≡ true) }
         ensures memory { IsErrOf result EndFault.Memory
-            → IsAnswered (timeout_action self.old.end.retries_left self.old.end.phase) }
+            → IsAnswered (timeout_action self.old.end.progress.retries_left
+            self.old.end.progress.phase) }
         ensures err { OnErr result ((self.new ≡ self.old) × (out.new.items ≡ out.old.items)) }
     {
         self.end.on_timeout(out)
@@ -117,8 +118,8 @@ impl<F, D> Transfer<F, D> {
 
     /// The same, with what goes out lent by [`Transfer::bytes_of`].
     pub(crate) fn handle_timeout(&mut self) -> Result<(Step, Outgoing), EndFault>
-        ensures steps { IfOk result (λ answer. Lends (timeout_turn self.old.end) self.new.end
-            answer.0.to answer.1
+        ensures steps { IfOk result (λ answer. Lends self.old.end (timeout_turn self.old.end)
+            self.new.end answer.0.to answer.1
             × (answer.0 ≡ told self.old.end (timeout_turn self.old.end))
             × (self.new ≡ with_end self.new.end self.old)) }
         ensures closed { IsErrOf result EndFault.Closed ↔ (is_closed self.old ≡ true) }

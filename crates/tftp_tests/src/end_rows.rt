@@ -52,7 +52,7 @@ const ACK_2: &[u8] = b"\x00\x04\x00\x02";
 
 /// Asks for a file in octet, without options.
 fn get(alloc: Global, name: &[u8], out: &mut Vec<u8>) -> Result<(End, Step), OpenFault>
-    ensures { IfOk result (λ opened. is_sender opened.0.side ≡ false) }
+    ensures { IfOk result (λ opened. is_sender opened.0.role.side ≡ false) }
 {
     let asked = Asked::default();
     End::get(alloc, SERVER, name, Mode::Octet, &asked, &CONFIG, out)
@@ -114,8 +114,8 @@ fn takes(
     bytes: &[u8],
     answer: &[u8],
 ) -> Result<Step, Fail>
-    requires { AreFilesOf end.old.side files.old }
-    ensures { AreFilesOf end.new.side files.new }
+    requires { AreFilesOf end.old.role.side files.old }
+    ensures { AreFilesOf end.new.role.side files.new }
 {
     let mut out = Vec::new(alloc);
     let step = end.on_datagram(files, from, bytes, &mut out)?;
@@ -131,7 +131,7 @@ fn sender(
     alloc: Global,
     file: &[u8],
 ) -> Result<(End, Files<MemSource, MemSink>), Fail>
-    ensures { IfOk result (λ opened. AreFilesOf opened.0.side opened.1) }
+    ensures { IfOk result (λ opened. AreFilesOf opened.0.role.side opened.1) }
 {
     let mut out = Vec::new(alloc);
     let mut files = Files::Source(MemSource::new(alloc, file, Mode::Octet)?);
@@ -195,7 +195,7 @@ fn a_closed_end_takes_nothing(rt: HostRuntime) -> Result<(), Fail> {
 
 /// A client that has asked for a file, and a sink for it.
 fn receiver(alloc: Global) -> Result<(End, Files<MemSource, MemSink>), Fail>
-    ensures { IfOk result (λ opened. AreFilesOf opened.0.side opened.1) }
+    ensures { IfOk result (λ opened. AreFilesOf opened.0.role.side opened.1) }
 {
     let mut out = Vec::new(alloc);
     let (end, _) = get(alloc, b"a", &mut out)?;

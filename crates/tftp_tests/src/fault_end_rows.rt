@@ -58,7 +58,7 @@ type Sending = Files<FaultSource, MemSink>;
 
 /// An end that has agreed on the blocks, and a source of so many of the file's bytes.
 fn sender(alloc: Global, give: u64, fail: bool) -> Result<(End, Sending), Fail>
-    ensures { IfOk result (λ opened. AreFilesOf opened.0.side opened.1) }
+    ensures { IfOk result (λ opened. AreFilesOf opened.0.role.side opened.1) }
 {
     let source = FaultSource::new(alloc, FILE, Mode::Octet, give, fail)?;
     let mut files: Sending = Files::Source(source);
@@ -85,8 +85,8 @@ fn answers(
     ack: &[u8],
     answer: &[u8],
 ) -> Result<Option<Outcome>, Fail>
-    requires { AreFilesOf end.old.side files.old }
-    ensures { AreFilesOf end.new.side files.new }
+    requires { AreFilesOf end.old.role.side files.old }
+    ensures { AreFilesOf end.new.role.side files.new }
 {
     let mut out = Vec::new(alloc);
     let step = end.on_datagram(files, CLIENT, ack, &mut out)?;
@@ -130,7 +130,7 @@ fn a_read_breaks_off_at_each_block(rt: HostRuntime) -> Result<(), Fail> {
 
 /// An end that has agreed on the blocks, and takes a file.
 fn receiver(alloc: Global) -> Result<End, Fail>
-    ensures { IfOk result (λ end. is_sender end.side ≡ false) }
+    ensures { IfOk result (λ end. is_sender end.role.side ≡ false) }
 {
     let agreed = blocks_of_eight()?;
     let mut out = Vec::new(alloc);
@@ -147,8 +147,8 @@ fn takes(
     data: &[u8],
     answer: &[u8],
 ) -> Result<Option<Outcome>, Fail>
-    requires { is_sender end.old.side ≡ false }
-    ensures { is_sender end.new.side ≡ false }
+    requires { is_sender end.old.role.side ≡ false }
+    ensures { is_sender end.new.role.side ≡ false }
 {
     let mut files: Files<MemSource, &mut MemSink> = Files::Sink(sink);
     let mut out = Vec::new(alloc);

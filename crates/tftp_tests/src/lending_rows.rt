@@ -37,7 +37,7 @@ const UNKNOWN_ID: &[u8] = b"\x00\x05\x00\x05unknown transfer id\x00";
 
 /// A client that has asked for the file `a`, and has no retry.
 fn client(alloc: Global) -> Result<End, Fail>
-    ensures { IfOk result (λ end. is_sender end.side ≡ false) }
+    ensures { IfOk result (λ end. is_sender end.role.side ≡ false) }
 {
     let mut out = Vec::new(alloc);
     let asked = Asked::default();

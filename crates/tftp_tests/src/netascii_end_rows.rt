@@ -60,8 +60,8 @@ fn takes(
     bytes: &[u8],
     answer: &[u8],
 ) -> Result<Step, Fail>
-    requires { AreFilesOf end.old.side files.old }
-    ensures { AreFilesOf end.new.side files.new }
+    requires { AreFilesOf end.old.role.side files.old }
+    ensures { AreFilesOf end.new.role.side files.new }
 {
     let mut out = Vec::new(alloc);
     let step = end.on_datagram(files, SERVER_END, bytes, &mut out)?;
@@ -71,7 +71,7 @@ fn takes(
 
 /// A client that asks to read in netascii.
 fn reader(alloc: Global, asked: &Asked) -> Result<(End, Files<MemSource, MemSink>), Fail>
-    ensures { IfOk result (λ opened. AreFilesOf opened.0.side opened.1) }
+    ensures { IfOk result (λ opened. AreFilesOf opened.0.role.side opened.1) }
 {
     let mut out = Vec::new(alloc);
     let (end, _) = End::get(
@@ -131,7 +131,7 @@ fn wrong_text_closes_a_receiver(rt: HostRuntime) -> Result<(), Fail> {
 
 /// A client that has got seven letters and a CR as its first block of eight bytes.
 fn cut_behind_cr(rt: &impl Abort, alloc: Global) -> Result<(End, Files<MemSource, MemSink>), Fail>
-    ensures { IfOk result (λ opened. AreFilesOf opened.0.side opened.1) }
+    ensures { IfOk result (λ opened. AreFilesOf opened.0.role.side opened.1) }
 {
     let (mut end, mut files) = reader(alloc, &EIGHT)?;
     takes(rt, alloc, &mut end, &mut files, OACK_8, ACK_0)?;
@@ -214,7 +214,7 @@ fn server(
     host: &[u8],
     data: &mut Vec<u8>,
 ) -> Result<(End, Files<MemSource, MemSink>), Fail>
-    ensures { IfOk result (λ opened. AreFilesOf opened.0.side opened.1) }
+    ensures { IfOk result (λ opened. AreFilesOf opened.0.role.side opened.1) }
 {
     let length = wire_length(host, Mode::Netascii)?;
     let mut files = Files::Source(MemSource::new(alloc, host, Mode::Netascii)?);

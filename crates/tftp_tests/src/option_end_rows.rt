@@ -196,7 +196,7 @@ fn sender(
     request: &[u8],
     oack: &[u8],
 ) -> Result<(End, Files<MemSource, MemSink>), Fail>
-    ensures { IfOk result (λ opened. AreFilesOf opened.0.side opened.1) }
+    ensures { IfOk result (λ opened. AreFilesOf opened.0.role.side opened.1) }
 {
     let agreed = agreed_of(request)?;
     let mut out = Vec::new(alloc);
@@ -254,8 +254,8 @@ fn takes(
     bytes: &[u8],
     answer: &[u8],
 ) -> Result<Step, Fail>
-    requires { AreFilesOf end.old.side files.old }
-    ensures { AreFilesOf end.new.side files.new }
+    requires { AreFilesOf end.old.role.side files.old }
+    ensures { AreFilesOf end.new.role.side files.new }
 {
     let mut out = Vec::new(alloc);
     let step = end.on_datagram(files, from, bytes, &mut out)?;
@@ -300,7 +300,7 @@ fn sends_after_the_oack_is_acknowledged(rt: HostRuntime) -> Result<(), Fail> {
 
 /// A client that has asked so, and a sink for the file.
 fn receiver(alloc: Global, asked: &Asked) -> Result<(End, Files<MemSource, MemSink>), Fail>
-    ensures { IfOk result (λ opened. AreFilesOf opened.0.side opened.1) }
+    ensures { IfOk result (λ opened. AreFilesOf opened.0.role.side opened.1) }
 {
     let mut out = Vec::new(alloc);
     let (end, _) = End::get(alloc, SERVER, b"a", Mode::Octet, asked, &CONFIG, &mut out)?;
@@ -441,7 +441,7 @@ fn refuses_too_long_a_file(rt: HostRuntime) -> Result<(), Fail> {
 
 /// Asks to write a file of this length by blocks of this size.
 fn put(alloc: Global, length: u64, size: u16, out: &mut Vec<u8>) -> Result<(End, Step), OpenFault>
-    ensures { IfOk result (λ opened. is_sender opened.0.side ≡ true) }
+    ensures { IfOk result (λ opened. is_sender opened.0.role.side ≡ true) }
 {
     let asked = Asked {
         blksize: Some(size),

@@ -44,7 +44,7 @@ const DATA_1: &[u8] = b"\x00\x03\x00\x01ABC";
 
 /// Sends a file of this length in octet, without options.
 fn put(alloc: Global, length: u64, out: &mut Vec<u8>) -> Result<(End, Step), OpenFault>
-    ensures { IfOk result (λ opened. is_sender opened.0.side ≡ true) }
+    ensures { IfOk result (λ opened. is_sender opened.0.role.side ≡ true) }
 {
     let asked = Asked::default();
     End::put(
@@ -69,8 +69,8 @@ fn takes(
     bytes: &[u8],
     answer: &[u8],
 ) -> Result<Step, Fail>
-    requires { AreFilesOf end.old.side files.old }
-    ensures { AreFilesOf end.new.side files.new }
+    requires { AreFilesOf end.old.role.side files.old }
+    ensures { AreFilesOf end.new.role.side files.new }
 {
     let mut out = Vec::new(alloc);
     let step = end.on_datagram(files, from, bytes, &mut out)?;
@@ -135,7 +135,7 @@ fn sends_after_ack_0(rt: HostRuntime) -> Result<(), Fail> {
 
 /// A server's end that has answered a write request.
 fn receiver(rt: &impl Abort, alloc: Global) -> Result<End, Fail>
-    ensures { IfOk result (λ end. is_sender end.side ≡ false) }
+    ensures { IfOk result (λ end. is_sender end.role.side ≡ false) }
 {
     let mut out = Vec::new(alloc);
     let (end, step) = End::serve_write(alloc, CLIENT, Mode::Octet, &Agreed::new(), 5, &mut out)?;

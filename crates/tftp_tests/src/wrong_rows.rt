@@ -50,8 +50,8 @@ fn takes<S: Source, K: Sink>(
     bytes: &[u8],
     out: &mut Vec<u8>,
 ) -> Result<Step, Fail>
-    requires { AreFilesOf end.old.side files.old }
-    ensures { AreFilesOf end.new.side files.new }
+    requires { AreFilesOf end.old.role.side files.old }
+    ensures { AreFilesOf end.new.role.side files.new }
 {
     out.clear();
     Ok(end.on_datagram(files, SERVER_END, bytes, out)?)
@@ -59,7 +59,7 @@ fn takes<S: Source, K: Sink>(
 
 /// A client that has asked to read, with nothing agreed yet.
 fn reader(alloc: Global, out: &mut Vec<u8>) -> Result<(End, Files<MemSource, MemSink>), Fail>
-    ensures { IfOk result (λ opened. AreFilesOf opened.0.side opened.1) }
+    ensures { IfOk result (λ opened. AreFilesOf opened.0.role.side opened.1) }
 {
     let (end, _) = End::get(alloc, SERVER, b"a", Mode::Octet, &EIGHT, &CONFIG, out)?;
     Ok((end, Files::Sink(MemSink::new(alloc, 100, false))))
@@ -67,7 +67,7 @@ fn reader(alloc: Global, out: &mut Vec<u8>) -> Result<(End, Files<MemSource, Mem
 
 /// A client that has asked to write nine bytes, with nothing agreed yet.
 fn writer(alloc: Global, out: &mut Vec<u8>) -> Result<(End, Files<MemSource, MemSink>), Fail>
-    ensures { IfOk result (λ opened. AreFilesOf opened.0.side opened.1) }
+    ensures { IfOk result (λ opened. AreFilesOf opened.0.role.side opened.1) }
 {
     let (end, _) = End::put(alloc, SERVER, b"n", Mode::Octet, &EIGHT, 9, &CONFIG, out)?;
     Ok((
@@ -78,7 +78,7 @@ fn writer(alloc: Global, out: &mut Vec<u8>) -> Result<(End, Files<MemSource, Mem
 
 /// A server's end that has answered a write.
 fn storer(alloc: Global, out: &mut Vec<u8>) -> Result<(End, Files<MemSource, MemSink>), Fail>
-    ensures { IfOk result (λ opened. AreFilesOf opened.0.side opened.1) }
+    ensures { IfOk result (λ opened. AreFilesOf opened.0.role.side opened.1) }
 {
     let (end, _) = End::serve_write(alloc, SERVER_END, Mode::Octet, &Agreed::new(), 5, out)?;
     Ok((end, Files::Sink(MemSink::new(alloc, 100, false))))
@@ -89,7 +89,7 @@ const RRQ_8: &[u8] = b"\x00\x01a\x00octet\x00blksize\x008\x00";
 
 /// A server's end that has answered a read by an OACK.
 fn server(alloc: Global, out: &mut Vec<u8>) -> Result<(End, Files<MemSource, MemSink>), Fail>
-    ensures { IfOk result (λ opened. AreFilesOf opened.0.side opened.1) }
+    ensures { IfOk result (λ opened. AreFilesOf opened.0.role.side opened.1) }
 {
     let Some(PacketRef::Read(asks)) = decode_packet(RRQ_8) else {
         return Err(Fail::from("a request to read"));
@@ -127,7 +127,7 @@ fn opened(
     role: Role,
     out: &mut Vec<u8>,
 ) -> Result<(End, Files<MemSource, MemSink>), Fail>
-    ensures { IfOk result (λ opened. AreFilesOf opened.0.side opened.1) }
+    ensures { IfOk result (λ opened. AreFilesOf opened.0.role.side opened.1) }
 {
     match role {
         Role::Reader => reader(alloc, out),
@@ -221,7 +221,7 @@ fn faulty(
     fail: bool,
     out: &mut Vec<u8>,
 ) -> Result<(End, Files<FaultSource, MemSink>), Fail>
-    ensures { IfOk result (λ opened. AreFilesOf opened.0.side opened.1) }
+    ensures { IfOk result (λ opened. AreFilesOf opened.0.role.side opened.1) }
 {
     let (end, _) = End::put(alloc, SERVER, b"n", Mode::Octet, &EIGHT, 36, &CONFIG, out)?;
     let source = FaultSource::new(alloc, LETTERS, Mode::Octet, give, fail)?;

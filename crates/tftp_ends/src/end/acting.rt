@@ -2,7 +2,7 @@
 
 ghost use Rattle.std.specs.Prelude.{◌≡◌, ◌≤◌, drop, length, OnErr, IfOk};
 ghost use Rattle.tftp_ends.specs.Files.{AreFilesOf, KeepsFiles, AreSame};
-ghost use Rattle.tftp_ends.specs.Step.{Turn, Acts, Lends, UsesFile, ack_bytes, having_sent, in_phase, response_turn, room_of, response_room, lent};
+ghost use Rattle.tftp_ends.specs.Step.{Turn, Acts, Lends, UsesFile, ack_bytes, having_sent, in_phase, response_turn, with_progress, room_of, response_room, lent};
 ghost use Rattle.tftp_ends.specs.End.{number_of, terms_of};
 ghost use Rattle.tftp_ends.specs.Sound.{PhaseFits, ActionFits, PieceFits, RefusalFits, SentFits, ResponseFits, ResendsAck};
 
@@ -34,20 +34,20 @@ impl End {
         requires fits { PhaseFits self.old phase }
         requires resends { ResendsAck self.old phase }
         requires sent { SentFits self.old (terms_of phase) }
-        ensures { self.new ≡ in_phase phase self.old }
+        ensures { self.new ≡ with_progress (in_phase phase self.old) self.old }
     {
         self.retries_left = self
             .phase
-            .retries_left(phase, self.retries, self.retries_left);
+            .retries_left(phase, self.role.retries, self.retries_left);
         self.phase = phase;
     }
 
     /// Goes into a phase and acknowledges its block. It takes no memory.
     pub(crate) fn acknowledge(&mut self, phase: Phase, from: Endpoint) -> Outgoing
         requires { PhaseFits self.old phase }
-        ensures state { self.new
-            ≡ having_sent (record { to = from; bytes = ack_bytes (number_of phase) })
-            (in_phase phase self.old) }
+        ensures state { self.new ≡ with_progress (having_sent
+            (record { to = from; bytes = ack_bytes (number_of phase) }) (in_phase phase self.old))
+            self.old }
         ensures sent { result ≡ Outgoing.LastSent }
     {
         self.last_sent.clear();
@@ -57,7 +57,7 @@ impl End {
         self.last_sent_to = from;
         self.retries_left = self
             .phase
-            .retries_left(phase, self.retries, self.retries_left);
+            .retries_left(phase, self.role.retries, self.retries_left);
         self.phase = phase;
         Outgoing::LastSent
     }
@@ -69,7 +69,7 @@ impl End {
         match action {
             Action::Respond(response) => self.response_room(response),
             Action::Send { terms, number } => {
-                MAX_ERROR + block_length(self.length, terms.size, number)
+                MAX_ERROR + block_length(self.role.length, terms.size, number)
             }
             Action::Store { .. } => MAX_ERROR,
         }
@@ -94,9 +94,8 @@ impl End {
     ) -> (Option<Endpoint>, Outgoing)
         requires fits { ResponseFits self.old response }
         requires refusal { RefusalFits self.old response }
-        ensures lends { Lends (response_turn response from self.old) self.new result.0 result.1 }
+        ensures lends { Lends self.old (response_turn response from self.old) self.new result.0 result.1 }
         ensures room { length (lent result.1 self.new) ≤ response_room self.old response }
-        ensures side { self.new.side ≡ self.old.side }
     {
         match response {
             Response::Ignore => (None, Outgoing::Nothing),
@@ -144,17 +143,17 @@ impl End {
     ) -> Result<(Option<Endpoint>, Outgoing), AllocError>
         requires action { ActionFits self.old action }
         requires piece { PieceFits self.old (drop 4 bytes.now) action }
-        requires files { AreFilesOf self.old.side files.old }
+        requires files { AreFilesOf self.old.role.side files.old }
         ensures acts { IfOk result (λ answer. (turn : Turn)
             × Acts S.meaning K.meaning action from bytes.now self.old files.old turn files.new
-            × Lends turn self.new answer.0 answer.1) }
+            × Lends self.old turn self.new answer.0 answer.1) }
         ensures room { IfOk result (λ answer.
             length (lent answer.1 self.new) ≤ room_of self.old action) }
         ensures uses { OnErr result (UsesFile action) }
         ensures err { OnErr result ((self.new ≡ self.old)
             × KeepsFiles S.meaning K.meaning files.old files.new) }
         ensures same { AreSame S.is_same K.is_same files.old files.new }
-        ensures files { AreFilesOf self.new.side files.new }
+        ensures files { AreFilesOf self.new.role.side files.new }
     {
         match action {
             Action::Respond(response) => Ok(self.respond(response, from)),

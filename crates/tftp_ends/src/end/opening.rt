@@ -14,6 +14,7 @@ use crate::fault::OpenFault;
 use crate::phase::Phase;
 use crate::record::Step;
 use crate::request::{may_ask_put, may_get, read_request, write_request};
+use crate::role::Role;
 use crate::side::Side;
 use crate::waiting::can_be_numbered;
 use std::alloc::Global;
@@ -36,29 +37,20 @@ impl End {
     /// An end as it opens: with all its retries, after this was sent.
     pub(crate) fn opened(
         alloc: Global,
-        side: Side,
-        mode: Mode,
-        length: u64,
-        retries: u8,
+        role: Role,
         phase: Phase,
         to: Endpoint,
         last_sent: Vec<u8>,
     ) -> End
-        requires phase { PhaseFits
-            (opened side mode length retries phase to last_sent.items) phase }
-        requires resends { ResendsAck
-            (opened side mode length retries phase to last_sent.items) phase }
-        requires sent { SentFits
-            (opened side mode length retries phase to last_sent.items) (terms_of phase) }
+        requires phase { PhaseFits (opened role phase to last_sent.items) phase }
+        requires resends { ResendsAck (opened role phase to last_sent.items) phase }
+        requires sent { SentFits (opened role phase to last_sent.items) (terms_of phase) }
         requires room { HEADER ≤ vec_capacity last_sent }
-        ensures { result ≡ opened side mode length retries phase to last_sent.items }
+        ensures { result ≡ opened role phase to last_sent.items }
     {
         End {
-            side,
-            mode,
-            length,
-            retries,
-            retries_left: retries,
+            role,
+            retries_left: role.retries,
             last_sent,
             spare: Vec::new(alloc),
             last_sent_to: to,
@@ -104,17 +96,13 @@ impl End {
             asked: *asked,
             limit: config.limits.max_file,
         };
-        let retries = config.retries;
-        let end = End::opened(
-            alloc,
-            Side::ClientRead,
+        let role = Role {
+            side: Side::ClientRead,
             mode,
-            0,
-            retries,
-            phase,
-            to,
-            last_sent,
-        );
+            length: 0,
+            retries: config.retries,
+        };
+        let end = End::opened(alloc, role, phase, to, last_sent);
         Ok((end, opening_step(to)))
     }
 
@@ -161,17 +149,13 @@ impl End {
             asked: *asked,
             limit: config.limits.max_file,
         };
-        let retries = config.retries;
-        let end = End::opened(
-            alloc,
-            Side::ClientWrite,
+        let role = Role {
+            side: Side::ClientWrite,
             mode,
             length,
-            retries,
-            phase,
-            to,
-            last_sent,
-        );
+            retries: config.retries,
+        };
+        let end = End::opened(alloc, role, phase, to, last_sent);
         Ok((end, opening_step(to)))
     }
 }

@@ -80,15 +80,14 @@ impl End {
         requires sent { SentFits self.old (Some terms) }
         ensures sends { IfOk result (λ outgoing. (turn : Turn)
             × Sends S.meaning terms number from self.old source.old turn source.new
-            × Lends turn self.new (Some from) outgoing) }
+            × Lends self.old turn self.new (Some from) outgoing) }
         ensures room { IfOk result (λ outgoing.
             length (lent outgoing self.new) ≤ room_of self.old (Action.Send terms number)) }
         ensures err { OnErr result ((self.new ≡ self.old)
             × (S.meaning.left source.new ≡ S.meaning.left source.old)) }
         ensures same { S.is_same source.old source.new }
-        ensures side { self.new.side ≡ self.old.side }
     {
-        let want = block_length(self.length, terms.size, number);
+        let want = block_length(self.role.length, terms.size, number);
         match read_data(source, number, want, &mut self.spare)? {
             BlockRead::Whole => {
                 mem::swap(&mut self.last_sent, &mut self.spare);
@@ -96,7 +95,7 @@ impl End {
                 let phase = Phase::Sending { terms, number };
                 self.retries_left = self
                     .phase
-                    .retries_left(phase, self.retries, self.retries_left);
+                    .retries_left(phase, self.role.retries, self.retries_left);
                 self.phase = phase;
                 Ok(Outgoing::LastSent)
             }

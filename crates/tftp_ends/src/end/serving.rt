@@ -2,7 +2,7 @@
 
 ghost use Rattle.std.specs.Prelude.{◌≡◌, ◌++◌, ◌*◌, ◌≤◌, ◌<◌, ◌⊎◌, not, true, [], length, IfOk, IfErr, OnOk, OnErr, IsErrOf, vec_capacity};
 ghost use Rattle.tftp_ends.specs.Files.{AreFilesOf, KeepsFiles, AreSame};
-ghost use Rattle.tftp_ends.specs.Opening.{ServesFiles, FilesCannotStart, serving_write, opened, opening_step, oack_bytes};
+ghost use Rattle.tftp_ends.specs.Opening.{ServesFiles, FilesCannotStart, serving_write, opened, opening_step, oack_bytes, role_of};
 ghost use Rattle.tftp_ends.specs.Step.{ack_bytes};
 ghost use Rattle.tftp_ends.specs.Waiting.{default_terms, agreed_terms};
 ghost use Rattle.tftp_negotiate.specs.Agreed.{size};
@@ -15,6 +15,7 @@ use crate::fault::OpenFault;
 use crate::options::append_options;
 use crate::phase::{Phase, Terms};
 use crate::record::Step;
+use crate::role::Role;
 use crate::side::Side;
 use crate::waiting::{agreed_terms, can_be_numbered, default_terms};
 use std::alloc::{AllocError, Global};
@@ -64,7 +65,7 @@ impl End {
         requires { AreFilesOf Side.ServerRead files.old }
         ensures serves { IfOk result (λ opened.
             ServesFiles S.meaning agreed.now peer mode length retries files.old files.new opened.0
-            × (out.new.items ≡ out.old.items ++ opened.0.last_sent)) }
+            × (out.new.items ≡ out.old.items ++ opened.0.progress.last_sent)) }
         ensures step { IfOk result (λ opened. opened.1 ≡ opening_step peer) }
         ensures ok { OnOk result (length < 65535 * size agreed.now) }
         ensures bad_request { IsErrOf result OpenFault.BadRequest → ⊥ }
@@ -76,7 +77,7 @@ impl End {
             × KeepsFiles S.meaning K.meaning files.old files.new }
         ensures err { OnErr result (out.new.items ≡ out.old.items) }
         ensures same { AreSame S.is_same K.is_same files.old files.new }
-        ensures files { IfOk result (λ opened. AreFilesOf opened.0.side files.new) }
+        ensures files { IfOk result (λ opened. AreFilesOf opened.0.role.side files.new) }
     {
         if !can_be_numbered(length, agreed.block_size()) {
             return Err(OpenFault::TooLarge);
@@ -101,7 +102,7 @@ impl End {
         requires fits { length < 65535 * DEFAULT_BLOCK }
         ensures serves { IfOk result (λ opened.
             ServesFiles S.meaning [] peer mode length retries files.old files.new opened.0
-            × (out.new.items ≡ out.old.items ++ opened.0.last_sent)) }
+            × (out.new.items ≡ out.old.items ++ opened.0.progress.last_sent)) }
         ensures step { IfOk result (λ opened. opened.1 ≡ opening_step peer) }
         ensures source { IsErrOf result OpenFault.SourceFault
             → FilesCannotStart S.meaning length files.old }
@@ -111,7 +112,7 @@ impl End {
             ((fault ≡ OpenFault.SourceFault) ⊎ (fault ≡ OpenFault.Memory))
             × (out.new.items ≡ out.old.items)) }
         ensures same { AreSame S.is_same K.is_same files.old files.new }
-        ensures files { IfOk result (λ opened. AreFilesOf opened.0.side files.new) }
+        ensures files { IfOk result (λ opened. AreFilesOf opened.0.role.side files.new) }
     {
         let Files::Source(source) = files else {
             unreachable!()
@@ -129,16 +130,13 @@ impl End {
                     terms: default_terms(peer),
                     number: 1,
                 };
-                let end = End::opened(
-                    alloc,
-                    Side::ServerRead,
+                let role = Role {
+                    side: Side::ServerRead,
                     mode,
                     length,
                     retries,
-                    phase,
-                    peer,
-                    last_sent,
-                );
+                };
+                let end = End::opened(alloc, role, phase, peer, last_sent);
                 Ok((end, opening_step(peer)))
             }
         }
@@ -155,7 +153,7 @@ impl End {
         out: &mut Vec<u8>,
     ) -> Result<(End, Step), AllocError>
         requires fits { length < 65535 * size agreed.now }
-        ensures end { IfOk result (λ o. (o.0 ≡ opened Side.ServerRead mode length retries
+        ensures end { IfOk result (λ o. (o.0 ≡ opened (role_of Side.ServerRead mode length retries)
             (Phase.Sending (agreed_terms peer agreed.now) 0) peer (oack_bytes agreed.now))
             × (out.new.items ≡ out.old.items ++ oack_bytes agreed.now)) }
         ensures step { IfOk result (λ o. o.1 ≡ opening_step peer) }
@@ -167,16 +165,13 @@ impl End {
             terms: agreed_terms(peer, agreed),
             number: 0,
         };
-        let end = End::opened(
-            alloc,
-            Side::ServerRead,
+        let role = Role {
+            side: Side::ServerRead,
             mode,
             length,
             retries,
-            phase,
-            peer,
-            last_sent,
-        );
+        };
+        let end = End::opened(alloc, role, phase, peer, last_sent);
         Ok((end, opening_step(peer)))
     }
 
@@ -194,7 +189,7 @@ impl End {
         out: &mut Vec<u8>,
     ) -> Result<(End, Step), OpenFault>
         ensures end { IfOk result (λ opened. (opened.0 ≡ serving_write agreed.now peer mode retries)
-            × (out.new.items ≡ out.old.items ++ opened.0.last_sent)) }
+            × (out.new.items ≡ out.old.items ++ opened.0.progress.last_sent)) }
         ensures step { IfOk result (λ opened. opened.1 ≡ opening_step peer) }
         ensures err { IfErr result (λ fault. (fault ≡ OpenFault.Memory)
             × (out.new.items ≡ out.old.items)) }
@@ -219,7 +214,7 @@ impl End {
         requires resends { not terms.by_oack ≡ true → answer.items ≡ ack_bytes 0 }
         requires short { length answer.items ≤ MAX_REQUEST }
         requires room { HEADER ≤ vec_capacity answer }
-        ensures end { IfOk result (λ o. (o.0 ≡ opened Side.ServerWrite mode 0 retries
+        ensures end { IfOk result (λ o. (o.0 ≡ opened (role_of Side.ServerWrite mode 0 retries)
             (Phase.Receiving terms 0) terms.peer answer.items)
             × (out.new.items ≡ out.old.items ++ answer.items)) }
         ensures step { IfOk result (λ o. o.1 ≡ opening_step terms.peer) }
@@ -227,16 +222,13 @@ impl End {
     {
         out.extend_from_slice(&answer)?;
         let phase = Phase::Receiving { terms, number: 0 };
-        let end = End::opened(
-            alloc,
-            Side::ServerWrite,
+        let role = Role {
+            side: Side::ServerWrite,
             mode,
-            0,
+            length: 0,
             retries,
-            phase,
-            terms.peer,
-            answer,
-        );
+        };
+        let end = End::opened(alloc, role, phase, terms.peer, answer);
         Ok((end, opening_step(terms.peer)))
     }
 }

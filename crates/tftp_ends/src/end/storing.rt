@@ -151,22 +151,21 @@ impl End {
         sink: &mut K,
         from: Endpoint,
     ) -> Result<Outgoing, AllocError>
-        requires receiver { is_sender self.old.side ≡ false }
+        requires receiver { is_sender self.old.role.side ≡ false }
         requires sent { SentFits self.old (Some terms) }
-        requires reads { is_readable self.old.mode self.old.held piece.now
+        requires reads { is_readable self.old.role.mode self.old.progress.held piece.now
             (nat_lt (length piece.now) terms.size) ≡ true }
         ensures stores { IfOk result (λ outgoing. (turn : Turn)
             × Stores K.meaning terms number from piece.now self.old sink.old turn sink.new
-            × Lends turn self.new (Some from) outgoing) }
+            × Lends self.old turn self.new (Some from) outgoing) }
         ensures room { IfOk result (λ outgoing. length (lent outgoing self.new) ≤ 24) }
         ensures err { OnErr result ((self.new ≡ self.old)
             × KeepsSink K.meaning sink.old sink.new) }
         ensures same { K.is_same sink.old sink.new }
-        ensures side { self.new.side ≡ self.old.side }
     {
         let is_last = piece.len() < usize::from(terms.size);
         let spare = &mut self.spare;
-        let (stored, behind) = store_piece(sink, self.mode, self.decoder, piece, is_last, spare)?;
+        let (stored, behind) = store_piece(sink, self.role.mode, self.decoder, piece, is_last, spare)?;
         match stored {
             BlockStored::More => {
                 let outgoing = self.acknowledge(Phase::Receiving { terms, number }, from);

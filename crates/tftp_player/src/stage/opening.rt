@@ -71,7 +71,7 @@ impl Stage {
     /// A client more, at the next port, and its request.
     fn enter(&mut self, port: u16, client: Client, effect: Effect) -> Result<Report, WorldFault>
         requires port { port ≡ next_port self.old }
-        requires client { is_client client.end.side ≡ true }
+        requires client { is_client client.end.role.side ≡ true }
         ensures enters { IfOk result (λ report.
             Enters self.old port client effect report self.new) }
         ensures memory { IfErr result (λ fault. fault ≡ WorldFault.Memory) }

@@ -55,7 +55,7 @@ impl Conversation {
         shows_progress: bool,
         total: Option<u64>,
     ) -> Result<Conversation, AllocError>
-        ensures { IfOk result (λ conversation. conversation.end.side ≡ end.side) }
+        ensures { IfOk result (λ conversation. conversation.end.role.side ≡ end.role.side) }
     {
         let watch = Watch::new(read_clock(clock, 0));
         Ok(Conversation {
@@ -82,7 +82,7 @@ impl Conversation {
         rt: &C,
         files: &mut Files<S, K>,
     ) -> Outcome
-        requires { AreFilesOf self.old.end.side files.old }
+        requires { AreFilesOf self.old.end.role.side files.old }
     {
         for _ in 0..MAX_WAITS {
             if let Some(outcome) = self.turn(rt, files) {
@@ -99,8 +99,8 @@ impl Conversation {
         clock: &C,
         files: &mut Files<S, K>,
     ) -> Option<Outcome>
-        requires { AreFilesOf self.old.end.side files.old }
-        ensures { AreFilesOf self.new.end.side files.new }
+        requires { AreFilesOf self.old.end.role.side files.old }
+        ensures { AreFilesOf self.new.end.role.side files.new }
     {
         let wait = self.due.saturating_sub(self.watch.now).min(LONGEST_WAIT);
         let received = self.socket.receive(wait, self.buffer.as_mut_slice());
@@ -133,9 +133,9 @@ impl Conversation {
         from: Endpoint,
         count: usize,
     ) -> Step
-        requires files { AreFilesOf self.old.end.side files.old }
+        requires files { AreFilesOf self.old.end.role.side files.old }
         requires count { count ≤ length self.old.buffer.items }
-        ensures { AreFilesOf self.new.end.side files.new }
+        ensures { AreFilesOf self.new.end.role.side files.new }
     {
         let bytes = &self.buffer[..count];
         let Ok((step, outgoing)) = self.end.handle_datagram(files, from, bytes) else {
@@ -153,7 +153,7 @@ impl Conversation {
 
     /// Takes a timeout, and sends what goes out.
     fn take_timeout(&mut self) -> Step
-        ensures { self.new.end.side ≡ self.old.end.side }
+        ensures { self.new.end.role.side ≡ self.old.end.role.side }
     {
         match self.end.handle_timeout() {
             Ok((step, outgoing)) => {

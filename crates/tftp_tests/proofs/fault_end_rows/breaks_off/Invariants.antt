@@ -3,4 +3,4 @@ use Rattle.tftp_ends.specs.Files.{AreFilesOf}
 use Rattle.tftp_tests.proofs.fault_end_rows.breaks_off.Given as goal
 
 abbrev pub invariant-loop-at : goal.invariant-loop-at
-invariant-loop-at g l = AreFilesOf l.end.side l.files
+invariant-loop-at g l = AreFilesOf l.end.role.side l.files

@@ -4,4 +4,4 @@ use Rattle.tftp_ends.specs.End.{is_sender}
 use Rattle.tftp_tests.proofs.fault_end_rows.is_full.Given as goal
 
 abbrev pub invariant-loop-at : goal.invariant-loop-at
-invariant-loop-at g l = is_sender l.end.side ≡ false
+invariant-loop-at g l = is_sender l.end.role.side ≡ false

@@ -1,5 +1,5 @@
 -- What the request port does is what it does in the world, and an end that opens is recorded.
-use Rattle.std.proofs.Common.{refl, ◌≡◌, ◌<◌, ◌∙◌, ℕ, ap, sym, length, get_or, rules, arith}
+use Rattle.std.proofs.Common.{refl, ◌≡◌, ◌<◌, ◌∙◌, ℕ, ap, sym, get_or, arith}
 use Rattle.tftp_player.specs.Serving.{PlayedServer}
 use Rattle.tftp_player.proofs.AskingLemmas.{opened_requested, opened_recorded, opened_staged, opened_asks, not_opened_same, quietly, quietly_staged}
 use Rattle.tftp_player.proofs.ends.Ends.ask.Goals as goal

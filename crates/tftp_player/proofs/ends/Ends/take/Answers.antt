@@ -1,5 +1,5 @@
 -- A datagram arrives at the request port, at an end, or nowhere.
-use Rattle.std.proofs.Common.{◌≡◌, length, refl, rules}
+use Rattle.std.proofs.Common.{refl}
 use Rattle.std.proofs.lemmas.Result.{IfOk-weaker}
 use Rattle.tftp_player.proofs.ArrivalLemmas.{step_arrives, nobody_arrives, asks_arrive}
 use Rattle.tftp_player.proofs.ends.Ends.take.Goals as goal

@@ -1,5 +1,5 @@
 -- Whether the end at the port has committed, where there is one.
-use Rattle.std.proofs.Common.{refl, ◌≡◌, ◌<◌, length, rules, ◌∙◌}
+use Rattle.std.proofs.Common.{refl, ◌∙◌}
 use Rattle.tftp_player.proofs.TellingLemmas.{committed_here, committed_nowhere}
 use Rattle.tftp_player.proofs.stage.Stage.committed.Goals as goal
 

@@ -1,5 +1,5 @@
 -- A client that asks for a file opens, or has its least reason to be refused.
-use Rattle.std.proofs.Common.{refl, ◌≡◌, length, subst, sym, rules}
+use Rattle.std.proofs.Common.{refl, ◌≡◌, subst, sym}
 use Rattle.std.proofs.lemmas.Result.{IfOk-weaker, IfErr-weaker}
 use Rattle.tftp_ends.specs.Opening.{MayGet}
 use Rattle.tftp_player.specs.Clients.{AskRefuses}

@@ -1,5 +1,5 @@
 -- A client that sends a file opens, or has its least reason to be refused.
-use Rattle.std.proofs.Common.{refl, ◌≡◌, length, subst, sym, rules}
+use Rattle.std.proofs.Common.{refl, ◌≡◌, length, subst, sym}
 use Rattle.std.proofs.lemmas.Result.{IfOk-weaker, IfErr-weaker}
 use Rattle.tftp_file.specs.Netascii.{wire_text}
 use Rattle.tftp_ends.specs.Opening.{MayPut}

@@ -1,5 +1,5 @@
 -- The end at the port is told to refuse, or there is none.
-use Rattle.std.proofs.Common.{refl, ◌≡◌, ◌<◌, length, sym, subst, rules}
+use Rattle.std.proofs.Common.{refl, sym, subst}
 use Rattle.std.specs.Prelude.{slice_set}
 use Rattle.tftp_player.specs.Stage.{IsStaged, world_of}
 use Rattle.tftp_player.specs.declared.event.Event.TheVariants.{RefuseStore}

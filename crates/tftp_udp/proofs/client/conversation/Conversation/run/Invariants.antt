@@ -3,4 +3,4 @@ use Rattle.tftp_ends.specs.Files.{AreFilesOf}
 use Rattle.tftp_udp.proofs.client.conversation.Conversation.run.Given as goal
 
 abbrev pub invariant-loop : goal.invariant-loop
-invariant-loop g l = AreFilesOf l.self.end.side l.files
+invariant-loop g l = AreFilesOf l.self.end.role.side l.files
