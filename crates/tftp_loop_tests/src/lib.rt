@@ -2,9 +2,13 @@
 #![tactic(auto)]
 
 #[cfg(test)]
+mod address_rows;
+#[cfg(test)]
 mod fallback_rows;
 #[cfg(test)]
 mod folder_rows;
+#[cfg(test)]
+mod full_rows;
 #[cfg(test)]
 mod log_rows;
 #[cfg(test)]
@@ -18,6 +22,8 @@ mod proxy_rows;
 #[cfg(test)]
 mod put_rows;
 #[cfg(test)]
+mod refusal_rows;
+#[cfg(test)]
 mod scratch;
 #[cfg(test)]
 mod served_put_rows;
@@ -25,3 +31,5 @@ mod served_put_rows;
 mod size_rows;
 #[cfg(test)]
 mod test_server;
+#[cfg(test)]
+mod usage_rows;

@@ -56,6 +56,27 @@ pub(crate) fn program<R: Runtime + AllocGlobal>(
     Ok(command)
 }
 
+/// What a shell runs so that no file of a program grows beyond some kilobytes, and a longer one is an error
+/// and no signal.
+const LIMITED: &str = "trap '' XFSZ; ulimit -f 8; exec \"$@\"";
+
+/// A command that runs this program as the other, where files may not grow.
+pub(crate) fn limited_program<R: Runtime + AllocGlobal>(
+    rt: &R,
+    name: &str,
+    words: &[&str],
+) -> Result<Command, Fail> {
+    let own = env::args(rt)?.next().ok_or("a program has a name")?;
+    let mut command = Command::new(rt.alloc(), "sh")?;
+    for word in ["-c", LIMITED, "sh", own.as_str(), name] {
+        command.arg(word)?;
+    }
+    for word in words {
+        command.arg(*word)?;
+    }
+    Ok(command)
+}
+
 /// All that a program prints, its standard output before its standard error.
 pub(crate) fn told<R: Runtime + AllocGlobal + Processes>(
     rt: &R,

@@ -1,0 +1,76 @@
+//! Help texts, and command lines that are not understood: each fault names the option and its range.
+
+use crate::programs::told;
+use std::process::{Abort, Processes};
+use std::rt::Runtime;
+use std::test::Fail;
+
+const TFTP: &str = "programs::tftp";
+
+const TFTPD: &str = "programs::tftpd";
+
+/// Command lines, and what they print: a help text ends with examples, and a fault has the range of a value.
+const ROWS: [(&str, &[&str], &str); 14] = [
+    (TFTPD, &["--help"], "Examples:\n  tftpd "),
+    (TFTP, &["--help"], "Examples:\n  tftp get "),
+    (TFTP, &["get", "--help"], "--blksize <8..65464>"),
+    (
+        TFTPD,
+        &[".", "--max-block", "7"],
+        "'--max-block <8..65464>'",
+    ),
+    (
+        TFTPD,
+        &[".", "--max-file", "18446744073709551616"],
+        "'--max-file <0..2^64-1>'",
+    ),
+    (TFTPD, &[".", "--retries", "11"], "'--retries <0..10>'"),
+    (TFTPD, &[".", "--cap", "65"], "'--cap <1..64>'"),
+    (
+        TFTPD,
+        &[".", "--transfers", "0"],
+        "'--transfers <1..4294967295>'",
+    ),
+    (TFTPD, &[".", "--rounds", "0"], "'--rounds <1..4294967295>'"),
+    (
+        TFTPD,
+        &[".", "--listen", "localhost:69"],
+        "'--listen <ADDR:PORT>'",
+    ),
+    (TFTP, &["get", "a:69", "a", "b"], "'<ADDR:PORT>'"),
+    (
+        TFTP,
+        &["get", "127.0.0.1:69", "a", "b", "--blksize", "65465"],
+        "'--blksize <8..65464>'",
+    ),
+    (
+        TFTP,
+        &["put", "127.0.0.1:69", "a", "b", "--timeout", "0"],
+        "'--timeout <1..255>'",
+    ),
+    (
+        TFTP,
+        &["put", "127.0.0.1:69", "a", "b", "--retries", "11"],
+        "'--retries <0..10>'",
+    ),
+];
+
+/// A program prints this.
+fn prints<R: Runtime + AllocGlobal + Processes + Abort>(
+    rt: &R,
+    name: &str,
+    words: &[&str],
+    wanted: &str,
+) -> Result<(), Fail> {
+    let told = told(rt, name, words)?;
+    assert!(rt; told.as_str().contains(wanted), "{told}");
+    Ok(())
+}
+
+#[test]
+fn help_and_faults(rt: HostRuntime) -> Result<(), Fail> {
+    for (name, words, wanted) in ROWS {
+        prints(&rt, name, words, wanted)?;
+    }
+    Ok(())
+}
