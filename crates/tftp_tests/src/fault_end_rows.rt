@@ -57,10 +57,10 @@ const DATA: [&[u8]; 5] = [
 type Sending = Files<FaultSource, MemSink>;
 
 /// An end that has agreed on the blocks, and a source of so many of the file's bytes.
-fn sender(alloc: Global, give: u64, fail: bool) -> Result<(End, Sending), Fail>
+fn sender(alloc: Global, file: &[u8], give: u64, fail: bool) -> Result<(End, Sending), Fail>
     ensures { IfOk result (λ opened. AreFilesOf opened.0.role.side opened.1) }
 {
-    let source = FaultSource::new(alloc, FILE, Mode::Octet, give, fail)?;
+    let source = FaultSource::new(alloc, file, Mode::Octet, give, fail)?;
     let mut files: Sending = Files::Source(source);
     let mut out = Vec::new(alloc);
     let (end, _) = End::serve_read(
@@ -69,7 +69,7 @@ fn sender(alloc: Global, give: u64, fail: bool) -> Result<(End, Sending), Fail>
         CLIENT,
         Mode::Octet,
         &blocks_of_eight()?,
-        36,
+        file.len() as u64,
         5,
         &mut out,
     )?;
@@ -98,13 +98,14 @@ fn answers(
 fn breaks_off(
     rt: &impl Abort,
     alloc: Global,
+    file: &[u8],
     sent: usize,
     give: u64,
     fail: bool,
 ) -> Result<(), Fail>
     requires { sent < 5 }
 {
-    let (mut end, mut files) = sender(alloc, give, fail)?;
+    let (mut end, mut files) = sender(alloc, file, give, fail)?;
     for at in 0..sent {
         answers(rt, alloc, &mut end, &mut files, ACKS[at], DATA[at])?;
     }
@@ -120,12 +121,18 @@ fn breaks_off(
 fn a_read_breaks_off_at_each_block(rt: HostRuntime) -> Result<(), Fail> {
     for sent in 0..5 {
         let give = 8 * sent as u64;
-        breaks_off(&rt, rt.alloc(), sent, give, false)?;
-        breaks_off(&rt, rt.alloc(), sent, give, true)?;
-        breaks_off(&rt, rt.alloc(), sent, give + 3, false)?;
-        breaks_off(&rt, rt.alloc(), sent, give + 3, true)?;
+        breaks_off(&rt, rt.alloc(), FILE, sent, give, false)?;
+        breaks_off(&rt, rt.alloc(), FILE, sent, give, true)?;
+        breaks_off(&rt, rt.alloc(), FILE, sent, give + 3, false)?;
+        breaks_off(&rt, rt.alloc(), FILE, sent, give + 3, true)?;
     }
     Ok(())
+}
+
+/// A file of twenty bytes, of which a source gives sixteen: two whole blocks.
+#[test]
+fn a_read_of_twenty_bytes_breaks_off(rt: HostRuntime) -> Result<(), Fail> {
+    breaks_off(&rt, rt.alloc(), &FILE[..20], 2, 16, false)
 }
 
 /// An end that has agreed on the blocks, and takes a file.

@@ -12,6 +12,8 @@ mod fault_rows;
 #[cfg(test)]
 mod lending_rows;
 #[cfg(test)]
+mod long_end_rows;
+#[cfg(test)]
 mod memory_turn_rows;
 #[cfg(test)]
 mod netascii_end_rows;

@@ -16,20 +16,31 @@ fn client(port: u16) -> Endpoint {
     }
 }
 
-/// A server of the file `a` of the three bytes `ABC`.
-fn server(rt: &impl Abort, alloc: Global, config: Config) -> Result<Server<MemStore>, Fail> {
+/// A server of one file.
+fn server_of(
+    rt: &impl Abort,
+    alloc: Global,
+    config: Config,
+    name: &[u8],
+    bytes: &[u8],
+) -> Result<Server<MemStore>, Fail> {
     let mut files = Vec::new(alloc);
-    files.push((path_of(alloc, b"a")?, Vec::from_slice(alloc, b"ABC")?))?;
+    files.push((path_of(alloc, name)?, Vec::from_slice(alloc, bytes)?))?;
     let store = MemStore::new(alloc, files)?;
     assert!(rt; config.is_valid(), "the settings of a server");
     Ok(Server::new(alloc, config, store)?)
+}
+
+/// A server of the file `a` of the three bytes `ABC`.
+fn server(rt: &impl Abort, alloc: Global, config: Config) -> Result<Server<MemStore>, Fail> {
+    server_of(rt, alloc, config, b"a", b"ABC")
 }
 
 /// The request for the file, in octet.
 const REQUEST: &[u8] = b"\x00\x01a\x00octet\x00";
 
 /// What comes to the request port, the answer to it, and whether a transfer opens.
-const ROWS: [(&str, &[u8], &[u8], bool); 12] = [
+const ROWS: [(&str, &[u8], &[u8], bool); 15] = [
     ("begins as an ERROR", b"\x00\x05", b"", false),
     ("an ERROR", b"\x00\x05\x00\x01no\x00", b"", false),
     (
@@ -45,8 +56,26 @@ const ROWS: [(&str, &[u8], &[u8], bool); 12] = [
         false,
     ),
     (
+        "an empty name",
+        b"\x00\x01\x00octet\x00",
+        b"\x00\x05\x00\x04illegal operation\x00",
+        false,
+    ),
+    (
         "a file above the root",
-        b"\x00\x01../a\x00octet\x00",
+        b"\x00\x01../x\x00octet\x00",
+        b"\x00\x05\x00\x02access violation\x00",
+        false,
+    ),
+    (
+        "an empty segment",
+        b"\x00\x01a//b\x00octet\x00",
+        b"\x00\x05\x00\x02access violation\x00",
+        false,
+    ),
+    (
+        "a hidden file",
+        b"\x00\x01.x\x00octet\x00",
         b"\x00\x05\x00\x02access violation\x00",
         false,
     ),
@@ -104,6 +133,35 @@ fn port_rows(rt: HostRuntime) -> Result<(), Fail> {
         assert_eq!(rt; opened.to.is_some(), !answer.is_empty(), "{what}: where to");
         assert_eq!(rt; opened.tid.is_some(), opens, "{what}: a transfer");
     }
+    Ok(())
+}
+
+/// A name of two segments, behind a slash that does not count.
+#[test]
+fn a_file_in_a_folder_is_read(rt: HostRuntime) -> Result<(), Fail> {
+    let path = path_of(rt.alloc(), b"/a/b")?;
+    assert_eq!(rt; path.as_bytes(), b"a/b".as_slice(), "the path");
+    let mut server = server_of(&rt, rt.alloc(), Config::default(), b"a/b", b"XY")?;
+    let mut out = Vec::new(rt.alloc());
+    let request = b"\x00\x01/a/b\x00octet\x00";
+    let opened = server.on_request(client(2000), 1025, request, &mut out)?;
+    assert_eq!(rt; opened.tid, Some(1025), "a transfer");
+    assert_eq!(rt; out.as_slice(), b"\x00\x03\x00\x01XY".as_slice(), "DATA 1");
+    Ok(())
+}
+
+/// 65,535 blocks of 8 bytes are the most, and the last of them is short (RFC 1350, section 6): a file of
+/// one byte more than they carry, and no answer but the ERROR.
+#[test]
+fn a_file_is_too_large_for_its_blocks(rt: HostRuntime) -> Result<(), Fail> {
+    let bytes = vec![in rt.alloc(); b'x'; 524_280]?;
+    let mut server = server_of(&rt, rt.alloc(), Config::default(), b"a", &bytes)?;
+    let mut out = Vec::new(rt.alloc());
+    let request = b"\x00\x01a\x00octet\x00blksize\x008\x00";
+    let opened = server.on_request(client(2000), 1025, request, &mut out)?;
+    let too_large = b"\x00\x05\x00\x00file too large\x00".as_slice();
+    assert_eq!(rt; out.as_slice(), too_large, "the answer");
+    assert_eq!(rt; opened.tid, None, "no transfer");
     Ok(())
 }
 
@@ -215,6 +273,13 @@ fn a_request_opens_anew_behind_the_close(rt: HostRuntime) -> Result<(), Fail> {
     server.on_datagram(1025, client(1025), b"\x00\x04\x00\x01", &mut out)?;
     let opened = server.on_request(client(1025), 1026, REQUEST, &mut out)?;
     assert_eq!(rt; opened.tid, Some(1026), "the transfer was over");
+    assert_eq!(rt; out.as_slice(), b"\x00\x03\x00\x01ABC".as_slice(), "DATA 1");
+    out.clear();
+    // the client has completed, and knows no such transfer
+    let unknown = b"\x00\x05\x00\x05unknown transfer id\x00";
+    let step = server.on_datagram(1026, client(1025), unknown, &mut out)?;
+    assert_eq!(rt; step.closed, Some(Outcome::PeerError(5)), "it closes");
+    assert!(rt; out.is_empty(), "in silence");
     Ok(())
 }
 
@@ -231,6 +296,22 @@ fn a_full_server_is_busy(rt: HostRuntime) -> Result<(), Fail> {
     let busy = b"\x00\x05\x00\x00server busy\x00".as_slice();
     assert_eq!(rt; out.as_slice(), busy, "its bytes");
     Ok(())
+}
+
+/// A closed transfer has its place until it is taken.
+#[test]
+fn a_closed_transfer_counts_until_it_is_taken(rt: HostRuntime) -> Result<(), Fail> {
+    let mut config = Config::default();
+    config.cap = 1;
+    let mut server = server(&rt, rt.alloc(), config)?;
+    open(&rt, rt.alloc(), &mut server, 1025)?;
+    let mut out = Vec::new(rt.alloc());
+    let step = server.on_datagram(1025, client(1025), b"\x00\x04\x00\x01", &mut out)?;
+    assert_eq!(rt; step.closed, Some(Outcome::Complete), "it closes");
+    let opened = server.on_request(client(1026), 1026, REQUEST, &mut out)?;
+    assert_eq!(rt; opened.tid, None, "there is no place");
+    assert!(rt; server.take_closed(1025).is_some(), "it is taken");
+    open(&rt, rt.alloc(), &mut server, 1026)
 }
 
 /// The identifiers that the server holds.
@@ -276,6 +357,9 @@ fn table_rows(rt: HostRuntime) -> Result<(), Fail> {
     open(&rt, rt.alloc(), &mut server, 1040)?;
     let held = tids(&server, rt.alloc())?;
     assert_eq!(rt; held.as_slice(), HELD, "in rising order");
+    let mut out = Vec::new(rt.alloc());
+    let again = server.on_request(client(2000), 1027, REQUEST, &mut out);
+    assert_eq!(rt; again, Err(ServerFault::TidInUse), "an identifier in use");
     Ok(())
 }
 

@@ -182,6 +182,64 @@ fn the_last_commit_stands(rt: HostRuntime) -> Result<(), Fail> {
     Ok(())
 }
 
+/// A read of a file that a write replaces goes on with the file that it opened.
+#[test]
+fn a_read_goes_on_with_its_file(rt: HostRuntime) -> Result<(), Fail> {
+    let path = path_of(rt.alloc(), b"a")?;
+    let mut server = server(&rt, rt.alloc(), true)?;
+    let alloc = rt.alloc();
+    store_600(alloc, server.store_mut(), &path)?;
+    let mut out = Vec::new(alloc);
+    server.on_request(CLIENT, 1025, b"\x00\x01a\x00octet\x00", &mut out)?;
+    assert_eq!(rt; out.len(), 516, "DATA 1");
+    out.clear();
+    server.on_request(OTHER, 1026, b"\x00\x02a\x00octet\x00", &mut out)?;
+    answers(&rt, alloc, &mut server, OTHER, 1026, DATA_B, ACK_1)?;
+    let file = server.store().file(&path).ok_or("a file")?;
+    assert_eq!(rt; file, b"B".as_slice(), "it is replaced");
+    let mut rest = Vec::from_slice(alloc, b"\x00\x03\x00\x02")?;
+    rest.extend_from_slice(&[b'a'; 88])?;
+    answers(&rt, alloc, &mut server, CLIENT, 1025, ACK_1, &rest)?;
+    Ok(())
+}
+
+/// Makes the file one of 600 letters `a`.
+fn store_600<S: Store>(alloc: Global, store: &mut S, path: &Path) -> Result<(), Fail> {
+    let mut draft = store.begin(alloc, path, true)?;
+    store.append(&mut draft, &[b'a'; 600])?;
+    store.commit(path, &mut draft, true)?;
+    Ok(())
+}
+
+/// The request comes again: this is the answer, and no transfer opens.
+fn opens_nothing(
+    rt: &impl Abort,
+    alloc: Global,
+    server: &mut Server<MemStore>,
+    answer: &[u8],
+) -> Result<(), Fail> {
+    let mut out = Vec::new(alloc);
+    let opened = server.on_request(CLIENT, 1030, WRITE, &mut out)?;
+    assert_eq!(rt; opened.tid, None, "no transfer");
+    assert_eq!(rt; out.as_slice(), answer, "the answer");
+    Ok(())
+}
+
+/// A request that comes again opens nothing while its transfer is open, nor in the dally; behind the close
+/// its file is there.
+#[test]
+fn a_repeated_write_opens_nothing(rt: HostRuntime) -> Result<(), Fail> {
+    let mut server = server(&rt, rt.alloc(), false)?;
+    open(&rt, rt.alloc(), &mut server, CLIENT, 1025)?;
+    opens_nothing(&rt, rt.alloc(), &mut server, b"")?;
+    answers(&rt, rt.alloc(), &mut server, CLIENT, 1025, DATA_A, ACK_1)?;
+    opens_nothing(&rt, rt.alloc(), &mut server, b"")?;
+    let mut out = Vec::new(rt.alloc());
+    server.on_timeout(1025, &mut out)?;
+    server.on_timeout(1025, &mut out)?;
+    opens_nothing(&rt, rt.alloc(), &mut server, FILE_EXISTS)
+}
+
 /// Where the first call of the store, `begin`, fails: the answer.
 const UNBEGUN: [(StoreFault, &[u8]); 2] = [
     (StoreFault::Full, b"\x00\x05\x00\x03disk full\x00"),
