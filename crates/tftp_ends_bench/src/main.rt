@@ -134,8 +134,8 @@ fn converse<S: Source, K: Sink>(
     mut client: End,
     copy: &mut Files<S, K>,
 ) -> Result<u16>
-    requires server { AreFilesOf server.side file.old }
-    requires client { AreFilesOf client.side copy.old }
+    requires server { AreFilesOf server.role.side file.old }
+    requires client { AreFilesOf client.role.side copy.old }
 {
     let mut outgoing = Outgoing::LastSent;
     for _ in 0..=65_535 {

@@ -241,10 +241,10 @@ fn round(
     source: &mut Files<MemSource, MemSink>,
     data: &mut Vec<u8>,
 ) -> Result<u32, Fail>
-    requires client { AreFilesOf client.old.side sink.old }
-    requires server { AreFilesOf server.old.side source.old }
-    ensures client { AreFilesOf client.new.side sink.new }
-    ensures server { AreFilesOf server.new.side source.new }
+    requires client { AreFilesOf client.old.role.side sink.old }
+    requires server { AreFilesOf server.old.role.side source.old }
+    ensures client { AreFilesOf client.new.role.side sink.new }
+    ensures server { AreFilesOf server.new.role.side source.new }
 {
     let mut ack = Vec::new(alloc);
     client.on_datagram(sink, SERVER_END, data, &mut ack)?;

@@ -3,4 +3,4 @@ use Rattle.tftp_ends.specs.Files.{AreFilesOf}
 use Rattle.tftp_ends_bench.proofs.converse.Given as goal
 
 abbrev pub invariant-loop : goal.invariant-loop
-invariant-loop g l = AreFilesOf l.server.side l.file × AreFilesOf l.client.side l.copy
+invariant-loop g l = AreFilesOf l.server.role.side l.file × AreFilesOf l.client.role.side l.copy
