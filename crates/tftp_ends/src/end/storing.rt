@@ -165,7 +165,14 @@ impl End {
     {
         let is_last = piece.len() < usize::from(terms.size);
         let spare = &mut self.spare;
-        let (stored, behind) = store_piece(sink, self.role.mode, self.decoder, piece, is_last, spare)?;
+        let (stored, behind) = store_piece(
+            sink,
+            self.role.mode,
+            self.decoder,
+            piece,
+            is_last,
+            spare,
+        )?;
         match stored {
             BlockStored::More => {
                 let outgoing = self.acknowledge(Phase::Receiving { terms, number }, from);
