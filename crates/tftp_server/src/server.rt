@@ -349,7 +349,8 @@ impl<S: Store> Server<S> {
         requires { at tid self.old.held ≡ None }
         ensures writes { IfOk result (λ opened. (came : Came S S.Source S.Draft)
             × (sent : List ℕ)
-            × AsksToWrite S.meaning S.Source.meaning self.old from bytes.now path mode agreed.now came
+            × AsksToWrite S.meaning S.Source.meaning self.old from bytes.now path mode agreed.now
+            came
             × (out.new.items ≡ out.old.items ++ sent) × (record {
               new = self.new;
               opened = opened;

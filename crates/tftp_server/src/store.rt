@@ -92,6 +92,7 @@ pub trait Store {
             (holding_of (meaning.stored self.new) (meaning.drafted draft.new)) result }
         ensures files { Puts (meaning.stored self.old) (meaning.stored self.new)
             (meaning.drafted draft.old) path.now replace result }
-        ensures refused { IfErr result (meaning.may_refuse_commit self.old path.now draft.old replace) }
+        ensures refused { IfErr result
+            (meaning.may_refuse_commit self.old path.now draft.old replace) }
         ensures not_memory { result ≢ Err StoreFault.Memory };
 }
