@@ -59,27 +59,72 @@ fn transfer_words<'a, R: Runtime + AllocGlobal + Net, S: AsStr>(
     ensures { IfOk result (λ status. status ≤ 2) }
 {
     let texts = BlockTexts::new(rt.alloc())?;
-    let mut command = command(rt.alloc(), &texts)?;
-    let matches = match command.try_get_matches_from_mut(words) {
-        Ok(matches) => matches,
-        Err(error) => return Ok(print_usage(rt, &error)),
-    };
+    let command = command(rt.alloc(), &texts)?;
+    run_command(rt, command, words, has_terminal)
+}
+
+/// Reads the words by what `tftp` understands, and does what they say.
+fn run_command<'a, R: Runtime + AllocGlobal + Net, S: AsStr>(
+    rt: &R,
+    mut command: Command<'a>,
+    words: &'a [S],
+    has_terminal: bool,
+) -> anyhow::Result<u8>
+    ensures { IfOk result (λ status. status ≤ 2) }
+{
+    match command.try_get_matches_from_mut(words) {
+        Ok(matches) => run_matches(rt, &mut command, &matches, has_terminal),
+        Err(error) => Ok(print_usage(rt, &error)),
+    }
+}
+
+/// Does what the words say that were understood.
+fn run_matches<R: Runtime + AllocGlobal + Net>(
+    rt: &R,
+    command: &mut Command<'_>,
+    matches: &ArgMatches<'_>,
+    has_terminal: bool,
+) -> anyhow::Result<u8>
+    ensures { IfOk result (λ status. status ≤ 2) }
+{
     let Some((word, matches)) = matches.subcommand() else {
         return Ok(2);
     };
-    let kind = if word == "put" {
+    match job_of(kind_of(word), matches, has_terminal) {
+        Some(job) => Ok(run_job(rt, &job, matches.get_flag("verbose"))?),
+        None => report_address(rt, command),
+    }
+}
+
+/// What a subcommand asks of the server.
+fn kind_of(word: &str) -> Kind {
+    if word == "put" {
         Kind::Write
     } else {
         Kind::Read
-    };
-    let Some(job) = job_of(kind, matches, has_terminal) else {
-        let message = "invalid value for '<ADDR:PORT>': not an IPv4 address and a port";
-        let error = command.error(ErrorKind::InvalidValue, message)?;
-        return Ok(print_usage(rt, &error));
-    };
-    match transfer(rt, &job) {
-        Ok(count) => Ok(print_end(rt, ClientEnd::Complete(count))?),
-        Err(failure) => Ok(report(rt, &failure, matches.get_flag("verbose"))?),
+    }
+}
+
+/// Reports that the word for the server is no address.
+fn report_address<R: Runtime + AllocGlobal>(rt: &R, command: &mut Command<'_>) -> anyhow::Result<u8>
+    ensures { IfOk result (λ status. status ≤ 2) }
+{
+    let message = "invalid value for '<ADDR:PORT>': not an IPv4 address and a port";
+    let error = command.error(ErrorKind::InvalidValue, message)?;
+    Ok(print_usage(rt, &error))
+}
+
+/// Makes the transfer, prints how it ended, and returns the status.
+fn run_job<R: Runtime + AllocGlobal + Net>(
+    rt: &R,
+    job: &Job<'_>,
+    is_verbose: bool,
+) -> io::Result<u8>
+    ensures { IfOk result (λ status. status ≤ 2) }
+{
+    match transfer(rt, job) {
+        Ok(count) => print_end(rt, ClientEnd::Complete(count)),
+        Err(failure) => report(rt, &failure, is_verbose),
     }
 }
 

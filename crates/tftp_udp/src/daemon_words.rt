@@ -50,17 +50,45 @@ fn serve_words<'a, R: Runtime + AllocGlobal + Net, S: AsStr>(rt: &R, words: &'a 
     ensures { IfOk result (λ status. status ≤ 2) }
 {
     let texts = Texts::new(rt.alloc(), &Config::default())?;
-    let mut command = command(rt.alloc(), &texts)?;
-    let matches = match command.try_get_matches_from_mut(words) {
-        Ok(matches) => matches,
-        Err(error) => return Ok(print_usage(rt, &error)),
-    };
-    let Some(service) = service(&matches) else {
-        let message = "invalid value for '--listen <ADDR:PORT>': not an IPv4 address and a port";
-        let error = command.error(ErrorKind::InvalidValue, message)?;
-        return Ok(print_usage(rt, &error));
-    };
-    Ok(report(rt, serve(rt, &service))?)
+    let command = command(rt.alloc(), &texts)?;
+    run_command(rt, command, words)
+}
+
+/// Reads the words by what `tftpd` understands, and serves as they say.
+fn run_command<'a, R: Runtime + AllocGlobal + Net, S: AsStr>(
+    rt: &R,
+    mut command: Command<'a>,
+    words: &'a [S],
+) -> Result<u8>
+    ensures { IfOk result (λ status. status ≤ 2) }
+{
+    match command.try_get_matches_from_mut(words) {
+        Ok(matches) => run_matches(rt, &mut command, &matches),
+        Err(error) => Ok(print_usage(rt, &error)),
+    }
+}
+
+/// Serves as the words say that were understood.
+fn run_matches<R: Runtime + AllocGlobal + Net>(
+    rt: &R,
+    command: &mut Command<'_>,
+    matches: &ArgMatches<'_>,
+) -> Result<u8>
+    ensures { IfOk result (λ status. status ≤ 2) }
+{
+    match service(matches) {
+        Some(service) => Ok(report(rt, serve(rt, &service))?),
+        None => report_address(rt, command),
+    }
+}
+
+/// Reports that the word for the request port is no address.
+fn report_address<R: Runtime + AllocGlobal>(rt: &R, command: &mut Command<'_>) -> Result<u8>
+    ensures { IfOk result (λ status. status ≤ 2) }
+{
+    let message = "invalid value for '--listen <ADDR:PORT>': not an IPv4 address and a port";
+    let error = command.error(ErrorKind::InvalidValue, message)?;
+    Ok(print_usage(rt, &error))
 }
 
 /// Prints why the server ended, unless it was done, and returns the status.
