@@ -12,7 +12,7 @@ use Rattle.tftp_player.specs.Stage.{ends_of, world_of, StageDatagramStep, Datagr
 use Rattle.tftp_player.specs.Arriving.{ArrivalRefuses, StageAsks, StageArrives, StageRefuses}
 use Rattle.tftp_player.specs.World.{WorldState, OpenedEnd, StoredFile, is_closed, replied, report_of, no_report}
 use Rattle.tftp_player.specs.declared.datagram.Datagram.{Datagram}
-use Rattle.tftp_player.specs.WorldSteps.{Lands, LacksPort, EventRefuses, WorldRefuses, WorldStep}
+use Rattle.tftp_player.specs.WorldSteps.{Arrives, LacksPort, EventRefuses, WorldRefuses, WorldStep}
 use Rattle.tftp_player.specs.declared.event.Event.TheVariants.{Deliver}
 use Rattle.tftp_player.specs.declared.fault.WorldFault.{WorldFault}
 use Rattle.tftp_player.specs.declared.fault.WorldFault.TheVariants.{NoSuchDatagram, NoSuchEnd, NoPort, BadRequest, Memory}
@@ -20,8 +20,7 @@ use Rattle.tftp_player.specs.declared.effect.Effect.{Effect}
 use Rattle.tftp_player.specs.declared.player.Player.{Player}
 use Rattle.tftp_player.specs.declared.player.Player.TheVariants.{Client, Server}
 use Rattle.tftp_player.specs.declared.report.Report.{Report}
-use Rattle.tftp_player.proofs.PlayLemmas.{ends_length, ends_rest, said_is, report_is, address_is, none_here, list_get}
-use Rattle.tftp_player.proofs.Resting.{IsAtRest}
+use Rattle.tftp_player.proofs.PlayLemmas.{ends_length, said_is, report_is, address_is, none_here, list_get}
 use Rattle.tftp_player.proofs.StepLemmas.{HasPorts, turned_with, open_arrives, closed_arrives, none_arrives, other_arrives}
 
 -- each end has the port of its place
@@ -39,8 +38,8 @@ ports_from port held (p ∷ ps) (suc k) x e =
     let there : port + 1 + k ≡ port + suc k = omega arith in ports_from (port + 1) held ps k x e ∙ there
 
 -- what landed, where the report and the world are told otherwise
-landed : (w v v' : WorldState) (from to : Endpoint) (bytes : List ℕ) (r r' : Report) → r' ≡ r → v' ≡ v → Lands w from to bytes r v → Lands w from to bytes r' v'
-landed w v v' from to bytes r r' e f a = subst (λ (q : Report). Lands w from to bytes q v') (sym e) (subst (λ (u : WorldState). Lands w from to bytes r u) (sym f) a)
+landed : (w v v' : WorldState) (from to : Endpoint) (bytes : List ℕ) (r r' : Report) → r' ≡ r → v' ≡ v → Arrives w from to bytes r v → Arrives w from to bytes r' v'
+landed w v v' from to bytes r r' e f a = subst (λ (q : Report). Arrives w from to bytes q v') (sym e) (subst (λ (u : WorldState). Arrives w from to bytes r u) (sym f) a)
 
 module _ (from to : Endpoint) (bytes : List ℕ) (before after : PlayedServer) (ps ps' : List Player) (effect : Effect) (away : to ≢ request_port) (kept : AllKept 1024 before.held ps) where
   abbrev old : List Datagram → WorldState
@@ -54,9 +53,6 @@ module _ (from to : Endpoint) (bytes : List ℕ) (before after : PlayedServer) (
 
   abbrev Came : ℕ → OpenedEnd → Type 0
   Came place x = DatagramAt place x from bytes before.config.overwrite before.store.files after.store.files (ends_of before ps) (ends_of after ps') effect
-
-  rests : (sent : List Datagram) → IsAtRest (old sent)
-  rests sent = ends_rest 1024 before.held ps kept
 
   ports : (sent : List Datagram) → HasPorts (old sent)
   ports sent k x e = ports_from 1024 before.held ps k x e
@@ -79,19 +75,19 @@ module _ (from to : Endpoint) (bytes : List ℕ) (before after : PlayedServer) (
 
   pub step_arrives : (place : ℕ) → to.port ≡ 1024 + place → StageDatagramStep place from to bytes before after ps ps' effect → StageArrives from to bytes before after ps ps' effect
   step_arrives place port t sent = by_case t.comes where
-    by_case : ((t.end.address ≢ to) × Lost) ⊎ ((t.end.address ≡ to) × (((is_closed t.end ≡ true) × Lost) ⊎ Came place t.end)) → Lands (old sent) from to bytes (report_by sent effect) (new sent)
+    by_case : ((t.end.address ≢ to) × Lost) ⊎ ((t.end.address ≡ to) × (((is_closed t.end ≡ true) × Lost) ⊎ Came place t.end)) → Arrives (old sent) from to bytes (report_by sent effect) (new sent)
     by_case (inl (differs, lost)) =
         landed (old sent) (old sent) (new sent) from to bytes no_report (report_by sent effect) (lost_report sent lost) (still sent lost)
-        (other_arrives (old sent) from to bytes place t.end (rests sent) (ports sent) away t.found port differs)
+        (other_arrives (old sent) from to bytes place t.end (ports sent) away t.found port differs)
     by_case (inr (same, inl (closed, lost))) =
         landed (old sent) (old sent) (new sent) from to bytes no_report (report_by sent effect) (lost_report sent lost) (still sent lost)
-        (subst (λ (a : Endpoint). Lands (old sent) from a bytes no_report (old sent)) same (closed_arrives (old sent) place t.end from bytes (rests sent) t.found closed))
+        (subst (λ (a : Endpoint). Arrives (old sent) from a bytes no_report (old sent)) same (closed_arrives (old sent) place t.end from bytes t.found closed))
     by_case (inr (same, inr h)) =
         let v = turned_with (old sent) place t.end h.turn h.held after.store.files in
         landed (old sent) v (new sent) from to bytes (report_of (old sent) t.end h.turn) (report_by sent effect)
         (report_is (old sent) t.end h.turn effect h.turns.effects) (turned_as sent place t.end h)
-        (subst (λ (a : Endpoint). Lands (old sent) from a bytes (report_of (old sent) t.end h.turn) v) same
-        (open_arrives (old sent) place t.end from bytes h.turn h.held after.store.files (rests sent) t.found h.open_now h.steps h.commits))
+        (subst (λ (a : Endpoint). Arrives (old sent) from a bytes (report_of (old sent) t.end h.turn) v) same
+        (open_arrives (old sent) place t.end from bytes h.turn h.held after.store.files t.found h.open_now h.steps h.commits))
 
   pub nobody_arrives : (count : ℕ) → count ≡ length ps → (to.port < 1024) ⊎ (1024 + count ≤ to.port) → after ≡ before → ps' ≡ ps → effect ≡ no_effect to → StageArrives from to bytes before after ps ps' effect
   nobody_arrives count counts none e f nothing sent =
@@ -101,7 +97,7 @@ module _ (from to : Endpoint) (bytes : List ℕ) (before after : PlayedServer) (
         stays = ap (λ (v : PlayedServer). v.store.files) e;
       } in
       landed (old sent) (old sent) (new sent) from to bytes no_report (report_by sent effect) (lost_report sent lost) (still sent lost)
-      (none_arrives (old sent) from to bytes (rests sent) (ports sent) away (none_here before ps count to.port counts none))
+      (none_arrives (old sent) from to bytes (ports sent) away (none_here before ps count to.port counts none))
 
 pub asks_arrive : (from to : Endpoint) (bytes : List ℕ) (before after : PlayedServer) (ps ps' : List Player) (effect : Effect) → to ≡ request_port → StageAsks from bytes before after ps ps' effect → StageArrives from to bytes before after ps ps' effect
 asks_arrive from to bytes before after ps ps' effect e a = subst (λ (there : Endpoint). StageArrives from there bytes before after ps ps' effect) (sym e) a
@@ -110,12 +106,12 @@ asks_arrive from to bytes before after ps ps' effect e a = subst (λ (there : En
 pub arrives_told : (config : Config) (sent : List Datagram) (from to : Endpoint) (bytes : List ℕ) (before after : PlayedServer) (ps ps' : List Player) (effect : Effect) (old : WorldState) (sent0 sent1 : List Datagram) (report : Report) →
     before.config ≡ config → world_of config sent before ps ≡ old → StageArrives from to bytes before after ps ps' effect →
     sent0 ≡ sent → sent1 ≡ sent0 ++ said_by effect.from effect.to effect.bytes → report ≡ report_by sent0 effect →
-    Lands old from to bytes report (world_of config sent1 after ps')
+    Arrives old from to bytes report (world_of config sent1 after ps')
 arrives_told config sent from to bytes before after ps ps' effect old sent0 sent1 report set view a same more tells =
-    subst (λ (w : WorldState). Lands w from to bytes report (world_of config sent1 after ps')) view
-    (subst (λ (k : Config). Lands (world_of k sent before ps) from to bytes report (world_of k sent1 after ps')) set
-    (subst (λ (r : Report). Lands (world_of before.config sent before ps) from to bytes r (world_of before.config sent1 after ps')) (sym (tells ∙ ap (λ (ds : List Datagram). report_by ds effect) same))
-    (subst (λ (ds : List Datagram). Lands (world_of before.config sent before ps) from to bytes (report_by sent effect) (world_of before.config ds after ps')) (sym (more ∙ ap (λ (ds : List Datagram). ds ++ said_by effect.from effect.to effect.bytes) same)) (a sent))))
+    subst (λ (w : WorldState). Arrives w from to bytes report (world_of config sent1 after ps')) view
+    (subst (λ (k : Config). Arrives (world_of k sent before ps) from to bytes report (world_of k sent1 after ps')) set
+    (subst (λ (r : Report). Arrives (world_of before.config sent before ps) from to bytes r (world_of before.config sent1 after ps')) (sym (tells ∙ ap (λ (ds : List Datagram). report_by ds effect) same))
+    (subst (λ (ds : List Datagram). Arrives (world_of before.config sent before ps) from to bytes (report_by sent effect) (world_of before.config ds after ps')) (sym (more ∙ ap (λ (ds : List Datagram). ds ++ said_by effect.from effect.to effect.bytes) same)) (a sent))))
 
 pub delivers_told : (config : Config) (sent : List Datagram) (i : ℕ) (d : Datagram) (bytes : List ℕ) (before after : PlayedServer) (ps ps' : List Player) (effect : Effect) (old : WorldState) (sent0 sent1 : List Datagram) (report : Report) →
     i < length sent0 → d ≡ slice_index_or sent0 i d → bytes ≡ d.bytes → before.config ≡ config → world_of config sent before ps ≡ old → StageArrives d.from d.to bytes before after ps ps' effect →
@@ -124,7 +120,7 @@ pub delivers_told : (config : Config) (sent : List Datagram) (i : ℕ) (d : Data
 delivers_told config sent i d bytes before after ps ps' effect old sent0 sent1 report within reads own set view a same more tells =
     let there = subst (λ (w : WorldState). slice_get w.sent i ≡ Some d) view (subst (λ (ds : List Datagram). slice_get ds i ≡ Some d) same (list_get sent0 i d within reads)) in
     let l = arrives_told config sent d.from d.to d.bytes before after ps ps' effect old sent0 sent1 report set view (subst (λ (bs : List ℕ). StageArrives d.from d.to bs before after ps ps' effect) own a) same more tells in
-    (l.0, (d, there, l.1), l.2)
+    (d, there, l)
 
 -- and why an arrival is refused
 pub arrival_refused : (config : Config) (sent : List Datagram) (to : Endpoint) (before : PlayedServer) (ps : List Player) (old : WorldState) (fault : WorldFault) → world_of config sent before ps ≡ old → StageRefuses to ps fault → ArrivalRefuses old to fault

@@ -26,7 +26,7 @@ use Rattle.tftp_player.specs.Requests.{IsRepeated, open_transfers, served, servi
 use Rattle.tftp_player.specs.Serving.{PlayedServer, ServedKept, Transfer}
 use Rattle.tftp_player.specs.Stage.{IsOwned, IsRising, IsStaged, ends_of, world_of}
 use Rattle.tftp_player.specs.World.{WorldState, OpenedEnd, is_closed, datagram, next_port, no_report, said_in, opened_in, sent_report}
-use Rattle.tftp_player.specs.WorldSteps.{At_request_port, HasPort, Lands}
+use Rattle.tftp_player.specs.WorldSteps.{At_request_port, HasPort, Arrives}
 use Rattle.tftp_player.specs.declared.datagram.Datagram.{Datagram}
 use Rattle.tftp_player.specs.declared.effect.Effect.{Effect}
 use Rattle.tftp_player.specs.declared.player.Player.{Player}
@@ -38,10 +38,9 @@ use Rattle.tftp_player.proofs.OpenedLemmas.{ends_push, records_push}
 use Rattle.tftp_player.proofs.OwnedLemmas.{AllOwned, pushed_owned}
 use Rattle.tftp_player.proofs.PlacedEnds.{told-same, kept-push, is_transfer, transfers-push}
 use Rattle.tftp_player.proofs.Places.{slice_get-push_new}
-use Rattle.tftp_player.proofs.PlayLemmas.{ends_length, ends_rest, to_kept, from_kept}
+use Rattle.tftp_player.proofs.PlayLemmas.{ends_length, to_kept, from_kept}
 use Rattle.tftp_player.proofs.PortLemmas.{OpensFor, PortOpened, PortRefused, PortSilent, opens_asks, port_opened, port_not_opened, service_opens}
 use Rattle.tftp_player.proofs.RepeatedLemmas.{repeated_is}
-use Rattle.tftp_player.proofs.Resting.{resting_same, resting_opened}
 use Rattle.tftp_player.proofs.ServerLemmas.{says_something, says_one, IsServerOf, PortAsking, PortLeft, PortDid, request_did}
 use Rattle.tftp_player.proofs.StageLemmas.{by_port, kept_by_port}
 
@@ -113,22 +112,18 @@ module _ (from : Endpoint) (bytes : List ℕ) (before : PlayedServer) (ps : List
           let new : world_of before.config (sent ++ said_by request_port opened.to out) after ps ≡ said_in (w sent) d =
           ap (λ (to : Option Endpoint). world_of before.config (sent ++ said_by request_port to out) after ps) refused.to
           ∙ ap (λ (v : PlayedServer). world_of before.config (sent ++ d ∷ []) v ps) refused.new in
-          subst (λ (r : Report). Lands (w sent) from request_port bytes r (world_of before.config (sent ++ said_by request_port opened.to out) after ps)) (sym report) (
-            said_in (w sent) d,
-            At_request_port refl (has sent) said.0 said.1 h.repeated (in_the_world result h sent) refused.serves,
-            new ∙ sym (resting_same (said_in (w sent) d) (ends_rest 1024 before.held ps staged.kept)),
-          )
+          subst (λ (r : Report). Arrives (w sent) from request_port bytes r (world_of before.config (sent ++ said_by request_port opened.to out) after ps)) (sym report)
+          (subst (λ (v : WorldState). Arrives (w sent) from request_port bytes (sent_report (w sent)) v) (sym new)
+          (At_request_port refl (has sent) said.0 said.1 h.repeated (in_the_world result h sent) refused.serves))
       | inr quiet ↦
           let report : report_by sent effect ≡ no_report = ap (λ (to : Option Endpoint). report_by sent (record effect { to = to })) quiet.to in
           let new : world_of before.config (sent ++ said_by request_port opened.to out) after ps ≡ w sent =
           ap (λ (to : Option Endpoint). world_of before.config (sent ++ said_by request_port to out) after ps) quiet.to
           ∙ (ap (λ (ds : List Datagram). world_of before.config ds after ps) (append-nil sent)
           ∙ ap (λ (v : PlayedServer). world_of before.config sent v ps) quiet.new) in
-          subst (λ (r : Report). Lands (w sent) from request_port bytes r (world_of before.config (sent ++ said_by request_port opened.to out) after ps)) (sym report) (
-            w sent,
-            At_request_port refl (has sent) said.0 said.1 h.repeated (in_the_world result h sent) quiet.serves,
-            new ∙ sym (resting_same (w sent) (ends_rest 1024 before.held ps staged.kept)),
-          )
+          subst (λ (r : Report). Arrives (w sent) from request_port bytes r (world_of before.config (sent ++ said_by request_port opened.to out) after ps)) (sym report)
+          (subst (λ (v : WorldState). Arrives (w sent) from request_port bytes no_report v) (sym new)
+          (At_request_port refl (has sent) said.0 said.1 h.repeated (in_the_world result h sent) quiet.serves))
     ]
 
     -- as it is told
@@ -307,8 +302,6 @@ module _ (from : Endpoint) (bytes : List ℕ) (before : PlayedServer) (ps : List
         ∙ (ap (λ (s : Stored). record (world_of before.config (sent ++ d ∷ []) after ps1) { files = s.files }) (ap (λ (s : PlayedServer). s.store) (q sent).new)
         ∙ (ap (λ (qs : List Player). record (w sent) { sent = sent ++ d ∷ []; ends = ends_of after qs }) players
         ∙ ap (λ (xs : List OpenedEnd). record (w sent) { sent = sent ++ d ∷ []; ends = xs }) (ends_now sent))))) in
-        subst (λ (r : Report). Lands (w sent) from request_port bytes r (world_of before.config (sent ++ said_by here opened.to given) after ps1)) (sym report) (
-          opened_in (w sent) (x sent),
-          At_request_port refl (has sent) said.0 said.1 h.repeated (in_the_world result' h sent) (q sent).serves,
-          new ∙ sym (resting_opened (w sent) (x sent) (ends_rest 1024 before.held ps staged.kept) new_end.still),
-        )
+        subst (λ (r : Report). Arrives (w sent) from request_port bytes r (world_of before.config (sent ++ said_by here opened.to given) after ps1)) (sym report)
+        (subst (λ (v : WorldState). Arrives (w sent) from request_port bytes (sent_report (w sent)) v) (sym new)
+        (At_request_port refl (has sent) said.0 said.1 h.repeated (in_the_world result' h sent) (q sent).serves))

@@ -8,7 +8,7 @@ use Rattle.tftp_server.specs.Port.{Service, Silent, Refused, Sends, Takes}
 use Rattle.tftp_player.specs.Machine.{Endpoint}
 use Rattle.tftp_player.specs.OneAtMost.{AddsOneAtMost, EventsAddOneAtMost}
 use Rattle.tftp_player.specs.World.{WorldState, OpenedEnd, replied}
-use Rattle.tftp_player.specs.WorldSteps.{Serves, Arrives, At_request_port, At_open_end, At_closed_end, At_nobody, Opens, Stays, Turns, TimesOut, EventStep}
+use Rattle.tftp_player.specs.WorldSteps.{Serves, Arrives, At_request_port, At_open_end, At_closed_end, At_nobody, Opens, Stays, Turns, TimesOut, WorldStep}
 use Rattle.tftp_player.specs.declared.event.Event.{Event}
 use Rattle.tftp_player.specs.declared.event.Event.TheVariants.{Get, Put, Deliver, Timeout, RefuseStore, Stray}
 use Rattle.tftp_player.specs.declared.report.Report.{Report}
@@ -56,15 +56,10 @@ times_out : (b : Bool) (old new : WorldState) (k : ℕ) (x : OpenedEnd) (report 
 times_out true old new k x report s = stays old new report s
 times_out false old new k x report t = turns old new k x _ _ report t
 
-happens : (old new : WorldState) (event : Event) (report : Report) → EventStep old event report new → AddsOneAtMost old new
-happens old new (Get name mode asked) report s = opens old new _ report s.2
-happens old new (Put name mode asked bytes) report s = opens old new _ report s.2
-happens old new (Deliver i) report s = arrives old new _ _ _ report s.2
-happens old new (Timeout port) report s = times_out _ old new _ _ report s.3
-happens old new (RefuseStore port) report s = none old new (ap (λ (w : WorldState). w.sent) s.4)
-happens old new (Stray from to bytes) report s = arrives old new _ _ _ report s.1
-
 pub events_add_one_at_most : EventsAddOneAtMost
-events_add_one_at_most old new event report s =
-    let a = happens old s.0 event report s.1 in
-    record { said = a.said; few = a.few; sent = ap (λ (w : WorldState). w.sent) s.2 ∙ a.sent }
+events_add_one_at_most old new (Get name mode asked) report s = opens old new _ report s.2
+events_add_one_at_most old new (Put name mode asked bytes) report s = opens old new _ report s.2
+events_add_one_at_most old new (Deliver i) report s = arrives old new _ _ _ report s.2
+events_add_one_at_most old new (Timeout port) report s = times_out _ old new _ _ report s.3
+events_add_one_at_most old new (RefuseStore port) report s = none old new (ap (λ (w : WorldState). w.sent) s.4)
+events_add_one_at_most old new (Stray from to bytes) report s = arrives old new _ _ _ report s.1

@@ -34,8 +34,8 @@ use Rattle.tftp_player.proofs.ClientLemmas.{getting_client, putting_client, read
 use Rattle.tftp_player.proofs.HeldLemmas.{AreBelow, AreBelow-more}
 use Rattle.tftp_player.proofs.OwnedLemmas.{pushed_owned}
 use Rattle.tftp_player.proofs.PlacedEnds.{told-push, kept-push, is_transfer-rest, transfers-push_other}
-use Rattle.tftp_player.proofs.PlayLemmas.{ends_length, to_kept, from_kept, ends_rest}
-use Rattle.tftp_player.proofs.Resting.{IsAtRest, at_rest_record}
+use Rattle.tftp_player.proofs.PlayLemmas.{ends_length, to_kept, from_kept}
+use Rattle.tftp_player.proofs.Resting.{at_rest_record}
 use Rattle.tftp_player.proofs.StageLemmas.{kept_by_port, no_transfer}
 use Rattle.tftp_player.proofs.StepLemmas.{get_step, put_step}
 
@@ -125,9 +125,6 @@ opens_so w event c effect port report new x is effects e step =
 module _ (config : Config) (sent : List Datagram) (server : PlayedServer) (ps : List Player) (records : List (ℕ × Record)) (old : WorldState)
     (view : world_of config sent server ps ≡ old) (staged : IsStaged server ps records) (name : List ℕ) (mode : Mode) (asked : Asked) (c : PlayedClient) (effect : Effect) (port : ℕ)
     (at : port ≡ next_port old) (fits : port < 65536) (report : Report) (new : WorldState) where
-  is_at_rest : IsAtRest old
-  is_at_rest = subst IsAtRest view (ends_rest 1024 server.held ps staged.kept)
-
   has : HasPort old
   has = let p = at in omega (arith, p, fits)
 
@@ -142,7 +139,7 @@ module _ (config : Config) (sent : List Datagram) (server : PlayedServer) (ps : 
       ap (λ (k : PlayedClient). at_rest (client_end port k)) own
       ∙ (ap (λ (n : ℕ). getting_client n name mode asked old.limits.max_file old.retries) at ∙ sym (reading_is old name mode asked)) in
       opens_so old (Get name mode asked) c effect port report new x is (effects ∙ ap (λ (n : ℕ). asking_effect n name mode asked) at) e
-      (get_step old name mode asked is_at_rest has can)
+      (get_step old name mode asked has can)
 
   -- a client asked to write
   pub has_put : (file : List ℕ) → MayPut name mode asked (length (wire_text mode file)) →
@@ -157,7 +154,7 @@ module _ (config : Config) (sent : List Datagram) (server : PlayedServer) (ps : 
       ap (λ (k : PlayedClient). at_rest (client_end port k)) own
       ∙ (ap (λ (n : ℕ). putting_client n name mode asked file old.limits.max_file old.retries) at ∙ sym (writing_is old name mode asked file)) in
       opens_so old (Put name mode asked file) c effect port report new x is (effects ∙ ap (λ (n : ℕ). sending_effect n name mode asked) at) e
-      (put_step old name mode asked file is_at_rest has can)
+      (put_step old name mode asked file has can)
 
 pub no_port : (config : Config) (sent : List Datagram) (server : PlayedServer) (ps : List Player) (old : WorldState) (count : ℕ) → world_of config sent server ps ≡ old → count ≡ length ps → 65535 < 1024 + count → 65535 < next_port old
 no_port config sent server ps old count view e h =

@@ -29,7 +29,6 @@ use Rattle.tftp_player.specs.World.{WorldState, OpenedEnd, StoredFile, new_world
 use Rattle.tftp_player.specs.WorldSteps.{Serves, At_request_port, WorldStep}
 use Rattle.tftp_player.specs.declared.datagram.Datagram.{Datagram}
 use Rattle.tftp_player.specs.declared.event.Event.TheVariants.{Get, Deliver}
-use Rattle.tftp_player.proofs.Resting.{resting_opened}
 use Rattle.tftp_player.proofs.StepLemmas.{get_step}
 use Rattle.tftp_player.proofs.WorldRuns.{new_ok}
 use Rattle.tftp_player.proofs.Witness.{bytes_below, first_request, takes}
@@ -127,7 +126,7 @@ read_8 : number_of (56 ∷ []) ≡ Some 8
 read_8 = subst (λ (text : List ℕ). number_of text ≡ Some 8) eight ((numbers_are_printed (decimal 8) 8).1 (refl, omega arith))
 
 asks : WorldStep w0 (Get name Octet blocks_of_8) (sent_report w0) w1
-asks = get_step w0 name Octet blocks_of_8 refl (omega arith) (record { valid = rw eight (search rules); options = search rules })
+asks = get_step w0 name Octet blocks_of_8 (omega arith) (record { valid = rw eight (search rules); options = search rules })
 
 request_spelled : Decodes d0.bytes (Some (packet_in d0.bytes))
 request_spelled = fault_where_nothing d0.bytes (bytes_below d0.bytes (rw eight refl)) (rw eight refl)
@@ -137,22 +136,18 @@ unfolding places_of name_of answered_option
 request_served = rw (eight, read_8) (file, refl, record { tells = refl; is = rw eight refl })
 
 opens : WorldStep w1 (Deliver 0) (sent_report w1) w2
-opens = (
-  w2,
-  (d0, refl, At_request_port refl (omega arith) (Some (packet_in d0.bytes)) request_spelled false (first_request client.address (packet_in d0.bytes) client refl) request_served),
-  sym (resting_opened w1 server refl refl),
-)
+opens = (d0, refl, At_request_port refl (omega arith) (Some (packet_in d0.bytes)) request_spelled false (first_request client.address (packet_in d0.bytes) client refl) request_served)
 
 oack_spelled : Decodes d1.bytes (Some (packet_in d1.bytes))
 oack_spelled = fault_where_nothing d1.bytes (bytes_below d1.bytes (rw eight refl)) (rw eight refl)
 
 accepts : WorldStep w2 (Deliver 1) (report_of w2 client turn3) w3
 unfolding places_of name_of taken_option
-accepts = takes w2 1 0 d1 client turn3 (Sink empty) files refl refl refl refl refl
+accepts = takes w2 1 0 d1 client turn3 (Sink empty) files refl refl refl refl
     (record { decoded = Some (packet_in d1.bytes); says = oack_spelled; acts = rw (eight, read_8) (refl, refl) }) refl
 
 sends : WorldStep w3 (Deliver 2) (report_of w3 server turn4) w4
-sends = takes w3 2 1 d2 server turn4 (Source []) files refl refl refl refl refl
+sends = takes w3 2 1 d2 server turn4 (Source []) files refl refl refl refl
     (record {
       decoded = Some (packet_in d2.bytes);
       says = fault_where_nothing d2.bytes (bytes_below d2.bytes refl) refl;
@@ -165,7 +160,7 @@ sends = takes w3 2 1 d2 server turn4 (Source []) files refl refl refl refl refl
     }) refl
 
 stores : WorldStep w4 (Deliver 3) (report_of w4 receiving turn5) w5
-stores = takes w4 3 0 d3 receiving turn5 (Sink stored) files refl refl refl refl refl
+stores = takes w4 3 0 d3 receiving turn5 (Sink stored) files refl refl refl refl
     (record {
       decoded = Some (packet_in d3.bytes);
       says = fault_where_nothing d3.bytes (bytes_below d3.bytes refl) refl;
@@ -182,7 +177,7 @@ stores = takes w4 3 0 d3 receiving turn5 (Sink stored) files refl refl refl refl
     }) refl
 
 completes : WorldStep w5 (Deliver 4) (report_of w5 sending turn6) w6
-completes = takes w5 4 1 d4 sending turn6 (Source []) files refl refl refl refl refl
+completes = takes w5 4 1 d4 sending turn6 (Source []) files refl refl refl refl
     (record { decoded = Some (packet_in d4.bytes); says = fault_where_nothing d4.bytes (bytes_below d4.bytes refl) refl; acts = (refl, refl) }) refl
 
 pub options_transfer : Transfers (Get name Octet blocks_of_8) file

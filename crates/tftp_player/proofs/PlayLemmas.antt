@@ -40,7 +40,7 @@ use Rattle.tftp_server.specs.Steps.{with_end}
 use Rattle.tftp_server.specs.Store.{Stored, Drafted}
 use Rattle.tftp_player.specs.declared.report.Report.{Report}
 use Rattle.tftp_player.proofs.PlacedEnds.{told-length, told-get, told-set, Kept_from, kept-get, kept-set, is_transfer, transfers-set, transfers-close}
-use Rattle.tftp_player.proofs.Resting.{IsAtRest, at_rest_open, at_rest_twice, at_rest_closed}
+use Rattle.tftp_player.proofs.Resting.{at_rest_closed}
 use Rattle.tftp_player.proofs.StageLemmas.{by_port, kept_by_port, Stepped, same_kind, client_steps, client_at_rest, held_end, held_files, served_steps, served_is, served_kept, served_files, same_transfer, same_draft_kind, same_told}
 use Rattle.tftp_player.proofs.StepLemmas.{turned, timeout_step, timeout_rests}
 
@@ -214,24 +214,6 @@ stage_rests place server ps p effect e closed is =
     }
 
 -- ---- the world
-peers_rest : (r : Record) (o : Option Endpoint) → option_map rest_terms (recorded_terms r o) ≡ recorded_terms r o
-peers_rest r None = refl
-peers_rest r (Some peer) = refl
-
-served_rests : (port : ℕ) (s : Served) (held : List (ℕ × Transfer)) (o : Option Record) → IsServed port s o held → at_rest (served_end port s o (at port held)) ≡ served_end port s o (at port held)
-served_rests port s held (Some r) k =
-    let e : EndState = closed_state s.mode r (ended_as r.outcome) in
-    ap (λ (terms : Option Terms). served_as port s (with_progress (record e.progress { phase = Closed terms r.number r.complete (ended_as r.outcome) }) e) [] s.draft []) (peers_rest r r.peer)
-served_rests port s held None k = subst (λ (h : Option Transfer). at_rest (served_end port s None h) ≡ served_end port s None h) (sym k.found) (at_rest_open (served_end port s None (Some k.transfer)) k.is_open)
-
-pub ends_rest : (port : ℕ) (held : List (ℕ × Transfer)) (ps : List Player) → AllKept port held ps → map at_rest (ends_from port held ps) ≡ ends_from port held ps
-ends_rest port held [] k = refl
-ends_rest port held (p ∷ ps) k =
-    ap (λ (x : OpenedEnd). x ∷ map at_rest (ends_from (port + 1) held ps)) (one p k.0) ∙ ap (λ (xs : List OpenedEnd). end_at port held p ∷ xs) (ends_rest (port + 1) held ps k.1) where
-      one : (q : Player) → PlayerKept port held q → at_rest (end_at port held q) ≡ end_at port held q
-      one (Client c) h = at_rest_twice (client_end port c)
-      one (Server s) h = served_rests port s held s.ended h
-
 -- what goes out is the world's datagram, and what is reported its report
 pub said_is : (at : Endpoint) (reply : Option Reply) → said_by at (option_map (λ (q : Reply). q.to) reply) (reply_bytes reply) ≡ replied at reply
 said_is at None = refl
@@ -246,10 +228,10 @@ report_is w x turn effect e =
     ap (report_by w.sent) e ∙ ap (λ (a : Option ℕ). record { added = a; closed = closed_at x.address (outcome_of turn.progress.phase) }) (placed_is w turn.reply)
 
 timed_by : (b : Bool) (config : Config) (sent : List Datagram) (place : ℕ) (before after : PlayedServer) (ps ps' : List Player) (effect : Effect) (port : ℕ) (x : OpenedEnd) →
-    IsAtRest (world_of config sent before ps) → IsAtPort (world_of config sent before ps) port place x → is_closed x ≡ b →
+    IsAtPort (world_of config sent before ps) port place x → is_closed x ≡ b →
     after.store ≡ before.store → EndTimesOut b place x (ends_of before ps) (ends_of after ps') effect →
     WorldStep (world_of config sent before ps) (Timeout port) (report_by sent effect) (world_of config (sent ++ said_by effect.from effect.to effect.bytes) after ps')
-timed_by true config sent place before after ps ps' effect port x rest at closed store t =
+timed_by true config sent place before after ps ps' effect port x at closed store t =
     let w = world_of config sent before ps in
     let report : report_by sent effect ≡ no_report = ap (report_by sent) t.effects in
     let same : world_of config (sent ++ said_by effect.from effect.to effect.bytes) after ps' ≡ w =
@@ -257,8 +239,8 @@ timed_by true config sent place before after ps ps' effect port x rest at closed
     ∙ (ap (λ (ds : List Datagram). world_of config ds after ps') (append-nil sent)
     ∙ (ap (λ (s : Stored). record w { files = s.files; ends = ends_of after ps' }) store ∙ ap (λ (xs : List OpenedEnd). record w { ends = xs }) t.next)) in
     subst (λ (r : Report). WorldStep w (Timeout port) r (world_of config (sent ++ said_by effect.from effect.to effect.bytes) after ps')) (sym report)
-    (subst (λ (v : WorldState). WorldStep w (Timeout port) no_report v) (sym same) (timeout_rests w port place x rest at closed))
-timed_by false config sent place before after ps ps' effect port x rest at open_now store t =
+    (subst (λ (v : WorldState). WorldStep w (Timeout port) no_report v) (sym same) (timeout_rests w port place x at closed))
+timed_by false config sent place before after ps ps' effect port x at open_now store t =
     let w = world_of config sent before ps in
     let turn = timeout_turn x.state in
     let same : world_of config (sent ++ said_by effect.from effect.to effect.bytes) after ps' ≡ turned w place x turn (files_of x) =
@@ -267,13 +249,13 @@ timed_by false config sent place before after ps ps' effect port x rest at open_
     ∙ (ap (λ (s : Stored). record w { sent = sent ++ replied x.address turn.reply; files = s.files; ends = ends_of after ps' }) store
     ∙ ap (λ (xs : List OpenedEnd). record w { sent = sent ++ replied x.address turn.reply; ends = xs }) t.next)) in
     subst (λ (r : Report). WorldStep w (Timeout port) r (world_of config (sent ++ said_by effect.from effect.to effect.bytes) after ps')) (sym (report_is w x turn effect t.effects))
-    (subst (λ (v : WorldState). WorldStep w (Timeout port) (report_of w x turn) v) (sym same) (timeout_step w port place x rest at open_now))
+    (subst (λ (v : WorldState). WorldStep w (Timeout port) (report_of w x turn) v) (sym same) (timeout_step w port place x at open_now))
 
 pub world_timed_out : (config : Config) (sent : List Datagram) (place : ℕ) (before after : PlayedServer) (ps ps' : List Player) (effect : Effect) (port : ℕ) → port ≡ 1024 + place →
-    AllKept 1024 before.held ps → StageTimeoutStep place before after ps ps' effect →
+    StageTimeoutStep place before after ps ps' effect →
     WorldStep (world_of config sent before ps) (Timeout port) (report_by sent effect) (world_of config (sent ++ said_by effect.from effect.to effect.bytes) after ps')
-world_timed_out config sent place before after ps ps' effect port is kept t =
-    timed_by (is_closed t.end) config sent place before after ps ps' effect port t.end (ends_rest 1024 before.held ps kept) (record { is = is; there = t.found }) refl t.same.store t.times_out
+world_timed_out config sent place before after ps ps' effect port is t =
+    timed_by (is_closed t.end) config sent place before after ps ps' effect port t.end (record { is = is; there = t.found }) refl t.same.store t.times_out
 
 -- what an index reads
 pub list_get : {A : Type 0} (xs : List A) (k : ℕ) (x : A) → k < length xs → x ≡ slice_index_or xs k x → slice_get xs k ≡ Some x
@@ -344,14 +326,14 @@ module _ (server : PlayedServer) (ps : List Player) (records : List (ℕ × Reco
 
 -- the same, where what was sent is told by equations
 pub timeout_result : (config : Config) (sent : List Datagram) (place : ℕ) (before after : PlayedServer) (ps ps' : List Player) (effect : Effect) (port : ℕ) (old : WorldState) (sent0 sent1 : List Datagram) (report : Report) →
-    world_of config sent before ps ≡ old → port ≡ 1024 + place → AllKept 1024 before.held ps → StageTimeoutStep place before after ps ps' effect →
+    world_of config sent before ps ≡ old → port ≡ 1024 + place → StageTimeoutStep place before after ps ps' effect →
     sent0 ≡ sent → sent1 ≡ sent0 ++ said_by effect.from effect.to effect.bytes → report ≡ report_by sent0 effect →
     WorldStep old (Timeout port) report (world_of config sent1 after ps')
-timeout_result config sent place before after ps ps' effect port old sent0 sent1 report view is kept t same more tells =
+timeout_result config sent place before after ps ps' effect port old sent0 sent1 report view is t same more tells =
     subst (λ (w : WorldState). WorldStep w (Timeout port) report (world_of config sent1 after ps')) view
     (subst (λ (r : Report). WorldStep (world_of config sent before ps) (Timeout port) r (world_of config sent1 after ps')) (sym (tells ∙ ap (λ (ds : List Datagram). report_by ds effect) same))
     (subst (λ (ds : List Datagram). WorldStep (world_of config sent before ps) (Timeout port) (report_by sent effect) (world_of config ds after ps')) (sym (more ∙ ap (λ (ds : List Datagram). ds ++ said_by effect.from effect.to effect.bytes) same))
-    (world_timed_out config sent place before after ps ps' effect port is kept t)))
+    (world_timed_out config sent place before after ps ps' effect port is t)))
 
 pub none_here : (server : PlayedServer) (ps : List Player) (count port : ℕ) → count ≡ length ps → (port < 1024) ⊎ (1024 + count ≤ port) → (port < 1024) ⊎ (1024 + length (ends_of server ps) ≤ port)
 none_here server ps count port e (inl low) = inl low

@@ -18,7 +18,6 @@ use Rattle.tftp_player.specs.World.{WorldState, OpenedEnd, StoredFile, new_world
 use Rattle.tftp_player.specs.WorldSteps.{At_request_port, WorldStep}
 use Rattle.tftp_player.specs.declared.datagram.Datagram.{Datagram}
 use Rattle.tftp_player.specs.declared.event.Event.TheVariants.{Get, Deliver}
-use Rattle.tftp_player.proofs.Resting.{resting_opened}
 use Rattle.tftp_player.proofs.StepLemmas.{get_step}
 use Rattle.tftp_player.proofs.WorldRuns.{new_ok}
 use Rattle.tftp_player.proofs.Witness.{bytes_below, first_request, takes}
@@ -79,18 +78,14 @@ abbrev w4 : WorldState
 w4 = record w3 { ends = slice_set w3.ends 1 (at_rest (end_after server turn4 (Source []))) }
 
 asks : WorldStep w0 (Get name Octet nothing_asked) (sent_report w0) w1
-asks = get_step w0 name Octet nothing_asked refl (omega arith) (record { valid = search rules; options = search rules })
+asks = get_step w0 name Octet nothing_asked (omega arith) (record { valid = search rules; options = search rules })
 
 opens : WorldStep w1 (Deliver 0) (sent_report w1) w2
 unfolding places_of
-opens = (
-  w2,
-  (d0, refl, At_request_port refl (omega arith) (Some (packet_in d0.bytes)) (fault_where_nothing d0.bytes (bytes_below d0.bytes refl) refl) false (first_request client.address (packet_in d0.bytes) client refl) (file, refl, record { tells = refl; is = refl })),
-  sym (resting_opened w1 server refl refl),
-)
+opens = (d0, refl, At_request_port refl (omega arith) (Some (packet_in d0.bytes)) (fault_where_nothing d0.bytes (bytes_below d0.bytes refl) refl) false (first_request client.address (packet_in d0.bytes) client refl) (file, refl, record { tells = refl; is = refl }))
 
 stores : WorldStep w2 (Deliver 1) (report_of w2 client turn3) w3
-stores = takes w2 1 0 d1 client turn3 (Sink held3) files refl refl refl refl refl
+stores = takes w2 1 0 d1 client turn3 (Sink held3) files refl refl refl refl
     (record {
       decoded = Some (packet_in d1.bytes);
       says = fault_where_nothing d1.bytes (bytes_below d1.bytes refl) refl;
@@ -107,7 +102,7 @@ stores = takes w2 1 0 d1 client turn3 (Sink held3) files refl refl refl refl ref
     }) refl
 
 completes : WorldStep w3 (Deliver 2) (report_of w3 server turn4) w4
-completes = takes w3 2 1 d2 server turn4 (Source []) files refl refl refl refl refl
+completes = takes w3 2 1 d2 server turn4 (Source []) files refl refl refl refl
     (record { decoded = Some (packet_in d2.bytes); says = fault_where_nothing d2.bytes (bytes_below d2.bytes refl) refl; acts = (refl, refl) }) refl
 
 pub read_transfers : Transfers (Get name Octet nothing_asked) file

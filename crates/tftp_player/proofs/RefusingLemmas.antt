@@ -29,7 +29,7 @@ use Rattle.tftp_player.specs.declared.player.Player.TheVariants.{Client, Server}
 use Rattle.tftp_player.specs.declared.served.Served.{Served}
 use Rattle.tftp_player.proofs.OwnedLemmas.{AllOwned, client_owned, same_owned}
 use Rattle.tftp_player.proofs.PlacedEnds.{told-set, kept-set, is_transfer, transfers-set}
-use Rattle.tftp_player.proofs.PlayLemmas.{ends_get, kept_at, list_get, to_kept, from_kept, ends_rest, records_get, records_set}
+use Rattle.tftp_player.proofs.PlayLemmas.{ends_get, kept_at, list_get, to_kept, from_kept, records_get, records_set}
 use Rattle.tftp_player.proofs.Resting.{at_rest_open, at_rest_closed}
 use Rattle.tftp_player.proofs.StageLemmas.{by_port, kept_by_port}
 use Rattle.tftp_player.proofs.StepLemmas.{refuse_step}
@@ -182,4 +182,4 @@ module _ (config : Config) (sent : List Datagram) (server : PlayedServer) (ps : 
       let w = world_of config sent server ps in
       subst (λ (v : WorldState). WorldStep v (RefuseStore port) no_report (world_of config sent server (slice_set ps place q))) view
       (subst (λ (v : WorldState). WorldStep w (RefuseStore port) no_report v) (sym (ap (λ (xs : List OpenedEnd). record w { ends = xs }) new_ends))
-      (refuse_step w port place x (ends_rest 1024 server.held ps staged.kept) (record { is = is; there = ends_get server.held ps place p there })))
+      (refuse_step w port place x (record { is = is; there = ends_get server.held ps place p there })))

@@ -1,9 +1,8 @@
 -- A request that repeats that of an open transfer opens nothing, and repeats it while that transfer is open.
-use Rattle.std.proofs.Common.{◌≡◌, ℕ, ◌<◌, Bool, true, false, List, [], ◌∷◌, ◌++◌, length, map, Option, Some, None, refl, sym, ap, ◌∙◌, subst, inl, inr, arith}
+use Rattle.std.proofs.Common.{◌≡◌, ℕ, ◌<◌, Bool, true, false, List, [], ◌∷◌, ◌++◌, length, Option, Some, None, refl, sym, ap, ◌∙◌, subst, inl, inr, arith}
 use Rattle.std.specs.Prelude.{if◌then◌else◌, option_map, slice_get, slice_set}
 use Rattle.std.proofs.Math.ListN.{length-set}
 use Rattle.std.proofs.lemmas.Bool.{true≢false}
-use Rattle.std.proofs.lemmas.List.{length-map}
 use Rattle.std.proofs.lemmas.Option.{same_Some}
 use Rattle.tftp_wire.specs.Reading.{has_error_opcode}
 use Rattle.tftp_wire.specs.Spelling.{Spells}
@@ -25,13 +24,13 @@ use Rattle.tftp_player.specs.Machine.{Endpoint, request_port}
 use Rattle.tftp_player.specs.Openings.{sending_end, receiving_end}
 use Rattle.tftp_player.specs.Repeating.{AsksForTransfer, RepeatsOpenNothing, IsNewRequest, OnlyNewRequestsOpen, RequestsLast}
 use Rattle.tftp_player.specs.Requests.{IsRepeated, Repeats, AnyRepeats, served, service}
-use Rattle.tftp_player.specs.World.{WorldState, OpenedEnd, at_rest, resting, end_after, files_of, is_closed, peer_of, view_of_end}
+use Rattle.tftp_player.specs.World.{WorldState, OpenedEnd, at_rest, end_after, files_of, is_closed, peer_of, view_of_end}
 use Rattle.tftp_player.specs.WorldKept.{IsOk}
-use Rattle.tftp_player.specs.WorldSteps.{Serves, Arrives, At_request_port, At_open_end, At_closed_end, At_nobody, Opens, Stays, Turns, TimesOut, told_to_refuse, EventStep}
+use Rattle.tftp_player.specs.WorldSteps.{Serves, Arrives, At_request_port, At_open_end, At_closed_end, At_nobody, Opens, Stays, Turns, TimesOut, told_to_refuse, WorldStep}
 use Rattle.tftp_player.specs.declared.event.Event.{Event}
 use Rattle.tftp_player.specs.declared.event.Event.TheVariants.{Get, Put, Deliver, Timeout, RefuseStore, Stray}
 use Rattle.tftp_player.specs.declared.report.Report.{Report}
-use Rattle.tftp_player.proofs.Resting.{at_rest_open, at_rest_closed, rest_at}
+use Rattle.tftp_player.proofs.Resting.{at_rest_open, at_rest_closed}
 use Rattle.tftp_player.proofs.Places.{slice_get-push_old, slice_get-set_cases}
 use Rattle.tftp_player.proofs.ServerLemmas.{says_one}
 use Rattle.tftp_player.proofs.TermsKept.{step_has, timeout_has}
@@ -75,21 +74,13 @@ module _ (old new : WorldState) (from : Endpoint) (packet : Packet) (bytes : Lis
 
 pub repeats_open_nothing : RepeatsOpenNothing
 repeats_open_nothing strangers old new from packet bytes report ok asks spells any l =
-    let s = stays old l.0 from packet bytes report asks spells any strangers request_port ok refl l.1 in
-    (s.tells, l.2 ∙ ap resting s.is)
+    let s = stays old new from packet bytes report asks spells any strangers request_port ok refl l in
+    (s.tells, s.is)
 
 -- ---- what opens an end
 
--- the same ends are no more
-no_more : (old mid : WorldState) → length mid.ends ≡ length old.ends → length old.ends < length (resting mid).ends → ⊥
-no_more old mid same more = let n = length-map mid.ends at_rest in omega (arith, n, same, more)
-
--- an end that opens repeats its request at rest, too
-rests : (from : Endpoint) (packet : Packet) (x : OpenedEnd) → Repeats from packet x → Repeats from packet (at_rest x)
-rests from packet x r = subst (Repeats from packet) (sym (at_rest_open x r.still)) r
-
-any_last : (from : Endpoint) (packet : Packet) (ends : List OpenedEnd) (x : OpenedEnd) → Repeats from packet x → AnyRepeats from packet (map at_rest (ends ++ x ∷ []))
-any_last from packet [] x r = inl (rests from packet x r)
+any_last : (from : Endpoint) (packet : Packet) (ends : List OpenedEnd) (x : OpenedEnd) → Repeats from packet x → AnyRepeats from packet (ends ++ x ∷ [])
+any_last from packet [] x r = inl r
 any_last from packet (y ∷ ends) x r = inr (any_last from packet ends x r)
 
 sender_repeats : (w : WorldState) (from : Endpoint) (bytes : List ℕ) (mode : Mode) (path file : List ℕ) (agreed : List Known) (packet : Packet) → Spells packet bytes →
@@ -102,20 +93,24 @@ receiver_repeats : (w : WorldState) (from : Endpoint) (bytes : List ℕ) (mode :
 receiver_repeats w from bytes mode path [] packet spells = record { server = refl; still = refl; peer = refl; same = spells }
 receiver_repeats w from bytes mode path (known ∷ agreed) packet spells = record { server = refl; still = refl; peer = refl; same = spells }
 
-module _ (old mid : WorldState) (from : Endpoint) (bytes : List ℕ) (report : Report) (more : length old.ends < length (resting mid).ends) where
+module _ (old new : WorldState) (from : Endpoint) (bytes : List ℕ) (report : Report) (more : length old.ends < length new.ends) where
   abbrev Serves_so : Service → Type 0
-  Serves_so what = Serves what old from bytes report mid
+  Serves_so what = Serves what old from bytes report new
 
-  still : Stays old report mid → ⊥
-  still s = no_more old mid (ap (λ (w : WorldState). length w.ends) s.is) more
+  -- the same ends are no more
+  same : length new.ends ≡ length old.ends → ⊥
+  same e = omega (arith, e, more)
 
-  said : (w : WorldState) → mid ≡ w → w.ends ≡ old.ends → ⊥
-  said w is same = no_more old mid (ap (λ (v : WorldState). length v.ends) is ∙ ap length same) more
+  still : Stays old report new → ⊥
+  still s = same (ap (λ (w : WorldState). length w.ends) s.is)
 
-  opened_repeats : (packet : Packet) (x : OpenedEnd) → Opens old x report mid → Repeats from packet x → AnyRepeats from packet (resting mid).ends
-  opened_repeats packet x o r = subst (λ (w : WorldState). AnyRepeats from packet (resting w).ends) (sym o.is) (any_last from packet old.ends x r)
+  said : (w : WorldState) → new ≡ w → w.ends ≡ old.ends → ⊥
+  said w is e = same (ap (λ (v : WorldState). length v.ends) is ∙ ap length e)
 
-  served_repeats : (what : Service) (packet : Packet) → Spells packet bytes → Serves_so what → AnyRepeats from packet (resting mid).ends
+  opened_repeats : (packet : Packet) (x : OpenedEnd) → Opens old x report new → Repeats from packet x → AnyRepeats from packet new.ends
+  opened_repeats packet x o r = subst (λ (w : WorldState). AnyRepeats from packet w.ends) (sym o.is) (any_last from packet old.ends x r)
+
+  served_repeats : (what : Service) (packet : Packet) → Spells packet bytes → Serves_so what → AnyRepeats from packet new.ends
   served_repeats Silent packet spells s = absurd (still s)
   served_repeats (Refused reply) packet spells s = absurd (said _ s.1 refl)
   served_repeats (Sends path mode count agreed) packet spells s = opened_repeats packet _ s.2 (sender_repeats old from bytes mode path s.0 agreed packet spells)
@@ -127,7 +122,7 @@ module _ (old mid : WorldState) (from : Endpoint) (bytes : List ℕ) (report : R
   no_request false s = said _ s.1 refl
 
   asked : (to : Endpoint) → to ≡ request_port → (packet : Packet) → AsksForTransfer packet → Spells packet bytes → (repeated : Bool) → IsRepeated repeated from (Some packet) old.ends →
-      Serves_so (service old repeated bytes (Some packet)) → IsNewRequest from to bytes old (resting mid)
+      Serves_so (service old repeated bytes (Some packet)) → IsNewRequest from to bytes old new
   asked to here packet asks spells true same s = absurd (still (subst Serves_so (repeat_silent old bytes packet asks) s))
   asked to here packet asks spells false same s = record {
     packet = packet;
@@ -139,7 +134,7 @@ module _ (old mid : WorldState) (from : Endpoint) (bytes : List ℕ) (report : R
   }
 
   port_opens : (to : Endpoint) → to ≡ request_port → (decoded : Option Packet) → Decodes bytes decoded → (repeated : Bool) → IsRepeated repeated from decoded old.ends →
-      Serves_so (service old repeated bytes decoded) → IsNewRequest from to bytes old (resting mid)
+      Serves_so (service old repeated bytes decoded) → IsNewRequest from to bytes old new
   port_opens to here None says repeated same s = absurd (no_request (has_error_opcode bytes) s)
   port_opens to here (Some (Read request)) says repeated same s = asked to here (Read request) tt says repeated same s
   port_opens to here (Some (Write request)) says repeated same s = asked to here (Write request) tt says repeated same s
@@ -148,19 +143,17 @@ module _ (old mid : WorldState) (from : Endpoint) (bytes : List ℕ) (report : R
   port_opens to here (Some (Error code text)) says repeated same s = absurd (no_request (has_error_opcode bytes) s)
   port_opens to here (Some (Oack options)) says repeated same s = absurd (no_request (has_error_opcode bytes) s)
 
-  turned : (k : ℕ) (x : OpenedEnd) (turn : Turn) (held : Files (List ℕ) Holding) → Turns old k x turn held report mid → ⊥
-  turned k x turn held t = no_more old mid (ap (λ (w : WorldState). length w.ends) t.is ∙ length-set old.ends k (end_after x turn held)) more
+  turned : (k : ℕ) (x : OpenedEnd) (turn : Turn) (held : Files (List ℕ) Holding) → Turns old k x turn held report new → ⊥
+  turned k x turn held t = same (ap (λ (w : WorldState). length w.ends) t.is ∙ length-set old.ends k (at_rest (end_after x turn held)))
 
-  opens : (to : Endpoint) → Arrives old from to bytes report mid → IsNewRequest from to bytes old (resting mid)
+  opens : (to : Endpoint) → Arrives old from to bytes report new → IsNewRequest from to bytes old new
   opens to (At_request_port here port decoded says repeated same s) = port_opens to here decoded says repeated same s
   opens to (At_open_end k x there at open_now t) = absurd (turned k x t.turn t.held t.turns)
   opens to (At_closed_end k x there at closed_now s) = absurd (still s)
   opens to (At_nobody away nobody s) = absurd (still s)
 
 pub only_new_requests_open : OnlyNewRequestsOpen
-only_new_requests_open old new from to bytes report l more =
-    subst (λ (w : WorldState). IsNewRequest from to bytes old w) (sym l.2)
-    (opens old l.0 from bytes report (subst (λ (w : WorldState). length old.ends < length w.ends) l.2 more) to l.1)
+only_new_requests_open old new from to bytes report l more = opens old new from bytes report more to l
 
 -- ---- a request lasts as long as the end that it opened is open
 
@@ -177,9 +170,14 @@ module _ (from : Endpoint) (packet : Packet) where
   Lasts x = is_closed x ≡ false → Repeats from packet x
 
   turn_lasts : (x : OpenedEnd) (turn : Turn) (held : Files (List ℕ) Holding) →
-      ((agreed : Terms) → terms_of x.state.progress.phase ≡ Some agreed → terms_of turn.progress.phase ≡ Some agreed) → Repeats from packet x → Lasts (end_after x turn held)
-  turn_lasts x turn (Source left) stays r o = record { server = r.server; still = o; peer = same_peer x.state.progress.phase turn.progress.phase from r.peer stays; same = r.same }
-  turn_lasts x turn (Sink holding) stays r o = record { server = r.server; still = o; peer = same_peer x.state.progress.phase turn.progress.phase from r.peer stays; same = r.same }
+      ((agreed : Terms) → terms_of x.state.progress.phase ≡ Some agreed → terms_of turn.progress.phase ≡ Some agreed) → Repeats from packet x → Lasts (at_rest (end_after x turn held))
+  turn_lasts x turn held stays r o = subst (Repeats from packet) (sym (at_rest_open (end_after x turn held) still)) (by_files held still) where
+    still : is_closed (end_after x turn held) ≡ false
+    still = sym (at_rest_closed (end_after x turn held)) ∙ o
+
+    by_files : (files : Files (List ℕ) Holding) → is_closed (end_after x turn files) ≡ false → Repeats from packet (end_after x turn files)
+    by_files (Source left) open_now = record { server = r.server; still = open_now; peer = same_peer x.state.progress.phase turn.progress.phase from r.peer stays; same = r.same }
+    by_files (Sink holding) open_now = record { server = r.server; still = open_now; peer = same_peer x.state.progress.phase turn.progress.phase from r.peer stays; same = r.same }
 
   told_lasts : (x : OpenedEnd) → Repeats from packet x → Repeats from packet (told_to_refuse x)
   told_lasts x r = by_tests (is_sender x.state.role.side) (is_closed x) where
@@ -188,44 +186,44 @@ module _ (from : Endpoint) (packet : Packet) where
     by_tests false true = r
     by_tests false false = record { server = r.server; still = r.still; peer = r.peer; same = r.same }
 
-  module _ (old mid : WorldState) (report : Report) (k : ℕ) (x z : OpenedEnd) (there : slice_get old.ends k ≡ Some x) (r : Repeats from packet x) (here : slice_get mid.ends k ≡ Some z) where
-    same_end : mid.ends ≡ old.ends → Lasts z
+  module _ (old new : WorldState) (report : Report) (k : ℕ) (x z : OpenedEnd) (there : slice_get old.ends k ≡ Some x) (r : Repeats from packet x) (here : slice_get new.ends k ≡ Some z) where
+    same_end : new.ends ≡ old.ends → Lasts z
     same_end e o = subst (Repeats from packet) (same_Some x z (sym there ∙ (ap (λ (ends : List OpenedEnd). slice_get ends k) (sym e) ∙ here))) r
 
-    same_world : Stays old report mid → Lasts z
+    same_world : Stays old report new → Lasts z
     same_world s = same_end (ap (λ (w : WorldState). w.ends) s.is)
 
-    pushed : (y : OpenedEnd) → Opens old y report mid → Lasts z
+    pushed : (y : OpenedEnd) → Opens old y report new → Lasts z
     pushed y opens o = subst (Repeats from packet) (same_Some x z (sym (slice_get-push_old old.ends k y x there) ∙ (ap (λ (w : WorldState). slice_get w.ends k) (sym opens.is) ∙ here))) r
 
     -- the end at a place became another
-    set_at : (j : ℕ) (y a : OpenedEnd) → mid.ends ≡ slice_set old.ends j a → slice_get old.ends j ≡ Some y → (Repeats from packet y → Lasts a) → Lasts z
+    set_at : (j : ℕ) (y a : OpenedEnd) → new.ends ≡ slice_set old.ends j a → slice_get old.ends j ≡ Some y → (Repeats from packet y → Lasts a) → Lasts z
     set_at j y a e at lasts = elim (slice_get-set_cases old.ends j k a z (ap (λ (ends : List OpenedEnd). slice_get ends k) (sym e) ∙ here)) [
       | inl h ↦ subst Lasts (sym h.1) (lasts (subst (Repeats from packet) (same_Some x y (sym there ∙ (ap (slice_get old.ends) h.0 ∙ at))) r))
       | inr h ↦ λ o. subst (Repeats from packet) (same_Some x z (sym there ∙ h.1)) r
     ]
 
-    at_service : (what : Service) (bytes : List ℕ) (asker : Endpoint) → Serves what old asker bytes report mid → Lasts z
+    at_service : (what : Service) (bytes : List ℕ) (asker : Endpoint) → Serves what old asker bytes report new → Lasts z
     at_service Silent bytes asker s = same_world s
     at_service (Refused reply) bytes asker s = same_end (ap (λ (w : WorldState). w.ends) s.1)
     at_service (Sends path mode count agreed) bytes asker s = pushed _ s.2
     at_service (Takes path mode agreed) bytes asker s = pushed _ s
 
-    at_arrival : (by to : Endpoint) (bytes : List ℕ) → Arrives old by to bytes report mid → Lasts z
+    at_arrival : (by to : Endpoint) (bytes : List ℕ) → Arrives old by to bytes report new → Lasts z
     at_arrival by to bytes (At_request_port asked port decoded says repeated same s) = at_service _ bytes by s
     at_arrival by to bytes (At_open_end j y there_now at open_now t) =
-        set_at j y (end_after y t.turn t.held) (ap (λ (w : WorldState). w.ends) t.turns.is) there_now
+        set_at j y (at_rest (end_after y t.turn t.held)) (ap (λ (w : WorldState). w.ends) t.turns.is) there_now
         (turn_lasts y t.turn t.held (λ agreed h. step_has agreed _ by bytes y.state (files_of y) t.held t.turn h t.steps))
     at_arrival by to bytes (At_closed_end j y there_now at closed_now s) = same_world s
     at_arrival by to bytes (At_nobody away nobody s) = same_world s
 
-    at_timeout : (b : Bool) (j : ℕ) (y : OpenedEnd) → slice_get old.ends j ≡ Some y → TimesOut b old j y report mid → Lasts z
+    at_timeout : (b : Bool) (j : ℕ) (y : OpenedEnd) → slice_get old.ends j ≡ Some y → TimesOut b old j y report new → Lasts z
     at_timeout true j y at s = same_world s
     at_timeout false j y at t =
-        set_at j y (end_after y (timeout_turn y.state) (files_of y)) (ap (λ (w : WorldState). w.ends) t.is) at
+        set_at j y (at_rest (end_after y (timeout_turn y.state) (files_of y))) (ap (λ (w : WorldState). w.ends) t.is) at
         (turn_lasts y (timeout_turn y.state) (files_of y) (λ agreed h. timeout_has agreed y.state h))
 
-    at_event : (event : Event) → EventStep old event report mid → Lasts z
+    at_event : (event : Event) → WorldStep old event report new → Lasts z
     at_event (Get name mode asked) s = pushed _ s.2
     at_event (Put name mode asked bytes) s = pushed _ s.2
     at_event (Deliver i) s = at_arrival _ _ _ s.2
@@ -235,7 +233,4 @@ module _ (from : Endpoint) (packet : Packet) where
     at_event (Stray by to bytes) s = at_arrival _ _ _ s.1
 
 pub requests_last : RequestsLast
-requests_last old new event report from packet k x y s there r here open_now =
-    let h = rest_at s.0.ends k y (ap (λ (w : WorldState). slice_get w.ends k) (sym s.2) ∙ here) in
-    let still_open : is_closed h.0 ≡ false = sym (at_rest_closed h.0) ∙ (ap is_closed h.2 ∙ open_now) in
-    subst (Repeats from packet) h.2 (rests from packet h.0 (at_event from packet old s.0 report k x h.0 there r h.1 event s.1 still_open))
+requests_last old new event report from packet k x y s there r here open_now = at_event from packet old new report k x y there r here event s open_now

@@ -1,9 +1,8 @@
 -- Each end that was opened has sent a datagram.
-use Rattle.std.proofs.Common.{◌≡◌, ℕ, ◌+◌, ◌<◌, ◌≤◌, suc, zero, Bool, true, false, List, [], ◌∷◌, ◌++◌, length, map, sym, subst, ap, ◌∙◌, refl, arith, length-append}
+use Rattle.std.proofs.Common.{◌≡◌, ℕ, ◌+◌, ◌<◌, ◌≤◌, suc, zero, Bool, true, false, List, [], ◌∷◌, ◌++◌, length, sym, subst, ap, ◌∙◌, refl, arith, length-append}
 use Rattle.std.specs.Prelude.{◌%◌, slice_index_or, slice_set, nat_lt, if◌then◌else◌, Option, Some, None}
 use Rattle.std.proofs.Math.ListN.{length-set}
 use Rattle.std.proofs.lemmas.Bool.{eq-eqb, ne_eqb, ltb-true}
-use Rattle.std.proofs.lemmas.List.{length-map}
 use Rattle.tftp_ends.specs.declared.record.Record.{Record}
 use Rattle.tftp_ends.specs.Step.{Turn}
 use Rattle.tftp_file.specs.declared.files.Files.{Files}
@@ -15,15 +14,11 @@ use Rattle.tftp_player.specs.Draw.{drawn, words_drawn}
 use Rattle.tftp_player.specs.Machine.{Endpoint}
 use Rattle.tftp_player.specs.Played.{records_from}
 use Rattle.tftp_player.specs.PlayedWorld.{HasSentEach}
-use Rattle.tftp_player.specs.World.{WorldState, OpenedEnd, at_rest, resting, replied, end_after}
+use Rattle.tftp_player.specs.World.{WorldState, OpenedEnd, at_rest, replied, end_after}
 use Rattle.tftp_player.specs.WorldSteps.{Serves, Arrives, At_request_port, At_open_end, At_closed_end, At_nobody, Opens, Stays, Turns, TimesOut, told_to_refuse, WorldStep}
 use Rattle.tftp_player.specs.declared.event.Event.{Event}
 use Rattle.tftp_player.specs.declared.event.Event.TheVariants.{Get, Put, Deliver, Timeout, RefuseStore, Stray}
 use Rattle.tftp_player.specs.declared.report.Report.{Report}
-
--- closed ends go to rest
-rested : (mid new : WorldState) → new ≡ resting mid → HasSentEach mid → HasSentEach new
-rested mid new e h = subst HasSentEach (sym e) (let n = length-map mid.ends at_rest in let l : length (map at_rest mid.ends) ≤ length mid.sent = omega (arith, n, h) in l)
 
 -- an end opened, and sent
 opens : (old new : WorldState) (x : OpenedEnd) (report : Report) → Opens old x report new → HasSentEach old → HasSentEach new
@@ -40,8 +35,8 @@ stays old new report s h = subst HasSentEach (sym s.is) h
 turns : (old new : WorldState) (k : ℕ) (x : OpenedEnd) (turn : Turn) (held : Files (List ℕ) Holding) (report : Report) → Turns old k x turn held report new → HasSentEach old → HasSentEach new
 turns old new k x turn held report t h =
     subst HasSentEach (sym t.is)
-    (let a = length-set old.ends k (end_after x turn held) in let b = length-append old.sent (replied x.address turn.reply) in
-    let l : length (slice_set old.ends k (end_after x turn held)) ≤ length (old.sent ++ replied x.address turn.reply) = omega (arith, a, b, h) in l)
+    (let a = length-set old.ends k (at_rest (end_after x turn held)) in let b = length-append old.sent (replied x.address turn.reply) in
+    let l : length (slice_set old.ends k (at_rest (end_after x turn held))) ≤ length (old.sent ++ replied x.address turn.reply) = omega (arith, a, b, h) in l)
 
 -- the request port was asked
 serves : (service : Service) (old new : WorldState) (from : Endpoint) (bytes : List ℕ) (report : Report) → Serves service old from bytes report new → HasSentEach old → HasSentEach new
@@ -62,13 +57,13 @@ times_out true old new k x report s h = stays old new report s h
 times_out false old new k x report t h = turns old new k x _ _ report t h
 
 pub sends_each : (old new : WorldState) (event : Event) (report : Report) → WorldStep old event report new → HasSentEach old → HasSentEach new
-sends_each old new (Get name mode asked) report s h = rested s.0 new s.2 (opens old s.0 _ report s.1.2 h)
-sends_each old new (Put name mode asked bytes) report s h = rested s.0 new s.2 (opens old s.0 _ report s.1.2 h)
-sends_each old new (Deliver i) report s h = rested s.0 new s.2 (arrives old s.0 _ _ _ report s.1.2 h)
-sends_each old new (Timeout port) report s h = rested s.0 new s.2 (times_out _ old s.0 _ _ report s.1.3 h)
+sends_each old new (Get name mode asked) report s h = opens old new _ report s.2 h
+sends_each old new (Put name mode asked bytes) report s h = opens old new _ report s.2 h
+sends_each old new (Deliver i) report s h = arrives old new _ _ _ report s.2 h
+sends_each old new (Timeout port) report s h = times_out _ old new _ _ report s.3 h
 sends_each old new (RefuseStore port) report s h =
-    rested s.0 new s.2 (subst HasSentEach (sym s.1.4) (let a = length-set old.ends s.1.0 (told_to_refuse s.1.1) in let l : length (slice_set old.ends s.1.0 (told_to_refuse s.1.1)) ≤ length old.sent = omega (arith, a, h) in l))
-sends_each old new (Stray from to bytes) report s h = rested s.0 new s.2 (arrives old s.0 _ _ _ report s.1.1 h)
+    subst HasSentEach (sym s.4) (let a = length-set old.ends s.0 (told_to_refuse s.1) in let l : length (slice_set old.ends s.0 (told_to_refuse s.1)) ≤ length old.sent = omega (arith, a, h) in l)
+sends_each old new (Stray from to bytes) report s h = arrives old new _ _ _ report s.1 h
 
 -- the port of the end at a place is recorded there
 pub record_port : (port : ℕ) (ends : List OpenedEnd) (k : ℕ) (d : ℕ × Record) → k < length ends → (slice_index_or (records_from port ends) k d).0 ≡ port + k

@@ -30,7 +30,7 @@ use Rattle.tftp_server.specs.Port.{Service, Sends, Takes}
 use Rattle.tftp_player.specs.Machine.{Endpoint, request_port}
 use Rattle.tftp_player.specs.Openings.{reading_client, writing_client, sending_end, receiving_end}
 use Rattle.tftp_player.specs.Straight.{IsAccepted, IsThrough, ReadsStraight, WritesStraight, ReadsComplete, WritesComplete, read_count, write_count}
-use Rattle.tftp_player.specs.World.{WorldState, OpenedEnd, StoredFile, file_at, is_closed, datagram, at_rest, resting}
+use Rattle.tftp_player.specs.World.{WorldState, OpenedEnd, StoredFile, file_at, datagram}
 use Rattle.tftp_player.specs.WorldKept.{HeldFits, IsOk}
 use Rattle.tftp_player.specs.WorldRuns.{MayHappen}
 use Rattle.tftp_player.specs.WorldSteps.{Serves, Opens}
@@ -55,19 +55,19 @@ pub record HasBegun (strangers : Bool) (old new : WorldState) (c x : OpenedEnd) 
   pub left : IsLeft w (length old.sent + 1) new
 
 begins : (strangers : Bool) (old new w : WorldState) (c x : OpenedEnd) (accepts : Service) → HasAsked strangers old w c → c.state.progress.last_sent_to ≡ request_port → IsLeft w (length old.sent) new → IsAccepted w c accepts →
-    is_closed x ≡ false → at_rest x ≡ x → ((report : Report) (mid : WorldState) → Serves accepts w c.address c.state.progress.last_sent report mid → Opens w x report mid) → HasBegun strangers old new c x
-begins strangers old new w c x accepts has to left accepted still own opens =
+    ((report : Report) (mid : WorldState) → Serves accepts w c.address c.state.progress.last_sent report mid → Opens w x report mid) → HasBegun strangers old new c x
+begins strangers old new w c x accepts has to left accepted opens =
     let i = length old.sent in
     let k = length old.ends in
     let d0 = datagram c.address c.state.progress.last_sent_to c.state.progress.last_sent in
     let d1 = datagram x.address x.state.progress.last_sent_to x.state.progress.last_sent in
     let g = goes_on w new i has.count left in
     let p = port_comes w g.mid i c g.report accepts (ports_of strangers w has.ok) accepted (has.newest ∙ ap (λ (a : Endpoint). Some (datagram c.address a c.state.progress.last_sent)) to) g.step in
-    let o = has_opened w g.mid p.0 x g.report has.rests still own p.1 (opens g.report p.0 p.2) in
-    let first : IsReady strangers w i d0 = record { ok = has.ok; rests = has.rests; newest = has.newest; count = has.count } in
+    let o = has_opened w g.mid x g.report (opens g.report g.mid p) in
+    let first : IsReady strangers w i d0 = record { ok = has.ok; newest = has.newest; count = has.count } in
     record {
       w = g.mid;
-      ready = ready_next strangers w g.mid i d0 d1 g.report first g.step o.rests o.sent;
+      ready = ready_next strangers w g.mid i d0 d1 g.report first g.step o.sent;
       client_at = ap (λ (xs : List OpenedEnd). slice_get xs k) o.ends ∙ slice_get-push_old w.ends k x c has.there;
       server_at = ap (λ (xs : List OpenedEnd). slice_get xs (k + 1)) o.ends ∙ (ap (slice_get (w.ends ++ x ∷ [])) (sym has.ends) ∙ slice_get-push_new w.ends x);
       left = g.left;
@@ -122,22 +122,17 @@ module _ (strangers : Bool) (old new : WorldState) (name : List ℕ) (mode : Mod
   reader_asks : (agreed : List Known) → IsOk strangers old → (h : ReadsStraight old new name mode asked file agreed) → HasAsked strangers old h.run.asked reader
   reader_asks agreed ok h =
       let s = h.run.asks in
-      has_asked strangers old h.run.asked reader (Get name mode asked) h.run.report (get_may strangers name mode asked) ok s (s.2 ∙ ap resting s.1.2.is) refl
+      has_asked strangers old h.run.asked reader (Get name mode asked) h.run.report (get_may strangers name mode asked) ok s s.2.is
 
   -- the server's end
   abbrev server_of : (agreed : List Known) → ReadsStraight old new name mode asked file agreed → OpenedEnd
   server_of agreed h = sending_end h.run.asked reader.address reader.state.progress.last_sent mode h.path file agreed
 
-  server_open : (agreed : List Known) (h : ReadsStraight old new name mode asked file agreed) → (is_closed (server_of agreed h) ≡ false) × (at_rest (server_of agreed h) ≡ server_of agreed h)
-  server_open [] h = (refl, refl)
-  server_open (known ∷ agreed) h = (refl, refl)
-
   read_begins : (agreed : List Known) → IsOk strangers old → (h : ReadsStraight old new name mode asked file agreed) → HasBegun strangers old new reader (server_of agreed h)
   read_begins agreed ok h =
       let has = reader_asks agreed ok h in
-      let own = server_open agreed h in
       let left : IsLeft h.run.asked (length old.sent) new = record { reports = h.run.reports; settles = h.run.settles; all = h.run.all; taken = h.taken } in
-      begins strangers old new h.run.asked reader (server_of agreed h) (Sends h.path mode h.length agreed) has refl left h.accepted own.0 own.1
+      begins strangers old new h.run.asked reader (server_of agreed h) (Sends h.path mode h.length agreed) has refl left h.accepted
       (λ report mid s.
       let same : s.0 ≡ file = same_Some s.0 file (sym s.1 ∙ (ap (λ (files : List StoredFile). file_at files h.path) has.files ∙ h.there)) in
       subst (λ (f : List ℕ). Opens h.run.asked (sending_end h.run.asked reader.address reader.state.progress.last_sent mode h.path f agreed) report mid) same s.2)
@@ -186,12 +181,12 @@ module _ (strangers : Bool) (old new : WorldState) (name : List ℕ) (mode : Mod
       let sa = x.address in
       let ra = reader.address in
       let g = goes_on b.w new (i + 1) b.ready.count b.left in
-      let heard = delivered b.w g.mid (i + 1) k reader sa x.state.progress.last_sent g.report (ports_of strangers b.w b.ready.ok) b.ready.rests
+      let heard = delivered b.w g.mid (i + 1) k reader sa x.state.progress.last_sent g.report (ports_of strangers b.w b.ready.ok)
       (b.ready.newest ∙ ap (λ (a : Endpoint). Some (datagram sa a x.state.progress.last_sent)) to) b.client_at refl g.step in
       let y = hears_oack b.w g.mid k reader sa x.state.progress.last_sent g.report heard packet rt spelled accepts in
       let d1 = datagram sa x.state.progress.last_sent_to x.state.progress.last_sent in
       let d2 = datagram ra sa (ack_bytes 0) in
-      let ready = ready_next strangers b.w g.mid (i + 1) d1 d2 g.report b.ready g.step heard.rests y.4.sent in
+      let ready = ready_next strangers b.w g.mid (i + 1) d1 d2 g.report b.ready g.step y.4.sent in
       let sender : SendsAt strangers (k + 1) k (before_next k) sa ra st rt mode file sp rp same g.mid 0 =
       record { x = x; there = stays_at b.w g.mid k (k + 1) x y.0 y.4.ends (behind_last k) b.server_at; address = refl; phase = phase; file_is = file_is; mode_is = mode_is } in
       let fit = fit_of strangers (k + 1) k (before_next k) sa ra st rt mode file sp rp same g.mid 0 ready.ok sender in
@@ -246,22 +241,17 @@ module _ (strangers : Bool) (old new : WorldState) (name : List ℕ) (mode : Mod
   writer_asks : (agreed : List Known) → IsOk strangers old → (h : WritesStraight old new name mode asked file agreed) → HasAsked strangers old h.run.asked writer
   writer_asks agreed ok h =
       let s = h.run.asks in
-      has_asked strangers old h.run.asked writer (Put name mode asked file) h.run.report (put_may strangers name mode asked file) ok s (s.2 ∙ ap resting s.1.2.is) refl
+      has_asked strangers old h.run.asked writer (Put name mode asked file) h.run.report (put_may strangers name mode asked file) ok s s.2.is
 
   -- the server's end
   abbrev taker_of : (agreed : List Known) → WritesStraight old new name mode asked file agreed → OpenedEnd
   taker_of agreed h = receiving_end h.run.asked writer.address writer.state.progress.last_sent mode h.path agreed
 
-  taker_open : (agreed : List Known) (h : WritesStraight old new name mode asked file agreed) → (is_closed (taker_of agreed h) ≡ false) × (at_rest (taker_of agreed h) ≡ taker_of agreed h)
-  taker_open [] h = (refl, refl)
-  taker_open (known ∷ agreed) h = (refl, refl)
-
   write_begins : (agreed : List Known) → IsOk strangers old → (h : WritesStraight old new name mode asked file agreed) → HasBegun strangers old new writer (taker_of agreed h)
   write_begins agreed ok h =
       let has = writer_asks agreed ok h in
-      let own = taker_open agreed h in
       let left : IsLeft h.run.asked (length old.sent) new = record { reports = h.run.reports; settles = h.run.settles; all = h.run.all; taken = h.taken } in
-      begins strangers old new h.run.asked writer (taker_of agreed h) (Takes h.path mode agreed) has refl left h.accepted own.0 own.1 (λ report mid s. s)
+      begins strangers old new h.run.asked writer (taker_of agreed h) (Takes h.path mode agreed) has refl left h.accepted (λ report mid s. s)
 
   -- from the server's answer on, which has the client send DATA 1
   write_on : (x : OpenedEnd) (st rt : Terms) (packet : Packet) → HasBegun strangers old new writer x → x.state.progress.last_sent_to ≡ writer.address → x.state.progress.phase ≡ Receiving rt 0 →
@@ -274,13 +264,13 @@ module _ (strangers : Bool) (old new : WorldState) (name : List ℕ) (mode : Mod
       let sa = writer.address in
       let ra = x.address in
       let g = goes_on b.w new (i + 1) b.ready.count b.left in
-      let heard = delivered b.w g.mid (i + 1) k writer ra x.state.progress.last_sent g.report (ports_of strangers b.w b.ready.ok) b.ready.rests
+      let heard = delivered b.w g.mid (i + 1) k writer ra x.state.progress.last_sent g.report (ports_of strangers b.w b.ready.ok)
       (b.ready.newest ∙ ap (λ (a : Endpoint). Some (datagram ra a x.state.progress.last_sent)) to) b.client_at refl g.step in
       let behind : written ≡ drop (0 * st.size) written = ap (λ (n : ℕ). drop n written) (let z : 0 ≡ 0 * st.size = omega arith in z) in
       let y = hears_send b.w g.mid k writer ra x.state.progress.last_sent g.report heard packet st 0 written spelled sends refl refl behind in
       let d1 = datagram ra x.state.progress.last_sent_to x.state.progress.last_sent in
       let d2 = datagram sa ra (data_bytes (0 + 1) (block written st.size (0 + 1))) in
-      let ready = ready_next strangers b.w g.mid (i + 1) d1 d2 g.report b.ready g.step heard.rests y.2.sent in
+      let ready = ready_next strangers b.w g.mid (i + 1) d1 d2 g.report b.ready g.step y.2.sent in
       let sender : SendsAt strangers k (k + 1) (behind_last k) sa ra st rt mode file sp rp same g.mid (0 + 1) =
       record { x = y.0; there = set_at b.w g.mid k writer y.0 y.2.ends b.client_at; address = y.2.address; phase = y.1; file_is = y.2.file; mode_is = y.2.mode } in
       let fit = fit_of strangers k (k + 1) (behind_last k) sa ra st rt mode file sp rp same g.mid (0 + 1) ready.ok sender in

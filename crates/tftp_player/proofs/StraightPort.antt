@@ -22,7 +22,7 @@ use Rattle.tftp_server.specs.Store.{measured}
 use Rattle.tftp_player.specs.Machine.{Endpoint, request_port}
 use Rattle.tftp_player.specs.Requests.{IsRepeated, begun_of, open_transfers, opened_of, served, service}
 use Rattle.tftp_player.specs.Straight.{IsAccepted}
-use Rattle.tftp_player.specs.World.{WorldState, OpenedEnd, file_at, in_the_way, is_closed, datagram, opened_in, at_rest, resting}
+use Rattle.tftp_player.specs.World.{WorldState, OpenedEnd, file_at, in_the_way, is_closed, datagram, opened_in}
 use Rattle.tftp_player.specs.WorldKept.{IsOk}
 use Rattle.tftp_player.specs.WorldRuns.{MayHappen}
 use Rattle.tftp_player.specs.WorldSteps.{Serves, Arrives, At_request_port, At_open_end, At_closed_end, At_nobody, Opens, WorldStep}
@@ -31,7 +31,6 @@ use Rattle.tftp_player.specs.declared.event.Event.{Event}
 use Rattle.tftp_player.specs.declared.event.Event.TheVariants.{Deliver}
 use Rattle.tftp_player.specs.declared.report.Report.{Report}
 use Rattle.tftp_player.proofs.Places.{slice_get-push_new}
-use Rattle.tftp_player.proofs.Resting.{IsAtRest, at_rest_twice, resting_opened}
 use Rattle.tftp_player.proofs.ServerLemmas.{says_one}
 use Rattle.tftp_player.proofs.StepLemmas.{HasPorts}
 use Rattle.tftp_player.proofs.WorldRuns.{step_keeps}
@@ -39,7 +38,6 @@ use Rattle.tftp_player.proofs.WorldRuns.{step_keeps}
 -- ---- a client asked
 pub record HasAsked (strangers : Bool) (old w : WorldState) (c : OpenedEnd) : Type 0 where
   pub ok : IsOk strangers w
-  pub rests : IsAtRest w
   pub sent : w.sent ≡ old.sent ++ datagram c.address c.state.progress.last_sent_to c.state.progress.last_sent ∷ []
   pub newest : slice_get w.sent (length old.sent) ≡ Some (datagram c.address c.state.progress.last_sent_to c.state.progress.last_sent)
   pub count : length w.sent ≡ length old.sent + 1
@@ -47,28 +45,19 @@ pub record HasAsked (strangers : Bool) (old w : WorldState) (c : OpenedEnd) : Ty
   pub there : slice_get w.ends (length old.ends) ≡ Some c
   pub files : w.files ≡ old.files
 
-rest_twice : (ends : List OpenedEnd) → map at_rest (map at_rest ends) ≡ map at_rest ends
-rest_twice [] = refl
-rest_twice (x ∷ ends) = ap (λ (y : OpenedEnd). y ∷ map at_rest (map at_rest ends)) (at_rest_twice x) ∙ ap (λ (xs : List OpenedEnd). at_rest x ∷ xs) (rest_twice ends)
-
 pub has_asked : (strangers : Bool) (old w : WorldState) (c : OpenedEnd) (event : Event) (report : Report) → MayHappen strangers event → IsOk strangers old → WorldStep old event report w →
-    w ≡ resting (opened_in old c) → at_rest c ≡ c → HasAsked strangers old w c
-has_asked strangers old w c event report may ok s is rests =
+    w ≡ opened_in old c → HasAsked strangers old w c
+has_asked strangers old w c event report may ok s is =
     let d = datagram c.address c.state.progress.last_sent_to c.state.progress.last_sent in
-    let ends : w.ends ≡ map at_rest (old.ends ++ c ∷ []) = ap (λ (u : WorldState). u.ends) is in
+    let ends : w.ends ≡ old.ends ++ c ∷ [] = ap (λ (u : WorldState). u.ends) is in
     let sent : w.sent ≡ old.sent ++ d ∷ [] = ap (λ (u : WorldState). u.sent) is in
-    let split : w.ends ≡ map at_rest old.ends ++ c ∷ [] =
-    ends ∙ (map-append at_rest old.ends (c ∷ []) ∙ ap (λ (y : OpenedEnd). map at_rest old.ends ++ y ∷ []) rests) in
-    let same : length (map at_rest old.ends) ≡ length old.ends = length-map old.ends at_rest in
     record {
       ok = step_keeps strangers old w event report may ok s;
-      rests = ap (map at_rest) ends ∙ (rest_twice (old.ends ++ c ∷ []) ∙ sym ends);
       sent = sent;
       newest = ap (λ (ds : List Datagram). slice_get ds (length old.sent)) sent ∙ slice_get-push_new old.sent d;
       count = ap length sent ∙ length-append old.sent (d ∷ []);
-      ends = ap length split ∙ (length-append (map at_rest old.ends) (c ∷ []) ∙ ap (λ (n : ℕ). n + 1) same);
-      there = ap (λ (xs : List OpenedEnd). slice_get xs (length old.ends)) split
-          ∙ (ap (slice_get (map at_rest old.ends ++ c ∷ [])) (sym same) ∙ slice_get-push_new (map at_rest old.ends) c);
+      ends = ap length ends ∙ length-append old.ends (c ∷ []);
+      there = ap (λ (xs : List OpenedEnd). slice_get xs (length old.ends)) ends ∙ slice_get-push_new old.ends c;
       files = ap (λ (u : WorldState). u.files) is;
     }
 
@@ -87,49 +76,38 @@ same_repeated from (Some packet) ends a b f g = same_answer a b f g
 module _ (w v : WorldState) (i : ℕ) (c : OpenedEnd) (report : Report) (accepts : Service) (ports : HasPorts w) (accepted : IsAccepted w c accepts) where
   -- what the port did
   abbrev pub Comes : Type 0
-  Comes = (mid : WorldState) × (v ≡ resting mid) × Serves accepts w c.address c.state.progress.last_sent report mid
+  Comes = Serves accepts w c.address c.state.progress.last_sent report v
 
   -- no end has the request port
   outside : (k : ℕ) (x : OpenedEnd) → slice_get w.ends k ≡ Some x → x.address ≡ request_port → ⊥
   outside k x there here = let a = ports k x there in let b = ap (λ (p : Endpoint). p.port) here in omega (arith, a, b)
 
-  arrived : (mid : WorldState) → v ≡ resting mid → Arrives w c.address request_port c.state.progress.last_sent report mid → Comes
-  arrived mid is (At_request_port here port decoded says repeated same serves) =
+  arrived : Arrives w c.address request_port c.state.progress.last_sent report v → Comes
+  arrived (At_request_port here port decoded says repeated same serves) =
       let bytes = c.state.progress.last_sent in
       let one : decoded ≡ accepted.decoded = says_one bytes decoded accepted.decoded says accepted.says in
       let same_now : IsRepeated repeated c.address accepted.decoded w.ends = subst (λ (d : Option Packet). IsRepeated repeated c.address d w.ends) one same in
       let two : repeated ≡ accepted.repeated = same_repeated c.address accepted.decoded w.ends repeated accepted.repeated same_now accepted.repeats in
       let all : service w repeated bytes decoded ≡ accepts =
       ap (service w repeated bytes) one ∙ (ap (λ (b : Bool). service w b bytes accepted.decoded) two ∙ accepted.is) in
-      (mid, is, subst (λ (s : Service). Serves s w c.address bytes report mid) all serves)
-  arrived mid is (At_open_end k x at here still h) = absurd (outside k x at here)
-  arrived mid is (At_closed_end k x at here closed_now s) = absurd (outside k x at here)
-  arrived mid is (At_nobody away nobody s) = absurd (away refl)
+      subst (λ (s : Service). Serves s w c.address bytes report v) all serves
+  arrived (At_open_end k x at here still h) = absurd (outside k x at here)
+  arrived (At_closed_end k x at here closed_now s) = absurd (outside k x at here)
+  arrived (At_nobody away nobody s) = absurd (away refl)
 
   pub port_comes : slice_get w.sent i ≡ Some (datagram c.address request_port c.state.progress.last_sent) → WorldStep w (Deliver i) report v → Comes
   port_comes newest s =
       let d = datagram c.address request_port c.state.progress.last_sent in
-      let same : s.1.0 ≡ d = same_Some s.1.0 d (sym s.1.1 ∙ newest) in
-      arrived s.0 s.2 (subst (λ (z : Datagram). Arrives w z.from z.to z.bytes report s.0) same s.1.2)
+      let same : s.0 ≡ d = same_Some s.0 d (sym s.1 ∙ newest) in
+      arrived (subst (λ (z : Datagram). Arrives w z.from z.to z.bytes report v) same s.2)
 
 -- an end opened
 pub record HasOpened (w v : WorldState) (x : OpenedEnd) : Type 0 where
-  pub rests : IsAtRest v
   pub sent : v.sent ≡ w.sent ++ datagram x.address x.state.progress.last_sent_to x.state.progress.last_sent ∷ []
   pub ends : v.ends ≡ w.ends ++ x ∷ []
 
-pub has_opened : (w v mid : WorldState) (x : OpenedEnd) (report : Report) → IsAtRest w → is_closed x ≡ false → at_rest x ≡ x → v ≡ resting mid → Opens w x report mid → HasOpened w v x
-has_opened w v mid x report rests still own is o =
-    let now : v ≡ opened_in w x = is ∙ (ap resting o.is ∙ resting_opened w x rests still) in
-    let ends : v.ends ≡ w.ends ++ x ∷ [] = ap (λ (u : WorldState). u.ends) now in
-    record {
-      rests = ap (map at_rest) ends
-          ∙ (map-append at_rest w.ends (x ∷ [])
-          ∙ (ap (λ (xs : List OpenedEnd). xs ++ at_rest x ∷ []) rests
-          ∙ (ap (λ (y : OpenedEnd). w.ends ++ y ∷ []) own ∙ sym ends)));
-      sent = ap (λ (u : WorldState). u.sent) now;
-      ends = ends;
-    }
+pub has_opened : (w v : WorldState) (x : OpenedEnd) (report : Report) → Opens w x report v → HasOpened w v x
+has_opened w v x report o = record { sent = ap (λ (u : WorldState). u.sent) o.is; ends = ap (λ (u : WorldState). u.ends) o.is }
 
 -- ---- what the port agreed to is its answer to some options
 abbrev pub IsAnswer : WorldState → Service → Type 0

@@ -31,7 +31,6 @@ use Rattle.tftp_player.specs.declared.event.Event.TheVariants.{Deliver}
 use Rattle.tftp_player.specs.declared.report.Report.{Report}
 use Rattle.tftp_player.proofs.Blocks.{take-block}
 use Rattle.tftp_player.proofs.Places.{slice_get-set_same, slice_get-set_other, slice_get-push_new}
-use Rattle.tftp_player.proofs.Resting.{IsAtRest}
 use Rattle.tftp_player.proofs.SaidLemmas.{spells_own}
 use Rattle.tftp_player.proofs.SourceMoves.{valid_data, number_fits}
 use Rattle.tftp_player.proofs.StraightActions.{from_peer, acked_more, acked_last, piece_readable, next_stores, data_next, block_full, block_last, block_within, never_long, last_rest}
@@ -74,20 +73,18 @@ ends_here : (w v : WorldState) (i : ℕ) → length w.sent ≡ i → IsLeft w i 
 ends_here w v i none l = by l.reports l.settles where
   by : (reports : List Report) → Settles w i reports v → v ≡ w
   by [] s = s
-  by (report ∷ reports) s = absurd (let within = slice_get_within w.sent i s.1.1.0 s.1.1.1 in omega (arith, within, none))
+  by (report ∷ reports) s = absurd (let within = slice_get_within w.sent i s.1.0 s.1.1 in omega (arith, within, none))
 
 -- ---- a world in which this datagram is the only one on its way
 pub record IsReady (strangers : Bool) (w : WorldState) (i : ℕ) (d : Datagram) : Type 0 where
   pub ok : IsOk strangers w
-  pub rests : IsAtRest w
   pub newest : slice_get w.sent i ≡ Some d
   pub count : length w.sent ≡ i + 1
 
-pub ready_next : (strangers : Bool) (w v : WorldState) (i : ℕ) (d next : Datagram) (report : Report) → IsReady strangers w i d → WorldStep w (Deliver i) report v → IsAtRest v →
+pub ready_next : (strangers : Bool) (w v : WorldState) (i : ℕ) (d next : Datagram) (report : Report) → IsReady strangers w i d → WorldStep w (Deliver i) report v →
     v.sent ≡ w.sent ++ next ∷ [] → IsReady strangers v (i + 1) next
-ready_next strangers w v i d next report r s rests sent = record {
+ready_next strangers w v i d next report r s sent = record {
   ok = step_keeps strangers w v (Deliver i) report (deliver_may strangers i) r.ok s;
-  rests = rests;
   newest = ap (λ (ds : List Datagram). slice_get ds (i + 1)) sent ∙ (ap (slice_get (w.sent ++ next ∷ [])) (sym r.count) ∙ slice_get-push_new w.sent next);
   count = let e = ap length sent in let f = length-append w.sent (next ∷ []) in let c = r.count in omega (arith, e, f, c);
 }
@@ -246,7 +243,7 @@ module _ (strangers : Bool) (ks kr : ℕ) (apart : kr ≢ ks) (sa ra : Endpoint)
     fit = fit_of w (n + 1) ready.ok s
 
     heard : Hears w kr r.x sa (data_bytes (n + 1) (piece n)) report v
-    heard = delivered w v i kr r.x sa (data_bytes (n + 1) (piece n)) report (ports_of strangers w ready.ok) ready.rests
+    heard = delivered w v i kr r.x sa (data_bytes (n + 1) (piece n)) report (ports_of strangers w ready.ok)
         (ready.newest ∙ ap (λ (a : Endpoint). Some (datagram sa a (data_bytes (n + 1) (piece n)))) (sym r.address)) r.there r.still step
 
     stored : (y : OpenedEnd) × HasStored w v kr r.x sa (data_bytes (n + 1) (piece n)) report heard rt (n + 1) (piece n) y
@@ -256,7 +253,7 @@ module _ (strangers : Bool) (ks kr : ℕ) (apart : kr ≢ ks) (sa ra : Endpoint)
     acked = stored.1.becomes.sent ∙ ap (λ (a : Endpoint). w.sent ++ datagram a sa (ack_bytes (n + 1)) ∷ []) r.address
 
     pub data_ready : IsReady strangers v (i + 1) (ack_at (n + 1))
-    data_ready = ready_next strangers w v i (data_at n) (ack_at (n + 1)) report ready step heard.rests acked
+    data_ready = ready_next strangers w v i (data_at n) (ack_at (n + 1)) report ready step acked
 
     pub data_sender : SendsAt v (n + 1)
     data_sender = sender_stays w v (n + 1) stored.0 stored.1.becomes.ends s
@@ -299,7 +296,7 @@ module _ (strangers : Bool) (ks kr : ℕ) (apart : kr ≢ ks) (sa ra : Endpoint)
     still_sends = ap (λ (p : Phase). is_some (outcome_of p)) s.phase
 
     heard_ack : Hears w ks s.x ra (ack_bytes n) report v
-    heard_ack = delivered w v i ks s.x ra (ack_bytes n) report (ports_of strangers w ready.ok) ready.rests
+    heard_ack = delivered w v i ks s.x ra (ack_bytes n) report (ports_of strangers w ready.ok)
         (ready.newest ∙ ap (λ (a : Endpoint). Some (datagram ra a (ack_bytes n))) (sym s.address)) s.there still_sends step
 
     ack_spelled : Spells (Ack n) (ack_bytes n)
@@ -319,7 +316,7 @@ module _ (strangers : Bool) (ks kr : ℕ) (apart : kr ≢ ks) (sa ra : Endpoint)
           (way.left ∙ ap (drop (n * st.size)) (text_of_sender w n s))
 
       pub ack_ready : IsReady strangers v (i + 1) (data_at n)
-      ack_ready = ready_next strangers w v i (ack_at n) (data_at n) report ready step heard_ack.rests
+      ack_ready = ready_next strangers w v i (ack_at n) (data_at n) report ready step
           (sent_more.2.sent ∙ ap (λ (a : Endpoint). w.sent ++ datagram a ra (data_bytes (n + 1) (piece n)) ∷ []) s.address)
 
       pub ack_sender : SendsAt v (n + 1)

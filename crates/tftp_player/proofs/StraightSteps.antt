@@ -31,14 +31,13 @@ use Rattle.tftp_ends.specs.Step.{Turn, Done, Acts, GoesOn, StoresIn, response_tu
 use Rattle.tftp_ends.specs.Text.{Decoded}
 use Rattle.tftp_player.specs.Machine.{Endpoint}
 use Rattle.tftp_player.specs.Straight.{TookAll}
-use Rattle.tftp_player.specs.World.{WorldState, OpenedEnd, file_at, in_the_way, is_closed, datagram, replied, files_of, holding_of, with_files, in_state, end_after, closed_at, at_rest, resting}
+use Rattle.tftp_player.specs.World.{WorldState, OpenedEnd, file_at, in_the_way, is_closed, datagram, replied, files_of, holding_of, with_files, in_state, end_after, closed_at, at_rest}
 use Rattle.tftp_player.specs.WorldKept.{HeldFits, IsOk}
 use Rattle.tftp_player.specs.WorldSteps.{may_refuse_commit, EndStep, OnDatagram, Arrives, At_request_port, At_open_end, At_closed_end, At_nobody, WorldStep, world_sink}
 use Rattle.tftp_player.specs.declared.datagram.Datagram.{Datagram}
 use Rattle.tftp_player.specs.declared.event.Event.TheVariants.{Deliver}
 use Rattle.tftp_player.specs.declared.report.Report.{Report}
 use Rattle.tftp_player.proofs.HostBytes.{stored_more}
-use Rattle.tftp_player.proofs.Resting.{IsAtRest, at_rest_twice, resting_after}
 use Rattle.tftp_player.proofs.SaidLemmas.{data_of}
 use Rattle.tftp_player.proofs.SinkMoves.{Took, All_of_it, None_of_it, took, Kept_all, For_good, Not_yet, kept_by, stores_in, goes_on_with, held_fits}
 use Rattle.tftp_player.proofs.SourceMoves.{sends_from, block_sent}
@@ -57,7 +56,6 @@ pub record Hears (w : WorldState) (k : ℕ) (x : OpenedEnd) (from : Endpoint) (b
   pub sent : v.sent ≡ w.sent ++ replied x.address turn.reply
   pub ends : v.ends ≡ slice_set w.ends k (at_rest (end_after x turn held))
   pub closed : report.closed ≡ closed_at x.address (outcome_of turn.progress.phase)
-  pub rests : IsAtRest v
 
 -- two ends at one address are one
 same_end : (w : WorldState) (k j : ℕ) (x y : OpenedEnd) → HasPorts w → slice_get w.ends k ≡ Some x → slice_get w.ends j ≡ Some y → y.address ≡ x.address → (j ≡ k) × (y ≡ x)
@@ -69,44 +67,35 @@ same_end w k j x y ports here there same =
     (place, same_Some y x (sym there ∙ (ap (slice_get w.ends) place ∙ here)))
 
 module _ (w v : WorldState) (k : ℕ) (x : OpenedEnd) (from : Endpoint) (bytes : List ℕ) (report : Report)
-    (ports : HasPorts w) (rests : IsAtRest w) (there : slice_get w.ends k ≡ Some x) (open_now : is_closed x ≡ false) where
-  heard : (mid : WorldState) → v ≡ resting mid → OnDatagram w k x from bytes report mid → Hears w k x from bytes report v
-  heard mid is h =
-      let y = at_rest (end_after x h.turn h.held) in
-      let now = is ∙ (ap resting h.turns.is ∙ resting_after w k x h.turn h.held h.turns.files rests) in
-      let ends : v.ends ≡ slice_set w.ends k y = ap (λ (u : WorldState). u.ends) now in
-      record {
-        turn = h.turn;
-        held = h.held;
-        steps = h.steps;
-        sent = ap (λ (u : WorldState). u.sent) now;
-        ends = ends;
-        closed = ap (λ (r : Report). r.closed) h.turns.tells;
-        rests = ap (map at_rest) ends
-            ∙ (map-set at_rest w.ends k y
-            ∙ (ap (λ (xs : List OpenedEnd). slice_set xs k (at_rest y)) rests
-            ∙ (ap (λ (z : OpenedEnd). slice_set w.ends k z) (at_rest_twice (end_after x h.turn h.held)) ∙ sym ends)));
-      }
+    (ports : HasPorts w) (there : slice_get w.ends k ≡ Some x) (open_now : is_closed x ≡ false) where
+  heard : OnDatagram w k x from bytes report v → Hears w k x from bytes report v
+  heard h = record {
+    turn = h.turn;
+    held = h.held;
+    steps = h.steps;
+    sent = ap (λ (u : WorldState). u.sent) h.turns.is;
+    ends = ap (λ (u : WorldState). u.ends) h.turns.is;
+    closed = ap (λ (r : Report). r.closed) h.turns.tells;
+  }
 
-  arrived : (mid : WorldState) → v ≡ resting mid → Arrives w from x.address bytes report mid → Hears w k x from bytes report v
-  arrived mid is (At_request_port here port decoded says repeated same served) =
+  arrived : Arrives w from x.address bytes report v → Hears w k x from bytes report v
+  arrived (At_request_port here port decoded says repeated same served) =
       absurd (let a = ports k x there in let b = ap (λ (p : Endpoint). p.port) here in omega (arith, a, b))
-  arrived mid is (At_open_end j y at here still h) =
+  arrived (At_open_end j y at here still h) =
       let e = same_end w k j x y ports there at here in
-      heard mid is (subst (λ (z : OpenedEnd). OnDatagram w k z from bytes report mid) e.1 (subst (λ (i : ℕ). OnDatagram w i y from bytes report mid) e.0 h))
-  arrived mid is (At_closed_end j y at here closed_now s) =
+      heard (subst (λ (z : OpenedEnd). OnDatagram w k z from bytes report v) e.1 (subst (λ (i : ℕ). OnDatagram w i y from bytes report v) e.0 h))
+  arrived (At_closed_end j y at here closed_now s) =
       let e = same_end w k j x y ports there at here in
       absurd (true≢false (sym closed_now ∙ (ap is_closed e.1 ∙ open_now)))
-  arrived mid is (At_nobody away nobody s) = absurd (nobody k x there refl)
+  arrived (At_nobody away nobody s) = absurd (nobody k x there refl)
 
 -- a datagram for an open end is heard there
-pub delivered : (w v : WorldState) (i k : ℕ) (x : OpenedEnd) (from : Endpoint) (bytes : List ℕ) (report : Report) → HasPorts w → IsAtRest w →
+pub delivered : (w v : WorldState) (i k : ℕ) (x : OpenedEnd) (from : Endpoint) (bytes : List ℕ) (report : Report) → HasPorts w →
     slice_get w.sent i ≡ Some (datagram from x.address bytes) → slice_get w.ends k ≡ Some x → is_closed x ≡ false → WorldStep w (Deliver i) report v → Hears w k x from bytes report v
-delivered w v i k x from bytes report ports rests sent there open_now s =
-    let d = s.1.0 in
-    let same : d ≡ datagram from x.address bytes = same_Some d (datagram from x.address bytes) (sym s.1.1 ∙ sent) in
-    arrived w v k x from bytes report ports rests there open_now s.0 s.2
-    (subst (λ (z : Datagram). Arrives w z.from z.to z.bytes report s.0) same s.1.2)
+delivered w v i k x from bytes report ports sent there open_now s =
+    let d = s.0 in
+    let same : d ≡ datagram from x.address bytes = same_Some d (datagram from x.address bytes) (sym s.1 ∙ sent) in
+    arrived w v k x from bytes report ports there open_now (subst (λ (z : Datagram). Arrives w z.from z.to z.bytes report v) same s.2)
 
 -- bytes that spell a packet are decoded to it
 decoded_is : (bytes : List ℕ) (packet : Packet) (decoded : Option Packet) → Spells packet bytes → Decodes bytes decoded → decoded ≡ Some packet

@@ -1,9 +1,9 @@
 -- What a datagram of neither host leaves of the ends of a world.
 use Rattle.std.proofs.Common.{◌≡◌, ◌≢◌, ℕ, Bool, true, false, List, set, Some, refl, sym, ap, ◌∙◌, subst, inl, inr}
-use Rattle.std.specs.Prelude.{◌⊎◌, not, is_some, is_none, ◌&&◌, if◌then◌else◌, slice_get, option_map}
+use Rattle.std.specs.Prelude.{◌⊎◌, not, is_some, is_none, ◌&&◌, if◌then◌else◌, slice_get}
 use Rattle.std.proofs.lemmas.Bool.{true≢false}
 use Rattle.std.proofs.lemmas.Bool.Decides.{eqb_tells}
-use Rattle.std.proofs.lemmas.Option.{same_Some, slice_get-map}
+use Rattle.std.proofs.lemmas.Option.{same_Some}
 use Rattle.tftp_wire.specs.Reading.{has_error_opcode}
 use Rattle.tftp_file.specs.Memory.{memory_source}
 use Rattle.tftp_file.specs.declared.files.Files.{Files}
@@ -19,7 +19,7 @@ use Rattle.tftp_ends.specs.Action.{same_address, same_endpoint, is_stranger, gar
 use Rattle.tftp_ends.specs.Step.{Turn, Acts, with_progress}
 use Rattle.tftp_player.specs.Machine.{Endpoint, At_server, Elsewhere, host_of, request_port}
 use Rattle.tftp_player.specs.Strangers.{HasNoStranger, IsRecordedSo, StraysChangeNoRecord, ClientsHaveServers}
-use Rattle.tftp_player.specs.World.{WorldState, OpenedEnd, file_at, in_the_way, files_of, end_after, at_rest, resting, peer_of, view_of_end}
+use Rattle.tftp_player.specs.World.{WorldState, OpenedEnd, file_at, in_the_way, files_of, end_after, at_rest, peer_of, view_of_end}
 use Rattle.tftp_player.specs.WorldKept.{PhaseKept, IsOk}
 use Rattle.tftp_player.specs.WorldSteps.{may_refuse_commit, Serves, Arrives, At_request_port, At_open_end, At_closed_end, At_nobody, Opens, OnDatagram, world_sink}
 use Rattle.tftp_server.specs.Port.{Service, Silent, Refused, Sends, Takes}
@@ -70,19 +70,15 @@ module _ (w : WorldState) (k : ℕ) (x : OpenedEnd) (from : Endpoint) (bytes : L
       (subst (λ (b : Bool). Acts_at (if b then (if has_error_opcode bytes then Respond Ignore else Respond Stranger) else near)) strange t.steps.acts)
 
 -- what is recorded of an end whose state stayed
-after_state : (x : OpenedEnd) (turn : Turn) (held : Files (List ℕ) Holding) → turn.progress ≡ x.state.progress → record_of (end_after x turn held).state ≡ record_of x.state
-after_state x turn (Source left) same = ap (λ (p : Progress). record_of (with_progress p x.state)) same
-after_state x turn (Sink holding) same = ap (λ (p : Progress). record_of (with_progress p x.state)) same
+after_state : (x : OpenedEnd) (turn : Turn) (held : Files (List ℕ) Holding) → turn.progress ≡ x.state.progress → record_of (at_rest (end_after x turn held)).state ≡ record_of x.state
+after_state x turn (Source left) same = at_rest_record (end_after x turn (Source left)) ∙ ap (λ (p : Progress). record_of (with_progress p x.state)) same
+after_state x turn (Sink holding) same = at_rest_record (end_after x turn (Sink holding)) ∙ ap (λ (p : Progress). record_of (with_progress p x.state)) same
 
 equal_or_not : (a b : ℕ) → (a ≡ b) ⊎ (a ≢ b)
 equal_or_not a b = elim (eqb_tells a b) [
   | inl h ↦ inl h.1
   | inr h ↦ inr h.1
 ]
-
--- closed ends go to rest
-rests : (w : WorldState) (k : ℕ) (x : OpenedEnd) → IsRecordedSo w k x → IsRecordedSo (resting w) k x
-rests w k x r = (at_rest r.0, slice_get-map at_rest w.ends k ∙ ap (option_map at_rest) r.1, at_rest_record r.0 ∙ r.2)
 
 -- as it is
 as_is : (old new : WorldState) (k : ℕ) (x : OpenedEnd) → new.ends ≡ old.ends → slice_get old.ends k ≡ Some x → IsRecordedSo new k x
@@ -109,7 +105,7 @@ arrived : (strangers : Bool) (old new : WorldState) (from to : Endpoint) (bytes 
     Arrives old from to bytes report new → slice_get old.ends k ≡ Some x → HasNoStranger x → IsRecordedSo new k x
 arrived strangers old new from to bytes report k x ok far (At_request_port here port decoded says repeated same s) there home = served _ old new from bytes report k x s there
 arrived strangers old new from to bytes report k x ok far (At_open_end j y at address open_now t) there home =
-    same_place old new k j x y (end_after y t.turn t.held) (ap (λ (w : WorldState). w.ends) t.turns.is) at there
+    same_place old new k j x y (at_rest (end_after y t.turn t.held)) (ap (λ (w : WorldState). w.ends) t.turns.is) at there
     (λ here. let e : y ≡ x = same_Some y x (sym at ∙ (ap (slice_get old.ends) (sym here) ∙ there)) in
     let own : HasNoStranger y = subst HasNoStranger (sym e) home in
     let same = strange_same old j y from bytes report new t (is_strange y.state.progress.phase y from (ok.ends j y at).kept.phase far own open_now) in
@@ -120,7 +116,7 @@ arrived strangers old new from to bytes report k x ok far (At_nobody away nobody
 
 pub strays_change_no_record : StraysChangeNoRecord
 strays_change_no_record strangers old new from to bytes report k x ok s there home =
-    subst (λ (w : WorldState). IsRecordedSo w k x) (sym s.2) (rests s.0 k x (arrived strangers old s.0 from to bytes report k x ok s.1.0 s.1.1 there home))
+    arrived strangers old new from to bytes report k x ok s.0 s.1 there home
 
 pub clients_have_servers : ClientsHaveServers
 clients_have_servers strangers w x p ok i client peer =

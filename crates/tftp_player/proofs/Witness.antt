@@ -13,7 +13,6 @@ use Rattle.tftp_player.specs.World.{WorldState, OpenedEnd, StoredFile, file_at, 
 use Rattle.tftp_player.specs.WorldSteps.{EndStep, FilesAfter, At_open_end, WorldStep}
 use Rattle.tftp_player.specs.declared.datagram.Datagram.{Datagram}
 use Rattle.tftp_player.specs.declared.event.Event.TheVariants.{Deliver}
-use Rattle.tftp_player.proofs.Resting.{IsAtRest, resting_after}
 
 -- bytes, each below 256
 abbrev pub all_bytes : List ℕ → Bool
@@ -44,11 +43,11 @@ first_request from packet x client = (
 )
 
 -- an open end took a datagram
-pub takes : (w : WorldState) (i k : ℕ) (d : Datagram) (x : OpenedEnd) (turn : Turn) (held : Files (List ℕ) Holding) (files : List StoredFile) → IsAtRest w →
+pub takes : (w : WorldState) (i k : ℕ) (d : Datagram) (x : OpenedEnd) (turn : Turn) (held : Files (List ℕ) Holding) (files : List StoredFile) →
     slice_get w.sent i ≡ Some d → slice_get w.ends k ≡ Some x → x.address ≡ d.to → is_closed x ≡ false →
     EndStep (is_client x.state.role.side) (in_the_way w.overwrite (file_at w.files x.path)) d.from d.bytes x.state (files_of x) turn held →
     FilesAfter w.overwrite (not (is_client x.state.role.side) && has_committed x (end_after x turn held)) x.path (end_after x turn held).stored w.files files →
     WorldStep w (Deliver i) (report_of w x turn)
-    (record w { sent = w.sent ++ replied x.address turn.reply; files = files; ends = slice_set w.ends k (at_rest (end_after x turn held)) })
-takes w i k d x turn held files r sent there at open_now steps stored =
-    (world_after w k x turn held files, (d, sent, At_open_end k x there at open_now (record { turn = turn; held = held; steps = steps; turns = record { files = files; stored = stored; tells = refl; is = refl } })), sym (resting_after w k x turn held files r))
+    (world_after w k x turn held files)
+takes w i k d x turn held files sent there at open_now steps stored =
+    (d, sent, At_open_end k x there at open_now (record { turn = turn; held = held; steps = steps; turns = record { files = files; stored = stored; tells = refl; is = refl } }))

@@ -21,7 +21,7 @@ use Rattle.tftp_player.specs.Rules.{message}
 use Rattle.tftp_player.specs.Said.{said}
 use Rattle.tftp_player.specs.Shows.{EndView, IsShown}
 use Rattle.tftp_player.specs.World.{WorldState, OpenedEnd, StoredFile, file_at, in_the_way, datagram, files_of, is_closed, new_world, view_of_end}
-use Rattle.tftp_player.specs.WorldSteps.{may_refuse_commit, OnDatagram, Arrives, At_request_port, At_open_end, At_closed_end, At_nobody, TimesOut, told_to_refuse, EventStep}
+use Rattle.tftp_player.specs.WorldSteps.{may_refuse_commit, OnDatagram, Arrives, At_request_port, At_open_end, At_closed_end, At_nobody, TimesOut, told_to_refuse}
 use Rattle.tftp_player.specs.WorldKept.{PhaseKept, IsKeptIn, IsOk}
 use Rattle.tftp_player.specs.WorldRuns.{Runs, MayHappen, MayAllHappen, StepsKeep}
 use Rattle.tftp_player.specs.WorldSafety.{HasPeersAtHome}
@@ -30,7 +30,6 @@ use Rattle.tftp_player.specs.declared.event.Event.{Event}
 use Rattle.tftp_player.specs.declared.event.Event.TheVariants.{Get, Put, Deliver, Timeout, RefuseStore, Stray}
 use Rattle.tftp_player.specs.declared.report.Report.{Report}
 use Rattle.tftp_player.proofs.Places.{slice_get-set_cases}
-use Rattle.tftp_player.proofs.Resting.{resting_ok}
 use Rattle.tftp_player.proofs.Actions.{Stands, strays}
 use Rattle.tftp_player.proofs.Shown.{shown_start}
 use Rattle.tftp_player.proofs.ViewSafe.{shown_at_home}
@@ -206,21 +205,16 @@ stray_keeps w v ok report from to bytes far (At_open_end k x at here open_now g)
 stray_keeps w v ok report from to bytes far (At_closed_end k x at here closed_now s) = stays_ok true w v report ok s
 stray_keeps w v ok report from to bytes far (At_nobody away nobody_there s) = stays_ok true w v report ok s
 
--- each event keeps the world
-event_keeps : (strangers : Bool) (w v : WorldState) (event : Event) (report : Report) → MayHappen strangers event → IsOk strangers w → EventStep w event report v → IsOk strangers v
-event_keeps strangers w v (Get name mode asked) report may ok s = reading_keeps strangers w v name mode asked report ok s.1 s.2
-event_keeps strangers w v (Put name mode asked bytes) report may ok s = writing_keeps strangers w v name mode asked bytes report ok s.1 s.2
-event_keeps strangers w v (Deliver i) report may ok s =
-    arrives_keeps strangers w v ok report s.0.from s.0.to s.0.bytes (come_from strangers w ok s.0 (contains_at w.sent i s.0 s.1)) s.2
-event_keeps strangers w v (Timeout port) report may ok s = timeout_keeps strangers w v ok report s.0 s.1 s.2.there (is_closed s.1) refl s.3
-event_keeps strangers w v (RefuseStore port) report may ok s = subst (λ (z : WorldState). IsOk strangers z) (sym s.4) (told_keeps strangers w ok s.0 s.1 s.2.there)
-event_keeps true w v (Stray from to bytes) report may ok s = stray_keeps w v ok report from to bytes s.0 s.1
-event_keeps false w v (Stray from to bytes) report may ok s = absurd may
-
 -- each step keeps the world
 pub step_keeps : StepsKeep
-step_keeps strangers w v event report may ok s =
-    subst (λ (z : WorldState). IsOk strangers z) (sym s.2) (resting_ok strangers s.0 (event_keeps strangers w s.0 event report may ok s.1))
+step_keeps strangers w v (Get name mode asked) report may ok s = reading_keeps strangers w v name mode asked report ok s.1 s.2
+step_keeps strangers w v (Put name mode asked bytes) report may ok s = writing_keeps strangers w v name mode asked bytes report ok s.1 s.2
+step_keeps strangers w v (Deliver i) report may ok s =
+    arrives_keeps strangers w v ok report s.0.from s.0.to s.0.bytes (come_from strangers w ok s.0 (contains_at w.sent i s.0 s.1)) s.2
+step_keeps strangers w v (Timeout port) report may ok s = timeout_keeps strangers w v ok report s.0 s.1 s.2.there (is_closed s.1) refl s.3
+step_keeps strangers w v (RefuseStore port) report may ok s = subst (λ (z : WorldState). IsOk strangers z) (sym s.4) (told_keeps strangers w ok s.0 s.1 s.2.there)
+step_keeps true w v (Stray from to bytes) report may ok s = stray_keeps w v ok report from to bytes s.0 s.1
+step_keeps false w v (Stray from to bytes) report may ok s = absurd may
 
 -- so do all of them
 pub run_keeps : (strangers : Bool) (events : List Event) (w v : WorldState) → MayAllHappen strangers events → IsOk strangers w → Runs w events v → IsOk strangers v

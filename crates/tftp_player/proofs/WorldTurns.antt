@@ -1,5 +1,5 @@
 -- A turn of an end, an opening and an ERROR keep a world.
-use Rattle.std.proofs.Common.{◌≡◌, ℕ, Bool, true, false, List, [], ◌∷◌, ◌++◌, map, Option, Some, None, sym, refl, ap, ◌∙◌, subst, arith, inl, inr}
+use Rattle.std.proofs.Common.{◌≡◌, ℕ, Bool, true, false, List, [], ◌∷◌, ◌++◌, map, set, Option, Some, None, sym, refl, ap, ◌∙◌, subst, arith, inl, inr}
 use Rattle.std.specs.Prelude.{◌≢◌, ◌⊎◌, ◌&&◌, not, slice_get, option_map}
 use Rattle.std.specs.List.{Contains}
 use Rattle.std.proofs.lemmas.Bool.{true≢false}
@@ -18,13 +18,14 @@ use Rattle.tftp_player.specs.Rules.{message}
 use Rattle.tftp_player.specs.Said.{said}
 use Rattle.tftp_player.specs.Facts.{home}
 use Rattle.tftp_player.specs.Shows.{EndView, IsShown}
-use Rattle.tftp_player.specs.World.{WorldState, OpenedEnd, StoredFile, file_at, in_the_way, is_closed, datagram, replied, end_after, with_files, has_committed, world_after, opened_in, said_in, view_of_end}
+use Rattle.tftp_player.specs.World.{WorldState, OpenedEnd, StoredFile, file_at, in_the_way, is_closed, datagram, replied, at_rest, end_after, with_files, has_committed, world_after, opened_in, said_in, view_of_end}
 use Rattle.tftp_player.specs.WorldSteps.{FilesAfter, Turns, Opens}
 use Rattle.tftp_player.specs.WorldKept.{EndKept, IsKeptIn, SaysSo, MaySpeak, IsOk}
 use Rattle.tftp_player.specs.declared.datagram.Datagram.{Datagram}
 use Rattle.tftp_player.specs.declared.report.Report.{Report}
 use Rattle.tftp_player.proofs.Places.{slice_get-set_cases, slice_get-push_cases}
 use Rattle.tftp_player.proofs.EndMoves.{Goes, Replies, Newest}
+use Rattle.tftp_player.proofs.Resting.{at_rest_view, rest_kept}
 
 pub nothing_in : {X : Type 0} (x : X) → Contains [] x → ⊥
 nothing_in x h = let l = h.1 in omega arith
@@ -175,17 +176,17 @@ turn_keeps strangers w v ok k x turn held report at open_now g t = subst (λ (z 
       let own = at_home strangers w ok k x at in
       record {
         messages = ok.messages ++ g.said_now;
-        shown = subst (λ (vs : List EndView). IsShown vs (ok.messages ++ g.said_now)) (sym (map-set view_of_end w.ends k y)) g.shown;
+        shown = subst (λ (vs : List EndView). IsShown vs (ok.messages ++ g.said_now)) (sym (map-set view_of_end w.ends k (at_rest y) ∙ ap (set (map view_of_end w.ends) k) (at_rest_view y))) g.shown;
         sent = sent_then strangers w ok x.address own turn.reply g.said_now g.replies;
         only = only_then strangers w ok x.address own turn.reply g.said_now g.replies;
         speakers = speakers_then strangers w ok x.address own turn.reply g.said_now g.replies;
         max_block = ok.max_block;
-        ends = λ j z i. elim (slice_get-set_cases w.ends k j y z i) [
-          | inl h ↦ subst (λ (u : OpenedEnd). IsKeptIn (world_after w k x turn held t.files) u) (sym h.1) (record {
+        ends = λ j z i. elim (slice_get-set_cases w.ends k j (at_rest y) z i) [
+          | inl h ↦ subst (λ (u : OpenedEnd). IsKeptIn (world_after w k x turn held t.files) u) (sym h.1) (rest_kept (world_after w k x turn held t.files) y (record {
             kept = g.kept;
             last_sent = λ _. subst (λ (a : Endpoint). Contains (w.sent ++ replied x.address turn.reply) (datagram a y.state.progress.last_sent_to y.state.progress.last_sent)) (sym place) (last_sent_is y.state.progress.last_sent_to y.state.progress.last_sent g.last_sent);
             stored = stored_is;
-          })
+          }))
           | inr h ↦ still_kept w (world_after w k x turn held t.files) (replied x.address turn.reply) z refl refl stays (ok.ends j z h.1)
         ];
       }

@@ -22,7 +22,6 @@ use Rattle.tftp_player.specs.World.{WorldState, OpenedEnd, new_world, end_after,
 use Rattle.tftp_player.specs.WorldSteps.{At_request_port, WorldStep}
 use Rattle.tftp_player.specs.declared.datagram.Datagram.{Datagram}
 use Rattle.tftp_player.specs.declared.event.Event.TheVariants.{Put, Deliver}
-use Rattle.tftp_player.proofs.Resting.{resting_opened}
 use Rattle.tftp_player.proofs.StepLemmas.{put_step}
 use Rattle.tftp_player.proofs.WorldRuns.{new_ok}
 use Rattle.tftp_player.proofs.Witness.{bytes_below, first_request, takes}
@@ -92,18 +91,14 @@ abbrev w5 : WorldState
 w5 = record w4 { ends = slice_set w4.ends 0 (at_rest (end_after sending turn5 (Source []))) }
 
 asks : WorldStep w0 (Put name Octet nothing_asked file) (sent_report w0) w1
-asks = put_step w0 name Octet nothing_asked file refl (omega arith) (record { valid = search rules; options = search rules; fits = omega arith })
+asks = put_step w0 name Octet nothing_asked file (omega arith) (record { valid = search rules; options = search rules; fits = omega arith })
 
 opens : WorldStep w1 (Deliver 0) (sent_report w1) w2
 unfolding places_of
-opens = (
-  w2,
-  (d0, refl, At_request_port refl (omega arith) (Some (packet_in d0.bytes)) (fault_where_nothing d0.bytes (bytes_below d0.bytes refl) refl) false (first_request client.address (packet_in d0.bytes) client refl) (record { tells = refl; is = refl })),
-  sym (resting_opened w1 server refl refl),
-)
+opens = (d0, refl, At_request_port refl (omega arith) (Some (packet_in d0.bytes)) (fault_where_nothing d0.bytes (bytes_below d0.bytes refl) refl) false (first_request client.address (packet_in d0.bytes) client refl) (record { tells = refl; is = refl }))
 
 sends : WorldStep w2 (Deliver 1) (report_of w2 client turn3) w3
-sends = takes w2 1 0 d1 client turn3 (Source []) [] refl refl refl refl refl
+sends = takes w2 1 0 d1 client turn3 (Source []) [] refl refl refl refl
     (record {
       decoded = Some (packet_in d1.bytes);
       says = fault_where_nothing d1.bytes (bytes_below d1.bytes refl) refl;
@@ -121,7 +116,7 @@ no_file true q e n = absurd (n (same_text q name (sym e ∙ is_eq-slice_cmp q na
 no_file false q e n = refl
 
 stores : WorldStep w3 (Deliver 2) (report_of w3 server turn4) w4
-stores = takes w3 2 1 d2 server turn4 (Sink stored) ((name, file) ∷ []) refl refl refl refl refl
+stores = takes w3 2 1 d2 server turn4 (Sink stored) ((name, file) ∷ []) refl refl refl refl
     (record {
       decoded = Some (packet_in d2.bytes);
       says = fault_where_nothing d2.bytes (bytes_below d2.bytes refl) refl;
@@ -139,7 +134,7 @@ stores = takes w3 2 1 d2 server turn4 (Sink stored) ((name, file) ∷ []) refl r
     (record { free = refl; here = refl; others = λ q n. no_file (is_at (path_cmp q) name) q refl n })
 
 completes : WorldStep w4 (Deliver 3) (report_of w4 sending turn5) w5
-completes = takes w4 3 0 d3 sending turn5 (Source []) ((name, file) ∷ []) refl refl refl refl refl
+completes = takes w4 3 0 d3 sending turn5 (Source []) ((name, file) ∷ []) refl refl refl refl
     (record { decoded = Some (packet_in d3.bytes); says = fault_where_nothing d3.bytes (bytes_below d3.bytes refl) refl; acts = (refl, refl) }) refl
 
 pub write_transfers : Transfers (Put name Octet nothing_asked file) file

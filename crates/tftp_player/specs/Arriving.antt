@@ -6,7 +6,7 @@ use Rattle.tftp_player.specs.Machine.{Elsewhere as Far}
 use Rattle.tftp_player.specs.Serving.{PlayedServer}
 use Rattle.tftp_player.specs.Stage.{world_of}
 use Rattle.tftp_player.specs.World.{WorldState}
-use Rattle.tftp_player.specs.WorldSteps.{LacksPort, Lands}
+use Rattle.tftp_player.specs.WorldSteps.{Arrives, LacksPort}
 use Rattle.tftp_player.specs.declared.datagram.Datagram.{Datagram}
 use Rattle.tftp_player.specs.declared.effect.Effect.{Effect}
 use Rattle.tftp_player.specs.declared.player.Player.{Player}
@@ -24,13 +24,13 @@ ArrivalRefuses w to fault = ⊥
 -- what came of a datagram for the request port, whatever was sent before
 abbrev pub StageAsks : Endpoint → List ℕ → PlayedServer → PlayedServer → List Player → List Player → Effect → Type 0
 StageAsks from bytes before after players players' effect =
-    (sent : List Datagram) → Lands (world_of before.config sent before players) from request_port bytes (report_by sent effect)
+    (sent : List Datagram) → Arrives (world_of before.config sent before players) from request_port bytes (report_by sent effect)
     (world_of before.config (sent ++ said_by effect.from effect.to effect.bytes) after players')
 
 -- what came of a datagram, whatever was sent before
 abbrev pub StageArrives : Endpoint → Endpoint → List ℕ → PlayedServer → PlayedServer → List Player → List Player → Effect → Type 0
 StageArrives from to bytes before after players players' effect =
-    (sent : List Datagram) → Lands (world_of before.config sent before players) from to bytes (report_by sent effect)
+    (sent : List Datagram) → Arrives (world_of before.config sent before players) from to bytes (report_by sent effect)
     (world_of before.config (sent ++ said_by effect.from effect.to effect.bytes) after players')
 
 -- no port is left for an end that the datagram could open

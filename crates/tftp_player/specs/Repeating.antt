@@ -5,9 +5,9 @@ use Rattle.tftp_wire.specs.declared.packet.Packet.{Packet}
 use Rattle.tftp_wire.specs.declared.packet.Packet.TheVariants.{Read, Write}
 use Rattle.tftp_player.specs.Machine.{Endpoint, request_port}
 use Rattle.tftp_player.specs.Requests.{Repeats, AnyRepeats}
-use Rattle.tftp_player.specs.World.{WorldState, OpenedEnd, is_closed, no_report, resting}
+use Rattle.tftp_player.specs.World.{WorldState, OpenedEnd, is_closed, no_report}
 use Rattle.tftp_player.specs.WorldKept.{IsOk}
-use Rattle.tftp_player.specs.WorldSteps.{Lands, WorldStep}
+use Rattle.tftp_player.specs.WorldSteps.{Arrives, WorldStep}
 use Rattle.tftp_player.specs.declared.event.Event.{Event}
 use Rattle.tftp_player.specs.declared.report.Report.{Report}
 
@@ -18,12 +18,12 @@ AsksForTransfer (Write request) = Unit {0}
 AsksForTransfer packet = ⊥
 
 -- the request port ignores a request by which an open end of the server was asked for from the same endpoint: nothing is
--- sent, and no end opens or changes, but that closed ends are at rest
+-- sent, and no end opens or changes
 abbrev pub RepeatsOpenNothing : Type 0
 RepeatsOpenNothing =
     (strangers : Bool) (old new : WorldState) (from : Endpoint) (packet : Packet) (bytes : List ℕ) (report : Report) →
     IsOk strangers old → AsksForTransfer packet → Spells packet bytes → AnyRepeats from packet old.ends →
-    Lands old from request_port bytes report new → (report ≡ no_report) × (new ≡ resting old)
+    Arrives old from request_port bytes report new → (report ≡ no_report) × (new ≡ old)
 
 -- the datagram is a request to the request port: no open end was asked for by it from there before, and one is now
 pub record IsNewRequest (from to : Endpoint) (bytes : List ℕ) (old new : WorldState) : Type 0 where
@@ -38,7 +38,7 @@ pub record IsNewRequest (from to : Endpoint) (bytes : List ℕ) (old new : World
 abbrev pub OnlyNewRequestsOpen : Type 0
 OnlyNewRequestsOpen =
     (old new : WorldState) (from to : Endpoint) (bytes : List ℕ) (report : Report) →
-    Lands old from to bytes report new → length old.ends < length new.ends → IsNewRequest from to bytes old new
+    Arrives old from to bytes report new → length old.ends < length new.ends → IsNewRequest from to bytes old new
 
 -- what repeats the request of an end repeats it after each event, while the end is open
 abbrev pub RequestsLast : Type 0

@@ -1,5 +1,5 @@
 -- The world: all that was sent, the server's files, and every end that was ever opened.
-use Rattle.std.specs.Prelude.{ℕ, ◌+◌, ◌&&◌, not, Bool, true, false, if◌then◌else◌, List, [], ◌∷◌, ◌++◌, length, map, slice_set, Option, Some, None, is_some, option_map}
+use Rattle.std.specs.Prelude.{ℕ, ◌+◌, ◌&&◌, not, Bool, true, false, if◌then◌else◌, List, [], ◌∷◌, ◌++◌, length, slice_set, Option, Some, None, is_some, option_map}
 use Rattle.std.specs.BTreeMap.{is_at}
 use Rattle.std.specs.Cmp.Lexicographic.{slice_cmp}
 use Rattle.std.specs.Map.{lookup}
@@ -125,6 +125,42 @@ in_state state x = record x { state = state }
 abbrev pub end_after : OpenedEnd → Turn → Files (List ℕ) Holding → OpenedEnd
 end_after x turn files = with_files (in_state (after_turn x.state turn) x) files
 
+-- terms as a record tells them: not whether an OACK gave them
+abbrev pub rest_terms : Terms → Terms
+rest_terms terms = record terms { by_oack = false }
+
+-- a closed end keeps its mode and what its record tells, and nothing that only a later step could use
+abbrev pub rest_state : Phase → EndState → EndState
+rest_state (Waiting asked limit) e = e
+rest_state (Sending terms number) e = e
+rest_state (Receiving terms number) e = e
+rest_state (Dallying terms number dally) e = e
+rest_state (Closed terms number complete outcome) e =
+    record {
+      role = record { side = e.role.side; mode = e.role.mode; length = 0; retries = 0 };
+      progress =
+          record {
+            retries_left = 0;
+            last_sent = [];
+            last_sent_to = request_port;
+            held = [];
+            phase = Closed (option_map rest_terms terms) number complete outcome;
+          };
+    }
+
+-- nor has it a source any more, nor the request that asked for it
+abbrev pub while_open : Phase → List ℕ → List ℕ
+while_open phase bytes = if is_some (outcome_of phase) then [] else bytes
+
+-- an end, of which no more is kept than its record if it is closed
+abbrev pub at_rest : OpenedEnd → OpenedEnd
+at_rest x =
+    record x {
+      state = rest_state x.state.progress.phase x.state;
+      left = while_open x.state.progress.phase x.left;
+      request = while_open x.state.progress.phase x.request;
+    }
+
 -- the end has committed what it stored, and had not before
 abbrev pub has_committed : OpenedEnd → OpenedEnd → Bool
 has_committed x y = not x.committed && y.committed
@@ -135,7 +171,7 @@ world_after w k x turn held files =
     record w {
       sent = w.sent ++ replied x.address turn.reply;
       files = files;
-      ends = slice_set w.ends k (end_after x turn held);
+      ends = slice_set w.ends k (at_rest (end_after x turn held));
     }
 
 -- the place of the datagram that was sent, if one was
@@ -214,46 +250,6 @@ view_of_end x =
       failed = has_failed x.state.progress.phase;
       text = text_of x;
     }
-
--- terms as a record tells them: not whether an OACK gave them
-abbrev pub rest_terms : Terms → Terms
-rest_terms terms = record terms { by_oack = false }
-
--- a closed end keeps its mode and what its record tells, and nothing that only a later step could use
-abbrev pub rest_state : Phase → EndState → EndState
-rest_state (Waiting asked limit) e = e
-rest_state (Sending terms number) e = e
-rest_state (Receiving terms number) e = e
-rest_state (Dallying terms number dally) e = e
-rest_state (Closed terms number complete outcome) e =
-    record {
-      role = record { side = e.role.side; mode = e.role.mode; length = 0; retries = 0 };
-      progress =
-          record {
-            retries_left = 0;
-            last_sent = [];
-            last_sent_to = request_port;
-            held = [];
-            phase = Closed (option_map rest_terms terms) number complete outcome;
-          };
-    }
-
--- nor has it a source any more, nor the request that asked for it
-abbrev pub while_open : Phase → List ℕ → List ℕ
-while_open phase bytes = if is_some (outcome_of phase) then [] else bytes
-
--- an end, of which no more is kept than its record if it is closed
-abbrev pub at_rest : OpenedEnd → OpenedEnd
-at_rest x =
-    record x {
-      state = rest_state x.state.progress.phase x.state;
-      left = while_open x.state.progress.phase x.left;
-      request = while_open x.state.progress.phase x.request;
-    }
-
--- a world whose closed ends are at rest
-abbrev pub resting : WorldState → WorldState
-resting w = record w { ends = map at_rest w.ends }
 
 -- what was agreed on, as far as a record tells it
 abbrev pub recorded_terms : Record → Option Endpoint → Option Terms

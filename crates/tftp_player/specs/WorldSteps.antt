@@ -11,7 +11,7 @@ use Rattle.tftp_ends.specs.End.{EndState, is_sender, is_client}
 use Rattle.tftp_ends.specs.Action.{Decodes}
 use Rattle.tftp_ends.specs.Step.{Turn, DatagramStep, timeout_turn, error_bytes}
 use Rattle.tftp_player.specs.Machine.{Endpoint, Elsewhere, host_of, request_port}
-use Rattle.tftp_player.specs.World.{StoredFile, file_at, in_the_way, OpenedEnd, WorldState, next_port, is_closed, datagram, resting, files_of, end_after, has_committed, world_after, report_of, no_report, opened_in, said_in, sent_report}
+use Rattle.tftp_player.specs.World.{StoredFile, file_at, in_the_way, OpenedEnd, WorldState, next_port, is_closed, datagram, files_of, end_after, has_committed, world_after, report_of, no_report, opened_in, said_in, sent_report}
 use Rattle.tftp_player.specs.Openings.{reading_client, writing_client, MayGet, MayPut, sending_end, receiving_end}
 use Rattle.tftp_server.specs.Port.{Service, Silent, Refused, Sends, Takes}
 use Rattle.tftp_player.specs.Requests.{IsRepeated, service}
@@ -128,24 +128,20 @@ pub record IsAtPort (w : WorldState) (port k : ℕ) (x : OpenedEnd) : Type 0 whe
   pub is : port ≡ 1024 + k
   pub there : slice_get w.ends k ≡ Some x
 
--- how an event that is not refused handles a world, closed ends as they were when they closed
-abbrev pub EventStep : WorldState → Event → Report → WorldState → Type 0
-EventStep old (Get name mode asked) report new =
+-- how an event that is not refused handles a world
+abbrev pub WorldStep : WorldState → Event → Report → WorldState → Type 0
+WorldStep old (Get name mode asked) report new =
     HasPort old × MayGet name mode asked × Opens old (reading_client old name mode asked) report new
-EventStep old (Put name mode asked bytes) report new =
+WorldStep old (Put name mode asked bytes) report new =
     HasPort old × MayPut name mode asked (length (wire_text mode bytes)) × Opens old (writing_client old name mode asked bytes) report new
-EventStep old (Deliver i) report new =
+WorldStep old (Deliver i) report new =
     (d : Datagram) × (slice_get old.sent i ≡ Some d) × Arrives old d.from d.to d.bytes report new
-EventStep old (Timeout port) report new =
+WorldStep old (Timeout port) report new =
     (k : ℕ) × (x : OpenedEnd) × IsAtPort old port k x × TimesOut (is_closed x) old k x report new
-EventStep old (RefuseStore port) report new =
+WorldStep old (RefuseStore port) report new =
     (k : ℕ) × (x : OpenedEnd) × IsAtPort old port k x
     × (report ≡ no_report) × (new ≡ record old { ends = slice_set old.ends k (told_to_refuse x) })
-EventStep old (Stray from to bytes) report new = (host_of from ≡ Elsewhere) × Arrives old from to bytes report new
-
--- how an event handles a world: of an end that is closed no more is kept than its record
-abbrev pub WorldStep : WorldState → Event → Report → WorldState → Type 0
-WorldStep old event report new = (mid : WorldState) × EventStep old event report mid × (new ≡ resting mid)
+WorldStep old (Stray from to bytes) report new = (host_of from ≡ Elsewhere) × Arrives old from to bytes report new
 
 -- the event finds a datagram of this place
 abbrev pub FindsNone : List Datagram → ℕ → Type 0
@@ -180,10 +176,6 @@ MemoryLast reason fault = reason fault
 -- why an event is refused
 abbrev pub WorldRefuses : WorldState → Event → WorldFault → Type 0
 WorldRefuses w event fault = MemoryLast (EventRefuses w event) fault
-
--- what a datagram came to, and then closed ends at rest
-abbrev pub Lands : WorldState → Endpoint → Endpoint → List ℕ → Report → WorldState → Type 0
-Lands old from to bytes report new = (mid : WorldState) × Arrives old from to bytes report mid × (new ≡ resting mid)
 
 -- the datagrams from this place on were delivered one after another, so many of them
 abbrev pub Settles : WorldState → ℕ → List Report → WorldState → Type 0

@@ -3,7 +3,7 @@
 ghost use Rattle.std.specs.Prelude.{◌≡◌, IfOk, IfErr, OnErr};
 ghost use Rattle.tftp_player.specs.Machine.{host_of, Elsewhere};
 ghost use Rattle.tftp_player.specs.Arriving.{ArrivalRefuses};
-ghost use Rattle.tftp_player.specs.WorldSteps.{Lands, WorldRefuses, WorldStep};
+ghost use Rattle.tftp_player.specs.WorldSteps.{Arrives, WorldRefuses, WorldStep};
 ghost use Rattle.tftp_player.specs.declared.event.Event.TheVariants.{Deliver, Stray};
 
 use crate::effect::write_down;
@@ -61,7 +61,7 @@ impl Stage {
         bytes: &[u8],
     ) -> Result<Report, WorldFault>
         ensures arrives { IfOk result (λ report.
-            Lands self.old from to bytes.now report self.new) }
+            Arrives self.old from to bytes.now report self.new) }
         ensures refused { IfErr result (ArrivalRefuses self.old to) }
         ensures err { OnErr result (self.new ≡ self.old) }
     {

@@ -1,13 +1,11 @@
 -- A stray arrives like a datagram, and is not added to the list.
 use Rattle.std.proofs.Common.{List, ℕ, subst}
 use Rattle.std.proofs.lemmas.Result.{IfOk-weaker}
-use Rattle.tftp_player.specs.WorldSteps.{Lands}
+use Rattle.tftp_player.specs.WorldSteps.{Arrives}
 use Rattle.tftp_player.proofs.stage.Stage.stray.Goals as goal
 
 pub returns-clause-steps : goal.returns-clause-steps
 returns-clause-steps c =
     IfOk-weaker c.arrive.result _ _
-    (λ report a.
-    let l = subst (λ (bytes : List ℕ). Lands c.args.self.now c.args.from c.args.to bytes report c.arrive.new.self) c.as_slice.ensures a in
-    (l.0, (c.requires, l.1), l.2))
+    (λ report a. (c.requires, subst (λ (bytes : List ℕ). Arrives c.args.self.now c.args.from c.args.to bytes report c.arrive.new.self) c.as_slice.ensures a))
     c.arrive.ensures.arrives

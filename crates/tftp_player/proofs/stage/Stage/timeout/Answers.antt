@@ -12,7 +12,7 @@ returns-in_default-clause-refused c =
 
 pub returns-in-Ok-on_timeout-clause-steps : goal.returns-in-Ok-on_timeout-clause-steps
 returns-in-Ok-on_timeout-clause-steps c =
-    timeout_result c.self.inside.config _ _ _ _ _ _ _ _ _ _ _ _ c.self.view_is c.in-Some.ensures.some.0 c.self.invariant.1.kept c.in-Ok-on_timeout.ensures.times_out
+    timeout_result c.self.inside.config _ _ _ _ _ _ _ _ _ _ _ _ c.self.view_is c.in-Some.ensures.some.0 c.in-Ok-on_timeout.ensures.times_out
     c.in-Ok.ensures.items c.write_down.ensures.sent c.write_down.ensures.report
 
 pub returns-in_default-reserve-clause-refused : goal.returns-in_default-reserve-clause-refused
