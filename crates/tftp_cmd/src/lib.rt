@@ -13,7 +13,7 @@ pub use arguments::{play_command, play_words, show_command, show_words};
 pub use play::play_run;
 pub use show::{show_lines, show_run};
 pub use tftp_udp::{
-    ClientEnd, FolderDraft, FolderStore, LONGEST_WAIT, LineClock, LogLine, Port, Printed, Progress,
-    Watch, deadline, fallback, is_due, place_of, tftp_command, tftp_words, tftpd_command,
-    tftpd_words, wait_for,
+    ClientEnd, FolderDraft, FolderStore, LONGEST_WAIT, LineClock, LogLine, Port, Printed,
+    ProgressLine, Watch, deadline, fallback, is_due, place_of, tftp_command, tftp_words,
+    tftpd_command, tftpd_words, wait_for,
 };

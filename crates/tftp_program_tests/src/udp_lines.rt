@@ -3,7 +3,7 @@
 use std::fmt::Display;
 use std::process::Abort;
 use std::test::Fail;
-use tftp_cmd::{ClientEnd, LineClock, LogLine, Progress};
+use tftp_cmd::{ClientEnd, LineClock, LogLine, ProgressLine};
 use tftp_ends::{Endpoint, OpenFault, Outcome};
 
 /// A value prints this.
@@ -42,18 +42,18 @@ fn client_ends(rt: HostRuntime) -> Result<(), Fail> {
 /// How far a transfer came: a megabyte in 80 ms is 12.5 MB/s.
 #[test]
 fn progress_lines(rt: HostRuntime) -> Result<(), Fail> {
-    let told = |bytes: u64, total: Option<u64>, millis: u64| Progress {
+    let line = |bytes: u64, total: Option<u64>, millis: u64| ProgressLine {
         bytes,
         total,
         millis,
     };
-    prints(&rt, &told(1_000_000, None, 80), "1000000 bytes, 12.5 MB/s")?;
+    prints(&rt, &line(1_000_000, None, 80), "1000000 bytes, 12.5 MB/s")?;
     prints(
         &rt,
-        &told(999, Some(1_000), 1_000),
+        &line(999, Some(1_000), 1_000),
         "999 bytes, 99%, 0.0 MB/s",
     )?;
-    prints(&rt, &told(0, Some(0), 0), "0 bytes, 100%, 0.0 MB/s")?;
+    prints(&rt, &line(0, Some(0), 0), "0 bytes, 100%, 0.0 MB/s")?;
     Ok(())
 }
 

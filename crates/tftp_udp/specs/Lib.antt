@@ -3,5 +3,5 @@ pub mod Fallback
 pub mod Folder
 pub mod LogLine
 pub mod Printed
-pub mod Progress
+pub mod ProgressLine
 pub mod Watch

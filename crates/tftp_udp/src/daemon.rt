@@ -5,7 +5,7 @@ mod transfer_port;
 ghost use Rattle.tftp_server.specs.Config.{IsConfig};
 
 use crate::daemon::transfer_port::{
-    MOST_AT_ONCE, Told, TransferSocket, Turn, data_length, shown, take_datagrams, take_timeout,
+    LogEntry, MOST_AT_ONCE, TransferSocket, Turn, data_length, shown, take_datagrams, take_timeout,
     timeout_of,
 };
 use crate::folder::FolderStore;
@@ -283,11 +283,11 @@ impl<R: Files + Drop> Daemon<R> {
         };
         let first = self.out.as_slice();
         send(&socket, from, first);
-        let told = if self.logs {
-            let told = Told::new(self.alloc, from, bytes, first, self.watch.now);
-            let line = told.opened(tid);
+        let log_entry = if self.logs {
+            let entry = LogEntry::new(self.alloc, from, bytes, first, self.watch.now);
+            let line = entry.opened(tid);
             let _ = eprintln!(rt; "{line}");
-            Some(told)
+            Some(entry)
         } else {
             None
         };
@@ -304,7 +304,7 @@ impl<R: Files + Drop> Daemon<R> {
             socket: TransferSocket {
                 udp: socket,
                 bytes: data_length(self.out.as_slice()),
-                told,
+                log_entry,
             },
         });
     }
@@ -419,8 +419,8 @@ impl<R: Files + Drop> Daemon<R> {
         else {
             return Ok(());
         };
-        if let Some(told) = &port.socket.told {
-            let line = told.closed(port.tid, port.socket.bytes, self.watch.now, outcome);
+        if let Some(entry) = &port.socket.log_entry {
+            let line = entry.closed(port.tid, port.socket.bytes, self.watch.now, outcome);
             let _ = eprintln!(rt; "{line}");
         }
         let line = Printed::Closed {

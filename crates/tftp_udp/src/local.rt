@@ -145,8 +145,8 @@ impl<R: Files + Drop> LocalFile<R> {
         self.error
     }
 
-    /// Keeps why a call failed, and tells its fault.
-    fn keep(&mut self, error: io::Error) -> StoreFault
+    /// Records why a call failed, and returns its fault.
+    fn record_error(&mut self, error: io::Error) -> StoreFault
         ensures { result ≢ Memory }
     {
         let fault = store_fault(&error);
@@ -212,17 +212,17 @@ impl<R: Files + Drop> Sink for LocalFile<R> {
                 self.count = self.count.saturating_add(bytes.len() as u64);
                 Ok(())
             }
-            Err(error) => Err(self.keep(error)),
+            Err(error) => Err(self.record_error(error)),
         }
     }
 
     fn commit(&mut self) -> Result<(), StoreFault> {
         if let Err(error) = self.writer.flush() {
-            return Err(self.keep(error));
+            return Err(self.record_error(error));
         }
         match self.name() {
             Ok(()) => Ok(()),
-            Err(error) => Err(self.keep(error)),
+            Err(error) => Err(self.record_error(error)),
         }
     }
 }

@@ -5,7 +5,7 @@ ghost use Rattle.tftp_ends.specs.Files.{AreFilesOf};
 
 use crate::client::failure::Reason;
 use crate::client::socket::ClientSocket;
-use crate::progress::{LineClock, Progress};
+use crate::progress_line::{LineClock, ProgressLine};
 use crate::udp::{DATAGRAM_BUFFER, read_clock};
 use crate::watch::{LONGEST_WAIT, Watch, deadline, is_due};
 use std::alloc::{AllocError, Global};
@@ -165,10 +165,10 @@ impl Conversation {
     }
 
     /// How far the transfer came: full blocks, since the last one is no wait's.
-    fn progress(&self) -> Progress {
+    fn progress_line(&self) -> ProgressLine {
         let record = self.end.record();
         let bytes = u64::from(record.number) * u64::from(record.size);
-        Progress {
+        ProgressLine {
             bytes: match self.total {
                 Some(total) => bytes.min(total),
                 None => bytes,
@@ -186,8 +186,8 @@ impl Conversation {
             return;
         };
         if lines.take_due(self.watch.now) {
-            let progress = self.progress();
-            let _ = eprint!(rt; "\r{progress}{ERASE_REST}");
+            let line = self.progress_line();
+            let _ = eprint!(rt; "\r{line}{ERASE_REST}");
         }
     }
 
@@ -196,11 +196,11 @@ impl Conversation {
         if self.lines.is_none() {
             return;
         }
-        let mut progress = self.progress();
+        let mut line = self.progress_line();
         if let Some(bytes) = stored {
-            progress.bytes = bytes;
+            line.bytes = bytes;
         }
-        let _ = eprintln!(rt; "\r{progress}{ERASE_REST}");
+        let _ = eprintln!(rt; "\r{line}{ERASE_REST}");
     }
 
     /// The ERROR by which the peer gave up, if it did.

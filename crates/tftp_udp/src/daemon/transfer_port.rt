@@ -27,26 +27,26 @@ pub(crate) enum Turn {
     Closed,
 }
 
-/// A transfer's socket, with what is told of the transfer at its close.
+/// A transfer's socket, with what is reported of the transfer at its close.
 #[derive(Drop)]
 pub(crate) struct TransferSocket {
     pub(crate) udp: UdpSocket,
     /// The bytes of DATA that were sent or taken, each once.
     pub(crate) bytes: u64,
     /// What the log says of it, where there is a log.
-    pub(crate) told: Option<Told>,
+    pub(crate) log_entry: Option<LogEntry>,
 }
 
 /// What the log says of a transfer.
 #[derive(Drop)]
-pub(crate) struct Told {
+pub(crate) struct LogEntry {
     peer: Endpoint,
     request: String,
     answer: String,
     opened_at: u64,
 }
 
-impl Told {
+impl LogEntry {
     /// A transfer that this request opens at this time, with this answer.
     pub(crate) fn new(
         alloc: Global,
@@ -54,8 +54,8 @@ impl Told {
         request: &[u8],
         answer: &[u8],
         opened_at: u64,
-    ) -> Told {
-        Told {
+    ) -> LogEntry {
+        LogEntry {
             peer,
             request: shown(alloc, request),
             answer: shown(alloc, answer),

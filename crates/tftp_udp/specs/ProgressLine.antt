@@ -1,7 +1,7 @@
 -- How far a client's transfer came, as a line (own).
 use Rattle.std.specs.Prelude.{ℕ, ◌≤◌, ◌-◌, ◌*◌, ◌/◌, ◌%◌, nat_le, max, if◌then◌else◌, List, ◌++◌, codes, Option, Some, None}
 use Rattle.std.specs.Fmt.{decimal}
-use Rattle.tftp_udp.specs.declared.progress.Progress.{Progress}
+use Rattle.tftp_udp.specs.declared.progress_line.ProgressLine.{ProgressLine}
 
 -- a line is due: there is none yet, or the newest one is a tenth of a second old
 abbrev pub IsLineDue : Option ℕ → ℕ → Type 0
@@ -26,7 +26,7 @@ share_text bytes None rest = rest
 share_text bytes (Some total) rest = decimal (percent_of bytes total) ++ (codes "%, " ++ rest)
 
 -- the line, without its end
-abbrev pub progress_text : Progress → List ℕ
-progress_text progress =
-    decimal progress.bytes
-    ++ (codes " bytes, " ++ share_text progress.bytes progress.total (speed_text (tenths_of progress.bytes progress.millis)))
+abbrev pub progress_line_text : ProgressLine → List ℕ
+progress_line_text line =
+    decimal line.bytes
+    ++ (codes " bytes, " ++ share_text line.bytes line.total (speed_text (tenths_of line.bytes line.millis)))

@@ -1,7 +1,7 @@
 //! How far a client's transfer came, as a line, and when a line is due.
 
 ghost use Rattle.std.specs.Prelude.{◌≡◌, ◌↔◌, IsTrue, if◌then◌else◌, Some};
-ghost use Rattle.tftp_udp.specs.Progress.{IsLineDue, percent_of, tenths_of};
+ghost use Rattle.tftp_udp.specs.ProgressLine.{IsLineDue, percent_of, tenths_of};
 
 use std::fmt;
 
@@ -34,7 +34,7 @@ impl LineClock {
 /// How far a transfer came. `{}` writes its bytes, their share of the whole where that is known, and
 /// their speed.
 #[derive(Clone, Copy, Debug, PartialEq, Eq)]
-pub struct Progress {
+pub struct ProgressLine {
     /// The bytes that were transferred.
     pub bytes: u64,
     /// The bytes of the whole file, where they are known.
@@ -43,7 +43,7 @@ pub struct Progress {
     pub millis: u64,
 }
 
-impl Progress {
+impl ProgressLine {
     /// The share of the whole in percent, 100 at most.
     fn percent(self, total: u64) -> u64
         ensures { result ≡ percent_of self.bytes total }
@@ -63,11 +63,11 @@ impl Progress {
     }
 }
 
-impl fmt::Display for Progress {
+impl fmt::Display for ProgressLine {
     ghost use Rattle.std.specs.Prelude.{Some};
-    ghost use Rattle.tftp_udp.specs.Progress.{progress_text};
+    ghost use Rattle.tftp_udp.specs.ProgressLine.{progress_line_text};
 
-    ghost output = { λ progress. Some (progress_text progress) };
+    ghost output = { λ line. Some (progress_line_text line) };
 
     fn fmt<W: fmt::Write>(&self, f: &mut fmt::Formatter<W>) -> fmt::Result {
         let bytes = self.bytes;
