@@ -4,12 +4,12 @@ use Rattle.tftp_wire.specs.declared.limits.TheConstants.{MAX_REQUEST}
 use Rattle.tftp_wire.specs.Options.{options_bytes}
 use Rattle.tftp_negotiate.specs.declared.known.Known.{Known}
 use Rattle.tftp_negotiate.specs.Agreed.{IsAgreement, agreed_options}
-use Rattle.tftp_negotiate.proofs.LawsLemmas.{agreements_are_short}
+use Rattle.tftp_negotiate.specs.Laws.{AgreementsAreShort}
 use Rattle.tftp_ends.specs.Opening.{oack_bytes}
 
 -- it has three options at most
-pub oack_short : (agreed : List Known) (bytes : List ℕ) → IsAgreement agreed → length (options_bytes (agreed_options agreed)) ≤ 49 * length agreed → bytes ≡ oack_bytes agreed → length bytes ≤ MAX_REQUEST
-oack_short agreed bytes rule short is =
-    let three = agreements_are_short agreed rule in
+pub oack_short : AgreementsAreShort → (agreed : List Known) (bytes : List ℕ) → IsAgreement agreed → length (options_bytes (agreed_options agreed)) ≤ 49 * length agreed → bytes ≡ oack_bytes agreed → length bytes ≤ MAX_REQUEST
+oack_short law agreed bytes rule short is =
+    let three = law agreed rule in
     let len : length bytes ≡ suc (suc (length (options_bytes (agreed_options agreed)))) = ap length is in
     omega (arith, short, three, len)

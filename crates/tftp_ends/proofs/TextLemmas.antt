@@ -9,6 +9,7 @@ use Rattle.tftp_file.specs.Netascii.{wire_byte, netascii_text}
 use Rattle.tftp_file.specs.Decoding.{IsHeld, Decodes, IsWrong, Refuses}
 use Rattle.tftp_file.specs.declared.netascii.NetFault.{NetFault}
 use Rattle.tftp_file.specs.declared.netascii.NetFault.TheVariants.{LoneCr, LoneLf, EndsInCr, Memory}
+use Rattle.tftp_ends.specs.Laws.{DecodedBegins, DecodedEnds}
 use Rattle.tftp_ends.specs.Text.{begins_netascii, ends_in_cr, is_readable}
 use Rattle.tftp_ends.specs.Sound.{HeldFits}
 use Rattle.tftp_ends.specs.Step.{Done}
@@ -54,11 +55,11 @@ held_begins held h = elim h [
 ]
 
 -- what decodes begins a wire text
-pub decoded_begins : (held piece bytes after : List ℕ) → Decodes held piece bytes after → begins_netascii (held ++ piece) ≡ true
+pub decoded_begins : DecodedBegins
 decoded_begins held piece bytes after d = ap begins_netascii d.1 ∙ ((text_begins bytes after).0 ∙ held_begins after d.0)
 
 -- and ends in a CR if one is held back
-pub decoded_ends : (held piece bytes after : List ℕ) → Decodes held piece bytes after → ends_in_cr (held ++ piece) ≡ ends_in_cr after
+pub decoded_ends : DecodedEnds
 decoded_ends held piece bytes after d = ap ends_in_cr d.1 ∙ (text_begins bytes after).1
 
 -- what has a wrong byte does not

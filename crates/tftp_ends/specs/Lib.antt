@@ -3,6 +3,7 @@ pub mod ErrorReply
 pub mod End
 pub mod Phase
 pub mod Text
+pub mod Laws
 pub mod Waiting
 pub mod Sender
 pub mod Receiver

@@ -108,8 +108,8 @@ impl End {
         self.phase.outcome()
     }
 
-    /// How many bytes the end keeps between two events: of the datagram at most a header and a block
-    /// of the agreed size, or 512 for a request or an OACK, and of text one at most.
+    /// How many bytes the end keeps between two events: of the datagram at most a header and a
+    /// block of the agreed size, or 512 for a request or an OACK, and of text one at most.
     pub fn held(&self) -> Held
         ensures held { result ≡ held_by self.now }
         ensures datagram { result.datagram ≤ longest_sent (terms_of self.now.progress.phase) }
@@ -121,8 +121,8 @@ impl End {
         }
     }
 
-    /// The seconds that the caller lets pass in silence before a timeout: the agreed ones (RFC 2349,
-    /// "Timeout Interval Option Specification"), or 1.
+    /// The seconds that the caller lets pass in silence before a timeout: the agreed ones (RFC
+    /// 2349, "Timeout Interval Option Specification"), or 1.
     pub fn interval(&self) -> u8
         ensures { result ≡ interval_of (terms_of self.now.progress.phase) }
     {
@@ -262,9 +262,9 @@ impl End {
     /// Takes a datagram that came from there to the end's port, and tells what goes out: no byte of
     /// it is copied. [`End::bytes_of`] lends it, and [`Step::to`] says where it goes.
     ///
-    /// `files` is the end's source if it sends, and its sink if it receives. After `Closed` and after
-    /// `Memory` nothing has changed; `Memory` comes only where a file is asked for a block or given
-    /// one.
+    /// `files` is the end's source if it sends, and its sink if it receives. After `Closed` and
+    /// after `Memory` nothing has changed; `Memory` comes only where a file is asked for a block or
+    /// given one.
     pub fn handle_datagram<S: Source, K: Sink>(
         &mut self,
         files: &mut Files<S, K>,
@@ -294,8 +294,8 @@ impl End {
         Ok((before.step_to(self.phase(), to), outgoing))
     }
 
-    /// Takes a timeout, and tells what goes out. It takes no memory: its one fault is `Closed`, after
-    /// which nothing has changed.
+    /// Takes a timeout, and tells what goes out. It takes no memory: its one fault is `Closed`,
+    /// after which nothing has changed.
     pub fn handle_timeout(&mut self) -> Result<(Step, Outgoing), EndFault>
         ensures steps { IfOk result (λ answer.
             Lends self.old (timeout_turn self.old) self.new answer.0.to answer.1
@@ -365,8 +365,8 @@ impl End {
     /// Takes a timeout: nothing came for the agreed time since an opening, progress or the last
     /// timeout. A late or an early one does no harm; each uses one retry.
     ///
-    /// At most one datagram is appended to `out`; [`Step::to`] says where it goes. After `Closed` and
-    /// after `Memory` nothing has changed.
+    /// At most one datagram is appended to `out`; [`Step::to`] says where it goes. After `Closed`
+    /// and after `Memory` nothing has changed.
     pub fn on_timeout(&mut self, out: &mut Vec<u8>) -> Result<Step, EndFault>
         ensures steps { IfOk result (λ step.
             Carries self.old (timeout_turn self.old) self.new step.to out.old.items out.new.items

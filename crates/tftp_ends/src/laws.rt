@@ -1,8 +1,9 @@
-//! What holds of every run of an end, over the definitions of its steps alone. That the calls of an
-//! [`End`](crate::End) are such steps their contracts say.
+//! What holds of every run of an end and of a receiver's text, over their definitions alone. That
+//! the calls of an [`End`](crate::End) are such steps their contracts say.
 
 ghost use Rattle.std.specs.Prelude.{◌≡◌, ◌+◌, ◌*◌, ◌≤◌, ℕ, List, length, true};
 ghost use Rattle.tftp_ends.specs.End.{EndState, is_sender};
+ghost use Rattle.tftp_ends.specs.Laws.{DecodedBegins, DecodedEnds};
 ghost use Rattle.tftp_ends.specs.Run.{IsOpening, IsOpen, IsRun, AnswersByProgress, Taken, end_behind, progress_count, timeout_count, data_count, datagram_count, count_if, opened_by_data};
 
 use tftp_file::{Sink, Source};
@@ -34,4 +35,11 @@ pub fn run_bounds<S: Source, K: Sink>()
         → IsOpen (end_behind e run) → is_sender e.role.side ≡ true
         → AnswersByProgress S.meaning K.meaning (end_behind e run) }
     ensures datagrams { (run : List Taken) → datagram_count run ≤ length run }
+{}
+
+/// What stands for bytes of the host begins a wire text, with what was held back before it, and
+/// ends in a CR exactly where one is held back behind it (RFC 764).
+pub fn decoded_text()
+    ensures begins { DecodedBegins }
+    ensures ends { DecodedEnds }
 {}

@@ -42,7 +42,8 @@ fn append_known(out: &mut Vec<u8>, option: Known) -> Result<(), AllocError>
     append_option(out, option.name().text().as_bytes(), value.as_bytes())
 }
 
-/// Appends options behind a request or behind the opcode of an OACK. It fails only when out of memory.
+/// Appends options behind a request or behind the opcode of an OACK. It fails only when out of
+/// memory.
 pub(crate) fn append_options(out: &mut Vec<u8>, options: &[Known]) -> Result<(), AllocError>
     ensures ok { OnOk result
         (out.new.items ≡ out.old.items ++ options_bytes (agreed_options options.now)) }

@@ -30,8 +30,8 @@ impl ErrorReply {
         }
     }
 
-    /// Appends the ERROR, as it is sent. It fails only when out of memory, and then appends nothing; where
-    /// there is room for the longest ERROR it does not fail.
+    /// Appends the ERROR, as it is sent. It fails only when out of memory, and then appends
+    /// nothing; where there is room for the longest ERROR it does not fail.
     pub fn append_to(self, out: &mut Vec<u8>) -> Result<(), AllocError>
         ensures ok { OnOk result (out.new.items ≡ out.old.items ++ error_bytes self) }
         ensures err { OnErr result (out.new.items ≡ out.old.items) }

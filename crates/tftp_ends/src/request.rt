@@ -10,7 +10,7 @@ ghost use Rattle.tftp_ends.specs.Opening.{MayGet, MayAskPut, request_of};
 
 use crate::options::{append_options, options_len};
 use std::alloc::{AllocError, Global};
-use tftp_negotiate::{Asked, Kind};
+use tftp_negotiate::{Asked, Kind, laws};
 use tftp_wire::{HEADER, MAX_REQUEST, Mode, append_read, append_write, is_text};
 
 /// How many bytes the request takes, or the greatest `usize` where they are more.
@@ -39,6 +39,8 @@ fn is_packet(name: &[u8], mode: Mode, asked: &Asked) -> bool
 pub(crate) fn may_get(name: &[u8], mode: Mode, asked: &Asked) -> bool
     ensures { IsTrue result ↔ MayGet name.now mode asked.now }
 {
+    // What may be asked for is spelled by options of a packet.
+    laws::options_are_spelled();
     asked.is_for(Kind::Read, mode, 0) && is_packet(name, mode, asked)
 }
 
@@ -47,6 +49,7 @@ pub(crate) fn may_get(name: &[u8], mode: Mode, asked: &Asked) -> bool
 pub(crate) fn may_ask_put(name: &[u8], mode: Mode, asked: &Asked, length: u64) -> bool
     ensures { IsTrue result ↔ MayAskPut name.now mode asked.now length }
 {
+    laws::options_are_spelled();
     asked.is_for(Kind::Write, mode, length) && is_packet(name, mode, asked)
 }
 

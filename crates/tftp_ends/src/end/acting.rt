@@ -94,7 +94,8 @@ impl End {
     ) -> (Option<Endpoint>, Outgoing)
         requires fits { ResponseFits self.old response }
         requires refusal { RefusalFits self.old response }
-        ensures lends { Lends self.old (response_turn response from self.old) self.new result.0 result.1 }
+        ensures lends { Lends self.old (response_turn response from self.old) self.new
+            result.0 result.1 }
         ensures room { length (lent result.1 self.new) ≤ response_room self.old response }
     {
         match response {
@@ -132,8 +133,8 @@ impl End {
         }
     }
 
-    /// Does what an action says, with the end's file where the action sends or stores, and tells what
-    /// goes out and where to.
+    /// Does what an action says, with the end's file where the action sends or stores, and tells
+    /// what goes out and where to.
     pub(crate) fn act<S: Source, K: Sink>(
         &mut self,
         action: Action,

@@ -61,10 +61,10 @@ impl End {
 
     /// Opens a client that reads: its request is appended to `out`, for `to`.
     ///
-    /// It retries `config.retries` times, and takes a file of at most `config.limits.max_file` bytes
-    /// where the server tells the length. `BadRequest` comes where the name is empty, holds a zero
-    /// byte or makes the request longer than 512 bytes (RFC 2347), or where an option is out of its
-    /// range or not for a read. After an error `out` is unchanged.
+    /// It retries `config.retries` times, and takes a file of at most `config.limits.max_file`
+    /// bytes where the server tells the length. `BadRequest` comes where the name is empty, holds a
+    /// zero byte or makes the request longer than 512 bytes (RFC 2347), or where an option is out
+    /// of its range or not for a read. After an error `out` is unchanged.
     pub fn get(
         alloc: Global,
         to: Endpoint,
@@ -110,9 +110,9 @@ impl End {
     /// appended to `out`, for `to`.
     ///
     /// It retries `config.retries` times. `BadRequest` comes where [`End::get`] answers it, with
-    /// `length` as the `tsize` that can be asked, and then `TooLarge` where the file's blocks cannot be
-    /// numbered at the size that is asked, or at 512 bytes where none is. After an error `out` is
-    /// unchanged.
+    /// `length` as the `tsize` that can be asked, and then `TooLarge` where the file's blocks
+    /// cannot be numbered at the size that is asked, or at 512 bytes where none is. After an error
+    /// `out` is unchanged.
     pub fn put(
         alloc: Global,
         to: Endpoint,
@@ -124,7 +124,8 @@ impl End {
         out: &mut Vec<u8>,
     ) -> Result<(End, Step), OpenFault>
         ensures end { IfOk result (λ opened. opened.0
-            ≡ putting to name.now mode asked.now length config.now.limits.max_file config.now.retries) }
+            ≡ putting to name.now mode asked.now length config.now.limits.max_file
+            config.now.retries) }
         ensures step { IfOk result (λ opened. opened.1 ≡ opening_step to) }
         ensures sent { OnOk result (out.new.items
             ≡ out.old.items ++ canonical (Write (request_of name.now mode asked.now))) }
@@ -132,7 +133,8 @@ impl End {
         ensures bad_request { IsErrOf result OpenFault.BadRequest
             → MayAskPut name.now mode asked.now length → ⊥ }
         ensures too_large { IsErrOf result OpenFault.TooLarge →
-            MayAskPut name.now mode asked.now length × (65535 * asked_size asked.now.blksize ≤ length) }
+            MayAskPut name.now mode asked.now length
+            × (65535 * asked_size asked.now.blksize ≤ length) }
         ensures memory { IsErrOf result OpenFault.Memory → MayPut name.now mode asked.now length }
         ensures never { IsErrOf result OpenFault.SourceFault → ⊥ }
         ensures err { OnErr result (out.new.items ≡ out.old.items) }

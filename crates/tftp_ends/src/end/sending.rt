@@ -1,5 +1,5 @@
-//! The one block that a source gives: DATA is built in the spare buffer, which then changes places with
-//! the last datagram sent.
+//! The one block that a source gives: DATA is built in the spare buffer, which then changes places
+//! with the last datagram sent.
 
 ghost use Rattle.std.specs.Prelude.{◌≡◌, ◌≤◌, ◌+◌, length, OnOk, OnErr, IfOk, Some, vec_capacity};
 ghost use Rattle.tftp_ends.specs.BlockRead.{is_whole};

@@ -20,7 +20,7 @@ use crate::side::Side;
 use crate::waiting::{agreed_terms, can_be_numbered, default_terms};
 use std::alloc::{AllocError, Global};
 use tftp_file::{Files, Sink, Source};
-use tftp_negotiate::{Agreed, DEFAULT_BLOCK};
+use tftp_negotiate::{Agreed, DEFAULT_BLOCK, laws};
 use tftp_wire::{HEADER, MAX_REQUEST, Mode, append_ack, append_oack_header};
 
 /// ACK 0.
@@ -42,6 +42,8 @@ fn oack(alloc: Global, agreed: &Agreed) -> Result<Vec<u8>, AllocError>
     let mut bytes = Vec::with_capacity(alloc, HEADER)?;
     append_oack_header(&mut bytes)?;
     append_options(&mut bytes, agreed.as_slice())?;
+    // An agreement has three options at most.
+    laws::agreements();
     Ok(bytes)
 }
 
@@ -49,9 +51,10 @@ impl End {
     /// Opens a server's end that sends a file of that length, in bytes of wire text, to a client.
     ///
     /// What is appended to `out`, for `peer`, is the OACK of the options that are agreed (RFC 2347,
-    /// "Negotiation Protocol"), or DATA 1 where none is (RFC 1350, section 4). `TooLarge` comes where
-    /// the file's blocks cannot be numbered, `SourceFault` where DATA 1 cannot be read to the measured
-    /// length, `BadRequest` never. After an error `out` is unchanged; after `Memory` the source is, too.
+    /// "Negotiation Protocol"), or DATA 1 where none is (RFC 1350, section 4). `TooLarge` comes
+    /// where the file's blocks cannot be numbered, `SourceFault` where DATA 1 cannot be read to the
+    /// measured length, `BadRequest` never. After an error `out` is unchanged; after `Memory` the
+    /// source is, too.
     pub fn serve_read<S: Source, K: Sink>(
         alloc: Global,
         files: &mut Files<S, K>,
@@ -178,8 +181,8 @@ impl End {
     /// Opens a server's end that receives a file from a client.
     ///
     /// What is appended to `out`, for `peer`, is the OACK of the options that are agreed (RFC 2347,
-    /// "Negotiation Protocol"), or ACK 0 where none is (RFC 1350, section 4). It fails with `Memory`
-    /// alone, and then `out` is unchanged.
+    /// "Negotiation Protocol"), or ACK 0 where none is (RFC 1350, section 4). It fails with
+    /// `Memory` alone, and then `out` is unchanged.
     pub fn serve_write(
         alloc: Global,
         peer: Endpoint,

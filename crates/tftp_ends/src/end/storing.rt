@@ -91,8 +91,8 @@ fn store_block<K: Sink>(
     }
 }
 
-/// Makes the host's bytes that a piece of netascii completes the buffer's bytes, and gives the decoder
-/// behind it.
+/// Makes the host's bytes that a piece of netascii completes the buffer's bytes, and gives the
+/// decoder behind it.
 fn decode_into(
     buffer: &mut Vec<u8>,
     decoder: NetDecoder,

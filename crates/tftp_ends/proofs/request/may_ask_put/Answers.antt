@@ -1,9 +1,8 @@
 -- What may be asked for is spelled by options of a packet.
 use Rattle.std.proofs.Common.{rules, arith}
 use Rattle.tftp_negotiate.specs.declared.known.Kind.TheVariants.{Write}
-use Rattle.tftp_negotiate.proofs.SpellingLemmas.{asked_are_options}
 use Rattle.tftp_ends.proofs.request.may_ask_put.Goals as goal
 
 pub is_packet-requires : goal.is_packet-requires
 is_packet-requires c =
-    asked_are_options c.args.asked.now Write c.args.mode c.args.length (omega arith) (c.is_for.ensures.0 (search rules))
+    c.options_are_spelled.ensures.asked c.args.asked.now Write c.args.mode c.args.length (omega arith) (c.is_for.ensures.0 (search rules))
