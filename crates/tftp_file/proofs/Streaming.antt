@@ -1,8 +1,7 @@
 -- From what a reader gave to what a source gave.
-use Rattle.std.proofs.Common.{◌≡◌, ℕ, ◌+◌, ◌*◌, ◌≤◌, ◌<◌, min, List, [], ◌++◌, length, take, drop, Option, Some, None, option_to_list, option_map, Result, Ok, Err, IfOk, IfErr, refl, sym, ap, ◌∙◌, arith, append_assoc, append-nil, length-append, length-drop, length-take-le, take-append-drop, drop_of_length-le, add-zero}
+use Rattle.std.proofs.Common.{◌≡◌, ℕ, ◌+◌, ◌*◌, ◌≤◌, ◌<◌, min, List, [], ◌++◌, length, take, drop, Option, Some, None, option_to_list, option_map, Result, Ok, Err, IfOk, IfErr, sym, ap, ◌∙◌, arith, append_assoc, append-nil, length-append, length-drop, length-take-le, take-append-drop, drop_of_length-le, add-zero}
 use Rattle.std.specs.Result.{result_unwrap_or}
 use Rattle.std.specs.Io.KnownBytes.{Consumes, IsAtEnd}
-use Rattle.std.proofs.KnownBytes.{Consumes-nil, Consumes-trans}
 use Rattle.std.proofs.lemmas.Grind.{flat_map-append}
 use Rattle.std.proofs.lemmas.List.{take_all, take_at, drop_at}
 use Rattle.std.proofs.Math.Seq.{take-add}
@@ -13,19 +12,6 @@ use Rattle.tftp_file.specs.Encoding.{netascii_left}
 use Rattle.tftp_file.specs.Source.{Moved, Fills}
 use Rattle.tftp_file.specs.Stream.{Gives}
 use Rattle.tftp_file.proofs.NetasciiLength.{length-netascii_text, netascii_text-longer}
-
--- nothing was given yet
-pub Gives-nil : (a : Option (List ℕ)) (old : List ℕ) → Gives a a old old 0
-Gives-nil a old = record { piece = []; given = sym (append-nil old); count = refl; consumed = Consumes-nil a }
-
--- one piece and then the next
-pub Gives-trans : (a b c : Option (List ℕ)) (old mid new : List ℕ) (n m : ℕ) → Gives a b old mid n → Gives b c mid new m → Gives a c old new (n + m)
-Gives-trans a b c old mid new n m p q = record {
-  piece = p.piece ++ q.piece;
-  given = q.given ∙ ap (λ front. front ++ q.piece) p.given ∙ append_assoc old p.piece q.piece;
-  count = omega (arith, length-append p.piece q.piece, p.count, q.count);
-  consumed = Consumes-trans a b c p.piece q.piece p.consumed q.consumed;
-}
 
 moved_all : (left rest old new piece : List ℕ) (want n : ℕ) → left ≡ piece ++ rest → new ≡ old ++ piece → length piece ≡ n → n ≤ want → (n < want → rest ≡ [])
     → Moved left (Some rest) want old new n

@@ -33,9 +33,9 @@ impl Model for FaultSource {
 }
 
 impl FaultSource {
-    /// A source of the first `give` bytes of the bytes' wire text in the mode, or of all of it where
-    /// it is shorter. It then ends; made to `fail`, it answers `Read` to a fill that requests more
-    /// bytes than are left. It copies the bytes, and fails with `Memory` alone.
+    /// A source of the first `give` bytes of the bytes' wire text in the mode, or of all of it
+    /// where it is shorter. It then ends; made to `fail`, it answers `Read` to a fill that requests
+    /// more bytes than are left. It copies the bytes, and fails with `Memory` alone.
     pub fn new(
         alloc: Global,
         bytes: &[u8],

@@ -18,7 +18,8 @@ pub fn any_cut()
     ensures joined { (held : List ℕ) (pieces : List (List ℕ)) (bytes after : List ℕ) → IsHeld held
         → (TakesAll held pieces bytes after ↔ Decodes held (concat pieces) bytes after) }
     ensures refused { (held : List ℕ) (pieces : List (List ℕ)) (at : ℕ) (fault : NetFault)
-        → IsHeld held → FirstWrong (held ++ concat pieces) at fault → RefusesAt held pieces at fault }
+        → IsHeld held → FirstWrong (held ++ concat pieces) at fault
+        → RefusesAt held pieces at fault }
 {}
 
 /// A text begins a wire text, or it has a first wrong byte, and never both; what stands in front of
@@ -58,7 +59,8 @@ pub fn beginnings()
 {}
 
 /// A name spells a path exactly if what stands behind its one leading slash, where it has one, is a
-/// path, and it spells that path. It is this project's rule: RFC 1350 leaves the names of files open.
+/// path, and it spells that path. It is this project's rule: RFC 1350 leaves the names of files
+/// open.
 pub fn names()
     ensures { (name path : List ℕ)
         → ((path_of_name name ≡ Ok path) ↔ (IsPath path × (without_slash name ≡ path))) }

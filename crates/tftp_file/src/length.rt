@@ -1,6 +1,6 @@
 //! How long a file is on the wire.
 
-ghost use Rattle.std.specs.Prelude.{◌≡◌, ◌≤◌, ◌+◌, length, min, IfOk, IfErr, IfSome};
+ghost use Rattle.std.specs.Prelude.{◌≡◌, ◌≤◌, ◌+◌, ◌*◌, length, min, IfOk, IfErr, IfSome};
 ghost use Rattle.tftp_file.specs.Netascii.{wire_text};
 ghost use Rattle.tftp_file.specs.declared.fault.FileFault.TheVariants.{Read as ReadFault};
 
@@ -37,8 +37,8 @@ pub fn wire_length<R: Read + Drop>(mut reader: R, mode: Mode) -> Result<u64, Fil
     Ok(MAX_WIRE + 1)
 }
 
-/// The length of the bytes' wire text in the mode, in bytes, or `most` where it is greater. It takes
-/// time in the bytes, and no memory.
+/// The length of the bytes' wire text in the mode, in bytes, or `most` where it is greater. It
+/// takes time in the bytes, and no memory.
 pub fn wire_length_within(bytes: &[u8], mode: Mode, most: u64) -> u64
     ensures { result ≡ min (length (wire_text mode bytes.now)) most }
 {
@@ -53,9 +53,9 @@ pub fn wire_length_within(bytes: &[u8], mode: Mode, most: u64) -> u64
 
 /// The length of the bytes' wire text; there are few enough for it to fit.
 fn wire_count(bytes: &[u8], mode: Mode) -> usize
-    requires { length bytes.now ≤ 8192 }
+    requires { length bytes.now ≤ CHUNK }
     ensures value { result ≡ length (wire_text mode bytes.now) }
-    ensures within { result ≤ 16384 }
+    ensures within { result ≤ 2 * CHUNK }
     ensures progress { length bytes.now ≤ result }
 {
     match mode {

@@ -86,7 +86,11 @@ impl Model for MemSink {
     ghost use Rattle.std.specs.Prelude.{vec_len, ◌≤◌};
 
     ghost view = { λ s. record {
-      holding = record { bytes = s.bytes.items; committed = s.is_committed; refuses = s.refuses_next };
+      holding = record {
+        bytes = s.bytes.items;
+        committed = s.is_committed;
+        refuses = s.refuses_next;
+      };
       room = s.room;
       refuses_commit = s.refuses_commit;
     } };

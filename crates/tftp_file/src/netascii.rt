@@ -135,8 +135,8 @@ impl NetDecoder {
     /// Appends to `out` the host's bytes that the piece completes.
     ///
     /// It is refused at its first wrong byte: `LoneCr` where a byte other than LF and NUL stands
-    /// behind a CR, `LoneLf` where an LF has no CR before it (RFC 764). `Memory` comes only where no
-    /// byte is wrong. After a refusal the decoder and `out` are unchanged.
+    /// behind a CR, `LoneLf` where an LF has no CR before it (RFC 764). `Memory` comes only where
+    /// no byte is wrong. After a refusal the decoder and `out` are unchanged.
     pub fn push(&mut self, piece: &[u8], out: &mut Vec<u8>) -> Result<(), NetFault>
         ensures ok { OnOk result ((bytes : List ℕ) × Decodes self.old piece.now bytes self.new
             × (out.new.items ≡ out.old.items ++ bytes)) }
@@ -219,8 +219,8 @@ fn pair_byte(second: u8) -> Option<u8>
     }
 }
 
-/// The host's byte that the held CR and the piece's first byte make, if a CR is held, and the rest of
-/// the piece.
+/// The host's byte that the held CR and the piece's first byte make, if a CR is held, and the rest
+/// of the piece.
 #[tactic(auto, using(crate::proofs::DecodingLemmas::wrong_pair))]
 fn complete_pair(held: Held, piece: &[u8]) -> Result<(Option<u8>, &[u8]), NetFault>
     requires { 1 ≤ length piece.now }
@@ -239,8 +239,8 @@ fn complete_pair(held: Held, piece: &[u8]) -> Result<(Option<u8>, &[u8]), NetFau
     }
 }
 
-/// The host's byte that the pair at the front makes, and the rest; none at the end of a text, where a
-/// CR may be left.
+/// The host's byte that the pair at the front makes, and the rest; none at the end of a text, where
+/// a CR may be left.
 #[tactic(auto, using(crate::proofs::DecodingLemmas::wrong_front))]
 fn split_pair(text: &[u8]) -> Result<Option<(u8, &[u8])>, NetFault>
     requires { EndsAtLine text.now }

@@ -26,8 +26,8 @@ pub enum PathFault {
     /// Nothing is left of the name behind its leading slash.
     #[error("the name is empty")]
     Empty = 1,
-    /// A segment is empty, longer than 64 bytes, begins with a dot or has another byte than letters,
-    /// digits, dot, underscore and dash.
+    /// A segment is empty, longer than 64 bytes, begins with a dot or has another byte than
+    /// letters, digits, dot, underscore and dash.
     #[error("a segment of the name is not allowed")]
     Segment = 2,
     /// The name has more than 8 segments.
@@ -61,8 +61,8 @@ impl From<AllocError> for PathFault {
     }
 }
 
-/// The path of a file below the root of a store: 1 to 8 segments parted by slashes, without a leading
-/// slash. A contract sees it as its bytes. Case counts.
+/// The path of a file below the root of a store: 1 to 8 segments parted by slashes, without a
+/// leading slash. A contract sees it as its bytes. Case counts.
 #[derive(Debug, Drop)]
 pub struct Path {
     bytes: Vec<u8>,
@@ -91,8 +91,8 @@ impl Path {
 
 /// The path that a request's name spells, without its leading slash.
 ///
-/// The faults are tested in the order `Empty`, `Length`, `Depth`, `Segment`; `Memory` comes only for a
-/// name without a fault.
+/// The faults are tested in the order `Empty`, `Length`, `Depth`, `Segment`; `Memory` comes only
+/// for a name without a fault.
 pub fn path_of(alloc: Global, name: &[u8]) -> Result<Path, PathFault>
     ensures { AnswersPath (path_of_name name.now) result }
 {

@@ -8,8 +8,8 @@ use crate::StoreFault;
 /// A file that is written from its front, and committed as a whole.
 ///
 /// Of a sink over memory a contract knows what it holds; of one over a file it does not, and then
-/// its calls promise only which answers they give. Some sinks can be told to refuse their next call:
-/// it answers `Full`, changes nothing else, and is told no more.
+/// its calls promise only which answers they give. Some sinks can be told to refuse their next
+/// call: it answers `Full`, changes nothing else, and is told no more.
 pub trait Sink {
     /// What it holds, where that is known (`held`), which faults an append and a commit may answer
     /// (`may_refuse_append`, `may_refuse_commit`), and what a call makes of all that the sink has

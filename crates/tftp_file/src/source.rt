@@ -14,16 +14,16 @@ pub trait Source {
     /// (`may_fail`).
     ghost meaning: { SourceMeaning Self };
 
-    /// The second is the first at a later time: it holds the same borrows. Of a source that holds no
-    /// borrow this says nothing.
+    /// The second is the first at a later time: it holds the same borrows. Of a source that holds
+    /// no borrow this says nothing.
     ghost is_same: { Self → Self → Type 0 };
 
     /// Moves the next `want` bytes of wire text, or as many as are left, to the end of `out`, and
     /// returns how many.
     ///
-    /// It fails with `Read` where the file cannot be read; `out` is then unchanged, and the source is
-    /// used no more. It fails with `Memory` where `out` cannot grow, and then nothing has changed. The
-    /// capacity of `out` never shrinks.
+    /// It fails with `Read` where the file cannot be read; `out` is then unchanged, and the source
+    /// is used no more. It fails with `Memory` where `out` cannot grow, and then nothing has
+    /// changed. The capacity of `out` never shrinks.
     fn fill(&mut self, want: usize, out: &mut Vec<u8>) -> Result<usize, FileFault>
         ensures fills { Fills (meaning.left self.old) (meaning.left self.new) want
             out.old.items out.new.items result }

@@ -20,8 +20,8 @@ pub struct Asked {
     /// (RFC 2349, "Timeout Interval Option Specification").
     pub timeout: Option<u8>,
     /// In bytes of wire text: 0 for a read, the file's length for a write
-    /// (RFC 2349, "Transfer Size Option Specification"). In netascii it is not sent, since the length
-    /// is not known before the file has been encoded.
+    /// (RFC 2349, "Transfer Size Option Specification"). In netascii it is not sent, since the
+    /// length is not known before the file has been encoded.
     pub tsize: Option<u64>,
 }
 

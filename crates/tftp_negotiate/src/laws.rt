@@ -7,8 +7,8 @@ pub fn numbers_are_printed()
     ensures { NumbersArePrinted }
 {}
 
-/// What a server answers to what a client asked, that client takes, option by option. So the two ends
-/// agree on one list, and with it on one block size and one time to wait.
+/// What a server answers to what a client asked, that client takes, option by option. So the two
+/// ends agree on one list, and with it on one block size and one time to wait.
 pub fn ends_agree()
     ensures { EndsAgree }
 {}
@@ -33,8 +33,8 @@ pub fn agreements()
     ensures sized { AgreementsHaveBlockSizes }
 {}
 
-/// Known options are options of a packet, three of which take 87 bytes at most; and so are those that
-/// a client may ask (RFC 2347, "Packet Formats").
+/// Known options are options of a packet, three of which take 87 bytes at most; and so are those
+/// that a client may ask (RFC 2347, "Packet Formats").
 pub fn options_are_spelled()
     ensures known { KnownAreOptions }
     ensures asked { AskedAreOptions }

@@ -3,9 +3,9 @@
 //! It reads and writes no packet, opens no socket and takes no memory. It knows the three options
 //! `blksize`, `timeout` and `tsize`; any other is unknown to it, and never an error of a request.
 //!
-//! Begin with [`accept`], what a server answers to a request, and [`check_oack`], what a client takes
-//! of that answer. What the one answers to what the other asked, the other takes, and both then have
-//! one block size.
+//! Begin with [`accept`], what a server answers to a request, and [`check_oack`], what a client
+//! takes of that answer. What the one answers to what the other asked, the other takes, and both
+//! then have one block size.
 #![tactic(auto)]
 
 mod agreed;

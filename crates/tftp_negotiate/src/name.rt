@@ -66,8 +66,8 @@ impl Names {
         }
     }
 
-    /// Adds the name of a known option, and returns whether it was not there before. An option that is
-    /// not known is always new.
+    /// Adds the name of a known option, and returns whether it was not there before. An option that
+    /// is not known is always new.
     pub(crate) fn insert(&mut self, name: Option<Name>) -> bool
         ensures new { result ≡ not (has_name self.old name) }
         ensures added { self.new ≡ with_name self.old name }

@@ -1,4 +1,5 @@
-//! The one negotiation: options are judged from the left, and a repeated name outranks every judgement.
+//! The one negotiation: options are judged from the left, and a repeated name outranks every
+//! judgement.
 
 ghost use Rattle.std.specs.Prelude.{◌≡◌, IfOk, List};
 ghost use Rattle.std.specs.Iterator.{AlwaysYields, IsFinite};

@@ -17,8 +17,8 @@ use crate::policy::Policy;
 use crate::refusal::Refusal;
 use tftp_wire::{Mode, OptionRef, OptionsRef, RawOption};
 
-/// What a client that asked this agrees to of an OACK (RFC 2347, "Negotiation Protocol"). `limit` is
-/// the longest file that it reads, in bytes of wire text; a write does not use it.
+/// What a client that asked this agrees to of an OACK (RFC 2347, "Negotiation Protocol"). `limit`
+/// is the longest file that it reads, in bytes of wire text; a write does not use it.
 ///
 /// It fails with `Repeated` where a known option stands twice, whatever its values. Else the first
 /// option from the left that is wrong decides: `NotAsked` for one that was not asked, unknown ones
@@ -113,8 +113,8 @@ fn taken_timeout(asked: Option<u8>, number: Option<u64>) -> Result<Option<Known>
     }
 }
 
-/// The length of the file to be read, up to the limit, or of the file to be written, as it was asked
-/// (RFC 2349, "Transfer Size Option Specification").
+/// The length of the file to be read, up to the limit, or of the file to be written, as it was
+/// asked (RFC 2349, "Transfer Size Option Specification").
 fn taken_tsize(
     asked: Option<u64>,
     kind: Kind,

@@ -170,8 +170,10 @@ impl<S: Store> Store for FaultStore<S> {
 
     fn append(&mut self, draft: &mut S::Draft, bytes: &[u8]) -> Result<(), StoreFault>
         ensures appends { Appends
-            (holding_of (never_told (S.meaning.stored self.old.inner)) (S.meaning.drafted draft.old))
-            (holding_of (never_told (S.meaning.stored self.new.inner)) (S.meaning.drafted draft.new))
+            (holding_of (never_told (S.meaning.stored self.old.inner))
+            (S.meaning.drafted draft.old))
+            (holding_of (never_told (S.meaning.stored self.new.inner))
+            (S.meaning.drafted draft.new))
             bytes.now result }
         ensures files { files_of (never_told (S.meaning.stored self.new.inner))
             ≡ files_of (never_told (S.meaning.stored self.old.inner)) }
@@ -193,8 +195,10 @@ impl<S: Store> Store for FaultStore<S> {
 
     fn commit(&mut self, path: &Path, draft: &mut S::Draft, replace: bool) -> Result<(), StoreFault>
         ensures commits { Commits
-            (holding_of (never_told (S.meaning.stored self.old.inner)) (S.meaning.drafted draft.old))
-            (holding_of (never_told (S.meaning.stored self.new.inner)) (S.meaning.drafted draft.new))
+            (holding_of (never_told (S.meaning.stored self.old.inner))
+            (S.meaning.drafted draft.old))
+            (holding_of (never_told (S.meaning.stored self.new.inner))
+            (S.meaning.drafted draft.new))
             result }
         ensures files { Puts (never_told (S.meaning.stored self.old.inner))
             (never_told (S.meaning.stored self.new.inner)) (S.meaning.drafted draft.old) path.now

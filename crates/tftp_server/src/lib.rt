@@ -3,8 +3,8 @@
 //!
 //! It opens no socket, reads no clock and touches no file but through its [`Store`].
 //!
-//! Begin with [`Server`]: each datagram that comes to its port of requests, or to the port of one of
-//! its transfers, is one call. No call changes another transfer.
+//! Begin with [`Server`]: each datagram that comes to its port of requests, or to the port of one
+//! of its transfers, is one call. No call changes another transfer.
 #![tactic(auto)]
 
 mod config;

@@ -11,8 +11,8 @@ use std::marker::Model;
 use tftp_file::{MAX_WIRE, MemSource, Path, StoreFault, wire_length_within};
 use tftp_wire::{Bytes, Mode};
 
-/// A store in memory. Contracts see its files in the order of their paths, and whether it was told to
-/// refuse its next append or commit.
+/// A store in memory. Contracts see its files in the order of their paths, and whether it was told
+/// to refuse its next append or commit.
 #[derive(Drop)]
 pub struct MemStore {
     files: BTreeMap<Path, Bytes>,

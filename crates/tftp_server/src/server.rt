@@ -92,11 +92,11 @@ impl<S: Store> Server<S> {
         }
     }
 
-    /// The transfer at the identifier takes a timeout. At most one datagram is appended to `out`, for
-    /// where [`Step::to`] says.
+    /// The transfer at the identifier takes a timeout. At most one datagram is appended to `out`,
+    /// for where [`Step::to`] says.
     ///
-    /// `NoSuchTid` where no open transfer has the identifier; `Memory` only where a datagram is to be
-    /// sent. After a fault nothing has changed.
+    /// `NoSuchTid` where no open transfer has the identifier; `Memory` only where a datagram is to
+    /// be sent. After a fault nothing has changed.
     pub fn on_timeout(&mut self, tid: u16, out: &mut Vec<u8>) -> Result<Step, ServerFault>
         ensures steps { IfOk result (λ step. TimesOut tid self.old.held self.new.held step
             out.old.items out.new.items) }
@@ -115,11 +115,11 @@ impl<S: Store> Server<S> {
         }
     }
 
-    /// The transfer at the identifier takes a datagram that came from there. At most one datagram is
-    /// appended to `out`, for where [`Step::to`] says.
+    /// The transfer at the identifier takes a datagram that came from there. At most one datagram
+    /// is appended to `out`, for where [`Step::to`] says.
     ///
-    /// `NoSuchTid` where no open transfer has the identifier; `Memory` only where a datagram is to be
-    /// sent. After a fault nothing has changed.
+    /// `NoSuchTid` where no open transfer has the identifier; `Memory` only where a datagram is to
+    /// be sent. After a fault nothing has changed.
     pub fn on_datagram(
         &mut self,
         tid: u16,
@@ -171,10 +171,11 @@ impl<S: Store> Server<S> {
         }
     }
 
-    /// The transfer at the identifier takes a timeout, and tells what goes out, without a copy of it:
-    /// [`Server::bytes_of`] lends it, and [`Step::to`] says where it goes.
+    /// The transfer at the identifier takes a timeout, and tells what goes out, without a copy of
+    /// it: [`Server::bytes_of`] lends it, and [`Step::to`] says where it goes.
     ///
-    /// Its one fault is `NoSuchTid`, where no open transfer has the identifier; then nothing has changed.
+    /// Its one fault is `NoSuchTid`, where no open transfer has the identifier; then nothing has
+    /// changed.
     pub fn handle_timeout(&mut self, tid: u16) -> Result<(Step, Outgoing), ServerFault>
         ensures steps { IfOk result (λ answer. TimesOutLent tid self.old.held self.new.held answer.0
             answer.1) }
@@ -193,11 +194,12 @@ impl<S: Store> Server<S> {
         }
     }
 
-    /// The transfer at the identifier takes a datagram that came from there, and tells what goes out,
-    /// without a copy of it: [`Server::bytes_of`] lends it, and [`Step::to`] says where it goes.
+    /// The transfer at the identifier takes a datagram that came from there, and tells what goes
+    /// out, without a copy of it: [`Server::bytes_of`] lends it, and [`Step::to`] says where it
+    /// goes.
     ///
-    /// `NoSuchTid` where no open transfer has the identifier; `Memory` only where a file is asked for a
-    /// block or given one. After a fault nothing has changed.
+    /// `NoSuchTid` where no open transfer has the identifier; `Memory` only where a file is asked
+    /// for a block or given one. After a fault nothing has changed.
     pub fn handle_datagram(
         &mut self,
         tid: u16,
@@ -234,9 +236,10 @@ impl<S: Store> Server<S> {
         }
     }
 
-    /// Whether a datagram from there to the port of requests could open a transfer, by the tests that
-    /// ask no store, so that no socket has to be made where it could not: [`Server::on_request`] then opens
-    /// none, whatever the identifier. It fails only when out of memory.
+    /// Whether a datagram from there to the port of requests could open a transfer, by the tests
+    /// that ask no store, so that no socket has to be made where it could not:
+    /// [`Server::on_request`] then opens none, whatever the identifier. It fails only when out of
+    /// memory.
     pub fn may_open(&self, from: Endpoint, bytes: &[u8]) -> Result<bool, ServerFault>
         ensures asks { IfOk result (λ may. (decoded : Option Packet) × (repeated : Bool)
             × Decodes bytes.now decoded × IsRepeated repeated from decoded self.now.held
@@ -254,8 +257,8 @@ impl<S: Store> Server<S> {
     }
 
     /// A datagram came from there to the port of requests. Where it opens a transfer, that gets the
-    /// identifier `tid`, the port from which its datagrams go out (RFC 1350, section 4). At most one
-    /// datagram is appended to `out`, for where [`Opened::to`] says.
+    /// identifier `tid`, the port from which its datagrams go out (RFC 1350, section 4). At most
+    /// one datagram is appended to `out`, for where [`Opened::to`] says.
     ///
     /// A request to read has the store open the file; one to write has it begin a draft. `TidInUse`
     /// where a transfer has the identifier; `Memory`. After a fault nothing has changed.
@@ -334,8 +337,8 @@ impl<S: Store> Server<S> {
         }
     }
 
-    /// Opens a transfer that stores under the path, by an identifier that none has. The table makes room
-    /// for it first: a draft that was begun is then never let go for want of memory.
+    /// Opens a transfer that stores under the path, by an identifier that none has. The table makes
+    /// room for it first: a draft that was begun is then never let go for want of memory.
     fn write_from(
         &mut self,
         from: Endpoint,
@@ -398,8 +401,8 @@ impl<S: Store> Server<S> {
         }
     }
 
-    /// The transfers that are open, by rising identifier: of each its identifier and how far it came.
-    /// A closed one that was not taken is left out. It takes no memory.
+    /// The transfers that are open, by rising identifier: of each its identifier and how far it
+    /// came. A closed one that was not taken is left out. It takes no memory.
     pub fn open_transfers(&self) -> OpenTransfers<'_, S::Source, S::Draft>
         ensures { result ≡ open_records self.now.held }
     {
@@ -424,8 +427,8 @@ impl<S: Store> Server<S> {
 }
 
 impl<S: Store + Drop> Server<S> {
-    /// Takes a closed transfer out of the table, with the draft of a write, and hands out how far it
-    /// came. Nothing changes if none with this identifier is held, or it has not closed.
+    /// Takes a closed transfer out of the table, with the draft of a write, and hands out how far
+    /// it came. Nothing changes if none with this identifier is held, or it has not closed.
     pub fn take_closed(&mut self, tid: u16) -> Option<(Record, Option<S::Draft>)>
         ensures taken { result ≡ taken_of (at tid self.old.held) }
         ensures held { self.new.held ≡ (if is_some result then without tid self.old.held else

@@ -13,7 +13,8 @@ use tftp_wire::Mode;
 pub struct Opening<S> {
     /// Gives its wire text.
     pub source: S,
-    /// The length of that text in bytes, or one more than any block size can carry where it is longer.
+    /// The length of that text in bytes, or one more than any block size can carry where it is
+    /// longer.
     pub length: u64,
 }
 
@@ -36,8 +37,8 @@ pub trait Store {
 
     /// Opens the file to be read in the mode.
     ///
-    /// `Missing` if there is no such file; `Memory` only where there is one. Any other fault is one of
-    /// the store's own.
+    /// `Missing` if there is no such file; `Memory` only where there is one. Any other fault is one
+    /// of the store's own.
     fn open(
         &self,
         alloc: Global,
@@ -49,8 +50,8 @@ pub trait Store {
 
     /// Begins a draft, which is empty. With `replace` there may be a file at the path.
     ///
-    /// `Exists` if there is one that is not to be replaced; `Memory` only where that is not so, and then
-    /// the store is as it was.
+    /// `Exists` if there is one that is not to be replaced; `Memory` only where that is not so, and
+    /// then the store is as it was.
     fn begin(
         &mut self,
         alloc: Global,
@@ -64,8 +65,8 @@ pub trait Store {
 
     /// Puts the bytes at the end of a draft.
     ///
-    /// After `Memory` nothing has changed. After another fault some first of the bytes may have been
-    /// added, and none before them has gone.
+    /// After `Memory` nothing has changed. After another fault some first of the bytes may have
+    /// been added, and none before them has gone.
     fn append(&mut self, draft: &mut Self::Draft, bytes: &[u8]) -> Result<(), StoreFault>
         ensures appends { Appends
             (holding_of (meaning.stored self.old) (meaning.drafted draft.old))
@@ -76,11 +77,11 @@ pub trait Store {
         ensures memory { IsErrOf result StoreFault.Memory → (self.new ≡ self.old)
             × (draft.new ≡ draft.old) };
 
-    /// Makes what a draft holds the file at the path, for good. With `replace` it takes the place of
-    /// one that is there.
+    /// Makes what a draft holds the file at the path, for good. With `replace` it takes the place
+    /// of one that is there.
     ///
-    /// `Exists` if there is one by now that is not to be replaced; what the store was told to refuse
-    /// goes before. After a fault no file and no byte has changed. Out of memory is `Full`.
+    /// `Exists` if there is one by now that is not to be replaced; what the store was told to
+    /// refuse goes before. After a fault no file and no byte has changed. Out of memory is `Full`.
     fn commit(
         &mut self,
         path: &Path,

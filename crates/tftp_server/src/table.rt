@@ -26,8 +26,8 @@ pub(crate) struct Table<T> {
     index: BTreeMap<u16, usize>,
 }
 
-/// A table with room for one more value: its index has the identifier already, by the key at which the
-/// value will lie.
+/// A table with room for one more value: its index has the identifier already, by the key at which
+/// the value will lie.
 #[derive(Drop)]
 pub(crate) struct Spot<T> {
     slots: Slab<T>,
@@ -143,8 +143,8 @@ fn any_repeats<F, D>(
 }
 
 impl<T: Drop> Table<T> {
-    /// Makes room for a value at an identifier that holds none. After a refusal the table comes back as
-    /// it was.
+    /// Makes room for a value at an identifier that holds none. After a refusal the table comes
+    /// back as it was.
     pub(crate) fn reserve(self, tid: u16) -> Result<Spot<T>, Table<T>>
         requires { lookup (is_at (nat_cmp tid)) self ≡ None }
         ensures spot { IfOk result (λ spot. IsSpot tid self spot.index.entries spot.slots) }

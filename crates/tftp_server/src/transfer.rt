@@ -20,8 +20,8 @@ use tftp_ends::{End, EndFault, Endpoint, Outgoing, Record, Step};
 use tftp_file::{Files, MemSink, Path, Source};
 use tftp_wire::PacketRef;
 
-/// A transfer: an end with its source or its draft, the path of the file, and the datagram that asked
-/// for it.
+/// A transfer: an end with its source or its draft, the path of the file, and the datagram that
+/// asked for it.
 #[derive(Drop)]
 pub(crate) struct Transfer<F, D> {
     end: End,

@@ -10,6 +10,7 @@ use Rattle.std.proofs.lemmas.Slice.Eq.{bytes_eq-Decides}
 use Rattle.byteorder.specs.Endian.{big_bytes, big_number}
 use Rattle.byteorder.specs.Numbers.{big_number-reads_back, big_from-lt}
 use Rattle.tftp_wire.specs.declared.fault.PacketFault.{PacketFault}
+use Rattle.tftp_wire.specs.declared.limits.TheConstants.{MAX_DATA, MAX_REQUEST}
 use Rattle.tftp_wire.specs.declared.mode.Mode.{Mode}
 use Rattle.tftp_wire.specs.declared.mode.Mode.TheVariants.{Octet, Netascii}
 use Rattle.tftp_wire.specs.declared.options.RawOption.{RawOption}
@@ -78,7 +79,7 @@ options_spelled at (o ∷ os) h =
       rw t (ap (λ rest. o ∷ rest) r.1),
     )
 
-request_spelled : (opcode : ℕ) (word : List ℕ) (r : Request) → IsRequest r → str_to_ascii_lowercase word ≡ mode_word r.mode → length (request_bytes opcode word r) ≤ 512 → (request_fault (request_bytes opcode word r) ≡ None) × (request_of (texts (drop 2 (request_bytes opcode word r))) ≡ r)
+request_spelled : (opcode : ℕ) (word : List ℕ) (r : Request) → IsRequest r → str_to_ascii_lowercase word ≡ mode_word r.mode → length (request_bytes opcode word r) ≤ MAX_REQUEST → (request_fault (request_bytes opcode word r) ≡ None) × (request_of (texts (drop 2 (request_bytes opcode word r))) ≡ r)
 request_spelled opcode word r v m limit =
     let more = options_bytes r.options in
     let body = zero_ended r.name ++ (zero_ended word ++ more) in
@@ -86,7 +87,7 @@ request_spelled opcode word r v m limit =
     let t : texts body ≡ r.name ∷ word ∷ texts more = texts_first r.name (zero_ended word ++ more) v.name ∙ ap (λ ts. r.name ∷ ts) (texts_first word more w) in
     let u : unended body ≡ unended more = unended_rest r.name (zero_ended word ++ more) v.name ∙ unended_rest word more w in
     let o = options_spelled (2 + (length r.name + 1) + (length word + 1)) r.options v.options in (
-      rw (le-ltb 512 (length (request_bytes opcode word r)) limit, t, u, named_texts r.name (word ∷ texts more) (unended more) (nonempty r.name v.named), mode_of_word r.mode word m) o.0,
+      rw (le-ltb MAX_REQUEST (length (request_bytes opcode word r)) limit, t, u, named_texts r.name (word ∷ texts more) (unended more) (nonempty r.name v.named), mode_of_word r.mode word m) o.0,
       rw (t, mode_of_word r.mode word m, o.1) refl,
     )
 
@@ -100,7 +101,7 @@ request_length opcode word other r e = simp length-append (omega arith)
 word_length : (word other : List ℕ) → str_to_ascii_lowercase word ≡ other → length word ≡ length other
 word_length word other h = sym (length-map word to_ascii_lowercase) ∙ ap length h
 
-requests_spelled : (opcode : ℕ) (word : List ℕ) (r : Request) → IsRequest r → length (request_bytes opcode (mode_word r.mode) r) ≤ 512 → str_to_ascii_lowercase word ≡ mode_word r.mode → (request_fault (request_bytes opcode word r) ≡ None) × (request_of (texts (drop 2 (request_bytes opcode word r))) ≡ r)
+requests_spelled : (opcode : ℕ) (word : List ℕ) (r : Request) → IsRequest r → length (request_bytes opcode (mode_word r.mode) r) ≤ MAX_REQUEST → str_to_ascii_lowercase word ≡ mode_word r.mode → (request_fault (request_bytes opcode word r) ≡ None) × (request_of (texts (drop 2 (request_bytes opcode word r))) ≡ r)
 requests_spelled opcode word r v limit m =
     let e = request_length opcode word (mode_word r.mode) r (word_length word (mode_word r.mode) m) in
     request_spelled opcode word r v m (omega arith)
@@ -109,9 +110,9 @@ data_spelled : (block : ℕ) (bytes : List ℕ) → IsValid (Data block bytes) �
 data_spelled block bytes v =
     let number = big_number-reads_back 2 block bytes v.1 in
     let all = written [] (Data block bytes) in
-    let most : length all ≤ 65468 = omega arith in
+    let most : length all ≤ MAX_DATA = omega arith in
     let least : 4 ≤ length all = omega arith in
-    (rw (le-ltb 65468 (length all) most, le-ltb (length all) 4 least, number, ne_eqb block 0 v.0) refl, number)
+    (rw (le-ltb MAX_DATA (length all) most, le-ltb (length all) 4 least, number, ne_eqb block 0 v.0) refl, number)
 
 error_spelled : (code : ℕ) (text : List ℕ) → IsValid (Error code text) → let all = written [] (Error code text) in (error_fault all ≡ None) × (big_number 2 (drop 2 all) ≡ code) × (first_of (texts (drop 4 all)) ≡ text)
 error_spelled code text v =
@@ -120,7 +121,7 @@ error_spelled code text v =
     let least : 4 ≤ length all = omega arith in
     let t : texts (zero_ended text) ≡ text ∷ [] = ap texts (sym (append-nil (zero_ended text))) ∙ texts_first text [] v.1 in
     let u : unended (zero_ended text) ≡ [] = ap unended (sym (append-nil (zero_ended text))) ∙ unended_rest text [] v.1 in
-    (rw (le-ltb 512 (length all) v.2, le-ltb (length all) 4 least, t, u) refl, number, rw t refl)
+    (rw (le-ltb MAX_REQUEST (length all) v.2, le-ltb (length all) 4 least, t, u) refl, number, rw t refl)
 
 options_longer : (os : List RawOption) → os ≢ [] → length (options_bytes os) ≢ 0
 options_longer [] h e = h refl
@@ -132,7 +133,7 @@ oack_spelled os v =
     let o = options_spelled 2 os v.1 in
     let longer = options_longer os v.0 in
     let more : length all ≢ 2 = λ e. longer (omega arith) in
-    (rw (le-ltb 512 (length all) v.2, ne_eqb (length all) 2 more) o.0, o.1)
+    (rw (le-ltb MAX_REQUEST (length all) v.2, ne_eqb (length all) 2 more) o.0, o.1)
 
 -- what is spelled has no fault, and the bytes hold that packet
 spelled_holds : (p : Packet) (bytes : List ℕ) → Spells p bytes → (first_fault bytes ≡ None) × (packet_in bytes ≡ p)
@@ -212,13 +213,13 @@ texts_whole ((c ∷ name) ∷ word ∷ ts) u t h =
       all = ap (λ v. flat_map zero_ended ((c ∷ name) ∷ word ∷ ts) ++ v) o.0 ∙ append-nil (flat_map zero_ended ((c ∷ name) ∷ word ∷ ts)) ∙ ap (λ r. zero_ended (c ∷ name) ++ (zero_ended word ++ r)) (sym o.1);
     }
 
-request_whole : (opcode : ℕ) (bytes : List ℕ) → bytes ≡ big_bytes 2 opcode ++ drop 2 bytes → request_fault bytes ≡ None → (w : Whole (texts (drop 2 bytes)) (unended (drop 2 bytes))) × (bytes ≡ request_bytes opcode w.word (request_of (texts (drop 2 bytes)))) × (length bytes ≤ 512)
+request_whole : (opcode : ℕ) (bytes : List ℕ) → bytes ≡ big_bytes 2 opcode ++ drop 2 bytes → request_fault bytes ≡ None → (w : Whole (texts (drop 2 bytes)) (unended (drop 2 bytes))) × (bytes ≡ request_bytes opcode w.word (request_of (texts (drop 2 bytes)))) × (length bytes ≤ MAX_REQUEST)
 request_whole opcode bytes start h =
-    let g = guard_none (ltb 512 (length bytes)) _ _ h in
+    let g = guard_none (ltb MAX_REQUEST (length bytes)) _ _ h in
     let w = texts_whole (texts (drop 2 bytes)) (unended (drop 2 bytes)) (texts_each (drop 2 bytes)) g.1 in
     (w, start ∙ ap (λ body. big_bytes 2 opcode ++ body) (sym (texts_joined (drop 2 bytes)) ∙ w.all), ltb-false _ _ g.0)
 
-request_limit : (opcode : ℕ) (word bytes : List ℕ) (r : Request) → str_to_ascii_lowercase word ≡ mode_word r.mode → bytes ≡ request_bytes opcode word r → length bytes ≤ 512 → length (request_bytes opcode (mode_word r.mode) r) ≤ 512
+request_limit : (opcode : ℕ) (word bytes : List ℕ) (r : Request) → str_to_ascii_lowercase word ≡ mode_word r.mode → bytes ≡ request_bytes opcode word r → length bytes ≤ MAX_REQUEST → length (request_bytes opcode (mode_word r.mode) r) ≤ MAX_REQUEST
 request_limit opcode word bytes r m e limit =
     let same = request_length opcode word (mode_word r.mode) r (word_length word (mode_word r.mode) m) in
     omega (arith, ap length e)
@@ -245,11 +246,11 @@ second_back opcode bytes start least h =
 
 data_whole : (bytes : List ℕ) → bytes ≡ big_bytes 2 3 ++ drop 2 bytes → ((k : ℕ) → get_or bytes k 0 < 256) → data_fault bytes ≡ None → Spells (packet_of 3 bytes) bytes
 data_whole bytes start h f =
-    let most = guard_none (ltb 65468 (length bytes)) _ _ f in
+    let most = guard_none (ltb MAX_DATA (length bytes)) _ _ f in
     let least = guard_none (ltb (length bytes) 4) _ _ most.1 in
     let zero = guard_none (eqb (big_number 2 (drop 2 bytes)) 0) _ _ least.1 in
     let l : 4 ≤ length bytes = ltb-false _ _ least.0 in
-    let m : length bytes ≤ 65468 = ltb-false _ _ most.0 in
+    let m : length bytes ≤ MAX_DATA = ltb-false _ _ most.0 in
     let s = second_back 3 bytes start l h in
     record { valid = (eqb-false _ _ zero.0, s.1, omega (arith, length-drop 4 bytes)); word = []; mode = refl; whole = s.0 }
 
@@ -272,10 +273,10 @@ message_whole (text ∷ other ∷ ts) (b ∷ u) t h = absurd (cc)
 
 error_whole : (bytes : List ℕ) → bytes ≡ big_bytes 2 5 ++ drop 2 bytes → ((k : ℕ) → get_or bytes k 0 < 256) → error_fault bytes ≡ None → Spells (packet_of 5 bytes) bytes
 error_whole bytes start h f =
-    let most = guard_none (ltb 512 (length bytes)) _ _ f in
+    let most = guard_none (ltb MAX_REQUEST (length bytes)) _ _ f in
     let least = guard_none (ltb (length bytes) 4) _ _ most.1 in
     let l : 4 ≤ length bytes = ltb-false _ _ least.0 in
-    let m : length bytes ≤ 512 = ltb-false _ _ most.0 in
+    let m : length bytes ≤ MAX_REQUEST = ltb-false _ _ most.0 in
     let s = second_back 5 bytes start l h in
     let t = message_whole (texts (drop 4 bytes)) (unended (drop 4 bytes)) (texts_each (drop 4 bytes)) least.1 in
     let whole = s.0 ∙ ap (λ r. big_bytes 2 5 ++ (big_bytes 2 (big_number 2 (drop 2 bytes)) ++ r)) (sym (texts_joined (drop 4 bytes)) ∙ t.1) in
@@ -283,9 +284,9 @@ error_whole bytes start h f =
 
 oack_whole : (bytes : List ℕ) → bytes ≡ big_bytes 2 6 ++ drop 2 bytes → oack_fault bytes ≡ None → Spells (Oack (options_in (drop 2 bytes))) bytes
 oack_whole bytes start f =
-    let most = guard_none (ltb 512 (length bytes)) _ _ f in
+    let most = guard_none (ltb MAX_REQUEST (length bytes)) _ _ f in
     let some = guard_none (eqb (length bytes) 2) _ _ most.1 in
-    let m : length bytes ≤ 512 = ltb-false _ _ most.0 in
+    let m : length bytes ≤ MAX_REQUEST = ltb-false _ _ most.0 in
     let o = options_fine 2 (drop 2 bytes) some.1 in
     let whole : bytes ≡ big_bytes 2 6 ++ options_bytes (options_in (drop 2 bytes)) = start ∙ ap (λ r. big_bytes 2 6 ++ r) (sym o.whole) in
     let long : length bytes ≢ 2 = eqb-false _ _ some.0 in

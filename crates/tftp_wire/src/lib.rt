@@ -3,8 +3,9 @@
 //! It opens no socket, reads no clock and touches no file. It is strict: what is not spelled to the
 //! letter is a fault, with its kind and its place.
 //!
-//! Begin with [`decode_ref`], which takes no memory, or with [`decode`]: a packet exactly if the bytes
-//! spell it, and else the first fault from the left. [`encode`] and the `append` calls write packets.
+//! Begin with [`decode_ref`], which takes no memory, or with [`decode`]: a packet exactly if the
+//! bytes spell it, and else the first fault from the left. [`encode`] and the `append` calls write
+//! packets.
 #![tactic(auto)]
 
 mod append;

@@ -182,8 +182,8 @@ fn serve_source<F: Source + Drop>(
     }
 }
 
-/// The end of a transfer that stores, whose first datagram is appended, and a copy of the datagram that
-/// asked for it. In the place of the first datagram there is room for an ERROR.
+/// The end of a transfer that stores, whose first datagram is appended, and a copy of the datagram
+/// that asked for it. In the place of the first datagram there is room for an ERROR.
 fn prepare(
     alloc: Global,
     from: Endpoint,
@@ -334,9 +334,9 @@ impl<S: Store> Server<S> {
         }
     }
 
-    /// Begins a draft for the path, which a transfer with these options is to fill. Everything else that
-    /// can want memory comes first, so that no draft is begun in vain; where none is begun, there is room
-    /// for the ERROR that says so.
+    /// Begins a draft for the path, which a transfer with these options is to fill. Everything else
+    /// that can want memory comes first, so that no draft is begun in vain; where none is begun,
+    /// there is room for the ERROR that says so.
     pub(crate) fn write(
         &mut self,
         from: Endpoint,

@@ -1,5 +1,5 @@
 -- The total is the length of the wire text of what was read.
-use Rattle.std.proofs.Common.{◌+◌, ◌-◌, ◌≤◌, length, ◌≡◌}
+use Rattle.std.proofs.Common.{◌+◌, ◌-◌, ◌*◌, ◌≤◌, length, ◌≡◌}
 use Rattle.tftp_file.specs.declared.length.TheConstants.{MAX_WIRE, CHUNK}
 use Rattle.tftp_file.proofs.LengthLemmas.{Leaves}
 use Rattle.tftp_file.proofs.length.wire_length.Given as goal
@@ -7,7 +7,7 @@ use Rattle.tftp_file.proofs.length.wire_length.Given as goal
 abbrev pub invariant-loop-total : goal.invariant-loop-total
 invariant-loop-total g l = record {
   known : Leaves l.mode (g.R.Read.remaining l.initial.reader) (g.R.Read.remaining l.reader) l.total;
-  small : l.total ≤ MAX_WIRE + 16384;
+  small : l.total ≤ MAX_WIRE + 2 * CHUNK;
   chunk : length l.chunk ≡ CHUNK;
 }
 

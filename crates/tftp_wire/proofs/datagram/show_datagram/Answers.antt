@@ -1,3 +1,4 @@
+-- What is spelled is found in the bytes, and so is its line.
 use Rattle.std.proofs.Common.{ℕ, ◌≡◌, List, None, ap, sym, ◌∙◌, ◌++◌}
 use Rattle.std.specs.String.{string_bytes}
 use Rattle.tftp_wire.specs.declared.packet.Packet.{Packet}
