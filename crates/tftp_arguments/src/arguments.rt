@@ -18,7 +18,8 @@ pub fn own_words<R: Runtime + AllocGlobal>(rt: &R) -> Result<Vec<String>> {
     Ok(words)
 }
 
-/// Prints the help, the version or what is wrong with a command line, and returns the status for it.
+/// Prints the help, the version or what is wrong with a command line, and returns the status for
+/// it.
 pub fn print_usage<R: Print + Eprint>(rt: &R, error: &clap::Error) -> u8
     ensures { result ≤ 2 }
 {
@@ -34,8 +35,8 @@ pub fn word<'a>(alloc: Global, name: &'a str, help: &'a str) -> Arg<'a> {
     Arg::new(alloc, name).required(true).help(help)
 }
 
-/// An option `--name N` with a number. Its range stands in the place of its value, so that the help and each
-/// fault name it.
+/// An option `--name N` with a number. Its range stands in the place of its value, so that the help
+/// and each fault name it.
 pub fn number<'a>(
     alloc: Global,
     name: &'a str,

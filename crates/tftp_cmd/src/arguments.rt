@@ -55,7 +55,8 @@ pub fn show_words<R: Runtime + AllocGlobal, S: AsStr>(rt: &R, words: &[S]) -> u8
 }
 
 /// Runs `tftp-play` as a command line says, and returns its status. The first word is the program's
-/// name. The script is the file that the second names, or standard input; `errors` is standard error.
+/// name. The script is the file that the second names, or standard input; `errors` is standard
+/// error.
 ///
 /// `--help` and `--version` print and return 0. A command line that is not understood and a script
 /// that cannot be opened or read are reported on standard error with status 2. Out of memory is

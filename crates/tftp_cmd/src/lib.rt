@@ -1,7 +1,7 @@
 //! What the TFTP programs do, as functions over readers, writers and traits.
 //!
-//! A program's `main` only hands in the system. Begin with [`show_run`] and [`play_run`]. The programs
-//! over UDP are those of `tftp_udp`.
+//! A program's `main` only hands in the system. Begin with [`show_run`] and [`play_run`]. The
+//! programs over UDP are those of `tftp_udp`.
 #![tactic(auto)]
 
 mod arguments;

@@ -12,8 +12,8 @@ use script_run::ScriptRun;
 use std::alloc::Global;
 use std::io::{Read, Write};
 
-/// Plays a script in a world of its own, and writes what each event did, and at the end how far each
-/// end came.
+/// Plays a script in a world of its own, and writes what each event did, and at the end how far
+/// each end came.
 ///
 /// The status is 0 if every client is complete, and 1 if not. It is 2, with a message on `errors`,
 /// if the script cannot be read or has a faulty line, and then nothing is played; and if writing

@@ -25,8 +25,8 @@ pub enum ClientEnd {
 }
 
 impl ClientEnd {
-    /// The status of the program: 0 for a complete transfer, 1 for one that failed, and 2 where none
-    /// was opened.
+    /// The status of the program: 0 for a complete transfer, 1 for one that failed, and 2 where
+    /// none was opened.
     pub fn status(self) -> u8
         ensures { result ≡ status_of self }
     {

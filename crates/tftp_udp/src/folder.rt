@@ -14,15 +14,16 @@ use tftp_file::{FileFault, Path, ReadSource, StoreFault};
 use tftp_server::{Opening, Store};
 use tftp_wire::Mode;
 
-/// The bytes of a file that are read or written at once. Blocks of this size and more pass the buffer.
+/// The bytes of a file that are read or written at once. Blocks of this size and more pass the
+/// buffer.
 const BUFFER: usize = 32_768;
 
 /// The files in a folder and below it. It tells no meaning: what a disk holds between calls is not
 /// known.
 ///
-/// A name is opened where it leads to a regular file in the folder, and through links as long as these
-/// stay in it. A new file is written as a draft in the folder, `.tftp-PORT`, and gets its name at the
-/// commit.
+/// A name is opened where it leads to a regular file in the folder, and through links as long as
+/// these stay in it. A new file is written as a draft in the folder, `.tftp-PORT`, and gets its
+/// name at the commit.
 #[derive(Drop)]
 pub struct FolderStore<R: Files + Drop> {
     files: R,
@@ -132,8 +133,9 @@ impl<R: Files + Drop> FolderStore<R> {
         }
     }
 
-    /// Opens the regular file at the path, and tells its length in host bytes. A folder is `Missing`, what
-    /// else is no regular file `Io`: it is looked at before it is opened, since opening a FIFO would wait.
+    /// Opens the regular file at the path, and tells its length in host bytes. A folder is
+    /// `Missing`, what else is no regular file `Io`: it is looked at before it is opened, since
+    /// opening a FIFO would wait.
     fn open_file(&self, alloc: Global, path: &Path) -> Result<(R::File, u64), StoreFault>
         ensures { IfErr result MayNotOpen }
     {
@@ -302,8 +304,9 @@ impl<R: Files + Drop> Store for FolderStore<R> {
         }
     }
 
-    /// The draft is on the disk before it gets its name. It gets it by a hard link, which never takes
-    /// the place of a file; to replace one it is renamed, which leaves the old file or the new one.
+    /// The draft is on the disk before it gets its name. It gets it by a hard link, which never
+    /// takes the place of a file; to replace one it is renamed, which leaves the old file or the
+    /// new one.
     fn commit(
         &mut self,
         _path: &Path,

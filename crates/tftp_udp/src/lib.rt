@@ -1,8 +1,8 @@
 //! `tftp` and `tftpd`: transfers over UDP (RFC 1350, section 4).
 //!
-//! What is decided stands apart from sockets, in functions over values: when a transfer is due, what a
-//! line says, whether to try again without options. Sockets and the clock are in `udp`, `daemon` and
-//! `client` alone.
+//! What is decided stands apart from sockets, in functions over values: when a transfer is due,
+//! what a line says, whether to try again without options. Sockets and the clock are in `udp`,
+//! `daemon` and `client` alone.
 //!
 //! Begin with [`tftp_words`] and [`tftpd_words`].
 #![tactic(auto)]

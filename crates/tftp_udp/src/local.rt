@@ -1,5 +1,5 @@
-//! The local file of a client: one that is fetched is written under another name, and named at the commit; one
-//! that is sent is measured first.
+//! The local file of a client: one that is fetched is written under another name, and named at the
+//! commit; one that is sent is measured first.
 
 ghost use Rattle.std.specs.Prelude.{◌≡◌, ◌≢◌, ◌+◌, min, Ok};
 ghost use Rattle.tftp_wire.specs.declared.mode.Mode.TheVariants.{Octet};
@@ -15,8 +15,8 @@ use tftp_wire::Mode;
 /// The bytes that are read or written at once. Blocks of this size and more pass the buffer.
 const BUFFER: usize = 65_536;
 
-/// The length of a file on the wire, or `MAX_WIRE + 1` where it is greater: so many host bytes in octet, and
-/// in netascii what reading it once counts. The file is then at its front again.
+/// The length of a file on the wire, or `MAX_WIRE + 1` where it is greater: so many host bytes in
+/// octet, and in netascii what reading it once counts. The file is then at its front again.
 pub(crate) fn length_on_wire<F: Read + Seek>(
     file: &mut F,
     mode: Mode,
@@ -70,8 +70,8 @@ pub(crate) struct Outbound<F: Read + Drop> {
 }
 
 impl<F: Read + Seek + Drop> Outbound<F> {
-    /// Opens a regular file to be sent. What is no regular file is refused before it is opened, since
-    /// opening a FIFO would wait.
+    /// Opens a regular file to be sent. What is no regular file is refused before it is opened,
+    /// since opening a FIFO would wait.
     pub(crate) fn open<R: Files<File = F>>(
         files: &R,
         alloc: Global,
@@ -105,8 +105,8 @@ pub(crate) fn read_error<F: Read + Drop>(source: LocalSource<F>) -> Option<io::E
     source.into_inner().into_inner().error
 }
 
-/// A file `LOCAL` that is being fetched, as `LOCAL.part`. It gets its name at the commit, and stays as
-/// it is if there is none.
+/// A file `LOCAL` that is being fetched, as `LOCAL.part`. It gets its name at the commit, and stays
+/// as it is if there is none.
 #[derive(Drop)]
 pub(crate) struct LocalFile<R: Files + Drop> {
     files: R,

@@ -3,7 +3,8 @@
 use std::fmt;
 use tftp_ends::{Endpoint, Outcome};
 
-/// A line of the log of `tftpd`. A datagram stands in it as its packet's line, or as its first fault.
+/// A line of the log of `tftpd`. A datagram stands in it as its packet's line, or as its first
+/// fault.
 #[derive(Clone, Copy, Debug)]
 pub enum LogLine<'a> {
     /// A request opened the transfer at this port, which answered so.
@@ -24,8 +25,8 @@ pub enum LogLine<'a> {
         peer: Endpoint,
         request: &'a str,
     },
-    /// A transfer closed, after so many bytes of DATA and so many milliseconds. `answer` is its first one,
-    /// which has the options that were agreed.
+    /// A transfer closed, after so many bytes of DATA and so many milliseconds. `answer` is its
+    /// first one, which has the options that were agreed.
     Closed {
         port: u16,
         peer: Endpoint,

@@ -16,8 +16,8 @@ pub struct LineClock {
 }
 
 impl LineClock {
-    /// Whether a line is due at this time, in milliseconds: none was written yet, or the newest one a
-    /// tenth of a second ago. A line that is due counts as written.
+    /// Whether a line is due at this time, in milliseconds: none was written yet, or the newest one
+    /// a tenth of a second ago. A line that is due counts as written.
     pub fn take_due(&mut self, now: u64) -> bool
         ensures due { IsTrue result ↔ IsLineDue self.old.written_at now }
         ensures taken { self.new.written_at ≡ (if result then Some now else self.old.written_at) }
@@ -31,8 +31,8 @@ impl LineClock {
     }
 }
 
-/// How far a transfer came. `{}` writes its bytes, their share of the whole where that is known, and
-/// their speed.
+/// How far a transfer came. `{}` writes its bytes, their share of the whole where that is known,
+/// and their speed.
 #[derive(Clone, Copy, Debug, PartialEq, Eq)]
 pub struct ProgressLine {
     /// The bytes that were transferred.

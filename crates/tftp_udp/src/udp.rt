@@ -10,8 +10,8 @@ use std::time::Clock;
 use tftp_ends::Endpoint;
 use tftp_wire::MAX_DATA;
 
-/// The bytes of a buffer for datagrams: one more than the longest valid one has, so that a longer one is
-/// malformed and never cut to fit (RFC 2348, "Blocksize Option Specification").
+/// The bytes of a buffer for datagrams: one more than the longest valid one has, so that a longer
+/// one is malformed and never cut to fit (RFC 2348, "Blocksize Option Specification").
 pub(crate) const DATAGRAM_BUFFER: usize = MAX_DATA + 1;
 
 /// The endpoint that a word `ADDR:PORT` names, with a dotted IPv4 address.
@@ -46,8 +46,8 @@ pub(crate) fn read_clock(clock: &impl Clock, last: u64) -> u64 {
     }
 }
 
-/// A datagram that has come to a socket that does not wait: from where, and how many bytes of the buffer
-/// it is.
+/// A datagram that has come to a socket that does not wait: from where, and how many bytes of the
+/// buffer it is.
 pub(crate) fn receive(socket: &UdpSocket, buffer: &mut [u8]) -> Option<(Endpoint, usize)>
     ensures { IfSome result (λ datagram. datagram.1 ≤ length buffer.new) }
 {

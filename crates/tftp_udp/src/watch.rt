@@ -8,9 +8,9 @@ pub const LONGEST_WAIT: u64 = 1_000;
 
 /// The time of a program, made from readings of a clock, in milliseconds.
 ///
-/// It goes on by as much as the clock did between two readings, and by [`LONGEST_WAIT`] at most. So a
-/// clock that jumps ahead, as after a suspension, makes a transfer older by one wait at most, and one
-/// that goes back makes none younger.
+/// It goes on by as much as the clock did between two readings, and by [`LONGEST_WAIT`] at most. So
+/// a clock that jumps ahead, as after a suspension, makes a transfer older by one wait at most, and
+/// one that goes back makes none younger.
 #[derive(Clone, Copy, Debug, PartialEq, Eq)]
 pub struct Watch {
     /// The time since the watch was started.

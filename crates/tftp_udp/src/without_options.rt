@@ -9,8 +9,8 @@ use tftp_negotiate::Asked;
 /// The code of an ERROR to a request whose options are refused (RFC 2347).
 const OPTIONS_REFUSED: u16 = 8;
 
-/// Whether a transfer that ended so is followed by one without options: the peer refused options, and
-/// some were asked.
+/// Whether a transfer that ended so is followed by one without options: the peer refused options,
+/// and some were asked.
 pub fn fallback(outcome: Outcome, asked: &Asked) -> bool
     ensures { IsTrue result ↔ FallsBack outcome asked.now }
 {

@@ -41,8 +41,8 @@ pub(crate) fn mode(word: &[u8]) -> Result<Mode, LineFault>
     }
 }
 
-/// The options of a request: `blksize=N`, `timeout=N` and `tsize`, each at most once and in its range;
-/// `tsize` stands for this length, in bytes.
+/// The options of a request: `blksize=N`, `timeout=N` and `tsize`, each at most once and in its
+/// range; `tsize` stands for this length, in bytes.
 pub(crate) fn asked(options: &[&[u8]], length: u64) -> Result<Asked, LineFault>
     ensures { IfOk result IsAskable }
 {

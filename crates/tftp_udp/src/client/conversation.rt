@@ -93,7 +93,8 @@ impl Conversation {
         Outcome::TimedOut
     }
 
-    /// Waits once, and takes what came or the timeout that is due; returns how the end closed, if it did.
+    /// Waits once, and takes what came or the timeout that is due; returns how the end closed, if
+    /// it did.
     fn turn<C: Clock, S: Source, K: Sink>(
         &mut self,
         clock: &C,
@@ -125,8 +126,8 @@ impl Conversation {
         self.take_timeout().closed
     }
 
-    /// Takes the datagram in the buffer, and sends what goes out. One for whose handling there is no memory
-    /// is a lost one.
+    /// Takes the datagram in the buffer, and sends what goes out. One for whose handling there is
+    /// no memory is a lost one.
     fn take_datagram<S: Source, K: Sink>(
         &mut self,
         files: &mut Files<S, K>,
@@ -191,7 +192,8 @@ impl Conversation {
         }
     }
 
-    /// Shows how far it came in the end, and ends the line. `stored` is what a receiver stored, in bytes.
+    /// Shows how far it came in the end, and ends the line. `stored` is what a receiver stored, in
+    /// bytes.
     pub(crate) fn finish<E: Eprint>(&self, rt: &E, stored: Option<u64>) {
         if self.lines.is_none() {
             return;

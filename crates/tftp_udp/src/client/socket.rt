@@ -9,7 +9,8 @@ use std::net::{Ipv4Addr, Net, SocketAddr, UdpSocket};
 use std::time::Duration;
 use tftp_ends::{Endpoint, Step};
 
-/// The socket of a client: any port of its server may answer the request, so it is connected to none.
+/// The socket of a client: any port of its server may answer the request, so it is connected to
+/// none.
 #[derive(Drop)]
 pub(crate) struct ClientSocket {
     socket: UdpSocket,
@@ -29,8 +30,8 @@ impl ClientSocket {
         })
     }
 
-    /// Waits for a datagram, for so many milliseconds at most: from where it is, and how many bytes of
-    /// the buffer.
+    /// Waits for a datagram, for so many milliseconds at most: from where it is, and how many bytes
+    /// of the buffer.
     pub(crate) fn receive(&mut self, wait: u64, buffer: &mut [u8]) -> Option<(Endpoint, usize)>
         ensures { IfSome result (λ datagram. datagram.1 ≤ length buffer.new) }
     {

@@ -10,8 +10,8 @@ use tftp_ends::{Endpoint, Outcome};
 use tftp_server::{Server, Store};
 use tftp_wire::show_datagram;
 
-/// The most datagrams that are received from one socket in a wake-up: a flood at one port does not starve
-/// the others.
+/// The most datagrams that are received from one socket in a wake-up: a flood at one port does not
+/// starve the others.
 pub(crate) const MOST_AT_ONCE: usize = 32;
 
 /// What came of the datagrams at a transfer's port.
@@ -19,7 +19,8 @@ pub(crate) const MOST_AT_ONCE: usize = 32;
 pub(crate) enum Turn {
     /// Nothing more is there.
     Empty,
-    /// The transfer went on. What may be left is received at the next readiness, or before a timeout.
+    /// The transfer went on. What may be left is received at the next readiness, or before a
+    /// timeout.
     Onward,
     /// More may be there.
     Unfinished,
@@ -126,7 +127,8 @@ pub(crate) fn take_datagrams<S: Store>(
     Turn::Unfinished
 }
 
-/// Takes a datagram, and sends what goes out. One for whose handling there is no memory is a lost one.
+/// Takes a datagram, and sends what goes out. One for whose handling there is no memory is a lost
+/// one.
 fn take_datagram<S: Store>(
     server: &mut Server<S>,
     port: &mut Port<TransferSocket>,
