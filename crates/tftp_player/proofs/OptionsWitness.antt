@@ -240,6 +240,5 @@ read_is_straight = (
     there = refl;
     accepted = accepted;
     answered = answered;
-    taken = (tt, (tt, (tt, (tt, ((λ e. cc), tt)))));
   },
 )

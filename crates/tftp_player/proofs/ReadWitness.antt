@@ -158,6 +158,5 @@ read_is_straight = (
       is = refl;
     };
     answered = tt;
-    taken = (tt, (tt, ((λ e. cc), tt)));
   },
 )

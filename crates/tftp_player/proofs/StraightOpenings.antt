@@ -20,7 +20,7 @@ use Rattle.tftp_ends.specs.declared.error_reply.ErrorReply.TheVariants.{FileTooL
 use Rattle.tftp_ends.specs.declared.outcome.Outcome.TheVariants as outcomes
 use Rattle.tftp_ends.specs.declared.phase.Phase.TheVariants.{Waiting, Sending, Receiving}
 use Rattle.tftp_ends.specs.declared.phase.Terms.{Terms}
-use Rattle.tftp_ends.specs.End.{is_sender}
+use Rattle.tftp_ends.specs.End.{is_sender, is_client}
 use Rattle.tftp_ends.specs.Action.{datagram_action}
 use Rattle.tftp_ends.specs.Opening.{oack_bytes}
 use Rattle.tftp_ends.specs.Receiver.{receiver_action}
@@ -47,21 +47,21 @@ use Rattle.tftp_player.proofs.WaitingMoves.{agreed_size}
 use Rattle.tftp_player.proofs.WorldKeeps.{answered_values}
 
 -- ---- both ends are open
-pub record HasBegun (strangers : Bool) (old new : WorldState) (c x : OpenedEnd) : Type 0 where
+pub record HasBegun (reads strangers : Bool) (old new : WorldState) (c x : OpenedEnd) : Type 0 where
   pub w : WorldState
   pub ready : IsReady strangers w (length old.sent + 1) (datagram x.address x.state.progress.last_sent_to x.state.progress.last_sent)
   pub client_at : slice_get w.ends (length old.ends) ≡ Some c
   pub server_at : slice_get w.ends (length old.ends + 1) ≡ Some x
-  pub left : IsLeft w (length old.sent + 1) new
+  pub left : IsLeft reads w (length old.sent + 1) new
 
-begins : (strangers : Bool) (old new w : WorldState) (c x : OpenedEnd) (accepts : Service) → HasAsked strangers old w c → c.state.progress.last_sent_to ≡ request_port → IsLeft w (length old.sent) new → IsAccepted w c accepts →
-    ((report : Report) (mid : WorldState) → Serves accepts w c.address c.state.progress.last_sent report mid → Opens w x report mid) → HasBegun strangers old new c x
-begins strangers old new w c x accepts has to left accepted opens =
+begins : (reads strangers : Bool) (old new w : WorldState) (c x : OpenedEnd) (accepts : Service) → HasAsked strangers old w c → c.state.progress.last_sent_to ≡ request_port → IsLeft reads w (length old.sent) new → IsAccepted w c accepts →
+    ((report : Report) (mid : WorldState) → Serves accepts w c.address c.state.progress.last_sent report mid → Opens w x report mid) → HasBegun reads strangers old new c x
+begins reads strangers old new w c x accepts has to left accepted opens =
     let i = length old.sent in
     let k = length old.ends in
     let d0 = datagram c.address c.state.progress.last_sent_to c.state.progress.last_sent in
     let d1 = datagram x.address x.state.progress.last_sent_to x.state.progress.last_sent in
-    let g = goes_on w new i has.count left in
+    let g = goes_on reads w new i has.count left in
     let p = port_comes w g.mid i c g.report accepts (ports_of strangers w has.ok) accepted (has.newest ∙ ap (λ (a : Endpoint). Some (datagram c.address a c.state.progress.last_sent)) to) g.step in
     let o = has_opened w g.mid x g.report (opens g.report g.mid p) in
     let first : IsReady strangers w i d0 = record { ok = has.ok; newest = has.newest; count = has.count } in
@@ -128,11 +128,11 @@ module _ (strangers : Bool) (old new : WorldState) (name : List ℕ) (mode : Mod
   abbrev server_of : (agreed : List Known) → ReadsStraight old new name mode asked file agreed → OpenedEnd
   server_of agreed h = sending_end h.run.asked reader.address reader.state.progress.last_sent mode h.path file agreed
 
-  read_begins : (agreed : List Known) → IsOk strangers old → (h : ReadsStraight old new name mode asked file agreed) → HasBegun strangers old new reader (server_of agreed h)
+  read_begins : (agreed : List Known) → IsOk strangers old → (h : ReadsStraight old new name mode asked file agreed) → HasBegun true strangers old new reader (server_of agreed h)
   read_begins agreed ok h =
       let has = reader_asks agreed ok h in
-      let left : IsLeft h.run.asked (length old.sent) new = record { reports = h.run.reports; settles = h.run.settles; all = h.run.all; taken = h.taken } in
-      begins strangers old new h.run.asked reader (server_of agreed h) (Sends h.path mode h.length agreed) has refl left h.accepted
+      let left : IsLeft true h.run.asked (length old.sent) new = record { reports = h.run.reports; settles = h.run.settles; all = h.run.all; taken = tt } in
+      begins true strangers old new h.run.asked reader (server_of agreed h) (Sends h.path mode h.length agreed) has refl left h.accepted
       (λ report mid s.
       let same : s.0 ≡ file = same_Some s.0 file (sym s.1 ∙ (ap (λ (files : List StoredFile). file_at files h.path) has.files ∙ h.there)) in
       subst (λ (f : List ℕ). Opens h.run.asked (sending_end h.run.asked reader.address reader.state.progress.last_sent mode h.path f agreed) report mid) same s.2)
@@ -153,12 +153,13 @@ module _ (strangers : Bool) (old new : WorldState) (name : List ℕ) (mode : Mod
       let first : 0 + 1 ≤ block_count text 512 = omega arith in
       let piece = block text 512 (0 + 1) in
       let within : length piece ≤ 512 = block_within text 512 fit.positive fit.fits 0 first in
-      let receiver : AwaitsAt strangers (k + 1) k (before_next k) sa ra st rt mode file refl refl refl b.w 0 = record {
+      let receiver : AwaitsAt strangers (k + 1) k (before_next k) sa ra st rt mode file refl refl refl true b.w 0 = record {
         x = reader;
         there = b.client_at;
         address = refl;
         still = refl;
         receiver = refl;
+        willing = (refl, refl);
         mode_is = refl;
         received = nothing_yet mode 512 text;
         holds = nothing_held mode;
@@ -168,11 +169,11 @@ module _ (strangers : Bool) (old new : WorldState) (name : List ℕ) (mode : Mod
             ∙ next_is_stored strangers (k + 1) k (before_next k) sa ra st rt mode file refl refl refl reader 0 fit first refl (nothing_yet mode 512 text)));
       } in
       let rest : 0 + 1 + m ≡ block_count text 512 = omega arith in
-      let over = from_data strangers (k + 1) k (before_next k) sa ra st rt mode file refl refl refl m (length old.sent + 1) 0 b.w new rest b.ready sender receiver b.left in
+      let over = from_data strangers (k + 1) k (before_next k) sa ra st rt mode file refl refl refl true m (length old.sent + 1) 0 b.w new rest b.ready sender receiver b.left in
       reader_through old new (length old.sent + 1 + 2 + 2 * m) (read_count [] (block_count text 512)) over (omega arith)
 
   -- from the server's OACK on, which the client accepts
-  read_on : (x : OpenedEnd) (st rt : Terms) (packet : Packet) → HasBegun strangers old new reader x → x.state.progress.last_sent_to ≡ reader.address → x.state.progress.phase ≡ Sending st 0 → x.file ≡ file → x.state.role.mode ≡ mode →
+  read_on : (x : OpenedEnd) (st rt : Terms) (packet : Packet) → HasBegun true strangers old new reader x → x.state.progress.last_sent_to ≡ reader.address → x.state.progress.phase ≡ Sending st 0 → x.file ≡ file → x.state.role.mode ≡ mode →
       Spells packet x.state.progress.last_sent → datagram_action reader.state x.address x.state.progress.last_sent (Some packet) ≡ Respond (Accept rt) → st.peer ≡ reader.address → rt.peer ≡ x.address → rt.size ≡ st.size →
       IsThrough old new (3 + 2 * block_count text st.size)
   read_on x st rt packet b to phase file_is mode_is spelled accepts sp rp same =
@@ -180,7 +181,7 @@ module _ (strangers : Bool) (old new : WorldState) (name : List ℕ) (mode : Mod
       let k = length old.ends in
       let sa = x.address in
       let ra = reader.address in
-      let g = goes_on b.w new (i + 1) b.ready.count b.left in
+      let g = goes_on true b.w new (i + 1) b.ready.count b.left in
       let heard = delivered b.w g.mid (i + 1) k reader sa x.state.progress.last_sent g.report (ports_of strangers b.w b.ready.ok)
       (b.ready.newest ∙ ap (λ (a : Endpoint). Some (datagram sa a x.state.progress.last_sent)) to) b.client_at refl g.step in
       let y = hears_oack b.w g.mid k reader sa x.state.progress.last_sent g.report heard packet rt spelled accepts in
@@ -194,14 +195,14 @@ module _ (strangers : Bool) (old new : WorldState) (name : List ℕ) (mode : Mod
       let blocks = block_count text st.size in
       let rest : 0 + 1 + m ≡ blocks = omega arith in
       let first : 0 + 1 ≤ blocks = omega (arith, rest) in
-      let receiver = awaits_now strangers (k + 1) k (before_next k) sa ra st rt mode file sp rp same g.mid y.0 0 fit first
-      (set_at b.w g.mid k reader y.0 y.4.ends b.client_at) y.4.address y.1 (ap is_sender y.4.side) y.4.mode
+      let receiver = awaits_now strangers (k + 1) k (before_next k) sa ra st rt mode file sp rp same true g.mid y.0 0 fit first
+      (set_at b.w g.mid k reader y.0 y.4.ends b.client_at) y.4.address y.1 (ap is_sender y.4.side) (ap is_client y.4.side, y.5) y.4.mode
       (new_text mode y.0.state.role.mode y.0.stored y.0.state.progress.held st.size text y.4.mode y.2 y.3) (new_held mode y.0.state.role.mode y.0.state.progress.held y.4.mode y.3) in
-      let n = goes_on g.mid new (i + 1 + 1) ready.count g.left in
+      let n = goes_on true g.mid new (i + 1 + 1) ready.count g.left in
       let ready_then = ack_ready strangers (k + 1) k (before_next k) sa ra st rt mode file sp rp same g.mid n.mid (i + 1 + 1) 0 n.report ready sender (omega arith) n.step first in
       let sender_then = ack_sender strangers (k + 1) k (before_next k) sa ra st rt mode file sp rp same g.mid n.mid (i + 1 + 1) 0 n.report ready sender (omega arith) n.step first in
-      let receiver_then = ack_receiver strangers (k + 1) k (before_next k) sa ra st rt mode file sp rp same g.mid n.mid (i + 1 + 1) 0 n.report ready sender (omega arith) n.step first receiver in
-      let over = from_data strangers (k + 1) k (before_next k) sa ra st rt mode file sp rp same m (i + 1 + 1 + 1) 0 n.mid new rest ready_then sender_then receiver_then n.left in
+      let receiver_then = ack_receiver strangers (k + 1) k (before_next k) sa ra st rt mode file sp rp same g.mid n.mid (i + 1 + 1) 0 n.report ready sender (omega arith) n.step first true receiver in
+      let over = from_data strangers (k + 1) k (before_next k) sa ra st rt mode file sp rp same true m (i + 1 + 1 + 1) 0 n.mid new rest ready_then sender_then receiver_then n.left in
       reader_through old new (i + 1 + 1 + 1 + 2 + 2 * m) (3 + 2 * blocks) over (omega (arith, rest))
 
   -- by an OACK
@@ -247,14 +248,14 @@ module _ (strangers : Bool) (old new : WorldState) (name : List ℕ) (mode : Mod
   abbrev taker_of : (agreed : List Known) → WritesStraight old new name mode asked file agreed → OpenedEnd
   taker_of agreed h = receiving_end h.run.asked writer.address writer.state.progress.last_sent mode h.path agreed
 
-  write_begins : (agreed : List Known) → IsOk strangers old → (h : WritesStraight old new name mode asked file agreed) → HasBegun strangers old new writer (taker_of agreed h)
+  write_begins : (agreed : List Known) → IsOk strangers old → (h : WritesStraight old new name mode asked file agreed) → HasBegun false strangers old new writer (taker_of agreed h)
   write_begins agreed ok h =
       let has = writer_asks agreed ok h in
-      let left : IsLeft h.run.asked (length old.sent) new = record { reports = h.run.reports; settles = h.run.settles; all = h.run.all; taken = h.taken } in
-      begins strangers old new h.run.asked writer (taker_of agreed h) (Takes h.path mode agreed) has refl left h.accepted (λ report mid s. s)
+      let left : IsLeft false h.run.asked (length old.sent) new = record { reports = h.run.reports; settles = h.run.settles; all = h.run.all; taken = h.taken } in
+      begins false strangers old new h.run.asked writer (taker_of agreed h) (Takes h.path mode agreed) has refl left h.accepted (λ report mid s. s)
 
   -- from the server's answer on, which has the client send DATA 1
-  write_on : (x : OpenedEnd) (st rt : Terms) (packet : Packet) → HasBegun strangers old new writer x → x.state.progress.last_sent_to ≡ writer.address → x.state.progress.phase ≡ Receiving rt 0 →
+  write_on : (x : OpenedEnd) (st rt : Terms) (packet : Packet) → HasBegun false strangers old new writer x → x.state.progress.last_sent_to ≡ writer.address → x.state.progress.phase ≡ Receiving rt 0 →
       is_sender x.state.role.side ≡ false → x.state.role.mode ≡ mode → x.stored ≡ [] → x.state.progress.held ≡ [] → Spells packet x.state.progress.last_sent →
       datagram_action writer.state x.address x.state.progress.last_sent (Some packet) ≡ Send st 1 → st.peer ≡ x.address → rt.peer ≡ writer.address → rt.size ≡ st.size →
       IsThrough old new (write_count (block_count written st.size))
@@ -263,7 +264,7 @@ module _ (strangers : Bool) (old new : WorldState) (name : List ℕ) (mode : Mod
       let k = length old.ends in
       let sa = writer.address in
       let ra = x.address in
-      let g = goes_on b.w new (i + 1) b.ready.count b.left in
+      let g = goes_on false b.w new (i + 1) b.ready.count b.left in
       let heard = delivered b.w g.mid (i + 1) k writer ra x.state.progress.last_sent g.report (ports_of strangers b.w b.ready.ok)
       (b.ready.newest ∙ ap (λ (a : Endpoint). Some (datagram ra a x.state.progress.last_sent)) to) b.client_at refl g.step in
       let behind : written ≡ drop (0 * st.size) written = ap (λ (n : ℕ). drop n written) (let z : 0 ≡ 0 * st.size = omega arith in z) in
@@ -278,10 +279,10 @@ module _ (strangers : Bool) (old new : WorldState) (name : List ℕ) (mode : Mod
       let blocks = block_count written st.size in
       let rest : 0 + 1 + m ≡ blocks = omega arith in
       let first : 0 + 1 ≤ blocks = omega (arith, rest) in
-      let receiver = awaits_now strangers k (k + 1) (behind_last k) sa ra st rt mode file sp rp same g.mid x 0 fit first
-      (stays_at b.w g.mid k (k + 1) x y.0 y.2.ends (behind_last k) b.server_at) refl phase receives mode_is
+      let receiver = awaits_now strangers k (k + 1) (behind_last k) sa ra st rt mode file sp rp same false g.mid x 0 fit first
+      (stays_at b.w g.mid k (k + 1) x y.0 y.2.ends (behind_last k) b.server_at) refl phase receives tt mode_is
       (new_text mode x.state.role.mode x.stored x.state.progress.held st.size written mode_is stored held) (new_held mode x.state.role.mode x.state.progress.held mode_is held) in
-      let over = from_data strangers k (k + 1) (behind_last k) sa ra st rt mode file sp rp same m (i + 1 + 1) 0 g.mid new rest ready sender receiver g.left in
+      let over = from_data strangers k (k + 1) (behind_last k) sa ra st rt mode file sp rp same false m (i + 1 + 1) 0 g.mid new rest ready sender receiver g.left in
       writer_through old new (i + 1 + 1 + 2 + 2 * m) (write_count blocks) over (omega (arith, rest))
 
   begins_now : (n : ℕ) (terms : Terms) → n < 65535 * terms.size → begin_action n terms ≡ Send terms 1

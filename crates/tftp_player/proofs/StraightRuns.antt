@@ -1,6 +1,6 @@
 -- A run without loss, from the first DATA or the first ACK that is on its way.
 use Rattle.std.proofs.Common.{◌≡◌, ◌≢◌, ℕ, ◌+◌, ◌*◌, ◌/◌, ◌<◌, ◌≤◌, suc, zero, Bool, true, false, List, [], ◌∷◌, ◌++◌, length, take, drop, Some, refl, sym, ap, ◌∙◌, subst, arith, length-append}
-use Rattle.std.specs.Prelude.{nat_lt, is_some, slice_get, slice_set}
+use Rattle.std.specs.Prelude.{nat_lt, is_some, slice_get, slice_set, ⊤}
 use Rattle.std.proofs.lemmas.Bool.{lt-ltb, le-ltb}
 use Rattle.std.proofs.lemmas.List.{take-append-drop}
 use Rattle.std.proofs.lemmas.Option.{slice_get_within}
@@ -15,7 +15,7 @@ use Rattle.tftp_ends.specs.declared.phase.Dally.TheVariants.{Fresh}
 use Rattle.tftp_ends.specs.declared.phase.Phase.{Phase}
 use Rattle.tftp_ends.specs.declared.phase.Phase.TheVariants.{Sending, Receiving, Dallying}
 use Rattle.tftp_ends.specs.declared.phase.Terms.{Terms}
-use Rattle.tftp_ends.specs.End.{is_sender, is_complete, outcome_of}
+use Rattle.tftp_ends.specs.End.{is_sender, is_client, is_complete, outcome_of}
 use Rattle.tftp_ends.specs.Action.{datagram_action}
 use Rattle.tftp_ends.specs.Receiver.{next_action}
 use Rattle.tftp_ends.specs.Step.{ack_bytes, data_bytes}
@@ -34,43 +34,66 @@ use Rattle.tftp_player.proofs.Places.{slice_get-set_same, slice_get-set_other, s
 use Rattle.tftp_player.proofs.SaidLemmas.{spells_own}
 use Rattle.tftp_player.proofs.SourceMoves.{valid_data, number_fits}
 use Rattle.tftp_player.proofs.StraightActions.{from_peer, acked_more, acked_last, piece_readable, next_stores, data_next, block_full, block_last, block_within, never_long, last_rest}
-use Rattle.tftp_player.proofs.StraightSteps.{ports_of, Hears, delivered, Becomes, hears_send, hears_last, HasStored, stored_phase, hears_data}
+use Rattle.tftp_player.proofs.StraightSteps.{ports_of, Hears, delivered, Becomes, hears_send, hears_last, is_told, HasStored, stored_phase, takes_data, hears_data}
 use Rattle.tftp_player.proofs.WorldRuns.{step_keeps}
 
 pub deliver_may : (strangers : Bool) (i : ℕ) → MayHappen strangers (Deliver i)
 deliver_may true i = tt
 deliver_may false i = tt
 
+-- ---- what a run has to say of its stores where it does not read: of a client that reads it follows
+abbrev pub UnlessReads : Bool → Type 0 → Type 0
+UnlessReads true claim = ⊤
+UnlessReads false claim = claim
+
+said_first : (reads : Bool) (A B : Type 0) → UnlessReads reads (A × B) → UnlessReads reads A
+said_first true A B s = tt
+said_first false A B s = s.0
+
+said_then : (reads : Bool) (A B : Type 0) → UnlessReads reads (A × B) → UnlessReads reads B
+said_then true A B s = tt
+said_then false A B s = s.1
+
+-- a client that reads was not told to refuse
+abbrev pub IsWilling : Bool → OpenedEnd → Type 0
+IsWilling true x = (is_client x.state.role.side ≡ true) × (x.refuses ≡ false)
+IsWilling false x = ⊤
+
 -- ---- what is left of a run of deliveries
-pub record IsLeft (w : WorldState) (i : ℕ) (v : WorldState) : Type 0 where
+pub record IsLeft (reads : Bool) (w : WorldState) (i : ℕ) (v : WorldState) : Type 0 where
   pub reports : List Report
   pub settles : Settles w i reports v
   pub all : length v.sent ≤ i + length reports
-  pub taken : AllTaken reports
+  pub taken : UnlessReads reads (AllTaken reports)
 
 -- a datagram that is on its way is delivered next
-pub record GoesOn (w : WorldState) (i : ℕ) (v : WorldState) : Type 0 where
+pub record GoesOn (reads : Bool) (w : WorldState) (i : ℕ) (v : WorldState) : Type 0 where
   pub mid : WorldState
   pub report : Report
   pub step : WorldStep w (Deliver i) report mid
-  pub taken : TookAll report.closed
-  pub left : IsLeft mid (i + 1) v
+  pub taken : UnlessReads reads (TookAll report.closed)
+  pub left : IsLeft reads mid (i + 1) v
 
-pub goes_on : (w v : WorldState) (i : ℕ) → length w.sent ≡ i + 1 → IsLeft w i v → GoesOn w i v
-goes_on w v i more l = by l.reports l.settles l.all l.taken where
-  by : (reports : List Report) → Settles w i reports v → length v.sent ≤ i + length reports → AllTaken reports → GoesOn w i v
+pub goes_on : (reads : Bool) (w v : WorldState) (i : ℕ) → length w.sent ≡ i + 1 → IsLeft reads w i v → GoesOn reads w i v
+goes_on reads w v i more l = by l.reports l.settles l.all l.taken where
+  by : (reports : List Report) → Settles w i reports v → length v.sent ≤ i + length reports → UnlessReads reads (AllTaken reports) → GoesOn reads w i v
   by [] s all taken = absurd (let e = ap (λ (u : WorldState). length u.sent) s in omega (arith, e, more, all))
   by (report ∷ reports) s all taken = record {
     mid = s.0;
     report = report;
     step = s.1;
-    taken = taken.0;
-    left = record { reports = reports; settles = s.2; all = omega (arith, all); taken = taken.1 };
+    taken = said_first reads (TookAll report.closed) (AllTaken reports) taken;
+    left = record {
+      reports = reports;
+      settles = s.2;
+      all = omega (arith, all);
+      taken = said_then reads (TookAll report.closed) (AllTaken reports) taken;
+    };
   }
 
 -- where none is on its way the run is at its end
-ends_here : (w v : WorldState) (i : ℕ) → length w.sent ≡ i → IsLeft w i v → v ≡ w
-ends_here w v i none l = by l.reports l.settles where
+ends_here : (reads : Bool) (w v : WorldState) (i : ℕ) → length w.sent ≡ i → IsLeft reads w i v → v ≡ w
+ends_here reads w v i none l = by l.reports l.settles where
   by : (reports : List Report) → Settles w i reports v → v ≡ w
   by [] s = s
   by (report ∷ reports) s = absurd (let within = slice_get_within w.sent i s.1.0 s.1.1 in omega (arith, within, none))
@@ -139,12 +162,13 @@ module _ (strangers : Bool) (ks kr : ℕ) (apart : kr ≢ ks) (sa ra : Endpoint)
     pub mode_is : x.state.role.mode ≡ mode
 
   -- a receiver that has so many blocks, and stores the next one
-  pub record AwaitsAt (w : WorldState) (n : ℕ) : Type 0 where
+  pub record AwaitsAt (reads : Bool) (w : WorldState) (n : ℕ) : Type 0 where
     pub x : OpenedEnd
     pub there : slice_get w.ends kr ≡ Some x
     pub address : x.address ≡ ra
     pub still : is_closed x ≡ false
     pub receiver : is_sender x.state.role.side ≡ false
+    pub willing : IsWilling reads x
     pub mode_is : x.state.role.mode ≡ mode
     pub received : wire_text x.state.role.mode x.stored ++ x.state.progress.held ≡ take (n * st.size) text
     pub holds : HeldFits x.state.role.mode x.state.progress.held
@@ -186,13 +210,14 @@ module _ (strangers : Bool) (ks kr : ℕ) (apart : kr ≢ ks) (sa ra : Endpoint)
     mode_is = s.mode_is;
   }
 
-  receiver_stays : (w v : WorldState) (n : ℕ) (y : OpenedEnd) → v.ends ≡ slice_set w.ends ks y → AwaitsAt w n → AwaitsAt v n
-  receiver_stays w v n y ends r = record {
+  receiver_stays : (reads : Bool) (w v : WorldState) (n : ℕ) (y : OpenedEnd) → v.ends ≡ slice_set w.ends ks y → AwaitsAt reads w n → AwaitsAt reads v n
+  receiver_stays reads w v n y ends r = record {
     x = r.x;
     there = stays_at w v ks kr r.x y ends apart r.there;
     address = r.address;
     still = r.still;
     receiver = r.receiver;
+    willing = r.willing;
     mode_is = r.mode_is;
     received = r.received;
     holds = r.holds;
@@ -222,14 +247,15 @@ module _ (strangers : Bool) (ks kr : ℕ) (apart : kr ≢ ks) (sa ra : Endpoint)
       ∙ (data_next x.state.role.mode x.state.progress.held rt n (piece n) ∙ next_is_stored x n f l mode_is received)
 
   -- a receiver that takes this phase with what it has
-  pub awaits_now : (w : WorldState) (x : OpenedEnd) (n : ℕ) → IsFit → n + 1 ≤ blocks → slice_get w.ends kr ≡ Some x → x.address ≡ ra → x.state.progress.phase ≡ Receiving rt n → is_sender x.state.role.side ≡ false →
-      x.state.role.mode ≡ mode → wire_text x.state.role.mode x.stored ++ x.state.progress.held ≡ take (n * st.size) text → HeldFits x.state.role.mode x.state.progress.held → AwaitsAt w n
-  awaits_now w x n f l there address phase receiver mode_is received holds = record {
+  pub awaits_now : (reads : Bool) (w : WorldState) (x : OpenedEnd) (n : ℕ) → IsFit → n + 1 ≤ blocks → slice_get w.ends kr ≡ Some x → x.address ≡ ra → x.state.progress.phase ≡ Receiving rt n → is_sender x.state.role.side ≡ false → IsWilling reads x →
+      x.state.role.mode ≡ mode → wire_text x.state.role.mode x.stored ++ x.state.progress.held ≡ take (n * st.size) text → HeldFits x.state.role.mode x.state.progress.held → AwaitsAt reads w n
+  awaits_now reads w x n f l there address phase receiver willing mode_is received holds = record {
     x = x;
     there = there;
     address = address;
     still = ap (λ (p : Phase). is_some (outcome_of p)) phase;
     receiver = receiver;
+    willing = willing;
     mode_is = mode_is;
     received = received;
     holds = holds;
@@ -237,8 +263,8 @@ module _ (strangers : Bool) (ks kr : ℕ) (apart : kr ≢ ks) (sa ra : Endpoint)
   }
 
   -- ---- DATA comes to the receiver
-  module _ (w v : WorldState) (i n : ℕ) (report : Report) (ready : IsReady strangers w i (data_at n)) (s : SendsAt w (n + 1)) (r : AwaitsAt w n) (l : n + 1 ≤ blocks)
-      (step : WorldStep w (Deliver i) report v) (taken : TookAll report.closed) where
+  module _ (reads : Bool) (w v : WorldState) (i n : ℕ) (report : Report) (ready : IsReady strangers w i (data_at n)) (s : SendsAt w (n + 1)) (r : AwaitsAt reads w n) (l : n + 1 ≤ blocks)
+      (step : WorldStep w (Deliver i) report v) (taken : UnlessReads reads (TookAll report.closed)) where
     fit : IsFit
     fit = fit_of w (n + 1) ready.ok s
 
@@ -246,8 +272,21 @@ module _ (strangers : Bool) (ks kr : ℕ) (apart : kr ≢ ks) (sa ra : Endpoint)
     heard = delivered w v i kr r.x sa (data_bytes (n + 1) (piece n)) report (ports_of strangers w ready.ok)
         (ready.newest ∙ ap (λ (a : Endpoint). Some (datagram sa a (data_bytes (n + 1) (piece n)))) (sym r.address)) r.there r.still step
 
+    -- what a client that was not told to refuse makes of it
+    taken_by : is_client r.x.state.role.side ≡ true → r.x.refuses ≡ false → TookAll report.closed × (is_told heard.held ≡ false)
+    taken_by client untold =
+        takes_data w v kr r.x sa (data_bytes (n + 1) (piece n)) report heard rt (n + 1) (piece n) client untold (spelled_at n fit l) r.stores r.receiver
+
+    took_all : (b : Bool) → IsWilling b r.x → UnlessReads b (TookAll report.closed) → TookAll report.closed
+    took_all true willing said = (taken_by willing.0 willing.1).0
+    took_all false willing said = said
+
     stored : (y : OpenedEnd) × HasStored w v kr r.x sa (data_bytes (n + 1) (piece n)) report heard rt (n + 1) (piece n) y
-    stored = hears_data w v kr r.x sa (data_bytes (n + 1) (piece n)) report heard rt (n + 1) (piece n) r.holds taken (spelled_at n fit l) r.stores r.receiver
+    stored = hears_data w v kr r.x sa (data_bytes (n + 1) (piece n)) report heard rt (n + 1) (piece n) r.holds (took_all reads r.willing taken) (spelled_at n fit l) r.stores r.receiver
+
+    stays_willing : (b : Bool) → IsWilling b r.x → IsWilling b stored.0
+    stays_willing true willing = (ap is_client stored.1.becomes.side ∙ willing.0, stored.1.told ∙ (taken_by willing.0 willing.1).1)
+    stays_willing false willing = tt
 
     acked : v.sent ≡ w.sent ++ ack_at (n + 1) ∷ []
     acked = stored.1.becomes.sent ∙ ap (λ (a : Endpoint). w.sent ++ datagram a sa (ack_bytes (n + 1)) ∷ []) r.address
@@ -264,12 +303,12 @@ module _ (strangers : Bool) (ks kr : ℕ) (apart : kr ≢ ks) (sa ra : Endpoint)
         ∙ (stored.1.received ∙ (ap (λ (t : List ℕ). t ++ piece n) r.received ∙ take-block text n st.size))
 
     -- which is not the last
-    pub data_receiver : n + 1 < blocks → AwaitsAt v (n + 1)
+    pub data_receiver : n + 1 < blocks → AwaitsAt reads v (n + 1)
     data_receiver more =
         let y = stored.0 in
         let full : length (piece n) ≡ rt.size = block_full text st.size fit.positive fit.fits n more ∙ sym same_size in
-        awaits_now v y (n + 1) fit (let m : n + 1 + 1 ≤ blocks = omega (arith, more) in m) (set_at w v kr r.x y stored.1.becomes.ends r.there) (stored.1.becomes.address ∙ r.address)
-        (stored.1.phase ∙ stored_more_phase rt (n + 1) (length (piece n)) full) (ap is_sender stored.1.becomes.side ∙ r.receiver)
+        awaits_now reads v y (n + 1) fit (let m : n + 1 + 1 ≤ blocks = omega (arith, more) in m) (set_at w v kr r.x y stored.1.becomes.ends r.there) (stored.1.becomes.address ∙ r.address)
+        (stored.1.phase ∙ stored_more_phase rt (n + 1) (length (piece n)) full) (ap is_sender stored.1.becomes.side ∙ r.receiver) (stays_willing reads r.willing)
         (stored.1.becomes.mode ∙ r.mode_is) has_more (subst (λ (m : Mode). HeldFits m y.state.progress.held) (sym stored.1.becomes.mode) stored.1.holds)
 
     -- or the last
@@ -329,8 +368,8 @@ module _ (strangers : Bool) (ks kr : ℕ) (apart : kr ≢ ks) (sa ra : Endpoint)
         mode_is = sent_more.2.mode ∙ s.mode_is;
       }
 
-      pub ack_receiver : AwaitsAt w n → AwaitsAt v n
-      ack_receiver r = receiver_stays w v n sent_more.0 sent_more.2.ends r
+      pub ack_receiver : (reads : Bool) → AwaitsAt reads w n → AwaitsAt reads v n
+      ack_receiver reads r = receiver_stays reads w v n sent_more.0 sent_more.2.ends r
 
     -- or all was sent
     module _ (last : n ≡ blocks) (r : HasAllAt w) where
@@ -354,31 +393,31 @@ module _ (strangers : Bool) (ks kr : ℕ) (apart : kr ≢ ks) (sa ra : Endpoint)
       }
 
   -- ---- the rest of the run, from DATA n + 1 on its way, behind which so many blocks are left
-  pub from_data : (m w_i n : ℕ) (w v : WorldState) → n + 1 + m ≡ blocks → IsReady strangers w w_i (data_at n) → SendsAt w (n + 1) → AwaitsAt w n → IsLeft w w_i v → IsOver v ks kr (w_i + 2 + 2 * m)
-  from_data zero i n w v is ready s r left =
+  pub from_data : (reads : Bool) (m w_i n : ℕ) (w v : WorldState) → n + 1 + m ≡ blocks → IsReady strangers w w_i (data_at n) → SendsAt w (n + 1) → AwaitsAt reads w n → IsLeft reads w w_i v → IsOver v ks kr (w_i + 2 + 2 * m)
+  from_data reads zero i n w v is ready s r left =
       let within : n + 1 ≤ blocks = omega (arith, is) in
       let last : n + 1 ≡ blocks = omega (arith, is) in
-      let g = goes_on w v i ready.count left in
-      let next = data_ready w g.mid i n g.report ready s r within g.step g.taken in
-      let sender = data_sender w g.mid i n g.report ready s r within g.step g.taken in
-      let all = data_all w g.mid i n g.report ready s r within g.step g.taken last in
-      let h = goes_on g.mid v (i + 1) next.count g.left in
+      let g = goes_on reads w v i ready.count left in
+      let next = data_ready reads w g.mid i n g.report ready s r within g.step g.taken in
+      let sender = data_sender reads w g.mid i n g.report ready s r within g.step g.taken in
+      let all = data_all reads w g.mid i n g.report ready s r within g.step g.taken last in
+      let h = goes_on reads g.mid v (i + 1) next.count g.left in
       let over = ack_over g.mid h.mid (i + 1) (n + 1) h.report next sender within h.step last all in
-      let final = ends_here h.mid v (i + 1 + 1) over.counted h.left in
+      let final = ends_here reads h.mid v (i + 1 + 1) over.counted h.left in
       let count : i + 1 + 1 ≡ i + 2 + 2 * 0 = omega arith in
       subst (λ (c : ℕ). IsOver v ks kr c) count (subst (λ (u : WorldState). IsOver u ks kr (i + 1 + 1)) (sym final) over)
-  from_data (suc m) i n w v is ready s r left =
+  from_data reads (suc m) i n w v is ready s r left =
       let within : n + 1 ≤ blocks = omega (arith, is) in
       let more : n + 1 < blocks = omega (arith, is) in
-      let g = goes_on w v i ready.count left in
-      let next = data_ready w g.mid i n g.report ready s r within g.step g.taken in
-      let sender = data_sender w g.mid i n g.report ready s r within g.step g.taken in
-      let receiver = data_receiver w g.mid i n g.report ready s r within g.step g.taken more in
-      let h = goes_on g.mid v (i + 1) next.count g.left in
+      let g = goes_on reads w v i ready.count left in
+      let next = data_ready reads w g.mid i n g.report ready s r within g.step g.taken in
+      let sender = data_sender reads w g.mid i n g.report ready s r within g.step g.taken in
+      let receiver = data_receiver reads w g.mid i n g.report ready s r within g.step g.taken more in
+      let h = goes_on reads g.mid v (i + 1) next.count g.left in
       let again = ack_ready g.mid h.mid (i + 1) (n + 1) h.report next sender within h.step more in
       let sender_then = ack_sender g.mid h.mid (i + 1) (n + 1) h.report next sender within h.step more in
-      let receiver_then = ack_receiver g.mid h.mid (i + 1) (n + 1) h.report next sender within h.step more receiver in
+      let receiver_then = ack_receiver g.mid h.mid (i + 1) (n + 1) h.report next sender within h.step more reads receiver in
       let rest : n + 1 + 1 + m ≡ blocks = omega (arith, is) in
-      let over = from_data m (i + 1 + 1) (n + 1) h.mid v rest again sender_then receiver_then h.left in
+      let over = from_data reads m (i + 1 + 1) (n + 1) h.mid v rest again sender_then receiver_then h.left in
       let count : i + 1 + 1 + 2 + 2 * m ≡ i + 2 + 2 * suc m = omega arith in
       subst (λ (c : ℕ). IsOver v ks kr c) count over

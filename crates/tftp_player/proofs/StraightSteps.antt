@@ -1,6 +1,6 @@
 -- What the delivery of a datagram does at the open end for which it is, where that sends, stores or is complete.
 use Rattle.std.proofs.Common.{◌≡◌, ℕ, ◌+◌, ◌*◌, Bool, true, false, List, [], ◌∷◌, ◌++◌, length, map, drop, Option, Some, None, Result, Ok, Err, refl, sym, ap, ◌∙◌, subst, arith}
-use Rattle.std.specs.Prelude.{if◌then◌else◌, nat_lt, slice_get, slice_set}
+use Rattle.std.specs.Prelude.{◌≢◌, if◌then◌else◌, nat_lt, slice_get, slice_set, IfErr}
 use Rattle.std.proofs.lemmas.Bool.{true≢false}
 use Rattle.std.proofs.lemmas.List.{map-set}
 use Rattle.std.proofs.lemmas.Option.{same_Some}
@@ -11,8 +11,9 @@ use Rattle.tftp_wire.proofs.SpellingLemmas.{one_meaning, spelled_has_no_fault}
 use Rattle.tftp_file.specs.Memory.{memory_source}
 use Rattle.tftp_file.specs.Block.{block}
 use Rattle.tftp_file.specs.Netascii.{wire_text}
-use Rattle.tftp_file.specs.Sink.{Holding}
+use Rattle.tftp_file.specs.Sink.{Holding, UnlessTold, AppendsFreely, CommitsFreely, with_piece, as_committed}
 use Rattle.tftp_file.specs.declared.fault.StoreFault.{StoreFault}
+use Rattle.tftp_file.specs.declared.fault.StoreFault.TheVariants as faults
 use Rattle.tftp_file.specs.declared.files.Files.{Files}
 use Rattle.tftp_file.specs.declared.files.Files.TheVariants.{Source, Sink}
 use Rattle.tftp_ends.specs.declared.action.Action.{Action}
@@ -20,6 +21,7 @@ use Rattle.tftp_ends.specs.declared.action.Action.TheVariants.{Respond, Send, St
 use Rattle.tftp_ends.specs.declared.action.Response.TheVariants.{Accept, Complete}
 use Rattle.tftp_ends.specs.declared.error_reply.ErrorReply.{ErrorReply}
 use Rattle.tftp_ends.specs.declared.error_reply.ErrorReply.TheVariants.{DiskFull}
+use Rattle.tftp_ends.specs.declared.outcome.Outcome.{Outcome}
 use Rattle.tftp_ends.specs.declared.outcome.Outcome.TheVariants as outcomes
 use Rattle.tftp_ends.specs.declared.phase.Dally.TheVariants.{Fresh}
 use Rattle.tftp_ends.specs.declared.phase.Phase.{Phase}
@@ -27,13 +29,13 @@ use Rattle.tftp_ends.specs.declared.phase.Phase.TheVariants.{Sending, Receiving,
 use Rattle.tftp_ends.specs.declared.phase.Terms.{Terms}
 use Rattle.tftp_ends.specs.End.{EndState, is_sender, is_client, is_complete, outcome_of}
 use Rattle.tftp_ends.specs.Action.{Decodes, datagram_action}
-use Rattle.tftp_ends.specs.Step.{Turn, Done, Acts, GoesOn, StoresIn, response_turn, sent_turn, refused_turn, committed_turn, commit_reply, holding, ack_bytes, data_bytes, after_turn}
+use Rattle.tftp_ends.specs.Step.{Turn, Done, Acts, Appended, GoesOn, Stores, StoresIn, response_turn, sent_turn, refused_turn, committed_turn, commit_reply, holding, ack_bytes, data_bytes, after_turn}
 use Rattle.tftp_ends.specs.Text.{Decoded}
 use Rattle.tftp_player.specs.Machine.{Endpoint}
 use Rattle.tftp_player.specs.Straight.{TookAll}
 use Rattle.tftp_player.specs.World.{WorldState, OpenedEnd, file_at, in_the_way, is_closed, datagram, replied, files_of, holding_of, with_files, in_state, end_after, closed_at, at_rest}
 use Rattle.tftp_player.specs.WorldKept.{HeldFits, IsOk}
-use Rattle.tftp_player.specs.WorldSteps.{may_refuse_commit, EndStep, OnDatagram, Arrives, At_request_port, At_open_end, At_closed_end, At_nobody, WorldStep, world_sink}
+use Rattle.tftp_player.specs.WorldSteps.{may_refuse_append, may_refuse_commit, EndStep, OnDatagram, Arrives, At_request_port, At_open_end, At_closed_end, At_nobody, WorldStep, world_sink}
 use Rattle.tftp_player.specs.declared.datagram.Datagram.{Datagram}
 use Rattle.tftp_player.specs.declared.event.Event.TheVariants.{Deliver}
 use Rattle.tftp_player.specs.declared.report.Report.{Report}
@@ -106,6 +108,41 @@ decoded_is bytes packet None s t = absurd (let f : None ≡ Some t.0 = sym (spel
 abbrev pub stored_phase : Terms → ℕ → Bool → Phase
 stored_phase terms number true = Dallying terms number Fresh
 stored_phase terms number false = Receiving terms number
+
+-- ---- a client that was not told to refuse
+-- a sink was told to refuse its next call
+abbrev pub is_told : Files (List ℕ) Holding → Bool
+is_told (Source left) = false
+is_told (Sink holding) = holding.refuses
+
+append_taken : (before after : Holding) (bytes : List ℕ) (answer : Result Done StoreFault) → before.refuses ≡ false → AppendsFreely before (Some after) bytes answer →
+    IfErr answer (may_refuse_append before bytes) → answer ≢ Err faults.Memory → (answer ≡ Ok tt) × (after.refuses ≡ false)
+append_taken before after bytes (Ok done) untold h may memory =
+    (refl, ap (λ (z : Holding). z.refuses) (same_Some after (with_piece before bytes) h) ∙ untold)
+append_taken before after bytes (Err faults.Missing) untold h may memory = absurd may
+append_taken before after bytes (Err faults.Exists) untold h may memory = absurd may
+append_taken before after bytes (Err faults.Full) untold h may memory = absurd (true≢false (sym may ∙ untold))
+append_taken before after bytes (Err faults.Io) untold h may memory = absurd may
+append_taken before after bytes (Err faults.Memory) untold h may memory = absurd (memory refl)
+
+-- its sink takes what is appended, and is not told to refuse then
+piece_taken : (before after : Holding) (bytes : List ℕ) (answer : Result Done StoreFault) (refuses_commit : Holding → StoreFault → Type 0) → before.refuses ≡ false →
+    Appended (world_sink refuses_commit) bytes before after answer → answer ≢ Err faults.Memory → (answer ≡ Ok tt) × (after.refuses ≡ false)
+piece_taken before after [] answer refuses_commit untold h memory = (h.0, ap (λ (z : Holding). z.refuses) h.1 ∙ untold)
+piece_taken before after (b ∷ bytes) answer refuses_commit untold h memory =
+    append_taken before after (b ∷ bytes) answer untold
+    (subst (λ (told : Bool). UnlessTold told before (Some after) answer (AppendsFreely before (Some after) (b ∷ bytes) answer)) untold h.0) h.1 memory
+
+-- and a commit
+commit_taken : (there : Option (List ℕ)) (before after : Holding) (answer : Result Done StoreFault) → before.refuses ≡ false → CommitsFreely before (Some after) answer →
+    IfErr answer (may_refuse_commit true there before) → (answer ≡ Ok tt) × (after.refuses ≡ false)
+commit_taken there before after (Ok done) untold h may =
+    (refl, ap (λ (z : Holding). z.refuses) (same_Some after (as_committed before) h) ∙ untold)
+commit_taken there before after (Err faults.Missing) untold h may = absurd may
+commit_taken there before after (Err faults.Exists) untold h may = absurd may
+commit_taken there before after (Err faults.Full) untold h may = absurd (true≢false (sym may ∙ untold))
+commit_taken there before after (Err faults.Io) untold h may = absurd may
+commit_taken there before after (Err faults.Memory) untold h may = absurd may
 
 module _ (w v : WorldState) (k : ℕ) (x : OpenedEnd) (from : Endpoint) (bytes : List ℕ) (report : Report) (h : Hears w k x from bytes report v) where
   abbrev refuses_commit : Holding → StoreFault → Type 0
@@ -183,7 +220,7 @@ module _ (w v : WorldState) (k : ℕ) (x : OpenedEnd) (from : Endpoint) (bytes :
 
   -- ---- a reader accepts an OACK
   pub hears_oack : (packet : Packet) (terms : Terms) → Spells packet bytes → datagram_action x.state from bytes (Some packet) ≡ Respond (Accept terms) →
-      (y : OpenedEnd) × (y.state.progress.phase ≡ Receiving terms 0) × (y.stored ≡ x.stored) × (y.state.progress.held ≡ x.state.progress.held) × Becomes y (datagram x.address from (ack_bytes 0) ∷ [])
+      (y : OpenedEnd) × (y.state.progress.phase ≡ Receiving terms 0) × (y.stored ≡ x.stored) × (y.state.progress.held ≡ x.state.progress.held) × Becomes y (datagram x.address from (ack_bytes 0) ∷ []) × (y.refuses ≡ x.refuses)
   hears_oack packet terms spelled is =
       let a = acts_as packet (Respond (Accept terms)) spelled is in
       let turn = response_turn (Accept terms) from x.state in
@@ -203,6 +240,7 @@ module _ (w v : WorldState) (k : ℕ) (x : OpenedEnd) (from : Endpoint) (bytes :
           mode = refl;
           side = refl;
         },
+        refl,
       )
 
   -- ---- a receiver stores a block that its store takes
@@ -211,7 +249,41 @@ module _ (w v : WorldState) (k : ℕ) (x : OpenedEnd) (from : Endpoint) (bytes :
     pub phase : y.state.progress.phase ≡ stored_phase terms number (nat_lt (length piece) terms.size)
     pub received : wire_text x.state.role.mode y.stored ++ y.state.progress.held ≡ (wire_text x.state.role.mode x.stored ++ x.state.progress.held) ++ piece
     pub holds : HeldFits x.state.role.mode y.state.progress.held
+    pub told : y.refuses ≡ is_told h.held
     pub becomes : Becomes y (datagram x.address from (ack_bytes number) ∷ [])
+
+  -- what it did with its sink
+  stores_here : (terms : Terms) (number : ℕ) (piece : List ℕ) → Spells (Data number piece) bytes → datagram_action x.state from bytes (Some (Data number piece)) ≡ Store terms number → is_sender x.state.role.side ≡ false →
+      (sink : Holding) × (h.held ≡ Sink sink) × Stores (world_sink refuses_commit) terms number from piece x.state (holding_of x) h.turn sink
+  stores_here terms number piece spelled is receiver =
+      let a = acts_as (Data number piece) (Store terms number) spelled is in
+      let s = subst (λ (bs : List ℕ). StoresIn memory_source (world_sink refuses_commit) terms number from bs x.state (files_of x) h.turn h.held) (data_of number piece bytes spelled) a in
+      stores_in (is_sender x.state.role.side) receiver refuses_commit terms number from piece x.state x.left (holding_of x) h.turn h.held s
+
+  -- a client that was not told to refuse takes the block, and is not told to then
+  module _ (terms : Terms) (number : ℕ) (piece : List ℕ) (client : is_client x.state.role.side ≡ true) where
+    abbrev closed_by : Turn → Option (ℕ × Outcome)
+    closed_by turn = closed_at x.address (outcome_of turn.progress.phase)
+
+    goes_untold : (mid sink : Holding) (after : List ℕ) (answer : Result Done StoreFault) (last : Bool) → h.held ≡ Sink sink → mid.refuses ≡ false → answer ≡ Ok tt →
+        GoesOn (world_sink refuses_commit) terms number from x.state last after mid answer h.turn sink → TookAll report.closed × (is_told h.held ≡ false)
+    goes_untold mid sink after (Err fault) last held untold ok g = absurd (let e : Err fault ≡ Ok tt = ok in cc)
+    goes_untold mid sink after (Ok done) false held untold ok g =
+        (subst TookAll (sym (h.closed ∙ ap closed_by g.0)) tt, ap is_told held ∙ (ap (λ (z : Holding). z.refuses) g.1 ∙ untold))
+    goes_untold mid sink after (Ok done) true held untold ok g =
+        let there = in_the_way w.overwrite (file_at w.files x.path) in
+        let c = commit_taken there mid sink g.answer untold
+        (subst (λ (told : Bool). UnlessTold told mid (Some sink) g.answer (CommitsFreely mid (Some sink) g.answer)) untold g.commits)
+        (subst (λ (b : Bool). IfErr g.answer (may_refuse_commit b there mid)) client g.refused) in
+        (subst TookAll (sym (h.closed ∙ ap closed_by (g.answers ∙ ap (committed_turn terms number from (holding after x.state)) c.0))) tt, ap is_told held ∙ c.1)
+
+    pub takes_data : x.refuses ≡ false → Spells (Data number piece) bytes → datagram_action x.state from bytes (Some (Data number piece)) ≡ Store terms number → is_sender x.state.role.side ≡ false →
+        TookAll report.closed × (is_told h.held ≡ false)
+    takes_data untold spelled is receiver =
+        let f = stores_here terms number piece spelled is receiver in
+        let b = f.2 in
+        let p = piece_taken (holding_of x) b.mid b.bytes b.answer refuses_commit untold b.appended b.memory in
+        goes_untold b.mid f.0 b.after b.answer (nat_lt (length piece) terms.size) f.1 p.1 p.0 b.rest
 
   module _ (terms : Terms) (number : ℕ) (piece : List ℕ) (holds : HeldFits x.state.role.mode x.state.progress.held) (all : TookAll report.closed) where
     -- no turn is that of a store that refused
@@ -228,6 +300,7 @@ module _ (w v : WorldState) (k : ℕ) (x : OpenedEnd) (from : Endpoint) (bytes :
         received = ap (λ (z : List ℕ). wire_text x.state.role.mode z ++ after) same
             ∙ sym (stored_more x.state.role.mode x.stored x.state.progress.held piece bytes_now after (goes_on_with x.state.role.mode x.state.progress.held piece bytes_now after holds d));
         holds = held_fits x.state.role.mode x.state.progress.held piece bytes_now after holds d;
+        told = sym (ap is_told held);
         becomes = record {
           sent = h.sent ∙ ap (λ (t : Turn). w.sent ++ replied x.address t.reply) turns;
           ends = h.ends
@@ -247,6 +320,7 @@ module _ (w v : WorldState) (k : ℕ) (x : OpenedEnd) (from : Endpoint) (bytes :
         received = ap (λ (z : List ℕ). wire_text x.state.role.mode z ++ after) same
             ∙ sym (stored_more x.state.role.mode x.stored x.state.progress.held piece bytes_now after (goes_on_with x.state.role.mode x.state.progress.held piece bytes_now after holds d));
         holds = held_fits x.state.role.mode x.state.progress.held piece bytes_now after holds d;
+        told = sym (ap is_told held);
         becomes = record {
           sent = h.sent ∙ ap (λ (t : Turn). w.sent ++ replied x.address t.reply) turns;
           ends = h.ends
@@ -282,9 +356,7 @@ module _ (w v : WorldState) (k : ℕ) (x : OpenedEnd) (from : Endpoint) (bytes :
     pub hears_data : Spells (Data number piece) bytes → datagram_action x.state from bytes (Some (Data number piece)) ≡ Store terms number → is_sender x.state.role.side ≡ false →
         (y : OpenedEnd) × HasStored terms number piece y
     hears_data spelled is receiver =
-        let a = acts_as (Data number piece) (Store terms number) spelled is in
-        let s = subst (λ (bs : List ℕ). StoresIn memory_source (world_sink refuses_commit) terms number from bs x.state (files_of x) h.turn h.held) (data_of number piece bytes spelled) a in
-        let f = stores_in (is_sender x.state.role.side) receiver refuses_commit terms number from piece x.state x.left (holding_of x) h.turn h.held s in
+        let f = stores_here terms number piece spelled is receiver in
         let b = f.2 in
         appends_as b.mid f.0 b.bytes b.after b.answer (nat_lt (length piece) terms.size) refl f.1 b.decoded
         (took (holding_of x) b.mid b.bytes b.answer refuses_commit b.appended b.memory) b.rest

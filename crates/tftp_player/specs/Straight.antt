@@ -80,7 +80,7 @@ pub record IsThrough (old new : WorldState) (count : ℕ) : Type 0 where
   pub server_done : IsComplete server
   pub counted : length new.sent ≡ length old.sent + count
 
--- a straight run of an accepted read
+-- a straight run of an accepted read; its client stores all, since nothing told it to refuse
 pub record ReadsStraight (old new : WorldState) (name : List ℕ) (mode : Mode) (asked : Asked) (file : List ℕ) (agreed : List Known) : Type 0 where
   pub run : RunsStraight old (Get name mode asked) new
   pub path : List ℕ
@@ -88,7 +88,6 @@ pub record ReadsStraight (old new : WorldState) (name : List ℕ) (mode : Mode) 
   pub there : file_at old.files path ≡ Some file
   pub accepted : IsAccepted run.asked (reading_client old name mode asked) (Sends path mode length agreed)
   pub answered : TakesAnswer asked Read mode old.limits.max_file agreed
-  pub taken : AllTaken run.reports
 
 -- a straight run of an accepted write
 pub record WritesStraight (old new : WorldState) (name : List ℕ) (mode : Mode) (asked : Asked) (file : List ℕ) (agreed : List Known) : Type 0 where

@@ -99,11 +99,11 @@ pub fn a_stray_changes_no_record()
     ensures clients { ClientsHaveServers }
 {}
 
-/// A run without loss, of a request that is accepted by both ends and whose stores refuse nothing, ends
-/// with both ends complete after exactly `1 + 2N` datagrams for a read that is answered by DATA 1,
-/// `3 + 2N` for one that is answered by an OACK, and `2 + 2N` for a write, where the text has `N` blocks
-/// of the agreed size (RFC 1350, section 2; RFC 2347, "Negotiation Protocol"). There are such runs: of a
-/// read and of a write without options, and of a read in blocks of 8 bytes.
+/// A run without loss, of a request that both ends accept, and of a write that the server's store
+/// takes, ends with both ends complete after exactly `1 + 2N` datagrams for a read that is answered by
+/// DATA 1, `3 + 2N` for one that is answered by an OACK, and `2 + 2N` for a write, where the text has
+/// `N` blocks of the agreed size (RFC 1350, section 2; RFC 2347, "Negotiation Protocol"). There are such
+/// runs: of a read and of a write without options, and of a read in blocks of 8 bytes.
 pub fn a_straight_run_completes()
     ensures reads { ReadsComplete }
     ensures writes { WritesComplete }
