@@ -3,7 +3,7 @@
 use std::fmt::Display;
 use std::process::Abort;
 use std::test::Fail;
-use tftp_cmd::{ClientEnd, LineClock, LogLine, ProgressLine};
+use tftp_cmd::{ClientEnd, LineClock, LogLine, Printed, ProgressLine};
 use tftp_ends::{Endpoint, OpenFault, Outcome};
 
 /// A value prints this.
@@ -37,6 +37,22 @@ fn client_ends(rt: HostRuntime) -> Result<(), Fail> {
         "not opened"
     );
     Ok(())
+}
+
+/// What `tftpd` prints: where it listens, and each transfer that closed.
+#[test]
+fn server_lines(rt: HostRuntime) -> Result<(), Fail> {
+    let listen = Endpoint {
+        ip: [127, 0, 0, 1],
+        port: 6969,
+    };
+    prints(&rt, &Printed::Listening(listen), "listening 127.0.0.1:6969")?;
+    let closed = Printed::Closed {
+        port: 40000,
+        peer: 2000,
+        outcome: Outcome::Complete,
+    };
+    prints(&rt, &closed, "40000 2000 Complete")
 }
 
 /// How far a transfer came: a megabyte in 80 ms is 12.5 MB/s.

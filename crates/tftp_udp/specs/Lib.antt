@@ -4,4 +4,5 @@ pub mod Folder
 pub mod LogLine
 pub mod Printed
 pub mod ProgressLine
+pub mod Reason
 pub mod Watch

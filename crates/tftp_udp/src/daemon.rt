@@ -61,6 +61,11 @@ pub(crate) enum ServiceFault {
 }
 
 impl From<AllocError> for ServiceFault {
+    ghost use Rattle.std.specs.Prelude.{◌≡◌};
+    ghost use Rattle.tftp_udp.specs.declared.daemon.ServiceFault.TheVariants as faults;
+
+    ghost from_gives = { λ _ fault. fault ≡ faults.Memory };
+
     fn from(_error: AllocError) -> ServiceFault {
         ServiceFault::Memory
     }

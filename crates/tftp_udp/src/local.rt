@@ -44,6 +44,8 @@ pub(crate) struct ErrorKeeper<F> {
 }
 
 impl<F: Read> Read for ErrorKeeper<F> {
+    ghost remaining = { λ keeper. F.remaining keeper.reader };
+
     fn read(&mut self, buffer: &mut [u8]) -> io::Result<usize> {
         match self.reader.read(buffer) {
             Ok(count) => Ok(count),

@@ -1,5 +1,8 @@
 //! Why a client's transfer failed, and what is known of the reason.
 
+ghost use Rattle.std.specs.Prelude.{◌≡◌};
+ghost use Rattle.tftp_udp.specs.declared.client_end.ClientEnd.TheVariants as ends;
+
 use crate::client_end::ClientEnd;
 use std::alloc::AllocError;
 use std::{fmt, io};
@@ -17,6 +20,10 @@ pub(crate) enum Reason {
 }
 
 impl fmt::Display for Reason {
+    ghost use Rattle.tftp_udp.specs.Reason.{reason_text};
+
+    ghost output = { λ reason. reason_text reason };
+
     fn fmt<W: fmt::Write>(&self, f: &mut fmt::Formatter<W>) -> fmt::Result {
         match self {
             Reason::Unknown => f.write_str("no reason is known"),
@@ -37,7 +44,9 @@ pub(crate) struct Failure {
 
 impl Failure {
     /// Out of memory.
-    pub(crate) fn memory() -> Failure {
+    pub(crate) fn memory() -> Failure
+        ensures { result.end ≡ ends.Memory }
+    {
         Failure {
             end: ClientEnd::Memory,
             reason: Reason::Unknown,
@@ -45,7 +54,9 @@ impl Failure {
     }
 
     /// The local file is there already, or cannot be opened.
-    pub(crate) fn of_file(error: io::Error) -> Failure {
+    pub(crate) fn of_file(error: io::Error) -> Failure
+        ensures { result.end ≡ ends.FileFault }
+    {
         Failure {
             end: ClientEnd::FileFault,
             reason: Reason::System(error),
@@ -53,7 +64,9 @@ impl Failure {
     }
 
     /// There is no socket.
-    pub(crate) fn of_socket(error: io::Error) -> Failure {
+    pub(crate) fn of_socket(error: io::Error) -> Failure
+        ensures { result.end ≡ ends.SocketFault }
+    {
         Failure {
             end: ClientEnd::SocketFault,
             reason: Reason::System(error),
@@ -61,7 +74,9 @@ impl Failure {
     }
 
     /// The transfer was not opened.
-    pub(crate) fn of_opening(fault: OpenFault) -> Failure {
+    pub(crate) fn of_opening(fault: OpenFault) -> Failure
+        ensures { result.end ≡ ends.NotOpened fault }
+    {
         Failure {
             end: ClientEnd::NotOpened(fault),
             reason: Reason::Unknown,
@@ -70,6 +85,8 @@ impl Failure {
 }
 
 impl From<AllocError> for Failure {
+    ghost from_gives = { λ _ failure. failure.end ≡ ends.Memory };
+
     fn from(_error: AllocError) -> Failure {
         Failure::memory()
     }
