@@ -1,9 +1,9 @@
 -- The blocks of a text.
 use Rattle.std.proofs.Common.{◌≡◌, ℕ, zero, suc, ◌+◌, ◌-◌, ◌*◌, ◌<◌, ◌≤◌, List, [], ◌++◌, sym, ap, ◌∙◌, arith, length, take, drop}
 use Rattle.std.specs.Prelude.{◌/◌, ◌%◌}
-use Rattle.std.proofs.lemmas.List.{append-nil, length-append, length-take, length-drop, take-append-drop, take-take, drop-take, take_all, nil_from_length}
+use Rattle.std.proofs.lemmas.List.{length-take, length-drop, take-append-drop, take-take, drop-take, take_all, nil_from_length}
 use Rattle.std.proofs.lemmas.Nat.{row_fits, div-add-mod', mod_below, mod-mul-add}
-use Rattle.tftp_file.specs.Block.{block, block_count, first_blocks, IsBeginningOf}
+use Rattle.tftp_file.specs.Block.{block, block_count, first_blocks}
 
 pub take-add : (m n : ℕ) (xs : List ℕ) → take (m + n) xs ≡ take m xs ++ take n (drop m xs)
 take-add m n xs =
