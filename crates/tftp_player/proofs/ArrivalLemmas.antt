@@ -1,5 +1,5 @@
 -- How a datagram handles a world, from what it made of its ends.
-use Rattle.std.proofs.Common.{◌≡◌, ◌≢◌, ℕ, suc, zero, ◌+◌, ◌<◌, ◌≤◌, true, List, [], ◌∷◌, ◌++◌, length, Some, None, refl, sym, ap, ◌∙◌, subst, arith, inl, inr}
+use Rattle.std.proofs.Common.{◌≡◌, ◌≢◌, ℕ, suc, zero, ◌+◌, ◌<◌, ◌≤◌, List, [], ◌∷◌, ◌++◌, length, Some, None, refl, sym, ap, ◌∙◌, subst, arith, inl, inr}
 use Rattle.std.specs.Prelude.{◌⊎◌, slice_get, slice_index_or}
 use Rattle.std.proofs.lemmas.List.{append-nil}
 use Rattle.std.proofs.lemmas.Option.{same_Some, slice_get_within}
@@ -8,9 +8,9 @@ use Rattle.tftp_player.specs.Machine.{Endpoint, request_port}
 use Rattle.tftp_player.specs.Effect.{no_effect, said_by, report_by}
 use Rattle.tftp_player.specs.Played.{ends_from, end_at, address_of, AllKept}
 use Rattle.tftp_player.specs.Serving.{PlayedServer, Transfer}
-use Rattle.tftp_player.specs.Stage.{ends_of, world_of, StageDatagramStep, DatagramAt, LostAt}
+use Rattle.tftp_player.specs.Stage.{ends_of, world_of, StageDatagramStep, DatagramAt, LostAt, EndTakes}
 use Rattle.tftp_player.specs.Arriving.{ArrivalRefuses, StageAsks, StageArrives, StageRefuses}
-use Rattle.tftp_player.specs.World.{WorldState, OpenedEnd, StoredFile, is_closed, replied, report_of, no_report}
+use Rattle.tftp_player.specs.World.{WorldState, OpenEnd, StoredFile, replied, report_of, no_report, WorldEnd, Open_end, Closed_end, end_address, world_after}
 use Rattle.tftp_player.specs.declared.datagram.Datagram.{Datagram}
 use Rattle.tftp_player.specs.WorldSteps.{Arrives, LacksPort, EventRefuses, WorldRefuses, WorldStep}
 use Rattle.tftp_player.specs.declared.event.Event.TheVariants.{Deliver}
@@ -21,19 +21,19 @@ use Rattle.tftp_player.specs.declared.player.Player.{Player}
 use Rattle.tftp_player.specs.declared.player.Player.TheVariants.{Client, Server}
 use Rattle.tftp_player.specs.declared.report.Report.{Report}
 use Rattle.tftp_player.proofs.PlayLemmas.{ends_length, said_is, report_is, address_is, none_here, list_get}
-use Rattle.tftp_player.proofs.StepLemmas.{HasPorts, turned_with, open_arrives, closed_arrives, none_arrives, other_arrives}
+use Rattle.tftp_player.proofs.StepLemmas.{HasPorts, open_arrives, closed_arrives, none_arrives, other_arrives}
 
 -- each end has the port of its place
 port_is : (port : ℕ) (p : Player) → (address_of port p).port ≡ port
 port_is port (Client c) = refl
 port_is port (Server q) = refl
 
-ports_from : (port : ℕ) (held : List (ℕ × Transfer)) (ps : List Player) (k : ℕ) (x : OpenedEnd) → slice_get (ends_from port held ps) k ≡ Some x → x.address.port ≡ port + k
+ports_from : (port : ℕ) (held : List (ℕ × Transfer)) (ps : List Player) (k : ℕ) (x : WorldEnd) → slice_get (ends_from port held ps) k ≡ Some x → (end_address x).port ≡ port + k
 ports_from port held [] k x e = absurd (let f : None ≡ Some x = e in cc)
 ports_from port held (p ∷ ps) zero x e =
     let same : end_at port held p ≡ x = same_Some (end_at port held p) x e in
     let here : port ≡ port + zero = omega arith in
-    ap (λ (y : OpenedEnd). y.address.port) (sym same) ∙ (ap (λ (a : Endpoint). a.port) (address_is port held p) ∙ (port_is port p ∙ here))
+    ap (λ (y : WorldEnd). (end_address y).port) (sym same) ∙ (ap (λ (a : Endpoint). a.port) (address_is port held p) ∙ (port_is port p ∙ here))
 ports_from port held (p ∷ ps) (suc k) x e =
     let there : port + 1 + k ≡ port + suc k = omega arith in ports_from (port + 1) held ps k x e ∙ there
 
@@ -51,7 +51,7 @@ module _ (from to : Endpoint) (bytes : List ℕ) (before after : PlayedServer) (
   abbrev Lost : Type 0
   Lost = LostAt to before.store.files after.store.files (ends_of before ps) (ends_of after ps') effect
 
-  abbrev Came : ℕ → OpenedEnd → Type 0
+  abbrev Came : ℕ → OpenEnd → Type 0
   Came place x = DatagramAt place x from bytes before.config.overwrite before.store.files after.store.files (ends_of before ps) (ends_of after ps') effect
 
   ports : (sent : List Datagram) → HasPorts (old sent)
@@ -62,32 +62,36 @@ module _ (from to : Endpoint) (bytes : List ℕ) (before after : PlayedServer) (
   still sent lost =
       ap (λ (e : Effect). world_of before.config (sent ++ said_by e.from e.to e.bytes) after ps') lost.effects
       ∙ (ap (λ (ds : List Datagram). world_of before.config ds after ps') (append-nil sent)
-      ∙ (ap (λ (fs : List StoredFile). record (old sent) { files = fs; ends = ends_of after ps' }) lost.stays ∙ ap (λ (xs : List OpenedEnd). record (old sent) { ends = xs }) lost.next))
+      ∙ (ap (λ (fs : List StoredFile). record (old sent) { files = fs; ends = ends_of after ps' }) lost.stays ∙ ap (λ (xs : List WorldEnd). record (old sent) { ends = xs }) lost.next))
 
   lost_report : (sent : List Datagram) → Lost → report_by sent effect ≡ no_report
   lost_report sent lost = ap (report_by sent) lost.effects
 
-  turned_as : (sent : List Datagram) (place : ℕ) (x : OpenedEnd) (h : Came place x) → new sent ≡ turned_with (old sent) place x h.turn h.held after.store.files
+  turned_as : (sent : List Datagram) (place : ℕ) (x : OpenEnd) (h : Came place x) → new sent ≡ world_after (old sent) place x h.turn h.held after.store.files
   turned_as sent place x h =
       ap (λ (e : Effect). world_of before.config (sent ++ said_by e.from e.to e.bytes) after ps') h.turns.effects
       ∙ (ap (λ (ds : List Datagram). world_of before.config (sent ++ ds) after ps') (said_is x.address h.turn.reply)
-      ∙ ap (λ (xs : List OpenedEnd). record (old sent) { sent = sent ++ replied x.address h.turn.reply; files = after.store.files; ends = xs }) h.turns.next)
+      ∙ ap (λ (xs : List WorldEnd). record (old sent) { sent = sent ++ replied x.address h.turn.reply; files = after.store.files; ends = xs }) h.turns.next)
 
   pub step_arrives : (place : ℕ) → to.port ≡ 1024 + place → StageDatagramStep place from to bytes before after ps ps' effect → StageArrives from to bytes before after ps ps' effect
-  step_arrives place port t sent = by_case t.comes where
-    by_case : ((t.end.address ≢ to) × Lost) ⊎ ((t.end.address ≡ to) × (((is_closed t.end ≡ true) × Lost) ⊎ Came place t.end)) → Arrives (old sent) from to bytes (report_by sent effect) (new sent)
-    by_case (inl (differs, lost)) =
-        landed (old sent) (old sent) (new sent) from to bytes no_report (report_by sent effect) (lost_report sent lost) (still sent lost)
-        (other_arrives (old sent) from to bytes place t.end (ports sent) away t.found port differs)
-    by_case (inr (same, inl (closed, lost))) =
-        landed (old sent) (old sent) (new sent) from to bytes no_report (report_by sent effect) (lost_report sent lost) (still sent lost)
-        (subst (λ (a : Endpoint). Arrives (old sent) from a bytes no_report (old sent)) same (closed_arrives (old sent) place t.end from bytes t.found closed))
-    by_case (inr (same, inr h)) =
-        let v = turned_with (old sent) place t.end h.turn h.held after.store.files in
-        landed (old sent) v (new sent) from to bytes (report_of (old sent) t.end h.turn) (report_by sent effect)
-        (report_is (old sent) t.end h.turn effect h.turns.effects) (turned_as sent place t.end h)
-        (subst (λ (a : Endpoint). Arrives (old sent) from a bytes (report_of (old sent) t.end h.turn) v) same
-        (open_arrives (old sent) place t.end from bytes h.turn h.held after.store.files t.found h.open_now h.steps h.commits))
+  step_arrives place port t sent = by_case t.end t.found t.comes where
+    lands : (v : WorldState) (report : Report) → report_by sent effect ≡ report → new sent ≡ v → Arrives (old sent) from to bytes report v → Arrives (old sent) from to bytes (report_by sent effect) (new sent)
+    lands v report e f a = landed (old sent) v (new sent) from to bytes report (report_by sent effect) e f a
+
+    by_case : (x : WorldEnd) → slice_get (ends_of before ps) place ≡ Some x →
+        ((end_address x ≢ to) × Lost) ⊎ ((end_address x ≡ to) × EndTakes place x from to bytes before.config.overwrite before.store.files after.store.files (ends_of before ps) (ends_of after ps') effect) →
+        Arrives (old sent) from to bytes (report_by sent effect) (new sent)
+    by_case x found (inl (differs, lost)) =
+        lands (old sent) no_report (lost_report sent lost) (still sent lost)
+        (other_arrives (old sent) from to bytes place x (ports sent) away found port differs)
+    by_case (Closed_end x) found (inr (same, lost)) =
+        lands (old sent) no_report (lost_report sent lost) (still sent lost)
+        (subst (λ (a : Endpoint). Arrives (old sent) from a bytes no_report (old sent)) same (closed_arrives (old sent) place x from bytes found))
+    by_case (Open_end x) found (inr (same, h)) =
+        let v = world_after (old sent) place x h.turn h.held after.store.files in
+        lands v (report_of (old sent) x h.turn) (report_is (old sent) x h.turn effect h.turns.effects) (turned_as sent place x h)
+        (subst (λ (a : Endpoint). Arrives (old sent) from a bytes (report_of (old sent) x h.turn) v) same
+        (open_arrives (old sent) place x from bytes h.turn h.held after.store.files found h.steps h.commits))
 
   pub nobody_arrives : (count : ℕ) → count ≡ length ps → (to.port < 1024) ⊎ (1024 + count ≤ to.port) → after ≡ before → ps' ≡ ps → effect ≡ no_effect to → StageArrives from to bytes before after ps ps' effect
   nobody_arrives count counts none e f nothing sent =

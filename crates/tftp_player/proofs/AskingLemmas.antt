@@ -1,6 +1,6 @@
 -- How the request port handles a world, from what the server did.
 use Rattle.std.proofs.Common.{◌≡◌, ◌≢◌, ℕ, Bool, ◌+◌, ◌<◌, ◌≤◌, true, false, List, [], ◌∷◌, ◌++◌, length, get_or, Option, Some, None, refl, sym, ap, ◌∙◌, subst, arith, inl, inr, length-append}
-use Rattle.std.specs.Prelude.{◌⊎◌, ◌↔◌, IsTrue, ◌&&◌, is_some, not, option_map}
+use Rattle.std.specs.Prelude.{◌⊎◌, ◌↔◌, IsTrue, is_some, not, option_map}
 use Rattle.std.proofs.lemmas.Bool.{true≢false}
 use Rattle.std.proofs.lemmas.List.{append-nil}
 use Rattle.tftp_wire.specs.declared.packet.Packet.{Packet}
@@ -22,10 +22,10 @@ use Rattle.tftp_player.specs.Effect.{said_by, report_by}
 use Rattle.tftp_player.specs.Machine.{Endpoint, request_port}
 use Rattle.tftp_player.specs.Played.{PlayerKept, end_at, ends_from, records_from, served_as, served_end}
 use Rattle.tftp_player.specs.Requested.{IsRequested, OpensNone, IsWanted, new_served, requested_by}
-use Rattle.tftp_player.specs.Requests.{IsRepeated, open_transfers, served, service}
+use Rattle.tftp_player.specs.Requests.{is_transfer, IsRepeated, open_transfers, served, service}
 use Rattle.tftp_player.specs.Serving.{PlayedServer, ServedKept, Transfer}
 use Rattle.tftp_player.specs.Stage.{IsOwned, IsRising, IsStaged, ends_of, world_of}
-use Rattle.tftp_player.specs.World.{WorldState, OpenedEnd, is_closed, datagram, next_port, no_report, said_in, opened_in, sent_report}
+use Rattle.tftp_player.specs.World.{WorldState, OpenEnd, datagram, next_port, no_report, said_in, opened_in, sent_report, WorldEnd, Open_end}
 use Rattle.tftp_player.specs.WorldSteps.{At_request_port, HasPort, Arrives}
 use Rattle.tftp_player.specs.declared.datagram.Datagram.{Datagram}
 use Rattle.tftp_player.specs.declared.effect.Effect.{Effect}
@@ -36,7 +36,7 @@ use Rattle.tftp_player.specs.declared.served.Served.{Served}
 use Rattle.tftp_player.proofs.HeldLemmas.{AreBelow, AreBelow-with_new, AllKeys-with_new, IsRising-with_new, with_new-last, at-with_new, at-with_new_other}
 use Rattle.tftp_player.proofs.OpenedLemmas.{ends_push, records_push}
 use Rattle.tftp_player.proofs.OwnedLemmas.{AllOwned, pushed_owned}
-use Rattle.tftp_player.proofs.PlacedEnds.{told-same, kept-push, is_transfer, transfers-push}
+use Rattle.tftp_player.proofs.PlacedEnds.{told-same, kept-push, transfers-push}
 use Rattle.tftp_player.proofs.Places.{slice_get-push_new}
 use Rattle.tftp_player.proofs.PlayLemmas.{ends_length, to_kept, from_kept}
 use Rattle.tftp_player.proofs.PortLemmas.{OpensFor, PortOpened, PortRefused, PortSilent, opens_asks, port_opened, port_not_opened, service_opens}
@@ -148,7 +148,7 @@ module _ (from : Endpoint) (bytes : List ℕ) (before : PlayedServer) (ps : List
     q : (sent : List Datagram) → PortOpened (w sent) asking result' (what result' h sent)
     q sent = port_opened (w sent) asking result' (what result' h sent) t (did result' h sent) told
 
-    abbrev x : List Datagram → OpenedEnd
+    abbrev x : List Datagram → OpenEnd
     x sent = (q sent).end
 
     abbrev own : List Datagram → Served
@@ -205,11 +205,11 @@ module _ (from : Endpoint) (bytes : List ℕ) (before : PlayedServer) (ps : List
     pub opened_recorded : (r : Option Record) → r ≡ option_map (λ (g : Transfer). record_of g.end) (at port after.held) → r ≡ None → ⊥
     opened_recorded r e n = let f : None ≡ Some (record_of (x []).state) = sym n ∙ (e ∙ recorded []) in cc
 
-    end_is : (sent : List Datagram) → end_at port after.held (Server (own sent)) ≡ x sent
+    end_is : (sent : List Datagram) → end_at port after.held (Server (own sent)) ≡ Open_end (x sent)
     end_is sent =
         let g = transfer sent in
         ap (λ (u : Option Transfer). served_end port (own sent) None u) (found sent)
-        ∙ (ap (λ (n : ℕ). served_as n (own sent) g.end (left_in g.files) (draft_of g.files) g.request) (port_world sent) ∙ (q sent).is_new.end)
+        ∙ ap Open_end (ap (λ (n : ℕ). served_as n (own sent) g.end (left_in g.files) (draft_of g.files) g.request) (port_world sent) ∙ (q sent).is_new.end)
 
     others : (other : ℕ) → 1024 ≤ other → other < 1024 + length ps → at other after.held ≡ at other before.held
     others other low high =
@@ -222,7 +222,7 @@ module _ (from : Endpoint) (bytes : List ℕ) (before : PlayedServer) (ps : List
         record {
           transfer = transfer [];
           found = found [];
-          is_open = ap (λ (e : EndState). is_some (outcome_of e.progress.phase)) new.state ∙ new.still;
+          is_open = ap (λ (e : EndState). is_some (outcome_of e.progress.phase)) new.state ∙ ap is_some new.still;
           side = ap (λ (e : EndState). is_client e.role.side) new.state ∙ new.side;
           files = new.files;
           commits = new.commits;
@@ -230,17 +230,15 @@ module _ (from : Endpoint) (bytes : List ℕ) (before : PlayedServer) (ps : List
           path = new.path;
         }
 
-    is_one : (sent : List Datagram) → is_transfer (x sent) ≡ true
-    is_one sent =
-        let new = (q sent).is_new in
-        ap (λ (b : Bool). not b && not (is_closed (x sent))) new.side ∙ ap not new.still
+    is_one : (sent : List Datagram) → is_transfer (Open_end (x sent)) ≡ true
+    is_one sent = ap not (q sent).is_new.side
 
-    ends_now : (sent : List Datagram) → ends_of after (ps ++ Server (own sent) ∷ []) ≡ ends_of before ps ++ x sent ∷ []
+    ends_now : (sent : List Datagram) → ends_of after (ps ++ Server (own sent) ∷ []) ≡ ends_of before ps ++ Open_end (x sent) ∷ []
     ends_now sent =
         ends_push after ps (Server (own sent))
-        ∙ (ap (λ (xs : List OpenedEnd). xs ++ end_at (1024 + length ps) after.held (Server (own sent)) ∷ []) (told-same end_at ends_from (λ n g. refl) (λ n g r rs. refl) by_port 1024 before.held after.held ps others)
+        ∙ (ap (λ (xs : List WorldEnd). xs ++ end_at (1024 + length ps) after.held (Server (own sent)) ∷ []) (told-same end_at ends_from (λ n g. refl) (λ n g r rs. refl) by_port 1024 before.held after.held ps others)
         ∙ (ap (λ (n : ℕ). ends_of before ps ++ end_at n after.held (Server (own sent)) ∷ []) (sym port_next)
-        ∙ ap (λ (y : OpenedEnd). ends_of before ps ++ y ∷ []) (end_is sent)))
+        ∙ ap (λ (y : WorldEnd). ends_of before ps ++ y ∷ []) (end_is sent)))
 
     held_now : after.held ≡ before.held ++ (port, transfer []) ∷ []
     held_now = ap (λ (s : PlayedServer). s.held) (q []).new ∙ with_new-last port (transfer []) before.held below
@@ -258,15 +256,15 @@ module _ (from : Endpoint) (bytes : List ℕ) (before : PlayedServer) (ps : List
       recorded =
           ap (λ (rs : List (ℕ × Record)). rs ++ (port, record_of (x []).state) ∷ []) staged.recorded
           ∙ (ap (λ (n : ℕ). records_from 1024 (ends_of before ps) ++ (n, record_of (x []).state) ∷ []) (port_world [])
-          ∙ (sym (records_push 1024 (ends_of before ps) (x [])) ∙ ap (records_from 1024) (sym (ends_now []))));
+          ∙ (sym (records_push 1024 (ends_of before ps) (Open_end (x []))) ∙ ap (records_from 1024) (sym (ends_now []))));
       below =
           let n : port + 1 ≡ 1024 + length (ps ++ Server (own []) ∷ []) = omega (arith, port_next, length-append ps (Server (own []) ∷ [])) in
           subst (λ (m : ℕ). AreBelow m after.held) n (subst (AreBelow (port + 1)) (sym (ap (λ (s : PlayedServer). s.held) (q []).new)) (AreBelow-with_new port (transfer []) before.held below));
       count =
           let a : length after.held ≡ length (before.held ++ (port, transfer []) ∷ []) = ap length held_now in
-          let b = transfers-push (ends_of before ps) (x []) (is_one []) in
+          let b = transfers-push (ends_of before ps) (Open_end (x [])) (is_one []) in
           let e = staged.count in
-          let n : length after.held ≡ open_transfers (ends_of before ps ++ x [] ∷ []) = omega (arith, a, length-append before.held ((port, transfer []) ∷ []), b, e) in
+          let n : length after.held ≡ open_transfers (ends_of before ps ++ Open_end (x []) ∷ []) = omega (arith, a, length-append before.held ((port, transfer []) ∷ []), b, e) in
           n ∙ ap open_transfers (sym (ends_now []));
       owned = owned_now;
       rising = subst IsRising (sym (ap (λ (s : PlayedServer). s.held) (q []).new)) (IsRising-with_new port (transfer []) before.held below staged.rising);
@@ -301,7 +299,7 @@ module _ (from : Endpoint) (bytes : List ℕ) (before : PlayedServer) (ps : List
         ∙ (ap (λ (bs : List ℕ). world_of before.config (sent ++ datagram (x sent).address (x sent).state.progress.last_sent_to bs ∷ []) after ps1) bytes_are
         ∙ (ap (λ (s : Stored). record (world_of before.config (sent ++ d ∷ []) after ps1) { files = s.files }) (ap (λ (s : PlayedServer). s.store) (q sent).new)
         ∙ (ap (λ (qs : List Player). record (w sent) { sent = sent ++ d ∷ []; ends = ends_of after qs }) players
-        ∙ ap (λ (xs : List OpenedEnd). record (w sent) { sent = sent ++ d ∷ []; ends = xs }) (ends_now sent))))) in
+        ∙ ap (λ (xs : List WorldEnd). record (w sent) { sent = sent ++ d ∷ []; ends = xs }) (ends_now sent))))) in
         subst (λ (r : Report). Arrives (w sent) from request_port bytes r (world_of before.config (sent ++ said_by here opened.to given) after ps1)) (sym report)
         (subst (λ (v : WorldState). Arrives (w sent) from request_port bytes (sent_report (w sent)) v) (sym new)
         (At_request_port refl (has sent) said.0 said.1 h.repeated (in_the_world result' h sent) (q sent).serves))

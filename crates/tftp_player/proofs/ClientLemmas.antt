@@ -6,7 +6,7 @@ use Rattle.tftp_negotiate.specs.declared.asked.Asked.{Asked}
 use Rattle.tftp_file.specs.Netascii.{wire_text}
 use Rattle.tftp_ends.specs.Opening.{getting, putting}
 use Rattle.tftp_player.specs.Machine.{client_ip, request_port}
-use Rattle.tftp_player.specs.World.{WorldState, OpenedEnd, next_port}
+use Rattle.tftp_player.specs.World.{WorldState, OpenEnd, next_port}
 use Rattle.tftp_player.specs.Openings.{reading_client, writing_client}
 
 -- an empty file has no text
@@ -15,7 +15,7 @@ no_wire Octet = refl
 no_wire Netascii = refl
 
 -- a client that reads, as it opens
-abbrev pub getting_client : ℕ → List ℕ → Mode → Asked → ℕ → ℕ → OpenedEnd
+abbrev pub getting_client : ℕ → List ℕ → Mode → Asked → ℕ → ℕ → OpenEnd
 getting_client port name mode asked limit retries =
     record {
       address = record { ip = client_ip; port = port };
@@ -34,7 +34,7 @@ pub reading_is : (w : WorldState) (name : List ℕ) (mode : Mode) (asked : Asked
 reading_is w name mode asked = ap (λ (left : List ℕ). record (reading_client w name mode asked) { left = left }) (no_wire mode)
 
 -- a client that writes, as it opens
-abbrev pub putting_client : ℕ → List ℕ → Mode → Asked → List ℕ → ℕ → ℕ → OpenedEnd
+abbrev pub putting_client : ℕ → List ℕ → Mode → Asked → List ℕ → ℕ → ℕ → OpenEnd
 putting_client port name mode asked file limit retries =
     record {
       address = record { ip = client_ip; port = port };

@@ -2,6 +2,7 @@
 use Rattle.std.proofs.Common.{◌≡◌, ◌≢◌, ℕ, ◌+◌, ◌<◌, Bool, true, false, List, [], length, Option, Some, None, refl, sym, ap, ◌∙◌, subst, inl, inr}
 use Rattle.std.specs.Prelude.{◌&&◌, not, is_some, slice_get, slice_set, slice_index_or}
 use Rattle.std.proofs.lemmas.List.{set-get_or}
+use Rattle.std.proofs.lemmas.Bool.{true≢false}
 use Rattle.tftp_file.specs.Memory.{memory_source}
 use Rattle.tftp_file.specs.declared.files.Files.{Files}
 use Rattle.tftp_file.specs.Sink.{Holding}
@@ -18,27 +19,27 @@ use Rattle.tftp_player.specs.Effect.{no_effect}
 use Rattle.tftp_player.specs.PlayedClient.{PlayedClient}
 use Rattle.tftp_player.specs.Played.{client_end, end_at, PlayerKept, PlayerDatagramStep, has_ended, address_of}
 use Rattle.tftp_player.specs.Serving.{PlayedServer, Transfer, CommitsLast, ServedKept, ServedDatagramStep}
-use Rattle.tftp_player.specs.Stage.{ends_of, IsStaged, LostAt, StageDatagramStep, record_closed}
-use Rattle.tftp_player.specs.World.{OpenedEnd, file_at, in_the_way, is_closed, files_of, end_after, has_committed}
+use Rattle.tftp_player.specs.Stage.{ends_of, IsStaged, LostAt, StageDatagramStep, record_closed, EndTakes}
+use Rattle.tftp_player.specs.World.{OpenEnd, file_at, in_the_way, is_closed, files_of, end_after, has_committed, WorldEnd, Open_end, Closed_end, end_address}
 use Rattle.tftp_player.specs.WorldSteps.{EndStep, FilesAfter}
 use Rattle.tftp_player.specs.declared.effect.Effect.{Effect}
 use Rattle.tftp_player.specs.declared.player.Player.{Player}
 use Rattle.tftp_player.specs.declared.player.Player.TheVariants.{Client, Server}
 use Rattle.tftp_player.specs.declared.served.Served.{Served}
 use Rattle.tftp_player.proofs.DraftLemmas.{ServedLeaves, served_leaves}
-use Rattle.tftp_player.proofs.Resting.{at_rest_open}
 use Rattle.tftp_player.proofs.ServerTurns.{end_step}
-use Rattle.tftp_player.proofs.StageLemmas.{Stepped, client_files, client_open, held_end, held_files, served_files, served_is, served_kept, served_steps, same_transfer, keeps_told}
+use Rattle.tftp_player.proofs.StageLemmas.{Stepped, client_files, client_open, held_end, held_files, served_files, served_kept, served_steps, same_transfer, keeps_told}
 use Rattle.tftp_player.proofs.StepLemmas.{client_files as client_commits}
 use Rattle.tftp_player.proofs.PlayLemmas.{ends_get, kept_at, list_get, turn_ends, turn_staged, closed_is, has_not_ended, address_is}
 
--- the player at this port, whose end is x, took a datagram
-pub record PlayerStepped (port : ℕ) (p : Player) (x : OpenedEnd) (p' : Player) (before after : PlayedServer) (from : Endpoint) (bytes : List ℕ) (effect : Effect) (r : Record) : Type 0 where
+-- the open end at this port took a datagram
+pub record PlayerStepped (port : ℕ) (p p' : Player) (before after : PlayedServer) (from : Endpoint) (bytes : List ℕ) (effect : Effect) (r : Record) : Type 0 where
+  pub end : OpenEnd
   pub turn : Turn
   pub held : Files (List ℕ) Holding
-  pub steps : EndStep (is_client x.state.role.side) (in_the_way before.config.overwrite (file_at before.store.files x.path)) from bytes x.state (files_of x) turn held
-  pub commits : FilesAfter before.config.overwrite (not (is_client x.state.role.side) && has_committed x (end_after x turn held)) x.path (end_after x turn held).stored before.store.files after.store.files
-  pub stepped : Stepped port p x p' before after turn held effect r
+  pub steps : EndStep (is_client end.state.role.side) (in_the_way before.config.overwrite (file_at before.store.files end.path)) from bytes end.state (files_of end) turn held
+  pub commits : FilesAfter before.config.overwrite (not (is_client end.state.role.side) && has_committed end (end_after end turn held)) end.path (end_after end turn held).stored before.store.files after.store.files
+  pub stepped : Stepped port p end p' before after turn held effect r
 
 -- the step of a client does not ask what stands in its way
 client_step : (there : Option (List ℕ)) (client : Bool) (from : Endpoint) (bytes : List ℕ) (e : EndState) (files files' : Files (List ℕ) Holding) (turn : Turn) → client ≡ true →
@@ -47,10 +48,11 @@ client_step there client from bytes e files files' turn is h = subst (λ (b : Bo
 
 client_stepped : (port : ℕ) (c c' : PlayedClient) (server : PlayedServer) (from : Endpoint) (bytes : List ℕ) (effect : Effect) (r : Record) →
     PlayerKept port server.held (Client c) → is_some (outcome_of c.end.progress.phase) ≡ false → ClientDatagramStep port from bytes c c' effect r →
-    PlayerStepped port (Client c) (client_end port c) (Client c') server server from bytes effect r
+    PlayerStepped port (Client c) (Client c') server server from bytes effect r
 client_stepped port c c' server from bytes effect r kept open_now t =
     let there = in_the_way server.config.overwrite (file_at server.store.files []) in
     record {
+      end = client_end port c;
       turn = t.turn;
       held = c'.files;
       steps = subst (λ (f : Files (List ℕ) Holding). EndStep (is_client c.end.role.side) there from bytes c.end f t.turn c'.files) (sym (client_files port c kept.1))
@@ -64,7 +66,7 @@ module _ (port : ℕ) (s s' : Served) (before after : PlayedServer) (from : Endp
   abbrev h : Transfer
   h = t.transfer
 
-  abbrev x0 : OpenedEnd
+  abbrev x0 : OpenEnd
   x0 = held_end port s h
 
   abbrev in_way : Option (List ℕ)
@@ -110,29 +112,20 @@ module _ (port : ℕ) (s s' : Served) (before after : PlayedServer) (from : Endp
       subst (λ (v : PlayedServer). FilesAfter before.config.overwrite (not (is_client h.end.role.side) && has_committed x0 (end_after x0 t.turn held_now)) s.path (end_after x0 t.turn held_now).stored before.store.files v.store.files) (sym t.turns.server)
       (subst (λ (b : Bool). FilesAfter before.config.overwrite (not b && has_committed x0 (end_after x0 t.turn held_now)) s.path (end_after x0 t.turn held_now).stored before.store.files t.store.files) (sym server_side) leaves.files_after)
 
-  stepped_here : Stepped port (Server s) (end_at port before.held (Server s)) (Server s') before after t.turn held_now effect r
+  stepped_here : Stepped port (Server s) x0 (Server s') before after t.turn held_now effect r
   stepped_here =
       served_steps port s s' before after h t.next t.turn t.store.refuses (with_told t.store false) effect r t.found open_now kept
       t.kind t.path t.request (keeps_told h.files before.store t.store s.refuses t.stays) leaves.commits (λ quiet. refl) t.turns
 
-  served_stepped : PlayerStepped port (Server s) (end_at port before.held (Server s)) (Server s') before after from bytes effect r
-  served_stepped =
-      subst (λ (x : OpenedEnd). PlayerStepped port (Server s) x (Server s') before after from bytes effect r) (sym (served_is port s before.held h open_now t.found))
-      (record {
-        turn = t.turn;
-        held = held_now;
-        steps = steps_here;
-        commits = commits_here;
-        stepped = subst (λ (x : OpenedEnd). Stepped port (Server s) x (Server s') before after t.turn held_now effect r) (served_is port s before.held h open_now t.found) stepped_here;
-      })
+  served_stepped : PlayerStepped port (Server s) (Server s') before after from bytes effect r
+  served_stepped = record { end = x0; turn = t.turn; held = held_now; steps = steps_here; commits = commits_here; stepped = stepped_here }
 
 pub player_stepped : (port : ℕ) (p p' : Player) (before after : PlayedServer) (from : Endpoint) (bytes : List ℕ) (effect : Effect) (r : Record) →
     PlayerKept port before.held p → has_ended p ≡ false → PlayerDatagramStep port from bytes p p' before after effect r →
-    PlayerStepped port p (end_at port before.held p) p' before after from bytes effect r
+    PlayerStepped port p p' before after from bytes effect r
 player_stepped port (Client c) (Client c') before after from bytes effect r kept open_now t =
-    subst (λ (s : PlayedServer). PlayerStepped port (Client c) (end_at port before.held (Client c)) (Client c') before s from bytes effect r) (sym t.1)
-    (subst (λ (x : OpenedEnd). PlayerStepped port (Client c) x (Client c') before before from bytes effect r) (sym (at_rest_open (client_end port c) open_now))
-    (client_stepped port c c' before from bytes effect r kept open_now t.0))
+    subst (λ (s : PlayedServer). PlayerStepped port (Client c) (Client c') before s from bytes effect r) (sym t.1)
+    (client_stepped port c c' before from bytes effect r kept open_now t.0)
 player_stepped port (Server s) (Server s') before after from bytes effect r kept open_now t = served_stepped port s s' before after from bytes effect r kept open_now t
 player_stepped port (Client c) (Server s') before after from bytes effect r kept open_now t = absurd t
 player_stepped port (Server s) (Client c') before after from bytes effect r kept open_now t = absurd t
@@ -140,7 +133,7 @@ player_stepped port (Server s) (Client c') before after from bytes effect r kept
 -- of the player at a place that is read
 module _ (server : PlayedServer) (ps : List Player) (records : List (ℕ × Record)) (place : ℕ) (from to : Endpoint) (bytes : List ℕ) (p : Player)
     (staged : IsStaged server ps records) (at_place : (place < length ps) × (to.port ≡ 1024 + place)) (reads : p ≡ slice_index_or ps place p) where
-  abbrev x : OpenedEnd
+  abbrev x : WorldEnd
   x = end_at (1024 + place) server.held p
 
   there : slice_get ps place ≡ Some p
@@ -149,7 +142,7 @@ module _ (server : PlayedServer) (ps : List Player) (records : List (ℕ × Reco
   same_list : slice_set ps place p ≡ ps
   same_list = ap (slice_set ps place) reads ∙ set-get_or ps place p
 
-  address_here : (here : Endpoint) → here ≡ address_of to.port p → x.address ≡ here
+  address_here : (here : Endpoint) → here ≡ address_of to.port p → end_address x ≡ here
   address_here here is = address_is (1024 + place) server.held p ∙ (ap (λ (n : ℕ). address_of n p) (sym at_place.1) ∙ sym is)
 
   closed_here : (b c : Bool) → b ≡ record_closed (slice_get records place) → b ≡ c → is_closed x ≡ c
@@ -166,17 +159,22 @@ module _ (server : PlayedServer) (ps : List Player) (records : List (ℕ × Reco
     config = refl;
   }
 
+  takes_nothing : (y : WorldEnd) (effect : Effect) → is_closed y ≡ true → LostAt to server.store.files server.store.files (ends_of server ps) (ends_of server (slice_set ps place p)) effect →
+      EndTakes place y from to bytes server.config.overwrite server.store.files server.store.files (ends_of server ps) (ends_of server (slice_set ps place p)) effect
+  takes_nothing (Open_end y) effect closed l = absurd (true≢false (sym closed))
+  takes_nothing (Closed_end y) effect closed l = l
+
   pub step_closed : (here : Endpoint) (b : Bool) (effect : Effect) → here ≡ address_of to.port p → here ≡ to → b ≡ record_closed (slice_get records place) → b ≡ true → effect ≡ no_effect to →
       StageDatagramStep place from to bytes server server ps (slice_set ps place p) effect
   step_closed here b effect is same told closed e = record {
     end = x;
     found = ends_get server.held ps place p there;
-    comes = inr (address_here here is ∙ same, inl (closed_here b true told closed, lost effect e));
+    comes = inr (address_here here is ∙ same, takes_nothing x effect (closed_here b true told closed) (lost effect e));
     config = refl;
   }
 
   decoded_here : (b : Bool) (p' : Player) (after : PlayedServer) (effect : Effect) (r : Record) → b ≡ record_closed (slice_get records place) → b ≡ false →
-      PlayerDatagramStep to.port from bytes p p' server after effect r → PlayerStepped (1024 + place) p x p' server after from bytes effect r
+      PlayerDatagramStep to.port from bytes p p' server after effect r → PlayerStepped (1024 + place) p p' server after from bytes effect r
   decoded_here b p' after effect r told is t =
       player_stepped (1024 + place) p p' server after from bytes effect r (kept_at server.held ps place p staged.kept there) (has_not_ended (1024 + place) server.held p (closed_here b false told is))
       (subst (λ (n : ℕ). PlayerDatagramStep n from bytes p p' server after effect r) at_place.1 t)
@@ -186,18 +184,17 @@ module _ (server : PlayedServer) (ps : List Player) (records : List (ℕ × Reco
   step_open here b p' after effect r is same told open_now t =
       let g = decoded_here b p' after effect r told open_now t in
       record {
-        end = x;
-        found = ends_get server.held ps place p there;
+        end = Open_end g.end;
+        found = ends_get server.held ps place p there ∙ ap (λ (y : WorldEnd). Some y) g.stepped.was;
         comes = inr (
-          address_here here is ∙ same,
-          inr (record {
-            open_now = g.stepped.open_now;
+          ap end_address (sym g.stepped.was) ∙ (address_here here is ∙ same),
+          record {
             turn = g.turn;
             held = g.held;
             steps = g.steps;
             commits = g.commits;
-            turns = record { effects = g.stepped.effects; next = turn_ends place server after ps p p' g.turn g.held effect r g.stepped };
-          }),
+            turns = record { effects = g.stepped.effects; next = turn_ends place server after ps p g.end p' g.turn g.held effect r g.stepped };
+          },
         );
         config = g.stepped.config;
       }
@@ -207,4 +204,4 @@ module _ (server : PlayedServer) (ps : List Player) (records : List (ℕ × Reco
   step_keeps_stage b p' after effect r told open_now t =
       let g = decoded_here b p' after effect r told open_now t in
       subst (λ (n : ℕ). IsStaged after (slice_set ps place p') (slice_set records place (n, r))) (sym at_place.1)
-      (turn_staged place server after ps p p' g.turn g.held effect r g.stepped records there staged)
+      (turn_staged place server after ps p g.end p' g.turn g.held effect r g.stepped records there staged)

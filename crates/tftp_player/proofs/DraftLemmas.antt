@@ -33,7 +33,7 @@ use Rattle.tftp_player.specs.Machine.{Endpoint}
 use Rattle.tftp_player.specs.Clients.{left_in}
 use Rattle.tftp_player.specs.Played.{served_as}
 use Rattle.tftp_player.specs.Serving.{CommitsLast}
-use Rattle.tftp_player.specs.World.{StoredFile, OpenedEnd, end_after, has_committed}
+use Rattle.tftp_player.specs.World.{StoredFile, OpenEnd, end_after, has_committed}
 use Rattle.tftp_player.specs.WorldSteps.{IsStored, FilesAfter}
 use Rattle.tftp_player.specs.declared.served.Served.{Served}
 use Rattle.tftp_player.proofs.FileLemmas.{stored_so}
@@ -223,7 +223,7 @@ module _ (from : Endpoint) (bytes : List ℕ) (e : EndState) (turn : Turn) (d d'
   leaves_by decoded false c commits h = acts_leaves (datagram_action e from bytes decoded) (commits c) h
 
 -- of the end in the world whose transfer this is
-pub record ServedLeaves (x : OpenedEnd) (turn : Turn) (held : Files (List ℕ) Holding) (next : Files (List ℕ) Drafted) (overwrite : Bool) (files files' : List StoredFile) : Type 0 where
+pub record ServedLeaves (x : OpenEnd) (turn : Turn) (held : Files (List ℕ) Holding) (next : Files (List ℕ) Drafted) (overwrite : Bool) (files files' : List StoredFile) : Type 0 where
   pub files_after : FilesAfter overwrite (has_committed x (end_after x turn held)) x.path (end_after x turn held).stored files files'
   pub commits : CommitsLast next turn.progress.phase
 

@@ -27,10 +27,11 @@ use Rattle.tftp_player.specs.Machine.{Endpoint, Error, Message}
 use Rattle.tftp_player.specs.Rules.{Says_error, Repeats, message}
 use Rattle.tftp_player.specs.Said.{said}
 use Rattle.tftp_player.specs.Shows.{EndView, IsShown}
-use Rattle.tftp_player.specs.World.{OpenedEnd, files_of, holding_of, with_files, in_state, end_after, has_failed, goes_on, text_of as text_of_end, view_of_end}
+use Rattle.tftp_player.specs.World.{OpenEnd, files_of, holding_of, with_files, in_state, end_after, goes_on, text_of as text_of_end}
 use Rattle.tftp_player.specs.WorldKept.{EndKept, PhaseKept}
 use Rattle.tftp_player.proofs.Actions.{Stands, goes, closes, refuses}
 use Rattle.tftp_player.proofs.SaidLemmas.{spells_own}
+use Rattle.tftp_player.proofs.Standing.{has_failed, open_view}
 
 -- the texts of the ERRORs hold no zero byte
 no_zero : List ℕ → Bool
@@ -105,7 +106,7 @@ pub error_says : (r : ErrorReply) (from to : Endpoint) → Replies from (Some (r
 error_says r from to = (error_packet r, spells_own (error_packet r) (valid_error r), refl)
 
 -- the last datagram sent stays, or is the answer
-abbrev pub Newest : OpenedEnd → Turn → OpenedEnd → Type 0
+abbrev pub Newest : OpenEnd → Turn → OpenEnd → Type 0
 Newest x turn y =
     ((y.state.progress.last_sent_to ≡ x.state.progress.last_sent_to) × (y.state.progress.last_sent ≡ x.state.progress.last_sent))
     ⊎ (turn.reply ≡ Some (record { to = y.state.progress.last_sent_to; bytes = y.state.progress.last_sent }))
@@ -114,14 +115,10 @@ Newest x turn y =
 abbrev pub IsThere : List Message → Endpoint → Endpoint → List ℕ → Type 0
 IsThere messages from to bytes = (p : WirePacket) × Spells p bytes × Contains messages (message from to (said p))
 
--- an end in this phase
-abbrev pub placed : Phase → OpenedEnd → OpenedEnd
-placed phase x = in_state (with_progress (record x.state.progress { phase = phase }) x.state) x
-
 -- a turn of the end x at place k, after which it is y, is shown again
-pub record Goes (views : List EndView) (messages : List Message) (k : ℕ) (x : OpenedEnd) (turn : Turn) (y : OpenedEnd) : Type 0 where
+pub record Goes (views : List EndView) (messages : List Message) (k : ℕ) (x : OpenEnd) (turn : Turn) (y : OpenEnd) : Type 0 where
   pub said_now : List Message
-  pub shown : IsShown (set views k (view_of_end y)) (messages ++ said_now)
+  pub shown : IsShown (set views k (open_view y)) (messages ++ said_now)
   pub replies : Replies x.address turn.reply said_now
   pub kept : EndKept y
   pub side : y.state.role.side ≡ x.state.role.side
@@ -135,12 +132,12 @@ open_live (Receiving terms number) e = refl
 open_live (Dallying terms number dally) e = refl
 open_live (Closed terms number complete outcome) e = absurd (true≢false e)
 
-same_files : (b : Bool) (x : OpenedEnd) → with_files x (if b then Source x.left else Sink (holding_of x)) ≡ x
+same_files : (b : Bool) (x : OpenEnd) → with_files x (if b then Source x.left else Sink (holding_of x)) ≡ x
 same_files true x = refl
 same_files false x = refl
 
 -- a response, which touches no file
-pub from_response : (views : List EndView) (messages : List Message) (k : ℕ) (x : OpenedEnd) (response : Response) (from : Endpoint) (turn : Turn) (held : Files (List ℕ) Holding) →
+pub from_response : (views : List EndView) (messages : List Message) (k : ℕ) (x : OpenEnd) (response : Response) (from : Endpoint) (turn : Turn) (held : Files (List ℕ) Holding) →
     Goes views messages k x (response_turn response from x.state) (in_state (with_progress (after response from x.state) x.state) x) →
     (turn ≡ response_turn response from x.state) × (held ≡ files_of x) → Goes views messages k x turn (end_after x turn held)
 from_response views messages k x response from turn held g h =
@@ -148,7 +145,7 @@ from_response views messages k x response from turn held g h =
     let same : with_files y (files_of x) ≡ y = same_files (is_sender x.state.role.side) y in
     subst (λ (t : Turn). Goes views messages k x t (end_after x t held)) (sym h.0)
     (subst (λ (f : Files (List ℕ) Holding). Goes views messages k x (response_turn response from x.state) (with_files y f)) (sym h.1)
-    (subst (λ (z : OpenedEnd). Goes views messages k x (response_turn response from x.state) z) (sym same) g))
+    (subst (λ (z : OpenEnd). Goes views messages k x (response_turn response from x.state) z) (sym same) g))
 
 text_cut : (b g : Bool) (f w h : List ℕ) → IsBeginningOf (if b then f else w) (if b then f else if g then w ++ h else w)
 text_cut true g f w h = ([], append-nil f)
@@ -160,7 +157,7 @@ text_sent true g f w h e = refl
 text_sent false g f w h e = absurd (true≢false (sym e))
 
 -- how many retries are left has no part in it
-phase_retries : (phase : Phase) (x : OpenedEnd) (r : ℕ) → PhaseKept x phase → PhaseKept (in_state (with_progress (record x.state.progress { retries_left = r }) x.state) x) phase
+phase_retries : (phase : Phase) (x : OpenEnd) (r : ℕ) → PhaseKept x phase → PhaseKept (in_state (with_progress (record x.state.progress { retries_left = r }) x.state) x) phase
 phase_retries (Waiting asked limit) x r h = h
 phase_retries (Sending terms number) x r h = record {
   sender = h.sender;
@@ -188,12 +185,12 @@ going_live (Receiving terms number) e = (refl, refl)
 going_live (Dallying terms number dally) e = absurd (true≢false (sym e))
 going_live (Closed terms number complete outcome) e = absurd (true≢false (sym e))
 
-module _ (views : List EndView) (messages : List Message) (k : ℕ) (x : OpenedEnd) (s : Stands views messages k (view_of_end x)) (kept : EndKept x) where
+module _ (views : List EndView) (messages : List Message) (k : ℕ) (x : OpenEnd) (s : Stands views messages k (open_view x)) (kept : EndKept x) where
   -- nothing changes
   pub ignores : (from : Endpoint) → is_some (outcome_of x.state.progress.phase) ≡ false → Goes views messages k x (response_turn Ignore from x.state) x
   ignores from o = record {
     said_now = [];
-    shown = goes views messages k (view_of_end x) s [] (open_live x.state.progress.phase o) tt;
+    shown = goes views messages k (open_view x) s [] (open_live x.state.progress.phase o) tt;
     replies = refl;
     kept = kept;
     side = refl;
@@ -205,7 +202,7 @@ module _ (views : List EndView) (messages : List Message) (k : ℕ) (x : OpenedE
   pub tells_stranger : (from : Endpoint) → is_some (outcome_of x.state.progress.phase) ≡ false → Goes views messages k x (response_turn Stranger from x.state) x
   tells_stranger from o = record {
     said_now = message x.address from Error ∷ [];
-    shown = goes views messages k (view_of_end x) s (Says_error x.address from ∷ []) (open_live x.state.progress.phase o) (refl, tt, tt);
+    shown = goes views messages k (open_view x) s (Says_error x.address from ∷ []) (open_live x.state.progress.phase o) (refl, tt, tt);
     replies = error_says UnknownTransferId x.address from;
     kept = kept;
     side = refl;
@@ -219,7 +216,7 @@ module _ (views : List EndView) (messages : List Message) (k : ℕ) (x : OpenedE
   answers_again from o same old =
       let m = message x.address from (said old.0) in record {
         said_now = m ∷ [];
-        shown = goes views messages k (view_of_end x) s (Repeats m ∷ []) (open_live x.state.progress.phase o)
+        shown = goes views messages k (open_view x) s (Repeats m ∷ []) (open_live x.state.progress.phase o)
             (refl, subst (λ (to : Endpoint). Contains messages (message x.address to (said old.0))) (sym same) old.2, tt);
         replies = (old.0, old.1, refl);
         kept = kept;
@@ -235,7 +232,7 @@ module _ (views : List EndView) (messages : List Message) (k : ℕ) (x : OpenedE
   retries from o old =
       let m = message x.address x.state.progress.last_sent_to (said old.0) in record {
         said_now = m ∷ [];
-        shown = goes views messages k (view_of_end x) s (Repeats m ∷ []) (open_live x.state.progress.phase o) (refl, old.2, tt);
+        shown = goes views messages k (open_view x) s (Repeats m ∷ []) (open_live x.state.progress.phase o) (refl, old.2, tt);
         replies = (old.0, old.1, refl);
         kept = record { phase = phase_retries x.state.progress.phase x (x.state.progress.retries_left - 1) kept.phase; held = kept.held; committed = kept.committed };
         side = refl;
@@ -257,13 +254,13 @@ module _ (views : List EndView) (messages : List Message) (k : ℕ) (x : OpenedE
       let b = is_sender x.state.role.side in
       let f = wire_text x.state.role.mode x.file in
       let w = wire_text x.state.role.mode x.stored in
-      let shown_now = closes views messages k (view_of_end x) s (text_of_end y) live (text_cut b (goes_on x.state.progress.phase) f w x.state.progress.held)
+      let shown_now = closes views messages k (open_view x) s (text_of_end y) live (text_cut b (goes_on x.state.progress.phase) f w x.state.progress.held)
       (text_sent b (goes_on x.state.progress.phase) f w x.state.progress.held) in
       record {
         said_now = [];
-        shown = subst (λ (ms : List Message). IsShown (set views k (view_of_end y)) ms) (sym (append-nil messages))
+        shown = subst (λ (ms : List Message). IsShown (set views k (open_view y)) ms) (sym (append-nil messages))
             (subst (λ (v : EndView). IsShown (set views k v) messages)
-            (failed_view (view_of_end x) (text_of_end y) (is_complete x.state.progress.phase) (view_of_end x).peer (view_of_end x).size live.0) shown_now);
+            (failed_view (open_view x) (text_of_end y) (is_complete x.state.progress.phase) (open_view x).peer (open_view x).size live.0) shown_now);
         replies = refl;
         kept = closed_kept (terms_of x.state.progress.phase) outcome;
         side = refl;
@@ -280,12 +277,12 @@ module _ (views : List EndView) (messages : List Message) (k : ℕ) (x : OpenedE
       let b = is_sender x.state.role.side in
       let f = wire_text x.state.role.mode x.file in
       let w = wire_text x.state.role.mode x.stored in
-      let shown_now = refuses views messages k (view_of_end x) s from (text_of_end y) live (text_cut b (goes_on x.state.progress.phase) f w x.state.progress.held)
+      let shown_now = refuses views messages k (open_view x) s from (text_of_end y) live (text_cut b (goes_on x.state.progress.phase) f w x.state.progress.held)
       (text_sent b (goes_on x.state.progress.phase) f w x.state.progress.held) in
       record {
         said_now = message x.address from Error ∷ [];
         shown = subst (λ (v : EndView). IsShown (set views k v) (messages ++ message x.address from Error ∷ []))
-            (failed_view (view_of_end x) (text_of_end y) (is_complete x.state.progress.phase) (view_of_end x).peer (view_of_end x).size live.0) shown_now;
+            (failed_view (open_view x) (text_of_end y) (is_complete x.state.progress.phase) (open_view x).peer (open_view x).size live.0) shown_now;
         replies = error_says reply x.address from;
         kept = closed_kept (terms_of x.state.progress.phase) outcome;
         side = refl;

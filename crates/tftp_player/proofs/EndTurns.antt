@@ -23,19 +23,20 @@ use Rattle.tftp_ends.specs.Step.{response_turn, after, with_progress}
 use Rattle.tftp_ends.specs.Waiting.{reader_action, writer_action}
 use Rattle.tftp_player.specs.Machine.{Endpoint, server_ip, Message}
 use Rattle.tftp_player.specs.Shows.{EndView}
-use Rattle.tftp_player.specs.World.{OpenedEnd, in_state, goes_on, view_of_end}
+use Rattle.tftp_player.specs.World.{OpenEnd, in_state, goes_on}
 use Rattle.tftp_player.specs.WorldKept.{EndKept}
 use Rattle.tftp_player.proofs.Actions.{Stands, goes}
-use Rattle.tftp_player.proofs.EndMoves.{Goes, IsThere, placed, from_response, gives_up, retries}
+use Rattle.tftp_player.proofs.EndMoves.{Goes, IsThere, from_response, gives_up, retries}
 use Rattle.tftp_player.proofs.PhaseMoves.{Acting, OfDecoded, if_acts, not_false, same_ips, same_endpoints, ignore_acts, stranger_acts, sender_acts, receiver_acts, dally_acts}
 use Rattle.tftp_player.proofs.WaitingMoves.{reader_acts, writer_acts}
+use Rattle.tftp_player.proofs.Standing.{open_view, placed}
 
-module _ (views : List EndView) (messages : List Message) (k : ℕ) (x0 : OpenedEnd)
+module _ (views : List EndView) (messages : List Message) (k : ℕ) (x0 : OpenEnd)
     (refuses_commit : Holding → StoreFault → Type 0) (from : Endpoint) (bytes : List ℕ) (decoded : Option WirePacket)
     (spelled : (p : WirePacket) → decoded ≡ Some p → Spells p bytes) (come : OfDecoded messages from x0 decoded)
     (old : IsThere messages x0.address x0.state.progress.last_sent_to x0.state.progress.last_sent) where
   abbrev There : Phase → Type 0
-  There phase = Stands views messages k (view_of_end (placed phase x0))
+  There phase = Stands views messages k (open_view (placed phase x0))
 
   abbrev Goes_on : Phase → Action → Type 0
   Goes_on phase action = Acting views messages k (placed phase x0) refuses_commit from bytes action
@@ -85,16 +86,16 @@ module _ (views : List EndView) (messages : List Message) (k : ℕ) (x0 : Opened
       (λ b. by_packet phase s kept o f))
 
 -- an open end at a timeout
-module _ (views : List EndView) (messages : List Message) (k : ℕ) (x0 : OpenedEnd)
+module _ (views : List EndView) (messages : List Message) (k : ℕ) (x0 : OpenEnd)
     (old : IsThere messages x0.address x0.state.progress.last_sent_to x0.state.progress.last_sent) where
-  abbrev Turns_at : OpenedEnd → Response → Type 0
+  abbrev Turns_at : OpenEnd → Response → Type 0
   Turns_at x response = Goes views messages k x (response_turn response x.state.progress.last_sent_to x.state) (in_state (with_progress (after response x.state.progress.last_sent_to x.state) x.state) x)
 
-  if_turns : (x : OpenedEnd) (b : Bool) (r s : Response) → Turns_at x r → Turns_at x s → Turns_at x (if b then r else s)
+  if_turns : (x : OpenEnd) (b : Bool) (r s : Response) → Turns_at x r → Turns_at x s → Turns_at x (if b then r else s)
   if_turns x true r s f g = f
   if_turns x false r s f g = g
 
-  waits_or_gives_up : (phase : Phase) → Stands views messages k (view_of_end (placed phase x0)) → EndKept (placed phase x0) → is_some (outcome_of phase) ≡ false → goes_on phase ≡ true →
+  waits_or_gives_up : (phase : Phase) → Stands views messages k (open_view (placed phase x0)) → EndKept (placed phase x0) → is_some (outcome_of phase) ≡ false → goes_on phase ≡ true →
       Turns_at (placed phase x0) (if x0.state.progress.retries_left == 0 then Close outcomes.TimedOut else Retransmit)
   waits_or_gives_up phase s kept o going =
       let x = placed phase x0 in
@@ -103,11 +104,11 @@ module _ (views : List EndView) (messages : List Message) (k : ℕ) (x0 : Opened
       (retries views messages k x s kept x0.state.progress.last_sent_to o old)
 
   -- a dally goes on, or ends
-  dally_turns : (terms : Terms) (n : ℕ) (dally : Dally) → Stands views messages k (view_of_end (placed (Dallying terms n dally) x0)) → EndKept (placed (Dallying terms n dally) x0) →
+  dally_turns : (terms : Terms) (n : ℕ) (dally : Dally) → Stands views messages k (open_view (placed (Dallying terms n dally) x0)) → EndKept (placed (Dallying terms n dally) x0) →
       Turns_at (placed (Dallying terms n dally) x0) (timeout_response x0.state.progress.retries_left (Dallying terms n dally))
   dally_turns terms n Fresh s kept = record {
     said_now = [];
-    shown = goes views messages k (view_of_end (placed (Dallying terms n Fresh) x0)) s [] refl tt;
+    shown = goes views messages k (open_view (placed (Dallying terms n Fresh) x0)) s [] refl tt;
     replies = refl;
     kept = record { phase = kept.phase; held = kept.held; committed = kept.committed };
     side = refl;
@@ -116,7 +117,7 @@ module _ (views : List EndView) (messages : List Message) (k : ℕ) (x0 : Opened
   }
   dally_turns terms n Waited s kept = record {
     said_now = [];
-    shown = goes views messages k (view_of_end (placed (Dallying terms n Waited) x0)) s [] refl tt;
+    shown = goes views messages k (open_view (placed (Dallying terms n Waited) x0)) s [] refl tt;
     replies = refl;
     kept = record { phase = tt; held = kept.held; committed = kept.committed };
     side = refl;
@@ -124,7 +125,7 @@ module _ (views : List EndView) (messages : List Message) (k : ℕ) (x0 : Opened
     stored = λ _. refl;
   }
 
-  pub by_timeout : (phase : Phase) → Stands views messages k (view_of_end (placed phase x0)) → EndKept (placed phase x0) → is_some (outcome_of phase) ≡ false →
+  pub by_timeout : (phase : Phase) → Stands views messages k (open_view (placed phase x0)) → EndKept (placed phase x0) → is_some (outcome_of phase) ≡ false →
       Turns_at (placed phase x0) (timeout_response x0.state.progress.retries_left phase)
   by_timeout (Waiting asked limit) s kept o = waits_or_gives_up (Waiting asked limit) s kept o refl
   by_timeout (Sending terms n) s kept o = waits_or_gives_up (Sending terms n) s kept o refl

@@ -17,7 +17,7 @@ pub mod HostBytes
 pub mod StandardFacts
 pub mod SaidLemmas
 pub mod EndMoves
-pub mod Resting
+pub mod Standing
 pub mod Measured
 pub mod HeldLemmas
 pub mod OwnedLemmas

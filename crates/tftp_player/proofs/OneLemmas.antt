@@ -1,5 +1,5 @@
 -- What an event adds to all that was sent.
-use Rattle.std.proofs.Common.{◌≡◌, ℕ, ◌≤◌, Bool, true, false, List, [], ◌∷◌, length, Option, Some, None, sym, ap, ◌∙◌, arith}
+use Rattle.std.proofs.Common.{◌≡◌, ℕ, ◌≤◌, List, [], ◌∷◌, length, Option, Some, None, sym, ap, ◌∙◌, arith}
 use Rattle.std.proofs.lemmas.List.{append-nil}
 use Rattle.tftp_ends.specs.Step.{Turn, Reply}
 use Rattle.tftp_file.specs.declared.files.Files.{Files}
@@ -7,9 +7,8 @@ use Rattle.tftp_file.specs.Sink.{Holding}
 use Rattle.tftp_server.specs.Port.{Service, Silent, Refused, Sends, Takes}
 use Rattle.tftp_player.specs.Machine.{Endpoint}
 use Rattle.tftp_player.specs.OneAtMost.{AddsOneAtMost, EventsAddOneAtMost}
-use Rattle.tftp_player.specs.World.{WorldState, OpenedEnd, replied}
-use Rattle.tftp_player.specs.WorldSteps.{Serves, Arrives, At_request_port, At_open_end, At_closed_end, At_nobody, Opens, Stays, Turns, TimesOut, WorldStep}
-use Rattle.tftp_player.specs.declared.event.Event.{Event}
+use Rattle.tftp_player.specs.World.{WorldState, OpenEnd, WorldEnd, Open_end, Closed_end, replied}
+use Rattle.tftp_player.specs.WorldSteps.{Serves, Arrives, At_request_port, At_open_end, At_closed_end, At_nobody, Opens, Stays, Turns, TimesOut}
 use Rattle.tftp_player.specs.declared.event.Event.TheVariants.{Get, Put, Deliver, Timeout, RefuseStore, Stray}
 use Rattle.tftp_player.specs.declared.report.Report.{Report}
 
@@ -21,7 +20,7 @@ stays : (old new : WorldState) (report : Report) → Stays old report new → Ad
 stays old new report s = none old new (ap (λ (w : WorldState). w.sent) s.is)
 
 -- an end opened
-opens : (old new : WorldState) (x : OpenedEnd) (report : Report) → Opens old x report new → AddsOneAtMost old new
+opens : (old new : WorldState) (x : OpenEnd) (report : Report) → Opens old x report new → AddsOneAtMost old new
 opens old new x report o = record {
   said = record { from = x.address; to = x.state.progress.last_sent_to; bytes = x.state.progress.last_sent } ∷ [];
   few = omega arith;
@@ -33,7 +32,7 @@ few_replied : (at : Endpoint) (reply : Option Reply) → length (replied at repl
 few_replied at None = omega arith
 few_replied at (Some reply) = omega arith
 
-turns : (old new : WorldState) (k : ℕ) (x : OpenedEnd) (turn : Turn) (held : Files (List ℕ) Holding) (report : Report) → Turns old k x turn held report new → AddsOneAtMost old new
+turns : (old new : WorldState) (k : ℕ) (x : OpenEnd) (turn : Turn) (held : Files (List ℕ) Holding) (report : Report) → Turns old k x turn held report new → AddsOneAtMost old new
 turns old new k x turn held report t = record {
   said = replied x.address turn.reply;
   few = few_replied x.address turn.reply;
@@ -48,18 +47,18 @@ serves (Takes path mode agreed) old new from bytes report s = opens old new _ re
 
 arrives : (old new : WorldState) (from to : Endpoint) (bytes : List ℕ) (report : Report) → Arrives old from to bytes report new → AddsOneAtMost old new
 arrives old new from to bytes report (At_request_port here port decoded says repeated same served) = serves _ old new from bytes report served
-arrives old new from to bytes report (At_open_end k x there at open_now takes) = turns old new k x takes.turn takes.held report takes.turns
-arrives old new from to bytes report (At_closed_end k x there at closed_now s) = stays old new report s
+arrives old new from to bytes report (At_open_end k x there at takes) = turns old new k x takes.turn takes.held report takes.turns
+arrives old new from to bytes report (At_closed_end k x there at s) = stays old new report s
 arrives old new from to bytes report (At_nobody away nobody s) = stays old new report s
 
-times_out : (b : Bool) (old new : WorldState) (k : ℕ) (x : OpenedEnd) (report : Report) → TimesOut b old k x report new → AddsOneAtMost old new
-times_out true old new k x report s = stays old new report s
-times_out false old new k x report t = turns old new k x _ _ report t
+times_out : (old new : WorldState) (k : ℕ) (x : WorldEnd) (report : Report) → TimesOut old k x report new → AddsOneAtMost old new
+times_out old new k (Closed_end x) report s = stays old new report s
+times_out old new k (Open_end x) report t = turns old new k x _ _ report t
 
 pub events_add_one_at_most : EventsAddOneAtMost
 events_add_one_at_most old new (Get name mode asked) report s = opens old new _ report s.2
 events_add_one_at_most old new (Put name mode asked bytes) report s = opens old new _ report s.2
 events_add_one_at_most old new (Deliver i) report s = arrives old new _ _ _ report s.2
-events_add_one_at_most old new (Timeout port) report s = times_out _ old new _ _ report s.3
+events_add_one_at_most old new (Timeout port) report s = times_out old new _ s.1 report s.3
 events_add_one_at_most old new (RefuseStore port) report s = none old new (ap (λ (w : WorldState). w.sent) s.4)
 events_add_one_at_most old new (Stray from to bytes) report s = arrives old new _ _ _ report s.1

@@ -20,7 +20,7 @@ use Rattle.tftp_player.specs.Played.{client_end, end_at, ends_from, records_from
 use Rattle.tftp_player.specs.Requests.{open_transfers}
 use Rattle.tftp_player.specs.Serving.{PlayedServer}
 use Rattle.tftp_player.specs.Stage.{ends_of, IsStaged, Enters, world_of}
-use Rattle.tftp_player.specs.World.{WorldState, OpenedEnd, at_rest, next_port, sent_report, opened_in}
+use Rattle.tftp_player.specs.World.{WorldState, OpenEnd, next_port, sent_report, opened_in, WorldEnd, Open_end, end_record, standing}
 use Rattle.tftp_player.specs.WorldSteps.{WorldStep, HasPort}
 use Rattle.tftp_player.specs.Openings.{reading_client, writing_client}
 use Rattle.tftp_player.specs.declared.datagram.Datagram.{Datagram}
@@ -33,21 +33,21 @@ use Rattle.tftp_player.specs.declared.report.Report.{Report}
 use Rattle.tftp_player.proofs.ClientLemmas.{getting_client, putting_client, reading_is, writing_is}
 use Rattle.tftp_player.proofs.HeldLemmas.{AreBelow, AreBelow-more}
 use Rattle.tftp_player.proofs.OwnedLemmas.{pushed_owned}
-use Rattle.tftp_player.proofs.PlacedEnds.{told-push, kept-push, is_transfer-rest, transfers-push_other}
+use Rattle.tftp_player.proofs.PlacedEnds.{told-push, kept-push, transfers-push_other}
 use Rattle.tftp_player.proofs.PlayLemmas.{ends_length, to_kept, from_kept}
-use Rattle.tftp_player.proofs.Resting.{at_rest_record}
+use Rattle.tftp_player.proofs.Standing.{standing_record}
 use Rattle.tftp_player.proofs.StageLemmas.{kept_by_port, no_transfer}
 use Rattle.tftp_player.proofs.StepLemmas.{get_step, put_step}
 
 pub ends_push : (server : PlayedServer) (ps : List Player) (p : Player) → ends_of server (ps ++ p ∷ []) ≡ ends_of server ps ++ end_at (1024 + length ps) server.held p ∷ []
 ends_push server ps p = told-push end_at ends_from (λ port h. refl) (λ port h q qs. refl) 1024 server.held ps p
 
-pub records_push : (port : ℕ) (ends : List OpenedEnd) (x : OpenedEnd) → records_from port (ends ++ x ∷ []) ≡ records_from port ends ++ (port + length ends, record_of x.state) ∷ []
-records_push port [] x = let here : port ≡ port + zero = omega arith in ap (λ (n : ℕ). (n, record_of x.state) ∷ []) here
+pub records_push : (port : ℕ) (ends : List WorldEnd) (x : WorldEnd) → records_from port (ends ++ x ∷ []) ≡ records_from port ends ++ (port + length ends, end_record x) ∷ []
+records_push port [] x = let here : port ≡ port + zero = omega arith in ap (λ (n : ℕ). (n, end_record x) ∷ []) here
 records_push port (y ∷ ends) x =
     let there : port + 1 + length ends ≡ port + suc (length ends) = omega arith in
-    ap (λ (rs : List (ℕ × Record)). (port, record_of y.state) ∷ rs) (records_push (port + 1) ends x)
-    ∙ ap (λ (n : ℕ). (port, record_of y.state) ∷ (records_from (port + 1) ends ++ (n, record_of x.state) ∷ [])) there
+    ap (λ (rs : List (ℕ × Record)). (port, end_record y) ∷ rs) (records_push (port + 1) ends x)
+    ∙ ap (λ (n : ℕ). (port, end_record y) ∷ (records_from (port + 1) ends ++ (n, end_record x) ∷ [])) there
 
 length_push : (ps : List Player) (p : Player) → length (ps ++ p ∷ []) ≡ suc (length ps)
 length_push ps p = omega (arith, length-append ps (p ∷ []))
@@ -59,9 +59,9 @@ pub client_staged : (server : PlayedServer) (ps : List Player) (records : List (
 client_staged server ps records c port r staged is told client fits =
     let x = end_at (1024 + length ps) server.held (Client c) in
     let more : 1024 + length ps < 1024 + suc (length ps) = omega arith in
-    let action : (port, r) ≡ (1024 + length (ends_of server ps), record_of x.state) =
+    let action : (port, r) ≡ (1024 + length (ends_of server ps), end_record x) =
     ap (λ (n : ℕ). (n, r)) (is ∙ ap (λ (n : ℕ). 1024 + n) (sym (ends_length server.held ps)))
-    ∙ ap (λ (q : Record). (1024 + length (ends_of server ps), q)) (told ∙ sym (at_rest_record (client_end (1024 + length ps) c))) in
+    ∙ ap (λ (q : Record). (1024 + length (ends_of server ps), q)) (told ∙ sym (standing_record (client_end (1024 + length ps) c))) in
     record {
       kept = from_kept 1024 server.held (ps ++ Client c ∷ []) (kept-push PlayerKept kept_by_port 1024 server.held server.held ps (Client c) (λ other l u. refl) (to_kept 1024 server.held ps staged.kept) (client, fits));
       recorded =
@@ -70,7 +70,7 @@ client_staged server ps records c port r staged is told client fits =
           ∙ (sym (records_push 1024 (ends_of server ps) x) ∙ ap (records_from 1024) (sym (ends_push server ps (Client c)))));
       below = subst (λ (n : ℕ). AreBelow (1024 + n) server.held) (sym (length_push ps (Client c))) (AreBelow-more (1024 + length ps) (1024 + suc (length ps)) server.held more staged.below);
       count = staged.count
-          ∙ (sym (transfers-push_other (ends_of server ps) x (is_transfer-rest (client_end (1024 + length ps) c) ∙ no_transfer (client_end (1024 + length ps) c) client))
+          ∙ (sym (transfers-push_other (ends_of server ps) x (no_transfer (client_end (1024 + length ps) c) client))
           ∙ ap open_transfers (sym (ends_push server ps (Client c))));
       owned = pushed_owned ps (Client c) server.held staged.owned;
       rising = staged.rising;
@@ -98,28 +98,28 @@ entered config sent sent0 sent1 server server1 ps ps1 old c effect port report v
           ap (λ (v : PlayedServer). world_of config sent1 v ps1) a
           ∙ (ap (λ (ds : List Datagram). world_of config ds server ps1) (more ∙ ap (λ (ds : List Datagram). ds ++ said_by effect.from effect.to effect.bytes) same)
           ∙ (ap (λ (qs : List Player). world_of config (sent ++ said_by effect.from effect.to effect.bytes) server qs) b
-          ∙ ap (λ (xs : List OpenedEnd). record (world_of config sent server ps) { sent = sent ++ said_by effect.from effect.to effect.bytes; ends = xs }) ends));
+          ∙ ap (λ (xs : List WorldEnd). record (world_of config sent server ps) { sent = sent ++ said_by effect.from effect.to effect.bytes; ends = xs }) ends));
     }) where
       here : 1024 + length ps ≡ port
       here = ap (λ (n : ℕ). 1024 + n) (sym (ends_length server.held ps)) ∙ (ap next_port view ∙ sym at)
 
-      ends : ends_of server (ps ++ Client c ∷ []) ≡ ends_of server ps ++ at_rest (client_end port c) ∷ []
-      ends = ends_push server ps (Client c) ∙ ap (λ (n : ℕ). ends_of server ps ++ at_rest (client_end n c) ∷ []) here
+      ends : ends_of server (ps ++ Client c ∷ []) ≡ ends_of server ps ++ standing (client_end port c) ∷ []
+      ends = ends_push server ps (Client c) ∙ ap (λ (n : ℕ). ends_of server ps ++ standing (client_end n c) ∷ []) here
 
 -- what a new end sends
-abbrev first_effect : OpenedEnd → Effect
+abbrev first_effect : OpenEnd → Effect
 first_effect x = record { from = x.address; to = Some x.state.progress.last_sent_to; bytes = x.state.progress.last_sent; closed = None }
 
 -- a client that entered is the end that its event opens
-opens_so : (w : WorldState) (event : Event) (c : PlayedClient) (effect : Effect) (port : ℕ) (report : Report) (new : WorldState) (x : OpenedEnd) →
-    at_rest (client_end port c) ≡ x → effect ≡ first_effect x → Enters w port c effect report new → WorldStep w event (sent_report w) (opened_in w x) →
+opens_so : (w : WorldState) (event : Event) (c : PlayedClient) (effect : Effect) (port : ℕ) (report : Report) (new : WorldState) (x : OpenEnd) →
+    standing (client_end port c) ≡ Open_end x → effect ≡ first_effect x → Enters w port c effect report new → WorldStep w event (sent_report w) (opened_in w x) →
     WorldStep w event report new
 opens_so w event c effect port report new x is effects e step =
     subst (λ (r : Report). WorldStep w event r new) (sym (e.tells ∙ ap (report_by w.sent) effects))
     (subst (λ (v : WorldState). WorldStep w event (sent_report w) v)
     (sym (e.is
-    ∙ (ap (λ (f : Effect). record w { sent = w.sent ++ said_by f.from f.to f.bytes; ends = w.ends ++ at_rest (client_end port c) ∷ [] }) effects
-    ∙ ap (λ (y : OpenedEnd). record w { sent = w.sent ++ said_by x.address (Some x.state.progress.last_sent_to) x.state.progress.last_sent; ends = w.ends ++ y ∷ [] }) is)))
+    ∙ (ap (λ (f : Effect). record w { sent = w.sent ++ said_by f.from f.to f.bytes; ends = w.ends ++ standing (client_end port c) ∷ [] }) effects
+    ∙ ap (λ (y : WorldEnd). record w { sent = w.sent ++ said_by x.address (Some x.state.progress.last_sent_to) x.state.progress.last_sent; ends = w.ends ++ y ∷ [] }) is)))
     step)
 
 module _ (config : Config) (sent : List Datagram) (server : PlayedServer) (ps : List Player) (records : List (ℕ × Record)) (old : WorldState)
@@ -135,9 +135,9 @@ module _ (config : Config) (sent : List Datagram) (server : PlayedServer) (ps : 
       let x = reading_client old name mode asked in
       let own : c ≡ asking_client (getting request_port name mode asked old.limits.max_file old.retries) =
       subst (λ (w : WorldState). c ≡ asking_client (getting request_port name mode asked w.limits.max_file w.retries)) view client in
-      let is : at_rest (client_end port c) ≡ x =
-      ap (λ (k : PlayedClient). at_rest (client_end port k)) own
-      ∙ (ap (λ (n : ℕ). getting_client n name mode asked old.limits.max_file old.retries) at ∙ sym (reading_is old name mode asked)) in
+      let is : standing (client_end port c) ≡ Open_end x =
+      ap (λ (k : PlayedClient). standing (client_end port k)) own
+      ∙ ap Open_end (ap (λ (n : ℕ). getting_client n name mode asked old.limits.max_file old.retries) at ∙ sym (reading_is old name mode asked)) in
       opens_so old (Get name mode asked) c effect port report new x is (effects ∙ ap (λ (n : ℕ). asking_effect n name mode asked) at) e
       (get_step old name mode asked has can)
 
@@ -150,9 +150,9 @@ module _ (config : Config) (sent : List Datagram) (server : PlayedServer) (ps : 
       let x = writing_client old name mode asked file in
       let own : c ≡ sending_client (putting request_port name mode asked (length text) old.limits.max_file old.retries) text file =
       subst (λ (w : WorldState). c ≡ sending_client (putting request_port name mode asked (length text) w.limits.max_file w.retries) text file) view client in
-      let is : at_rest (client_end port c) ≡ x =
-      ap (λ (k : PlayedClient). at_rest (client_end port k)) own
-      ∙ (ap (λ (n : ℕ). putting_client n name mode asked file old.limits.max_file old.retries) at ∙ sym (writing_is old name mode asked file)) in
+      let is : standing (client_end port c) ≡ Open_end x =
+      ap (λ (k : PlayedClient). standing (client_end port k)) own
+      ∙ ap Open_end (ap (λ (n : ℕ). putting_client n name mode asked file old.limits.max_file old.retries) at ∙ sym (writing_is old name mode asked file)) in
       opens_so old (Put name mode asked file) c effect port report new x is (effects ∙ ap (λ (n : ℕ). sending_effect n name mode asked) at) e
       (put_step old name mode asked file has can)
 

@@ -1,5 +1,5 @@
 -- A read with a block size that completes in a world, event by event.
-use Rattle.std.proofs.Common.{◌≡◌, ℕ, decimal, true, false, List, [], ◌∷◌, ◌++◌, Some, Ok, refl, sym, subst, arith, rules}
+use Rattle.std.proofs.Common.{◌≡◌, ℕ, decimal, true, false, List, [], ◌∷◌, ◌++◌, Some, Ok, refl, subst, arith, rules}
 use Rattle.std.specs.Prelude.{slice_set}
 use Rattle.tftp_wire.specs.declared.mode.Mode.TheVariants.{Octet}
 use Rattle.tftp_wire.specs.Parts.{packet_in}
@@ -25,7 +25,7 @@ use Rattle.tftp_player.specs.Requests.{service}
 use Rattle.tftp_server.specs.Port.{Sends}
 use Rattle.tftp_negotiate.specs.declared.known.Kind.TheVariants as kinds
 use Rattle.tftp_player.specs.Straight.{IsAccepted, SomeReadIsStraight, TakesAnswer}
-use Rattle.tftp_player.specs.World.{WorldState, OpenedEnd, StoredFile, new_world, end_after, replied, report_of, opened_in, sent_report, at_rest}
+use Rattle.tftp_player.specs.World.{WorldState, OpenEnd, StoredFile, new_world, end_after, replied, report_of, opened_in, sent_report, standing}
 use Rattle.tftp_player.specs.WorldSteps.{Serves, At_request_port, WorldStep}
 use Rattle.tftp_player.specs.declared.datagram.Datagram.{Datagram}
 use Rattle.tftp_player.specs.declared.event.Event.TheVariants.{Get, Deliver}
@@ -52,7 +52,7 @@ agreed = Blksize 8 ∷ []
 abbrev w0 : WorldState
 w0 = new_world files config
 
-abbrev client : OpenedEnd
+abbrev client : OpenEnd
 client = reading_client w0 name Octet blocks_of_8
 
 abbrev w1 : WorldState
@@ -61,7 +61,7 @@ w1 = opened_in w0 client
 abbrev d0 : Datagram
 d0 = record { from = client.address; to = client.state.progress.last_sent_to; bytes = client.state.progress.last_sent }
 
-abbrev server : OpenedEnd
+abbrev server : OpenEnd
 server = sending_end w1 client.address d0.bytes Octet name file agreed
 
 abbrev w2 : WorldState
@@ -76,11 +76,11 @@ turn3 = response_turn (Accept (agreed_terms server.address agreed)) server.addre
 abbrev empty : Holding
 empty = record { bytes = []; committed = false; refuses = false }
 
-abbrev receiving : OpenedEnd
+abbrev receiving : OpenEnd
 receiving = end_after client turn3 (Sink empty)
 
 abbrev w3 : WorldState
-w3 = record w2 { sent = w2.sent ++ replied client.address turn3.reply; ends = slice_set w2.ends 0 (at_rest receiving) }
+w3 = record w2 { sent = w2.sent ++ replied client.address turn3.reply; ends = slice_set w2.ends 0 (standing receiving) }
 
 abbrev d2 : Datagram
 d2 = record { from = client.address; to = server.address; bytes = ack_bytes 0 }
@@ -88,11 +88,11 @@ d2 = record { from = client.address; to = server.address; bytes = ack_bytes 0 }
 abbrev turn4 : Turn
 turn4 = filled_turn (agreed_terms client.address agreed) 1 client.address file server.state (Ok 1)
 
-abbrev sending : OpenedEnd
+abbrev sending : OpenEnd
 sending = end_after server turn4 (Source [])
 
 abbrev w4 : WorldState
-w4 = record w3 { sent = w3.sent ++ replied server.address turn4.reply; ends = slice_set w3.ends 1 (at_rest sending) }
+w4 = record w3 { sent = w3.sent ++ replied server.address turn4.reply; ends = slice_set w3.ends 1 (standing sending) }
 
 abbrev d3 : Datagram
 d3 = record { from = server.address; to = client.address; bytes = sending.state.progress.last_sent }
@@ -107,7 +107,7 @@ abbrev stored : Holding
 stored = record { bytes = file; committed = true; refuses = false }
 
 abbrev w5 : WorldState
-w5 = record w4 { sent = w4.sent ++ replied client.address turn5.reply; ends = slice_set w4.ends 0 (at_rest (end_after receiving turn5 (Sink stored))) }
+w5 = record w4 { sent = w4.sent ++ replied client.address turn5.reply; ends = slice_set w4.ends 0 (standing (end_after receiving turn5 (Sink stored))) }
 
 abbrev d4 : Datagram
 d4 = record { from = client.address; to = server.address; bytes = ack_bytes 1 }
@@ -116,7 +116,7 @@ abbrev turn6 : Turn
 turn6 = response_turn Complete client.address sending.state
 
 abbrev w6 : WorldState
-w6 = record w5 { ends = slice_set w5.ends 1 (at_rest (end_after sending turn6 (Source []))) }
+w6 = record w5 { ends = slice_set w5.ends 1 (standing (end_after sending turn6 (Source []))) }
 
 -- how 8 is written, and read
 eight : decimal 8 ≡ 56 ∷ []
@@ -143,11 +143,11 @@ oack_spelled = fault_where_nothing d1.bytes (bytes_below d1.bytes (rw eight refl
 
 accepts : WorldStep w2 (Deliver 1) (report_of w2 client turn3) w3
 unfolding places_of name_of taken_option
-accepts = takes w2 1 0 d1 client turn3 (Sink empty) files refl refl refl refl
+accepts = takes w2 1 0 d1 client turn3 (Sink empty) files refl refl refl
     (record { decoded = Some (packet_in d1.bytes); says = oack_spelled; acts = rw (eight, read_8) (refl, refl) }) refl
 
 sends : WorldStep w3 (Deliver 2) (report_of w3 server turn4) w4
-sends = takes w3 2 1 d2 server turn4 (Source []) files refl refl refl refl
+sends = takes w3 2 1 d2 server turn4 (Source []) files refl refl refl
     (record {
       decoded = Some (packet_in d2.bytes);
       says = fault_where_nothing d2.bytes (bytes_below d2.bytes refl) refl;
@@ -160,7 +160,7 @@ sends = takes w3 2 1 d2 server turn4 (Source []) files refl refl refl refl
     }) refl
 
 stores : WorldStep w4 (Deliver 3) (report_of w4 receiving turn5) w5
-stores = takes w4 3 0 d3 receiving turn5 (Sink stored) files refl refl refl refl
+stores = takes w4 3 0 d3 receiving turn5 (Sink stored) files refl refl refl
     (record {
       decoded = Some (packet_in d3.bytes);
       says = fault_where_nothing d3.bytes (bytes_below d3.bytes refl) refl;
@@ -177,7 +177,7 @@ stores = takes w4 3 0 d3 receiving turn5 (Sink stored) files refl refl refl refl
     }) refl
 
 completes : WorldStep w5 (Deliver 4) (report_of w5 sending turn6) w6
-completes = takes w5 4 1 d4 sending turn6 (Source []) files refl refl refl refl
+completes = takes w5 4 1 d4 sending turn6 (Source []) files refl refl refl
     (record { decoded = Some (packet_in d4.bytes); says = fault_where_nothing d4.bytes (bytes_below d4.bytes refl) refl; acts = (refl, refl) }) refl
 
 pub options_transfer : Transfers (Get name Octet blocks_of_8) file
@@ -188,8 +188,8 @@ options_transfer = (
   w6,
   (w1, sent_report w0, asks, (w2, sent_report w1, opens, (w3, report_of w2 client turn3, accepts, (w4, report_of w3 server turn4, sends, (w5, report_of w4 receiving turn5, stores, (w6, report_of w5 sending turn6, completes, refl)))))),
   record {
-    sender = at_rest (end_after sending turn6 (Source []));
-    receiver = at_rest (end_after receiving turn5 (Sink stored));
+    sender = standing (end_after sending turn6 (Source []));
+    receiver = standing (end_after receiving turn5 (Sink stored));
     sender_in = (1, refl);
     receiver_in = (0, refl);
     sends = refl;

@@ -33,15 +33,16 @@ use Rattle.tftp_player.specs.Machine.{Endpoint, Data as Says_data, Ack as Says_a
 use Rattle.tftp_player.specs.Rules.{message}
 use Rattle.tftp_player.specs.Said.{said}
 use Rattle.tftp_player.specs.Shows.{EndView, IsShown}
-use Rattle.tftp_player.specs.World.{OpenedEnd, files_of, end_after, text_of as text_of_end, view_of_end}
+use Rattle.tftp_player.specs.World.{OpenEnd, files_of, end_after, text_of as text_of_end}
 use Rattle.tftp_player.specs.WorldSteps.{world_sink}
 use Rattle.tftp_player.specs.WorldKept.{EndKept, sent_text}
 use Rattle.tftp_player.proofs.Endpoints.{endpoint_from}
 use Rattle.tftp_player.proofs.Actions.{Stands, stores, refuses_next}
 use Rattle.tftp_player.proofs.SaidLemmas.{data_of}
-use Rattle.tftp_player.proofs.EndMoves.{Goes, IsThere, placed, from_response, ignores, tells_stranger, answers_again, gives_up, refuses_now}
+use Rattle.tftp_player.proofs.EndMoves.{Goes, IsThere, from_response, ignores, tells_stranger, answers_again, gives_up, refuses_now}
 use Rattle.tftp_player.proofs.SourceMoves.{data_goes, sends_next, ends_whole}
 use Rattle.tftp_player.proofs.SinkMoves.{Receives, block_goes}
+use Rattle.tftp_player.proofs.Standing.{open_view, placed}
 
 -- either way of a test
 pub if_acts : {A : Type 0} (P : A → Type 0) (b : Bool) (r s : A) → (b ≡ true → P r) → (b ≡ false → P s) → P (if b then r else s)
@@ -65,17 +66,17 @@ same_endpoints a b e =
     endpoint_from a b (same_ips a b h.0) (eqb-true a.port b.port h.1)
 
 -- whatever comes of an action is shown again
-abbrev pub Acting : List EndView → List Message → ℕ → OpenedEnd → (Holding → StoreFault → Type 0) → Endpoint → List ℕ → Action → Type 0
+abbrev pub Acting : List EndView → List Message → ℕ → OpenEnd → (Holding → StoreFault → Type 0) → Endpoint → List ℕ → Action → Type 0
 Acting views messages k x refuses_commit from bytes action =
     (turn : Turn) (held : Files (List ℕ) Holding) →
     Acts memory_source (world_sink refuses_commit) action from bytes x.state (files_of x) turn held →
     Goes views messages k x turn (end_after x turn held)
 
 -- the packet that was heard was sent
-abbrev pub OfDecoded : List Message → Endpoint → OpenedEnd → Option WirePacket → Type 0
+abbrev pub OfDecoded : List Message → Endpoint → OpenEnd → Option WirePacket → Type 0
 OfDecoded messages from x decoded = (p : WirePacket) → decoded ≡ Some p → Contains messages (message from x.address (said p))
 
-module _ (views : List EndView) (messages : List Message) (k : ℕ) (x : OpenedEnd) (s : Stands views messages k (view_of_end x)) (kept : EndKept x)
+module _ (views : List EndView) (messages : List Message) (k : ℕ) (x : OpenEnd) (s : Stands views messages k (open_view x)) (kept : EndKept x)
     (refuses_commit : Holding → StoreFault → Type 0) (from : Endpoint) (bytes : List ℕ) (open_now : is_some (outcome_of x.state.progress.phase) ≡ false) where
   pub ignore_acts : Acting views messages k x refuses_commit from bytes (Respond Ignore)
   ignore_acts turn held h = from_response views messages k x Ignore from turn held (ignores views messages k x s kept from open_now) h
@@ -86,10 +87,10 @@ module _ (views : List EndView) (messages : List Message) (k : ℕ) (x : OpenedE
   pub again_acts : from ≡ x.state.progress.last_sent_to → IsThere messages x.address x.state.progress.last_sent_to x.state.progress.last_sent → Acting views messages k x refuses_commit from bytes (Respond ResendReply)
   again_acts same old turn held h = from_response views messages k x ResendReply from turn held (answers_again views messages k x s kept from open_now same old) h
 
-module _ (views : List EndView) (messages : List Message) (k : ℕ) (x0 : OpenedEnd) (terms : Terms) (n : ℕ)
-    (s : Stands views messages k (view_of_end (placed (Sending terms n) x0))) (kept : EndKept (placed (Sending terms n) x0))
+module _ (views : List EndView) (messages : List Message) (k : ℕ) (x0 : OpenEnd) (terms : Terms) (n : ℕ)
+    (s : Stands views messages k (open_view (placed (Sending terms n) x0))) (kept : EndKept (placed (Sending terms n) x0))
     (refuses_commit : Holding → StoreFault → Type 0) (from : Endpoint) (bytes : List ℕ) where
-  abbrev sender : OpenedEnd
+  abbrev sender : OpenEnd
   sender = placed (Sending terms n) x0
 
   illegal_sender : Acting views messages k sender refuses_commit from bytes (illegal_action terms)
@@ -133,11 +134,11 @@ module _ (views : List EndView) (messages : List Message) (k : ℕ) (x0 : Opened
       if_acts (Acting views messages k sender refuses_commit from bytes) (client && terms.by_oack) (Respond Ignore) (illegal_action terms)
       (λ e. ignore_acts views messages k sender s kept refuses_commit from bytes refl) (λ e. illegal_sender)
 
-module _ (views : List EndView) (messages : List Message) (k : ℕ) (x0 : OpenedEnd) (terms : Terms) (n : ℕ)
-    (s : Stands views messages k (view_of_end (placed (Receiving terms n) x0))) (kept : EndKept (placed (Receiving terms n) x0))
+module _ (views : List EndView) (messages : List Message) (k : ℕ) (x0 : OpenEnd) (terms : Terms) (n : ℕ)
+    (s : Stands views messages k (open_view (placed (Receiving terms n) x0))) (kept : EndKept (placed (Receiving terms n) x0))
     (refuses_commit : Holding → StoreFault → Type 0) (from : Endpoint) (bytes : List ℕ)
     (peer : terms.peer ≡ from) (old : IsThere messages x0.address x0.state.progress.last_sent_to x0.state.progress.last_sent) where
-  abbrev receiver : OpenedEnd
+  abbrev receiver : OpenEnd
   receiver = placed (Receiving terms n) x0
 
   refuse_receiver : (reply : ErrorReply) (outcome : Outcome) → Acting views messages k receiver refuses_commit from bytes (Respond (Refuse (Some terms) reply outcome))
@@ -169,9 +170,9 @@ module _ (views : List EndView) (messages : List Message) (k : ℕ) (x0 : Opened
         incomplete = refl;
         peer = sym peer;
         fits = spelled.valid.1;
-        stored = subst (λ (m : ℕ). IsShown (set views k (record (view_of_end receiver) { number = m; done = last; text = text_of_end receiver ++ piece })) (messages ++ message x0.address from (Says_ack m) ∷ [])) (sym is)
-            (stores views messages k (view_of_end receiver) s from piece (refl, refl) kept.phase.0 (ap Some peer) here l);
-        refused = λ t b. refuses_next views messages k (view_of_end receiver) s from piece t (refl, refl) kept.phase.0 (ap Some peer) here l b;
+        stored = subst (λ (m : ℕ). IsShown (set views k (record (open_view receiver) { number = m; done = last; text = text_of_end receiver ++ piece })) (messages ++ message x0.address from (Says_ack m) ∷ [])) (sym is)
+            (stores views messages k (open_view receiver) s from piece (refl, refl) kept.phase.0 (ap Some peer) here l);
+        refused = λ t b. refuses_next views messages k (open_view receiver) s from piece t (refl, refl) kept.phase.0 (ap Some peer) here l b;
       } in
       if_acts P (number == 65535 && (length piece == terms.size)) (Respond (Refuse (Some terms) replies.FileTooLarge outcomes.TooLarge)) store
       (λ f. refuse_receiver replies.FileTooLarge outcomes.TooLarge)
@@ -209,11 +210,11 @@ module _ (views : List EndView) (messages : List Message) (k : ℕ) (x0 : Opened
       (λ e. if_acts P (n == 0) (Respond ResendReply) (Respond Ignore) (λ f. again_receiver) (λ f. ignore_receiver))
       (λ e. refuse_receiver replies.IllegalOperation outcomes.Illegal)
 
-module _ (views : List EndView) (messages : List Message) (k : ℕ) (x0 : OpenedEnd) (terms : Terms) (n : ℕ) (dally : Dally)
-    (s : Stands views messages k (view_of_end (placed (Dallying terms n dally) x0))) (kept : EndKept (placed (Dallying terms n dally) x0))
+module _ (views : List EndView) (messages : List Message) (k : ℕ) (x0 : OpenEnd) (terms : Terms) (n : ℕ) (dally : Dally)
+    (s : Stands views messages k (open_view (placed (Dallying terms n dally) x0))) (kept : EndKept (placed (Dallying terms n dally) x0))
     (refuses_commit : Holding → StoreFault → Type 0) (from : Endpoint) (bytes : List ℕ)
     (peer : terms.peer ≡ from) (old : IsThere messages x0.address x0.state.progress.last_sent_to x0.state.progress.last_sent) where
-  abbrev dallier : OpenedEnd
+  abbrev dallier : OpenEnd
   dallier = placed (Dallying terms n dally) x0
 
   ignore_dallier : Acting views messages k dallier refuses_commit from bytes (Respond Ignore)

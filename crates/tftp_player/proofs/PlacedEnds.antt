@@ -1,15 +1,11 @@
 -- Ends that are told of one after another, each by its port and by what is held at that port, and how many of them are open.
 use Rattle.std.proofs.Common.{◌≡◌, ◌≢◌, ℕ, suc, zero, ◌+◌, ◌<◌, ◌≤◌, Bool, true, false, List, [], ◌∷◌, ◌++◌, length, set, cond, count_by, Some, None, refl, sym, ap, ◌∙◌, subst, arith}
-use Rattle.std.specs.Prelude.{◌&&◌, not, slice_get, slice_set}
+use Rattle.std.specs.Prelude.{slice_get, slice_set}
 use Rattle.std.proofs.lemmas.List.Sums.{sum_by-cons, sum_by_push}
 use Rattle.std.proofs.lemmas.Option.{same_Some}
-use Rattle.tftp_ends.specs.End.{is_client}
 use Rattle.tftp_server.specs.State.{at}
-use Rattle.tftp_ends.specs.declared.phase.Phase.{Phase}
-use Rattle.tftp_ends.specs.declared.phase.Phase.TheVariants.{Waiting, Sending, Receiving, Dallying, Closed}
-use Rattle.tftp_player.specs.World.{OpenedEnd, is_closed, at_rest}
-use Rattle.tftp_player.specs.Requests.{open_transfers}
-use Rattle.tftp_player.proofs.EndMoves.{placed}
+use Rattle.tftp_player.specs.World.{WorldEnd}
+use Rattle.tftp_player.specs.Requests.{is_transfer, open_transfers}
 
 -- `told_from port held ps` is to be the list of what is told of each, in order, from this port on
 module _ {P T X : Type 0} (told_at : ℕ → List (ℕ × T) → P → X) (told_from : ℕ → List (ℕ × T) → List P → List X)
@@ -119,10 +115,6 @@ module _ {P T : Type 0} (Kept_at : ℕ → List (ℕ × T) → P → Type 0) whe
         )
 
 -- ---- how many ends of the server are open
--- it is the server's and not closed
-abbrev pub is_transfer : OpenedEnd → Bool
-is_transfer x = not (is_client x.state.role.side) && not (is_closed x)
-
 abbrev one_if : Bool → ℕ
 one_if true = 1
 one_if false = 0
@@ -145,32 +137,21 @@ count_set {X = X} test (z ∷ xs) zero x y e =
     omega (arith, count_one test y xs, count_one test z xs, same)
 count_set {X = X} test (z ∷ xs) (suc k) x y e = omega (arith, count_one test z (set xs k y), count_one test z xs, count_set test xs k x y e)
 
-pub transfers-push : (ends : List OpenedEnd) (x : OpenedEnd) → is_transfer x ≡ true → open_transfers (ends ++ x ∷ []) ≡ suc (open_transfers ends)
+pub transfers-push : (ends : List WorldEnd) (x : WorldEnd) → is_transfer x ≡ true → open_transfers (ends ++ x ∷ []) ≡ suc (open_transfers ends)
 transfers-push ends x e =
     let one : one_if (is_transfer x) ≡ 1 = ap one_if e in omega (arith, count_pushed is_transfer ends x, one)
 
-pub transfers-push_other : (ends : List OpenedEnd) (x : OpenedEnd) → is_transfer x ≡ false → open_transfers (ends ++ x ∷ []) ≡ open_transfers ends
+pub transfers-push_other : (ends : List WorldEnd) (x : WorldEnd) → is_transfer x ≡ false → open_transfers (ends ++ x ∷ []) ≡ open_transfers ends
 transfers-push_other ends x e =
     let none : one_if (is_transfer x) ≡ 0 = ap one_if e in omega (arith, count_pushed is_transfer ends x, none)
 
-pub transfers-set : (ends : List OpenedEnd) (k : ℕ) (x y : OpenedEnd) → slice_get ends k ≡ Some x → is_transfer y ≡ is_transfer x → open_transfers (slice_set ends k y) ≡ open_transfers ends
+pub transfers-set : (ends : List WorldEnd) (k : ℕ) (x y : WorldEnd) → slice_get ends k ≡ Some x → is_transfer y ≡ is_transfer x → open_transfers (slice_set ends k y) ≡ open_transfers ends
 transfers-set ends k x y e same =
     let one : one_if (is_transfer y) ≡ one_if (is_transfer x) = ap one_if same in omega (arith, count_set is_transfer ends k x y e, one)
 
-pub transfers-close : (ends : List OpenedEnd) (k : ℕ) (x y : OpenedEnd) → slice_get ends k ≡ Some x → is_transfer x ≡ true → is_transfer y ≡ false →
+pub transfers-close : (ends : List WorldEnd) (k : ℕ) (x y : WorldEnd) → slice_get ends k ≡ Some x → is_transfer x ≡ true → is_transfer y ≡ false →
     suc (open_transfers (slice_set ends k y)) ≡ open_transfers ends
 transfers-close ends k x y e was is =
     let one : one_if (is_transfer x) ≡ 1 = ap one_if was in
     let none : one_if (is_transfer y) ≡ 0 = ap one_if is in
     omega (arith, count_set is_transfer ends k x y e, one, none)
-
--- ends at rest are as many
-rest_side : (phase : Phase) (x : OpenedEnd) → is_transfer (at_rest (placed phase x)) ≡ is_transfer (placed phase x)
-rest_side (Waiting asked limit) x = refl
-rest_side (Sending terms number) x = refl
-rest_side (Receiving terms number) x = refl
-rest_side (Dallying terms number dally) x = refl
-rest_side (Closed terms number complete outcome) x = refl
-
-pub is_transfer-rest : (x : OpenedEnd) → is_transfer (at_rest x) ≡ is_transfer x
-is_transfer-rest x = rest_side x.state.progress.phase x

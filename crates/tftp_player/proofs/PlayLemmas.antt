@@ -1,32 +1,31 @@
 -- How a turn at one place handles all ends of a world, and of the world.
-use Rattle.std.proofs.Common.{◌≡◌, ℕ, suc, zero, ◌+◌, ◌<◌, ◌≤◌, Bool, true, false, List, [], ◌∷◌, ◌++◌, length, map, Option, Some, None, refl, sym, ap, ◌∙◌, subst, arith, inl, inr}
+use Rattle.std.proofs.Common.{◌≡◌, ℕ, suc, zero, ◌+◌, ◌<◌, ◌≤◌, Bool, true, false, List, [], ◌∷◌, ◌++◌, length, Option, Some, None, refl, sym, ap, ◌∙◌, subst, arith, inl, inr}
 use Rattle.std.specs.Prelude.{◌⊎◌, is_some, slice_get, slice_set, slice_index_or, option_map}
 use Rattle.std.proofs.lemmas.Bool.{true≢false}
 use Rattle.std.specs.List.{AllByRecursion}
 use Rattle.std.proofs.Math.ListN.{length-set}
 use Rattle.std.proofs.lemmas.List.{append-nil, set-get_or}
-use Rattle.tftp_player.specs.Requests.{open_transfers}
+use Rattle.tftp_player.specs.Requests.{is_transfer, open_transfers}
 use Rattle.std.proofs.lemmas.Option.{slice_get_read}
 use Rattle.tftp_file.specs.declared.files.Files.{Files}
 use Rattle.tftp_file.specs.declared.files.Files.TheVariants.{Source, Sink}
 use Rattle.tftp_file.specs.Sink.{Holding}
 use Rattle.tftp_ends.specs.declared.record.Record.{Record}
-use Rattle.tftp_ends.specs.declared.phase.Terms.{Terms}
 use Rattle.tftp_ends.specs.declared.phase.Phase.{Phase}
 use Rattle.tftp_ends.specs.declared.phase.Phase.TheVariants.{Waiting, Sending, Receiving, Dallying, Closed}
 use Rattle.tftp_ends.specs.declared.phase.Dally.TheVariants.{Fresh, Waited}
 use Rattle.tftp_ends.specs.Files.{AreFilesOf}
-use Rattle.tftp_ends.specs.End.{EndState, is_complete, outcome_of, record_of}
+use Rattle.tftp_ends.specs.End.{EndState, is_complete, outcome_of}
 use Rattle.tftp_ends.specs.Step.{Turn, Reply, reply_bytes, timeout_turn, after_turn, with_progress}
 use Rattle.tftp_server.specs.State.{at}
 use Rattle.tftp_server.specs.declared.config.Config.{Config}
 use Rattle.tftp_player.specs.Machine.{Endpoint}
 use Rattle.tftp_player.specs.Clients.{server_at}
 use Rattle.tftp_player.specs.Effect.{effect_of, no_effect, said_by, place_behind, report_by}
-use Rattle.tftp_player.specs.Played.{served_as, served_end, ended_as, end_at, ends_from, records_from, PlayerKept, IsServed, AllKept, PlayerTimeoutStep, has_ended, address_of, client_end}
+use Rattle.tftp_player.specs.Played.{served_end, end_at, ends_from, records_from, PlayerKept, IsServed, AllKept, PlayerTimeoutStep, has_ended, address_of, client_end}
 use Rattle.tftp_player.specs.Serving.{PlayedServer, Transfer, CommitsLast}
 use Rattle.tftp_player.specs.Stage.{ends_of, IsStaged, SameStore, EndTimesOut, StageTimeoutStep, record_closed, world_of}
-use Rattle.tftp_player.specs.World.{WorldState, OpenedEnd, is_closed, files_of, end_after, at_rest, rest_terms, recorded_terms, closed_state, replied, added_at, closed_at, report_of, no_report}
+use Rattle.tftp_player.specs.World.{WorldState, OpenEnd, WorldEnd, Open_end, Closed_end, end_record, end_address, is_closed, files_of, end_after, standing, replied, added_at, closed_at, world_after, report_of, no_report}
 use Rattle.tftp_player.specs.WorldSteps.{WorldStep, IsAtPort, NoneAt, EventRefuses, WorldRefuses}
 use Rattle.tftp_player.specs.declared.fault.WorldFault.{WorldFault}
 use Rattle.tftp_player.specs.declared.fault.WorldFault.TheVariants.{NoSuchDatagram, NoSuchEnd, NoPort, BadRequest, Memory}
@@ -39,10 +38,10 @@ use Rattle.tftp_player.specs.declared.served.Served.{Served}
 use Rattle.tftp_server.specs.Steps.{with_end}
 use Rattle.tftp_server.specs.Store.{Stored, Drafted}
 use Rattle.tftp_player.specs.declared.report.Report.{Report}
-use Rattle.tftp_player.proofs.PlacedEnds.{told-length, told-get, told-set, Kept_from, kept-get, kept-set, is_transfer, transfers-set, transfers-close}
-use Rattle.tftp_player.proofs.Resting.{at_rest_closed}
-use Rattle.tftp_player.proofs.StageLemmas.{by_port, kept_by_port, Stepped, same_kind, client_steps, client_at_rest, held_end, held_files, served_steps, served_is, served_kept, served_files, same_transfer, same_draft_kind, same_told}
-use Rattle.tftp_player.proofs.StepLemmas.{turned, timeout_step, timeout_rests}
+use Rattle.tftp_player.proofs.PlacedEnds.{told-length, told-get, told-set, Kept_from, kept-get, kept-set, transfers-set, transfers-close}
+use Rattle.tftp_player.proofs.Standing.{standing_record, standing_address, standing_closed}
+use Rattle.tftp_player.proofs.StageLemmas.{by_port, kept_by_port, Stepped, same_kind, client_files, client_steps, held_end, served_steps, served_kept, served_files, same_transfer, same_draft_kind, same_told}
+use Rattle.tftp_player.proofs.StepLemmas.{timeout_step, timeout_stays}
 
 -- the ends, one after another
 pub ends_length : (held : List (ℕ × Transfer)) (ps : List Player) → length (ends_from 1024 held ps) ≡ length ps
@@ -63,34 +62,34 @@ pub kept_at : (held : List (ℕ × Transfer)) (ps : List Player) (k : ℕ) (p : 
 kept_at held ps k p all e = kept-get PlayerKept 1024 held ps k p (to_kept 1024 held ps all) e
 
 -- what is recorded at a place
-pub records_get : (port : ℕ) (ends : List OpenedEnd) (k : ℕ) (x : OpenedEnd) → slice_get ends k ≡ Some x → slice_get (records_from port ends) k ≡ Some (port + k, record_of x.state)
+pub records_get : (port : ℕ) (ends : List WorldEnd) (k : ℕ) (x : WorldEnd) → slice_get ends k ≡ Some x → slice_get (records_from port ends) k ≡ Some (port + k, end_record x)
 records_get port [] k x e = absurd (let f : None ≡ Some x = e in cc)
 records_get port (y ∷ ends) zero x e =
     let same : y ≡ x = cc in
     let here : port ≡ port + zero = omega arith in
-    ap (λ (z : OpenedEnd). Some (port, record_of z.state)) same ∙ ap (λ (n : ℕ). Some (n, record_of x.state)) here
+    ap (λ (z : WorldEnd). Some (port, end_record z)) same ∙ ap (λ (n : ℕ). Some (n, end_record x)) here
 records_get port (y ∷ ends) (suc k) x e =
     let there : port + 1 + k ≡ port + suc k = omega arith in
-    records_get (port + 1) ends k x e ∙ ap (λ (n : ℕ). Some (n, record_of x.state)) there
+    records_get (port + 1) ends k x e ∙ ap (λ (n : ℕ). Some (n, end_record x)) there
 
-pub records_set : (port : ℕ) (ends : List OpenedEnd) (k : ℕ) (y : OpenedEnd) → records_from port (slice_set ends k y) ≡ slice_set (records_from port ends) k (port + k, record_of y.state)
+pub records_set : (port : ℕ) (ends : List WorldEnd) (k : ℕ) (y : WorldEnd) → records_from port (slice_set ends k y) ≡ slice_set (records_from port ends) k (port + k, end_record y)
 records_set port [] k y = refl
 records_set port (x ∷ ends) zero y =
     let here : port ≡ port + zero = omega arith in
-    ap (λ (n : ℕ). (n, record_of y.state) ∷ records_from (port + 1) ends) here
+    ap (λ (n : ℕ). (n, end_record y) ∷ records_from (port + 1) ends) here
 records_set port (x ∷ ends) (suc k) y =
     let there : port + 1 + k ≡ port + suc k = omega arith in
-    ap (λ (rs : List (ℕ × Record)). (port, record_of x.state) ∷ rs) (records_set (port + 1) ends k y)
-    ∙ ap (λ (n : ℕ). (port, record_of x.state) ∷ slice_set (records_from (port + 1) ends) k (n, record_of y.state)) there
+    ap (λ (rs : List (ℕ × Record)). (port, end_record x) ∷ rs) (records_set (port + 1) ends k y)
+    ∙ ap (λ (n : ℕ). (port, end_record x) ∷ slice_set (records_from (port + 1) ends) k (n, end_record y)) there
 
 -- ---- a turn at one place
-module _ (place : ℕ) (before after : PlayedServer) (ps : List Player) (p p' : Player) (turn : Turn) (held : Files (List ℕ) Holding) (effect : Effect) (r : Record)
-    (t : Stepped (1024 + place) p (end_at (1024 + place) before.held p) p' before after turn held effect r) where
+module _ (place : ℕ) (before after : PlayedServer) (ps : List Player) (p : Player) (x : OpenEnd) (p' : Player) (turn : Turn) (held : Files (List ℕ) Holding) (effect : Effect) (r : Record)
+    (t : Stepped (1024 + place) p x p' before after turn held effect r) where
   set_ends : ends_of after (slice_set ps place p') ≡ slice_set (ends_of before ps) place (end_at (1024 + place) after.held p')
   set_ends = told-set end_at ends_from (λ port h. refl) (λ port h q qs. refl) by_port 1024 before.held after.held ps place p' t.others
 
-  pub turn_ends : ends_of after (slice_set ps place p') ≡ slice_set (ends_of before ps) place (at_rest (end_after (end_at (1024 + place) before.held p) turn held))
-  turn_ends = set_ends ∙ ap (λ (y : OpenedEnd). slice_set (ends_of before ps) place y) t.end
+  pub turn_ends : ends_of after (slice_set ps place p') ≡ slice_set (ends_of before ps) place (standing (end_after x turn held))
+  turn_ends = set_ends ∙ ap (λ (y : WorldEnd). slice_set (ends_of before ps) place y) t.end
 
   pub turn_staged : (records : List (ℕ × Record)) → slice_get ps place ≡ Some p → IsStaged before ps records → IsStaged after (slice_set ps place p') (slice_set records place (1024 + place, r))
   turn_staged records there staged = record {
@@ -105,23 +104,18 @@ module _ (place : ℕ) (before after : PlayedServer) (ps : List Player) (p p' : 
     rising = t.rising staged.rising;
     quiet = t.quiet staged.quiet;
   } where
-    counted_still : ((is_transfer (end_at (1024 + place) after.held p') ≡ is_transfer (end_at (1024 + place) before.held p)) × (length after.held ≡ length before.held))
-        ⊎ ((is_transfer (end_at (1024 + place) before.held p) ≡ true) × (is_transfer (end_at (1024 + place) after.held p') ≡ false) × (suc (length after.held) ≡ length before.held)) →
+    counted_still : ((is_transfer (end_at (1024 + place) after.held p') ≡ is_transfer (Open_end x)) × (length after.held ≡ length before.held))
+        ⊎ ((is_transfer (Open_end x) ≡ true) × (is_transfer (end_at (1024 + place) after.held p') ≡ false) × (suc (length after.held) ≡ length before.held)) →
         length after.held ≡ open_transfers (slice_set (ends_of before ps) place (end_at (1024 + place) after.held p'))
     counted_still (inl same) =
-        same.1 ∙ (staged.count ∙ sym (transfers-set (ends_of before ps) place (end_at (1024 + place) before.held p) (end_at (1024 + place) after.held p') (ends_get before.held ps place p there) same.0))
+        same.1 ∙ (staged.count ∙ sym (transfers-set (ends_of before ps) place (end_at (1024 + place) before.held p) (end_at (1024 + place) after.held p') (ends_get before.held ps place p there) (same.0 ∙ ap is_transfer (sym t.was))))
     counted_still (inr closed) =
-        let n = transfers-close (ends_of before ps) place (end_at (1024 + place) before.held p) (end_at (1024 + place) after.held p') (ends_get before.held ps place p there) closed.0 closed.1 in
+        let n = transfers-close (ends_of before ps) place (end_at (1024 + place) before.held p) (end_at (1024 + place) after.held p') (ends_get before.held ps place p there) (ap is_transfer t.was ∙ closed.0) closed.1 in
         let m = staged.count in
         let k = closed.2 in
         omega (arith, n, m, k)
 
 -- ---- a timeout
-restated : (port : ℕ) (p : Player) (x : OpenedEnd) (p' : Player) (before after : PlayedServer) (turn turn' : Turn) (held held' : Files (List ℕ) Holding) (effect : Effect) (r : Record) → turn ≡ turn' → held ≡ held' →
-    Stepped port p x p' before after turn held effect r → Stepped port p x p' before after turn' held' effect r
-restated port p x p' before after turn turn' held held' effect r e f s =
-    subst (λ (h : Files (List ℕ) Holding). Stepped port p x p' before after turn' h effect r) f (subst (λ (u : Turn). Stepped port p x p' before after u held effect r) e s)
-
 -- an end that is not complete after a timeout was not before
 not_yet : (phase : Phase) (e : EndState) → is_complete (timeout_turn (with_progress (record e.progress { phase = phase }) e)).progress.phase ≡ false → is_some (outcome_of phase) ≡ false → is_complete phase ≡ false
 not_yet (Waiting asked limit) e k open_now = refl
@@ -135,28 +129,33 @@ timeout_commits : (files : Files (List ℕ) Drafted) (e : EndState) → is_some 
 timeout_commits (Source left) e open_now k = tt
 timeout_commits (Sink draft) e open_now k = λ f. k (not_yet e.progress.phase e f open_now)
 
+-- the open end at this port took a timeout
+pub record TimedOut (port : ℕ) (p p' : Player) (before after : PlayedServer) (effect : Effect) (r : Record) : Type 0 where
+  pub end : OpenEnd
+  pub stepped : Stepped port p end p' before after (timeout_turn end.state) (files_of end) effect r
+
 pub player_times_out : (port : ℕ) (p p' : Player) (before after : PlayedServer) (effect : Effect) (r : Record) →
-    PlayerKept port before.held p → has_ended p ≡ false → PlayerTimeoutStep port p p' before after effect r →
-    Stepped port p (end_at port before.held p) p' before after (timeout_turn (end_at port before.held p).state) (files_of (end_at port before.held p)) effect r
-player_times_out port (Client c) (Client c') before after effect r kept open_now t =
-    let x = client_at_rest port c before.held kept.1 open_now in
-    restated port (Client c) (end_at port before.held (Client c)) (Client c') before after (timeout_turn c.end) _ c.files _ effect r
-    (ap timeout_turn (sym (ap (λ (y : OpenedEnd). y.state) x.1 ∙ x.2)))
-    (sym (ap files_of x.1 ∙ x.3))
-    (client_steps port c c' before after (timeout_turn c.end) c.files effect r kept open_now t.0 t.1 (same_kind c.files))
+    PlayerKept port before.held p → has_ended p ≡ false → PlayerTimeoutStep port p p' before after effect r → TimedOut port p p' before after effect r
+player_times_out port (Client c) (Client c') before after effect r kept open_now t = record {
+  end = client_end port c;
+  stepped =
+      subst (λ (f : Files (List ℕ) Holding). Stepped port (Client c) (client_end port c) (Client c') before after (timeout_turn c.end) f effect r) (sym (client_files port c kept.1))
+      (client_steps port c c' before after (timeout_turn c.end) c.files effect r kept open_now t.0 t.1 (same_kind c.files));
+}
 player_times_out port (Server s) (Server s') before after effect r kept open_now t =
     let h = t.0 in
-    let x : end_at port before.held (Server s) ≡ held_end port s h = served_is port s before.held h open_now t.1 in
     let k = served_kept port s before.held open_now kept in
     let here : h ≡ k.transfer = same_transfer h k.transfer (sym t.1 ∙ k.found) in
     let fits : AreFilesOf h.end.role.side h.files = subst (λ (v : Transfer). AreFilesOf v.end.role.side v.files) (sym here) k.files in
     let commits : CommitsLast h.files (timeout_turn h.end).progress.phase =
     timeout_commits h.files h.end (ap (λ (v : Transfer). is_some (outcome_of v.end.progress.phase)) here ∙ k.is_open) (subst (λ (v : Transfer). CommitsLast v.files v.end.progress.phase) (sym here) k.commits) in
-    restated port (Server s) (end_at port before.held (Server s)) (Server s') before after (timeout_turn h.end) _ (held_files s.refuses h.files) _ effect r
-    (ap timeout_turn (sym (ap (λ (y : OpenedEnd). y.state) x)))
-    (sym (ap files_of x ∙ served_files port s h.end h.files h.request fits))
-    (served_steps port s s' before after h (with_end (after_turn h.end (timeout_turn h.end)) h) (timeout_turn h.end) s.refuses before.store effect r t.1 open_now kept
-    (same_draft_kind h.files) refl refl (same_told h.files s.refuses) commits (λ q. q) t.2)
+    record {
+      end = held_end port s h;
+      stepped =
+          subst (λ (f : Files (List ℕ) Holding). Stepped port (Server s) (held_end port s h) (Server s') before after (timeout_turn h.end) f effect r) (sym (served_files port s h.end h.files h.request fits))
+          (served_steps port s s' before after h (with_end (after_turn h.end (timeout_turn h.end)) h) (timeout_turn h.end) s.refuses before.store effect r t.1 open_now kept
+          (same_draft_kind h.files) refl refl (same_told h.files s.refuses) commits (λ q. q) t.2);
+    }
 player_times_out port (Client c) (Server s') before after effect r kept open_now t = absurd t
 player_times_out port (Server s) (Client c') before after effect r kept open_now t = absurd t
 
@@ -179,37 +178,50 @@ ended_by port s None h e = refl
 ended_by port s (Some r) h e = absurd (true≢false e)
 
 pub has_not_ended : (port : ℕ) (held : List (ℕ × Transfer)) (p : Player) → is_closed (end_at port held p) ≡ false → has_ended p ≡ false
-has_not_ended port held (Client c) e = sym (at_rest_closed (client_end port c)) ∙ e
+has_not_ended port held (Client c) e = sym (standing_closed (client_end port c)) ∙ e
 has_not_ended port held (Server s) e = ended_by port s s.ended (at port held) e
 
 -- what is recorded says whether it is closed
+served_tells : (port : ℕ) (s : Served) (o : Option Record) (held : List (ℕ × Transfer)) → IsServed port s o held →
+    is_some (end_record (served_end port s o (at port held))).outcome ≡ is_closed (served_end port s o (at port held))
+served_tells port s (Some r) held k = k.closed
+served_tells port s None held k =
+    subst (λ (h : Option Transfer). is_some (end_record (served_end port s None h)).outcome ≡ is_closed (served_end port s None h)) (sym k.found) k.is_open
+
+record_tells : (port : ℕ) (held : List (ℕ × Transfer)) (p : Player) → PlayerKept port held p → is_some (end_record (end_at port held p)).outcome ≡ is_closed (end_at port held p)
+record_tells port held (Client c) k = ap (λ (r : Record). is_some r.outcome) (standing_record (client_end port c)) ∙ sym (standing_closed (client_end port c))
+record_tells port held (Server s) k = served_tells port s s.ended held k
+
 pub closed_is : (server : PlayedServer) (ps : List Player) (records : List (ℕ × Record)) (k : ℕ) (p : Player) → IsStaged server ps records → slice_get ps k ≡ Some p →
     record_closed (slice_get records k) ≡ is_closed (end_at (1024 + k) server.held p)
 closed_is server ps records k p staged e =
     ap (λ (rs : List (ℕ × Record)). record_closed (slice_get rs k)) staged.recorded
-    ∙ ap record_closed (records_get 1024 (ends_of server ps) k (end_at (1024 + k) server.held p) (ends_get server.held ps k p e))
+    ∙ (ap record_closed (records_get 1024 (ends_of server ps) k (end_at (1024 + k) server.held p) (ends_get server.held ps k p e))
+    ∙ record_tells (1024 + k) server.held p (kept_at server.held ps k p staged.kept e))
 
 pub stage_times_out : (place : ℕ) (before after : PlayedServer) (ps : List Player) (p p' : Player) (effect : Effect) (r : Record) → slice_get ps place ≡ Some p →
-    Stepped (1024 + place) p (end_at (1024 + place) before.held p) p' before after (timeout_turn (end_at (1024 + place) before.held p).state) (files_of (end_at (1024 + place) before.held p)) effect r →
-    SameStore before after → StageTimeoutStep place before after ps (slice_set ps place p') effect
+    TimedOut (1024 + place) p p' before after effect r → SameStore before after → StageTimeoutStep place before after ps (slice_set ps place p') effect
 stage_times_out place before after ps p p' effect r e t same =
-    let x = end_at (1024 + place) before.held p in
+    let x = t.end in
     record {
-      end = x;
-      found = ends_get before.held ps place p e;
-      times_out = subst (λ (b : Bool). EndTimesOut b place x (ends_of before ps) (ends_of after (slice_set ps place p')) effect) (sym t.open_now)
-          (record { effects = t.effects; next = turn_ends place before after ps p p' (timeout_turn x.state) (files_of x) effect r t });
+      end = Open_end x;
+      found = ends_get before.held ps place p e ∙ ap (λ (y : WorldEnd). Some y) t.stepped.was;
+      times_out = record { effects = t.stepped.effects; next = turn_ends place before after ps p x p' (timeout_turn x.state) (files_of x) effect r t.stepped };
       same = same;
     }
 
-pub stage_rests : (place : ℕ) (server : PlayedServer) (ps : List Player) (p : Player) (effect : Effect) → slice_get ps place ≡ Some p → is_closed (end_at (1024 + place) server.held p) ≡ true →
-    effect ≡ no_effect (end_at (1024 + place) server.held p).address → StageTimeoutStep place server server ps ps effect
-stage_rests place server ps p effect e closed is =
+stays_by : (place : ℕ) (x : WorldEnd) (ends : List WorldEnd) (effect : Effect) → is_closed x ≡ true → effect ≡ no_effect (end_address x) → EndTimesOut place x ends ends effect
+stays_by place (Open_end x) ends effect closed is = absurd (true≢false (sym closed))
+stays_by place (Closed_end x) ends effect closed is = record { effects = is; next = refl }
+
+pub stage_stays : (place : ℕ) (server : PlayedServer) (ps : List Player) (p : Player) (effect : Effect) → slice_get ps place ≡ Some p → is_closed (end_at (1024 + place) server.held p) ≡ true →
+    effect ≡ no_effect (end_address (end_at (1024 + place) server.held p)) → StageTimeoutStep place server server ps ps effect
+stage_stays place server ps p effect e closed is =
     let x = end_at (1024 + place) server.held p in
     record {
       end = x;
       found = ends_get server.held ps place p e;
-      times_out = subst (λ (b : Bool). EndTimesOut b place x (ends_of server ps) (ends_of server ps) effect) (sym closed) (record { effects = is; next = refl });
+      times_out = stays_by place x (ends_of server ps) effect closed is;
       same = record { config = refl; store = refl };
     }
 
@@ -223,55 +235,55 @@ placed_is : (w : WorldState) (reply : Option Reply) → place_behind w.sent (opt
 placed_is w None = refl
 placed_is w (Some reply) = refl
 
-pub report_is : (w : WorldState) (x : OpenedEnd) (turn : Turn) (effect : Effect) → effect ≡ effect_of x.address turn → report_by w.sent effect ≡ report_of w x turn
+pub report_is : (w : WorldState) (x : OpenEnd) (turn : Turn) (effect : Effect) → effect ≡ effect_of x.address turn → report_by w.sent effect ≡ report_of w x turn
 report_is w x turn effect e =
     ap (report_by w.sent) e ∙ ap (λ (a : Option ℕ). record { added = a; closed = closed_at x.address (outcome_of turn.progress.phase) }) (placed_is w turn.reply)
 
-timed_by : (b : Bool) (config : Config) (sent : List Datagram) (place : ℕ) (before after : PlayedServer) (ps ps' : List Player) (effect : Effect) (port : ℕ) (x : OpenedEnd) →
-    IsAtPort (world_of config sent before ps) port place x → is_closed x ≡ b →
-    after.store ≡ before.store → EndTimesOut b place x (ends_of before ps) (ends_of after ps') effect →
+timed_by : (config : Config) (sent : List Datagram) (place : ℕ) (before after : PlayedServer) (ps ps' : List Player) (effect : Effect) (port : ℕ) (x : WorldEnd) →
+    IsAtPort (world_of config sent before ps) port place x →
+    after.store ≡ before.store → EndTimesOut place x (ends_of before ps) (ends_of after ps') effect →
     WorldStep (world_of config sent before ps) (Timeout port) (report_by sent effect) (world_of config (sent ++ said_by effect.from effect.to effect.bytes) after ps')
-timed_by true config sent place before after ps ps' effect port x at closed store t =
+timed_by config sent place before after ps ps' effect port (Closed_end x) at store t =
     let w = world_of config sent before ps in
     let report : report_by sent effect ≡ no_report = ap (report_by sent) t.effects in
     let same : world_of config (sent ++ said_by effect.from effect.to effect.bytes) after ps' ≡ w =
     ap (λ (e : Effect). world_of config (sent ++ said_by e.from e.to e.bytes) after ps') t.effects
     ∙ (ap (λ (ds : List Datagram). world_of config ds after ps') (append-nil sent)
-    ∙ (ap (λ (s : Stored). record w { files = s.files; ends = ends_of after ps' }) store ∙ ap (λ (xs : List OpenedEnd). record w { ends = xs }) t.next)) in
+    ∙ (ap (λ (s : Stored). record w { files = s.files; ends = ends_of after ps' }) store ∙ ap (λ (xs : List WorldEnd). record w { ends = xs }) t.next)) in
     subst (λ (r : Report). WorldStep w (Timeout port) r (world_of config (sent ++ said_by effect.from effect.to effect.bytes) after ps')) (sym report)
-    (subst (λ (v : WorldState). WorldStep w (Timeout port) no_report v) (sym same) (timeout_rests w port place x at closed))
-timed_by false config sent place before after ps ps' effect port x at open_now store t =
+    (subst (λ (v : WorldState). WorldStep w (Timeout port) no_report v) (sym same) (timeout_stays w port place x at))
+timed_by config sent place before after ps ps' effect port (Open_end x) at store t =
     let w = world_of config sent before ps in
     let turn = timeout_turn x.state in
-    let same : world_of config (sent ++ said_by effect.from effect.to effect.bytes) after ps' ≡ turned w place x turn (files_of x) =
+    let same : world_of config (sent ++ said_by effect.from effect.to effect.bytes) after ps' ≡ world_after w place x turn (files_of x) w.files =
     ap (λ (e : Effect). world_of config (sent ++ said_by e.from e.to e.bytes) after ps') t.effects
     ∙ (ap (λ (ds : List Datagram). world_of config (sent ++ ds) after ps') (said_is x.address turn.reply)
     ∙ (ap (λ (s : Stored). record w { sent = sent ++ replied x.address turn.reply; files = s.files; ends = ends_of after ps' }) store
-    ∙ ap (λ (xs : List OpenedEnd). record w { sent = sent ++ replied x.address turn.reply; ends = xs }) t.next)) in
+    ∙ ap (λ (xs : List WorldEnd). record w { sent = sent ++ replied x.address turn.reply; ends = xs }) t.next)) in
     subst (λ (r : Report). WorldStep w (Timeout port) r (world_of config (sent ++ said_by effect.from effect.to effect.bytes) after ps')) (sym (report_is w x turn effect t.effects))
-    (subst (λ (v : WorldState). WorldStep w (Timeout port) (report_of w x turn) v) (sym same) (timeout_step w port place x at open_now))
+    (subst (λ (v : WorldState). WorldStep w (Timeout port) (report_of w x turn) v) (sym same) (timeout_step w port place x at))
 
 pub world_timed_out : (config : Config) (sent : List Datagram) (place : ℕ) (before after : PlayedServer) (ps ps' : List Player) (effect : Effect) (port : ℕ) → port ≡ 1024 + place →
     StageTimeoutStep place before after ps ps' effect →
     WorldStep (world_of config sent before ps) (Timeout port) (report_by sent effect) (world_of config (sent ++ said_by effect.from effect.to effect.bytes) after ps')
 world_timed_out config sent place before after ps ps' effect port is t =
-    timed_by (is_closed t.end) config sent place before after ps ps' effect port t.end (record { is = is; there = t.found }) refl t.same.store t.times_out
+    timed_by config sent place before after ps ps' effect port t.end (record { is = is; there = t.found }) t.same.store t.times_out
 
 -- what an index reads
 pub list_get : {A : Type 0} (xs : List A) (k : ℕ) (x : A) → k < length xs → x ≡ slice_index_or xs k x → slice_get xs k ≡ Some x
 list_get xs k x within e = slice_get_read xs (length xs) k x refl within e
 
-records_length : (port : ℕ) (ends : List OpenedEnd) → length (records_from port ends) ≡ length ends
+records_length : (port : ℕ) (ends : List WorldEnd) → length (records_from port ends) ≡ length ends
 records_length port [] = refl
 records_length port (x ∷ ends) = ap suc (records_length (port + 1) ends)
 
-served_address : (port : ℕ) (s : Served) (o : Option Record) (h : Option Transfer) → (served_end port s o h).address ≡ server_at port
+served_address : (port : ℕ) (s : Served) (o : Option Record) (h : Option Transfer) → end_address (served_end port s o h) ≡ server_at port
 served_address port s (Some r) h = refl
 served_address port s None (Some h) = refl
 served_address port s None None = refl
 
-pub address_is : (port : ℕ) (held : List (ℕ × Transfer)) (p : Player) → (end_at port held p).address ≡ address_of port p
-address_is port held (Client c) = refl
+pub address_is : (port : ℕ) (held : List (ℕ × Transfer)) (p : Player) → end_address (end_at port held p) ≡ address_of port p
+address_is port held (Client c) = standing_address (client_end port c)
 address_is port held (Server s) = served_address port s s.ended (at port held)
 
 -- what is known of the player at a place that is read
@@ -298,16 +310,16 @@ module _ (server : PlayedServer) (ps : List Player) (records : List (ℕ × Reco
       let w = at_place.0 in
       omega (arith, n)
 
-  pub rests_staged : (b : Bool) (here : Endpoint) (effect : Effect) → b ≡ record_closed (slice_get records place) → b ≡ true → here ≡ address_of port p → effect ≡ no_effect here →
+  pub stays_staged : (b : Bool) (here : Endpoint) (effect : Effect) → b ≡ record_closed (slice_get records place) → b ≡ true → here ≡ address_of port p → effect ≡ no_effect here →
       StageTimeoutStep place server server ps (slice_set ps place p) effect
-  rests_staged b here effect told is address effects =
+  stays_staged b here effect told is address effects =
       subst (λ (qs : List Player). StageTimeoutStep place server server ps qs effect) (sym read_back)
-      (stage_rests place server ps p effect is_there (recorded_as b true told is)
+      (stage_stays place server ps p effect is_there (recorded_as b true told is)
       (effects ∙ ap no_effect (address ∙ (ap (λ (n : ℕ). address_of n p) at_place.1 ∙ sym (address_is (1024 + place) server.held p)))))
 
   stepped_here : (b : Bool) (p' : Player) (after : PlayedServer) (effect : Effect) (r : Record) → b ≡ record_closed (slice_get records place) → b ≡ false →
       PlayerTimeoutStep port p p' server after effect r →
-      Stepped (1024 + place) p (end_at (1024 + place) server.held p) p' server after (timeout_turn (end_at (1024 + place) server.held p).state) (files_of (end_at (1024 + place) server.held p)) effect r
+      TimedOut (1024 + place) p p' server after effect r
   stepped_here b p' after effect r told is t =
       player_times_out (1024 + place) p p' server after effect r (kept_at server.held ps place p staged.kept is_there) (read_open b told is)
       (subst (λ (n : ℕ). PlayerTimeoutStep n p p' server after effect r) at_place.1 t)
@@ -320,9 +332,9 @@ module _ (server : PlayedServer) (ps : List Player) (records : List (ℕ × Reco
   pub times_out_keeps : (b : Bool) (p' : Player) (after : PlayedServer) (effect : Effect) (r : Record) → b ≡ record_closed (slice_get records place) → b ≡ false →
       PlayerTimeoutStep port p p' server after effect r → IsStaged after (slice_set ps place p') (slice_set records place (port, r))
   times_out_keeps b p' after effect r told is t =
-      let x = end_at (1024 + place) server.held p in
+      let h = stepped_here b p' after effect r told is t in
       subst (λ (n : ℕ). IsStaged after (slice_set ps place p') (slice_set records place (n, r))) (sym at_place.1)
-      (turn_staged place server after ps p p' (timeout_turn x.state) (files_of x) effect r (stepped_here b p' after effect r told is t) records is_there staged)
+      (turn_staged place server after ps p h.end p' (timeout_turn h.end.state) (files_of h.end) effect r h.stepped records is_there staged)
 
 -- the same, where what was sent is told by equations
 pub timeout_result : (config : Config) (sent : List Datagram) (place : ℕ) (before after : PlayedServer) (ps ps' : List Player) (effect : Effect) (port : ℕ) (old : WorldState) (sent0 sent1 : List Datagram) (report : Report) →

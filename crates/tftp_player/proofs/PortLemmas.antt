@@ -14,7 +14,7 @@ use Rattle.tftp_negotiate.specs.declared.refusal.Refusal.{Refusal}
 use Rattle.tftp_file.specs.Path.{path_of_name}
 use Rattle.tftp_file.specs.declared.path.PathFault.{PathFault}
 use Rattle.tftp_ends.specs.declared.error_reply.ErrorReply.TheVariants.{FileTooLarge, ServerBusy}
-use Rattle.tftp_ends.specs.End.{is_client}
+use Rattle.tftp_ends.specs.End.{is_client, outcome_of}
 use Rattle.tftp_ends.specs.Files.{AreFilesOf}
 use Rattle.tftp_wire.specs.Reading.{has_error_opcode}
 use Rattle.tftp_server.specs.Port.{Ask, Ignores, Refuses, Reads, Writes, Service, Silent, Refused, Sends, Takes, asks_store, by_draft, by_file, by_length, by_name, by_options, by_packet}
@@ -27,7 +27,7 @@ use Rattle.tftp_player.specs.Played.{served_as}
 use Rattle.tftp_player.specs.Requested.{new_served, receiver_at, requested_by, sender_at}
 use Rattle.tftp_player.specs.Requests.{begun_of, open_transfers, opened_of, served, service}
 use Rattle.tftp_player.specs.Serving.{Transfer, CommitsLast}
-use Rattle.tftp_player.specs.World.{WorldState, OpenedEnd, file_at, in_the_way, is_closed, next_port, datagram, no_report, opened_in, said_in, sent_report}
+use Rattle.tftp_player.specs.World.{WorldState, OpenEnd, file_at, in_the_way, next_port, datagram, no_report, opened_in, said_in, sent_report}
 use Rattle.tftp_player.specs.WorldSteps.{Serves}
 use Rattle.tftp_player.specs.declared.served.Served.{Served}
 use Rattle.tftp_player.proofs.ServerLemmas.{PortAsking, PortLeft, PortDid, held_sender, held_receiver}
@@ -117,11 +117,11 @@ module _ (w : WorldState) (mode : Mode) (path file : List ℕ) where
 
 -- ---- an end of the server as it opens
 -- it is what is kept of it and held of it at the server, and is set so
-pub record IsNewEnd (w : WorldState) (from : Endpoint) (s : Served) (transfer : Transfer) (x : OpenedEnd) : Type 0 where
+pub record IsNewEnd (w : WorldState) (from : Endpoint) (s : Served) (transfer : Transfer) (x : OpenEnd) : Type 0 where
   pub state : transfer.end ≡ x.state
   pub end : served_as (next_port w) s transfer.end (left_in transfer.files) (draft_of transfer.files) transfer.request ≡ x
   pub address : x.address ≡ server_at (next_port w)
-  pub still : is_closed x ≡ false
+  pub still : outcome_of x.state.progress.phase ≡ None
   pub to : x.state.progress.last_sent_to ≡ from
   pub side : is_client x.state.role.side ≡ false
   pub files : AreFilesOf transfer.end.role.side transfer.files
@@ -196,7 +196,7 @@ module _ (w : WorldState) (asking : PortAsking) (result : PortLeft) where
     pub path : List ℕ
     pub file : List ℕ
     pub transfer : Transfer
-    pub end : OpenedEnd
+    pub end : OpenEnd
     pub opens : OpensFor w mode path file what
     pub is_new : IsNewEnd w asking.from (new_served mode path file) transfer end
     pub tid : result.opened.tid ≡ Some asking.tid

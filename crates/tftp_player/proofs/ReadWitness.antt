@@ -1,5 +1,5 @@
 -- A read that completes in a world, event by event.
-use Rattle.std.proofs.Common.{ℕ, true, false, List, [], ◌∷◌, ◌++◌, Some, Ok, refl, sym, arith, rules}
+use Rattle.std.proofs.Common.{ℕ, true, false, List, [], ◌∷◌, ◌++◌, Some, Ok, refl, arith, rules}
 use Rattle.std.specs.Prelude.{slice_set}
 use Rattle.tftp_wire.specs.declared.mode.Mode.TheVariants.{Octet}
 use Rattle.tftp_wire.specs.Parts.{packet_in}
@@ -14,7 +14,7 @@ use Rattle.tftp_server.specs.declared.config.Config.{Config}
 use Rattle.tftp_player.specs.Completing.{Transfers, nothing_asked}
 use Rattle.tftp_player.specs.Openings.{reading_client, sending_end}
 use Rattle.tftp_player.specs.Straight.{SomeReadIsStraight}
-use Rattle.tftp_player.specs.World.{WorldState, OpenedEnd, StoredFile, new_world, end_after, replied, report_of, opened_in, sent_report, at_rest}
+use Rattle.tftp_player.specs.World.{WorldState, OpenEnd, StoredFile, new_world, end_after, replied, report_of, opened_in, sent_report, standing}
 use Rattle.tftp_player.specs.WorldSteps.{At_request_port, WorldStep}
 use Rattle.tftp_player.specs.declared.datagram.Datagram.{Datagram}
 use Rattle.tftp_player.specs.declared.event.Event.TheVariants.{Get, Deliver}
@@ -38,7 +38,7 @@ config = record { limits = record { max_block = 1428; max_file = 10 }; retries =
 abbrev w0 : WorldState
 w0 = new_world files config
 
-abbrev client : OpenedEnd
+abbrev client : OpenEnd
 client = reading_client w0 name Octet nothing_asked
 
 abbrev w1 : WorldState
@@ -47,7 +47,7 @@ w1 = opened_in w0 client
 abbrev d0 : Datagram
 d0 = record { from = client.address; to = client.state.progress.last_sent_to; bytes = client.state.progress.last_sent }
 
-abbrev server : OpenedEnd
+abbrev server : OpenEnd
 server = sending_end w1 client.address d0.bytes Octet name file []
 
 abbrev w2 : WorldState
@@ -66,7 +66,7 @@ abbrev held3 : Holding
 held3 = record { bytes = file; committed = true; refuses = false }
 
 abbrev w3 : WorldState
-w3 = record w2 { sent = w2.sent ++ replied client.address turn3.reply; ends = slice_set w2.ends 0 (at_rest (end_after client turn3 (Sink held3))) }
+w3 = record w2 { sent = w2.sent ++ replied client.address turn3.reply; ends = slice_set w2.ends 0 (standing (end_after client turn3 (Sink held3))) }
 
 abbrev d2 : Datagram
 d2 = record { from = client.address; to = server.address; bytes = ack_bytes 1 }
@@ -75,7 +75,7 @@ abbrev turn4 : Turn
 turn4 = response_turn Complete client.address server.state
 
 abbrev w4 : WorldState
-w4 = record w3 { ends = slice_set w3.ends 1 (at_rest (end_after server turn4 (Source []))) }
+w4 = record w3 { ends = slice_set w3.ends 1 (standing (end_after server turn4 (Source []))) }
 
 asks : WorldStep w0 (Get name Octet nothing_asked) (sent_report w0) w1
 asks = get_step w0 name Octet nothing_asked (omega arith) (record { valid = search rules; options = search rules })
@@ -85,7 +85,7 @@ unfolding places_of
 opens = (d0, refl, At_request_port refl (omega arith) (Some (packet_in d0.bytes)) (fault_where_nothing d0.bytes (bytes_below d0.bytes refl) refl) false (first_request client.address (packet_in d0.bytes) client refl) (file, refl, record { tells = refl; is = refl }))
 
 stores : WorldStep w2 (Deliver 1) (report_of w2 client turn3) w3
-stores = takes w2 1 0 d1 client turn3 (Sink held3) files refl refl refl refl
+stores = takes w2 1 0 d1 client turn3 (Sink held3) files refl refl refl
     (record {
       decoded = Some (packet_in d1.bytes);
       says = fault_where_nothing d1.bytes (bytes_below d1.bytes refl) refl;
@@ -102,7 +102,7 @@ stores = takes w2 1 0 d1 client turn3 (Sink held3) files refl refl refl refl
     }) refl
 
 completes : WorldStep w3 (Deliver 2) (report_of w3 server turn4) w4
-completes = takes w3 2 1 d2 server turn4 (Source []) files refl refl refl refl
+completes = takes w3 2 1 d2 server turn4 (Source []) files refl refl refl
     (record { decoded = Some (packet_in d2.bytes); says = fault_where_nothing d2.bytes (bytes_below d2.bytes refl) refl; acts = (refl, refl) }) refl
 
 pub read_transfers : Transfers (Get name Octet nothing_asked) file
@@ -113,8 +113,8 @@ read_transfers = (
   w4,
   (w1, sent_report w0, asks, (w2, sent_report w1, opens, (w3, report_of w2 client turn3, stores, (w4, report_of w3 server turn4, completes, refl)))),
   record {
-    sender = at_rest (end_after server turn4 (Source []));
-    receiver = at_rest (end_after client turn3 (Sink held3));
+    sender = standing (end_after server turn4 (Source []));
+    receiver = standing (end_after client turn3 (Sink held3));
     sender_in = (1, refl);
     receiver_in = (0, refl);
     sends = refl;

@@ -5,6 +5,7 @@ use Rattle.std.specs.List.{AllByRecursion}
 use Rattle.std.proofs.Math.ListN.{length-set}
 use Rattle.std.proofs.lemmas.List.{set-get_or}
 use Rattle.std.proofs.lemmas.Option.{get_or_from_slice_get}
+use Rattle.std.proofs.lemmas.Bool.{true≢false}
 use Rattle.tftp_file.specs.declared.files.Files.{Files}
 use Rattle.tftp_file.specs.declared.files.Files.TheVariants.{Source, Sink}
 use Rattle.tftp_file.specs.Sink.{Holding}
@@ -17,42 +18,39 @@ use Rattle.tftp_server.specs.declared.config.Config.{Config}
 use Rattle.tftp_player.specs.Clients.{left_in, told_files}
 use Rattle.tftp_player.specs.Played.{client_end, served_as, served_end, end_at, ends_from, records_from, PlayerKept, IsServed, told_by, told_served, told_served_end, told_player}
 use Rattle.tftp_player.specs.PlayedClient.{PlayedClient}
-use Rattle.tftp_player.specs.Requests.{open_transfers}
+use Rattle.tftp_player.specs.Requests.{is_transfer, open_transfers}
 use Rattle.tftp_player.specs.Serving.{PlayedServer, Transfer, ServedKept}
 use Rattle.tftp_player.specs.Stage.{ends_of, IsStaged, world_of}
-use Rattle.tftp_player.specs.World.{WorldState, OpenedEnd, is_closed, at_rest, no_report}
-use Rattle.tftp_player.specs.WorldSteps.{WorldStep, told_to_refuse}
+use Rattle.tftp_player.specs.World.{WorldState, OpenEnd, is_closed, no_report, WorldEnd, Open_end, Closed_end, end_record, standing}
+use Rattle.tftp_player.specs.WorldSteps.{WorldStep, told_to_refuse, told_end}
 use Rattle.tftp_player.specs.declared.datagram.Datagram.{Datagram}
 use Rattle.tftp_player.specs.declared.event.Event.TheVariants.{RefuseStore}
 use Rattle.tftp_player.specs.declared.player.Player.{Player}
 use Rattle.tftp_player.specs.declared.player.Player.TheVariants.{Client, Server}
 use Rattle.tftp_player.specs.declared.served.Served.{Served}
 use Rattle.tftp_player.proofs.OwnedLemmas.{AllOwned, client_owned, same_owned}
-use Rattle.tftp_player.proofs.PlacedEnds.{told-set, kept-set, is_transfer, transfers-set}
+use Rattle.tftp_player.proofs.PlacedEnds.{told-set, kept-set, transfers-set}
 use Rattle.tftp_player.proofs.PlayLemmas.{ends_get, kept_at, list_get, to_kept, from_kept, records_get, records_set}
-use Rattle.tftp_player.proofs.Resting.{at_rest_open, at_rest_closed}
+use Rattle.tftp_player.proofs.Standing.{standing_open, standing_closed}
 use Rattle.tftp_player.proofs.StageLemmas.{by_port, kept_by_port}
 use Rattle.tftp_player.proofs.StepLemmas.{refuse_step}
 
--- a sender and a closed end are told nothing
-told_sender : (x : OpenedEnd) → is_sender x.state.role.side ≡ true → told_to_refuse x ≡ x
-told_sender x e = ap (λ (b : Bool). if b then x else if is_closed x then x else record x { refuses = true }) e
+-- a sender is told nothing
+told_sender : (x : OpenEnd) → is_sender x.state.role.side ≡ true → told_to_refuse x ≡ x
+told_sender x e = ap (λ (b : Bool). if b then x else record x { refuses = true }) e
 
-by_both : (x : OpenedEnd) (b : Bool) → (if b then x else x) ≡ x
-by_both x true = refl
-by_both x false = refl
+told_receiver : (x : OpenEnd) → is_sender x.state.role.side ≡ false → told_to_refuse x ≡ record x { refuses = true }
+told_receiver x e = ap (λ (b : Bool). if b then x else record x { refuses = true }) e
 
-told_closed : (x : OpenedEnd) → is_closed x ≡ true → told_to_refuse x ≡ x
-told_closed x e = ap (λ (b : Bool). if is_sender x.state.role.side then x else if b then x else record x { refuses = true }) e ∙ by_both x (is_sender x.state.role.side)
+-- nor is a closed end
+told_closed : (x : WorldEnd) → is_closed x ≡ true → told_end x ≡ x
+told_closed (Open_end x) e = absurd (true≢false (sym e))
+told_closed (Closed_end x) e = refl
 
-told_open : (x : OpenedEnd) → is_sender x.state.role.side ≡ false → is_closed x ≡ false → told_to_refuse x ≡ record x { refuses = true }
-told_open x e f =
-    ap (λ (b : Bool). if b then x else if is_closed x then x else record x { refuses = true }) e ∙ ap (λ (b : Bool). if b then x else record x { refuses = true }) f
-
-client_told_in : (port : ℕ) (c : PlayedClient) (files : Files (List ℕ) Holding) → AreFilesOf c.end.role.side files → is_some (outcome_of c.end.progress.phase) ≡ false →
+client_told_in : (port : ℕ) (c : PlayedClient) (files : Files (List ℕ) Holding) → AreFilesOf c.end.role.side files →
     client_end port (record { end = c.end; files = told_files files; file = c.file }) ≡ told_to_refuse (client_end port (record { end = c.end; files = files; file = c.file }))
-client_told_in port c (Source left) fits open_now = sym (told_sender (client_end port (record { end = c.end; files = Source left; file = c.file })) fits)
-client_told_in port c (Sink holding) fits open_now = sym (told_open (client_end port (record { end = c.end; files = Sink holding; file = c.file })) fits open_now)
+client_told_in port c (Source left) fits = sym (told_sender (client_end port (record { end = c.end; files = Source left; file = c.file })) fits)
+client_told_in port c (Sink holding) fits = sym (told_receiver (client_end port (record { end = c.end; files = Sink holding; file = c.file })) fits)
 
 fits_told : (side : _) (files : Files (List ℕ) Holding) → AreFilesOf side files → AreFilesOf side (told_files files)
 fits_told side (Source left) f = f
@@ -60,11 +58,11 @@ fits_told side (Sink holding) f = f
 
 -- a client, by whether it is closed
 client_told : (port : ℕ) (c : PlayedClient) (b : Bool) → is_some (outcome_of c.end.progress.phase) ≡ b → AreFilesOf c.end.role.side c.files →
-    at_rest (client_end port (if b then c else record c { files = told_files c.files })) ≡ told_to_refuse (at_rest (client_end port c))
-client_told port c true e fits = sym (told_closed (at_rest (client_end port c)) (at_rest_closed (client_end port c) ∙ e))
+    standing (client_end port (if b then c else record c { files = told_files c.files })) ≡ told_end (standing (client_end port c))
+client_told port c true e fits = sym (told_closed (standing (client_end port c)) (standing_closed (client_end port c) ∙ e))
 client_told port c false e fits =
-    at_rest_open (client_end port (record c { files = told_files c.files })) e
-    ∙ (client_told_in port c c.files fits e ∙ ap told_to_refuse (sym (at_rest_open (client_end port c) e)))
+    standing_open (client_end port (record c { files = told_files c.files })) e
+    ∙ (ap Open_end (client_told_in port c c.files fits) ∙ ap told_end (sym (standing_open (client_end port c) e)))
 
 kept_told : (c : PlayedClient) (b : Bool) → (is_client c.end.role.side ≡ true) × AreFilesOf c.end.role.side c.files →
     (is_client (if b then c else record c { files = told_files c.files }).end.role.side ≡ true) × AreFilesOf (if b then c else record c { files = told_files c.files }).end.role.side (if b then c else record c { files = told_files c.files }).files
@@ -72,18 +70,18 @@ kept_told c true k = (k.0, k.1)
 kept_told c false k = (k.0, fits_told c.end.role.side c.files k.1)
 
 -- an end of the server, by the file that it is held with
-transfer_told : (port : ℕ) (s : Served) (e : EndState) (files : Files (List ℕ) Drafted) (request : List ℕ) → AreFilesOf e.role.side files → is_some (outcome_of e.progress.phase) ≡ false →
+transfer_told : (port : ℕ) (s : Served) (e : EndState) (files : Files (List ℕ) Drafted) (request : List ℕ) → AreFilesOf e.role.side files →
     served_as port (told_served (draft_of files) s) e (left_in files) (draft_of files) request ≡ told_to_refuse (served_as port s e (left_in files) (draft_of files) request)
-transfer_told port s e (Source left) request fits open_now = sym (told_sender (served_as port s e left None request) fits)
-transfer_told port s e (Sink draft) request fits open_now = sym (told_open (served_as port s e [] (Some draft) request) fits open_now)
+transfer_told port s e (Source left) request fits = sym (told_sender (served_as port s e left None request) fits)
+transfer_told port s e (Sink draft) request fits = sym (told_receiver (served_as port s e [] (Some draft) request) fits)
 
 -- by how it ended
 served_told : (port : ℕ) (s : Served) (o : Option Record) (held : List (ℕ × Transfer)) → IsServed port s o held →
-    served_end port (told_by o (at port held) s) o (at port held) ≡ told_to_refuse (served_end port s o (at port held))
-served_told port s (Some r) held k = sym (told_closed (served_end port s (Some r) (at port held)) refl)
+    served_end port (told_by o (at port held) s) o (at port held) ≡ told_end (served_end port s o (at port held))
+served_told port s (Some r) held k = refl
 served_told port s None held k =
-    subst (λ (h : Option Transfer). served_end port (told_by None h s) None h ≡ told_to_refuse (served_end port s None h)) (sym k.found)
-    (transfer_told port s k.transfer.end k.transfer.files k.transfer.request k.files k.is_open)
+    subst (λ (h : Option Transfer). served_end port (told_by None h s) None h ≡ told_end (served_end port s None h)) (sym k.found)
+    (ap Open_end (transfer_told port s k.transfer.end k.transfer.files k.transfer.request k.files))
 
 told_kept : (port : ℕ) (s : Served) (draft : Option Drafted) (held : List (ℕ × Transfer)) → ServedKept port s held → ServedKept port (told_served draft s) held
 told_kept port s None held k = k
@@ -112,7 +110,7 @@ told_ended (Some r) h s = refl
 told_ended None h s = drafts_ended (draft_at h) s
 
 pub player_told : (port : ℕ) (held : List (ℕ × Transfer)) (p : Player) → PlayerKept port held p →
-    (end_at port held (told_player port held p) ≡ told_to_refuse (end_at port held p)) × PlayerKept port held (told_player port held p)
+    (end_at port held (told_player port held p) ≡ told_end (end_at port held p)) × PlayerKept port held (told_player port held p)
 player_told port held (Client c) k = (client_told port c (is_some (outcome_of c.end.progress.phase)) refl k.1, kept_told c (is_some (outcome_of c.end.progress.phase)) (k.0, k.1))
 player_told port held (Server s) k =
     let t = told_served_end port held s in
@@ -127,14 +125,17 @@ told_owned port place held ps (Client c) there all = client_owned ps place c (to
 told_owned port place held ps (Server s) there all = same_owned ps place s (told_served_end port held s) held there (told_ended s.ended (at port held) s) all
 
 -- only the flag changed
-flag_only : (x : OpenedEnd) (b c : Bool) → (record_of (if b then x else if c then x else record x { refuses = true }).state ≡ record_of x.state) × (is_transfer (if b then x else if c then x else record x { refuses = true }) ≡ is_transfer x)
-flag_only x true c = (refl, refl)
-flag_only x false true = (refl, refl)
-flag_only x false false = (refl, refl)
+flag_only : (b : Bool) (x : OpenEnd) → (end_record (Open_end (if b then x else record x { refuses = true })) ≡ record_of x.state) × (is_transfer (Open_end (if b then x else record x { refuses = true })) ≡ is_transfer (Open_end x))
+flag_only true x = (refl, refl)
+flag_only false x = (refl, refl)
+
+same_told : (x : WorldEnd) → (end_record (told_end x) ≡ end_record x) × (is_transfer (told_end x) ≡ is_transfer x)
+same_told (Open_end x) = flag_only (is_sender x.state.role.side) x
+same_told (Closed_end x) = (refl, refl)
 
 module _ (config : Config) (sent : List Datagram) (server : PlayedServer) (ps : List Player) (records : List (ℕ × Record)) (old : WorldState) (view : world_of config sent server ps ≡ old) (staged : IsStaged server ps records)
     (port place : ℕ) (p : Player) (within : place < length ps) (is : port ≡ 1024 + place) (reads : p ≡ slice_index_or ps place p) where
-  abbrev x : OpenedEnd
+  abbrev x : WorldEnd
   x = end_at (1024 + place) server.held p
 
   there : slice_get ps place ≡ Some p
@@ -144,35 +145,35 @@ module _ (config : Config) (sent : List Datagram) (server : PlayedServer) (ps : 
   abbrev q : Player
   q = told_player port server.held p
 
-  told : (end_at (1024 + place) server.held q ≡ told_to_refuse x) × PlayerKept (1024 + place) server.held q
+  told : (end_at (1024 + place) server.held q ≡ told_end x) × PlayerKept (1024 + place) server.held q
   told =
-      subst (λ (n : ℕ). (end_at (1024 + place) server.held (told_player n server.held p) ≡ told_to_refuse x) × PlayerKept (1024 + place) server.held (told_player n server.held p)) (sym is)
+      subst (λ (n : ℕ). (end_at (1024 + place) server.held (told_player n server.held p) ≡ told_end x) × PlayerKept (1024 + place) server.held (told_player n server.held p)) (sym is)
       (player_told (1024 + place) server.held p (kept_at server.held ps place p staged.kept there))
 
-  same_flags : (record_of (told_to_refuse x).state ≡ record_of x.state) × (is_transfer (told_to_refuse x) ≡ is_transfer x)
-  same_flags = flag_only x (is_sender x.state.role.side) (is_closed x)
+  same_flags : (end_record (told_end x) ≡ end_record x) × (is_transfer (told_end x) ≡ is_transfer x)
+  same_flags = same_told x
 
-  new_ends : ends_of server (slice_set ps place q) ≡ slice_set (ends_of server ps) place (told_to_refuse x)
+  new_ends : ends_of server (slice_set ps place q) ≡ slice_set (ends_of server ps) place (told_end x)
   new_ends =
       told-set end_at ends_from (λ q h. refl) (λ q h r rs. refl) by_port 1024 server.held server.held ps place q (λ other n. refl)
-      ∙ ap (λ (y : OpenedEnd). slice_set (ends_of server ps) place y) told.0
+      ∙ ap (λ (y : WorldEnd). slice_set (ends_of server ps) place y) told.0
 
   pub refused_staged : IsStaged server (slice_set ps place q) records
   refused_staged = record {
     kept = from_kept 1024 server.held (slice_set ps place q) (kept-set PlayerKept kept_by_port 1024 server.held server.held ps place q (λ other n. refl) (to_kept 1024 server.held ps staged.kept) told.1);
     recorded = staged.recorded ∙ (sym same_records ∙ ap (records_from 1024) (sym new_ends));
     below = subst (λ (n : ℕ). AllByRecursion (λ (e : ℕ × Transfer). e.0 < 1024 + n) server.held) (sym (length-set ps place q)) staged.below;
-    count = staged.count ∙ (sym (transfers-set (ends_of server ps) place x (told_to_refuse x) (ends_get server.held ps place p there) same_flags.1) ∙ ap open_transfers (sym new_ends));
+    count = staged.count ∙ (sym (transfers-set (ends_of server ps) place x (told_end x) (ends_get server.held ps place p there) same_flags.1) ∙ ap open_transfers (sym new_ends));
     owned = told_owned port place server.held ps p there staged.owned;
     rising = staged.rising;
     quiet = staged.quiet;
   } where
     action : ℕ × Record
-    action = (1024 + place, record_of x.state)
+    action = (1024 + place, end_record x)
 
-    same_records : records_from 1024 (slice_set (ends_of server ps) place (told_to_refuse x)) ≡ records_from 1024 (ends_of server ps)
+    same_records : records_from 1024 (slice_set (ends_of server ps) place (told_end x)) ≡ records_from 1024 (ends_of server ps)
     same_records =
-        records_set 1024 (ends_of server ps) place (told_to_refuse x)
+        records_set 1024 (ends_of server ps) place (told_end x)
         ∙ (ap (λ (r : Record). slice_set (records_from 1024 (ends_of server ps)) place (1024 + place, r)) same_flags.0
         ∙ (ap (slice_set (records_from 1024 (ends_of server ps)) place) (sym (get_or_from_slice_get (records_from 1024 (ends_of server ps)) place action action (records_get 1024 (ends_of server ps) place x (ends_get server.held ps place p there))))
         ∙ set-get_or (records_from 1024 (ends_of server ps)) place action))
@@ -181,5 +182,5 @@ module _ (config : Config) (sent : List Datagram) (server : PlayedServer) (ps : 
   refused_step =
       let w = world_of config sent server ps in
       subst (λ (v : WorldState). WorldStep v (RefuseStore port) no_report (world_of config sent server (slice_set ps place q))) view
-      (subst (λ (v : WorldState). WorldStep w (RefuseStore port) no_report v) (sym (ap (λ (xs : List OpenedEnd). record w { ends = xs }) new_ends))
+      (subst (λ (v : WorldState). WorldStep w (RefuseStore port) no_report v) (sym (ap (λ (xs : List WorldEnd). record w { ends = xs }) new_ends))
       (refuse_step w port place x (record { is = is; there = ends_get server.held ps place p there })))

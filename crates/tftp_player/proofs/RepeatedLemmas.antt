@@ -7,8 +7,9 @@ use Rattle.std.specs.Ordering.{nat_cmp}
 use Rattle.std.proofs.lemmas.Bool.{true≢false}
 use Rattle.std.proofs.lemmas.Option.{same_Some}
 use Rattle.tftp_wire.specs.declared.packet.Packet.{Packet}
+use Rattle.tftp_ends.specs.declared.outcome.Outcome.{Outcome}
 use Rattle.tftp_ends.specs.declared.record.Record.{Record}
-use Rattle.tftp_ends.specs.End.{is_client}
+use Rattle.tftp_ends.specs.End.{is_client, outcome_of}
 use Rattle.tftp_server.specs.State.{at}
 use Rattle.tftp_server.specs.State as server
 use Rattle.tftp_player.specs.Machine.{Endpoint}
@@ -17,17 +18,16 @@ use Rattle.tftp_player.specs.Clients.{left_in}
 use Rattle.tftp_player.specs.Requests.{IsRepeated, Repeats, AnyRepeats}
 use Rattle.tftp_player.specs.Serving.{PlayedServer, Transfer}
 use Rattle.tftp_player.specs.Stage.{IsOwned, IsStaged, ends_of}
-use Rattle.tftp_player.specs.World.{OpenedEnd}
+use Rattle.tftp_player.specs.World.{WorldEnd, Open_end, by_outcome}
 use Rattle.tftp_player.specs.declared.player.Player.{Player}
 use Rattle.tftp_player.specs.declared.player.Player.TheVariants.{Client, Server}
 use Rattle.tftp_player.specs.declared.served.Served.{Served}
 use Rattle.tftp_player.proofs.HeldLemmas.{all_both, each_found}
 use Rattle.tftp_player.proofs.PlayLemmas.{ends_get, kept_at}
-use Rattle.tftp_player.proofs.Resting.{at_rest_record}
 
 module _ (from : Endpoint) (packet : Packet) where
   -- an end at a place is one of them, and a transfer that is found
-  any_at : (ends : List OpenedEnd) (k : ℕ) (x : OpenedEnd) → slice_get ends k ≡ Some x → Repeats from packet x → AnyRepeats from packet ends
+  any_at : (ends : List WorldEnd) (k : ℕ) (x : WorldEnd) → slice_get ends k ≡ Some x → Repeats from packet x → AnyRepeats from packet ends
   any_at [] k x e r = absurd (let f : None ≡ Some x = e in cc)
   any_at (y ∷ ends) zero x e r = inl (subst (Repeats from packet) (sym (same_Some y x e)) r)
   any_at (y ∷ ends) (suc k) x e r = inr (any_at ends k x e r)
@@ -44,7 +44,7 @@ module _ (from : Endpoint) (packet : Packet) where
   module _ (held : List (ℕ × Transfer)) where
     -- an open end of the server, by what is held of it
     served_here : (port : ℕ) (s : Served) (ended : Option Record) (t : Transfer) → ended ≡ None → at port held ≡ Some t →
-        served_end port s ended (at port held) ≡ served_as port s t.end (left_in t.files) (server.draft_of t.files) t.request
+        served_end port s ended (at port held) ≡ Open_end (served_as port s t.end (left_in t.files) (server.draft_of t.files) t.request)
     served_here port s ended t lives found =
         ap (λ (o : Option Record). served_end port s o (at port held)) lives ∙ ap (λ (o : Option Transfer). served_end port s None o) found
 
@@ -62,10 +62,10 @@ module _ (from : Endpoint) (packet : Packet) where
           let own = h.0 in
           let port = 1024 + own.place in
           let found : at port held ≡ Some e.1 = ap (λ (n : ℕ). at n held) (sym own.is) ∙ h.1 in
-          let here : end_at port held (Server own.served) ≡ served_as port own.served e.1.end (left_in e.1.files) (server.draft_of e.1.files) e.1.request = served_here port own.served own.served.ended e.1 own.lives found in
+          let here : end_at port held (Server own.served) ≡ Open_end (served_as port own.served e.1.end (left_in e.1.files) (server.draft_of e.1.files) e.1.request) = served_here port own.served own.served.ended e.1 own.lives found in
           let side = served_side port own.served own.served.ended e.1 own.lives found (kept_at held ps own.place (Server own.served) all own.there) in
           any_at (ends_from 1024 held ps) own.place (end_at port held (Server own.served)) (ends_get held ps own.place (Server own.served) own.there)
-          (subst (Repeats from packet) (sym here) (record { server = side; still = r.still; peer = r.peer; same = r.same }))
+          (subst (Repeats from packet) (sym here) (record { server = side; peer = r.peer; same = r.same }))
 
       any_owned : (es : List (ℕ × Transfer)) → AllByRecursion Has_end es → server.AnyRepeats from packet es → AnyRepeats from packet (ends_from 1024 held ps)
       any_owned [] owned r = absurd r
@@ -74,15 +74,17 @@ module _ (from : Endpoint) (packet : Packet) where
 
     -- what repeats an end repeats the transfer that is held of it
     served_repeats : (port : ℕ) (s : Served) (ended : Option Record) → IsServed port s ended held → Repeats from packet (served_end port s ended (at port held)) → server.AnyRepeats from packet held
-    served_repeats port s (Some q) kept r = absurd (true≢false r.still)
+    served_repeats port s (Some q) kept r = absurd r
     served_repeats port s None kept r =
         let t = kept.transfer in
         let own = subst (Repeats from packet) (served_here port s None t refl kept.found) r in
-        any_found port held t kept.found (record { still = own.still; peer = own.peer; same = own.same })
+        any_found port held t kept.found (record { still = kept.is_open; peer = own.peer; same = own.same })
 
     end_repeats : (port : ℕ) (p : Player) → PlayerKept port held p → Repeats from packet (end_at port held p) → server.AnyRepeats from packet held
-    end_repeats port (Client c) kept r =
-        absurd (true≢false (sym kept.0 ∙ (ap (λ (q : Record). is_client q.side) (sym (at_rest_record (client_end port c))) ∙ r.server)))
+    end_repeats port (Client c) kept r = absurd (by_case (outcome_of c.end.progress.phase) r) where
+      by_case : (o : Option Outcome) → Repeats from packet (by_outcome o (client_end port c)) → ⊥
+      by_case None asked = true≢false (sym kept.0 ∙ asked.server)
+      by_case (Some outcome) none = none
     end_repeats port (Server s) kept r = served_repeats port s s.ended kept r
 
     any_end : (port : ℕ) (ps : List Player) → AllKept port held ps → AnyRepeats from packet (ends_from port held ps) → server.AnyRepeats from packet held

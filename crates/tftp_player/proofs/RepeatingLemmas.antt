@@ -13,9 +13,10 @@ use Rattle.tftp_negotiate.specs.declared.known.Known.{Known}
 use Rattle.tftp_file.specs.declared.files.Files.{Files}
 use Rattle.tftp_file.specs.declared.files.Files.TheVariants.{Source, Sink}
 use Rattle.tftp_file.specs.Sink.{Holding}
+use Rattle.tftp_ends.specs.declared.outcome.Outcome.{Outcome}
 use Rattle.tftp_ends.specs.declared.phase.Phase.{Phase}
 use Rattle.tftp_ends.specs.declared.phase.Terms.{Terms}
-use Rattle.tftp_ends.specs.End.{is_sender, terms_of}
+use Rattle.tftp_ends.specs.End.{is_sender, terms_of, outcome_of}
 use Rattle.tftp_ends.specs.declared.error_reply.ErrorReply.TheVariants.{IllegalOperation}
 use Rattle.tftp_ends.specs.Action.{Decodes}
 use Rattle.tftp_ends.specs.Step.{Turn, timeout_turn}
@@ -23,14 +24,13 @@ use Rattle.tftp_server.specs.Port.{Service, Silent, Refused, Sends, Takes, Ignor
 use Rattle.tftp_player.specs.Machine.{Endpoint, request_port}
 use Rattle.tftp_player.specs.Openings.{sending_end, receiving_end}
 use Rattle.tftp_player.specs.Repeating.{AsksForTransfer, RepeatsOpenNothing, IsNewRequest, OnlyNewRequestsOpen, RequestsLast}
-use Rattle.tftp_player.specs.Requests.{IsRepeated, Repeats, AnyRepeats, served, service}
-use Rattle.tftp_player.specs.World.{WorldState, OpenedEnd, at_rest, end_after, files_of, is_closed, peer_of, view_of_end}
+use Rattle.tftp_player.specs.Requests.{IsRepeated, WasAskedBy, Repeats, AnyRepeats, served, service}
+use Rattle.tftp_player.specs.World.{WorldState, OpenEnd, WorldEnd, Open_end, Closed_end, by_outcome, standing, end_after, files_of, is_closed, peer_of, view_of_end}
 use Rattle.tftp_player.specs.WorldKept.{IsOk}
-use Rattle.tftp_player.specs.WorldSteps.{Serves, Arrives, At_request_port, At_open_end, At_closed_end, At_nobody, Opens, Stays, Turns, TimesOut, told_to_refuse, WorldStep}
+use Rattle.tftp_player.specs.WorldSteps.{Serves, Arrives, At_request_port, At_open_end, At_closed_end, At_nobody, Opens, Stays, Turns, TimesOut, told_end, WorldStep}
 use Rattle.tftp_player.specs.declared.event.Event.{Event}
 use Rattle.tftp_player.specs.declared.event.Event.TheVariants.{Get, Put, Deliver, Timeout, RefuseStore, Stray}
 use Rattle.tftp_player.specs.declared.report.Report.{Report}
-use Rattle.tftp_player.proofs.Resting.{at_rest_open, at_rest_closed}
 use Rattle.tftp_player.proofs.Places.{slice_get-push_old, slice_get-set_cases}
 use Rattle.tftp_player.proofs.ServerLemmas.{says_one}
 use Rattle.tftp_player.proofs.TermsKept.{step_has, timeout_has}
@@ -39,9 +39,9 @@ use Rattle.tftp_player.proofs.WorldTurns.{view_at}
 -- ---- what repeats a request is ignored
 
 -- no end is at the request port
-none_at_port : (strangers : Bool) (w : WorldState) (k : ℕ) (x : OpenedEnd) → IsOk strangers w → slice_get w.ends k ≡ Some x → x.address ≡ request_port → ⊥
+none_at_port : (strangers : Bool) (w : WorldState) (k : ℕ) (x : OpenEnd) → IsOk strangers w → slice_get w.ends k ≡ Some (Open_end x) → x.address ≡ request_port → ⊥
 none_at_port strangers w k x ok there at =
-    let p = (ok.shown.3.ends k (view_of_end x) (view_at w.ends k x there)).1 in
+    let p = (ok.shown.3.ends k (view_of_end (Open_end x)) (view_at w.ends k (Open_end x) there)).1 in
     let q : x.address.port ≡ 69 = ap (λ (e : Endpoint). e.port) at in
     omega (arith, p, q)
 
@@ -68,8 +68,8 @@ module _ (old new : WorldState) (from : Endpoint) (packet : Packet) (bytes : Lis
       let e = says_one bytes decoded (Some packet) says spells in
       at_port repeated (subst (λ (d : Option Packet). IsRepeated repeated from d old.ends) e same)
       (subst (λ (d : Option Packet). Serves (service old repeated bytes d) old from bytes report new) e s)
-  stays strangers to ok here (At_open_end k x there at open_now t) = absurd (none_at_port strangers old k x ok there (at ∙ here))
-  stays strangers to ok here (At_closed_end k x there at closed_now s) = s
+  stays strangers to ok here (At_open_end k x there at t) = absurd (none_at_port strangers old k x ok there (at ∙ here))
+  stays strangers to ok here (At_closed_end k x there at s) = s
   stays strangers to ok here (At_nobody away nobody s) = absurd (away here)
 
 pub repeats_open_nothing : RepeatsOpenNothing
@@ -79,19 +79,19 @@ repeats_open_nothing strangers old new from packet bytes report ok asks spells a
 
 -- ---- what opens an end
 
-any_last : (from : Endpoint) (packet : Packet) (ends : List OpenedEnd) (x : OpenedEnd) → Repeats from packet x → AnyRepeats from packet (ends ++ x ∷ [])
+any_last : (from : Endpoint) (packet : Packet) (ends : List WorldEnd) (x : WorldEnd) → Repeats from packet x → AnyRepeats from packet (ends ++ x ∷ [])
 any_last from packet [] x r = inl r
 any_last from packet (y ∷ ends) x r = inr (any_last from packet ends x r)
 
 sender_repeats : (w : WorldState) (from : Endpoint) (bytes : List ℕ) (mode : Mode) (path file : List ℕ) (agreed : List Known) (packet : Packet) → Spells packet bytes →
-    Repeats from packet (sending_end w from bytes mode path file agreed)
-sender_repeats w from bytes mode path file [] packet spells = record { server = refl; still = refl; peer = refl; same = spells }
-sender_repeats w from bytes mode path file (known ∷ agreed) packet spells = record { server = refl; still = refl; peer = refl; same = spells }
+    WasAskedBy from packet (sending_end w from bytes mode path file agreed)
+sender_repeats w from bytes mode path file [] packet spells = record { server = refl; peer = refl; same = spells }
+sender_repeats w from bytes mode path file (known ∷ agreed) packet spells = record { server = refl; peer = refl; same = spells }
 
 receiver_repeats : (w : WorldState) (from : Endpoint) (bytes : List ℕ) (mode : Mode) (path : List ℕ) (agreed : List Known) (packet : Packet) → Spells packet bytes →
-    Repeats from packet (receiving_end w from bytes mode path agreed)
-receiver_repeats w from bytes mode path [] packet spells = record { server = refl; still = refl; peer = refl; same = spells }
-receiver_repeats w from bytes mode path (known ∷ agreed) packet spells = record { server = refl; still = refl; peer = refl; same = spells }
+    WasAskedBy from packet (receiving_end w from bytes mode path agreed)
+receiver_repeats w from bytes mode path [] packet spells = record { server = refl; peer = refl; same = spells }
+receiver_repeats w from bytes mode path (known ∷ agreed) packet spells = record { server = refl; peer = refl; same = spells }
 
 module _ (old new : WorldState) (from : Endpoint) (bytes : List ℕ) (report : Report) (more : length old.ends < length new.ends) where
   abbrev Serves_so : Service → Type 0
@@ -107,8 +107,8 @@ module _ (old new : WorldState) (from : Endpoint) (bytes : List ℕ) (report : R
   said : (w : WorldState) → new ≡ w → w.ends ≡ old.ends → ⊥
   said w is e = same (ap (λ (v : WorldState). length v.ends) is ∙ ap length e)
 
-  opened_repeats : (packet : Packet) (x : OpenedEnd) → Opens old x report new → Repeats from packet x → AnyRepeats from packet new.ends
-  opened_repeats packet x o r = subst (λ (w : WorldState). AnyRepeats from packet w.ends) (sym o.is) (any_last from packet old.ends x r)
+  opened_repeats : (packet : Packet) (x : OpenEnd) → Opens old x report new → WasAskedBy from packet x → AnyRepeats from packet new.ends
+  opened_repeats packet x o r = subst (λ (w : WorldState). AnyRepeats from packet w.ends) (sym o.is) (any_last from packet old.ends (Open_end x) r)
 
   served_repeats : (what : Service) (packet : Packet) → Spells packet bytes → Serves_so what → AnyRepeats from packet new.ends
   served_repeats Silent packet spells s = absurd (still s)
@@ -143,13 +143,13 @@ module _ (old new : WorldState) (from : Endpoint) (bytes : List ℕ) (report : R
   port_opens to here (Some (Error code text)) says repeated same s = absurd (no_request (has_error_opcode bytes) s)
   port_opens to here (Some (Oack options)) says repeated same s = absurd (no_request (has_error_opcode bytes) s)
 
-  turned : (k : ℕ) (x : OpenedEnd) (turn : Turn) (held : Files (List ℕ) Holding) → Turns old k x turn held report new → ⊥
-  turned k x turn held t = same (ap (λ (w : WorldState). length w.ends) t.is ∙ length-set old.ends k (at_rest (end_after x turn held)))
+  turned : (k : ℕ) (x : OpenEnd) (turn : Turn) (held : Files (List ℕ) Holding) → Turns old k x turn held report new → ⊥
+  turned k x turn held t = same (ap (λ (w : WorldState). length w.ends) t.is ∙ length-set old.ends k (standing (end_after x turn held)))
 
   opens : (to : Endpoint) → Arrives old from to bytes report new → IsNewRequest from to bytes old new
   opens to (At_request_port here port decoded says repeated same s) = port_opens to here decoded says repeated same s
-  opens to (At_open_end k x there at open_now t) = absurd (turned k x t.turn t.held t.turns)
-  opens to (At_closed_end k x there at closed_now s) = absurd (still s)
+  opens to (At_open_end k x there at t) = absurd (turned k x t.turn t.held t.turns)
+  opens to (At_closed_end k x there at s) = absurd (still s)
   opens to (At_nobody away nobody s) = absurd (still s)
 
 pub only_new_requests_open : OnlyNewRequestsOpen
@@ -166,39 +166,40 @@ same_peer phase phase' from peer stays = by_terms (terms_of phase) refl peer whe
 
 module _ (from : Endpoint) (packet : Packet) where
   -- while it is open it is repeated
-  abbrev Lasts : OpenedEnd → Type 0
+  abbrev Lasts : WorldEnd → Type 0
   Lasts x = is_closed x ≡ false → Repeats from packet x
 
-  turn_lasts : (x : OpenedEnd) (turn : Turn) (held : Files (List ℕ) Holding) →
-      ((agreed : Terms) → terms_of x.state.progress.phase ≡ Some agreed → terms_of turn.progress.phase ≡ Some agreed) → Repeats from packet x → Lasts (at_rest (end_after x turn held))
-  turn_lasts x turn held stays r o = subst (Repeats from packet) (sym (at_rest_open (end_after x turn held) still)) (by_files held still) where
-    still : is_closed (end_after x turn held) ≡ false
-    still = sym (at_rest_closed (end_after x turn held)) ∙ o
+  turn_lasts : (x : OpenEnd) (turn : Turn) (held : Files (List ℕ) Holding) →
+      ((agreed : Terms) → terms_of x.state.progress.phase ≡ Some agreed → terms_of turn.progress.phase ≡ Some agreed) → WasAskedBy from packet x → Lasts (standing (end_after x turn held))
+  turn_lasts x turn held stays r = by_case (outcome_of (end_after x turn held).state.progress.phase) where
+    by_files : (files : Files (List ℕ) Holding) → WasAskedBy from packet (end_after x turn files)
+    by_files (Source left) = record { server = r.server; peer = same_peer x.state.progress.phase turn.progress.phase from r.peer stays; same = r.same }
+    by_files (Sink holding) = record { server = r.server; peer = same_peer x.state.progress.phase turn.progress.phase from r.peer stays; same = r.same }
 
-    by_files : (files : Files (List ℕ) Holding) → is_closed (end_after x turn files) ≡ false → Repeats from packet (end_after x turn files)
-    by_files (Source left) open_now = record { server = r.server; still = open_now; peer = same_peer x.state.progress.phase turn.progress.phase from r.peer stays; same = r.same }
-    by_files (Sink holding) open_now = record { server = r.server; still = open_now; peer = same_peer x.state.progress.phase turn.progress.phase from r.peer stays; same = r.same }
+    by_case : (o : Option Outcome) → Lasts (by_outcome o (end_after x turn held))
+    by_case None open_now = by_files held
+    by_case (Some outcome) open_now = absurd (true≢false open_now)
 
-  told_lasts : (x : OpenedEnd) → Repeats from packet x → Repeats from packet (told_to_refuse x)
-  told_lasts x r = by_tests (is_sender x.state.role.side) (is_closed x) where
-    by_tests : (sender closed : Bool) → Repeats from packet (if sender then x else if closed then x else record x { refuses = true })
-    by_tests true closed = r
-    by_tests false true = r
-    by_tests false false = record { server = r.server; still = r.still; peer = r.peer; same = r.same }
+  told_lasts : (x : WorldEnd) → Repeats from packet x → Repeats from packet (told_end x)
+  told_lasts (Open_end x) r = by_test (is_sender x.state.role.side) where
+    by_test : (sender : Bool) → Repeats from packet (Open_end (if sender then x else record x { refuses = true }))
+    by_test true = r
+    by_test false = record { server = r.server; peer = r.peer; same = r.same }
+  told_lasts (Closed_end x) r = r
 
-  module _ (old new : WorldState) (report : Report) (k : ℕ) (x z : OpenedEnd) (there : slice_get old.ends k ≡ Some x) (r : Repeats from packet x) (here : slice_get new.ends k ≡ Some z) where
+  module _ (old new : WorldState) (report : Report) (k : ℕ) (x z : WorldEnd) (there : slice_get old.ends k ≡ Some x) (r : Repeats from packet x) (here : slice_get new.ends k ≡ Some z) where
     same_end : new.ends ≡ old.ends → Lasts z
-    same_end e o = subst (Repeats from packet) (same_Some x z (sym there ∙ (ap (λ (ends : List OpenedEnd). slice_get ends k) (sym e) ∙ here))) r
+    same_end e o = subst (Repeats from packet) (same_Some x z (sym there ∙ (ap (λ (ends : List WorldEnd). slice_get ends k) (sym e) ∙ here))) r
 
     same_world : Stays old report new → Lasts z
     same_world s = same_end (ap (λ (w : WorldState). w.ends) s.is)
 
-    pushed : (y : OpenedEnd) → Opens old y report new → Lasts z
-    pushed y opens o = subst (Repeats from packet) (same_Some x z (sym (slice_get-push_old old.ends k y x there) ∙ (ap (λ (w : WorldState). slice_get w.ends k) (sym opens.is) ∙ here))) r
+    pushed : (y : OpenEnd) → Opens old y report new → Lasts z
+    pushed y opens o = subst (Repeats from packet) (same_Some x z (sym (slice_get-push_old old.ends k (Open_end y) x there) ∙ (ap (λ (w : WorldState). slice_get w.ends k) (sym opens.is) ∙ here))) r
 
     -- the end at a place became another
-    set_at : (j : ℕ) (y a : OpenedEnd) → new.ends ≡ slice_set old.ends j a → slice_get old.ends j ≡ Some y → (Repeats from packet y → Lasts a) → Lasts z
-    set_at j y a e at lasts = elim (slice_get-set_cases old.ends j k a z (ap (λ (ends : List OpenedEnd). slice_get ends k) (sym e) ∙ here)) [
+    set_at : (j : ℕ) (y a : WorldEnd) → new.ends ≡ slice_set old.ends j a → slice_get old.ends j ≡ Some y → (Repeats from packet y → Lasts a) → Lasts z
+    set_at j y a e at lasts = elim (slice_get-set_cases old.ends j k a z (ap (λ (ends : List WorldEnd). slice_get ends k) (sym e) ∙ here)) [
       | inl h ↦ subst Lasts (sym h.1) (lasts (subst (Repeats from packet) (same_Some x y (sym there ∙ (ap (slice_get old.ends) h.0 ∙ at))) r))
       | inr h ↦ λ o. subst (Repeats from packet) (same_Some x z (sym there ∙ h.1)) r
     ]
@@ -211,25 +212,25 @@ module _ (from : Endpoint) (packet : Packet) where
 
     at_arrival : (by to : Endpoint) (bytes : List ℕ) → Arrives old by to bytes report new → Lasts z
     at_arrival by to bytes (At_request_port asked port decoded says repeated same s) = at_service _ bytes by s
-    at_arrival by to bytes (At_open_end j y there_now at open_now t) =
-        set_at j y (at_rest (end_after y t.turn t.held)) (ap (λ (w : WorldState). w.ends) t.turns.is) there_now
+    at_arrival by to bytes (At_open_end j y there_now at t) =
+        set_at j (Open_end y) (standing (end_after y t.turn t.held)) (ap (λ (w : WorldState). w.ends) t.turns.is) there_now
         (turn_lasts y t.turn t.held (λ agreed h. step_has agreed _ by bytes y.state (files_of y) t.held t.turn h t.steps))
-    at_arrival by to bytes (At_closed_end j y there_now at closed_now s) = same_world s
+    at_arrival by to bytes (At_closed_end j y there_now at s) = same_world s
     at_arrival by to bytes (At_nobody away nobody s) = same_world s
 
-    at_timeout : (b : Bool) (j : ℕ) (y : OpenedEnd) → slice_get old.ends j ≡ Some y → TimesOut b old j y report new → Lasts z
-    at_timeout true j y at s = same_world s
-    at_timeout false j y at t =
-        set_at j y (at_rest (end_after y (timeout_turn y.state) (files_of y))) (ap (λ (w : WorldState). w.ends) t.is) at
+    at_timeout : (j : ℕ) (y : WorldEnd) → slice_get old.ends j ≡ Some y → TimesOut old j y report new → Lasts z
+    at_timeout j (Closed_end y) at s = same_world s
+    at_timeout j (Open_end y) at t =
+        set_at j (Open_end y) (standing (end_after y (timeout_turn y.state) (files_of y))) (ap (λ (w : WorldState). w.ends) t.is) at
         (turn_lasts y (timeout_turn y.state) (files_of y) (λ agreed h. timeout_has agreed y.state h))
 
     at_event : (event : Event) → WorldStep old event report new → Lasts z
     at_event (Get name mode asked) s = pushed _ s.2
     at_event (Put name mode asked bytes) s = pushed _ s.2
     at_event (Deliver i) s = at_arrival _ _ _ s.2
-    at_event (Timeout port) s = at_timeout _ s.0 s.1 s.2.there s.3
+    at_event (Timeout port) s = at_timeout s.0 s.1 s.2.there s.3
     at_event (RefuseStore port) s =
-        set_at s.0 s.1 (told_to_refuse s.1) (ap (λ (w : WorldState). w.ends) s.4) s.2.there (λ own o. told_lasts s.1 own)
+        set_at s.0 s.1 (told_end s.1) (ap (λ (w : WorldState). w.ends) s.4) s.2.there (λ own o. told_lasts s.1 own)
     at_event (Stray by to bytes) s = at_arrival _ _ _ s.1
 
 pub requests_last : RequestsLast

@@ -14,29 +14,29 @@ use Rattle.tftp_player.specs.Draw.{drawn, words_drawn}
 use Rattle.tftp_player.specs.Machine.{Endpoint}
 use Rattle.tftp_player.specs.Played.{records_from}
 use Rattle.tftp_player.specs.PlayedWorld.{HasSentEach}
-use Rattle.tftp_player.specs.World.{WorldState, OpenedEnd, at_rest, replied, end_after}
-use Rattle.tftp_player.specs.WorldSteps.{Serves, Arrives, At_request_port, At_open_end, At_closed_end, At_nobody, Opens, Stays, Turns, TimesOut, told_to_refuse, WorldStep}
+use Rattle.tftp_player.specs.World.{WorldState, OpenEnd, WorldEnd, Open_end, Closed_end, standing, replied, end_after}
+use Rattle.tftp_player.specs.WorldSteps.{Serves, Arrives, At_request_port, At_open_end, At_closed_end, At_nobody, Opens, Stays, Turns, TimesOut, told_end, WorldStep}
 use Rattle.tftp_player.specs.declared.event.Event.{Event}
 use Rattle.tftp_player.specs.declared.event.Event.TheVariants.{Get, Put, Deliver, Timeout, RefuseStore, Stray}
 use Rattle.tftp_player.specs.declared.report.Report.{Report}
 
 -- an end opened, and sent
-opens : (old new : WorldState) (x : OpenedEnd) (report : Report) → Opens old x report new → HasSentEach old → HasSentEach new
+opens : (old new : WorldState) (x : OpenEnd) (report : Report) → Opens old x report new → HasSentEach old → HasSentEach new
 opens old new x report o h =
     subst HasSentEach (sym o.is)
-    (let a = length-append old.ends (x ∷ []) in let b = length-append old.sent (record { from = x.address; to = x.state.progress.last_sent_to; bytes = x.state.progress.last_sent } ∷ []) in
-    let l : length (old.ends ++ x ∷ []) ≤ length (old.sent ++ record { from = x.address; to = x.state.progress.last_sent_to; bytes = x.state.progress.last_sent } ∷ []) = omega (arith, a, b, h) in l)
+    (let a = length-append old.ends (Open_end x ∷ []) in let b = length-append old.sent (record { from = x.address; to = x.state.progress.last_sent_to; bytes = x.state.progress.last_sent } ∷ []) in
+    let l : length (old.ends ++ Open_end x ∷ []) ≤ length (old.sent ++ record { from = x.address; to = x.state.progress.last_sent_to; bytes = x.state.progress.last_sent } ∷ []) = omega (arith, a, b, h) in l)
 
 -- nothing happened
 stays : (old new : WorldState) (report : Report) → Stays old report new → HasSentEach old → HasSentEach new
 stays old new report s h = subst HasSentEach (sym s.is) h
 
 -- an end made a turn
-turns : (old new : WorldState) (k : ℕ) (x : OpenedEnd) (turn : Turn) (held : Files (List ℕ) Holding) (report : Report) → Turns old k x turn held report new → HasSentEach old → HasSentEach new
+turns : (old new : WorldState) (k : ℕ) (x : OpenEnd) (turn : Turn) (held : Files (List ℕ) Holding) (report : Report) → Turns old k x turn held report new → HasSentEach old → HasSentEach new
 turns old new k x turn held report t h =
     subst HasSentEach (sym t.is)
-    (let a = length-set old.ends k (at_rest (end_after x turn held)) in let b = length-append old.sent (replied x.address turn.reply) in
-    let l : length (slice_set old.ends k (at_rest (end_after x turn held))) ≤ length (old.sent ++ replied x.address turn.reply) = omega (arith, a, b, h) in l)
+    (let a = length-set old.ends k (standing (end_after x turn held)) in let b = length-append old.sent (replied x.address turn.reply) in
+    let l : length (slice_set old.ends k (standing (end_after x turn held))) ≤ length (old.sent ++ replied x.address turn.reply) = omega (arith, a, b, h) in l)
 
 -- the request port was asked
 serves : (service : Service) (old new : WorldState) (from : Endpoint) (bytes : List ℕ) (report : Report) → Serves service old from bytes report new → HasSentEach old → HasSentEach new
@@ -48,30 +48,30 @@ serves (Takes path mode agreed) old new from bytes report s h = opens old new _ 
 
 arrives : (old new : WorldState) (from to : Endpoint) (bytes : List ℕ) (report : Report) → Arrives old from to bytes report new → HasSentEach old → HasSentEach new
 arrives old new from to bytes report (At_request_port here port decoded says repeated same served) h = serves _ old new from bytes report served h
-arrives old new from to bytes report (At_open_end k x there at open_now takes) h = turns old new k x takes.turn takes.held report takes.turns h
-arrives old new from to bytes report (At_closed_end k x there at closed_now s) h = stays old new report s h
+arrives old new from to bytes report (At_open_end k x there at takes) h = turns old new k x takes.turn takes.held report takes.turns h
+arrives old new from to bytes report (At_closed_end k x there at s) h = stays old new report s h
 arrives old new from to bytes report (At_nobody away nobody s) h = stays old new report s h
 
-times_out : (b : Bool) (old new : WorldState) (k : ℕ) (x : OpenedEnd) (report : Report) → TimesOut b old k x report new → HasSentEach old → HasSentEach new
-times_out true old new k x report s h = stays old new report s h
-times_out false old new k x report t h = turns old new k x _ _ report t h
+times_out : (old new : WorldState) (k : ℕ) (x : WorldEnd) (report : Report) → TimesOut old k x report new → HasSentEach old → HasSentEach new
+times_out old new k (Closed_end x) report s h = stays old new report s h
+times_out old new k (Open_end x) report t h = turns old new k x _ _ report t h
 
 pub sends_each : (old new : WorldState) (event : Event) (report : Report) → WorldStep old event report new → HasSentEach old → HasSentEach new
 sends_each old new (Get name mode asked) report s h = opens old new _ report s.2 h
 sends_each old new (Put name mode asked bytes) report s h = opens old new _ report s.2 h
 sends_each old new (Deliver i) report s h = arrives old new _ _ _ report s.2 h
-sends_each old new (Timeout port) report s h = times_out _ old new _ _ report s.3 h
+sends_each old new (Timeout port) report s h = times_out old new _ s.1 report s.3 h
 sends_each old new (RefuseStore port) report s h =
-    subst HasSentEach (sym s.4) (let a = length-set old.ends s.0 (told_to_refuse s.1) in let l : length (slice_set old.ends s.0 (told_to_refuse s.1)) ≤ length old.sent = omega (arith, a, h) in l)
+    subst HasSentEach (sym s.4) (let a = length-set old.ends s.0 (told_end s.1) in let l : length (slice_set old.ends s.0 (told_end s.1)) ≤ length old.sent = omega (arith, a, h) in l)
 sends_each old new (Stray from to bytes) report s h = arrives old new _ _ _ report s.1 h
 
 -- the port of the end at a place is recorded there
-pub record_port : (port : ℕ) (ends : List OpenedEnd) (k : ℕ) (d : ℕ × Record) → k < length ends → (slice_index_or (records_from port ends) k d).0 ≡ port + k
+pub record_port : (port : ℕ) (ends : List WorldEnd) (k : ℕ) (d : ℕ × Record) → k < length ends → (slice_index_or (records_from port ends) k d).0 ≡ port + k
 record_port port [] k d within = absurd (let h : k < 0 = within in omega (arith, h))
 record_port port (x ∷ ends) zero d within = omega arith
 record_port port (x ∷ ends) (suc k) d within = let n = record_port (port + 1) ends k d (omega (arith, within)) in omega (arith, n)
 
-records_count : (port : ℕ) (ends : List OpenedEnd) → length (records_from port ends) ≡ length ends
+records_count : (port : ℕ) (ends : List WorldEnd) → length (records_from port ends) ≡ length ends
 records_count port [] = refl
 records_count port (x ∷ ends) = ap suc (records_count (port + 1) ends)
 

@@ -38,7 +38,7 @@ use Rattle.tftp_server.specs.Memory.{MayRefuseBegin, MayRefuseOpen, memory_meani
 use Rattle.tftp_server.specs.Store.{Stored, Drafted, Opens, Begins, is_taken, measured, new_draft}
 use Rattle.tftp_server.specs.declared.store.Opening.{Opening}
 use Rattle.tftp_player.specs.Machine.{Endpoint}
-use Rattle.tftp_player.specs.World.{WorldState, StoredFile, OpenedEnd, file_at, in_the_way}
+use Rattle.tftp_player.specs.World.{WorldState, StoredFile, OpenEnd, file_at, in_the_way}
 use Rattle.tftp_player.specs.Openings.{sending_end, receiving_end}
 use Rattle.tftp_server.specs.Port.{Ask, Ignores, Refuses, Reads, Writes, Service, Silent, Refused, Sends, Takes, accept_reply, asks, by_draft, by_file, by_length}
 use Rattle.tftp_player.specs.Requests.{begun_of, open_transfers, opened_of, served, service}
@@ -114,10 +114,10 @@ taken_is true there = refl
 taken_is false there = refl
 
 -- the transfer that a new sender or receiver of the world is at its server
-abbrev pub held_sender : OpenedEnd → Transfer
+abbrev pub held_sender : OpenEnd → Transfer
 held_sender x = record { end = x.state; files = Source x.left; path = x.path; request = x.request }
 
-abbrev pub held_receiver : OpenedEnd → Transfer
+abbrev pub held_receiver : OpenEnd → Transfer
 held_receiver x = record { end = x.state; files = Sink new_draft; path = x.path; request = x.request }
 
 -- what a request is answered from

@@ -16,7 +16,7 @@ use Rattle.tftp_server.specs.Memory.{memory_meaning}
 use Rattle.tftp_server.specs.Steps.{StepIn}
 use Rattle.tftp_server.specs.Store.{Stored, Drafted, FileList, is_taken}
 use Rattle.tftp_player.specs.Machine.{Endpoint}
-use Rattle.tftp_player.specs.World.{OpenedEnd, StoredFile, file_at, in_the_way, in_state, files_of, holding_of, with_files, end_after}
+use Rattle.tftp_player.specs.World.{OpenEnd, StoredFile, file_at, in_the_way, in_state, files_of, holding_of, with_files, end_after}
 use Rattle.tftp_player.specs.WorldSteps.{EndStep, may_refuse_append, may_refuse_commit, FilesAfter, world_sink}
 use Rattle.tftp_player.proofs.FileLemmas.{not_taken, is_in_the_way}
 use Rattle.tftp_player.proofs.StageLemmas.{held_files}
@@ -36,11 +36,11 @@ files_same overwrite client old new path bytes files e =
     (sym (ap (λ (c : Bool). not client && (not old && c)) e ∙ (ap (λ (c : Bool). not client && c) (none_new old) ∙ none_put (not client)))) refl
 
 -- ---- a timeout, at an end of either host
-same_with : (b : Bool) (x : OpenedEnd) → with_files x (if b then Source x.left else Sink (holding_of x)) ≡ x
+same_with : (b : Bool) (x : OpenEnd) → with_files x (if b then Source x.left else Sink (holding_of x)) ≡ x
 same_with true x = refl
 same_with false x = refl
 
-pub timeout_after : (x : OpenedEnd) (turn : Turn) → end_after x turn (files_of x) ≡ in_state (after_turn x.state turn) x
+pub timeout_after : (x : OpenEnd) (turn : Turn) → end_after x turn (files_of x) ≡ in_state (after_turn x.state turn) x
 timeout_after x turn = same_with (is_sender x.state.role.side) (in_state (after_turn x.state turn) x)
 
 -- ---- a datagram, at a transfer of the server: its draft and the store are a sink of the world

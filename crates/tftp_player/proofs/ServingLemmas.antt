@@ -22,7 +22,7 @@ use Rattle.tftp_server.specs.Store.{Stored, Drafted, FileList, new_draft}
 use Rattle.tftp_player.specs.Machine.{Endpoint}
 use Rattle.tftp_player.specs.Clients.{server_at}
 use Rattle.tftp_player.specs.Effect.{effect_of}
-use Rattle.tftp_player.specs.Serving.{PlayedServer, Transfer, ServedKept, ServedTurns, ServedTimeoutStep, ServedDatagramStep, Concludes, ClosesAs, rested_served, rested_held}
+use Rattle.tftp_player.specs.Serving.{PlayedServer, Transfer, ServedKept, ServedTurns, ServedTimeoutStep, ServedDatagramStep, Concludes, ClosesAs, concluded_served, concluded_held}
 use Rattle.tftp_player.specs.declared.effect.Effect.{Effect}
 use Rattle.tftp_player.specs.declared.served.Served.{Served}
 use Rattle.tftp_player.proofs.HeldLemmas.{at-with_next}
@@ -60,10 +60,10 @@ turns_served port was old new before mid after e turn next refuses store effect 
       end = is;
       effects = effects;
       recorded = recorded ∙ ap record_of is;
-      served = d.0 ∙ (ap (λ (r : Record). rested_served (is_closed next) r (draft_of next.files) old) (sym recorded)
-          ∙ (ap (λ (b : Bool). rested_served b r (draft_of next.files) old) closed ∙ ap (rested_served (is_some (outcome_of turn.progress.phase)) r (draft_of next.files)) told_so));
-      server = d.1 ∙ (ap (λ (b : Bool). record mid { held = rested_held b port mid.held }) closed
-          ∙ ap (λ (m : PlayedServer). record m { held = rested_held (is_some (outcome_of turn.progress.phase)) port m.held }) server);
+      served = d.0 ∙ (ap (λ (r : Record). concluded_served (is_closed next) r (draft_of next.files) old) (sym recorded)
+          ∙ (ap (λ (b : Bool). concluded_served b r (draft_of next.files) old) closed ∙ ap (concluded_served (is_some (outcome_of turn.progress.phase)) r (draft_of next.files)) told_so));
+      server = d.1 ∙ (ap (λ (b : Bool). record mid { held = concluded_held b port mid.held }) closed
+          ∙ ap (λ (m : PlayedServer). record m { held = concluded_held (is_some (outcome_of turn.progress.phase)) port m.held }) server);
     }
 
 pub served_times_out : (port : ℕ) (old new : Served) (before mid after : PlayedServer) (step : Step) (start out : List ℕ) (effect : Effect) (r : Record) → start ≡ [] →

@@ -28,12 +28,13 @@ use Rattle.tftp_ends.specs.Text.{Decoded, is_readable, begins_netascii, ends_in_
 use Rattle.tftp_player.specs.Machine.{Endpoint, Ack as Says_ack, Error, Message}
 use Rattle.tftp_player.specs.Rules.{message}
 use Rattle.tftp_player.specs.Shows.{EndView, IsShown}
-use Rattle.tftp_player.specs.World.{OpenedEnd, files_of, holding_of, end_after, has_failed, goes_on, text_of as text_of_end, view_of_end}
+use Rattle.tftp_player.specs.World.{OpenEnd, files_of, holding_of, end_after, goes_on, text_of as text_of_end}
 use Rattle.tftp_player.specs.WorldSteps.{may_refuse_append, world_sink}
 use Rattle.tftp_player.specs.WorldKept.{EndKept, HeldFits}
 use Rattle.tftp_player.proofs.HostBytes.{stored_more}
 use Rattle.tftp_player.proofs.SaidLemmas.{spells_own}
 use Rattle.tftp_player.proofs.EndMoves.{Goes, error_says, going_live}
+use Rattle.tftp_player.proofs.Standing.{has_failed, open_view}
 
 -- what a sink made of a block's bytes: all of them were stored, or none
 pub data Took (before after : Holding) (bytes : List ℕ) (answer : Result Done StoreFault) : Type 0 where
@@ -124,21 +125,21 @@ stores_in false f refuses_commit terms number from piece e left sink turn (Sink 
 stores_in false f refuses_commit terms number from piece e left sink turn (Source l) h = absurd h
 
 -- what the machine has for a receiver that was sent this block
-pub record Receives (views : List EndView) (messages : List Message) (k : ℕ) (x : OpenedEnd) (terms : Terms) (number : ℕ) (from : Endpoint) (piece : List ℕ) : Type 0 where
+pub record Receives (views : List EndView) (messages : List Message) (k : ℕ) (x : OpenEnd) (terms : Terms) (number : ℕ) (from : Endpoint) (piece : List ℕ) : Type 0 where
   pub receiver : is_sender x.state.role.side ≡ false
   pub going : goes_on x.state.progress.phase ≡ true
   pub incomplete : is_complete x.state.progress.phase ≡ false
   pub peer : from ≡ terms.peer
   pub fits : number < 2 ^ 16
-  pub stored : IsShown (set views k (record (view_of_end x) { peer = Some terms.peer; size = terms.size; number = number; done = nat_lt (length piece) terms.size; text = text_of_end x ++ piece })) (messages ++ message x.address from (Says_ack number) ∷ [])
+  pub stored : IsShown (set views k (record (open_view x) { peer = Some terms.peer; size = terms.size; number = number; done = nat_lt (length piece) terms.size; text = text_of_end x ++ piece })) (messages ++ message x.address from (Says_ack number) ∷ [])
   pub refused : (t : List ℕ) → IsBeginningOf t (text_of_end x ++ piece) →
-      IsShown (set views k (record (view_of_end x) { peer = Some terms.peer; size = terms.size; number = number_of x.state.progress.phase; failed = true; text = t })) (messages ++ message x.address from Error ∷ [])
+      IsShown (set views k (record (open_view x) { peer = Some terms.peer; size = terms.size; number = number_of x.state.progress.phase; failed = true; text = t })) (messages ++ message x.address from Error ∷ [])
 
 -- the block goes on with netascii, or is octet
-abbrev pub Readable : OpenedEnd → Terms → List ℕ → Type 0
+abbrev pub Readable : OpenEnd → Terms → List ℕ → Type 0
 Readable x terms piece = is_readable x.state.role.mode x.state.progress.held piece (nat_lt (length piece) terms.size) ≡ true
 
-module _ (views : List EndView) (messages : List Message) (k : ℕ) (x : OpenedEnd) (terms : Terms) (number : ℕ) (from : Endpoint) (piece : List ℕ)
+module _ (views : List EndView) (messages : List Message) (k : ℕ) (x : OpenEnd) (terms : Terms) (number : ℕ) (from : Endpoint) (piece : List ℕ)
     (kept : EndKept x) (r : Receives views messages k x terms number from piece) where
   -- what it has of its peer's text
   pub told : text_of_end x ≡ wire_text x.state.role.mode x.stored ++ x.state.progress.held
@@ -169,7 +170,7 @@ module _ (views : List EndView) (messages : List Message) (k : ℕ) (x : OpenedE
       let shown_now = r.refused (text_of_end y) (subst (λ (z : List ℕ). IsBeginningOf z (text_of_end x ++ piece)) (sym t) begins) in
       record {
         said_now = message x.address from Error ∷ [];
-        shown = subst (λ (b : Bool). IsShown (set views k (record (view_of_end y) { failed = not b })) (messages ++ message x.address from Error ∷ []))
+        shown = subst (λ (b : Bool). IsShown (set views k (record (open_view y) { failed = not b })) (messages ++ message x.address from Error ∷ []))
             (sym r.incomplete) shown_now;
         replies = error_says reply x.address from;
         kept = record { phase = tt; held = fits; committed = λ _. un ∙ sym r.incomplete };
@@ -181,11 +182,11 @@ module _ (views : List EndView) (messages : List Message) (k : ℕ) (x : OpenedE
   -- the block is acknowledged: stored, or stored and committed
   acknowledged : (sink : Holding) (more after : List ℕ) → sink.bytes ≡ x.stored ++ more → Decoded x.state.role.mode x.state.progress.held piece more after →
       (t : List ℕ) → wire_text x.state.role.mode (x.stored ++ more) ++ after ≡ t → (done : Bool) → nat_lt (length piece) terms.size ≡ done →
-      IsShown (set views k (record (view_of_end x) { peer = Some terms.peer; size = terms.size; number = number; done = done; text = t })) (messages ++ message x.address from (Says_ack number) ∷ [])
+      IsShown (set views k (record (open_view x) { peer = Some terms.peer; size = terms.size; number = number; done = done; text = t })) (messages ++ message x.address from (Says_ack number) ∷ [])
   acknowledged sink more after bytes d t text done last =
-      subst (λ (z : List ℕ). IsShown (set views k (record (view_of_end x) { peer = Some terms.peer; size = terms.size; number = number; done = done; text = z })) (messages ++ message x.address from (Says_ack number) ∷ []))
+      subst (λ (z : List ℕ). IsShown (set views k (record (open_view x) { peer = Some terms.peer; size = terms.size; number = number; done = done; text = z })) (messages ++ message x.address from (Says_ack number) ∷ []))
       (more_text more after d ∙ text)
-      (subst (λ (b : Bool). IsShown (set views k (record (view_of_end x) { peer = Some terms.peer; size = terms.size; number = number; done = b; text = text_of_end x ++ piece })) (messages ++ message x.address from (Says_ack number) ∷ []))
+      (subst (λ (b : Bool). IsShown (set views k (record (open_view x) { peer = Some terms.peer; size = terms.size; number = number; done = b; text = text_of_end x ++ piece })) (messages ++ message x.address from (Says_ack number) ∷ []))
       last r.stored)
 
   failed_not : has_failed x.state.progress.phase ≡ false
@@ -193,9 +194,9 @@ module _ (views : List EndView) (messages : List Message) (k : ℕ) (x : OpenedE
 
   -- it is no failure
   sound_view : (t : List ℕ) (done : Bool) (ms : List Message) →
-      IsShown (set views k (record (view_of_end x) { peer = Some terms.peer; size = terms.size; number = number; done = done; text = t })) ms →
-      IsShown (set views k (record (view_of_end x) { peer = Some terms.peer; size = terms.size; number = number; done = done; failed = false; text = t })) ms
-  sound_view t done ms h = subst (λ (b : Bool). IsShown (set views k (record (view_of_end x) { peer = Some terms.peer; size = terms.size; number = number; done = done; failed = b; text = t })) ms) failed_not h
+      IsShown (set views k (record (open_view x) { peer = Some terms.peer; size = terms.size; number = number; done = done; text = t })) ms →
+      IsShown (set views k (record (open_view x) { peer = Some terms.peer; size = terms.size; number = number; done = done; failed = false; text = t })) ms
+  sound_view t done ms h = subst (λ (b : Bool). IsShown (set views k (record (open_view x) { peer = Some terms.peer; size = terms.size; number = number; done = done; failed = b; text = t })) ms) failed_not h
 
   next_goes : (sink : Holding) (more after : List ℕ) → sink.bytes ≡ x.stored ++ more → sink.committed ≡ false → Decoded x.state.role.mode x.state.progress.held piece more after →
       nat_lt (length piece) terms.size ≡ false →

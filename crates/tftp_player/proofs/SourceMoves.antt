@@ -28,12 +28,13 @@ use Rattle.tftp_player.specs.Machine.{Endpoint, Data as Says_data, Ack as Says_a
 use Rattle.tftp_player.specs.Rules.{message}
 use Rattle.tftp_player.specs.Said.{said}
 use Rattle.tftp_player.specs.Shows.{EndView, IsShown}
-use Rattle.tftp_player.specs.World.{OpenedEnd, files_of, holding_of, in_state, end_after, text_of as text_of_end, received_text, view_of_end}
+use Rattle.tftp_player.specs.World.{OpenEnd, files_of, holding_of, in_state, end_after, text_of as text_of_end, received_text}
 use Rattle.tftp_player.specs.WorldSteps.{world_sink}
 use Rattle.tftp_player.specs.WorldKept.{EndKept, sent_text}
 use Rattle.tftp_player.proofs.Actions.{Stands, sends, completes}
 use Rattle.tftp_player.proofs.SaidLemmas.{spells_own}
-use Rattle.tftp_player.proofs.EndMoves.{Goes, placed}
+use Rattle.tftp_player.proofs.EndMoves.{Goes}
+use Rattle.tftp_player.proofs.Standing.{open_view, placed}
 
 -- a source in memory was asked for block n + 1, behind the n blocks that it gave
 pub record BlockSent (terms : Terms) (n : ℕ) (from : Endpoint) (e : EndState) (text : List ℕ) (turn : Turn) (left : List ℕ) : Type 0 where
@@ -116,17 +117,17 @@ valid_data text size n p small f l =
     ((let z : n + 1 ≢ 0 = omega arith in z), number_fits text size (n + 1) p f l, omega (arith, e))
 
 -- the turn in which block n + 1 is sent
-abbrev pub data_turn : OpenedEnd → Terms → ℕ → Endpoint → Turn
+abbrev pub data_turn : OpenEnd → Terms → ℕ → Endpoint → Turn
 data_turn x terms n from =
     sent_turn (Sending terms (n + 1)) from (data_bytes (n + 1) (block (sent_text x) terms.size (n + 1))) x.state
 
 -- the end after it
-abbrev pub data_end : OpenedEnd → Terms → ℕ → Endpoint → OpenedEnd
+abbrev pub data_end : OpenEnd → Terms → ℕ → Endpoint → OpenEnd
 data_end x terms n from =
     record (in_state (after_turn x.state (data_turn x terms n from)) x) { left = drop ((n + 1) * terms.size) (sent_text x) }
 
 -- an action that sends has sent the next block
-pub data_goes : (views : List EndView) (messages : List Message) (k : ℕ) (x : OpenedEnd) (terms : Terms) (n : ℕ) (from : Endpoint) (turn : Turn) (held : Files (List ℕ) Holding) (refuses_commit : Holding → StoreFault → Type 0) →
+pub data_goes : (views : List EndView) (messages : List Message) (k : ℕ) (x : OpenEnd) (terms : Terms) (n : ℕ) (from : Endpoint) (turn : Turn) (held : Files (List ℕ) Holding) (refuses_commit : Holding → StoreFault → Type 0) →
     is_sender x.state.role.side ≡ true → x.state.role.length ≡ length (sent_text x) → x.left ≡ drop (n * terms.size) (sent_text x) →
     Goes views messages k x (data_turn x terms n from) (data_end x terms n from) →
     SendsFrom memory_source (world_sink refuses_commit) terms (n + 1) from x.state (files_of x) turn held →
@@ -139,7 +140,7 @@ data_goes views messages k x terms n from turn held refuses_commit sender measur
     (subst (λ (l : List ℕ). Goes views messages k x (data_turn x terms n from) (end_after x (data_turn x terms n from) (Source l))) (sym b.left_is) g))
 
 -- the sender's state after a block is kept
-pub data_kept : (x : OpenedEnd) (terms : Terms) (n : ℕ) (from : Endpoint) → EndKept x → x.state.role.length ≡ length (sent_text x) → is_sender x.state.role.side ≡ true → 0 < terms.size → terms.size ≤ 65464 →
+pub data_kept : (x : OpenEnd) (terms : Terms) (n : ℕ) (from : Endpoint) → EndKept x → x.state.role.length ≡ length (sent_text x) → is_sender x.state.role.side ≡ true → 0 < terms.size → terms.size ≤ 65464 →
     Fits (sent_text x) terms.size → n + 1 ≤ block_count (sent_text x) terms.size → from ≡ terms.peer → EndKept (data_end x terms n from)
 data_kept x terms n from kept measured sender positive small fits l peer = record {
   phase = record { sender = sender; positive = positive; size = small; fits = fits; so_far = l; left = refl; last_sent_to = peer; measured = measured };
@@ -152,8 +153,8 @@ pub text_if : (b : Bool) (f r : List ℕ) → b ≡ true → (if b then f else r
 text_if true f r e = refl
 text_if false f r e = absurd (true≢false (sym e))
 
-module _ (views : List EndView) (messages : List Message) (k : ℕ) (x0 : OpenedEnd) (terms : Terms) (n : ℕ)
-    (s : Stands views messages k (view_of_end (placed (Sending terms n) x0))) (kept : EndKept (placed (Sending terms n) x0)) where
+module _ (views : List EndView) (messages : List Message) (k : ℕ) (x0 : OpenEnd) (terms : Terms) (n : ℕ)
+    (s : Stands views messages k (open_view (placed (Sending terms n) x0))) (kept : EndKept (placed (Sending terms n) x0)) where
   -- the next block is sent
   pub sends_next : (from : Endpoint) → terms.peer ≡ from → Contains messages (message from x0.address (Says_ack n)) → n < block_count (sent_text x0) terms.size →
       Goes views messages k (placed (Sending terms n) x0) (data_turn (placed (Sending terms n) x0) terms n from) (data_end (placed (Sending terms n) x0) terms n from)
@@ -165,10 +166,10 @@ module _ (views : List EndView) (messages : List Message) (k : ℕ) (x0 : Opened
       let l : n + 1 ≤ block_count text terms.size = omega arith in
       let packet = Data (n + 1) (block text terms.size (n + 1)) in
       let room : n < block_count (text_of_end x) terms.size = subst (λ (t : List ℕ). n < block_count t terms.size) (sym told) more in
-      let shown_now = sends views messages k (view_of_end x) s from (refl, refl) u.sender (ap Some peer) acked room in
+      let shown_now = sends views messages k (open_view x) s from (refl, refl) u.sender (ap Some peer) acked room in
       record {
         said_now = message x.address from (said packet) ∷ [];
-        shown = subst (λ (t : List ℕ). IsShown (set views k (view_of_end (data_end x terms n from))) (messages ++ message x.address from (Says_data (n + 1) (block t terms.size (n + 1))) ∷ [])) told shown_now;
+        shown = subst (λ (t : List ℕ). IsShown (set views k (open_view (data_end x terms n from))) (messages ++ message x.address from (Says_data (n + 1) (block t terms.size (n + 1))) ∷ [])) told shown_now;
         replies = (packet, spells_own packet (valid_data text terms.size n u.positive u.size u.fits l), refl);
         kept = data_kept x terms n from kept u.measured u.sender u.positive u.size u.fits l (sym peer);
         side = refl;
@@ -185,13 +186,13 @@ module _ (views : List EndView) (messages : List Message) (k : ℕ) (x0 : Opened
       let text = sent_text x in
       let told : text_of_end x ≡ text = text_if (is_sender x.state.role.side) text (received_text x) u.sender in
       let whole : n ≡ block_count (text_of_end x) terms.size = subst (λ (t : List ℕ). n ≡ block_count t terms.size) (sym told) last in
-      let shown_now = completes views messages k (view_of_end x) s from (refl, refl) u.sender (ap Some peer) acked whole in
+      let shown_now = completes views messages k (open_view x) s from (refl, refl) u.sender (ap Some peer) acked whole in
       let y = in_state (with_progress (after Complete from x.state) x.state) x in
       let still : text_of_end x ≡ text_of_end y = told ∙ sym (text_if (is_sender x.state.role.side) text (received_text y) u.sender) in
       record {
         said_now = [];
-        shown = subst (λ (ms : List Message). IsShown (set views k (view_of_end y)) ms) (sym (append-nil messages))
-            (subst (λ (t : List ℕ). IsShown (set views k (record (view_of_end x) { done = true; text = t })) messages) still shown_now);
+        shown = subst (λ (ms : List Message). IsShown (set views k (open_view y)) ms) (sym (append-nil messages))
+            (subst (λ (t : List ℕ). IsShown (set views k (record (open_view x) { done = true; text = t })) messages) still shown_now);
         replies = refl;
         kept = record { phase = tt; held = kept.held; committed = λ r. absurd (true≢false (sym u.sender ∙ r)) };
         side = refl;

@@ -5,31 +5,30 @@ use Rattle.std.proofs.lemmas.Bool.{true≢false}
 use Rattle.tftp_file.specs.declared.files.Files.{Files}
 use Rattle.tftp_file.specs.declared.files.Files.TheVariants.{Source, Sink}
 use Rattle.tftp_file.specs.Sink.{Holding}
-use Rattle.tftp_ends.specs.declared.outcome.Outcome.{Outcome}
+use Rattle.tftp_wire.specs.declared.mode.Mode.{Mode}
 use Rattle.tftp_ends.specs.declared.record.Record.{Record}
 use Rattle.tftp_ends.specs.End.{EndState, is_sender, is_client, outcome_of, record_of}
 use Rattle.tftp_ends.specs.Files.{AreFilesOf, AreSame}
 use Rattle.tftp_ends.specs.Step.{Turn, after_turn}
 use Rattle.tftp_server.specs.Draft.{KeepsStore}
 use Rattle.tftp_server.specs.Memory.{with_told}
-use Rattle.tftp_server.specs.State.{at, draft_of, with_next, without}
-use Rattle.tftp_server.specs.State as server
+use Rattle.tftp_server.specs.State.{at, draft_of, with_next}
 use Rattle.tftp_server.specs.Store.{Stored, Drafted}
 use Rattle.tftp_player.specs.Clients.{server_at, left_in, holding_in, no_holding, ClientTurns}
 use Rattle.tftp_player.specs.Effect.{effect_of}
 use Rattle.tftp_player.specs.PlayedClient.{PlayedClient}
-use Rattle.tftp_player.specs.Played.{client_end, served_as, served_end, ended_as, end_at, PlayerKept, IsServed}
-use Rattle.tftp_player.specs.Serving.{PlayedServer, Transfer, CommitsLast, ServedKept, ServedTurns, rested_served, rested_held}
+use Rattle.tftp_player.specs.Played.{client_end, served_as, served_end, end_at, PlayerKept, IsServed}
+use Rattle.tftp_player.specs.Serving.{PlayedServer, Transfer, CommitsLast, ServedKept, ServedTurns, concluded_served, concluded_held}
 use Rattle.tftp_player.specs.Stage.{IsOwned, IsRising}
-use Rattle.tftp_player.specs.World.{OpenedEnd, is_closed, files_of, end_after, at_rest, closed_state, rest_state, while_open}
+use Rattle.tftp_player.specs.World.{OpenEnd, Open_end, Closed_end, end_record, closed_end, files_of, end_after, standing}
 use Rattle.tftp_player.specs.declared.effect.Effect.{Effect}
 use Rattle.tftp_player.specs.declared.player.Player.{Player}
 use Rattle.tftp_player.specs.declared.player.Player.TheVariants.{Client, Server}
 use Rattle.tftp_player.specs.declared.served.Served.{Served}
 use Rattle.tftp_player.proofs.HeldLemmas.{AreBelow, AllKeys-with_next, AllKeys-without, IsRising-with_next, IsRising-without, length-with_next, length-without, at-with_next, at-with_next_other, at-without_other}
 use Rattle.tftp_player.proofs.OwnedLemmas.{AllOwned, client_owned, server_owned, closed_owned}
-use Rattle.tftp_player.proofs.PlacedEnds.{is_transfer, is_transfer-rest}
-use Rattle.tftp_player.proofs.Resting.{at_rest_open, at_rest_record, rest_is_record}
+use Rattle.tftp_player.specs.Requests.{is_transfer}
+use Rattle.tftp_player.proofs.Standing.{standing_record, standing_open, standing_ended, standing_transfer}
 
 -- an end is told by what is held at its port
 pub by_port : (port : ℕ) (held held' : List (ℕ × Transfer)) (p : Player) → at port held' ≡ at port held → end_at port held' p ≡ end_at port held p
@@ -54,16 +53,16 @@ kept_by_port port held held' (Client c) e k = k
 kept_by_port port held held' (Server s) e k = served_by_port port s s.ended held held' e k
 
 -- how a turn of the player at this port handles its end, x before, and of the rest
-pub record Stepped (port : ℕ) (p : Player) (x : OpenedEnd) (p' : Player) (before after : PlayedServer) (turn : Turn) (held : Files (List ℕ) Holding) (effect : Effect) (r : Record) : Type 0 where
-  pub open_now : is_closed x ≡ false
+pub record Stepped (port : ℕ) (p : Player) (x : OpenEnd) (p' : Player) (before after : PlayedServer) (turn : Turn) (held : Files (List ℕ) Holding) (effect : Effect) (r : Record) : Type 0 where
+  pub was : end_at port before.held p ≡ Open_end x
   pub effects : effect ≡ effect_of x.address turn
-  pub end : end_at port after.held p' ≡ at_rest (end_after x turn held)
-  pub recorded : r ≡ record_of (end_at port after.held p').state
+  pub end : end_at port after.held p' ≡ standing (end_after x turn held)
+  pub recorded : r ≡ end_record (end_at port after.held p')
   pub kept : PlayerKept port after.held p'
   pub others : (other : ℕ) → other ≢ port → at other after.held ≡ at other before.held
   pub below : (tid : ℕ) → AreBelow tid before.held → AreBelow tid after.held
-  pub counted : ((is_transfer (end_at port after.held p') ≡ is_transfer x) × (length after.held ≡ length before.held))
-      ⊎ ((is_transfer x ≡ true) × (is_transfer (end_at port after.held p') ≡ false) × (suc (length after.held) ≡ length before.held))
+  pub counted : ((is_transfer (end_at port after.held p') ≡ is_transfer (Open_end x)) × (length after.held ≡ length before.held))
+      ⊎ ((is_transfer (Open_end x) ≡ true) × (is_transfer (end_at port after.held p') ≡ false) × (suc (length after.held) ≡ length before.held))
   pub owned : (place : ℕ) (ps : List Player) → port ≡ 1024 + place → slice_get ps place ≡ Some p → IsRising before.held → AllOwned ps before.held →
       AllOwned (slice_set ps place p') after.held
   pub rising : IsRising before.held → IsRising after.held
@@ -99,8 +98,9 @@ files_kept side (Sink holding) (Sink holding') k f = f
 files_kept side (Source left) (Sink holding) k f = absurd k
 files_kept side (Sink holding) (Source left) k f = absurd k
 
-pub no_transfer : (x : OpenedEnd) → is_client x.state.role.side ≡ true → is_transfer x ≡ false
-no_transfer x e = ap (λ (b : Bool). not b && not (is_closed x)) e
+-- a client is no transfer
+pub no_transfer : (x : OpenEnd) → is_client x.state.role.side ≡ true → is_transfer (standing x) ≡ false
+no_transfer x e = standing_transfer x ∙ ap (λ (b : Bool). not b && not (is_some (outcome_of x.state.progress.phase))) e
 
 pub client_open : (port : ℕ) (c c' : PlayedClient) (server : PlayedServer) (turn : Turn) (files : Files (List ℕ) Holding) (effect : Effect) (r : Record) →
     PlayerKept port server.held (Client c) → is_some (outcome_of c.end.progress.phase) ≡ false → ClientTurns port c c' turn files effect r → SameKind c.files files →
@@ -108,10 +108,10 @@ pub client_open : (port : ℕ) (c c' : PlayedClient) (server : PlayedServer) (tu
 client_open port c c' server turn files effect r kept open_now t kind =
     let client : client_end port c' ≡ end_after (client_end port c) turn files = ap (client_end port) t.client ∙ client_after port c turn c.files files kind in
     record {
-      open_now = open_now;
+      was = standing_open (client_end port c) open_now;
       effects = t.effects;
-      end = ap at_rest client;
-      recorded = t.recorded ∙ (ap (λ (k : PlayedClient). record_of k.end) (sym t.client) ∙ sym (at_rest_record (client_end port c')));
+      end = ap standing client;
+      recorded = t.recorded ∙ (ap (λ (k : PlayedClient). record_of k.end) (sym t.client) ∙ sym (standing_record (client_end port c')));
       kept = (
         ap (λ (k : PlayedClient). is_client k.end.role.side) t.client ∙ kept.0,
         subst (λ (k : PlayedClient). AreFilesOf k.end.role.side k.files) (sym t.client) (files_kept c.end.role.side c.files files kind kept.1),
@@ -119,9 +119,8 @@ client_open port c c' server turn files effect r kept open_now t kind =
       others = λ other n. refl;
       below = λ tid b. b;
       counted = inl (
-        is_transfer-rest (client_end port c')
-            ∙ (no_transfer (client_end port c') (ap (λ (k : PlayedClient). is_client k.end.role.side) t.client ∙ kept.0)
-            ∙ sym (no_transfer (client_end port c) kept.0)),
+        no_transfer (client_end port c') (ap (λ (k : PlayedClient). is_client k.end.role.side) t.client ∙ kept.0)
+            ∙ sym (ap not kept.0),
         refl,
       );
       owned = λ place ps is there rising all. client_owned ps place c (Client c') server.held there all;
@@ -133,16 +132,10 @@ client_open port c c' server turn files effect r kept open_now t kind =
 -- as it stands in the world
 pub client_steps : (port : ℕ) (c c' : PlayedClient) (before after : PlayedServer) (turn : Turn) (files : Files (List ℕ) Holding) (effect : Effect) (r : Record) →
     PlayerKept port before.held (Client c) → is_some (outcome_of c.end.progress.phase) ≡ false → ClientTurns port c c' turn files effect r → after ≡ before → SameKind c.files files →
-    Stepped port (Client c) (end_at port before.held (Client c)) (Client c') before after turn files effect r
+    Stepped port (Client c) (client_end port c) (Client c') before after turn files effect r
 client_steps port c c' before after turn files effect r kept open_now t same kind =
-    subst (λ (s : PlayedServer). Stepped port (Client c) (end_at port before.held (Client c)) (Client c') before s turn files effect r) (sym same)
-    (subst (λ (x : OpenedEnd). Stepped port (Client c) x (Client c') before before turn files effect r) (sym (at_rest_open (client_end port c) open_now))
-    (client_open port c c' before turn files effect r kept open_now t kind))
-
--- what its end has for a file
-pub client_at_rest : (port : ℕ) (c : PlayedClient) (held : List (ℕ × Transfer)) → AreFilesOf c.end.role.side c.files → is_some (outcome_of c.end.progress.phase) ≡ false →
-    (x : OpenedEnd) × (end_at port held (Client c) ≡ x) × (x.state ≡ c.end) × (files_of x ≡ c.files)
-client_at_rest port c held fits open_now = (client_end port c, at_rest_open (client_end port c) open_now, refl, client_files port c fits)
+    subst (λ (s : PlayedServer). Stepped port (Client c) (client_end port c) (Client c') before s turn files effect r) (sym same)
+    (client_open port c c' before turn files effect r kept open_now t kind)
 
 -- ---- an end of the server
 not_some : (o : Option Record) → is_some o ≡ false → o ≡ None
@@ -150,10 +143,10 @@ not_some None e = refl
 not_some (Some r) e = absurd (true≢false e)
 
 -- an end of the server, by the transfer that is held
-abbrev pub held_end : ℕ → Served → Transfer → OpenedEnd
+abbrev pub held_end : ℕ → Served → Transfer → OpenEnd
 held_end port s h = served_as port s h.end (left_in h.files) (draft_of h.files) h.request
 
-pub served_is : (port : ℕ) (s : Served) (held : List (ℕ × Transfer)) (h : Transfer) → is_some s.ended ≡ false → at port held ≡ Some h → end_at port held (Server s) ≡ held_end port s h
+pub served_is : (port : ℕ) (s : Served) (held : List (ℕ × Transfer)) (h : Transfer) → is_some s.ended ≡ false → at port held ≡ Some h → end_at port held (Server s) ≡ Open_end (held_end port s h)
 served_is port s held h open_now found =
     ap (λ (o : Option Record). served_end port s o (at port held)) (not_some s.ended open_now) ∙ ap (λ (o : Option Transfer). served_end port s None o) found
 
@@ -216,13 +209,6 @@ served_after port s e turn (Sink draft) (Sink draft') refuses request k told = r
 served_after port s e turn (Source left) (Sink draft) refuses request k told = absurd k
 served_after port s e turn (Sink draft) (Source left) refuses request k told = absurd k
 
-ended_is : (o : Option Outcome) (outcome : Outcome) → o ≡ Some outcome → ended_as o ≡ outcome
-ended_is o outcome e = ap ended_as e
-
-some_of : {A : Type 0} (o : Option A) → is_some o ≡ true → (a : A) × (o ≡ Some a)
-some_of None e = absurd (true≢false (sym e))
-some_of (Some a) e = (a, refl)
-
 -- what a turn of a transfer h makes of it, next, beside its end
 pub record TransferGoes (h next : Transfer) (turn : Turn) (was refuses : Bool) : Type 0 where
   pub end : next.end ≡ after_turn h.end turn
@@ -241,10 +227,10 @@ module _ (port : ℕ) (s : Served) (before : PlayedServer) (h next : Transfer) (
   abbrev draft : Option Drafted
   draft = draft_of next.files
 
-  abbrev x0 : OpenedEnd
+  abbrev x0 : OpenEnd
   x0 = held_end port s h
 
-  abbrev x1 : OpenedEnd
+  abbrev x1 : OpenEnd
   x1 = end_after x0 turn (held_files refuses next.files)
 
   here : h ≡ kept.transfer
@@ -266,32 +252,23 @@ module _ (port : ℕ) (s : Served) (before : PlayedServer) (h next : Transfer) (
   after_is = served_after port s h.end turn h.files next.files refuses h.request goes.kind goes.told
 
   phase_is : x1.state ≡ after_turn h.end turn
-  phase_is = ap (λ (y : OpenedEnd). y.state) after_is
+  phase_is = ap (λ (y : OpenEnd). y.state) after_is
 
   -- the end, by whether it has closed
   end_by : (b : Bool) → is_some (outcome_of turn.progress.phase) ≡ b →
-      end_at port (rested_held b port (with_next port next before.held)) (Server (rested_served b r draft told)) ≡ at_rest x1
+      end_at port (concluded_held b port (with_next port next before.held)) (Server (concluded_served b r draft told)) ≡ standing x1
   end_by true closed =
-      let o = some_of (outcome_of turn.progress.phase) closed in
       let y = served_as port told (after_turn h.end turn) (left_in next.files) draft h.request in
-      let outcome : r.outcome ≡ Some o.0 = ap (λ (q : Record). q.outcome) recorded ∙ o.1 in
-      let state : closed_state s.mode r (ended_as r.outcome) ≡ rest_state turn.progress.phase (after_turn h.end turn) =
-      ap (λ (q : Outcome). closed_state s.mode r q) (ended_is r.outcome o.0 outcome)
-      ∙ (ap (λ (m : _). closed_state m r o.0) (sym mode_is)
-      ∙ (ap (λ (q : Record). closed_state h.end.role.mode q o.0) recorded
-      ∙ sym (rest_is_record y o.0 o.1))) in
-      let none : (bytes : List ℕ) → [] ≡ while_open turn.progress.phase bytes = λ bytes. ap (λ (b : Bool). if b then [] else bytes) (sym closed) in
-      ap (λ (e : EndState). served_as port told e [] draft []) state
-      ∙ (ap (λ (l : List ℕ). served_as port told (rest_state turn.progress.phase (after_turn h.end turn)) l draft []) (none (left_in next.files))
-      ∙ (ap (λ (l : List ℕ). served_as port told (rest_state turn.progress.phase (after_turn h.end turn)) (while_open turn.progress.phase (left_in next.files)) draft l) (none h.request)
-      ∙ ap at_rest (sym after_is)))
+      ap (λ (m : Mode). Closed_end (record (closed_end y) { mode = m; recorded = r })) (sym mode_is)
+      ∙ (ap (λ (q : Record). Closed_end (record (closed_end y) { recorded = q })) recorded
+      ∙ (sym (standing_ended y closed) ∙ ap standing (sym after_is)))
   end_by false still =
       served_is port told (with_next port next before.held) next open_now (at-with_next port h next before.held found)
-      ∙ (ap (λ (e : EndState). served_as port told e (left_in next.files) draft next.request) goes.end
-      ∙ (ap (λ (l : List ℕ). served_as port told (after_turn h.end turn) (left_in next.files) draft l) goes.request
-      ∙ (sym after_is ∙ sym (at_rest_open x1 (ap (λ (e : EndState). is_some (outcome_of e.progress.phase)) phase_is ∙ still)))))
+      ∙ (ap (λ (e : EndState). Open_end (served_as port told e (left_in next.files) draft next.request)) goes.end
+      ∙ (ap (λ (l : List ℕ). Open_end (served_as port told (after_turn h.end turn) (left_in next.files) draft l)) goes.request
+      ∙ (ap Open_end (sym after_is) ∙ sym (standing_open x1 (ap (λ (e : EndState). is_some (outcome_of e.progress.phase)) phase_is ∙ still)))))
 
-  kept_by : (b : Bool) → is_some (outcome_of turn.progress.phase) ≡ b → PlayerKept port (rested_held b port (with_next port next before.held)) (Server (rested_served b r draft told))
+  kept_by : (b : Bool) → is_some (outcome_of turn.progress.phase) ≡ b → PlayerKept port (concluded_held b port (with_next port next before.held)) (Server (concluded_served b r draft told))
   kept_by true closed = record {
     closed = ap (λ (q : Record). is_some q.outcome) recorded ∙ closed;
     side = ap (λ (q : Record). is_client q.side) recorded ∙ side_is;
@@ -309,60 +286,55 @@ module _ (port : ℕ) (s : Served) (before : PlayedServer) (h next : Transfer) (
         path = path_is;
       })
 
-  others_by : (b : Bool) (other : ℕ) → other ≢ port → at other (rested_held b port (with_next port next before.held)) ≡ at other before.held
+  others_by : (b : Bool) (other : ℕ) → other ≢ port → at other (concluded_held b port (with_next port next before.held)) ≡ at other before.held
   others_by true other n = at-without_other port other (with_next port next before.held) n ∙ at-with_next_other port other next before.held n
   others_by false other n = at-with_next_other port other next before.held n
 
-  below_by : (b : Bool) (tid : ℕ) → AreBelow tid before.held → AreBelow tid (rested_held b port (with_next port next before.held))
+  below_by : (b : Bool) (tid : ℕ) → AreBelow tid before.held → AreBelow tid (concluded_held b port (with_next port next before.held))
   below_by true tid low = AllKeys-without (λ (k : ℕ). k < tid) port (with_next port next before.held) (AllKeys-with_next (λ (k : ℕ). k < tid) port next before.held low)
   below_by false tid low = AllKeys-with_next (λ (k : ℕ). k < tid) port next before.held low
 
-  rising_by : (b : Bool) → IsRising before.held → IsRising (rested_held b port (with_next port next before.held))
+  rising_by : (b : Bool) → IsRising before.held → IsRising (concluded_held b port (with_next port next before.held))
   rising_by true rises = IsRising-without port (with_next port next before.held) (IsRising-with_next port next before.held rises)
   rising_by false rises = IsRising-with_next port next before.held rises
 
   owned_by : (b : Bool) (place : ℕ) (ps : List Player) → port ≡ 1024 + place → slice_get ps place ≡ Some (Server s) → IsRising before.held → AllOwned ps before.held →
-      AllOwned (slice_set ps place (Server (rested_served b r draft told))) (rested_held b port (with_next port next before.held))
+      AllOwned (slice_set ps place (Server (concluded_served b r draft told))) (concluded_held b port (with_next port next before.held))
   owned_by true place ps is there rises all =
-      closed_owned ps port place (Server (rested_served true r draft told)) (with_next port next before.held) is (IsRising-with_next port next before.held rises)
+      closed_owned ps port place (Server (concluded_served true r draft told)) (with_next port next before.held) is (IsRising-with_next port next before.held rises)
       (AllKeys-with_next (IsOwned ps) port next before.held all)
   owned_by false place ps is there rises all =
       server_owned ps place (Server s) told (with_next port next before.held) there (not_some s.ended open_now) (AllKeys-with_next (IsOwned ps) port next before.held all)
 
   transfer_now : (b : Bool) → is_some (outcome_of turn.progress.phase) ≡ b →
-      is_transfer (end_at port (rested_held b port (with_next port next before.held)) (Server (rested_served b r draft told))) ≡ not b
+      is_transfer (end_at port (concluded_held b port (with_next port next before.held)) (Server (concluded_served b r draft told))) ≡ not b
   transfer_now b e =
       ap is_transfer (end_by b e)
-      ∙ (is_transfer-rest x1
+      ∙ (standing_transfer x1
       ∙ (ap (λ (q : EndState). not (is_client q.role.side) && not (is_some (outcome_of q.progress.phase))) phase_is
       ∙ (ap (λ (c : Bool). not c && not (is_some (outcome_of turn.progress.phase))) side_is ∙ ap not e)))
 
-  transfer_was : is_transfer x0 ≡ true
-  transfer_was =
-      ap (λ (t : Transfer). not (is_client t.end.role.side) && not (server.is_closed t)) here
-      ∙ (ap (λ (c : Bool). not c && not (server.is_closed kept.transfer)) kept.side ∙ ap not kept.is_open)
+  transfer_was : is_transfer (Open_end x0) ≡ true
+  transfer_was = ap not (ap (λ (t : Transfer). is_client t.end.role.side) here ∙ kept.side)
 
   counted_by : (b : Bool) → is_some (outcome_of turn.progress.phase) ≡ b →
-      ((is_transfer (end_at port (rested_held b port (with_next port next before.held)) (Server (rested_served b r draft told))) ≡ is_transfer x0) × (length (rested_held b port (with_next port next before.held)) ≡ length before.held))
-      ⊎ ((is_transfer x0 ≡ true) × (is_transfer (end_at port (rested_held b port (with_next port next before.held)) (Server (rested_served b r draft told))) ≡ false) × (suc (length (rested_held b port (with_next port next before.held))) ≡ length before.held))
+      ((is_transfer (end_at port (concluded_held b port (with_next port next before.held)) (Server (concluded_served b r draft told))) ≡ is_transfer (Open_end x0)) × (length (concluded_held b port (with_next port next before.held)) ≡ length before.held))
+      ⊎ ((is_transfer (Open_end x0) ≡ true) × (is_transfer (end_at port (concluded_held b port (with_next port next before.held)) (Server (concluded_served b r draft told))) ≡ false) × (suc (length (concluded_held b port (with_next port next before.held))) ≡ length before.held))
   counted_by true e =
       inr (transfer_was, transfer_now true e, length-without port next (with_next port next before.held) (at-with_next port h next before.held found) ∙ length-with_next port next before.held)
   counted_by false e = inl (transfer_now false e ∙ sym transfer_was, length-with_next port next before.held)
-
-  served_open : is_closed x0 ≡ false
-  served_open = ap (λ (t : Transfer). server.is_closed t) here ∙ kept.is_open
 
   abbrev ended : Bool
   ended = is_some (outcome_of turn.progress.phase)
 
   stepped_so : effect ≡ effect_of (server_at port) turn → (before.store.refuses ≡ false → store.refuses ≡ false) →
-      Stepped port (Server s) x0 (Server (rested_served ended r draft told)) before (record before { store = store; held = rested_held ended port (with_next port next before.held) }) turn (held_files refuses next.files)
+      Stepped port (Server s) x0 (Server (concluded_served ended r draft told)) before (record before { store = store; held = concluded_held ended port (with_next port next before.held) }) turn (held_files refuses next.files)
       effect r
   stepped_so effects quiet = record {
-    open_now = served_open;
+    was = served_is port s before.held h open_now found;
     effects = effects;
     end = end_by ended refl;
-    recorded = recorded ∙ (ap record_of (sym phase_is) ∙ (sym (at_rest_record x1) ∙ ap (λ (y : OpenedEnd). record_of y.state) (sym (end_by ended refl))));
+    recorded = recorded ∙ (ap record_of (sym phase_is) ∙ (sym (standing_record x1) ∙ ap end_record (sym (end_by ended refl))));
     kept = kept_by ended refl;
     others = others_by ended;
     below = below_by ended;
@@ -378,10 +350,9 @@ pub served_steps : (port : ℕ) (s s' : Served) (before after : PlayedServer) (h
     at port before.held ≡ Some h → is_some s.ended ≡ false → PlayerKept port before.held (Server s) →
     SameDraftKind h.files next.files → next.path ≡ h.path → next.request ≡ h.request → KeepsTold h.files s.refuses refuses → CommitsLast next.files turn.progress.phase → (before.store.refuses ≡ false → store.refuses ≡ false) →
     ServedTurns port s s' before after h.end turn next refuses store effect r →
-    Stepped port (Server s) (end_at port before.held (Server s)) (Server s') before after turn (held_files refuses next.files) effect r
+    Stepped port (Server s) (held_end port s h) (Server s') before after turn (held_files refuses next.files) effect r
 served_steps port s s' before after h next turn refuses store effect r found open_now kept kind path request told commits quiet t =
     let goes : TransferGoes h next turn s.refuses refuses = record { end = t.end; kind = kind; path = path; request = request; told = told; commits = commits } in
-    subst (λ (x : OpenedEnd). Stepped port (Server s) x (Server s') before after turn (held_files refuses next.files) effect r) (sym (served_is port s before.held h open_now found))
-    (subst (λ (q : Served). Stepped port (Server s) (held_end port s h) (Server q) before after turn (held_files refuses next.files) effect r) (sym t.served)
-    (subst (λ (v : PlayedServer). Stepped port (Server s) (held_end port s h) (Server (rested_served (is_some (outcome_of turn.progress.phase)) r (draft_of next.files) (record s { refuses = refuses }))) before v turn (held_files refuses next.files) effect r) (sym t.server)
-    (stepped_so port s before h next turn refuses store effect r found open_now (served_kept port s before.held open_now kept) t.recorded goes t.effects quiet)))
+    subst (λ (q : Served). Stepped port (Server s) (held_end port s h) (Server q) before after turn (held_files refuses next.files) effect r) (sym t.served)
+    (subst (λ (v : PlayedServer). Stepped port (Server s) (held_end port s h) (Server (concluded_served (is_some (outcome_of turn.progress.phase)) r (draft_of next.files) (record s { refuses = refuses }))) before v turn (held_files refuses next.files) effect r) (sym t.server)
+    (stepped_so port s before h next turn refuses store effect r found open_now (served_kept port s before.held open_now kept) t.recorded goes t.effects quiet))

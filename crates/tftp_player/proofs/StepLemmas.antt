@@ -1,28 +1,23 @@
 -- Steps of a world, from what happened at one place of it.
-use Rattle.std.proofs.Common.{◌≡◌, ◌≢◌, ℕ, ◌+◌, ◌<◌, ◌≤◌, Bool, true, false, List, ◌++◌, length, map, Some, refl, sym, ap, ◌∙◌, subst, arith, inl, inr}
-use Rattle.std.specs.Prelude.{◌⊎◌, ◌&&◌, not, if◌then◌else◌, slice_get, slice_set, option_map}
-use Rattle.std.proofs.lemmas.Option.{same_Some, slice_get-map, slice_get_within}
+use Rattle.std.proofs.Common.{◌≡◌, ◌≢◌, ℕ, ◌+◌, ◌<◌, ◌≤◌, Bool, true, List, length, Some, refl, sym, ap, ◌∙◌, subst, arith, inl, inr}
+use Rattle.std.specs.Prelude.{◌⊎◌, ◌&&◌, not, slice_get, slice_set}
+use Rattle.std.proofs.lemmas.Option.{same_Some, slice_get_within}
 use Rattle.tftp_wire.specs.declared.mode.Mode.{Mode}
 use Rattle.tftp_negotiate.specs.declared.asked.Asked.{Asked}
 use Rattle.tftp_file.specs.declared.files.Files.{Files}
 use Rattle.tftp_file.specs.Netascii.{wire_text}
 use Rattle.tftp_file.specs.Sink.{Holding}
-use Rattle.tftp_ends.specs.End.{is_sender, is_client}
+use Rattle.tftp_ends.specs.End.{is_client}
 use Rattle.tftp_ends.specs.Step.{Turn, timeout_turn}
 use Rattle.tftp_player.specs.Machine.{Endpoint, request_port}
-use Rattle.tftp_player.specs.World.{WorldState, OpenedEnd, StoredFile, file_at, in_the_way, is_closed, replied, files_of, end_after, has_committed, world_after, report_of, no_report, opened_in, sent_report, at_rest}
-use Rattle.tftp_player.specs.WorldSteps.{EndStep, FilesAfter, Turns, At_open_end, At_closed_end, At_nobody, HasPort, IsAtPort, TimesOut, told_to_refuse, Arrives, WorldStep}
+use Rattle.tftp_player.specs.World.{WorldState, OpenEnd, ClosedEnd, WorldEnd, Open_end, Closed_end, end_address, StoredFile, file_at, in_the_way, files_of, end_after, has_committed, world_after, report_of, no_report, opened_in, sent_report}
+use Rattle.tftp_player.specs.WorldSteps.{EndStep, FilesAfter, Turns, At_open_end, At_closed_end, At_nobody, HasPort, IsAtPort, told_end, Arrives, WorldStep}
 use Rattle.tftp_player.specs.Openings.{reading_client, writing_client, MayGet, MayPut}
 use Rattle.tftp_player.specs.declared.event.Event.TheVariants.{Get, Put, Timeout, RefuseStore}
 use Rattle.tftp_player.proofs.ServerTurns.{files_same, timeout_after}
 
--- the world, after a turn of the end at place k that changed no file of the server
-abbrev pub turned : WorldState → ℕ → OpenedEnd → Turn → Files (List ℕ) Holding → WorldState
-turned w k x turn held =
-    record w { sent = w.sent ++ replied x.address turn.reply; ends = slice_set w.ends k (at_rest (end_after x turn held)) }
-
 -- the turn, where the end is a client's or commits nothing now
-pub turns_as : (w : WorldState) (k : ℕ) (x : OpenedEnd) (turn : Turn) (held : Files (List ℕ) Holding) →
+pub turns_as : (w : WorldState) (k : ℕ) (x : OpenEnd) (turn : Turn) (held : Files (List ℕ) Holding) →
     FilesAfter w.overwrite (not (is_client x.state.role.side) && has_committed x (end_after x turn held)) x.path (end_after x turn held).stored w.files w.files →
     Turns w k x turn held (report_of w x turn) (world_after w k x turn held w.files)
 turns_as w k x turn held same = record { files = w.files; stored = same; tells = refl; is = refl }
@@ -40,43 +35,38 @@ pub put_step : (w : WorldState) (name : List ℕ) (mode : Mode) (asked : Asked) 
 put_step w name mode asked file port may = (port, may, record { tells = refl; is = refl })
 
 -- a timeout of an open end, and of a closed one
-pub timeout_step : (w : WorldState) (port k : ℕ) (x : OpenedEnd) → IsAtPort w port k x → is_closed x ≡ false →
-    WorldStep w (Timeout port) (report_of w x (timeout_turn x.state)) (turned w k x (timeout_turn x.state) (files_of x))
-timeout_step w port k x at open_now =
+pub timeout_step : (w : WorldState) (port k : ℕ) (x : OpenEnd) → IsAtPort w port k (Open_end x) →
+    WorldStep w (Timeout port) (report_of w x (timeout_turn x.state)) (world_after w k x (timeout_turn x.state) (files_of x) w.files)
+timeout_step w port k x at =
     let turn = timeout_turn x.state in
     let held = files_of x in
-    let same = files_same w.overwrite (is_client x.state.role.side) x.committed (end_after x turn held).committed x.path (end_after x turn held).stored w.files (ap (λ (z : OpenedEnd). z.committed) (timeout_after x turn)) in
-    (k, x, at, subst (λ (b : Bool). TimesOut b w k x (report_of w x turn) (turned w k x turn held)) (sym open_now) (turns_as w k x turn held same))
+    let same = files_same w.overwrite (is_client x.state.role.side) x.committed (end_after x turn held).committed x.path (end_after x turn held).stored w.files (ap (λ (z : OpenEnd). z.committed) (timeout_after x turn)) in
+    (k, Open_end x, at, turns_as w k x turn held same)
 
-pub timeout_rests : (w : WorldState) (port k : ℕ) (x : OpenedEnd) → IsAtPort w port k x → is_closed x ≡ true → WorldStep w (Timeout port) no_report w
-timeout_rests w port k x at closed_now = (k, x, at, subst (λ (b : Bool). TimesOut b w k x no_report w) (sym closed_now) (record { tells = refl; is = refl }))
+pub timeout_stays : (w : WorldState) (port k : ℕ) (x : ClosedEnd) → IsAtPort w port k (Closed_end x) → WorldStep w (Timeout port) no_report w
+timeout_stays w port k x at = (k, Closed_end x, at, record { tells = refl; is = refl })
 
 -- an end was told to refuse its next append or commit
-pub refuse_step : (w : WorldState) (port k : ℕ) (x : OpenedEnd) → IsAtPort w port k x →
-    WorldStep w (RefuseStore port) no_report (record w { ends = slice_set w.ends k (told_to_refuse x) })
+pub refuse_step : (w : WorldState) (port k : ℕ) (x : WorldEnd) → IsAtPort w port k x →
+    WorldStep w (RefuseStore port) no_report (record w { ends = slice_set w.ends k (told_end x) })
 refuse_step w port k x at = (k, x, at, refl, refl)
 
--- the world, after a turn of the end at place k, with these files of the server
-abbrev pub turned_with : WorldState → ℕ → OpenedEnd → Turn → Files (List ℕ) Holding → List StoredFile → WorldState
-turned_with w k x turn held files =
-    record w { sent = w.sent ++ replied x.address turn.reply; files = files; ends = slice_set w.ends k (at_rest (end_after x turn held)) }
-
--- at an open end that heard it
-pub open_arrives : (w : WorldState) (k : ℕ) (x : OpenedEnd) (from : Endpoint) (bytes : List ℕ) (turn : Turn) (held : Files (List ℕ) Holding) (files : List StoredFile) → slice_get w.ends k ≡ Some x → is_closed x ≡ false →
+-- at an open end that took it
+pub open_arrives : (w : WorldState) (k : ℕ) (x : OpenEnd) (from : Endpoint) (bytes : List ℕ) (turn : Turn) (held : Files (List ℕ) Holding) (files : List StoredFile) → slice_get w.ends k ≡ Some (Open_end x) →
     EndStep (is_client x.state.role.side) (in_the_way w.overwrite (file_at w.files x.path)) from bytes x.state (files_of x) turn held →
     FilesAfter w.overwrite (not (is_client x.state.role.side) && has_committed x (end_after x turn held)) x.path (end_after x turn held).stored w.files files →
-    Arrives w from x.address bytes (report_of w x turn) (turned_with w k x turn held files)
-open_arrives w k x from bytes turn held files at open_now steps stored =
-    At_open_end k x at refl open_now (record { turn = turn; held = held; steps = steps; turns = record { files = files; stored = stored; tells = refl; is = refl } })
+    Arrives w from x.address bytes (report_of w x turn) (world_after w k x turn held files)
+open_arrives w k x from bytes turn held files at steps stored =
+    At_open_end k x at refl (record { turn = turn; held = held; steps = steps; turns = record { files = files; stored = stored; tells = refl; is = refl } })
 
 -- at a closed end
-pub closed_arrives : (w : WorldState) (k : ℕ) (x : OpenedEnd) (from : Endpoint) (bytes : List ℕ) → slice_get w.ends k ≡ Some x → is_closed x ≡ true →
+pub closed_arrives : (w : WorldState) (k : ℕ) (x : ClosedEnd) (from : Endpoint) (bytes : List ℕ) → slice_get w.ends k ≡ Some (Closed_end x) →
     Arrives w from x.address bytes no_report w
-closed_arrives w k x from bytes at closed_now = At_closed_end k x at refl closed_now (record { tells = refl; is = refl })
+closed_arrives w k x from bytes at = At_closed_end k x at refl (record { tells = refl; is = refl })
 
 -- each end has the port of its place
 abbrev pub HasPorts : WorldState → Type 0
-HasPorts w = (k : ℕ) (x : OpenedEnd) → slice_get w.ends k ≡ Some x → x.address.port ≡ 1024 + k
+HasPorts w = (k : ℕ) (x : WorldEnd) → slice_get w.ends k ≡ Some x → (end_address x).port ≡ 1024 + k
 
 -- where no end has the port
 pub none_arrives : (w : WorldState) (from to : Endpoint) (bytes : List ℕ) → HasPorts w → to ≢ request_port → (to.port < 1024) ⊎ (1024 + length w.ends ≤ to.port) →
@@ -86,16 +76,16 @@ none_arrives w from to bytes ports away none = At_nobody away nobody (record { t
   outside k within here (inl low) = omega arith
   outside k within here (inr high) = omega arith
 
-  nobody : (k : ℕ) (x : OpenedEnd) → slice_get w.ends k ≡ Some x → x.address ≢ to
+  nobody : (k : ℕ) (x : WorldEnd) → slice_get w.ends k ≡ Some x → end_address x ≢ to
   nobody k x e same = outside k (slice_get_within w.ends k x e) (ap (λ (a : Endpoint). a.port) (sym same) ∙ ports k x e) none
 
 -- where the end with the port is at the other host
-pub other_arrives : (w : WorldState) (from to : Endpoint) (bytes : List ℕ) (k : ℕ) (x : OpenedEnd) → HasPorts w → to ≢ request_port → slice_get w.ends k ≡ Some x → to.port ≡ 1024 + k →
-    x.address ≢ to → Arrives w from to bytes no_report w
+pub other_arrives : (w : WorldState) (from to : Endpoint) (bytes : List ℕ) (k : ℕ) (x : WorldEnd) → HasPorts w → to ≢ request_port → slice_get w.ends k ≡ Some x → to.port ≡ 1024 + k →
+    end_address x ≢ to → Arrives w from to bytes no_report w
 other_arrives w from to bytes k x ports away there port differs = At_nobody away nobody (record { tells = refl; is = refl }) where
-  nobody : (j : ℕ) (y : OpenedEnd) → slice_get w.ends j ≡ Some y → y.address ≢ to
+  nobody : (j : ℕ) (y : WorldEnd) → slice_get w.ends j ≡ Some y → end_address y ≢ to
   nobody j y e same =
-      let own : y.address.port ≡ to.port = ap (λ (a : Endpoint). a.port) same in
+      let own : (end_address y).port ≡ to.port = ap (λ (a : Endpoint). a.port) same in
       let q = ports j y e in
       let place : j ≡ k = omega (arith, own, q, port) in
-      differs (ap (λ (z : OpenedEnd). z.address) (same_Some x y (sym there ∙ (ap (slice_get w.ends) (sym place) ∙ e))) ∙ same)
+      differs (ap end_address (same_Some x y (sym there ∙ (ap (slice_get w.ends) (sym place) ∙ e))) ∙ same)

@@ -30,7 +30,7 @@ use Rattle.tftp_server.specs.Port.{Service, Sends, Takes}
 use Rattle.tftp_player.specs.Machine.{Endpoint, request_port}
 use Rattle.tftp_player.specs.Openings.{reading_client, writing_client, sending_end, receiving_end}
 use Rattle.tftp_player.specs.Straight.{IsAccepted, IsThrough, ReadsStraight, WritesStraight, ReadsComplete, WritesComplete, read_count, write_count}
-use Rattle.tftp_player.specs.World.{WorldState, OpenedEnd, StoredFile, file_at, datagram}
+use Rattle.tftp_player.specs.World.{WorldState, OpenEnd, StoredFile, file_at, datagram, WorldEnd, Open_end}
 use Rattle.tftp_player.specs.WorldKept.{HeldFits, IsOk}
 use Rattle.tftp_player.specs.WorldRuns.{MayHappen}
 use Rattle.tftp_player.specs.WorldSteps.{Serves, Opens}
@@ -47,14 +47,14 @@ use Rattle.tftp_player.proofs.WaitingMoves.{agreed_size}
 use Rattle.tftp_player.proofs.WorldKeeps.{answered_values}
 
 -- ---- both ends are open
-pub record HasBegun (reads strangers : Bool) (old new : WorldState) (c x : OpenedEnd) : Type 0 where
+pub record HasBegun (reads strangers : Bool) (old new : WorldState) (c x : OpenEnd) : Type 0 where
   pub w : WorldState
   pub ready : IsReady strangers w (length old.sent + 1) (datagram x.address x.state.progress.last_sent_to x.state.progress.last_sent)
-  pub client_at : slice_get w.ends (length old.ends) ≡ Some c
-  pub server_at : slice_get w.ends (length old.ends + 1) ≡ Some x
+  pub client_at : slice_get w.ends (length old.ends) ≡ Some (Open_end c)
+  pub server_at : slice_get w.ends (length old.ends + 1) ≡ Some (Open_end x)
   pub left : IsLeft reads w (length old.sent + 1) new
 
-begins : (reads strangers : Bool) (old new w : WorldState) (c x : OpenedEnd) (accepts : Service) → HasAsked strangers old w c → c.state.progress.last_sent_to ≡ request_port → IsLeft reads w (length old.sent) new → IsAccepted w c accepts →
+begins : (reads strangers : Bool) (old new w : WorldState) (c x : OpenEnd) (accepts : Service) → HasAsked strangers old w c → c.state.progress.last_sent_to ≡ request_port → IsLeft reads w (length old.sent) new → IsAccepted w c accepts →
     ((report : Report) (mid : WorldState) → Serves accepts w c.address c.state.progress.last_sent report mid → Opens w x report mid) → HasBegun reads strangers old new c x
 begins reads strangers old new w c x accepts has to left accepted opens =
     let i = length old.sent in
@@ -68,8 +68,8 @@ begins reads strangers old new w c x accepts has to left accepted opens =
     record {
       w = g.mid;
       ready = ready_next strangers w g.mid i d0 d1 g.report first g.step o.sent;
-      client_at = ap (λ (xs : List OpenedEnd). slice_get xs k) o.ends ∙ slice_get-push_old w.ends k x c has.there;
-      server_at = ap (λ (xs : List OpenedEnd). slice_get xs (k + 1)) o.ends ∙ (ap (slice_get (w.ends ++ x ∷ [])) (sym has.ends) ∙ slice_get-push_new w.ends x);
+      client_at = ap (λ (xs : List WorldEnd). slice_get xs k) o.ends ∙ slice_get-push_old w.ends k (Open_end x) (Open_end c) has.there;
+      server_at = ap (λ (xs : List WorldEnd). slice_get xs (k + 1)) o.ends ∙ (ap (slice_get (w.ends ++ Open_end x ∷ [])) (sym has.ends) ∙ slice_get-push_new w.ends (Open_end x));
       left = g.left;
     }
 
@@ -113,7 +113,7 @@ put_may false name mode asked file = tt
 
 -- ---- a read
 module _ (strangers : Bool) (old new : WorldState) (name : List ℕ) (mode : Mode) (asked : Asked) (file : List ℕ) where
-  abbrev reader : OpenedEnd
+  abbrev reader : OpenEnd
   reader = reading_client old name mode asked
 
   abbrev text : List ℕ
@@ -125,7 +125,7 @@ module _ (strangers : Bool) (old new : WorldState) (name : List ℕ) (mode : Mod
       has_asked strangers old h.run.asked reader (Get name mode asked) h.run.report (get_may strangers name mode asked) ok s s.2.is
 
   -- the server's end
-  abbrev server_of : (agreed : List Known) → ReadsStraight old new name mode asked file agreed → OpenedEnd
+  abbrev server_of : (agreed : List Known) → ReadsStraight old new name mode asked file agreed → OpenEnd
   server_of agreed h = sending_end h.run.asked reader.address reader.state.progress.last_sent mode h.path file agreed
 
   read_begins : (agreed : List Known) → IsOk strangers old → (h : ReadsStraight old new name mode asked file agreed) → HasBegun true strangers old new reader (server_of agreed h)
@@ -157,7 +157,6 @@ module _ (strangers : Bool) (old new : WorldState) (name : List ℕ) (mode : Mod
         x = reader;
         there = b.client_at;
         address = refl;
-        still = refl;
         receiver = refl;
         willing = (refl, refl);
         mode_is = refl;
@@ -173,7 +172,7 @@ module _ (strangers : Bool) (old new : WorldState) (name : List ℕ) (mode : Mod
       reader_through old new (length old.sent + 1 + 2 + 2 * m) (read_count [] (block_count text 512)) over (omega arith)
 
   -- from the server's OACK on, which the client accepts
-  read_on : (x : OpenedEnd) (st rt : Terms) (packet : Packet) → HasBegun true strangers old new reader x → x.state.progress.last_sent_to ≡ reader.address → x.state.progress.phase ≡ Sending st 0 → x.file ≡ file → x.state.role.mode ≡ mode →
+  read_on : (x : OpenEnd) (st rt : Terms) (packet : Packet) → HasBegun true strangers old new reader x → x.state.progress.last_sent_to ≡ reader.address → x.state.progress.phase ≡ Sending st 0 → x.file ≡ file → x.state.role.mode ≡ mode →
       Spells packet x.state.progress.last_sent → datagram_action reader.state x.address x.state.progress.last_sent (Some packet) ≡ Respond (Accept rt) → st.peer ≡ reader.address → rt.peer ≡ x.address → rt.size ≡ st.size →
       IsThrough old new (3 + 2 * block_count text st.size)
   read_on x st rt packet b to phase file_is mode_is spelled accepts sp rp same =
@@ -183,20 +182,20 @@ module _ (strangers : Bool) (old new : WorldState) (name : List ℕ) (mode : Mod
       let ra = reader.address in
       let g = goes_on true b.w new (i + 1) b.ready.count b.left in
       let heard = delivered b.w g.mid (i + 1) k reader sa x.state.progress.last_sent g.report (ports_of strangers b.w b.ready.ok)
-      (b.ready.newest ∙ ap (λ (a : Endpoint). Some (datagram sa a x.state.progress.last_sent)) to) b.client_at refl g.step in
+      (b.ready.newest ∙ ap (λ (a : Endpoint). Some (datagram sa a x.state.progress.last_sent)) to) b.client_at g.step in
       let y = hears_oack b.w g.mid k reader sa x.state.progress.last_sent g.report heard packet rt spelled accepts in
       let d1 = datagram sa x.state.progress.last_sent_to x.state.progress.last_sent in
       let d2 = datagram ra sa (ack_bytes 0) in
       let ready = ready_next strangers b.w g.mid (i + 1) d1 d2 g.report b.ready g.step y.4.sent in
       let sender : SendsAt strangers (k + 1) k (before_next k) sa ra st rt mode file sp rp same g.mid 0 =
-      record { x = x; there = stays_at b.w g.mid k (k + 1) x y.0 y.4.ends (behind_last k) b.server_at; address = refl; phase = phase; file_is = file_is; mode_is = mode_is } in
+      record { x = x; there = stays_at b.w g.mid k (k + 1) (Open_end x) (Open_end y.0) y.4.ends (behind_last k) b.server_at; address = refl; phase = phase; file_is = file_is; mode_is = mode_is } in
       let fit = fit_of strangers (k + 1) k (before_next k) sa ra st rt mode file sp rp same g.mid 0 ready.ok sender in
       let m = length text / st.size in
       let blocks = block_count text st.size in
       let rest : 0 + 1 + m ≡ blocks = omega arith in
       let first : 0 + 1 ≤ blocks = omega (arith, rest) in
       let receiver = awaits_now strangers (k + 1) k (before_next k) sa ra st rt mode file sp rp same true g.mid y.0 0 fit first
-      (set_at b.w g.mid k reader y.0 y.4.ends b.client_at) y.4.address y.1 (ap is_sender y.4.side) (ap is_client y.4.side, y.5) y.4.mode
+      (set_at b.w g.mid k (Open_end reader) (Open_end y.0) y.4.ends b.client_at) y.4.address y.1 (ap is_sender y.4.side) (ap is_client y.4.side, y.5) y.4.mode
       (new_text mode y.0.state.role.mode y.0.stored y.0.state.progress.held st.size text y.4.mode y.2 y.3) (new_held mode y.0.state.role.mode y.0.state.progress.held y.4.mode y.3) in
       let n = goes_on true g.mid new (i + 1 + 1) ready.count g.left in
       let ready_then = ack_ready strangers (k + 1) k (before_next k) sa ra st rt mode file sp rp same g.mid n.mid (i + 1 + 1) 0 n.report ready sender (omega arith) n.step first in
@@ -233,7 +232,7 @@ reads_complete strangers old new name mode asked file (known ∷ agreed) ok h = 
 
 -- ---- a write
 module _ (strangers : Bool) (old new : WorldState) (name : List ℕ) (mode : Mode) (asked : Asked) (file : List ℕ) where
-  abbrev writer : OpenedEnd
+  abbrev writer : OpenEnd
   writer = writing_client old name mode asked file
 
   abbrev written : List ℕ
@@ -245,7 +244,7 @@ module _ (strangers : Bool) (old new : WorldState) (name : List ℕ) (mode : Mod
       has_asked strangers old h.run.asked writer (Put name mode asked file) h.run.report (put_may strangers name mode asked file) ok s s.2.is
 
   -- the server's end
-  abbrev taker_of : (agreed : List Known) → WritesStraight old new name mode asked file agreed → OpenedEnd
+  abbrev taker_of : (agreed : List Known) → WritesStraight old new name mode asked file agreed → OpenEnd
   taker_of agreed h = receiving_end h.run.asked writer.address writer.state.progress.last_sent mode h.path agreed
 
   write_begins : (agreed : List Known) → IsOk strangers old → (h : WritesStraight old new name mode asked file agreed) → HasBegun false strangers old new writer (taker_of agreed h)
@@ -255,7 +254,7 @@ module _ (strangers : Bool) (old new : WorldState) (name : List ℕ) (mode : Mod
       begins false strangers old new h.run.asked writer (taker_of agreed h) (Takes h.path mode agreed) has refl left h.accepted (λ report mid s. s)
 
   -- from the server's answer on, which has the client send DATA 1
-  write_on : (x : OpenedEnd) (st rt : Terms) (packet : Packet) → HasBegun false strangers old new writer x → x.state.progress.last_sent_to ≡ writer.address → x.state.progress.phase ≡ Receiving rt 0 →
+  write_on : (x : OpenEnd) (st rt : Terms) (packet : Packet) → HasBegun false strangers old new writer x → x.state.progress.last_sent_to ≡ writer.address → x.state.progress.phase ≡ Receiving rt 0 →
       is_sender x.state.role.side ≡ false → x.state.role.mode ≡ mode → x.stored ≡ [] → x.state.progress.held ≡ [] → Spells packet x.state.progress.last_sent →
       datagram_action writer.state x.address x.state.progress.last_sent (Some packet) ≡ Send st 1 → st.peer ≡ x.address → rt.peer ≡ writer.address → rt.size ≡ st.size →
       IsThrough old new (write_count (block_count written st.size))
@@ -266,21 +265,21 @@ module _ (strangers : Bool) (old new : WorldState) (name : List ℕ) (mode : Mod
       let ra = x.address in
       let g = goes_on false b.w new (i + 1) b.ready.count b.left in
       let heard = delivered b.w g.mid (i + 1) k writer ra x.state.progress.last_sent g.report (ports_of strangers b.w b.ready.ok)
-      (b.ready.newest ∙ ap (λ (a : Endpoint). Some (datagram ra a x.state.progress.last_sent)) to) b.client_at refl g.step in
+      (b.ready.newest ∙ ap (λ (a : Endpoint). Some (datagram ra a x.state.progress.last_sent)) to) b.client_at g.step in
       let behind : written ≡ drop (0 * st.size) written = ap (λ (n : ℕ). drop n written) (let z : 0 ≡ 0 * st.size = omega arith in z) in
       let y = hears_send b.w g.mid k writer ra x.state.progress.last_sent g.report heard packet st 0 written spelled sends refl refl behind in
       let d1 = datagram ra x.state.progress.last_sent_to x.state.progress.last_sent in
       let d2 = datagram sa ra (data_bytes (0 + 1) (block written st.size (0 + 1))) in
       let ready = ready_next strangers b.w g.mid (i + 1) d1 d2 g.report b.ready g.step y.2.sent in
       let sender : SendsAt strangers k (k + 1) (behind_last k) sa ra st rt mode file sp rp same g.mid (0 + 1) =
-      record { x = y.0; there = set_at b.w g.mid k writer y.0 y.2.ends b.client_at; address = y.2.address; phase = y.1; file_is = y.2.file; mode_is = y.2.mode } in
+      record { x = y.0; there = set_at b.w g.mid k (Open_end writer) (Open_end y.0) y.2.ends b.client_at; address = y.2.address; phase = y.1; file_is = y.2.file; mode_is = y.2.mode } in
       let fit = fit_of strangers k (k + 1) (behind_last k) sa ra st rt mode file sp rp same g.mid (0 + 1) ready.ok sender in
       let m = length written / st.size in
       let blocks = block_count written st.size in
       let rest : 0 + 1 + m ≡ blocks = omega arith in
       let first : 0 + 1 ≤ blocks = omega (arith, rest) in
       let receiver = awaits_now strangers k (k + 1) (behind_last k) sa ra st rt mode file sp rp same false g.mid x 0 fit first
-      (stays_at b.w g.mid k (k + 1) x y.0 y.2.ends (behind_last k) b.server_at) refl phase receives tt mode_is
+      (stays_at b.w g.mid k (k + 1) (Open_end x) (Open_end y.0) y.2.ends (behind_last k) b.server_at) refl phase receives tt mode_is
       (new_text mode x.state.role.mode x.stored x.state.progress.held st.size written mode_is stored held) (new_held mode x.state.role.mode x.state.progress.held mode_is held) in
       let over = from_data strangers k (k + 1) (behind_last k) sa ra st rt mode file sp rp same false m (i + 1 + 1) 0 g.mid new rest ready sender receiver g.left in
       writer_through old new (i + 1 + 1 + 2 + 2 * m) (write_count blocks) over (omega (arith, rest))

@@ -1,8 +1,7 @@
 -- The beginning of a run without loss: a client asks, and the server's port accepts its request.
-use Rattle.std.proofs.Common.{◌≡◌, ℕ, ◌+◌, ◌*◌, ◌<◌, Bool, true, false, List, [], ◌∷◌, ◌++◌, length, map, Option, Some, None, Result, Ok, Err, refl, sym, ap, ◌∙◌, subst, arith, length-append}
+use Rattle.std.proofs.Common.{◌≡◌, ℕ, ◌+◌, ◌*◌, ◌<◌, Bool, true, false, List, [], ◌∷◌, ◌++◌, length, Option, Some, None, Result, Ok, Err, refl, sym, ap, ◌∙◌, subst, arith, length-append}
 use Rattle.std.specs.Prelude.{◌↔◌, IsTrue, if◌then◌else◌, nat_le, nat_lt, slice_get}
 use Rattle.std.proofs.lemmas.Bool.{true≢false, ltb-true}
-use Rattle.std.proofs.lemmas.List.{length-map, map-append}
 use Rattle.std.proofs.lemmas.Option.{same_Some}
 use Rattle.tftp_wire.specs.declared.mode.Mode.{Mode}
 use Rattle.tftp_wire.specs.declared.options.RawOption.{RawOption}
@@ -22,7 +21,7 @@ use Rattle.tftp_server.specs.Store.{measured}
 use Rattle.tftp_player.specs.Machine.{Endpoint, request_port}
 use Rattle.tftp_player.specs.Requests.{IsRepeated, begun_of, open_transfers, opened_of, served, service}
 use Rattle.tftp_player.specs.Straight.{IsAccepted}
-use Rattle.tftp_player.specs.World.{WorldState, OpenedEnd, file_at, in_the_way, is_closed, datagram, opened_in}
+use Rattle.tftp_player.specs.World.{WorldState, OpenEnd, file_at, in_the_way, datagram, opened_in, WorldEnd, Open_end, Closed_end, end_address}
 use Rattle.tftp_player.specs.WorldKept.{IsOk}
 use Rattle.tftp_player.specs.WorldRuns.{MayHappen}
 use Rattle.tftp_player.specs.WorldSteps.{Serves, Arrives, At_request_port, At_open_end, At_closed_end, At_nobody, Opens, WorldStep}
@@ -36,28 +35,28 @@ use Rattle.tftp_player.proofs.StepLemmas.{HasPorts}
 use Rattle.tftp_player.proofs.WorldRuns.{step_keeps}
 
 -- ---- a client asked
-pub record HasAsked (strangers : Bool) (old w : WorldState) (c : OpenedEnd) : Type 0 where
+pub record HasAsked (strangers : Bool) (old w : WorldState) (c : OpenEnd) : Type 0 where
   pub ok : IsOk strangers w
   pub sent : w.sent ≡ old.sent ++ datagram c.address c.state.progress.last_sent_to c.state.progress.last_sent ∷ []
   pub newest : slice_get w.sent (length old.sent) ≡ Some (datagram c.address c.state.progress.last_sent_to c.state.progress.last_sent)
   pub count : length w.sent ≡ length old.sent + 1
   pub ends : length w.ends ≡ length old.ends + 1
-  pub there : slice_get w.ends (length old.ends) ≡ Some c
+  pub there : slice_get w.ends (length old.ends) ≡ Some (Open_end c)
   pub files : w.files ≡ old.files
 
-pub has_asked : (strangers : Bool) (old w : WorldState) (c : OpenedEnd) (event : Event) (report : Report) → MayHappen strangers event → IsOk strangers old → WorldStep old event report w →
+pub has_asked : (strangers : Bool) (old w : WorldState) (c : OpenEnd) (event : Event) (report : Report) → MayHappen strangers event → IsOk strangers old → WorldStep old event report w →
     w ≡ opened_in old c → HasAsked strangers old w c
 has_asked strangers old w c event report may ok s is =
     let d = datagram c.address c.state.progress.last_sent_to c.state.progress.last_sent in
-    let ends : w.ends ≡ old.ends ++ c ∷ [] = ap (λ (u : WorldState). u.ends) is in
+    let ends : w.ends ≡ old.ends ++ Open_end c ∷ [] = ap (λ (u : WorldState). u.ends) is in
     let sent : w.sent ≡ old.sent ++ d ∷ [] = ap (λ (u : WorldState). u.sent) is in
     record {
       ok = step_keeps strangers old w event report may ok s;
       sent = sent;
       newest = ap (λ (ds : List Datagram). slice_get ds (length old.sent)) sent ∙ slice_get-push_new old.sent d;
       count = ap length sent ∙ length-append old.sent (d ∷ []);
-      ends = ap length ends ∙ length-append old.ends (c ∷ []);
-      there = ap (λ (xs : List OpenedEnd). slice_get xs (length old.ends)) ends ∙ slice_get-push_new old.ends c;
+      ends = ap length ends ∙ length-append old.ends (Open_end c ∷ []);
+      there = ap (λ (xs : List WorldEnd). slice_get xs (length old.ends)) ends ∙ slice_get-push_new old.ends (Open_end c);
       files = ap (λ (u : WorldState). u.files) is;
     }
 
@@ -69,17 +68,17 @@ same_answer {P = P} false false f g = refl
 same_answer {P = P} true false f g = absurd (true≢false (sym (g.1 (f.0 refl))))
 same_answer {P = P} false true f g = absurd (true≢false (sym (f.1 (g.0 refl))))
 
-same_repeated : (from : Endpoint) (decoded : Option Packet) (ends : List OpenedEnd) (a b : Bool) → IsRepeated a from decoded ends → IsRepeated b from decoded ends → a ≡ b
+same_repeated : (from : Endpoint) (decoded : Option Packet) (ends : List WorldEnd) (a b : Bool) → IsRepeated a from decoded ends → IsRepeated b from decoded ends → a ≡ b
 same_repeated from None ends a b f g = f ∙ sym g
 same_repeated from (Some packet) ends a b f g = same_answer a b f g
 
-module _ (w v : WorldState) (i : ℕ) (c : OpenedEnd) (report : Report) (accepts : Service) (ports : HasPorts w) (accepted : IsAccepted w c accepts) where
+module _ (w v : WorldState) (i : ℕ) (c : OpenEnd) (report : Report) (accepts : Service) (ports : HasPorts w) (accepted : IsAccepted w c accepts) where
   -- what the port did
   abbrev pub Comes : Type 0
   Comes = Serves accepts w c.address c.state.progress.last_sent report v
 
   -- no end has the request port
-  outside : (k : ℕ) (x : OpenedEnd) → slice_get w.ends k ≡ Some x → x.address ≡ request_port → ⊥
+  outside : (k : ℕ) (x : WorldEnd) → slice_get w.ends k ≡ Some x → end_address x ≡ request_port → ⊥
   outside k x there here = let a = ports k x there in let b = ap (λ (p : Endpoint). p.port) here in omega (arith, a, b)
 
   arrived : Arrives w c.address request_port c.state.progress.last_sent report v → Comes
@@ -91,8 +90,8 @@ module _ (w v : WorldState) (i : ℕ) (c : OpenedEnd) (report : Report) (accepts
       let all : service w repeated bytes decoded ≡ accepts =
       ap (service w repeated bytes) one ∙ (ap (λ (b : Bool). service w b bytes accepted.decoded) two ∙ accepted.is) in
       subst (λ (s : Service). Serves s w c.address bytes report v) all serves
-  arrived (At_open_end k x at here still h) = absurd (outside k x at here)
-  arrived (At_closed_end k x at here closed_now s) = absurd (outside k x at here)
+  arrived (At_open_end k x at here h) = absurd (outside k (Open_end x) at here)
+  arrived (At_closed_end k x at here s) = absurd (outside k (Closed_end x) at here)
   arrived (At_nobody away nobody s) = absurd (away refl)
 
   pub port_comes : slice_get w.sent i ≡ Some (datagram c.address request_port c.state.progress.last_sent) → WorldStep w (Deliver i) report v → Comes
@@ -102,11 +101,11 @@ module _ (w v : WorldState) (i : ℕ) (c : OpenedEnd) (report : Report) (accepts
       arrived (subst (λ (z : Datagram). Arrives w z.from z.to z.bytes report v) same s.2)
 
 -- an end opened
-pub record HasOpened (w v : WorldState) (x : OpenedEnd) : Type 0 where
+pub record HasOpened (w v : WorldState) (x : OpenEnd) : Type 0 where
   pub sent : v.sent ≡ w.sent ++ datagram x.address x.state.progress.last_sent_to x.state.progress.last_sent ∷ []
-  pub ends : v.ends ≡ w.ends ++ x ∷ []
+  pub ends : v.ends ≡ w.ends ++ Open_end x ∷ []
 
-pub has_opened : (w v : WorldState) (x : OpenedEnd) (report : Report) → Opens w x report v → HasOpened w v x
+pub has_opened : (w v : WorldState) (x : OpenEnd) (report : Report) → Opens w x report v → HasOpened w v x
 has_opened w v x report o = record { sent = ap (λ (u : WorldState). u.sent) o.is; ends = ap (λ (u : WorldState). u.ends) o.is }
 
 -- ---- what the port agreed to is its answer to some options
@@ -164,5 +163,5 @@ module _ (w : WorldState) where
       either Answers (has_error_opcode bytes) Ignores (by_packet w.cap (open_transfers w.ends) repeated w.limits decoded) (λ b. tt) (λ b. packet_answers repeated decoded)
 
 -- so is what it accepts
-pub accepted_answers : (w : WorldState) (c : OpenedEnd) (accepts : Service) → IsAccepted w c accepts → IsAnswer w accepts
+pub accepted_answers : (w : WorldState) (c : OpenEnd) (accepts : Service) → IsAccepted w c accepts → IsAnswer w accepts
 accepted_answers w c accepts h = subst (IsAnswer w) h.is (service_answers w h.repeated c.state.progress.last_sent h.decoded)

@@ -21,7 +21,7 @@ use Rattle.tftp_ends.specs.Receiver.{next_action}
 use Rattle.tftp_ends.specs.Step.{ack_bytes, data_bytes}
 use Rattle.tftp_player.specs.Machine.{Endpoint}
 use Rattle.tftp_player.specs.Straight.{TookAll, AllTaken}
-use Rattle.tftp_player.specs.World.{WorldState, OpenedEnd, is_closed, datagram}
+use Rattle.tftp_player.specs.World.{WorldState, OpenEnd, datagram, WorldEnd, Open_end}
 use Rattle.tftp_player.specs.WorldKept.{IsUnderWay, PhaseKept, HeldFits, IsOk, sent_text}
 use Rattle.tftp_player.specs.WorldRuns.{MayHappen}
 use Rattle.tftp_player.specs.WorldSafety.{IsComplete}
@@ -55,7 +55,7 @@ said_then true A B s = tt
 said_then false A B s = s.1
 
 -- a client that reads was not told to refuse
-abbrev pub IsWilling : Bool → OpenedEnd → Type 0
+abbrev pub IsWilling : Bool → OpenEnd → Type 0
 IsWilling true x = (is_client x.state.role.side ≡ true) × (x.refuses ≡ false)
 IsWilling false x = ⊤
 
@@ -114,8 +114,8 @@ ready_next strangers w v i d next report r s sent = record {
 
 -- both ends are complete at these places, and so many datagrams were sent
 pub record IsOver (v : WorldState) (one other count : ℕ) : Type 0 where
-  pub x : OpenedEnd
-  pub y : OpenedEnd
+  pub x : WorldEnd
+  pub y : WorldEnd
   pub x_at : slice_get v.ends one ≡ Some x
   pub y_at : slice_get v.ends other ≡ Some y
   pub x_done : IsComplete x
@@ -123,11 +123,11 @@ pub record IsOver (v : WorldState) (one other count : ℕ) : Type 0 where
   pub counted : length v.sent ≡ count
 
 -- an end that is elsewhere stays
-pub stays_at : (w v : WorldState) (k j : ℕ) (x y : OpenedEnd) → v.ends ≡ slice_set w.ends k y → j ≢ k → slice_get w.ends j ≡ Some x → slice_get v.ends j ≡ Some x
-stays_at w v k j x y ends away there = ap (λ (xs : List OpenedEnd). slice_get xs j) ends ∙ (slice_get-set_other w.ends k j y away ∙ there)
+pub stays_at : (w v : WorldState) (k j : ℕ) (x y : WorldEnd) → v.ends ≡ slice_set w.ends k y → j ≢ k → slice_get w.ends j ≡ Some x → slice_get v.ends j ≡ Some x
+stays_at w v k j x y ends away there = ap (λ (xs : List WorldEnd). slice_get xs j) ends ∙ (slice_get-set_other w.ends k j y away ∙ there)
 
-pub set_at : (w v : WorldState) (k : ℕ) (x y : OpenedEnd) → v.ends ≡ slice_set w.ends k y → slice_get w.ends k ≡ Some x → slice_get v.ends k ≡ Some y
-set_at w v k x y ends there = ap (λ (xs : List OpenedEnd). slice_get xs k) ends ∙ slice_get-set_same w.ends k y x there
+pub set_at : (w v : WorldState) (k : ℕ) (x y : WorldEnd) → v.ends ≡ slice_set w.ends k y → slice_get w.ends k ≡ Some x → slice_get v.ends k ≡ Some y
+set_at w v k x y ends there = ap (λ (xs : List WorldEnd). slice_get xs k) ends ∙ slice_get-set_same w.ends k y x there
 
 stored_more_phase : (terms : Terms) (number : ℕ) (l : ℕ) → l ≡ terms.size → stored_phase terms number (nat_lt l terms.size) ≡ Receiving terms number
 stored_more_phase terms number l e = ap (stored_phase terms number) (le-ltb l terms.size (let f : terms.size ≤ l = omega (arith, e) in f))
@@ -154,8 +154,8 @@ module _ (strangers : Bool) (ks kr : ℕ) (apart : kr ≢ ks) (sa ra : Endpoint)
 
   -- a sender whose newest block is this one
   pub record SendsAt (w : WorldState) (n : ℕ) : Type 0 where
-    pub x : OpenedEnd
-    pub there : slice_get w.ends ks ≡ Some x
+    pub x : OpenEnd
+    pub there : slice_get w.ends ks ≡ Some (Open_end x)
     pub address : x.address ≡ sa
     pub phase : x.state.progress.phase ≡ Sending st n
     pub file_is : x.file ≡ file
@@ -163,10 +163,9 @@ module _ (strangers : Bool) (ks kr : ℕ) (apart : kr ≢ ks) (sa ra : Endpoint)
 
   -- a receiver that has so many blocks, and stores the next one
   pub record AwaitsAt (reads : Bool) (w : WorldState) (n : ℕ) : Type 0 where
-    pub x : OpenedEnd
-    pub there : slice_get w.ends kr ≡ Some x
+    pub x : OpenEnd
+    pub there : slice_get w.ends kr ≡ Some (Open_end x)
     pub address : x.address ≡ ra
-    pub still : is_closed x ≡ false
     pub receiver : is_sender x.state.role.side ≡ false
     pub willing : IsWilling reads x
     pub mode_is : x.state.role.mode ≡ mode
@@ -176,7 +175,7 @@ module _ (strangers : Bool) (ks kr : ℕ) (apart : kr ≢ ks) (sa ra : Endpoint)
 
   -- a receiver that has all
   pub record HasAllAt (w : WorldState) : Type 0 where
-    pub x : OpenedEnd
+    pub x : WorldEnd
     pub there : slice_get w.ends kr ≡ Some x
     pub done : IsComplete x
 
@@ -190,7 +189,7 @@ module _ (strangers : Bool) (ks kr : ℕ) (apart : kr ≢ ks) (sa ra : Endpoint)
   text_of_sender w n s = ap (λ (m : Mode). wire_text m s.x.file) s.mode_is ∙ ap (wire_text mode) s.file_is
 
   under_way : (w : WorldState) (n : ℕ) → IsOk strangers w → (s : SendsAt w n) → IsUnderWay s.x st n
-  under_way w n ok s = subst (λ (p : Phase). PhaseKept s.x p) s.phase (ok.ends ks s.x s.there).kept.phase
+  under_way w n ok s = subst (λ (p : Phase). PhaseKept s.x p) s.phase (ok.ends ks (Open_end s.x) s.there).stands.kept.phase
 
   pub fit_of : (w : WorldState) (n : ℕ) → IsOk strangers w → SendsAt w n → IsFit
   fit_of w n ok s =
@@ -200,22 +199,21 @@ module _ (strangers : Bool) (ks kr : ℕ) (apart : kr ≢ ks) (sa ra : Endpoint)
   spelled_at : (n : ℕ) → IsFit → n + 1 ≤ blocks → Spells (Data (n + 1) (piece n)) (data_bytes (n + 1) (piece n))
   spelled_at n f l = spells_own (Data (n + 1) (piece n)) (valid_data text st.size n f.positive f.small f.fits l)
 
-  sender_stays : (w v : WorldState) (n : ℕ) (y : OpenedEnd) → v.ends ≡ slice_set w.ends kr y → SendsAt w n → SendsAt v n
+  sender_stays : (w v : WorldState) (n : ℕ) (y : WorldEnd) → v.ends ≡ slice_set w.ends kr y → SendsAt w n → SendsAt v n
   sender_stays w v n y ends s = record {
     x = s.x;
-    there = stays_at w v kr ks s.x y ends (λ e. apart (sym e)) s.there;
+    there = stays_at w v kr ks (Open_end s.x) y ends (λ e. apart (sym e)) s.there;
     address = s.address;
     phase = s.phase;
     file_is = s.file_is;
     mode_is = s.mode_is;
   }
 
-  receiver_stays : (reads : Bool) (w v : WorldState) (n : ℕ) (y : OpenedEnd) → v.ends ≡ slice_set w.ends ks y → AwaitsAt reads w n → AwaitsAt reads v n
+  receiver_stays : (reads : Bool) (w v : WorldState) (n : ℕ) (y : WorldEnd) → v.ends ≡ slice_set w.ends ks y → AwaitsAt reads w n → AwaitsAt reads v n
   receiver_stays reads w v n y ends r = record {
     x = r.x;
-    there = stays_at w v ks kr r.x y ends apart r.there;
+    there = stays_at w v ks kr (Open_end r.x) y ends apart r.there;
     address = r.address;
-    still = r.still;
     receiver = r.receiver;
     willing = r.willing;
     mode_is = r.mode_is;
@@ -225,7 +223,7 @@ module _ (strangers : Bool) (ks kr : ℕ) (apart : kr ≢ ks) (sa ra : Endpoint)
   }
 
   -- a receiver stores the next block of its sender's text
-  pub next_is_stored : (x : OpenedEnd) (n : ℕ) → IsFit → n + 1 ≤ blocks → x.state.role.mode ≡ mode → wire_text x.state.role.mode x.stored ++ x.state.progress.held ≡ take (n * st.size) text →
+  pub next_is_stored : (x : OpenEnd) (n : ℕ) → IsFit → n + 1 ≤ blocks → x.state.role.mode ≡ mode → wire_text x.state.role.mode x.stored ++ x.state.progress.held ≡ take (n * st.size) text →
       next_action x.state.role.mode x.state.progress.held rt (n + 1) (piece n) ≡ Store rt (n + 1)
   next_is_stored x n f l mode_is received =
       let within : length (piece n) ≤ rt.size = let e = block_within text st.size f.positive f.fits n l in omega (arith, e, same_size) in
@@ -240,20 +238,19 @@ module _ (strangers : Bool) (ks kr : ℕ) (apart : kr ≢ ks) (sa ra : Endpoint)
       (piece_readable x.state.role.mode file x.stored x.state.progress.held (piece n) rest (nat_lt (length (piece n)) rt.size) whole
       (λ e. last_rest text st.size f.positive f.fits n (ap (nat_lt (length (piece n))) (sym same_size) ∙ e)))
 
-  receiving_stores : (x : OpenedEnd) (n : ℕ) → IsFit → n + 1 ≤ blocks → x.state.progress.phase ≡ Receiving rt n → x.state.role.mode ≡ mode → wire_text x.state.role.mode x.stored ++ x.state.progress.held ≡ take (n * st.size) text →
+  receiving_stores : (x : OpenEnd) (n : ℕ) → IsFit → n + 1 ≤ blocks → x.state.progress.phase ≡ Receiving rt n → x.state.role.mode ≡ mode → wire_text x.state.role.mode x.stored ++ x.state.progress.held ≡ take (n * st.size) text →
       datagram_action x.state sa (data_bytes (n + 1) (piece n)) (Some (Data (n + 1) (piece n))) ≡ Store rt (n + 1)
   receiving_stores x n f l phase mode_is received =
       from_peer x.state (Receiving rt n) rt sa (data_bytes (n + 1) (piece n)) (Data (n + 1) (piece n)) phase refl receiver_peer
       ∙ (data_next x.state.role.mode x.state.progress.held rt n (piece n) ∙ next_is_stored x n f l mode_is received)
 
   -- a receiver that takes this phase with what it has
-  pub awaits_now : (reads : Bool) (w : WorldState) (x : OpenedEnd) (n : ℕ) → IsFit → n + 1 ≤ blocks → slice_get w.ends kr ≡ Some x → x.address ≡ ra → x.state.progress.phase ≡ Receiving rt n → is_sender x.state.role.side ≡ false → IsWilling reads x →
+  pub awaits_now : (reads : Bool) (w : WorldState) (x : OpenEnd) (n : ℕ) → IsFit → n + 1 ≤ blocks → slice_get w.ends kr ≡ Some (Open_end x) → x.address ≡ ra → x.state.progress.phase ≡ Receiving rt n → is_sender x.state.role.side ≡ false → IsWilling reads x →
       x.state.role.mode ≡ mode → wire_text x.state.role.mode x.stored ++ x.state.progress.held ≡ take (n * st.size) text → HeldFits x.state.role.mode x.state.progress.held → AwaitsAt reads w n
   awaits_now reads w x n f l there address phase receiver willing mode_is received holds = record {
     x = x;
     there = there;
     address = address;
-    still = ap (λ (p : Phase). is_some (outcome_of p)) phase;
     receiver = receiver;
     willing = willing;
     mode_is = mode_is;
@@ -270,7 +267,7 @@ module _ (strangers : Bool) (ks kr : ℕ) (apart : kr ≢ ks) (sa ra : Endpoint)
 
     heard : Hears w kr r.x sa (data_bytes (n + 1) (piece n)) report v
     heard = delivered w v i kr r.x sa (data_bytes (n + 1) (piece n)) report (ports_of strangers w ready.ok)
-        (ready.newest ∙ ap (λ (a : Endpoint). Some (datagram sa a (data_bytes (n + 1) (piece n)))) (sym r.address)) r.there r.still step
+        (ready.newest ∙ ap (λ (a : Endpoint). Some (datagram sa a (data_bytes (n + 1) (piece n)))) (sym r.address)) r.there step
 
     -- what a client that was not told to refuse makes of it
     taken_by : is_client r.x.state.role.side ≡ true → r.x.refuses ≡ false → TookAll report.closed × (is_told heard.held ≡ false)
@@ -281,7 +278,7 @@ module _ (strangers : Bool) (ks kr : ℕ) (apart : kr ≢ ks) (sa ra : Endpoint)
     took_all true willing said = (taken_by willing.0 willing.1).0
     took_all false willing said = said
 
-    stored : (y : OpenedEnd) × HasStored w v kr r.x sa (data_bytes (n + 1) (piece n)) report heard rt (n + 1) (piece n) y
+    stored : (y : OpenEnd) × HasStored w v kr r.x sa (data_bytes (n + 1) (piece n)) report heard rt (n + 1) (piece n) y
     stored = hears_data w v kr r.x sa (data_bytes (n + 1) (piece n)) report heard rt (n + 1) (piece n) r.holds (took_all reads r.willing taken) (spelled_at n fit l) r.stores r.receiver
 
     stays_willing : (b : Bool) → IsWilling b r.x → IsWilling b stored.0
@@ -295,7 +292,7 @@ module _ (strangers : Bool) (ks kr : ℕ) (apart : kr ≢ ks) (sa ra : Endpoint)
     data_ready = ready_next strangers w v i (data_at n) (ack_at (n + 1)) report ready step acked
 
     pub data_sender : SendsAt v (n + 1)
-    data_sender = sender_stays w v (n + 1) stored.0 stored.1.becomes.ends s
+    data_sender = sender_stays w v (n + 1) (Open_end stored.0) stored.1.becomes.ends s
 
     has_more : wire_text stored.0.state.role.mode stored.0.stored ++ stored.0.state.progress.held ≡ take ((n + 1) * st.size) text
     has_more =
@@ -307,7 +304,7 @@ module _ (strangers : Bool) (ks kr : ℕ) (apart : kr ≢ ks) (sa ra : Endpoint)
     data_receiver more =
         let y = stored.0 in
         let full : length (piece n) ≡ rt.size = block_full text st.size fit.positive fit.fits n more ∙ sym same_size in
-        awaits_now reads v y (n + 1) fit (let m : n + 1 + 1 ≤ blocks = omega (arith, more) in m) (set_at w v kr r.x y stored.1.becomes.ends r.there) (stored.1.becomes.address ∙ r.address)
+        awaits_now reads v y (n + 1) fit (let m : n + 1 + 1 ≤ blocks = omega (arith, more) in m) (set_at w v kr (Open_end r.x) (Open_end y) stored.1.becomes.ends r.there) (stored.1.becomes.address ∙ r.address)
         (stored.1.phase ∙ stored_more_phase rt (n + 1) (length (piece n)) full) (ap is_sender stored.1.becomes.side ∙ r.receiver) (stays_willing reads r.willing)
         (stored.1.becomes.mode ∙ r.mode_is) has_more (subst (λ (m : Mode). HeldFits m y.state.progress.held) (sym stored.1.becomes.mode) stored.1.holds)
 
@@ -317,8 +314,8 @@ module _ (strangers : Bool) (ks kr : ℕ) (apart : kr ≢ ks) (sa ra : Endpoint)
         let y = stored.0 in
         let short : length (piece n) < rt.size = let e = block_last text st.size fit.positive fit.fits n last in omega (arith, e, same_size) in
         record {
-          x = y;
-          there = set_at w v kr r.x y stored.1.becomes.ends r.there;
+          x = Open_end y;
+          there = set_at w v kr (Open_end r.x) (Open_end y) stored.1.becomes.ends r.there;
           done = ap is_complete (stored.1.phase ∙ stored_last_phase rt (n + 1) (length (piece n)) short);
         }
 
@@ -331,12 +328,9 @@ module _ (strangers : Bool) (ks kr : ℕ) (apart : kr ≢ ks) (sa ra : Endpoint)
     fit_now : IsFit
     fit_now = fit_of w n ready.ok s
 
-    still_sends : is_closed s.x ≡ false
-    still_sends = ap (λ (p : Phase). is_some (outcome_of p)) s.phase
-
     heard_ack : Hears w ks s.x ra (ack_bytes n) report v
     heard_ack = delivered w v i ks s.x ra (ack_bytes n) report (ports_of strangers w ready.ok)
-        (ready.newest ∙ ap (λ (a : Endpoint). Some (datagram ra a (ack_bytes n))) (sym s.address)) s.there still_sends step
+        (ready.newest ∙ ap (λ (a : Endpoint). Some (datagram ra a (ack_bytes n))) (sym s.address)) s.there step
 
     ack_spelled : Spells (Ack n) (ack_bytes n)
     ack_spelled = spells_own (Ack n) (number_fits text st.size n fit_now.positive fit_now.fits small)
@@ -350,7 +344,7 @@ module _ (strangers : Bool) (ks kr : ℕ) (apart : kr ≢ ks) (sa ra : Endpoint)
       sends_more = from_peer s.x.state (Sending st n) st ra (ack_bytes n) (Ack n) s.phase refl sender_peer
           ∙ acked_more s.x.state.role.length n st (subst (λ (m : ℕ). n < m / st.size + 1) (sym measured) more)
 
-      sent_more : (y : OpenedEnd) × (y.state.progress.phase ≡ Sending st (n + 1)) × Becomes w v ks s.x ra (ack_bytes n) report heard_ack y (datagram s.x.address ra (data_bytes (n + 1) (piece n)) ∷ [])
+      sent_more : (y : OpenEnd) × (y.state.progress.phase ≡ Sending st (n + 1)) × Becomes w v ks s.x ra (ack_bytes n) report heard_ack y (datagram s.x.address ra (data_bytes (n + 1) (piece n)) ∷ [])
       sent_more = hears_send w v ks s.x ra (ack_bytes n) report heard_ack (Ack n) st n text ack_spelled sends_more way.sender measured
           (way.left ∙ ap (drop (n * st.size)) (text_of_sender w n s))
 
@@ -361,7 +355,7 @@ module _ (strangers : Bool) (ks kr : ℕ) (apart : kr ≢ ks) (sa ra : Endpoint)
       pub ack_sender : SendsAt v (n + 1)
       ack_sender = record {
         x = sent_more.0;
-        there = set_at w v ks s.x sent_more.0 sent_more.2.ends s.there;
+        there = set_at w v ks (Open_end s.x) (Open_end sent_more.0) sent_more.2.ends s.there;
         address = sent_more.2.address ∙ s.address;
         phase = sent_more.1;
         file_is = sent_more.2.file ∙ s.file_is;
@@ -369,7 +363,7 @@ module _ (strangers : Bool) (ks kr : ℕ) (apart : kr ≢ ks) (sa ra : Endpoint)
       }
 
       pub ack_receiver : (reads : Bool) → AwaitsAt reads w n → AwaitsAt reads v n
-      ack_receiver reads r = receiver_stays reads w v n sent_more.0 sent_more.2.ends r
+      ack_receiver reads r = receiver_stays reads w v n (Open_end sent_more.0) sent_more.2.ends r
 
     -- or all was sent
     module _ (last : n ≡ blocks) (r : HasAllAt w) where
@@ -378,18 +372,18 @@ module _ (strangers : Bool) (ks kr : ℕ) (apart : kr ≢ ks) (sa ra : Endpoint)
           ∙ acked_last s.x.state.role.length n st
           (subst (λ (m : ℕ). m / st.size + 1 ≤ n) (sym measured) (let e : blocks ≤ n = omega (arith, last) in e))
 
-      is_done : (y : OpenedEnd) × (is_complete y.state.progress.phase ≡ true) × Becomes w v ks s.x ra (ack_bytes n) report heard_ack y []
+      is_done : (y : WorldEnd) × IsComplete y × (v.sent ≡ w.sent ++ []) × (v.ends ≡ slice_set w.ends ks y)
       is_done = hears_last w v ks s.x ra (ack_bytes n) report heard_ack (Ack n) ack_spelled sends_none
 
       pub ack_over : IsOver v ks kr (i + 1)
       ack_over = record {
         x = is_done.0;
         y = r.x;
-        x_at = set_at w v ks s.x is_done.0 is_done.2.ends s.there;
-        y_at = stays_at w v ks kr r.x is_done.0 is_done.2.ends apart r.there;
+        x_at = set_at w v ks (Open_end s.x) is_done.0 is_done.3 s.there;
+        y_at = stays_at w v ks kr r.x is_done.0 is_done.3 apart r.there;
         x_done = is_done.1;
         y_done = r.done;
-        counted = let e = ap length is_done.2.sent in let f = length-append w.sent [] in let c = ready.count in omega (arith, e, f, c);
+        counted = let e = ap length is_done.2 in let f = length-append w.sent [] in let c = ready.count in omega (arith, e, f, c);
       }
 
   -- ---- the rest of the run, from DATA n + 1 on its way, behind which so many blocks are left

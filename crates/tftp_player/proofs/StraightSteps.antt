@@ -33,8 +33,9 @@ use Rattle.tftp_ends.specs.Step.{Turn, Done, Acts, Appended, GoesOn, Stores, Sto
 use Rattle.tftp_ends.specs.Text.{Decoded}
 use Rattle.tftp_player.specs.Machine.{Endpoint}
 use Rattle.tftp_player.specs.Straight.{TookAll}
-use Rattle.tftp_player.specs.World.{WorldState, OpenedEnd, file_at, in_the_way, is_closed, datagram, replied, files_of, holding_of, with_files, in_state, end_after, closed_at, at_rest}
+use Rattle.tftp_player.specs.World.{WorldState, OpenEnd, file_at, in_the_way, is_closed, datagram, replied, files_of, holding_of, with_files, in_state, end_after, closed_at, standing, WorldEnd, Open_end, Closed_end, end_address}
 use Rattle.tftp_player.specs.WorldKept.{HeldFits, IsOk}
+use Rattle.tftp_player.specs.WorldSafety.{IsComplete}
 use Rattle.tftp_player.specs.WorldSteps.{may_refuse_append, may_refuse_commit, EndStep, OnDatagram, Arrives, At_request_port, At_open_end, At_closed_end, At_nobody, WorldStep, world_sink}
 use Rattle.tftp_player.specs.declared.datagram.Datagram.{Datagram}
 use Rattle.tftp_player.specs.declared.event.Event.TheVariants.{Deliver}
@@ -51,16 +52,16 @@ pub ports_of : (strangers : Bool) (w : WorldState) → IsOk strangers w → HasP
 ports_of strangers w ok k x e = (ok.shown.3.ends k _ (view_at w.ends k x e)).1
 
 -- a delivery at an open end had it make this turn
-pub record Hears (w : WorldState) (k : ℕ) (x : OpenedEnd) (from : Endpoint) (bytes : List ℕ) (report : Report) (v : WorldState) : Type 0 where
+pub record Hears (w : WorldState) (k : ℕ) (x : OpenEnd) (from : Endpoint) (bytes : List ℕ) (report : Report) (v : WorldState) : Type 0 where
   pub turn : Turn
   pub held : Files (List ℕ) Holding
   pub steps : EndStep (is_client x.state.role.side) (in_the_way w.overwrite (file_at w.files x.path)) from bytes x.state (files_of x) turn held
   pub sent : v.sent ≡ w.sent ++ replied x.address turn.reply
-  pub ends : v.ends ≡ slice_set w.ends k (at_rest (end_after x turn held))
+  pub ends : v.ends ≡ slice_set w.ends k (standing (end_after x turn held))
   pub closed : report.closed ≡ closed_at x.address (outcome_of turn.progress.phase)
 
 -- two ends at one address are one
-same_end : (w : WorldState) (k j : ℕ) (x y : OpenedEnd) → HasPorts w → slice_get w.ends k ≡ Some x → slice_get w.ends j ≡ Some y → y.address ≡ x.address → (j ≡ k) × (y ≡ x)
+same_end : (w : WorldState) (k j : ℕ) (x y : WorldEnd) → HasPorts w → slice_get w.ends k ≡ Some x → slice_get w.ends j ≡ Some y → end_address y ≡ end_address x → (j ≡ k) × (y ≡ x)
 same_end w k j x y ports here there same =
     let a = ports k x here in
     let b = ports j y there in
@@ -68,8 +69,8 @@ same_end w k j x y ports here there same =
     let place : j ≡ k = omega (arith, a, b, c) in
     (place, same_Some y x (sym there ∙ (ap (slice_get w.ends) place ∙ here)))
 
-module _ (w v : WorldState) (k : ℕ) (x : OpenedEnd) (from : Endpoint) (bytes : List ℕ) (report : Report)
-    (ports : HasPorts w) (there : slice_get w.ends k ≡ Some x) (open_now : is_closed x ≡ false) where
+module _ (w v : WorldState) (k : ℕ) (x : OpenEnd) (from : Endpoint) (bytes : List ℕ) (report : Report)
+    (ports : HasPorts w) (there : slice_get w.ends k ≡ Some (Open_end x)) where
   heard : OnDatagram w k x from bytes report v → Hears w k x from bytes report v
   heard h = record {
     turn = h.turn;
@@ -82,22 +83,23 @@ module _ (w v : WorldState) (k : ℕ) (x : OpenedEnd) (from : Endpoint) (bytes :
 
   arrived : Arrives w from x.address bytes report v → Hears w k x from bytes report v
   arrived (At_request_port here port decoded says repeated same served) =
-      absurd (let a = ports k x there in let b = ap (λ (p : Endpoint). p.port) here in omega (arith, a, b))
-  arrived (At_open_end j y at here still h) =
-      let e = same_end w k j x y ports there at here in
-      heard (subst (λ (z : OpenedEnd). OnDatagram w k z from bytes report v) e.1 (subst (λ (i : ℕ). OnDatagram w i y from bytes report v) e.0 h))
-  arrived (At_closed_end j y at here closed_now s) =
-      let e = same_end w k j x y ports there at here in
-      absurd (true≢false (sym closed_now ∙ (ap is_closed e.1 ∙ open_now)))
-  arrived (At_nobody away nobody s) = absurd (nobody k x there refl)
+      absurd (let a = ports k (Open_end x) there in let b = ap (λ (p : Endpoint). p.port) here in omega (arith, a, b))
+  arrived (At_open_end j y at here h) =
+      let e = same_end w k j (Open_end x) (Open_end y) ports there at here in
+      let same : y ≡ x = (let f : Open_end y ≡ Open_end x = e.1 in cc) in
+      heard (subst (λ (z : OpenEnd). OnDatagram w k z from bytes report v) same (subst (λ (i : ℕ). OnDatagram w i y from bytes report v) e.0 h))
+  arrived (At_closed_end j y at here s) =
+      let e = same_end w k j (Open_end x) (Closed_end y) ports there at here in
+      absurd (true≢false (ap is_closed e.1))
+  arrived (At_nobody away nobody s) = absurd (nobody k (Open_end x) there refl)
 
 -- a datagram for an open end is heard there
-pub delivered : (w v : WorldState) (i k : ℕ) (x : OpenedEnd) (from : Endpoint) (bytes : List ℕ) (report : Report) → HasPorts w →
-    slice_get w.sent i ≡ Some (datagram from x.address bytes) → slice_get w.ends k ≡ Some x → is_closed x ≡ false → WorldStep w (Deliver i) report v → Hears w k x from bytes report v
-delivered w v i k x from bytes report ports sent there open_now s =
+pub delivered : (w v : WorldState) (i k : ℕ) (x : OpenEnd) (from : Endpoint) (bytes : List ℕ) (report : Report) → HasPorts w →
+    slice_get w.sent i ≡ Some (datagram from x.address bytes) → slice_get w.ends k ≡ Some (Open_end x) → WorldStep w (Deliver i) report v → Hears w k x from bytes report v
+delivered w v i k x from bytes report ports sent there s =
     let d = s.0 in
     let same : d ≡ datagram from x.address bytes = same_Some d (datagram from x.address bytes) (sym s.1 ∙ sent) in
-    arrived w v k x from bytes report ports there open_now (subst (λ (z : Datagram). Arrives w z.from z.to z.bytes report v) same s.2)
+    arrived w v k x from bytes report ports there (subst (λ (z : Datagram). Arrives w z.from z.to z.bytes report v) same s.2)
 
 -- bytes that spell a packet are decoded to it
 decoded_is : (bytes : List ℕ) (packet : Packet) (decoded : Option Packet) → Spells packet bytes → Decodes bytes decoded → decoded ≡ Some packet
@@ -144,7 +146,7 @@ commit_taken there before after (Err faults.Full) untold h may = absurd (true≢
 commit_taken there before after (Err faults.Io) untold h may = absurd may
 commit_taken there before after (Err faults.Memory) untold h may = absurd may
 
-module _ (w v : WorldState) (k : ℕ) (x : OpenedEnd) (from : Endpoint) (bytes : List ℕ) (report : Report) (h : Hears w k x from bytes report v) where
+module _ (w v : WorldState) (k : ℕ) (x : OpenEnd) (from : Endpoint) (bytes : List ℕ) (report : Report) (h : Hears w k x from bytes report v) where
   abbrev refuses_commit : Holding → StoreFault → Type 0
   refuses_commit = may_refuse_commit (is_client x.state.role.side) (in_the_way w.overwrite (file_at w.files x.path))
 
@@ -157,9 +159,9 @@ module _ (w v : WorldState) (k : ℕ) (x : OpenedEnd) (from : Endpoint) (bytes :
       subst Acts_at (ap (datagram_action x.state from bytes) (decoded_is bytes packet h.steps.decoded spelled h.steps.says) ∙ is) h.steps.acts
 
   -- the end became y, and sent this
-  pub record Becomes (y : OpenedEnd) (said : List Datagram) : Type 0 where
+  pub record Becomes (y : OpenEnd) (said : List Datagram) : Type 0 where
     pub sent : v.sent ≡ w.sent ++ said
-    pub ends : v.ends ≡ slice_set w.ends k y
+    pub ends : v.ends ≡ slice_set w.ends k (Open_end y)
     pub address : y.address ≡ x.address
     pub file : y.file ≡ x.file
     pub mode : y.state.role.mode ≡ x.state.role.mode
@@ -171,7 +173,7 @@ module _ (w v : WorldState) (k : ℕ) (x : OpenedEnd) (from : Endpoint) (bytes :
 
   pub hears_send : (packet : Packet) (terms : Terms) (n : ℕ) (text : List ℕ) → Spells packet bytes → datagram_action x.state from bytes (Some packet) ≡ Send terms (n + 1) →
       is_sender x.state.role.side ≡ true → x.state.role.length ≡ length text → x.left ≡ drop (n * terms.size) text →
-      (y : OpenedEnd) × (y.state.progress.phase ≡ Sending terms (n + 1)) × Becomes y (datagram x.address from (data_bytes (n + 1) (block text terms.size (n + 1))) ∷ [])
+      (y : OpenEnd) × (y.state.progress.phase ≡ Sending terms (n + 1)) × Becomes y (datagram x.address from (data_bytes (n + 1) (block text terms.size (n + 1))) ∷ [])
   hears_send packet terms n text spelled is sender measured left =
       let a = acts_as packet (Send terms (n + 1)) spelled is in
       let f = sends_from (is_sender x.state.role.side) sender refuses_commit terms (n + 1) from x.state x.left (holding_of x) h.turn h.held a in
@@ -183,8 +185,8 @@ module _ (w v : WorldState) (k : ℕ) (x : OpenedEnd) (from : Endpoint) (bytes :
         record {
           sent = h.sent ∙ ap (λ (t : Turn). w.sent ++ replied x.address t.reply) b.turn_is;
           ends = h.ends
-              ∙ (ap (λ (t : Turn). slice_set w.ends k (at_rest (end_after x t h.held))) b.turn_is
-              ∙ ap (λ (fs : Files (List ℕ) Holding). slice_set w.ends k (at_rest (end_after x turn fs))) f.1);
+              ∙ (ap (λ (t : Turn). slice_set w.ends k (standing (end_after x t h.held))) b.turn_is
+              ∙ ap (λ (fs : Files (List ℕ) Holding). slice_set w.ends k (standing (end_after x turn fs))) f.1);
           address = refl;
           file = refl;
           mode = refl;
@@ -193,34 +195,27 @@ module _ (w v : WorldState) (k : ℕ) (x : OpenedEnd) (from : Endpoint) (bytes :
       )
 
   -- ---- a sender whose last block is acknowledged is complete
-  same_with : (b : Bool) (z : OpenedEnd) → with_files z (if b then Source z.left else Sink (holding_of z)) ≡ z
+  same_with : (b : Bool) (z : OpenEnd) → with_files z (if b then Source z.left else Sink (holding_of z)) ≡ z
   same_with true z = refl
   same_with false z = refl
 
   pub hears_last : (packet : Packet) → Spells packet bytes → datagram_action x.state from bytes (Some packet) ≡ Respond Complete →
-      (y : OpenedEnd) × (is_complete y.state.progress.phase ≡ true) × Becomes y []
+      (y : WorldEnd) × IsComplete y × (v.sent ≡ w.sent ++ []) × (v.ends ≡ slice_set w.ends k y)
   hears_last packet spelled is =
       let a = acts_as packet (Respond Complete) spelled is in
-      let turn = response_turn Complete from x.state in
-      let y = at_rest (in_state (after_turn x.state turn) x) in (
-        y,
+      let turn = response_turn Complete from x.state in (
+        standing (in_state (after_turn x.state turn) x),
         refl,
-        record {
-          sent = h.sent ∙ ap (λ (t : Turn). w.sent ++ replied x.address t.reply) a.0;
-          ends = h.ends
-              ∙ (ap (λ (t : Turn). slice_set w.ends k (at_rest (end_after x t h.held))) a.0
-              ∙ (ap (λ (fs : Files (List ℕ) Holding). slice_set w.ends k (at_rest (end_after x turn fs))) a.1
-              ∙ ap (λ (z : OpenedEnd). slice_set w.ends k (at_rest z)) (same_with (is_sender x.state.role.side) (in_state (after_turn x.state turn) x))));
-          address = refl;
-          file = refl;
-          mode = refl;
-          side = refl;
-        },
+        h.sent ∙ ap (λ (t : Turn). w.sent ++ replied x.address t.reply) a.0,
+        h.ends
+            ∙ (ap (λ (t : Turn). slice_set w.ends k (standing (end_after x t h.held))) a.0
+            ∙ (ap (λ (fs : Files (List ℕ) Holding). slice_set w.ends k (standing (end_after x turn fs))) a.1
+            ∙ ap (λ (z : OpenEnd). slice_set w.ends k (standing z)) (same_with (is_sender x.state.role.side) (in_state (after_turn x.state turn) x)))),
       )
 
   -- ---- a reader accepts an OACK
   pub hears_oack : (packet : Packet) (terms : Terms) → Spells packet bytes → datagram_action x.state from bytes (Some packet) ≡ Respond (Accept terms) →
-      (y : OpenedEnd) × (y.state.progress.phase ≡ Receiving terms 0) × (y.stored ≡ x.stored) × (y.state.progress.held ≡ x.state.progress.held) × Becomes y (datagram x.address from (ack_bytes 0) ∷ []) × (y.refuses ≡ x.refuses)
+      (y : OpenEnd) × (y.state.progress.phase ≡ Receiving terms 0) × (y.stored ≡ x.stored) × (y.state.progress.held ≡ x.state.progress.held) × Becomes y (datagram x.address from (ack_bytes 0) ∷ []) × (y.refuses ≡ x.refuses)
   hears_oack packet terms spelled is =
       let a = acts_as packet (Respond (Accept terms)) spelled is in
       let turn = response_turn (Accept terms) from x.state in
@@ -232,9 +227,9 @@ module _ (w v : WorldState) (k : ℕ) (x : OpenedEnd) (from : Endpoint) (bytes :
         record {
           sent = h.sent ∙ ap (λ (t : Turn). w.sent ++ replied x.address t.reply) a.0;
           ends = h.ends
-              ∙ (ap (λ (t : Turn). slice_set w.ends k (at_rest (end_after x t h.held))) a.0
-              ∙ (ap (λ (fs : Files (List ℕ) Holding). slice_set w.ends k (at_rest (end_after x turn fs))) a.1
-              ∙ ap (λ (z : OpenedEnd). slice_set w.ends k (at_rest z)) (same_with (is_sender x.state.role.side) (in_state (after_turn x.state turn) x))));
+              ∙ (ap (λ (t : Turn). slice_set w.ends k (standing (end_after x t h.held))) a.0
+              ∙ (ap (λ (fs : Files (List ℕ) Holding). slice_set w.ends k (standing (end_after x turn fs))) a.1
+              ∙ ap (λ (z : OpenEnd). slice_set w.ends k (standing z)) (same_with (is_sender x.state.role.side) (in_state (after_turn x.state turn) x))));
           address = refl;
           file = refl;
           mode = refl;
@@ -245,7 +240,7 @@ module _ (w v : WorldState) (k : ℕ) (x : OpenedEnd) (from : Endpoint) (bytes :
 
   -- ---- a receiver stores a block that its store takes
   -- the end has this block and what it had before
-  pub record HasStored (terms : Terms) (number : ℕ) (piece : List ℕ) (y : OpenedEnd) : Type 0 where
+  pub record HasStored (terms : Terms) (number : ℕ) (piece : List ℕ) (y : OpenEnd) : Type 0 where
     pub phase : y.state.progress.phase ≡ stored_phase terms number (nat_lt (length piece) terms.size)
     pub received : wire_text x.state.role.mode y.stored ++ y.state.progress.held ≡ (wire_text x.state.role.mode x.stored ++ x.state.progress.held) ++ piece
     pub holds : HeldFits x.state.role.mode y.state.progress.held
@@ -292,7 +287,7 @@ module _ (w v : WorldState) (k : ℕ) (x : OpenedEnd) (from : Endpoint) (bytes :
 
     stores_as : (last : Bool) (sink : Holding) (bytes_now after : List ℕ) → nat_lt (length piece) terms.size ≡ last →
         h.turn ≡ sent_turn (stored_phase terms number last) from (ack_bytes number) (holding after x.state) → h.held ≡ Sink sink →
-        sink.bytes ≡ x.stored ++ bytes_now → Decoded x.state.role.mode x.state.progress.held piece bytes_now after → (y : OpenedEnd) × HasStored terms number piece y
+        sink.bytes ≡ x.stored ++ bytes_now → Decoded x.state.role.mode x.state.progress.held piece bytes_now after → (y : OpenEnd) × HasStored terms number piece y
     stores_as true sink bytes_now after is turns held same d = (
       end_after x (sent_turn (Dallying terms number Fresh) from (ack_bytes number) (holding after x.state)) (Sink sink),
       record {
@@ -304,8 +299,8 @@ module _ (w v : WorldState) (k : ℕ) (x : OpenedEnd) (from : Endpoint) (bytes :
         becomes = record {
           sent = h.sent ∙ ap (λ (t : Turn). w.sent ++ replied x.address t.reply) turns;
           ends = h.ends
-              ∙ (ap (λ (t : Turn). slice_set w.ends k (at_rest (end_after x t h.held))) turns
-              ∙ ap (λ (fs : Files (List ℕ) Holding). slice_set w.ends k (at_rest (end_after x (sent_turn (Dallying terms number Fresh) from (ack_bytes number) (holding after x.state)) fs))) held);
+              ∙ (ap (λ (t : Turn). slice_set w.ends k (standing (end_after x t h.held))) turns
+              ∙ ap (λ (fs : Files (List ℕ) Holding). slice_set w.ends k (standing (end_after x (sent_turn (Dallying terms number Fresh) from (ack_bytes number) (holding after x.state)) fs))) held);
           address = refl;
           file = refl;
           mode = refl;
@@ -324,8 +319,8 @@ module _ (w v : WorldState) (k : ℕ) (x : OpenedEnd) (from : Endpoint) (bytes :
         becomes = record {
           sent = h.sent ∙ ap (λ (t : Turn). w.sent ++ replied x.address t.reply) turns;
           ends = h.ends
-              ∙ (ap (λ (t : Turn). slice_set w.ends k (at_rest (end_after x t h.held))) turns
-              ∙ ap (λ (fs : Files (List ℕ) Holding). slice_set w.ends k (at_rest (end_after x (sent_turn (Receiving terms number) from (ack_bytes number) (holding after x.state)) fs))) held);
+              ∙ (ap (λ (t : Turn). slice_set w.ends k (standing (end_after x t h.held))) turns
+              ∙ ap (λ (fs : Files (List ℕ) Holding). slice_set w.ends k (standing (end_after x (sent_turn (Receiving terms number) from (ack_bytes number) (holding after x.state)) fs))) held);
           address = refl;
           file = refl;
           mode = refl;
@@ -337,7 +332,7 @@ module _ (w v : WorldState) (k : ℕ) (x : OpenedEnd) (from : Endpoint) (bytes :
     -- a commit that was not refused
     commits_as : (mid sink : Holding) (bytes_now after : List ℕ) → nat_lt (length piece) terms.size ≡ true → h.held ≡ Sink sink → mid.bytes ≡ x.stored ++ bytes_now →
         Decoded x.state.role.mode x.state.progress.held piece bytes_now after →
-        (answer : Result Done StoreFault) → h.turn ≡ committed_turn terms number from (holding after x.state) answer → Kept_all mid sink answer → (y : OpenedEnd) × HasStored terms number piece y
+        (answer : Result Done StoreFault) → h.turn ≡ committed_turn terms number from (holding after x.state) answer → Kept_all mid sink answer → (y : OpenEnd) × HasStored terms number piece y
     commits_as mid sink bytes_now after is held same d answer t (For_good ok kept_bytes done) =
         stores_as true sink bytes_now after is (t ∙ ap (committed_turn terms number from (holding after x.state)) ok) held (kept_bytes ∙ same) d
     commits_as mid sink bytes_now after is held same d answer t (Not_yet fault err kept_bytes still) =
@@ -345,7 +340,7 @@ module _ (w v : WorldState) (k : ℕ) (x : OpenedEnd) (from : Endpoint) (bytes :
 
     appends_as : (mid sink : Holding) (bytes_now after : List ℕ) (answer : Result Done StoreFault) (last : Bool) → nat_lt (length piece) terms.size ≡ last → h.held ≡ Sink sink →
         Decoded x.state.role.mode x.state.progress.held piece bytes_now after → Took (holding_of x) mid bytes_now answer →
-        GoesOn (world_sink refuses_commit) terms number from x.state last after mid answer h.turn sink → (y : OpenedEnd) × HasStored terms number piece y
+        GoesOn (world_sink refuses_commit) terms number from x.state last after mid answer h.turn sink → (y : OpenEnd) × HasStored terms number piece y
     appends_as mid sink bytes_now after (Err fault) last is held d took_now g = absurd (fault_none DiskFull x.state g.0)
     appends_as mid sink bytes_now after (Ok done) last is held d (None_of_it fault err same still) g = absurd (let e : Ok done ≡ Err fault = err in cc)
     appends_as mid sink bytes_now after (Ok done) true is held d (All_of_it ok same un) g =
@@ -354,7 +349,7 @@ module _ (w v : WorldState) (k : ℕ) (x : OpenedEnd) (from : Endpoint) (bytes :
         stores_as false sink bytes_now after is g.0 held (ap (λ (z : Holding). z.bytes) g.1 ∙ same) d
 
     pub hears_data : Spells (Data number piece) bytes → datagram_action x.state from bytes (Some (Data number piece)) ≡ Store terms number → is_sender x.state.role.side ≡ false →
-        (y : OpenedEnd) × HasStored terms number piece y
+        (y : OpenEnd) × HasStored terms number piece y
     hears_data spelled is receiver =
         let f = stores_here terms number piece spelled is receiver in
         let b = f.2 in

@@ -19,16 +19,15 @@ use Rattle.tftp_ends.specs.Action.{same_address, same_endpoint, is_stranger, gar
 use Rattle.tftp_ends.specs.Step.{Turn, Acts, with_progress}
 use Rattle.tftp_player.specs.Machine.{Endpoint, At_server, Elsewhere, host_of, request_port}
 use Rattle.tftp_player.specs.Strangers.{HasNoStranger, IsRecordedSo, StraysChangeNoRecord, ClientsHaveServers}
-use Rattle.tftp_player.specs.World.{WorldState, OpenedEnd, file_at, in_the_way, files_of, end_after, at_rest, peer_of, view_of_end}
+use Rattle.tftp_player.specs.World.{WorldState, OpenEnd, WorldEnd, Open_end, end_record, end_address, file_at, in_the_way, files_of, end_after, standing, peer_of, view_of_end}
 use Rattle.tftp_player.specs.WorldKept.{PhaseKept, IsOk}
 use Rattle.tftp_player.specs.WorldSteps.{may_refuse_commit, Serves, Arrives, At_request_port, At_open_end, At_closed_end, At_nobody, Opens, OnDatagram, world_sink}
 use Rattle.tftp_server.specs.Port.{Service, Silent, Refused, Sends, Takes}
 use Rattle.tftp_player.specs.declared.report.Report.{Report}
-use Rattle.tftp_player.proofs.EndMoves.{placed}
 use Rattle.tftp_player.proofs.PhaseMoves.{same_ips, same_endpoints}
 use Rattle.tftp_player.proofs.Places.{slice_get-set_same, slice_get-set_other, slice_get-push_old}
-use Rattle.tftp_player.proofs.Resting.{at_rest_record}
 use Rattle.tftp_player.proofs.WorldTurns.{view_at}
+use Rattle.tftp_player.proofs.Standing.{placed, standing_record}
 
 -- a test that cannot hold
 fails : (b : Bool) → (b ≡ true → ⊥) → not b ≡ true
@@ -42,7 +41,7 @@ not_server from far same =
     let e : At_server ≡ Elsewhere = subst (λ (ip : List ℕ). host_of (record from { ip = ip }) ≡ Elsewhere) same far in cc
 
 -- to an open end whose peer is no stranger
-is_strange : (phase : Phase) (x0 : OpenedEnd) (from : Endpoint) → PhaseKept (placed phase x0) phase → host_of from ≡ Elsewhere → ((p : Endpoint) → peer_of phase ≡ Some p → host_of p ≢ Elsewhere) →
+is_strange : (phase : Phase) (x0 : OpenEnd) (from : Endpoint) → PhaseKept (placed phase x0) phase → host_of from ≡ Elsewhere → ((p : Endpoint) → peer_of phase ≡ Some p → host_of p ≢ Elsewhere) →
     is_some (outcome_of phase) ≡ false → is_stranger (terms_of phase) x0.state.progress.last_sent_to from ≡ true
 is_strange (Waiting asked limit) x0 from kept far home o =
     fails (same_address x0.state.progress.last_sent_to from) (λ e. not_server from far (sym (same_ips x0.state.progress.last_sent_to from e) ∙ ap (λ (p : Endpoint). p.ip) kept.2))
@@ -55,7 +54,7 @@ is_strange (Dallying terms n dally) x0 from kept far home o =
 is_strange (Closed terms n complete outcome) x0 from kept far home o = absurd (true≢false o)
 
 -- such an end is as it was
-module _ (w : WorldState) (k : ℕ) (x : OpenedEnd) (from : Endpoint) (bytes : List ℕ) (report : Report) (v : WorldState) (t : OnDatagram w k x from bytes report v) where
+module _ (w : WorldState) (k : ℕ) (x : OpenEnd) (from : Endpoint) (bytes : List ℕ) (report : Report) (v : WorldState) (t : OnDatagram w k x from bytes report v) where
   abbrev Acts_at : Action → Type 0
   Acts_at action = Acts memory_source (world_sink (may_refuse_commit (is_client x.state.role.side) (in_the_way w.overwrite (file_at w.files x.path)))) action from bytes x.state (files_of x) t.turn t.held
 
@@ -70,9 +69,9 @@ module _ (w : WorldState) (k : ℕ) (x : OpenedEnd) (from : Endpoint) (bytes : L
       (subst (λ (b : Bool). Acts_at (if b then (if has_error_opcode bytes then Respond Ignore else Respond Stranger) else near)) strange t.steps.acts)
 
 -- what is recorded of an end whose state stayed
-after_state : (x : OpenedEnd) (turn : Turn) (held : Files (List ℕ) Holding) → turn.progress ≡ x.state.progress → record_of (at_rest (end_after x turn held)).state ≡ record_of x.state
-after_state x turn (Source left) same = at_rest_record (end_after x turn (Source left)) ∙ ap (λ (p : Progress). record_of (with_progress p x.state)) same
-after_state x turn (Sink holding) same = at_rest_record (end_after x turn (Sink holding)) ∙ ap (λ (p : Progress). record_of (with_progress p x.state)) same
+after_state : (x : OpenEnd) (turn : Turn) (held : Files (List ℕ) Holding) → turn.progress ≡ x.state.progress → end_record (standing (end_after x turn held)) ≡ record_of x.state
+after_state x turn (Source left) same = standing_record (end_after x turn (Source left)) ∙ ap (λ (p : Progress). record_of (with_progress p x.state)) same
+after_state x turn (Sink holding) same = standing_record (end_after x turn (Sink holding)) ∙ ap (λ (p : Progress). record_of (with_progress p x.state)) same
 
 equal_or_not : (a b : ℕ) → (a ≡ b) ⊎ (a ≢ b)
 equal_or_not a b = elim (eqb_tells a b) [
@@ -81,37 +80,38 @@ equal_or_not a b = elim (eqb_tells a b) [
 ]
 
 -- as it is
-as_is : (old new : WorldState) (k : ℕ) (x : OpenedEnd) → new.ends ≡ old.ends → slice_get old.ends k ≡ Some x → IsRecordedSo new k x
-as_is old new k x e there = (x, ap (λ (ends : List OpenedEnd). slice_get ends k) e ∙ there, refl)
+as_is : (old new : WorldState) (k : ℕ) (x : WorldEnd) → new.ends ≡ old.ends → slice_get old.ends k ≡ Some x → IsRecordedSo new k x
+as_is old new k x e there = (x, ap (λ (ends : List WorldEnd). slice_get ends k) e ∙ there, refl)
 
-opened_more : (old new : WorldState) (y : OpenedEnd) (report : Report) (k : ℕ) (x : OpenedEnd) → Opens old y report new → slice_get old.ends k ≡ Some x → IsRecordedSo new k x
+opened_more : (old new : WorldState) (y : OpenEnd) (report : Report) (k : ℕ) (x : WorldEnd) → Opens old y report new → slice_get old.ends k ≡ Some x → IsRecordedSo new k x
 opened_more old new y report k x o there =
-    (x, ap (λ (w : WorldState). slice_get w.ends k) o.is ∙ slice_get-push_old old.ends k y x there, refl)
+    (x, ap (λ (w : WorldState). slice_get w.ends k) o.is ∙ slice_get-push_old old.ends k (Open_end y) x there, refl)
 
-served : (service : Service) (old new : WorldState) (from : Endpoint) (bytes : List ℕ) (report : Report) (k : ℕ) (x : OpenedEnd) → Serves service old from bytes report new → slice_get old.ends k ≡ Some x → IsRecordedSo new k x
+served : (service : Service) (old new : WorldState) (from : Endpoint) (bytes : List ℕ) (report : Report) (k : ℕ) (x : WorldEnd) → Serves service old from bytes report new → slice_get old.ends k ≡ Some x → IsRecordedSo new k x
 served Silent old new from bytes report k x s there = as_is old new k x (ap (λ (w : WorldState). w.ends) s.is) there
 served (Refused reply) old new from bytes report k x s there = as_is old new k x (ap (λ (w : WorldState). w.ends) s.1) there
 served (Sends path mode length agreed) old new from bytes report k x s there = opened_more old new _ report k x s.2 there
 served (Takes path mode agreed) old new from bytes report k x s there = opened_more old new _ report k x s there
 
-same_place : (old new : WorldState) (k j : ℕ) (x y z : OpenedEnd) → new.ends ≡ set old.ends j z → slice_get old.ends j ≡ Some y → slice_get old.ends k ≡ Some x → (k ≡ j → record_of z.state ≡ record_of x.state) →
+same_place : (old new : WorldState) (k j : ℕ) (x y z : WorldEnd) → new.ends ≡ set old.ends j z → slice_get old.ends j ≡ Some y → slice_get old.ends k ≡ Some x → (k ≡ j → end_record z ≡ end_record x) →
     (k ≡ j) ⊎ (k ≢ j) → IsRecordedSo new k x
 same_place old new k j x y z e at there same (inl here) =
-    (z, ap (λ (ends : List OpenedEnd). slice_get ends k) e ∙ (ap (slice_get (set old.ends j z)) here ∙ slice_get-set_same old.ends j z y at), same here)
+    (z, ap (λ (ends : List WorldEnd). slice_get ends k) e ∙ (ap (slice_get (set old.ends j z)) here ∙ slice_get-set_same old.ends j z y at), same here)
 same_place old new k j x y z e at there same (inr away) =
-    (x, ap (λ (ends : List OpenedEnd). slice_get ends k) e ∙ (slice_get-set_other old.ends j k z away ∙ there), refl)
+    (x, ap (λ (ends : List WorldEnd). slice_get ends k) e ∙ (slice_get-set_other old.ends j k z away ∙ there), refl)
 
-arrived : (strangers : Bool) (old new : WorldState) (from to : Endpoint) (bytes : List ℕ) (report : Report) (k : ℕ) (x : OpenedEnd) → IsOk strangers old → host_of from ≡ Elsewhere →
+arrived : (strangers : Bool) (old new : WorldState) (from to : Endpoint) (bytes : List ℕ) (report : Report) (k : ℕ) (x : WorldEnd) → IsOk strangers old → host_of from ≡ Elsewhere →
     Arrives old from to bytes report new → slice_get old.ends k ≡ Some x → HasNoStranger x → IsRecordedSo new k x
 arrived strangers old new from to bytes report k x ok far (At_request_port here port decoded says repeated same s) there home = served _ old new from bytes report k x s there
-arrived strangers old new from to bytes report k x ok far (At_open_end j y at address open_now t) there home =
-    same_place old new k j x y (at_rest (end_after y t.turn t.held)) (ap (λ (w : WorldState). w.ends) t.turns.is) at there
-    (λ here. let e : y ≡ x = same_Some y x (sym at ∙ (ap (slice_get old.ends) (sym here) ∙ there)) in
-    let own : HasNoStranger y = subst HasNoStranger (sym e) home in
-    let same = strange_same old j y from bytes report new t (is_strange y.state.progress.phase y from (ok.ends j y at).kept.phase far own open_now) in
-    after_state y t.turn t.held same ∙ ap (λ (z : OpenedEnd). record_of z.state) e)
+arrived strangers old new from to bytes report k x ok far (At_open_end j y at address t) there home =
+    same_place old new k j x (Open_end y) (standing (end_after y t.turn t.held)) (ap (λ (w : WorldState). w.ends) t.turns.is) at there
+    (λ here. let e : Open_end y ≡ x = same_Some (Open_end y) x (sym at ∙ (ap (slice_get old.ends) (sym here) ∙ there)) in
+    let was = (ok.ends j (Open_end y) at).stands in
+    let own : HasNoStranger (Open_end y) = subst HasNoStranger (sym e) home in
+    let same = strange_same old j y from bytes report new t (is_strange y.state.progress.phase y from was.kept.phase far own (ap is_some was.still)) in
+    after_state y t.turn t.held same ∙ ap (λ (z : WorldEnd). end_record z) e)
     (equal_or_not k j)
-arrived strangers old new from to bytes report k x ok far (At_closed_end j y at address closed_now s) there home = as_is old new k x (ap (λ (w : WorldState). w.ends) s.is) there
+arrived strangers old new from to bytes report k x ok far (At_closed_end j y at address s) there home = as_is old new k x (ap (λ (w : WorldState). w.ends) s.is) there
 arrived strangers old new from to bytes report k x ok far (At_nobody away nobody s) there home = as_is old new k x (ap (λ (w : WorldState). w.ends) s.is) there
 
 pub strays_change_no_record : StraysChangeNoRecord
@@ -123,5 +123,5 @@ clients_have_servers strangers w x p ok i client peer =
     let shows = ok.shown.3 in
     let m = ok.shown.0 in
     let h = shows.ends i.0 (view_of_end x) (view_at w.ends i.0 x i.1) in
-    let party = m.party x.address in
-    ((ok.shown.1.ends x.address h.0.is_open).serving (h.0.client ∙ client) p (h.0.peer ∙ peer)).0
+    let party = m.party (end_address x) in
+    ((ok.shown.1.ends (end_address x) h.0.is_open).serving (h.0.client ∙ client) p (h.0.peer ∙ peer)).0

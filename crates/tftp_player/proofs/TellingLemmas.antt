@@ -18,18 +18,14 @@ use Rattle.tftp_player.specs.Played.{client_end, draft_or_new, served_end, end_a
 use Rattle.tftp_player.specs.PlayedClient.{PlayedClient}
 use Rattle.tftp_player.specs.Serving.{PlayedServer, Transfer}
 use Rattle.tftp_player.specs.Stage.{ends_of, IsStaged, world_of, opened_at, stored_in, stored_at, committed_at}
-use Rattle.tftp_player.specs.World.{WorldState, OpenedEnd, at_rest}
+use Rattle.tftp_player.specs.World.{WorldState, WorldEnd, end_committed}
 use Rattle.tftp_player.specs.declared.datagram.Datagram.{Datagram}
 use Rattle.tftp_player.specs.declared.player.Player.{Player}
 use Rattle.tftp_player.specs.declared.player.Player.TheVariants.{Client, Server}
 use Rattle.tftp_player.specs.declared.served.Served.{Served}
 use Rattle.tftp_player.proofs.PlayLemmas.{ends_length, ends_get, kept_at, list_get}
-use Rattle.tftp_player.proofs.Resting.{at_rest_record}
+use Rattle.tftp_player.proofs.Standing.{stands_as}
 use Rattle.tftp_player.proofs.StageLemmas.{has_draft}
-
--- a client's side, at rest or not
-rest_side : (x : OpenedEnd) → (at_rest x).state.role.side ≡ x.state.role.side
-rest_side x = ap (λ (r : Record). r.side) (at_rest_record x)
 
 client_stores : (c : PlayedClient) (b : Bool) (files : Files (List ℕ) Holding) → AreFilesOf c.end.role.side files → is_sender c.end.role.side ≡ b →
     stored_by files ≡ (if b then None else Some (holding_in files).bytes)
@@ -52,7 +48,7 @@ served_stores port s None held k =
     subst (λ (h : Option Transfer). option_map (λ (d : Drafted). d.bytes) (served_draft s None h) ≡ stored_in (served_end port s None h)) (sym k.found)
     (draft_stores (draft_of k.transfer.files) (is_sender k.transfer.end.role.side) (has_draft k.transfer.end.role.side k.transfer.files k.files))
 
-served_commits : (port : ℕ) (s : Served) (o : Option Record) (h : Option Transfer) → (draft_or_new (served_draft s o h)).committed ≡ (served_end port s o h).committed
+served_commits : (port : ℕ) (s : Served) (o : Option Record) (h : Option Transfer) → (draft_or_new (served_draft s o h)).committed ≡ end_committed (served_end port s o h)
 served_commits port s (Some r) h = refl
 served_commits port s None (Some h) = refl
 served_commits port s None None = refl
@@ -60,21 +56,21 @@ served_commits port s None None = refl
 pub stores_is : (port : ℕ) (held : List (ℕ × Transfer)) (p : Player) → PlayerKept port held p → stored_of port held p ≡ stored_in (end_at port held p)
 stores_is port held (Client c) k =
     client_stores c (is_sender c.end.role.side) c.files k.1 refl
-    ∙ ap (λ (b : Bool). if b then None else Some (holding_in c.files).bytes) (sym (ap is_sender (rest_side (client_end port c))))
+    ∙ sym (stands_as stored_in (if is_sender c.end.role.side then None else Some (holding_in c.files).bytes) (client_end port c) refl refl)
 stores_is port held (Server s) k = served_stores port s s.ended held k
 
-pub commits_is : (port : ℕ) (held : List (ℕ × Transfer)) (p : Player) → committed_of port held p ≡ (end_at port held p).committed
-commits_is port held (Client c) = refl
+pub commits_is : (port : ℕ) (held : List (ℕ × Transfer)) (p : Player) → committed_of port held p ≡ end_committed (end_at port held p)
+commits_is port held (Client c) = sym (stands_as end_committed (holding_in c.files).committed (client_end port c) refl refl)
 commits_is port held (Server s) = served_commits port s s.ended (at port held)
 
 -- the end at a port
-there_is : (ends : List OpenedEnd) (port place : ℕ) → port ≡ 1024 + place → opened_at ends port ≡ slice_get ends place
+there_is : (ends : List WorldEnd) (port place : ℕ) → port ≡ 1024 + place → opened_at ends port ≡ slice_get ends place
 there_is ends port place e =
     let test : nat_lt port 1024 ≡ false = grind (arith, nat_tests) in
     let same : port - 1024 ≡ place = omega arith in
     ap (λ (b : Bool). if b then None else slice_get ends (port - 1024)) test ∙ ap (slice_get ends) same
 
-none_is : (ends : List OpenedEnd) (port : ℕ) → (port < 1024) ⊎ (1024 + length ends ≤ port) → opened_at ends port ≡ None
+none_is : (ends : List WorldEnd) (port : ℕ) → (port < 1024) ⊎ (1024 + length ends ≤ port) → opened_at ends port ≡ None
 none_is ends port (inl low) =
     let test : nat_lt port 1024 ≡ true = grind (arith, nat_tests) in
     ap (λ (b : Bool). if b then None else slice_get ends (port - 1024)) test
@@ -102,7 +98,7 @@ module _ (config : Config) (sent : List Datagram) (server : PlayedServer) (ps : 
     committed_here =
         ap (λ (n : ℕ). committed_of n server.held p) is
         ∙ (commits_is (1024 + place) server.held p
-        ∙ (sym (ap (λ (o : Option OpenedEnd). unwrap_or (option_map (λ (x : OpenedEnd). x.committed) o) false) found) ∙ ap (λ (w : WorldState). committed_at w.ends port) view))
+        ∙ (sym (ap (λ (o : Option WorldEnd). unwrap_or (option_map end_committed o) false) found) ∙ ap (λ (w : WorldState). committed_at w.ends port) view))
 
   -- and where none is
   module _ (count : ℕ) (counts : count ≡ length ps) (none : (port < 1024) ⊎ (1024 + count ≤ port)) where
@@ -114,4 +110,4 @@ module _ (config : Config) (sent : List Datagram) (server : PlayedServer) (ps : 
     stored_nowhere = sym (ap (option_and_then stored_in) (none_is (ends_of server ps) port (outside none))) ∙ ap (λ (w : WorldState). stored_at w.ends port) view
 
     pub committed_nowhere : false ≡ committed_at old.ends port
-    committed_nowhere = sym (ap (λ (o : Option OpenedEnd). unwrap_or (option_map (λ (x : OpenedEnd). x.committed) o) false) (none_is (ends_of server ps) port (outside none))) ∙ ap (λ (w : WorldState). committed_at w.ends port) view
+    committed_nowhere = sym (ap (λ (o : Option WorldEnd). unwrap_or (option_map end_committed o) false) (none_is (ends_of server ps) port (outside none))) ∙ ap (λ (w : WorldState). committed_at w.ends port) view

@@ -43,15 +43,16 @@ use Rattle.tftp_player.specs.Machine.{Endpoint, server_ip, Data as Says_data, Ac
 use Rattle.tftp_player.specs.Rules.{message}
 use Rattle.tftp_player.specs.Said.{said, oack_size}
 use Rattle.tftp_player.specs.Shows.{EndView, IsShown}
-use Rattle.tftp_player.specs.World.{OpenedEnd, files_of, holding_of, in_state, received_text, text_of as text_of_end, view_of_end}
+use Rattle.tftp_player.specs.World.{OpenEnd, files_of, holding_of, in_state, received_text, text_of as text_of_end}
 use Rattle.tftp_player.specs.WorldSteps.{world_sink}
 use Rattle.tftp_player.specs.WorldKept.{EndKept, sent_text}
 use Rattle.tftp_player.proofs.Actions.{Stands, IsWaiting, stores_first, refuses_first, accepts, sends_first, sends_first_with}
 use Rattle.tftp_player.proofs.SaidLemmas.{data_of, spells_own, taken_oack}
-use Rattle.tftp_player.proofs.EndMoves.{Goes, placed, from_response, gives_up, refuses_now}
+use Rattle.tftp_player.proofs.EndMoves.{Goes, from_response, gives_up, refuses_now}
 use Rattle.tftp_player.proofs.SourceMoves.{text_if, data_turn, data_end, data_goes, data_kept, valid_data}
 use Rattle.tftp_player.proofs.SinkMoves.{Receives, told, block_goes, refused_goes}
 use Rattle.tftp_player.proofs.PhaseMoves.{Acting, OfDecoded, if_acts, both_true}
+use Rattle.tftp_player.proofs.Standing.{open_view, placed}
 
 -- a block size of an agreement
 pub agreed_size : (known : List Known) → AllByRecursion IsAgreeable known → (0 < size known) × (size known ≤ 65464)
@@ -66,10 +67,10 @@ pub taken_size : (asked : Asked) (kind : Kind) (options : List RawOption) (mode 
 taken_size asked kind options mode limit known askable e =
     agreed_size known (taken_may_be_agreed asked kind mode options limit known askable e).values
 
-module _ (views : List EndView) (messages : List Message) (k : ℕ) (x0 : OpenedEnd) (asked : Asked) (limit : ℕ)
-    (s : Stands views messages k (view_of_end (placed (Waiting asked limit) x0))) (kept : EndKept (placed (Waiting asked limit) x0))
+module _ (views : List EndView) (messages : List Message) (k : ℕ) (x0 : OpenEnd) (asked : Asked) (limit : ℕ)
+    (s : Stands views messages k (open_view (placed (Waiting asked limit) x0))) (kept : EndKept (placed (Waiting asked limit) x0))
     (refuses_commit : Holding → StoreFault → Type 0) (from : Endpoint) (bytes : List ℕ) (server : from.ip ≡ server_ip) where
-  abbrev waiter : OpenedEnd
+  abbrev waiter : OpenEnd
   waiter = placed (Waiting asked limit) x0
 
   abbrev Answers : Action → Type 0
@@ -99,7 +100,7 @@ module _ (views : List EndView) (messages : List Message) (k : ℕ) (x0 : Opened
       subst (λ (n : ℕ). Contains messages (message from x0.address (Says_oack n))) (taken_oack asked kinds.Read x0.state.role.mode options limit known e) come in
       let goes_now : Goes views messages k waiter (response_turn response from waiter.state) y = record {
         said_now = message x0.address from (Says_ack 0) ∷ [];
-        shown = accepts views messages k (view_of_end waiter) s from (size known) ((refl, refl), kept.phase.0, refl, server) reader here;
+        shown = accepts views messages k (open_view waiter) s from (size known) ((refl, refl), kept.phase.0, refl, server) reader here;
         replies = (Ack 0, spells_own (Ack 0) (omega arith), refl);
         kept = record { phase = (reader, refl); held = kept.held; committed = kept.committed };
         side = refl;
@@ -120,15 +121,15 @@ module _ (views : List EndView) (messages : List Message) (k : ℕ) (x0 : Opened
       let terms = default_terms from in
       let last = nat_lt (length piece) 512 in
       let none : x0.state.progress.held ≡ [] = kept.phase.4 reader in
-      let waits : IsWaiting (view_of_end waiter) from = ((refl, refl), kept.phase.0, refl, server) in
+      let waits : IsWaiting (open_view waiter) from = ((refl, refl), kept.phase.0, refl, server) in
       let got : Receives views messages k waiter terms 1 from piece = record {
         receiver = reader;
         going = refl;
         incomplete = refl;
         peer = refl;
         fits = omega arith;
-        stored = stores_first views messages k (view_of_end waiter) s from piece waits reader come l;
-        refused = λ t b. refuses_first views messages k (view_of_end waiter) s from piece t waits reader come l b;
+        stored = stores_first views messages k (open_view waiter) s from piece waits reader come l;
+        refused = λ t b. refuses_first views messages k (open_view waiter) s from piece t waits reader come l b;
       } in
       let refuse : (reply : ErrorReply) (outcome : Outcome) → Answers (Respond (Refuse (Some terms) reply outcome)) =
       λ reply outcome turn held h. from_response views messages k waiter (Refuse (Some terms) reply outcome) from turn held
@@ -167,7 +168,7 @@ module _ (views : List EndView) (messages : List Message) (k : ℕ) (x0 : Opened
 
   -- a writer begins
   begin_acts : is_sender x0.state.role.side ≡ true → (terms : Terms) → terms.peer ≡ from → 0 < terms.size → terms.size ≤ 65464 →
-      (Fits (text_of_end waiter) terms.size → IsShown (set views k (record (view_of_end waiter) { peer = Some from; size = terms.size; number = 1 })) (messages ++ message x0.address from (Says_data 1 (block (text_of_end waiter) terms.size 1)) ∷ [])) →
+      (Fits (text_of_end waiter) terms.size → IsShown (set views k (record (open_view waiter) { peer = Some from; size = terms.size; number = 1 })) (messages ++ message x0.address from (Says_data 1 (block (text_of_end waiter) terms.size 1)) ∷ [])) →
       Answers (begin_action x0.state.role.length terms)
   begin_acts writer terms peer positive small shown =
       if_acts Answers (nat_lt x0.state.role.length (65535 * terms.size)) (Send terms 1) (Respond (Refuse None replies.FileTooLarge outcomes.TooLarge))
@@ -182,8 +183,8 @@ module _ (views : List EndView) (messages : List Message) (k : ℕ) (x0 : Opened
       let packet = Data 1 (block text terms.size 1) in
       let goes_now : Goes views messages k waiter (data_turn waiter terms 0 from) (data_end waiter terms 0 from) = record {
         said_now = message x0.address from (said packet) ∷ [];
-        shown = subst (λ (p : Endpoint). IsShown (set views k (record (view_of_end waiter) { peer = Some p; size = terms.size; number = 1 })) (messages ++ message x0.address from (said packet) ∷ [])) (sym peer)
-            (subst (λ (t : List ℕ). IsShown (set views k (record (view_of_end waiter) { peer = Some from; size = terms.size; number = 1 })) (messages ++ message x0.address from (Says_data 1 (block t terms.size 1)) ∷ [])) told_now
+        shown = subst (λ (p : Endpoint). IsShown (set views k (record (open_view waiter) { peer = Some p; size = terms.size; number = 1 })) (messages ++ message x0.address from (said packet) ∷ [])) (sym peer)
+            (subst (λ (t : List ℕ). IsShown (set views k (record (open_view waiter) { peer = Some from; size = terms.size; number = 1 })) (messages ++ message x0.address from (Says_data 1 (block t terms.size 1)) ∷ [])) told_now
             (shown (subst (λ (t : List ℕ). Fits t terms.size) (sym told_now) fits)));
         replies = (packet, spells_own packet (valid_data text terms.size 0 positive small fits l), refl);
         kept = data_kept waiter terms 0 from kept measured writer positive small fits l (sym peer);
@@ -197,7 +198,7 @@ module _ (views : List EndView) (messages : List Message) (k : ℕ) (x0 : Opened
   begin_plain : is_sender x0.state.role.side ≡ true → Contains messages (message from x0.address (Says_ack 0)) → Answers (begin_action x0.state.role.length (default_terms from))
   begin_plain writer come =
       begin_acts writer (default_terms from) refl (omega arith) (omega arith)
-      (λ fits. sends_first views messages k (view_of_end waiter) s from ((refl, refl), kept.phase.0, refl, server) writer come fits)
+      (λ fits. sends_first views messages k (open_view waiter) s from ((refl, refl), kept.phase.0, refl, server) writer come fits)
 
   begin_with : is_sender x0.state.role.side ≡ true → (options : List RawOption) → Contains messages (message from x0.address (Says_oack (oack_size options))) →
       (r : Result (List Known) Refusal) → agreement asked kinds.Write x0.state.role.mode options limit ≡ r → Answers (begin_with_action from x0.state.role.length r)
@@ -206,7 +207,7 @@ module _ (views : List EndView) (messages : List Message) (k : ℕ) (x0 : Opened
       let here : Contains messages (message from x0.address (Says_oack (size known))) =
       subst (λ (n : ℕ). Contains messages (message from x0.address (Says_oack n))) (taken_oack asked kinds.Write x0.state.role.mode options limit known e) come in
       begin_acts writer (agreed_terms from known) refl b.0 b.1
-      (λ fits. sends_first_with views messages k (view_of_end waiter) s from (size known) ((refl, refl), kept.phase.0, refl, server) writer here fits)
+      (λ fits. sends_first_with views messages k (open_view waiter) s from (size known) ((refl, refl), kept.phase.0, refl, server) writer here fits)
   begin_with writer options come (Err refusal) e = refusal_acts refusal
 
   -- a waiting writer with any packet

@@ -36,7 +36,7 @@ use Rattle.tftp_player.specs.Machine.{Endpoint, Elsewhere, host_of, server_ip, c
 use Rattle.tftp_player.specs.Rules.{message}
 use Rattle.tftp_player.specs.Said.{said}
 use Rattle.tftp_player.specs.Shows.{IsShown}
-use Rattle.tftp_player.specs.World.{WorldState, OpenedEnd, file_at, in_the_way, datagram, said_in, view_of_end}
+use Rattle.tftp_player.specs.World.{WorldState, WorldEnd, Open_end, file_at, in_the_way, datagram, said_in, view_of_end}
 use Rattle.tftp_player.specs.Openings.{request_of, reading_client, writing_client, MayGet, MayPut, sending_end, receiving_end}
 use Rattle.tftp_server.specs.Port.{Ask, Ignores, Refuses, Reads, Service, Refused, Sends, accept_reply, by_draft, by_file, by_length, by_name, by_options, by_packet, by_repeat}
 use Rattle.tftp_player.specs.Requests.{open_transfers, opened_of, begun_of, served, service}
@@ -60,7 +60,7 @@ at_client a e f = let h = sym (host_client a e) ∙ f in cc
 
 length_views : (w : WorldState) → length (map view_of_end w.ends) ≡ length w.ends
 length_views w = counted w.ends where
-  counted : (ends : List OpenedEnd) → length (map view_of_end ends) ≡ length ends
+  counted : (ends : List WorldEnd) → length (map view_of_end ends) ≡ length ends
   counted [] = refl
   counted (x ∷ ends) = ap suc (counted ends)
 
@@ -87,7 +87,7 @@ reading_keeps strangers w v name mode asked report ok may o =
     let p = Read (request_of name mode asked) in
     let a = x.address in
     let shown_now = asks (map view_of_end w.ends) ok.messages ok.shown a false (request_of name mode asked) (wire_text mode [] ++ []) refl (ap (λ (n : ℕ). 1024 + n) (sym (length_views w))) (λ _. no_text mode) in
-    opening_keeps strangers w v ok x report p (spells_own p may.valid) shown_now (at_client a refl)
+    opening_keeps strangers w v ok x report p (spells_own p may.valid) shown_now (at_client a refl) refl
     (record { phase = (refl, may.options.askable, refl, refl, λ _. refl, λ e. absurd (true≢false (sym e))); held = empty_held mode; committed = λ _. refl }) refl o
 
 pub writing_keeps : (strangers : Bool) (w v : WorldState) (name : List ℕ) (mode : Mode) (asked : Asked) (file : List ℕ) (report : Report) → IsOk strangers w → MayPut name mode asked (length (wire_text mode file)) →
@@ -97,7 +97,7 @@ writing_keeps strangers w v name mode asked file report ok may o =
     let p = Write (request_of name mode asked) in
     let a = x.address in
     let shown_now = asks (map view_of_end w.ends) ok.messages ok.shown a true (request_of name mode asked) (wire_text mode file) refl (ap (λ (n : ℕ). 1024 + n) (sym (length_views w))) (λ e. absurd (true≢false e)) in
-    opening_keeps strangers w v ok x report p (spells_own p may.valid) shown_now (at_client a refl)
+    opening_keeps strangers w v ok x report p (spells_own p may.valid) shown_now (at_client a refl) refl
     (record { phase = (refl, may.options.askable, refl, refl, λ _. refl, λ _. refl); held = empty_held mode; committed = λ e. absurd (true≢false e) }) refl o
 
 -- the options that a server agreed to
@@ -116,7 +116,7 @@ sending_keeps strangers w v from bytes request path file [] report ok come agree
     let one : 1 ≤ block_count text 512 = omega arith in
     let p = Data 1 (block text 512 1) in
     let shown_now = serves_plainly (map view_of_end w.ends) ok.messages ok.shown x.address from false request text refl (ap (λ (n : ℕ). 1024 + n) (sym (length_views w))) come fits in
-    opening_keeps strangers w v ok x report p (spells_own p (valid_data text 512 0 (omega arith) (omega arith) fits one)) shown_now (at_server x.address refl)
+    opening_keeps strangers w v ok x report p (spells_own p (valid_data text 512 0 (omega arith) (omega arith) fits one)) shown_now (at_server x.address refl) refl
     (record {
       phase = record { sender = refl; positive = omega arith; size = omega arith; fits = fits; so_far = one; left = refl; last_sent_to = refl; measured = refl };
       held = empty_held request.mode;
@@ -128,9 +128,9 @@ sending_keeps strangers w v from bytes request path file (known ∷ agreed) repo
     let b = agreed_size (known ∷ agreed) agreeable in
     let p = Oack (agreed_options (known ∷ agreed)) in
     let shown_now = serves_with (map view_of_end w.ends) ok.messages ok.shown x.address from false request text (size (known ∷ agreed)) refl (ap (λ (n : ℕ). 1024 + n) (sym (length_views w))) come fits b.0 in
-    let says = subst (λ (n : ℕ). IsShown (map view_of_end w.ends ++ view_of_end x ∷ []) (ok.messages ++ message x.address from (Says_oack n) ∷ [])) (sym (own_oack (known ∷ agreed) agreeable)) shown_now in
+    let says = subst (λ (n : ℕ). IsShown (map view_of_end w.ends ++ view_of_end (Open_end x) ∷ []) (ok.messages ++ message x.address from (Says_oack n) ∷ [])) (sym (own_oack (known ∷ agreed) agreeable)) shown_now in
     let none : 0 * size (known ∷ agreed) ≡ 0 = omega arith in
-    opening_keeps strangers w v ok x report p (spells_own p (valid (λ e. cc))) says (at_server x.address refl)
+    opening_keeps strangers w v ok x report p (spells_own p (valid (λ e. cc))) says (at_server x.address refl) refl
     (record {
       phase = record { sender = refl; positive = b.0; size = b.1; fits = fits; so_far = omega arith; left = ap (λ (n : ℕ). drop n text) (sym none); last_sent_to = refl; measured = refl };
       held = empty_held request.mode;
@@ -144,15 +144,15 @@ taking_keeps : (strangers : Bool) (w v : WorldState) (from : Endpoint) (bytes : 
 taking_keeps strangers w v from bytes request path [] report ok come agreeable valid o =
     let x = receiving_end w from bytes request.mode path [] in
     let shown_now = serves_plainly (map view_of_end w.ends) ok.messages ok.shown x.address from true request (wire_text request.mode [] ++ []) refl (ap (λ (n : ℕ). 1024 + n) (sym (length_views w))) come (no_text request.mode) in
-    opening_keeps strangers w v ok x report (Ack 0) (spells_own (Ack 0) (omega arith)) shown_now (at_server x.address refl)
+    opening_keeps strangers w v ok x report (Ack 0) (spells_own (Ack 0) (omega arith)) shown_now (at_server x.address refl) refl
     (record { phase = (refl, refl); held = empty_held request.mode; committed = λ _. refl }) refl o
 taking_keeps strangers w v from bytes request path (known ∷ agreed) report ok come agreeable valid o =
     let x = receiving_end w from bytes request.mode path (known ∷ agreed) in
     let b = agreed_size (known ∷ agreed) agreeable in
     let p = Oack (agreed_options (known ∷ agreed)) in
     let shown_now = serves_with (map view_of_end w.ends) ok.messages ok.shown x.address from true request (wire_text request.mode [] ++ []) (size (known ∷ agreed)) refl (ap (λ (n : ℕ). 1024 + n) (sym (length_views w))) come (no_text request.mode) b.0 in
-    let says = subst (λ (n : ℕ). IsShown (map view_of_end w.ends ++ view_of_end x ∷ []) (ok.messages ++ message x.address from (Says_oack n) ∷ [])) (sym (own_oack (known ∷ agreed) agreeable)) shown_now in
-    opening_keeps strangers w v ok x report p (spells_own p (valid (λ e. cc))) says (at_server x.address refl)
+    let says = subst (λ (n : ℕ). IsShown (map view_of_end w.ends ++ view_of_end (Open_end x) ∷ []) (ok.messages ++ message x.address from (Says_oack n) ∷ [])) (sym (own_oack (known ∷ agreed) agreeable)) shown_now in
+    opening_keeps strangers w v ok x report p (spells_own p (valid (λ e. cc))) says (at_server x.address refl) refl
     (record { phase = (refl, refl); held = empty_held request.mode; committed = λ _. refl }) refl o
 
 -- the request port refuses

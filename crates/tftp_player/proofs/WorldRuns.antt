@@ -1,6 +1,6 @@
 -- Each event keeps a world, and so does every run.
 use Rattle.std.proofs.Common.{◌≡◌, ℕ, Bool, true, false, List, [], ◌∷◌, ◌++◌, map, set, Option, Some, None, sym, refl, ap, ◌∙◌, subst, inl, inr, zero, suc}
-use Rattle.std.specs.Prelude.{if◌then◌else◌, slice_get}
+use Rattle.std.specs.Prelude.{if◌then◌else◌, is_some, slice_get}
 use Rattle.std.specs.List.{Contains}
 use Rattle.std.proofs.lemmas.Bool.{true≢false}
 use Rattle.std.proofs.lemmas.List.{map-set}
@@ -20,16 +20,17 @@ use Rattle.tftp_player.specs.Machine.{Endpoint, Elsewhere, host_of, Message}
 use Rattle.tftp_player.specs.Rules.{message}
 use Rattle.tftp_player.specs.Said.{said}
 use Rattle.tftp_player.specs.Shows.{EndView, IsShown}
-use Rattle.tftp_player.specs.World.{WorldState, OpenedEnd, StoredFile, file_at, in_the_way, datagram, files_of, is_closed, new_world, view_of_end}
-use Rattle.tftp_player.specs.WorldSteps.{may_refuse_commit, OnDatagram, Arrives, At_request_port, At_open_end, At_closed_end, At_nobody, TimesOut, told_to_refuse}
+use Rattle.tftp_player.specs.World.{WorldState, OpenEnd, WorldEnd, Open_end, Closed_end, StoredFile, file_at, in_the_way, datagram, files_of, new_world, view_of_end}
+use Rattle.tftp_player.specs.WorldSteps.{may_refuse_commit, OnDatagram, Arrives, At_request_port, At_open_end, At_closed_end, At_nobody, TimesOut, told_end}
 use Rattle.tftp_player.specs.WorldKept.{PhaseKept, IsKeptIn, IsOk}
-use Rattle.tftp_player.specs.WorldRuns.{Runs, MayHappen, MayAllHappen, StepsKeep}
+use Rattle.tftp_player.specs.WorldRuns.{Runs, MayAllHappen, StepsKeep}
 use Rattle.tftp_player.specs.WorldSafety.{HasPeersAtHome}
 use Rattle.tftp_player.specs.declared.datagram.Datagram.{Datagram}
 use Rattle.tftp_player.specs.declared.event.Event.{Event}
 use Rattle.tftp_player.specs.declared.event.Event.TheVariants.{Get, Put, Deliver, Timeout, RefuseStore, Stray}
 use Rattle.tftp_player.specs.declared.report.Report.{Report}
 use Rattle.tftp_player.proofs.Places.{slice_get-set_cases}
+use Rattle.tftp_player.proofs.Standing.{open_view, open_is}
 use Rattle.tftp_player.proofs.Actions.{Stands, strays}
 use Rattle.tftp_player.proofs.Shown.{shown_start}
 use Rattle.tftp_player.proofs.ViewSafe.{shown_at_home}
@@ -65,18 +66,23 @@ says_spelled bytes (Some q) s p e = subst (λ (z : WirePacket). Spells z bytes) 
 says_spelled bytes None s p e = absurd (let f : None ≡ Some p = e in cc)
 
 module _ (strangers : Bool) (w v : WorldState) (ok : IsOk strangers w) (report : Report) where
+  -- an open end stands among all that is shown
+  stands : (k : ℕ) (x : OpenEnd) → slice_get w.ends k ≡ Some (Open_end x) → Stands (map view_of_end w.ends) ok.messages k (open_view x)
+  stands k x at = record {
+    shown = ok.shown;
+    place = view_at w.ends k (Open_end x) at ∙ ap (λ (v : EndView). Some v) (open_is x (ap is_some (ok.ends k (Open_end x) at).stands.still));
+  }
+
   -- what an end has heard keeps the world
-  datagram_keeps : (k : ℕ) (x : OpenedEnd) (from : Endpoint) (bytes : List ℕ) → slice_get w.ends k ≡ Some x → is_closed x ≡ false →
+  datagram_keeps : (k : ℕ) (x : OpenEnd) (from : Endpoint) (bytes : List ℕ) → slice_get w.ends k ≡ Some (Open_end x) →
       ((p : WirePacket) → Spells p bytes → Contains ok.messages (message from x.address (said p))) → OnDatagram w k x from bytes report v → IsOk strangers v
-  datagram_keeps k x from bytes at open_now come h =
-      let views = map view_of_end w.ends in
-      let s : Stands views ok.messages k (view_of_end x) = record { shown = ok.shown; place = view_at w.ends k x at } in
-      let kept = ok.ends k x at in
+  datagram_keeps k x from bytes at come h =
+      let here = (ok.ends k (Open_end x) at).stands in
       let spelled = says_spelled bytes h.steps.decoded h.steps.says in
-      let old = there_now strangers w ok x.address x.state.progress.last_sent_to x.state.progress.last_sent (kept.last_sent open_now) in
-      let goes_now = by_datagram views ok.messages k x (may_refuse_commit (is_client x.state.role.side) (in_the_way w.overwrite (file_at w.files x.path))) from bytes h.steps.decoded spelled
-      (λ p e. come p (spelled p e)) old x.state.progress.phase s kept.kept open_now h.turn h.held h.steps.acts in
-      turn_keeps strangers w v ok k x h.turn h.held report at open_now goes_now h.turns
+      let old = there_now strangers w ok x.address x.state.progress.last_sent_to x.state.progress.last_sent here.last_sent in
+      let goes_now = by_datagram (map view_of_end w.ends) ok.messages k x (may_refuse_commit (is_client x.state.role.side) (in_the_way w.overwrite (file_at w.files x.path))) from bytes h.steps.decoded spelled
+      (λ p e. come p (spelled p e)) old x.state.progress.phase (stands k x at) here.kept (ap is_some here.still) h.turn h.held h.steps.acts in
+      turn_keeps strangers w v ok k x h.turn h.held report at goes_now h.turns
 
   -- a datagram that came keeps the world
   pub arrives_keeps : (from to : Endpoint) (bytes : List ℕ) → ((p : WirePacket) → Spells p bytes → Contains ok.messages (message from to (said p))) →
@@ -85,30 +91,31 @@ module _ (strangers : Bool) (w v : WorldState) (ok : IsOk strangers w) (report :
       let spelled = says_spelled bytes decoded says in
       serving_keeps strangers w v from bytes report ok repeated decoded
       (asked_so ok.messages from decoded (λ p e. subst (λ (a : Endpoint). Contains ok.messages (message from a (said p))) here (come p (spelled p e)))) served
-  arrives_keeps from to bytes come (At_open_end k x at here open_now h) =
-      datagram_keeps k x from bytes at open_now (λ p s. subst (λ (a : Endpoint). Contains ok.messages (message from a (said p))) (sym here) (come p s)) h
-  arrives_keeps from to bytes come (At_closed_end k x at here closed_now s) = stays_ok strangers w v report ok s
+  arrives_keeps from to bytes come (At_open_end k x at here h) =
+      datagram_keeps k x from bytes at (λ p s. subst (λ (a : Endpoint). Contains ok.messages (message from a (said p))) (sym here) (come p s)) h
+  arrives_keeps from to bytes come (At_closed_end k x at here s) = stays_ok strangers w v report ok s
   arrives_keeps from to bytes come (At_nobody away nobody_there s) = stays_ok strangers w v report ok s
 
   -- a timeout keeps the world
-  timeout_keeps : (k : ℕ) (x : OpenedEnd) → slice_get w.ends k ≡ Some x → (b : Bool) → is_closed x ≡ b → TimesOut b w k x report v → IsOk strangers v
-  timeout_keeps k x at true closed_now s = stays_ok strangers w v report ok s
-  timeout_keeps k x at false open_now t =
-      let views = map view_of_end w.ends in
-      let s : Stands views ok.messages k (view_of_end x) = record { shown = ok.shown; place = view_at w.ends k x at } in
-      let kept = ok.ends k x at in
-      let old = there_now strangers w ok x.address x.state.progress.last_sent_to x.state.progress.last_sent (kept.last_sent open_now) in
-      let g = by_timeout views ok.messages k x old x.state.progress.phase s kept.kept open_now in
-      turn_keeps strangers w v ok k x (timeout_turn x.state) (files_of x) report at open_now
-      (from_response views ok.messages k x (timeout_response x.state.progress.retries_left x.state.progress.phase) x.state.progress.last_sent_to (timeout_turn x.state) (files_of x) g (refl, refl)) t
+  timeout_keeps : (k : ℕ) (x : WorldEnd) → slice_get w.ends k ≡ Some x → TimesOut w k x report v → IsOk strangers v
+  timeout_keeps k (Closed_end x) at s = stays_ok strangers w v report ok s
+  timeout_keeps k (Open_end x) at t =
+      let here = (ok.ends k (Open_end x) at).stands in
+      let old = there_now strangers w ok x.address x.state.progress.last_sent_to x.state.progress.last_sent here.last_sent in
+      let g = by_timeout (map view_of_end w.ends) ok.messages k x old x.state.progress.phase (stands k x at) here.kept (ap is_some here.still) in
+      turn_keeps strangers w v ok k x (timeout_turn x.state) (files_of x) report at
+      (from_response (map view_of_end w.ends) ok.messages k x (timeout_response x.state.progress.retries_left x.state.progress.phase) x.state.progress.last_sent_to (timeout_turn x.state) (files_of x) g (refl, refl)) t
 
 -- what is to be refused has no part in what an end tells
-told_view : (b c : Bool) (x : OpenedEnd) → view_of_end (if b then x else if c then x else record x { refuses = true }) ≡ view_of_end x
-told_view true c x = refl
-told_view false true x = refl
-told_view false false x = refl
+told_open : (b : Bool) (x : OpenEnd) → view_of_end (Open_end (if b then x else record x { refuses = true })) ≡ view_of_end (Open_end x)
+told_open true x = refl
+told_open false x = refl
 
-phase_told : (phase : Phase) (x : OpenedEnd) → PhaseKept x phase → PhaseKept (record x { refuses = true }) phase
+told_view : (x : WorldEnd) → view_of_end (told_end x) ≡ view_of_end x
+told_view (Open_end x) = told_open (is_sender x.state.role.side) x
+told_view (Closed_end x) = refl
+
+phase_told : (phase : Phase) (x : OpenEnd) → PhaseKept x phase → PhaseKept (record x { refuses = true }) phase
 phase_told (Waiting asked limit) x h = h
 phase_told (Sending terms number) x h = record {
   sender = h.sender;
@@ -124,34 +131,34 @@ phase_told (Receiving terms number) x h = h
 phase_told (Dallying terms number dally) x h = h
 phase_told (Closed terms number complete outcome) x h = tt
 
--- an end is kept in a world with the same datagrams and files
-same_kept : (w v : WorldState) (x : OpenedEnd) → v.sent ≡ w.sent → v.files ≡ w.files → v.overwrite ≡ w.overwrite → IsKeptIn w x → IsKeptIn v x
-same_kept w v x s f set h = record {
-  kept = h.kept;
-  last_sent = λ o. subst (λ (ds : List Datagram). Contains ds (datagram x.address x.state.progress.last_sent_to x.state.progress.last_sent)) (sym s) (h.last_sent o);
-  stored = λ o c r d. subst (λ (files : List StoredFile). file_at files x.path ≡ Some x.stored) (sym f) (h.stored (sym set ∙ o) c r d);
+told_kept : (w : WorldState) (b : Bool) (x : OpenEnd) → IsKeptIn w (Open_end x) → IsKeptIn w (Open_end (if b then x else record x { refuses = true }))
+told_kept w true x h = h
+told_kept w false x h = record {
+  stands = record {
+    still = h.stands.still;
+    kept = record { phase = phase_told x.state.progress.phase x h.stands.kept.phase; held = h.stands.kept.held; committed = h.stands.kept.committed };
+    last_sent = h.stands.last_sent;
+  };
+  stored = h.stored;
 }
 
-told_kept : (w v : WorldState) (b c : Bool) (x : OpenedEnd) → v.sent ≡ w.sent → v.files ≡ w.files → v.overwrite ≡ w.overwrite → IsKeptIn w x → IsKeptIn v (if b then x else if c then x else record x { refuses = true })
-told_kept w v true c x s f set h = same_kept w v x s f set h
-told_kept w v false true x s f set h = same_kept w v x s f set h
-told_kept w v false false x s f set h =
-    let g = same_kept w v x s f set h in record {
-      kept = record { phase = phase_told x.state.progress.phase x g.kept.phase; held = g.kept.held; committed = g.kept.committed };
-      last_sent = g.last_sent;
-      stored = g.stored;
-    }
+end_told : (w : WorldState) (x : WorldEnd) → IsKeptIn w x → IsKeptIn w (told_end x)
+end_told w (Open_end x) h = told_kept w (is_sender x.state.role.side) x h
+end_told w (Closed_end x) h = h
+
+-- the other ends of the world have no part in what is kept of one
+same_kept : (w : WorldState) (ends : List WorldEnd) (x : WorldEnd) → IsKeptIn w x → IsKeptIn (record w { ends = ends }) x
+same_kept w ends (Open_end x) h = record { stands = record { still = h.stands.still; kept = h.stands.kept; last_sent = h.stands.last_sent }; stored = h.stored }
+same_kept w ends (Closed_end x) h = record { stands = h.stands; stored = h.stored }
 
 -- who is told to refuse keeps the world
-told_keeps : (strangers : Bool) (w : WorldState) (ok : IsOk strangers w) (k : ℕ) (x : OpenedEnd) → slice_get w.ends k ≡ Some x →
-    IsOk strangers (record w { ends = set w.ends k (told_to_refuse x) })
+told_keeps : (strangers : Bool) (w : WorldState) (ok : IsOk strangers w) (k : ℕ) (x : WorldEnd) → slice_get w.ends k ≡ Some x →
+    IsOk strangers (record w { ends = set w.ends k (told_end x) })
 told_keeps strangers w ok k x at =
-    let y = told_to_refuse x in
+    let y = told_end x in
     let v = record w { ends = set w.ends k y } in
-    let b = is_sender x.state.role.side in
-    let c = is_closed x in
     let same : map view_of_end (set w.ends k y) ≡ map view_of_end w.ends =
-    map-set view_of_end w.ends k y ∙ (ap (λ (e : EndView). set (map view_of_end w.ends) k e) (told_view b c x)
+    map-set view_of_end w.ends k y ∙ (ap (λ (e : EndView). set (map view_of_end w.ends) k e) (told_view x)
     ∙ set_same (map view_of_end w.ends) k (view_of_end x) (view_at w.ends k x at)) in
     record {
       messages = ok.messages;
@@ -161,8 +168,8 @@ told_keeps strangers w ok k x at =
       speakers = ok.speakers;
       max_block = ok.max_block;
       ends = λ j z i. elim (slice_get-set_cases w.ends k j y z i) [
-        | inl h ↦ subst (λ (u : OpenedEnd). IsKeptIn v u) (sym h.1) (told_kept w v b c x refl refl refl (ok.ends k x at))
-        | inr h ↦ same_kept w v z refl refl refl (ok.ends j z h.1)
+        | inl h ↦ subst (λ (u : WorldEnd). IsKeptIn v u) (sym h.1) (same_kept w v.ends y (end_told w x (ok.ends k x at)))
+        | inr h ↦ same_kept w v.ends z (ok.ends j z h.1)
       ];
     }
 
@@ -199,10 +206,10 @@ pub stray_keeps : (w v : WorldState) (ok : IsOk true w) (report : Report) (from 
 stray_keeps w v ok report from to bytes far (At_request_port here port decoded says repeated same served) =
     let h = with_decoded w ok from to bytes decoded far says in
     arrives_keeps true w v h.0 report from to bytes h.1 (At_request_port here port decoded says repeated same served)
-stray_keeps w v ok report from to bytes far (At_open_end k x at here open_now g) =
+stray_keeps w v ok report from to bytes far (At_open_end k x at here g) =
     let h = with_decoded w ok from to bytes g.steps.decoded far g.steps.says in
-    arrives_keeps true w v h.0 report from to bytes h.1 (At_open_end k x at here open_now g)
-stray_keeps w v ok report from to bytes far (At_closed_end k x at here closed_now s) = stays_ok true w v report ok s
+    arrives_keeps true w v h.0 report from to bytes h.1 (At_open_end k x at here g)
+stray_keeps w v ok report from to bytes far (At_closed_end k x at here s) = stays_ok true w v report ok s
 stray_keeps w v ok report from to bytes far (At_nobody away nobody_there s) = stays_ok true w v report ok s
 
 -- each step keeps the world
@@ -211,7 +218,7 @@ step_keeps strangers w v (Get name mode asked) report may ok s = reading_keeps s
 step_keeps strangers w v (Put name mode asked bytes) report may ok s = writing_keeps strangers w v name mode asked bytes report ok s.1 s.2
 step_keeps strangers w v (Deliver i) report may ok s =
     arrives_keeps strangers w v ok report s.0.from s.0.to s.0.bytes (come_from strangers w ok s.0 (contains_at w.sent i s.0 s.1)) s.2
-step_keeps strangers w v (Timeout port) report may ok s = timeout_keeps strangers w v ok report s.0 s.1 s.2.there (is_closed s.1) refl s.3
+step_keeps strangers w v (Timeout port) report may ok s = timeout_keeps strangers w v ok report s.0 s.1 s.2.there s.3
 step_keeps strangers w v (RefuseStore port) report may ok s = subst (λ (z : WorldState). IsOk strangers z) (sym s.4) (told_keeps strangers w ok s.0 s.1 s.2.there)
 step_keeps true w v (Stray from to bytes) report may ok s = stray_keeps w v ok report from to bytes s.0 s.1
 step_keeps false w v (Stray from to bytes) report may ok s = absurd may

@@ -14,9 +14,9 @@ use Rattle.tftp_ends.specs.End.{is_sender, is_complete}
 use Rattle.tftp_player.specs.Machine.{Endpoint}
 use Rattle.tftp_player.specs.Shows.{EndView}
 use Rattle.tftp_player.specs.ViewSafety.{IsAmong, IsSafeViews}
-use Rattle.tftp_player.specs.World.{WorldState, OpenedEnd, new_world, goes_on, received_text, text_of as text_of_end, view_of_end}
+use Rattle.tftp_player.specs.World.{WorldState, WorldEnd, Open_end, Closed_end, end_record, end_address, end_mode, end_file, end_stored, end_committed, end_text, new_world, goes_on, received_text, view_of_end}
 use Rattle.tftp_player.specs.WorldSafety.{IsIn, IsSafe}
-use Rattle.tftp_player.specs.WorldKept.{IsOk}
+use Rattle.tftp_player.specs.WorldKept.{IsKeptIn, IsOk}
 use Rattle.tftp_player.specs.WorldRuns.{WorldsAreSafe, PeersStayHome, KeptIsSafe}
 use Rattle.tftp_player.proofs.HostBytes.{wire_beginning, wire_same}
 use Rattle.tftp_player.proofs.SourceMoves.{text_if}
@@ -26,11 +26,11 @@ use Rattle.tftp_player.proofs.WorldTurns.{view_at}
 use Rattle.tftp_player.proofs.WorldRuns.{run_keeps, new_ok, any_may, ok_at_home}
 
 -- an end that is shown is one of the world
-viewed : (e : EndView) (o : Option OpenedEnd) → option_map view_of_end o ≡ Some e → (x : OpenedEnd) × (o ≡ Some x) × (view_of_end x ≡ e)
+viewed : (e : EndView) (o : Option WorldEnd) → option_map view_of_end o ≡ Some e → (x : WorldEnd) × (o ≡ Some x) × (view_of_end x ≡ e)
 viewed e None h = absurd (let f : None ≡ Some e = h in cc)
 viewed e (Some x) h = (x, refl, same_Some (view_of_end x) e h)
 
-end_of : (w : WorldState) (e : EndView) → IsAmong (map view_of_end w.ends) e → (x : OpenedEnd) × IsIn w x × (view_of_end x ≡ e)
+end_of : (w : WorldState) (e : EndView) → IsAmong (map view_of_end w.ends) e → (x : WorldEnd) × IsIn w x × (view_of_end x ≡ e)
 end_of w e i =
     let h = viewed e (slice_get w.ends i.0) (sym (slice_get-map view_of_end w.ends i.0) ∙ i.1) in
     (h.0, (i.0, h.1), h.2)
@@ -57,46 +57,53 @@ module _ (strangers : Bool) (w : WorldState) (ok : IsOk strangers w) where
   safe : IsSafeViews (map view_of_end w.ends)
   safe = shown_safe (map view_of_end w.ends) ok.messages ok.shown
 
-  among : (x : OpenedEnd) → IsIn w x → IsAmong (map view_of_end w.ends) (view_of_end x)
+  among : (x : WorldEnd) → IsIn w x → IsAmong (map view_of_end w.ends) (view_of_end x)
   among x i = (i.0, view_at w.ends i.0 x i.1)
 
-  begins : (x : OpenedEnd) → is_sender x.state.role.side ≡ false → IsBeginningOf (wire_text x.state.role.mode x.stored) (text_of_end x)
-  begins x r = stored_begins (is_sender x.state.role.side) (goes_on x.state.progress.phase) (wire_text x.state.role.mode x.file) (wire_text x.state.role.mode x.stored) x.state.progress.held r
+  begins : (x : WorldEnd) → is_sender (end_record x).side ≡ false → IsBeginningOf (wire_text (end_mode x) (end_stored x)) (end_text x)
+  begins (Open_end x) r = stored_begins (is_sender x.state.role.side) (goes_on x.state.progress.phase) (wire_text x.state.role.mode x.file) (wire_text x.state.role.mode x.stored) x.state.progress.held r
+  begins (Closed_end x) r = stored_begins (is_sender x.recorded.side) false (wire_text x.mode x.file) (wire_text x.mode x.stored) [] r
 
-  whole : (x : OpenedEnd) → is_sender x.state.role.side ≡ false → is_complete x.state.progress.phase ≡ true → text_of_end x ≡ wire_text x.state.role.mode x.stored
-  whole x r d =
+  whole : (x : WorldEnd) → is_sender (end_record x).side ≡ false → (end_record x).complete ≡ true → end_text x ≡ wire_text (end_mode x) (end_stored x)
+  whole (Open_end x) r d =
       let t = wire_text x.state.role.mode x.stored in
       text_else (is_sender x.state.role.side) (wire_text x.state.role.mode x.file) (received_text x) r
       ∙ ap (λ (b : Bool). if b then t ++ x.state.progress.held else t) (complete_stops x.state.progress.phase d)
+  whole (Closed_end x) r d = text_else (is_sender x.recorded.side) (wire_text x.mode x.file) (wire_text x.mode x.stored) r
 
-  sends : (z : OpenedEnd) → is_sender z.state.role.side ≡ true → text_of_end z ≡ wire_text z.state.role.mode z.file
-  sends z s = text_if (is_sender z.state.role.side) (wire_text z.state.role.mode z.file) (received_text z) s
+  sends : (x : WorldEnd) → is_sender (end_record x).side ≡ true → end_text x ≡ wire_text (end_mode x) (end_file x)
+  sends (Open_end x) s = text_if (is_sender x.state.role.side) (wire_text x.state.role.mode x.file) (received_text x) s
+  sends (Closed_end x) s = text_if (is_sender x.recorded.side) (wire_text x.mode x.file) (wire_text x.mode x.stored) s
+
+  committed : (x : WorldEnd) → IsKeptIn w x → is_sender (end_record x).side ≡ false → (end_record x).complete ≡ true → end_committed x ≡ true
+  committed (Open_end x) h r d = h.stands.kept.committed r ∙ d
+  committed (Closed_end x) h r d = h.stands r ∙ d
 
   pub ok_safe : IsSafe w
   ok_safe = record {
     unique = λ x y i j e.
         let p = (ok.shown.3.ends i.0 (view_of_end x) (view_at w.ends i.0 x i.1)).1 in
         let q = (ok.shown.3.ends j.0 (view_of_end y) (view_at w.ends j.0 y j.1)).1 in
-        let f : x.address.port ≡ y.address.port = ap (λ (a : Endpoint). a.port) e in
+        let f : (end_address x).port ≡ (end_address y).port = ap (λ (a : Endpoint). a.port) e in
         let k : i.0 ≡ j.0 = omega (arith, p, q, f) in
         same_Some x y (sym i.1 ∙ (ap (slice_get w.ends) k ∙ j.1));
     same_size = λ x y i j e f. safe.same_size (view_of_end x) (view_of_end y) (among x i) (among y j) e f;
     is_empty = λ x i r e.
         let t = safe.is_empty (view_of_end x) (among x i) r e in
-        let b = subst (λ (z : List ℕ). IsBeginningOf (wire_text x.state.role.mode x.stored) z) (t ∙ sym (nothing_travels x.state.role.mode)) (begins x r) in
-        first_of_empty x.stored (wire_beginning x.state.role.mode x.stored [] b);
+        let b = subst (λ (z : List ℕ). IsBeginningOf (wire_text (end_mode x) (end_stored x)) z) (t ∙ sym (nothing_travels (end_mode x))) (begins x r) in
+        first_of_empty (end_stored x) (wire_beginning (end_mode x) (end_stored x) [] b);
     is_beginning = λ x p i r e own.
         let h = safe.is_beginning (view_of_end x) p (among x i) r e own in
         let y = end_of w h.0 h.1.0 in
         let z = y.0 in
-        let sender : is_sender z.state.role.side ≡ true = ap (λ (v : EndView). v.sender) y.2 ∙ h.2 in
-        let mode : z.state.role.mode ≡ x.state.role.mode = ap (λ (v : EndView). v.mode) y.2 ∙ h.3 in
-        let text : h.0.text ≡ wire_text x.state.role.mode z.file =
-        ap (λ (v : EndView). v.text) (sym y.2) ∙ (sends z sender ∙ ap (λ (m : Mode). wire_text m z.file) mode) in
-        let b = subst (λ (t : List ℕ). IsBeginningOf (wire_text x.state.role.mode x.stored) t) text
-        (IsBeginningOf-trans (wire_text x.state.role.mode x.stored) (text_of_end x) h.0.text (begins x r) h.4) in
-        (z, ((y.1, ap (λ (v : EndView). v.address) y.2 ∙ h.1.1), sender), wire_beginning x.state.role.mode x.stored z.file b);
-    is_committed = λ x i r d. (ok.ends i.0 x i.1).kept.committed r ∙ d;
+        let sender : is_sender (end_record z).side ≡ true = ap (λ (v : EndView). v.sender) y.2 ∙ h.2 in
+        let mode : end_mode z ≡ end_mode x = ap (λ (v : EndView). v.mode) y.2 ∙ h.3 in
+        let text : h.0.text ≡ wire_text (end_mode x) (end_file z) =
+        ap (λ (v : EndView). v.text) (sym y.2) ∙ (sends z sender ∙ ap (λ (m : Mode). wire_text m (end_file z)) mode) in
+        let b = subst (λ (t : List ℕ). IsBeginningOf (wire_text (end_mode x) (end_stored x)) t) text
+        (IsBeginningOf-trans (wire_text (end_mode x) (end_stored x)) (end_text x) h.0.text (begins x r) h.4) in
+        (z, ((y.1, ap (λ (v : EndView). v.address) y.2 ∙ h.1.1), sender), wire_beginning (end_mode x) (end_stored x) (end_file z) b);
+    is_committed = λ x i r d. committed x (ok.ends i.0 x i.1) r d;
     is_whole = λ x i r d.
         let g = safe.is_whole (view_of_end x) (among x i) r d in (
           g.0,
@@ -105,11 +112,11 @@ module _ (strangers : Bool) (w : WorldState) (ok : IsOk strangers w) where
               let h = g.2 own in
               let y = end_of w h.0 h.1.0 in
               let z = y.0 in
-              let sender : is_sender z.state.role.side ≡ true = ap (λ (v : EndView). v.sender) y.2 ∙ h.2 in
-              let mode : z.state.role.mode ≡ x.state.role.mode = ap (λ (v : EndView). v.mode) y.2 ∙ h.3 in
-              let text : h.0.text ≡ wire_text x.state.role.mode z.file =
-              ap (λ (v : EndView). v.text) (sym y.2) ∙ (sends z sender ∙ ap (λ (m : Mode). wire_text m z.file) mode) in
-              (z, ((y.1, ap (λ (v : EndView). v.address) y.2 ∙ h.1.1), sender), wire_same x.state.role.mode x.stored z.file (sym (whole x r d) ∙ (h.4 ∙ text))),
+              let sender : is_sender (end_record z).side ≡ true = ap (λ (v : EndView). v.sender) y.2 ∙ h.2 in
+              let mode : end_mode z ≡ end_mode x = ap (λ (v : EndView). v.mode) y.2 ∙ h.3 in
+              let text : h.0.text ≡ wire_text (end_mode x) (end_file z) =
+              ap (λ (v : EndView). v.text) (sym y.2) ∙ (sends z sender ∙ ap (λ (m : Mode). wire_text m (end_file z)) mode) in
+              (z, ((y.1, ap (λ (v : EndView). v.address) y.2 ∙ h.1.1), sender), wire_same (end_mode x) (end_stored x) (end_file z) (sym (whole x r d) ∙ (h.4 ∙ text))),
         );
     is_at_path = λ o x i r d c. (ok.ends i.0 x i.1).stored o c r d;
     sender_last = λ x i s d.

@@ -11,21 +11,21 @@ use Rattle.tftp_wire.specs.Spelling.{Spells}
 use Rattle.tftp_file.specs.declared.files.Files.{Files}
 use Rattle.tftp_file.specs.declared.files.Files.TheVariants.{Source, Sink}
 use Rattle.tftp_file.specs.Sink.{Holding}
-use Rattle.tftp_ends.specs.End.{is_sender, is_client, is_complete}
+use Rattle.tftp_ends.specs.End.{is_sender, is_client, is_complete, outcome_of}
 use Rattle.tftp_ends.specs.Step.{Turn, Reply, after_turn}
 use Rattle.tftp_player.specs.Machine.{Endpoint, Elsewhere, host_of, Message}
 use Rattle.tftp_player.specs.Rules.{message}
 use Rattle.tftp_player.specs.Said.{said}
 use Rattle.tftp_player.specs.Facts.{home}
 use Rattle.tftp_player.specs.Shows.{EndView, IsShown}
-use Rattle.tftp_player.specs.World.{WorldState, OpenedEnd, StoredFile, file_at, in_the_way, is_closed, datagram, replied, at_rest, end_after, with_files, has_committed, world_after, opened_in, said_in, view_of_end}
+use Rattle.tftp_player.specs.World.{WorldState, OpenEnd, WorldEnd, Open_end, Closed_end, end_address, end_path, end_stored, StoredFile, file_at, in_the_way, datagram, replied, standing, end_after, with_files, has_committed, world_after, opened_in, said_in, view_of_end}
 use Rattle.tftp_player.specs.WorldSteps.{FilesAfter, Turns, Opens}
-use Rattle.tftp_player.specs.WorldKept.{EndKept, IsKeptIn, SaysSo, MaySpeak, IsOk}
+use Rattle.tftp_player.specs.WorldKept.{EndKept, IsOpenIn, StandsIn, IsKeptIn, SaysSo, MaySpeak, IsOk}
 use Rattle.tftp_player.specs.declared.datagram.Datagram.{Datagram}
 use Rattle.tftp_player.specs.declared.report.Report.{Report}
 use Rattle.tftp_player.proofs.Places.{slice_get-set_cases, slice_get-push_cases}
 use Rattle.tftp_player.proofs.EndMoves.{Goes, Replies, Newest}
-use Rattle.tftp_player.proofs.Resting.{at_rest_view, rest_kept}
+use Rattle.tftp_player.proofs.Standing.{standing_view, standing_kept}
 
 pub nothing_in : {X : Type 0} (x : X) → Contains [] x → ⊥
 nothing_in x h = let l = h.1 in omega arith
@@ -71,17 +71,17 @@ home_not_elsewhere true e = cc
 home_not_elsewhere false e = cc
 
 -- what stands at a place is an end that is shown there
-pub view_at : (ends : List OpenedEnd) (k : ℕ) (x : OpenedEnd) → slice_get ends k ≡ Some x → slice_get (map view_of_end ends) k ≡ Some (view_of_end x)
+pub view_at : (ends : List WorldEnd) (k : ℕ) (x : WorldEnd) → slice_get ends k ≡ Some x → slice_get (map view_of_end ends) k ≡ Some (view_of_end x)
 view_at ends k x e = slice_get-map view_of_end ends k ∙ ap (option_map view_of_end) e
 
 -- each end is at one of the two hosts
-pub at_home : (strangers : Bool) (w : WorldState) → IsOk strangers w → (k : ℕ) (x : OpenedEnd) → slice_get w.ends k ≡ Some x → host_of x.address ≢ Elsewhere
+pub at_home : (strangers : Bool) (w : WorldState) → IsOk strangers w → (k : ℕ) (x : WorldEnd) → slice_get w.ends k ≡ Some x → host_of (end_address x) ≢ Elsewhere
 at_home strangers w ok k x e f =
     let there = (ok.shown.3.ends k (view_of_end x) (view_at w.ends k x e)).0 in
-    let h = (ok.shown.1.ends x.address there.is_open).at_home in
-    home_not_elsewhere (ok.shown.0.party x.address).client (sym h ∙ f)
+    let h = (ok.shown.1.ends (end_address x) there.is_open).at_home in
+    home_not_elsewhere (ok.shown.0.party (end_address x)).client (sym h ∙ f)
 
-same_place : (x : OpenedEnd) (held : Files (List ℕ) Holding) → ((with_files x held).address ≡ x.address) × ((with_files x held).path ≡ x.path) × ((with_files x held).state ≡ x.state)
+same_place : (x : OpenEnd) (held : Files (List ℕ) Holding) → ((with_files x held).address ≡ x.address) × ((with_files x held).path ≡ x.path) × ((with_files x held).state ≡ x.state)
 same_place x (Source left) = (refl, refl, refl)
 same_place x (Sink holding) = (refl, refl, refl)
 
@@ -94,12 +94,21 @@ files_stay overwrite true path bytes old new h kept q c e =
 files_stay overwrite false path bytes old new h kept q c e = ap (λ (files : List StoredFile). file_at files q) h ∙ e
 
 -- an end that changed nothing is kept when the world goes on
-still_kept : (w v : WorldState) (added : List Datagram) (x : OpenedEnd) → v.sent ≡ w.sent ++ added →
-    v.overwrite ≡ w.overwrite → (w.overwrite ≡ false → (q c : List ℕ) → file_at w.files q ≡ Some c → file_at v.files q ≡ Some c) → IsKeptIn w x → IsKeptIn v x
-still_kept w v added x more set stay h = record {
+still_stands : (w v : WorldState) (added : List Datagram) (x : WorldEnd) → v.sent ≡ w.sent ++ added → StandsIn w x → StandsIn v x
+still_stands w v added (Open_end x) more h = record {
+  still = h.still;
   kept = h.kept;
-  last_sent = λ o. subst (λ (ds : List Datagram). Contains ds (datagram x.address x.state.progress.last_sent_to x.state.progress.last_sent)) (sym more) (Contains-append_left w.sent added (datagram x.address x.state.progress.last_sent_to x.state.progress.last_sent) (h.last_sent o));
-  stored = λ o c r d. let kept = sym set ∙ o in stay kept x.path x.stored (h.stored kept c r d);
+  last_sent =
+      let d = datagram x.address x.state.progress.last_sent_to x.state.progress.last_sent in
+      subst (λ (ds : List Datagram). Contains ds d) (sym more) (Contains-append_left w.sent added d h.last_sent);
+}
+still_stands w v added (Closed_end x) more h = h
+
+still_kept : (w v : WorldState) (added : List Datagram) (x : WorldEnd) → v.sent ≡ w.sent ++ added →
+    v.overwrite ≡ w.overwrite → (w.overwrite ≡ false → (q c : List ℕ) → file_at w.files q ≡ Some c → file_at v.files q ≡ Some c) → IsKeptIn w x → IsKeptIn v x
+still_kept w v added x more set_same stay h = record {
+  stands = still_stands w v added x more h.stands;
+  stored = λ o c r d. let kept = sym set_same ∙ o in stay kept (end_path x) (end_stored x) (h.stored kept c r d);
 }
 
 -- what was sent and what is there, after an answer
@@ -137,13 +146,16 @@ complete_then false client old_committed new_committed o n c =
     inr (ap (λ (b : Bool). not client && (not b && new_committed)) o ∙ (ap (λ (b : Bool). not client && b) n ∙ ap (λ (b : Bool). not b && true) c))
 
 -- a turn of an end keeps the world
-pub turn_keeps : (strangers : Bool) (w v : WorldState) (ok : IsOk strangers w) (k : ℕ) (x : OpenedEnd) (turn : Turn) (held : Files (List ℕ) Holding) (report : Report) →
-    slice_get w.ends k ≡ Some x → is_closed x ≡ false → Goes (map view_of_end w.ends) ok.messages k x turn (end_after x turn held) → Turns w k x turn held report v → IsOk strangers v
-turn_keeps strangers w v ok k x turn held report at open_now g t = subst (λ (z : WorldState). IsOk strangers z) (sym t.is) later where
+pub turn_keeps : (strangers : Bool) (w v : WorldState) (ok : IsOk strangers w) (k : ℕ) (x : OpenEnd) (turn : Turn) (held : Files (List ℕ) Holding) (report : Report) →
+    slice_get w.ends k ≡ Some (Open_end x) → Goes (map view_of_end w.ends) ok.messages k x turn (end_after x turn held) → Turns w k x turn held report v → IsOk strangers v
+turn_keeps strangers w v ok k x turn held report at g t = subst (λ (z : WorldState). IsOk strangers z) (sym t.is) later where
+  was : IsOpenIn w x
+  was = (ok.ends k (Open_end x) at).stands
+
   last_sent_is : (to : Endpoint) (bytes : List ℕ) → Newest x turn (end_after x turn held) →
       Contains (w.sent ++ replied x.address turn.reply) (datagram x.address (end_after x turn held).state.progress.last_sent_to (end_after x turn held).state.progress.last_sent)
   last_sent_is to bytes (inl e) =
-      let there = Contains-append_left w.sent (replied x.address turn.reply) (datagram x.address x.state.progress.last_sent_to x.state.progress.last_sent) ((ok.ends k x at).last_sent open_now) in
+      let there = Contains-append_left w.sent (replied x.address turn.reply) (datagram x.address x.state.progress.last_sent_to x.state.progress.last_sent) was.last_sent in
       subst (λ (p : Endpoint). Contains (w.sent ++ replied x.address turn.reply) (datagram x.address p (end_after x turn held).state.progress.last_sent)) (sym e.0)
       (subst (λ (b : List ℕ). Contains (w.sent ++ replied x.address turn.reply) (datagram x.address x.state.progress.last_sent_to b)) (sym e.1) there)
   last_sent_is to bytes (inr e) =
@@ -161,10 +173,10 @@ turn_keeps strangers w v ok k x turn held report at open_now g t = subst (λ (z 
       let path = (same_place (record x { state = after_turn x.state turn }) held).1 in
       let client : is_client x.state.role.side ≡ false = ap is_client (sym g.side) ∙ c in
       let receiver : is_sender x.state.role.side ≡ false = ap is_sender (sym g.side) ∙ r in
-      let old = (ok.ends k x at).kept.committed receiver in
+      let old = was.kept.committed receiver in
       let new : y.committed ≡ true = g.kept.committed r ∙ d in
       let under : file_at t.files x.path ≡ Some y.stored = elim (complete_then (is_complete x.state.progress.phase) (is_client x.state.role.side) x.committed y.committed old new client) [
-        | inl h ↦ stays o x.path y.stored ((ok.ends k x at).stored o client receiver h.0 ∙ ap (λ (z : List ℕ). Some z) (sym (g.stored h.0)))
+        | inl h ↦ stays o x.path y.stored ((ok.ends k (Open_end x) at).stored o client receiver h.0 ∙ ap (λ (z : List ℕ). Some z) (sym (g.stored h.0)))
         | inr h ↦ (subst (λ (b : Bool). FilesAfter w.overwrite b x.path y.stored w.files t.files) h t.stored).here
       ] in
       subst (λ (q : List ℕ). file_at t.files q ≡ Some y.stored) (sym path) under
@@ -173,29 +185,28 @@ turn_keeps strangers w v ok k x turn held report at open_now g t = subst (λ (z 
   later =
       let y = end_after x turn held in
       let place = (same_place (record x { state = after_turn x.state turn }) held).0 in
-      let own = at_home strangers w ok k x at in
+      let own = at_home strangers w ok k (Open_end x) at in
       record {
         messages = ok.messages ++ g.said_now;
-        shown = subst (λ (vs : List EndView). IsShown vs (ok.messages ++ g.said_now)) (sym (map-set view_of_end w.ends k (at_rest y) ∙ ap (set (map view_of_end w.ends) k) (at_rest_view y))) g.shown;
+        shown = subst (λ (vs : List EndView). IsShown vs (ok.messages ++ g.said_now)) (sym (map-set view_of_end w.ends k (standing y) ∙ ap (set (map view_of_end w.ends) k) (standing_view y))) g.shown;
         sent = sent_then strangers w ok x.address own turn.reply g.said_now g.replies;
         only = only_then strangers w ok x.address own turn.reply g.said_now g.replies;
         speakers = speakers_then strangers w ok x.address own turn.reply g.said_now g.replies;
         max_block = ok.max_block;
-        ends = λ j z i. elim (slice_get-set_cases w.ends k j (at_rest y) z i) [
-          | inl h ↦ subst (λ (u : OpenedEnd). IsKeptIn (world_after w k x turn held t.files) u) (sym h.1) (rest_kept (world_after w k x turn held t.files) y (record {
-            kept = g.kept;
-            last_sent = λ _. subst (λ (a : Endpoint). Contains (w.sent ++ replied x.address turn.reply) (datagram a y.state.progress.last_sent_to y.state.progress.last_sent)) (sym place) (last_sent_is y.state.progress.last_sent_to y.state.progress.last_sent g.last_sent);
-            stored = stored_is;
-          }))
+        ends = λ j z i. elim (slice_get-set_cases w.ends k j (standing y) z i) [
+          | inl h ↦ subst (λ (u : WorldEnd). IsKeptIn (world_after w k x turn held t.files) u) (sym h.1)
+              (standing_kept (world_after w k x turn held t.files) y g.kept
+              (subst (λ (a : Endpoint). Contains (w.sent ++ replied x.address turn.reply) (datagram a y.state.progress.last_sent_to y.state.progress.last_sent)) (sym place)
+              (last_sent_is y.state.progress.last_sent_to y.state.progress.last_sent g.last_sent)) stored_is)
           | inr h ↦ still_kept w (world_after w k x turn held t.files) (replied x.address turn.reply) z refl refl stays (ok.ends j z h.1)
         ];
       }
 
 -- an end that opened keeps the world
-pub opening_keeps : (strangers : Bool) (w v : WorldState) (ok : IsOk strangers w) (x : OpenedEnd) (report : Report) (p : WirePacket) →
-    Spells p x.state.progress.last_sent → IsShown (map view_of_end w.ends ++ view_of_end x ∷ []) (ok.messages ++ message x.address x.state.progress.last_sent_to (said p) ∷ []) →
-    host_of x.address ≢ Elsewhere → EndKept x → is_complete x.state.progress.phase ≡ false → Opens w x report v → IsOk strangers v
-opening_keeps strangers w v ok x report p spells shown own kept incomplete o = subst (λ (z : WorldState). IsOk strangers z) (sym o.is) later where
+pub opening_keeps : (strangers : Bool) (w v : WorldState) (ok : IsOk strangers w) (x : OpenEnd) (report : Report) (p : WirePacket) →
+    Spells p x.state.progress.last_sent → IsShown (map view_of_end w.ends ++ view_of_end (Open_end x) ∷ []) (ok.messages ++ message x.address x.state.progress.last_sent_to (said p) ∷ []) →
+    host_of x.address ≢ Elsewhere → outcome_of x.state.progress.phase ≡ None → EndKept x → is_complete x.state.progress.phase ≡ false → Opens w x report v → IsOk strangers v
+opening_keeps strangers w v ok x report p spells shown own still kept incomplete o = subst (λ (z : WorldState). IsOk strangers z) (sym o.is) later where
   later : IsOk strangers (opened_in w x)
   later =
       let reply : Option Reply = Some (record { to = x.state.progress.last_sent_to; bytes = x.state.progress.last_sent }) in
@@ -203,16 +214,19 @@ opening_keeps strangers w v ok x report p spells shown own kept incomplete o = s
       let r : Replies x.address reply (m ∷ []) = (p, spells, refl) in
       record {
         messages = ok.messages ++ m ∷ [];
-        shown = subst (λ (vs : List EndView). IsShown vs (ok.messages ++ m ∷ [])) (sym (map-append view_of_end w.ends (x ∷ []))) shown;
+        shown = subst (λ (vs : List EndView). IsShown vs (ok.messages ++ m ∷ [])) (sym (map-append view_of_end w.ends (Open_end x ∷ []))) shown;
         sent = sent_then strangers w ok x.address own reply (m ∷ []) r;
         only = only_then strangers w ok x.address own reply (m ∷ []) r;
         speakers = speakers_then strangers w ok x.address own reply (m ∷ []) r;
         max_block = ok.max_block;
-        ends = λ j z i. elim (slice_get-push_cases w.ends j x z i) [
+        ends = λ j z i. elim (slice_get-push_cases w.ends j (Open_end x) z i) [
           | inl h ↦ still_kept w (opened_in w x) (replied x.address reply) z refl refl (λ o q c e. e) (ok.ends j z h)
-          | inr h ↦ subst (λ (u : OpenedEnd). IsKeptIn (opened_in w x) u) (sym h.1) (record {
-            kept = kept;
-            last_sent = λ _. Contains-append_right w.sent (replied x.address reply) (datagram x.address x.state.progress.last_sent_to x.state.progress.last_sent) (here_in (datagram x.address x.state.progress.last_sent_to x.state.progress.last_sent));
+          | inr h ↦ subst (λ (u : WorldEnd). IsKeptIn (opened_in w x) u) (sym h.1) (record {
+            stands = record {
+              still = still;
+              kept = kept;
+              last_sent = let d = datagram x.address x.state.progress.last_sent_to x.state.progress.last_sent in Contains-append_right w.sent (replied x.address reply) d (here_in d);
+            };
             stored = λ o c f d. absurd (true≢false (sym d ∙ incomplete));
           })
         ];

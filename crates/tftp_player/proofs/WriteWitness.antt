@@ -18,7 +18,7 @@ use Rattle.tftp_server.specs.declared.config.Config.{Config}
 use Rattle.tftp_player.specs.Completing.{Transfers, nothing_asked}
 use Rattle.tftp_player.specs.Openings.{writing_client, receiving_end}
 use Rattle.tftp_player.specs.Straight.{SomeWriteIsStraight}
-use Rattle.tftp_player.specs.World.{WorldState, OpenedEnd, new_world, end_after, replied, report_of, opened_in, sent_report, at_rest}
+use Rattle.tftp_player.specs.World.{WorldState, OpenEnd, new_world, end_after, replied, report_of, opened_in, sent_report, standing}
 use Rattle.tftp_player.specs.WorldSteps.{At_request_port, WorldStep}
 use Rattle.tftp_player.specs.declared.datagram.Datagram.{Datagram}
 use Rattle.tftp_player.specs.declared.event.Event.TheVariants.{Put, Deliver}
@@ -39,7 +39,7 @@ config = record { limits = record { max_block = 1428; max_file = 10 }; retries =
 abbrev w0 : WorldState
 w0 = new_world [] config
 
-abbrev client : OpenedEnd
+abbrev client : OpenEnd
 client = writing_client w0 name Octet nothing_asked file
 
 abbrev w1 : WorldState
@@ -48,7 +48,7 @@ w1 = opened_in w0 client
 abbrev d0 : Datagram
 d0 = record { from = client.address; to = client.state.progress.last_sent_to; bytes = client.state.progress.last_sent }
 
-abbrev server : OpenedEnd
+abbrev server : OpenEnd
 server = receiving_end w1 client.address d0.bytes Octet name []
 
 abbrev w2 : WorldState
@@ -60,11 +60,11 @@ d1 = record { from = server.address; to = client.address; bytes = server.state.p
 abbrev turn3 : Turn
 turn3 = filled_turn (default_terms server.address) 1 server.address file client.state (Ok 1)
 
-abbrev sending : OpenedEnd
+abbrev sending : OpenEnd
 sending = end_after client turn3 (Source [])
 
 abbrev w3 : WorldState
-w3 = record w2 { sent = w2.sent ++ replied client.address turn3.reply; ends = slice_set w2.ends 0 (at_rest sending) }
+w3 = record w2 { sent = w2.sent ++ replied client.address turn3.reply; ends = slice_set w2.ends 0 (standing sending) }
 
 abbrev d2 : Datagram
 d2 = record { from = client.address; to = server.address; bytes = sending.state.progress.last_sent }
@@ -79,7 +79,7 @@ abbrev stored : Holding
 stored = record { bytes = file; committed = true; refuses = false }
 
 abbrev w4 : WorldState
-w4 = record w3 { sent = w3.sent ++ replied server.address turn4.reply; files = (name, file) ∷ []; ends = slice_set w3.ends 1 (at_rest (end_after server turn4 (Sink stored))) }
+w4 = record w3 { sent = w3.sent ++ replied server.address turn4.reply; files = (name, file) ∷ []; ends = slice_set w3.ends 1 (standing (end_after server turn4 (Sink stored))) }
 
 abbrev d3 : Datagram
 d3 = record { from = server.address; to = client.address; bytes = ack_bytes 1 }
@@ -88,7 +88,7 @@ abbrev turn5 : Turn
 turn5 = response_turn Complete server.address sending.state
 
 abbrev w5 : WorldState
-w5 = record w4 { ends = slice_set w4.ends 0 (at_rest (end_after sending turn5 (Source []))) }
+w5 = record w4 { ends = slice_set w4.ends 0 (standing (end_after sending turn5 (Source []))) }
 
 asks : WorldStep w0 (Put name Octet nothing_asked file) (sent_report w0) w1
 asks = put_step w0 name Octet nothing_asked file (omega arith) (record { valid = search rules; options = search rules; fits = omega arith })
@@ -98,7 +98,7 @@ unfolding places_of
 opens = (d0, refl, At_request_port refl (omega arith) (Some (packet_in d0.bytes)) (fault_where_nothing d0.bytes (bytes_below d0.bytes refl) refl) false (first_request client.address (packet_in d0.bytes) client refl) (record { tells = refl; is = refl }))
 
 sends : WorldStep w2 (Deliver 1) (report_of w2 client turn3) w3
-sends = takes w2 1 0 d1 client turn3 (Source []) [] refl refl refl refl
+sends = takes w2 1 0 d1 client turn3 (Source []) [] refl refl refl
     (record {
       decoded = Some (packet_in d1.bytes);
       says = fault_where_nothing d1.bytes (bytes_below d1.bytes refl) refl;
@@ -116,7 +116,7 @@ no_file true q e n = absurd (n (same_text q name (sym e ∙ is_eq-slice_cmp q na
 no_file false q e n = refl
 
 stores : WorldStep w3 (Deliver 2) (report_of w3 server turn4) w4
-stores = takes w3 2 1 d2 server turn4 (Sink stored) ((name, file) ∷ []) refl refl refl refl
+stores = takes w3 2 1 d2 server turn4 (Sink stored) ((name, file) ∷ []) refl refl refl
     (record {
       decoded = Some (packet_in d2.bytes);
       says = fault_where_nothing d2.bytes (bytes_below d2.bytes refl) refl;
@@ -134,7 +134,7 @@ stores = takes w3 2 1 d2 server turn4 (Sink stored) ((name, file) ∷ []) refl r
     (record { free = refl; here = refl; others = λ q n. no_file (is_at (path_cmp q) name) q refl n })
 
 completes : WorldStep w4 (Deliver 3) (report_of w4 sending turn5) w5
-completes = takes w4 3 0 d3 sending turn5 (Source []) ((name, file) ∷ []) refl refl refl refl
+completes = takes w4 3 0 d3 sending turn5 (Source []) ((name, file) ∷ []) refl refl refl
     (record { decoded = Some (packet_in d3.bytes); says = fault_where_nothing d3.bytes (bytes_below d3.bytes refl) refl; acts = (refl, refl) }) refl
 
 pub write_transfers : Transfers (Put name Octet nothing_asked file) file
@@ -145,8 +145,8 @@ write_transfers = (
   w5,
   (w1, sent_report w0, asks, (w2, sent_report w1, opens, (w3, report_of w2 client turn3, sends, (w4, report_of w3 server turn4, stores, (w5, report_of w4 sending turn5, completes, refl))))),
   record {
-    sender = at_rest (end_after sending turn5 (Source []));
-    receiver = at_rest (end_after server turn4 (Sink stored));
+    sender = standing (end_after sending turn5 (Source []));
+    receiver = standing (end_after server turn4 (Sink stored));
     sender_in = (0, refl);
     receiver_in = (1, refl);
     sends = refl;

@@ -3,7 +3,7 @@ use Rattle.std.specs.Prelude.{◌≡◌, ℕ, true, List, ◌∷◌, Some, None}
 use Rattle.tftp_negotiate.specs.declared.asked.Asked.{Asked}
 use Rattle.tftp_ends.specs.End.{is_sender}
 use Rattle.tftp_server.specs.declared.config.Config.{Config}
-use Rattle.tftp_player.specs.World.{WorldState, OpenedEnd, StoredFile, new_world}
+use Rattle.tftp_player.specs.World.{WorldState, WorldEnd, end_record, end_address, end_file, end_stored, StoredFile, new_world}
 use Rattle.tftp_player.specs.WorldRuns.{Runs}
 use Rattle.tftp_player.specs.WorldSafety.{IsIn, IsReceiver, HasPeer, IsComplete}
 use Rattle.tftp_player.specs.declared.event.Event.{Event}
@@ -18,18 +18,18 @@ blocks_of_8 = record { blksize = Some 8; timeout = None; tsize = None }
 
 -- two ends are each other's peers and complete, and the receiver has stored the sender's file, which is this
 pub record IsTransferred (w : WorldState) (bytes : List ℕ) : Type 0 where
-  pub sender : OpenedEnd
-  pub receiver : OpenedEnd
+  pub sender : WorldEnd
+  pub receiver : WorldEnd
   pub sender_in : IsIn w sender
   pub receiver_in : IsIn w receiver
-  pub sends : is_sender sender.state.role.side ≡ true
+  pub sends : is_sender (end_record sender).side ≡ true
   pub receives : IsReceiver receiver
-  pub sender_peer : HasPeer sender receiver.address
-  pub receiver_peer : HasPeer receiver sender.address
+  pub sender_peer : HasPeer sender (end_address receiver)
+  pub receiver_peer : HasPeer receiver (end_address sender)
   pub sender_done : IsComplete sender
   pub receiver_done : IsComplete receiver
-  pub file : sender.file ≡ bytes
-  pub stored : receiver.stored ≡ bytes
+  pub file : end_file sender ≡ bytes
+  pub stored : end_stored receiver ≡ bytes
 
 -- some events, of which this is the first, transfer these bytes in some world
 abbrev pub Transfers : Event → List ℕ → Type 0

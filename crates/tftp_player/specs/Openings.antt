@@ -8,10 +8,10 @@ use Rattle.tftp_file.specs.Netascii.{wire_text}
 use Rattle.tftp_ends.specs.End.{EndState}
 pub use Rattle.tftp_ends.specs.Opening.{request_of, getting, putting, serving_read, serving_write, MayGet, MayPut}
 use Rattle.tftp_player.specs.Machine.{Endpoint, request_port}
-use Rattle.tftp_player.specs.World.{WorldState, OpenedEnd, next_port, ip_of}
+use Rattle.tftp_player.specs.World.{WorldState, OpenEnd, next_port, ip_of}
 
 -- an end as it opens at the next port, for what was requested so, of a file at a path, with this left of it
-abbrev pub opening : WorldState → EndState → List ℕ → List ℕ → List ℕ → List ℕ → OpenedEnd
+abbrev pub opening : WorldState → EndState → List ℕ → List ℕ → List ℕ → List ℕ → OpenEnd
 opening w state request path file left =
     record {
       address = record { ip = ip_of state.role.side; port = next_port w };
@@ -26,11 +26,11 @@ opening w state request path file left =
     }
 
 -- a client that reads
-abbrev pub reading_client : WorldState → List ℕ → Mode → Asked → OpenedEnd
+abbrev pub reading_client : WorldState → List ℕ → Mode → Asked → OpenEnd
 reading_client w name mode asked = opening w (getting request_port name mode asked w.limits.max_file w.retries) [] [] [] (wire_text mode [])
 
 -- a client that writes
-abbrev pub writing_client : WorldState → List ℕ → Mode → Asked → List ℕ → OpenedEnd
+abbrev pub writing_client : WorldState → List ℕ → Mode → Asked → List ℕ → OpenEnd
 writing_client w name mode asked file =
     opening w (putting request_port name mode asked (length (wire_text mode file)) w.limits.max_file w.retries) [] [] file (wire_text mode file)
 
@@ -40,10 +40,10 @@ left_at_first [] text = drop 512 text
 left_at_first (known ∷ agreed) text = text
 
 -- the server sends a file, which was requested so
-abbrev pub sending_end : WorldState → Endpoint → List ℕ → Mode → List ℕ → List ℕ → List Known → OpenedEnd
+abbrev pub sending_end : WorldState → Endpoint → List ℕ → Mode → List ℕ → List ℕ → List Known → OpenEnd
 sending_end w peer request mode path file agreed =
     opening w (serving_read agreed peer mode (length (wire_text mode file)) w.retries (block (wire_text mode file) 512 1)) request path file (left_at_first agreed (wire_text mode file))
 
 -- the server takes a file, as it was requested so
-abbrev pub receiving_end : WorldState → Endpoint → List ℕ → Mode → List ℕ → List Known → OpenedEnd
+abbrev pub receiving_end : WorldState → Endpoint → List ℕ → Mode → List ℕ → List Known → OpenEnd
 receiving_end w peer request mode path agreed = opening w (serving_write agreed peer mode w.retries) request path [] []

@@ -1,10 +1,9 @@
 -- The ends of a world by what the struct that plays it keeps of them.
 use Rattle.std.specs.Prelude.{ℕ, ◌≡◌, ◌+◌, Bool, true, false, not, List, [], ◌∷◌, Option, Some, None, is_some, option_map}
-use Rattle.tftp_ends.specs.declared.outcome.Outcome.{Outcome}
 use Rattle.tftp_ends.specs.declared.outcome.Outcome.TheVariants.{TimedOut}
 use Rattle.tftp_ends.specs.declared.record.Record.{Record}
 use Rattle.tftp_ends.specs.declared.side.Side.TheVariants.{ServerRead}
-use Rattle.tftp_ends.specs.End.{EndState, is_sender, is_client, outcome_of, record_of}
+use Rattle.tftp_ends.specs.End.{EndState, is_sender, is_client, outcome_of}
 use Rattle.tftp_ends.specs.Files.{AreFilesOf}
 use Rattle.tftp_ends.specs.Step.{timeout_turn}
 use Rattle.tftp_server.specs.State.{at, draft_of, draft_at}
@@ -13,14 +12,14 @@ use Rattle.tftp_player.specs.Machine.{Endpoint}
 use Rattle.tftp_player.specs.Clients.{client_at, server_at, left_in, holding_in, ClientTurns, ClientDatagramStep, stored_by, told_client}
 use Rattle.tftp_player.specs.PlayedClient.{PlayedClient}
 use Rattle.tftp_player.specs.Serving.{PlayedServer, Transfer, ServedKept, ServedTimeoutStep, ServedDatagramStep}
-use Rattle.tftp_player.specs.World.{OpenedEnd, at_rest, closed_state}
+use Rattle.tftp_player.specs.World.{OpenEnd, ClosedEnd, WorldEnd, Open_end, Closed_end, end_record, standing}
 use Rattle.tftp_player.specs.declared.effect.Effect.{Effect}
 use Rattle.tftp_player.specs.declared.player.Player.{Player}
 use Rattle.tftp_player.specs.declared.player.Player.TheVariants.{Client, Server}
 use Rattle.tftp_player.specs.declared.served.Served.{Served}
 
 -- the end of a client
-abbrev pub client_end : ℕ → PlayedClient → OpenedEnd
+abbrev pub client_end : ℕ → PlayedClient → OpenEnd
 client_end port c =
     record {
       address = client_at port;
@@ -40,7 +39,7 @@ draft_or_new None = new_draft
 draft_or_new (Some draft) = draft
 
 -- an end of the server, in that state, with that left of its file or stored in its draft
-abbrev pub served_as : ℕ → Served → EndState → List ℕ → Option Drafted → List ℕ → OpenedEnd
+abbrev pub served_as : ℕ → Served → EndState → List ℕ → Option Drafted → List ℕ → OpenEnd
 served_as port s state left draft request =
     record {
       address = server_at port;
@@ -54,35 +53,43 @@ served_as port s state left draft request =
       request = request;
     }
 
--- how a closed end ended
-abbrev pub ended_as : Option Outcome → Outcome
-ended_as (Some outcome) = outcome
-ended_as None = TimedOut
-
 -- a record of an end that nobody holds
 abbrev pub unheld : Record
-unheld = record { side = ServerRead; peer = None; size = 512; timeout = None; number = 0; complete = false; outcome = None }
+unheld = record { side = ServerRead; peer = None; size = 512; timeout = None; number = 0; complete = false; outcome = Some TimedOut }
+
+-- a closed end of the server, with this draft and this record
+abbrev pub served_closed : ℕ → Served → Option Drafted → Record → ClosedEnd
+served_closed port s draft r =
+    record {
+      address = server_at port;
+      mode = s.mode;
+      path = s.path;
+      file = s.file;
+      stored = (draft_or_new draft).bytes;
+      committed = (draft_or_new draft).committed;
+      recorded = r;
+    }
 
 -- the end of the server, by how it ended, or else by what the server holds
-abbrev pub served_end : ℕ → Served → Option Record → Option Transfer → OpenedEnd
-served_end port s (Some r) held = served_as port s (closed_state s.mode r (ended_as r.outcome)) [] s.draft []
-served_end port s None (Some h) = served_as port s h.end (left_in h.files) (draft_of h.files) h.request
-served_end port s None None = served_as port s (closed_state s.mode unheld TimedOut) [] None []
+abbrev pub served_end : ℕ → Served → Option Record → Option Transfer → WorldEnd
+served_end port s (Some r) held = Closed_end (served_closed port s s.draft r)
+served_end port s None (Some h) = Open_end (served_as port s h.end (left_in h.files) (draft_of h.files) h.request)
+served_end port s None None = Closed_end (served_closed port s None unheld)
 
 -- the end at this port
-abbrev pub end_at : ℕ → List (ℕ × Transfer) → Player → OpenedEnd
-end_at port held (Client c) = at_rest (client_end port c)
+abbrev pub end_at : ℕ → List (ℕ × Transfer) → Player → WorldEnd
+end_at port held (Client c) = standing (client_end port c)
 end_at port held (Server s) = served_end port s s.ended (at port held)
 
 -- the ends from this port on
-abbrev pub ends_from : ℕ → List (ℕ × Transfer) → List Player → List OpenedEnd
+abbrev pub ends_from : ℕ → List (ℕ × Transfer) → List Player → List WorldEnd
 ends_from port held [] = []
 ends_from port held (p ∷ players) = end_at port held p ∷ ends_from (port + 1) held players
 
 -- what is recorded of them
-abbrev pub records_from : ℕ → List OpenedEnd → List (ℕ × Record)
+abbrev pub records_from : ℕ → List WorldEnd → List (ℕ × Record)
 records_from port [] = []
-records_from port (x ∷ ends) = (port, record_of x.state) ∷ records_from (port + 1) ends
+records_from port (x ∷ ends) = (port, end_record x) ∷ records_from (port + 1) ends
 
 -- a closed end of the server: a receiver has its draft
 pub record ServedEnded (s : Served) (r : Record) : Type 0 where

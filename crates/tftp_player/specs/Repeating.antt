@@ -5,7 +5,7 @@ use Rattle.tftp_wire.specs.declared.packet.Packet.{Packet}
 use Rattle.tftp_wire.specs.declared.packet.Packet.TheVariants.{Read, Write}
 use Rattle.tftp_player.specs.Machine.{Endpoint, request_port}
 use Rattle.tftp_player.specs.Requests.{Repeats, AnyRepeats}
-use Rattle.tftp_player.specs.World.{WorldState, OpenedEnd, is_closed, no_report}
+use Rattle.tftp_player.specs.World.{WorldState, WorldEnd, is_closed, no_report}
 use Rattle.tftp_player.specs.WorldKept.{IsOk}
 use Rattle.tftp_player.specs.WorldSteps.{Arrives, WorldStep}
 use Rattle.tftp_player.specs.declared.event.Event.{Event}
@@ -43,6 +43,6 @@ OnlyNewRequestsOpen =
 -- what repeats the request of an end repeats it after each event, while the end is open
 abbrev pub RequestsLast : Type 0
 RequestsLast =
-    (old new : WorldState) (event : Event) (report : Report) (from : Endpoint) (packet : Packet) (k : ℕ) (x y : OpenedEnd) →
+    (old new : WorldState) (event : Event) (report : Report) (from : Endpoint) (packet : Packet) (k : ℕ) (x y : WorldEnd) →
     WorldStep old event report new → slice_get old.ends k ≡ Some x → Repeats from packet x →
     slice_get new.ends k ≡ Some y → is_closed y ≡ false → Repeats from packet y

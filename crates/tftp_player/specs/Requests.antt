@@ -1,5 +1,5 @@
 -- What the request port of a world's server does: the server's tests, over the world's files.
-use Rattle.std.specs.Prelude.{ℕ, ◌≡◌, ◌⊎◌, ◌↔◌, IsTrue, Bool, false, ◌&&◌, not, List, [], ◌∷◌, count_by, Option, Some, None, Result, Ok, Err}
+use Rattle.std.specs.Prelude.{ℕ, ◌≡◌, ◌⊎◌, ◌↔◌, IsTrue, Bool, false, not, List, [], ◌∷◌, count_by, Option, Some, None, Result, Ok, Err}
 use Rattle.tftp_wire.specs.declared.mode.Mode.{Mode}
 use Rattle.tftp_wire.specs.Spelling.{Spells}
 use Rattle.tftp_wire.specs.declared.packet.Packet.{Packet}
@@ -9,11 +9,16 @@ use Rattle.tftp_ends.specs.End.{is_client}
 use Rattle.tftp_server.specs.Port.{Ask, Service, answered, asks}
 use Rattle.tftp_server.specs.Store.{measured}
 use Rattle.tftp_player.specs.Machine.{Endpoint}
-use Rattle.tftp_player.specs.World.{WorldState, OpenedEnd, file_at, in_the_way, is_closed, peer_of}
+use Rattle.tftp_player.specs.World.{WorldState, OpenEnd, WorldEnd, Open_end, Closed_end, file_at, in_the_way, peer_of}
 
--- how many transfers the server holds: its ends that are not closed
-abbrev pub open_transfers : List OpenedEnd → ℕ
-open_transfers ends = count_by (λ x. not (is_client x.state.role.side) && not (is_closed x)) ends
+-- an open end of the server
+abbrev pub is_transfer : WorldEnd → Bool
+is_transfer (Open_end x) = not (is_client x.state.role.side)
+is_transfer (Closed_end x) = false
+
+-- how many transfers the server holds
+abbrev pub open_transfers : List WorldEnd → ℕ
+open_transfers ends = count_by is_transfer ends
 
 -- the length of the file that is opened, as it is counted, which a program stops counting where no block size could carry
 -- the file
@@ -35,19 +40,23 @@ served w ask =
 abbrev pub service : WorldState → Bool → List ℕ → Option Packet → Service
 service w repeated bytes decoded = served w (asks w.cap (open_transfers w.ends) repeated w.limits bytes decoded)
 
--- an open end of the server was asked for from there by a datagram that spells this packet
-pub record Repeats (from : Endpoint) (packet : Packet) (x : OpenedEnd) : Type 0 where
+-- an end of the server was asked for from there by a datagram that spells this packet
+pub record WasAskedBy (from : Endpoint) (packet : Packet) (x : OpenEnd) : Type 0 where
   pub server : is_client x.state.role.side ≡ false
-  pub still : is_closed x ≡ false
   pub peer : peer_of x.state.progress.phase ≡ Some from
   pub same : Spells packet x.request
 
+-- it is open
+abbrev pub Repeats : Endpoint → Packet → WorldEnd → Type 0
+Repeats from packet (Open_end x) = WasAskedBy from packet x
+Repeats from packet (Closed_end x) = ⊥
+
 -- one of the ends was
-abbrev pub AnyRepeats : Endpoint → Packet → List OpenedEnd → Type 0
+abbrev pub AnyRepeats : Endpoint → Packet → List WorldEnd → Type 0
 AnyRepeats from packet [] = ⊥
 AnyRepeats from packet (x ∷ ends) = Repeats from packet x ⊎ AnyRepeats from packet ends
 
 -- whether a datagram repeats the request of an open transfer
-abbrev pub IsRepeated : Bool → Endpoint → Option Packet → List OpenedEnd → Type 0
+abbrev pub IsRepeated : Bool → Endpoint → Option Packet → List WorldEnd → Type 0
 IsRepeated repeated from None ends = repeated ≡ false
 IsRepeated repeated from (Some packet) ends = IsTrue repeated ↔ AnyRepeats from packet ends

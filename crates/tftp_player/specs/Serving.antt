@@ -45,22 +45,22 @@ pub record ServedKept (port : ℕ) (s : Served) (held : List (ℕ × Transfer)) 
   pub path : transfer.path ≡ s.path
 
 -- the server's end with its record and its draft, if it has closed
-abbrev pub rested_served : Bool → Record → Option Drafted → Served → Served
-rested_served true r draft s = record s { draft = draft; ended = Some r }
-rested_served false r draft s = s
+abbrev pub concluded_served : Bool → Record → Option Drafted → Served → Served
+concluded_served true r draft s = record s { draft = draft; ended = Some r }
+concluded_served false r draft s = s
 
 -- the transfers without the one at the port, if it has closed
-abbrev pub rested_held : Bool → ℕ → List (ℕ × Transfer) → List (ℕ × Transfer)
-rested_held true port held = without port held
-rested_held false port held = held
+abbrev pub concluded_held : Bool → ℕ → List (ℕ × Transfer) → List (ℕ × Transfer)
+concluded_held true port held = without port held
+concluded_held false port held = held
 
 -- an end of the server, which was so, made a turn: its transfer is this now, and the store that
 pub record ServedTurns (port : ℕ) (old new : Served) (before after : PlayedServer) (e : EndState) (turn : Turn) (next : Transfer) (refuses : Bool) (store : Stored) (effect : Effect) (r : Record) : Type 0 where
   pub end : next.end ≡ after_turn e turn
   pub effects : effect ≡ effect_of (server_at port) turn
   pub recorded : r ≡ record_of (after_turn e turn)
-  pub served : new ≡ rested_served (is_some (outcome_of turn.progress.phase)) r (draft_of next.files) (record old { refuses = refuses })
-  pub server : after ≡ record before { store = store; held = rested_held (is_some (outcome_of turn.progress.phase)) port (with_next port next before.held) }
+  pub served : new ≡ concluded_served (is_some (outcome_of turn.progress.phase)) r (draft_of next.files) (record old { refuses = refuses })
+  pub server : after ≡ record before { store = store; held = concluded_held (is_some (outcome_of turn.progress.phase)) port (with_next port next before.held) }
 
 -- a timeout did
 abbrev pub ServedTimeoutStep : ℕ → Served → Served → PlayedServer → PlayedServer → Effect → Record → Type 0
@@ -91,5 +91,5 @@ ClosesAs closed (Some h) = closed ≡ outcome_of h.end.progress.phase
 abbrev pub Concludes : ℕ → Option Transfer → Served → Served → PlayedServer → PlayedServer → Type 0
 Concludes port None old new before after = ⊥
 Concludes port (Some h) old new before after =
-    (new ≡ rested_served (server.is_closed h) (record_of h.end) (draft_of h.files) old)
-    × (after ≡ record before { held = rested_held (server.is_closed h) port before.held })
+    (new ≡ concluded_served (server.is_closed h) (record_of h.end) (draft_of h.files) old)
+    × (after ≡ record before { held = concluded_held (server.is_closed h) port before.held })

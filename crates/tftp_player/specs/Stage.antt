@@ -12,7 +12,7 @@ use Rattle.tftp_player.specs.PlayedClient.{PlayedClient}
 use Rattle.tftp_player.specs.Serving.{PlayedServer, Transfer}
 use Rattle.tftp_player.specs.Requests.{open_transfers}
 use Rattle.tftp_player.specs.Machine.{Endpoint}
-use Rattle.tftp_player.specs.World.{WorldState, OpenedEnd, StoredFile, file_at, in_the_way, is_closed, files_of, end_after, has_committed, at_rest}
+use Rattle.tftp_player.specs.World.{WorldState, OpenEnd, ClosedEnd, WorldEnd, Open_end, Closed_end, end_record, end_address, end_stored, end_committed, StoredFile, file_at, in_the_way, files_of, end_after, has_committed, standing}
 use Rattle.tftp_player.specs.WorldSteps.{EndStep, FilesAfter}
 use Rattle.tftp_server.specs.declared.config.Config.{Config}
 use Rattle.tftp_player.specs.declared.datagram.Datagram.{Datagram}
@@ -24,7 +24,7 @@ use Rattle.tftp_player.specs.declared.report.Report.{Report}
 use Rattle.tftp_player.specs.declared.served.Served.{Served}
 
 -- the ends
-abbrev pub ends_of : PlayedServer → List Player → List OpenedEnd
+abbrev pub ends_of : PlayedServer → List Player → List WorldEnd
 ends_of server players = ends_from 1024 server.held players
 
 -- the end at the port is an open one of the server
@@ -62,19 +62,19 @@ abbrev pub AreAsBefore : Ends → Ends → Type 0
 AreAsBefore old new = (new.server ≡ old.server) × (new.players.items ≡ old.players.items)
 
 -- the end at this place made a turn
-pub record EndTurns (place : ℕ) (x : OpenedEnd) (turn : Turn) (held : Files (List ℕ) Holding) (ends ends' : List OpenedEnd) (effect : Effect) : Type 0 where
+pub record EndTurns (place : ℕ) (x : OpenEnd) (turn : Turn) (held : Files (List ℕ) Holding) (ends ends' : List WorldEnd) (effect : Effect) : Type 0 where
   pub effects : effect ≡ effect_of x.address turn
-  pub next : ends' ≡ slice_set ends place (at_rest (end_after x turn held))
+  pub next : ends' ≡ slice_set ends place (standing (end_after x turn held))
 
--- the end at this place is closed, and nothing happened
-pub record EndRests (x : OpenedEnd) (ends ends' : List OpenedEnd) (effect : Effect) : Type 0 where
+-- the end there is closed, and nothing happened
+pub record EndStays (x : ClosedEnd) (ends ends' : List WorldEnd) (effect : Effect) : Type 0 where
   pub effects : effect ≡ no_effect x.address
   pub next : ends' ≡ ends
 
 -- the end at this place took a timeout, unless it is closed
-abbrev pub EndTimesOut : Bool → ℕ → OpenedEnd → List OpenedEnd → List OpenedEnd → Effect → Type 0
-EndTimesOut true place x ends ends' effect = EndRests x ends ends' effect
-EndTimesOut false place x ends ends' effect = EndTurns place x (timeout_turn x.state) (files_of x) ends ends' effect
+abbrev pub EndTimesOut : ℕ → WorldEnd → List WorldEnd → List WorldEnd → Effect → Type 0
+EndTimesOut place (Open_end x) ends ends' effect = EndTurns place x (timeout_turn x.state) (files_of x) ends ends' effect
+EndTimesOut place (Closed_end x) ends ends' effect = EndStays x ends ends' effect
 
 -- the server has the same files, and is set to the same
 pub record SameStore (before after : PlayedServer) : Type 0 where
@@ -83,25 +83,25 @@ pub record SameStore (before after : PlayedServer) : Type 0 where
 
 -- of all ends and the server, that came of a timeout of the end at this place
 pub record StageTimeoutStep (place : ℕ) (before after : PlayedServer) (players players' : List Player) (effect : Effect) : Type 0 where
-  pub end : OpenedEnd
+  pub end : WorldEnd
   pub found : slice_get (ends_of before players) place ≡ Some end
-  pub times_out : EndTimesOut (is_closed end) place end (ends_of before players) (ends_of after players') effect
+  pub times_out : EndTimesOut place end (ends_of before players) (ends_of after players') effect
   pub same : SameStore before after
 
 -- the end at a port
-abbrev pub opened_at : List OpenedEnd → ℕ → Option OpenedEnd
+abbrev pub opened_at : List WorldEnd → ℕ → Option WorldEnd
 opened_at ends port = if nat_lt port 1024 then None else slice_get ends (port - 1024)
 
 -- what a receiver has stored
-abbrev pub stored_in : OpenedEnd → Option (List ℕ)
-stored_in x = if is_sender x.state.role.side then None else Some x.stored
+abbrev pub stored_in : WorldEnd → Option (List ℕ)
+stored_in x = if is_sender (end_record x).side then None else Some (end_stored x)
 
-abbrev pub stored_at : List OpenedEnd → ℕ → Option (List ℕ)
+abbrev pub stored_at : List WorldEnd → ℕ → Option (List ℕ)
 stored_at ends port = option_and_then stored_in (opened_at ends port)
 
 -- whether it is committed
-abbrev pub committed_at : List OpenedEnd → ℕ → Bool
-committed_at ends port = unwrap_or (option_map (λ (x : OpenedEnd). x.committed) (opened_at ends port)) false
+abbrev pub committed_at : List WorldEnd → ℕ → Bool
+committed_at ends port = unwrap_or (option_map end_committed (opened_at ends port)) false
 
 -- what is recorded is that the end is closed
 abbrev pub record_closed : Option (ℕ × Record) → Bool
@@ -126,12 +126,11 @@ pub record Enters (old : WorldState) (port : ℕ) (c : PlayedClient) (effect : E
   pub tells : report ≡ report_by old.sent effect
   pub is : new ≡ record old {
     sent = old.sent ++ said_by effect.from effect.to effect.bytes;
-    ends = old.ends ++ at_rest (client_end port c) ∷ [];
+    ends = old.ends ++ standing (client_end port c) ∷ [];
   }
 
 -- a datagram came to an end of this place and was taken; the server's files were these, and are those
-pub record DatagramAt (place : ℕ) (x : OpenedEnd) (from : Endpoint) (bytes : List ℕ) (overwrite : Bool) (files files' : List StoredFile) (ends ends' : List OpenedEnd) (effect : Effect) : Type 0 where
-  pub open_now : is_closed x ≡ false
+pub record DatagramAt (place : ℕ) (x : OpenEnd) (from : Endpoint) (bytes : List ℕ) (overwrite : Bool) (files files' : List StoredFile) (ends ends' : List WorldEnd) (effect : Effect) : Type 0 where
   pub turn : Turn
   pub held : Files (List ℕ) Holding
   pub steps : EndStep (is_client x.state.role.side) (in_the_way overwrite (file_at files x.path)) from bytes x.state (files_of x) turn held
@@ -139,17 +138,21 @@ pub record DatagramAt (place : ℕ) (x : OpenedEnd) (from : Endpoint) (bytes : L
   pub turns : EndTurns place x turn held ends ends' effect
 
 -- nothing came of it
-pub record LostAt (to : Endpoint) (files files' : List StoredFile) (ends ends' : List OpenedEnd) (effect : Effect) : Type 0 where
+pub record LostAt (to : Endpoint) (files files' : List StoredFile) (ends ends' : List WorldEnd) (effect : Effect) : Type 0 where
   pub effects : effect ≡ no_effect to
   pub next : ends' ≡ ends
   pub stays : files' ≡ files
 
+-- of the end at this place, by whether it is open
+abbrev pub EndTakes : ℕ → WorldEnd → Endpoint → Endpoint → List ℕ → Bool → List StoredFile → List StoredFile → List WorldEnd → List WorldEnd → Effect → Type 0
+EndTakes place (Open_end x) from to bytes overwrite files files' ends ends' effect = DatagramAt place x from bytes overwrite files files' ends ends' effect
+EndTakes place (Closed_end x) from to bytes overwrite files files' ends ends' effect = LostAt to files files' ends ends' effect
+
 -- of all ends and the server, that came of a datagram for the end at this place
 pub record StageDatagramStep (place : ℕ) (from to : Endpoint) (bytes : List ℕ) (before after : PlayedServer) (players players' : List Player) (effect : Effect) : Type 0 where
-  pub end : OpenedEnd
+  pub end : WorldEnd
   pub found : slice_get (ends_of before players) place ≡ Some end
-  pub comes : ((end.address ≢ to) × LostAt to before.store.files after.store.files (ends_of before players) (ends_of after players') effect)
-      ⊎ ((end.address ≡ to)
-      × (((is_closed end ≡ true) × LostAt to before.store.files after.store.files (ends_of before players) (ends_of after players') effect)
-      ⊎ DatagramAt place end from bytes before.config.overwrite before.store.files after.store.files (ends_of before players) (ends_of after players') effect))
+  pub comes : ((end_address end ≢ to) × LostAt to before.store.files after.store.files (ends_of before players) (ends_of after players') effect)
+      ⊎ ((end_address end ≡ to)
+      × EndTakes place end from to bytes before.config.overwrite before.store.files after.store.files (ends_of before players) (ends_of after players') effect)
   pub config : after.config ≡ before.config

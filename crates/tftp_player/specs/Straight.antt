@@ -16,7 +16,7 @@ use Rattle.tftp_ends.specs.Action.{Decodes}
 use Rattle.tftp_server.specs.Port.{Service, Sends, Takes}
 use Rattle.tftp_player.specs.Openings.{reading_client, writing_client}
 use Rattle.tftp_player.specs.Requests.{IsRepeated, service}
-use Rattle.tftp_player.specs.World.{WorldState, OpenedEnd, file_at}
+use Rattle.tftp_player.specs.World.{WorldState, OpenEnd, WorldEnd, file_at}
 use Rattle.tftp_player.specs.WorldKept.{IsOk}
 use Rattle.tftp_player.specs.WorldSafety.{IsComplete}
 use Rattle.tftp_player.specs.WorldSteps.{WorldStep, Settles}
@@ -47,7 +47,7 @@ AllTaken [] = ⊤
 AllTaken (report ∷ reports) = TookAll report.closed × AllTaken reports
 
 -- the server's port comes to this at the request of the client x
-pub record IsAccepted (w : WorldState) (x : OpenedEnd) (accepts : Service) : Type 0 where
+pub record IsAccepted (w : WorldState) (x : OpenEnd) (accepts : Service) : Type 0 where
   pub decoded : Option Packet
   pub says : Decodes x.state.progress.last_sent decoded
   pub repeated : Bool
@@ -72,8 +72,8 @@ write_count blocks = 2 + 2 * blocks
 
 -- both ends are complete, and so many datagrams were added
 pub record IsThrough (old new : WorldState) (count : ℕ) : Type 0 where
-  pub client : OpenedEnd
-  pub server : OpenedEnd
+  pub client : WorldEnd
+  pub server : WorldEnd
   pub client_at : slice_get new.ends (length old.ends) ≡ Some client
   pub server_at : slice_get new.ends (length old.ends + 1) ≡ Some server
   pub client_done : IsComplete client

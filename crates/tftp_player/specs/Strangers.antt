@@ -1,8 +1,8 @@
 -- What a datagram of neither host leaves of the ends of a world (RFC 1350, section 4).
 use Rattle.std.specs.Prelude.{◌≡◌, ◌≢◌, ℕ, Bool, true, List, slice_get, Some}
-use Rattle.tftp_ends.specs.End.{is_client, record_of}
+use Rattle.tftp_ends.specs.End.{is_client}
 use Rattle.tftp_player.specs.Machine.{Endpoint, At_server, Elsewhere, host_of}
-use Rattle.tftp_player.specs.World.{WorldState, OpenedEnd}
+use Rattle.tftp_player.specs.World.{WorldState, WorldEnd, end_record}
 use Rattle.tftp_player.specs.WorldKept.{IsOk}
 use Rattle.tftp_player.specs.WorldSafety.{IsIn, HasPeer}
 use Rattle.tftp_player.specs.WorldSteps.{WorldStep}
@@ -10,22 +10,22 @@ use Rattle.tftp_player.specs.declared.event.Event.TheVariants.{Stray}
 use Rattle.tftp_player.specs.declared.report.Report.{Report}
 
 -- no stranger is the peer of the end
-abbrev pub HasNoStranger : OpenedEnd → Type 0
+abbrev pub HasNoStranger : WorldEnd → Type 0
 HasNoStranger x = (p : Endpoint) → HasPeer x p → host_of p ≢ Elsewhere
 
 -- the end at place k is recorded as before
-abbrev pub IsRecordedSo : WorldState → ℕ → OpenedEnd → Type 0
-IsRecordedSo w k x = (y : OpenedEnd) × (slice_get w.ends k ≡ Some y) × (record_of y.state ≡ record_of x.state)
+abbrev pub IsRecordedSo : WorldState → ℕ → WorldEnd → Type 0
+IsRecordedSo w k x = (y : WorldEnd) × (slice_get w.ends k ≡ Some y) × (end_record y ≡ end_record x)
 
 -- a stray changes no record, but of an end that a stranger's own request opened
 abbrev pub StraysChangeNoRecord : Type 0
 StraysChangeNoRecord =
-    (strangers : Bool) (old new : WorldState) (from to : Endpoint) (bytes : List ℕ) (report : Report) (k : ℕ) (x : OpenedEnd) →
+    (strangers : Bool) (old new : WorldState) (from to : Endpoint) (bytes : List ℕ) (report : Report) (k : ℕ) (x : WorldEnd) →
     IsOk strangers old → WorldStep old (Stray from to bytes) report new → slice_get old.ends k ≡ Some x → HasNoStranger x →
     IsRecordedSo new k x
 
 -- a client's peer is at the server: no stranger is
 abbrev pub ClientsHaveServers : Type 0
 ClientsHaveServers =
-    (strangers : Bool) (w : WorldState) (x : OpenedEnd) (p : Endpoint) →
-    IsOk strangers w → IsIn w x → is_client x.state.role.side ≡ true → HasPeer x p → host_of p ≡ At_server
+    (strangers : Bool) (w : WorldState) (x : WorldEnd) (p : Endpoint) →
+    IsOk strangers w → IsIn w x → is_client (end_record x).side ≡ true → HasPeer x p → host_of p ≡ At_server

@@ -1,5 +1,5 @@
 -- What every world keeps, and what makes it safe.
-use Rattle.std.specs.Prelude.{◌≡◌, ◌≢◌, ℕ, ◌*◌, ◌<◌, ◌≤◌, ◌⊎◌, Bool, true, false, List, [], map, length, drop, slice_get, Some}
+use Rattle.std.specs.Prelude.{◌≡◌, ◌≢◌, ℕ, ◌*◌, ◌<◌, ◌≤◌, ◌⊎◌, Bool, true, false, List, [], map, length, drop, slice_get, Some, None}
 use Rattle.std.specs.List.{Contains}
 use Rattle.tftp_wire.specs.declared.mode.Mode.{Mode}
 use Rattle.tftp_wire.specs.declared.mode.Mode.TheVariants.{Octet, Netascii}
@@ -12,20 +12,20 @@ use Rattle.tftp_file.specs.Netascii.{wire_text}
 use Rattle.tftp_ends.specs.declared.phase.Phase.{Phase}
 use Rattle.tftp_ends.specs.declared.phase.Phase.TheVariants.{Waiting, Sending, Receiving, Dallying, Closed}
 use Rattle.tftp_ends.specs.declared.phase.Terms.{Terms}
-use Rattle.tftp_ends.specs.End.{is_sender, is_client, is_complete}
+use Rattle.tftp_ends.specs.End.{is_sender, is_client, is_complete, outcome_of}
 use Rattle.tftp_player.specs.Machine.{Endpoint, Elsewhere, host_of, request_port, Message}
 use Rattle.tftp_player.specs.Rules.{message}
 use Rattle.tftp_player.specs.Said.{said}
 use Rattle.tftp_player.specs.Shows.{IsShown}
-use Rattle.tftp_player.specs.World.{WorldState, OpenedEnd, file_at, is_closed, datagram, view_of_end}
+use Rattle.tftp_player.specs.World.{WorldState, OpenEnd, ClosedEnd, WorldEnd, Open_end, Closed_end, end_record, end_path, end_stored, file_at, datagram, view_of_end}
 use Rattle.tftp_player.specs.declared.datagram.Datagram.{Datagram}
 
 -- the wire text of a sender's file
-abbrev pub sent_text : OpenedEnd → List ℕ
+abbrev pub sent_text : OpenEnd → List ℕ
 sent_text x = wire_text x.state.role.mode x.file
 
 -- a sender whose newest block is this one: its source has left what the text holds behind it
-pub record IsUnderWay (x : OpenedEnd) (terms : Terms) (number : ℕ) : Type 0 where
+pub record IsUnderWay (x : OpenEnd) (terms : Terms) (number : ℕ) : Type 0 where
   pub sender : is_sender x.state.role.side ≡ true
   pub positive : 0 < terms.size
   pub size : terms.size ≤ 65464
@@ -37,7 +37,7 @@ pub record IsUnderWay (x : OpenedEnd) (terms : Terms) (number : ℕ) : Type 0 wh
   pub measured : x.state.role.length ≡ length (sent_text x)
 
 -- what holds of an end in this phase
-abbrev pub PhaseKept : OpenedEnd → Phase → Type 0
+abbrev pub PhaseKept : OpenEnd → Phase → Type 0
 PhaseKept x (Waiting asked limit) =
     (is_client x.state.role.side ≡ true) × IsAskable asked × (x.state.progress.last_sent_to ≡ request_port) × (x.left ≡ sent_text x)
     × (is_sender x.state.role.side ≡ false → x.state.progress.held ≡ [])
@@ -53,20 +53,34 @@ HeldFits Octet held = held ≡ []
 HeldFits Netascii held = Unit {0}
 
 -- what holds of an end, whatever was sent
-pub record EndKept (x : OpenedEnd) : Type 0 where
+pub record EndKept (x : OpenEnd) : Type 0 where
   pub phase : PhaseKept x x.state.progress.phase
   pub held : HeldFits x.state.role.mode x.state.progress.held
   -- a receiver has committed what it stored exactly if it is complete
   pub committed : is_sender x.state.role.side ≡ false → x.committed ≡ is_complete x.state.progress.phase
 
--- what holds of an end in its world
-pub record IsKeptIn (w : WorldState) (x : OpenedEnd) : Type 0 where
+-- what holds of an open end in its world
+pub record IsOpenIn (w : WorldState) (x : OpenEnd) : Type 0 where
+  pub still : outcome_of x.state.progress.phase ≡ None
   pub kept : EndKept x
-  -- the last datagram sent of an open end was sent
-  pub last_sent : is_closed x ≡ false → Contains w.sent (datagram x.address x.state.progress.last_sent_to x.state.progress.last_sent)
+  -- its last datagram was sent
+  pub last_sent : Contains w.sent (datagram x.address x.state.progress.last_sent_to x.state.progress.last_sent)
+
+-- a closed receiver has committed what it stored exactly if it is complete
+abbrev pub ClosedKept : ClosedEnd → Type 0
+ClosedKept x = is_sender x.recorded.side ≡ false → x.committed ≡ x.recorded.complete
+
+-- what holds of an end, open or closed
+abbrev pub StandsIn : WorldState → WorldEnd → Type 0
+StandsIn w (Open_end x) = IsOpenIn w x
+StandsIn w (Closed_end x) = ClosedKept x
+
+-- what holds of an end in its world
+pub record IsKeptIn (w : WorldState) (x : WorldEnd) : Type 0 where
+  pub stands : StandsIn w x
   -- what a complete receiver stored stands under its path at the server, where no write replaces it
-  pub stored : w.overwrite ≡ false → is_client x.state.role.side ≡ false → is_sender x.state.role.side ≡ false → is_complete x.state.progress.phase ≡ true →
-      file_at w.files x.path ≡ Some x.stored
+  pub stored : w.overwrite ≡ false → is_client (end_record x).side ≡ false → is_sender (end_record x).side ≡ false → (end_record x).complete ≡ true →
+      file_at w.files (end_path x) ≡ Some (end_stored x)
 
 -- the datagram says this
 pub record SaysSo (d : Datagram) (m : Message) : Type 0 where
@@ -90,4 +104,4 @@ pub record IsOk (strangers : Bool) (w : WorldState) : Type 0 where
       ((d : Datagram) × Contains w.sent d × SaysSo d m) ⊎ (host_of m.from ≡ Elsewhere)
   pub speakers : (m : Message) → Contains messages m → MaySpeak strangers m.from
   pub max_block : IsBlockSize w.limits.max_block
-  pub ends : (k : ℕ) (x : OpenedEnd) → slice_get w.ends k ≡ Some x → IsKeptIn w x
+  pub ends : (k : ℕ) (x : WorldEnd) → slice_get w.ends k ≡ Some x → IsKeptIn w x

@@ -1,60 +1,60 @@
 -- When a world is safe, in the bytes of its hosts.
 use Rattle.std.specs.Prelude.{◌≡◌, ◌≢◌, ℕ, true, false, [], slice_get, Some, None}
 use Rattle.tftp_file.specs.Block.{IsBeginningOf}
-use Rattle.tftp_ends.specs.End.{is_sender, is_client, terms_of, is_complete, size_of}
+use Rattle.tftp_ends.specs.End.{is_sender, is_client}
 use Rattle.tftp_player.specs.Machine.{Endpoint, Elsewhere, host_of}
-use Rattle.tftp_player.specs.World.{WorldState, OpenedEnd, file_at, peer_of}
+use Rattle.tftp_player.specs.World.{WorldState, WorldEnd, end_record, end_address, end_path, end_file, end_stored, end_committed, file_at}
 
 -- the end was opened in this world
-abbrev pub IsIn : WorldState → OpenedEnd → Type 0
+abbrev pub IsIn : WorldState → WorldEnd → Type 0
 IsIn w x = (k : ℕ) × (slice_get w.ends k ≡ Some x)
 
 -- the end has this endpoint as its peer
-abbrev pub HasPeer : OpenedEnd → Endpoint → Type 0
-HasPeer x p = peer_of x.state.progress.phase ≡ Some p
+abbrev pub HasPeer : WorldEnd → Endpoint → Type 0
+HasPeer x p = (end_record x).peer ≡ Some p
 
 -- the end receives
-abbrev pub IsReceiver : OpenedEnd → Type 0
-IsReceiver x = is_sender x.state.role.side ≡ false
+abbrev pub IsReceiver : WorldEnd → Type 0
+IsReceiver x = is_sender (end_record x).side ≡ false
 
 -- the end reports that it is complete
-abbrev pub IsComplete : OpenedEnd → Type 0
-IsComplete x = is_complete x.state.progress.phase ≡ true
+abbrev pub IsComplete : WorldEnd → Type 0
+IsComplete x = (end_record x).complete ≡ true
 
 -- y was opened at this endpoint
-abbrev pub IsEndAt : WorldState → Endpoint → OpenedEnd → Type 0
-IsEndAt w p y = IsIn w y × (y.address ≡ p)
+abbrev pub IsEndAt : WorldState → Endpoint → WorldEnd → Type 0
+IsEndAt w p y = IsIn w y × (end_address y ≡ p)
 
 -- y was opened at this endpoint, and sends
-abbrev pub IsSenderAt : WorldState → Endpoint → OpenedEnd → Type 0
-IsSenderAt w p y = IsEndAt w p y × (is_sender y.state.role.side ≡ true)
+abbrev pub IsSenderAt : WorldState → Endpoint → WorldEnd → Type 0
+IsSenderAt w p y = IsEndAt w p y × (is_sender (end_record y).side ≡ true)
 
 -- what holds of every world, whatever its network did; of a peer at neither host nothing is claimed
 pub record IsSafe (w : WorldState) : Type 0 where
   -- no two ends share an endpoint
-  pub unique : (x y : OpenedEnd) → IsIn w x → IsIn w y → x.address ≡ y.address → x ≡ y
+  pub unique : (x y : WorldEnd) → IsIn w x → IsIn w y → end_address x ≡ end_address y → x ≡ y
   -- an established transfer has one block size
-  pub same_size : (x y : OpenedEnd) → IsIn w x → IsIn w y → HasPeer x y.address → HasPeer y x.address →
-      size_of (terms_of x.state.progress.phase) ≡ size_of (terms_of y.state.progress.phase)
+  pub same_size : (x y : WorldEnd) → IsIn w x → IsIn w y → HasPeer x (end_address y) → HasPeer y (end_address x) →
+      (end_record x).size ≡ (end_record y).size
   -- a receiver without a peer has stored nothing
-  pub is_empty : (x : OpenedEnd) → IsIn w x → IsReceiver x → peer_of x.state.progress.phase ≡ None → x.stored ≡ []
+  pub is_empty : (x : WorldEnd) → IsIn w x → IsReceiver x → (end_record x).peer ≡ None → end_stored x ≡ []
   -- what a receiver has stored is a beginning of its peer's file
-  pub is_beginning : (x : OpenedEnd) (p : Endpoint) → IsIn w x → IsReceiver x → HasPeer x p → host_of p ≢ Elsewhere →
-      (y : OpenedEnd) × IsSenderAt w p y × IsBeginningOf x.stored y.file
+  pub is_beginning : (x : WorldEnd) (p : Endpoint) → IsIn w x → IsReceiver x → HasPeer x p → host_of p ≢ Elsewhere →
+      (y : WorldEnd) × IsSenderAt w p y × IsBeginningOf (end_stored x) (end_file y)
   -- a receiver that is complete has committed what it stored
-  pub is_committed : (x : OpenedEnd) → IsIn w x → IsReceiver x → IsComplete x → x.committed ≡ true
+  pub is_committed : (x : WorldEnd) → IsIn w x → IsReceiver x → IsComplete x → end_committed x ≡ true
   -- which is all of its peer's file
-  pub is_whole : (x : OpenedEnd) → IsIn w x → IsReceiver x → IsComplete x →
+  pub is_whole : (x : WorldEnd) → IsIn w x → IsReceiver x → IsComplete x →
       (p : Endpoint) × HasPeer x p
-      × (host_of p ≢ Elsewhere → (y : OpenedEnd) × IsSenderAt w p y × (x.stored ≡ y.file))
+      × (host_of p ≢ Elsewhere → (y : WorldEnd) × IsSenderAt w p y × (end_stored x ≡ end_file y))
   -- and which at the server stands under its path, unless a later write may have replaced it
-  pub is_at_path : w.overwrite ≡ false → (x : OpenedEnd) → IsIn w x → IsReceiver x → IsComplete x → is_client x.state.role.side ≡ false →
-      file_at w.files x.path ≡ Some x.stored
+  pub is_at_path : w.overwrite ≡ false → (x : WorldEnd) → IsIn w x → IsReceiver x → IsComplete x → is_client (end_record x).side ≡ false →
+      file_at w.files (end_path x) ≡ Some (end_stored x)
   -- a sender that is complete has a peer, which has it as its own peer and is complete
-  pub sender_last : (x : OpenedEnd) → IsIn w x → is_sender x.state.role.side ≡ true → IsComplete x →
+  pub sender_last : (x : WorldEnd) → IsIn w x → is_sender (end_record x).side ≡ true → IsComplete x →
       (p : Endpoint) × HasPeer x p
-      × (host_of p ≢ Elsewhere → (y : OpenedEnd) × IsEndAt w p y × HasPeer y x.address × IsComplete y)
+      × (host_of p ≢ Elsewhere → (y : WorldEnd) × IsEndAt w p y × HasPeer y (end_address x) × IsComplete y)
 
 -- every peer is at one of the two hosts, so that all this is claimed of every transfer
 abbrev pub HasPeersAtHome : WorldState → Type 0
-HasPeersAtHome w = (x : OpenedEnd) (p : Endpoint) → IsIn w x → HasPeer x p → host_of p ≢ Elsewhere
+HasPeersAtHome w = (x : WorldEnd) (p : Endpoint) → IsIn w x → HasPeer x p → host_of p ≢ Elsewhere

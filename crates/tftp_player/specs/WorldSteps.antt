@@ -11,7 +11,7 @@ use Rattle.tftp_ends.specs.End.{EndState, is_sender, is_client}
 use Rattle.tftp_ends.specs.Action.{Decodes}
 use Rattle.tftp_ends.specs.Step.{Turn, DatagramStep, timeout_turn, error_bytes}
 use Rattle.tftp_player.specs.Machine.{Endpoint, Elsewhere, host_of, request_port}
-use Rattle.tftp_player.specs.World.{StoredFile, file_at, in_the_way, OpenedEnd, WorldState, next_port, is_closed, datagram, files_of, end_after, has_committed, world_after, report_of, no_report, opened_in, said_in, sent_report}
+use Rattle.tftp_player.specs.World.{StoredFile, file_at, in_the_way, OpenEnd, ClosedEnd, WorldEnd, Open_end, Closed_end, end_address, WorldState, next_port, datagram, files_of, end_after, has_committed, world_after, report_of, no_report, opened_in, said_in, sent_report}
 use Rattle.tftp_player.specs.Openings.{reading_client, writing_client, MayGet, MayPut, sending_end, receiving_end}
 use Rattle.tftp_server.specs.Port.{Service, Silent, Refused, Sends, Takes}
 use Rattle.tftp_player.specs.Requests.{IsRepeated, service}
@@ -62,7 +62,7 @@ FilesAfter overwrite true path bytes old new = IsStored overwrite path bytes old
 FilesAfter overwrite false path bytes old new = new ≡ old
 
 -- the end at place k has made this turn of an event, and its file is this now
-pub record Turns (old : WorldState) (k : ℕ) (x : OpenedEnd) (turn : Turn) (held : Files (List ℕ) Holding) (report : Report) (new : WorldState) : Type 0 where
+pub record Turns (old : WorldState) (k : ℕ) (x : OpenEnd) (turn : Turn) (held : Files (List ℕ) Holding) (report : Report) (new : WorldState) : Type 0 where
   pub files : List StoredFile
   pub stored : FilesAfter old.overwrite (not (is_client x.state.role.side) && has_committed x (end_after x turn held)) x.path (end_after x turn held).stored old.files files
   pub tells : report ≡ report_of old x turn
@@ -74,7 +74,7 @@ pub record Stays (old : WorldState) (report : Report) (new : WorldState) : Type 
   pub is : new ≡ old
 
 -- an end opened, and sent its first datagram
-pub record Opens (old : WorldState) (x : OpenedEnd) (report : Report) (new : WorldState) : Type 0 where
+pub record Opens (old : WorldState) (x : OpenEnd) (report : Report) (new : WorldState) : Type 0 where
   pub tells : report ≡ sent_report old
   pub is : new ≡ opened_in old x
 
@@ -92,7 +92,7 @@ Serves (Sends path mode length agreed) old from bytes report new =
 Serves (Takes path mode agreed) old from bytes report new = Opens old (receiving_end old from bytes mode path agreed) report new
 
 -- a datagram came to an open end
-pub record OnDatagram (old : WorldState) (k : ℕ) (x : OpenedEnd) (from : Endpoint) (bytes : List ℕ) (report : Report) (new : WorldState) : Type 0 where
+pub record OnDatagram (old : WorldState) (k : ℕ) (x : OpenEnd) (from : Endpoint) (bytes : List ℕ) (report : Report) (new : WorldState) : Type 0 where
   pub turn : Turn
   pub held : Files (List ℕ) Holding
   pub steps : EndStep (is_client x.state.role.side) (in_the_way old.overwrite (file_at old.files x.path)) from bytes x.state (files_of x) turn held
@@ -105,26 +105,31 @@ pub data Arrives (old : WorldState) (from to : Endpoint) (bytes : List ℕ) (rep
       (repeated : Bool) → IsRepeated repeated from decoded old.ends →
       Serves (service old repeated bytes decoded) old from bytes report new → Arrives old from to bytes report new
   -- at an open end
-  At_open_end : (k : ℕ) (x : OpenedEnd) → slice_get old.ends k ≡ Some x → x.address ≡ to → is_closed x ≡ false →
+  At_open_end : (k : ℕ) (x : OpenEnd) → slice_get old.ends k ≡ Some (Open_end x) → x.address ≡ to →
       OnDatagram old k x from bytes report new → Arrives old from to bytes report new
   -- at a closed end
-  At_closed_end : (k : ℕ) (x : OpenedEnd) → slice_get old.ends k ≡ Some x → x.address ≡ to → is_closed x ≡ true →
+  At_closed_end : (k : ℕ) (x : ClosedEnd) → slice_get old.ends k ≡ Some (Closed_end x) → x.address ≡ to →
       Stays old report new → Arrives old from to bytes report new
   -- where nobody is
-  At_nobody : (to ≢ request_port) → ((k : ℕ) (x : OpenedEnd) → slice_get old.ends k ≡ Some x → x.address ≢ to) →
+  At_nobody : (to ≢ request_port) → ((k : ℕ) (x : WorldEnd) → slice_get old.ends k ≡ Some x → end_address x ≢ to) →
       Stays old report new → Arrives old from to bytes report new
 
 -- what a timeout does to the end at place k
-abbrev pub TimesOut : Bool → WorldState → ℕ → OpenedEnd → Report → WorldState → Type 0
-TimesOut true old k x report new = Stays old report new
-TimesOut false old k x report new = Turns old k x (timeout_turn x.state) (files_of x) report new
+abbrev pub TimesOut : WorldState → ℕ → WorldEnd → Report → WorldState → Type 0
+TimesOut old k (Open_end x) report new = Turns old k x (timeout_turn x.state) (files_of x) report new
+TimesOut old k (Closed_end x) report new = Stays old report new
 
--- an open receiver was told to refuse its next append or commit; another end cannot be told
-abbrev pub told_to_refuse : OpenedEnd → OpenedEnd
-told_to_refuse x = if is_sender x.state.role.side then x else if is_closed x then x else record x { refuses = true }
+-- a receiver was told to refuse its next append or commit; a sender cannot be told
+abbrev pub told_to_refuse : OpenEnd → OpenEnd
+told_to_refuse x = if is_sender x.state.role.side then x else record x { refuses = true }
+
+-- an end was told so; a closed one cannot be told
+abbrev pub told_end : WorldEnd → WorldEnd
+told_end (Open_end x) = Open_end (told_to_refuse x)
+told_end (Closed_end x) = Closed_end x
 
 -- the end at this port, whose place is k
-pub record IsAtPort (w : WorldState) (port k : ℕ) (x : OpenedEnd) : Type 0 where
+pub record IsAtPort (w : WorldState) (port k : ℕ) (x : WorldEnd) : Type 0 where
   pub is : port ≡ 1024 + k
   pub there : slice_get w.ends k ≡ Some x
 
@@ -137,10 +142,10 @@ WorldStep old (Put name mode asked bytes) report new =
 WorldStep old (Deliver i) report new =
     (d : Datagram) × (slice_get old.sent i ≡ Some d) × Arrives old d.from d.to d.bytes report new
 WorldStep old (Timeout port) report new =
-    (k : ℕ) × (x : OpenedEnd) × IsAtPort old port k x × TimesOut (is_closed x) old k x report new
+    (k : ℕ) × (x : WorldEnd) × IsAtPort old port k x × TimesOut old k x report new
 WorldStep old (RefuseStore port) report new =
-    (k : ℕ) × (x : OpenedEnd) × IsAtPort old port k x
-    × (report ≡ no_report) × (new ≡ record old { ends = slice_set old.ends k (told_to_refuse x) })
+    (k : ℕ) × (x : WorldEnd) × IsAtPort old port k x
+    × (report ≡ no_report) × (new ≡ record old { ends = slice_set old.ends k (told_end x) })
 WorldStep old (Stray from to bytes) report new = (host_of from ≡ Elsewhere) × Arrives old from to bytes report new
 
 -- the event finds a datagram of this place

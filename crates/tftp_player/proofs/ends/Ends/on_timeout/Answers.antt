@@ -1,11 +1,11 @@
 -- A timeout is a step of the end at its place, a client's or the server's.
 use Rattle.std.proofs.Common.{◌<◌, length, rules}
-use Rattle.tftp_player.proofs.PlayLemmas.{read_kept, read_open, records_within, rests_staged, times_out_staged, times_out_keeps}
+use Rattle.tftp_player.proofs.PlayLemmas.{read_kept, read_open, records_within, stays_staged, times_out_staged, times_out_keeps}
 use Rattle.tftp_player.proofs.ends.Ends.on_timeout.Goals as goal
 
 pub returns-then-is_recorded_closed-clause-times_out : goal.returns-then-is_recorded_closed-clause-times_out
 returns-then-is_recorded_closed-clause-times_out c =
-    rests_staged c.args.self.now.server c.args.self.now.players.items c.args.self.now.records.items c.args.place c.args.port c.index_mut-player.result.now c.requires.staged c.requires.place c.index_mut-player.ensures.value
+    stays_staged c.args.self.now.server c.args.self.now.players.items c.args.self.now.records.items c.args.place c.args.port c.index_mut-player.result.now c.requires.staged c.requires.place c.index_mut-player.ensures.value
     c.is_recorded_closed.result c.address.result _ c.is_recorded_closed.ensures c.if-is_recorded_closed.true c.address.ensures c.no_effect.ensures
 
 pub on_timeout-requires-clause-kept : goal.on_timeout-requires-clause-kept
