@@ -4,6 +4,7 @@ use Rattle.std.specs.Prelude.{slice_get, nat_lt, if◌then◌else◌}
 use Rattle.std.specs.List.{Contains}
 use Rattle.std.proofs.lemmas.List.{append-nil}
 use Rattle.std.proofs.lemmas.Bool.{true≢false}
+use Rattle.tftp_negotiate.specs.declared.limits.TheConstants.{DEFAULT_BLOCK}
 use Rattle.tftp_wire.specs.declared.packet.Request.{Request as WireRequest}
 use Rattle.tftp_file.specs.Block.{block, block_count, Fits, IsBeginningOf}
 use Rattle.tftp_player.specs.Machine.{Endpoint, server_ip, client_ip, At_server, At_client, Elsewhere, host_of, request_port, Packet, Request, Data, Ack, Oack, Error, Message, Party}
@@ -101,8 +102,8 @@ module _ (views : List EndView) (messages : List Message) (k : ℕ) (e : EndView
       (match_cut e.address (party_then rs (party_of e)) t (stays_open rs e.address messages (party_of e) refl turns) failed done b same)
 
   -- a waiting reader stores DATA 1
-  pub stores_first : (from : Endpoint) (bytes : List ℕ) → IsWaiting e from → e.sender ≡ false → HasCome messages e from (Data 1 bytes) → length bytes ≤ 512 →
-      IsShown (set views k (record e { peer = Some from; size = 512; number = 1; done = nat_lt (length bytes) 512; text = e.text ++ bytes })) (messages ++ says e from (Ack 1))
+  pub stores_first : (from : Endpoint) (bytes : List ℕ) → IsWaiting e from → e.sender ≡ false → HasCome messages e from (Data 1 bytes) → length bytes ≤ DEFAULT_BLOCK →
+      IsShown (set views k (record e { peer = Some from; size = DEFAULT_BLOCK; number = 1; done = nat_lt (length bytes) DEFAULT_BLOCK; text = e.text ++ bytes })) (messages ++ says e from (Ack 1))
   stores_first from bytes w r c l =
       let n = reader_begins e.sender r in
       let a = goes (Takes_data e.address from bytes ∷ Appends e.address from bytes ∷ []) w.0.1
@@ -110,8 +111,8 @@ module _ (views : List EndView) (messages : List Message) (k : ℕ) (e : EndView
       rw n at a
 
   -- a waiting reader refuses DATA 1, of which it stored a part at most
-  pub refuses_first : (from : Endpoint) (bytes t : List ℕ) → IsWaiting e from → e.sender ≡ false → HasCome messages e from (Data 1 bytes) → length bytes ≤ 512 → IsBeginningOf t (e.text ++ bytes) →
-      IsShown (set views k (record e { peer = Some from; size = 512; number = 0; failed = true; text = t })) (messages ++ says e from Error)
+  pub refuses_first : (from : Endpoint) (bytes t : List ℕ) → IsWaiting e from → e.sender ≡ false → HasCome messages e from (Data 1 bytes) → length bytes ≤ DEFAULT_BLOCK → IsBeginningOf t (e.text ++ bytes) →
+      IsShown (set views k (record e { peer = Some from; size = DEFAULT_BLOCK; number = 0; failed = true; text = t })) (messages ++ says e from Error)
   refuses_first from bytes t w r c l b =
       let n = reader_begins e.sender r in
       let a = goes_cut (Takes_data e.address from bytes ∷ Fails_with e.address from bytes ∷ Says_error e.address from ∷ []) t w.0.1
@@ -140,8 +141,8 @@ module _ (views : List EndView) (messages : List Message) (k : ℕ) (e : EndView
       rw (n, d) at a
 
   -- a waiting writer takes ACK 0
-  pub sends_first : (from : Endpoint) → IsWaiting e from → e.sender ≡ true → HasCome messages e from (Ack 0) → Fits e.text 512 →
-      IsShown (set views k (record e { peer = Some from; size = 512; number = 1 })) (messages ++ says e from (Data 1 (block e.text 512 1)))
+  pub sends_first : (from : Endpoint) → IsWaiting e from → e.sender ≡ true → HasCome messages e from (Ack 0) → Fits e.text DEFAULT_BLOCK →
+      IsShown (set views k (record e { peer = Some from; size = DEFAULT_BLOCK; number = 1 })) (messages ++ says e from (Data 1 (block e.text DEFAULT_BLOCK 1)))
   sends_first from w r c fits =
       let n = writer_begins e.sender r in
       let a = goes (Takes_ack e.address from ∷ []) w.0.1
@@ -208,10 +209,10 @@ asks views messages h a write request text ip port none =
 
 -- a request opens an end at the server, with no options
 pub serves_plainly : (views : List EndView) (messages : List Message) → IsShown views messages → (a peer : Endpoint) (write : Bool) (request : WireRequest) (text : List ℕ) →
-    a.ip ≡ server_ip → a.port ≡ 1024 + length views → Contains messages (message peer request_port (Request write request)) → HasText write text 512 →
-    IsShown (views ++ view_of a (opened true peer write request text 512 (if write then 0 else 1)) ∷ []) (messages ++ message a peer (if write then Ack 0 else Data 1 (block text 512 1)) ∷ [])
+    a.ip ≡ server_ip → a.port ≡ 1024 + length views → Contains messages (message peer request_port (Request write request)) → HasText write text DEFAULT_BLOCK →
+    IsShown (views ++ view_of a (opened true peer write request text DEFAULT_BLOCK (if write then 0 else 1)) ∷ []) (messages ++ message a peer (if write then Ack 0 else Data 1 (block text DEFAULT_BLOCK 1)) ∷ [])
 serves_plainly views messages h a peer write request text ip port c has =
-    let x = opened true peer write request text 512 (if write then 0 else 1) in
+    let x = opened true peer write request text DEFAULT_BLOCK (if write then 0 else 1) in
     shown_opens views messages (view_of a x) (Opens_plainly a peer write request text) h tt (refl, host_server a ip, c, has) refl port (match_self a x refl)
 
 -- a request opens an end at the server, with options

@@ -4,6 +4,7 @@ use Rattle.std.specs.Prelude.{◌⊎◌, ◌==◌, if◌then◌else◌, not, nat
 use Rattle.std.specs.List.{Contains}
 use Rattle.std.proofs.lemmas.Bool.{true≢false, leb-true, eq-eqb}
 use Rattle.std.proofs.lemmas.List.{append-nil}
+use Rattle.tftp_wire.specs.declared.limits.TheConstants.{MAX_REQUEST}
 use Rattle.tftp_wire.specs.declared.packet.Packet.{Packet as WirePacket}
 use Rattle.tftp_wire.specs.Spelling.{Spells, IsValid, canonical}
 use Rattle.tftp_wire.specs.Texts.{IsText}
@@ -76,7 +77,7 @@ code_fits UnknownTransferId = refl
 code_fits FileExists = refl
 code_fits OptionRefused = refl
 
-is_short : (r : ErrorReply) → nat_le (length (canonical (error_packet r))) 512 ≡ true
+is_short : (r : ErrorReply) → nat_le (length (canonical (error_packet r))) MAX_REQUEST ≡ true
 is_short FileTooLarge = refl
 is_short ServerBusy = refl
 is_short FileChanged = refl
@@ -93,7 +94,7 @@ is_short OptionRefused = refl
 pub valid_error : (r : ErrorReply) → IsValid (error_packet r)
 valid_error r =
     let c = leb-true (code_of r) 8 (code_fits r) in
-    (omega (arith, c), text_from (text_of r) (text_is r), leb-true (length (canonical (error_packet r))) 512 (is_short r))
+    (omega (arith, c), text_from (text_of r) (text_is r), leb-true (length (canonical (error_packet r))) MAX_REQUEST (is_short r))
 
 -- what an answer says
 abbrev pub Replies : Endpoint → Option Reply → List Message → Type 0

@@ -2,6 +2,7 @@
 use Rattle.std.proofs.Common.{◌≡◌, ◌+◌, true, false, [], ◌∷◌, ◌++◌, length, Some, None, sym, refl, ◌∙◌, arith, inl, inr}
 use Rattle.std.specs.Prelude.{if◌then◌else◌, nat_lt}
 use Rattle.std.proofs.lemmas.Bool.{true≢false, cases_Bool}
+use Rattle.tftp_negotiate.specs.declared.limits.TheConstants.{DEFAULT_BLOCK}
 use Rattle.tftp_file.specs.Block.{block}
 use Rattle.tftp_player.specs.Machine.{Data, Ack, Oack, Error, Machine, with_end}
 use Rattle.tftp_player.specs.Rules.{Rule, Asks, Opens_plainly, Opens_with, Takes_oack, Takes_ack, Takes_data, Appends, Sends_next, Completes, Fails, Fails_with, Says_error, Repeats, Strays, message, taken, Guard, after}
@@ -14,10 +15,10 @@ use Rattle.tftp_player.proofs.Moving.{received_more, received_failed, receives, 
 pub keeps : (r : Rule) (m : Machine) → Holds m → Guard r m → Holds (after r m)
 keeps (Asks at write request text) m h g = asks m h at write request text g
 keeps (Opens_plainly at peer true request text) m h g =
-    opens m h at peer true true request text 512 0 g.0 g.1 g.2 (omega arith) (λ _. refl) (λ _. refl) (λ _. (g.3, refl)) (Ack 0)
+    opens m h at peer true true request text DEFAULT_BLOCK 0 g.0 g.1 g.2 (omega arith) (λ _. refl) (λ _. refl) (λ _. (g.3, refl)) (Ack 0)
     (record { is_open = refl; sender = refl; peer = refl; number = omega arith; plain = λ _ _. refl })
 keeps (Opens_plainly at peer false request text) m h g =
-    opens m h at peer false true request text 512 1 g.0 g.1 g.2 (omega arith) (λ _. refl) (λ e. cc) (λ e. cc) (Data 1 (block text 512 1))
+    opens m h at peer false true request text DEFAULT_BLOCK 1 g.0 g.1 g.2 (omega arith) (λ _. refl) (λ e. cc) (λ e. cc) (Data 1 (block text DEFAULT_BLOCK 1))
     (record { is_open = refl; sender = refl; peer = refl; first = omega arith; number = omega arith; bytes = refl })
 keeps (Opens_with at peer true request text size) m h g =
     opens m h at peer true false request text size 0 g.0 g.1 g.2 g.4 (λ e. cc) (λ _. refl) (λ _. (g.3, refl)) (Oack size)
@@ -36,8 +37,8 @@ keeps (Takes_ack at peer) m h g =
     let t = h.told (message peer at (Ack 0)) g.2 (own_server peer w.3) in
     let x = m.party at in
     let c = server_end m h peer t.is_open w.3 in
-    takes m h at peer 512 w t.is_open c t.peer ((h.ends peer t.is_open).plain c (t.plain refl c)) (message at peer (Data 1 (block x.text 512 1)) ∷ [])
-    (told_one m.party at (taken x peer 512) peer (Data 1 (block x.text 512 1))
+    takes m h at peer DEFAULT_BLOCK w t.is_open c t.peer ((h.ends peer t.is_open).plain c (t.plain refl c)) (message at peer (Data 1 (block x.text DEFAULT_BLOCK 1)) ∷ [])
+    (told_one m.party at (taken x peer DEFAULT_BLOCK) peer (Data 1 (block x.text DEFAULT_BLOCK 1))
     (record { is_open = w.0.0; sender = g.1; peer = refl; first = omega arith; number = rw g.1 (omega arith); bytes = refl }))
 keeps (Takes_data at peer bytes) m h g =
     let w = g.0 in
@@ -45,11 +46,11 @@ keeps (Takes_data at peer bytes) m h g =
     let x = m.party at in
     let c = server_end m h peer t.is_open w.3 in
     let s = h.ends peer t.is_open in
-    let small : (m.party peer).size ≡ 512 = elim (cases_Bool (m.party peer).plain) [
+    let small : (m.party peer).size ≡ DEFAULT_BLOCK = elim (cases_Bool (m.party peer).plain) [
       | inl p ↦ s.plain c p
       | inr p ↦ absurd (let k : Some peer ≡ None = sym (s.begun c t.sender p t.number at t.peer (own_of m h at w.0.0)) ∙ w.2 in cc)
     ] in
-    takes m h at peer 512 w t.is_open c t.peer small [] (told_none (with_end m.party at (taken x peer 512)))
+    takes m h at peer DEFAULT_BLOCK w t.is_open c t.peer small [] (told_none (with_end m.party at (taken x peer DEFAULT_BLOCK)))
 keeps (Appends at peer bytes) m h g =
     let x = m.party at in
     let y = record x { number = x.number + 1; done = nat_lt (length bytes) x.size; text = x.text ++ bytes } in

@@ -1,19 +1,21 @@
 -- The length of a file as it is counted is its length, where its blocks can be numbered.
-use Rattle.std.proofs.Common.{◌≡◌, ℕ, ◌*◌, ◌<◌, ◌≤◌, List, length, arith}
+use Rattle.std.proofs.Common.{◌≡◌, ◌+◌, ℕ, ◌*◌, ◌<◌, ◌≤◌, List, length, arith}
 use Rattle.std.specs.Prelude.{min}
+use Rattle.tftp_file.specs.declared.length.TheConstants.{MAX_WIRE}
+use Rattle.tftp_wire.specs.declared.limits.TheConstants.{MAX_BLOCK}
 use Rattle.tftp_wire.specs.declared.mode.Mode.{Mode}
 use Rattle.tftp_file.specs.Block.{Fits}
 use Rattle.tftp_file.specs.Netascii.{wire_text}
 use Rattle.tftp_server.specs.Store.{measured}
 
 -- a length that was counted to the end is the whole
-counted_whole : (n size : ℕ) → size ≤ 65464 → min n 4290183240 < 65535 * size → min n 4290183240 ≡ n
+counted_whole : (n size : ℕ) → size ≤ MAX_BLOCK → min n (MAX_WIRE + 1) < 65535 * size → min n (MAX_WIRE + 1) ≡ n
 counted_whole n size small few = omega arith
 
 -- the length of a file whose blocks can be numbered was counted to the end
-pub measured_whole : (mode : Mode) (file : List ℕ) (size : ℕ) → size ≤ 65464 → measured mode file < 65535 * size → measured mode file ≡ length (wire_text mode file)
+pub measured_whole : (mode : Mode) (file : List ℕ) (size : ℕ) → size ≤ MAX_BLOCK → measured mode file < 65535 * size → measured mode file ≡ length (wire_text mode file)
 measured_whole mode file size small few = counted_whole (length (wire_text mode file)) size small few
 
-pub measured_fits : (mode : Mode) (file : List ℕ) (size : ℕ) → size ≤ 65464 → measured mode file < 65535 * size → Fits (wire_text mode file) size
+pub measured_fits : (mode : Mode) (file : List ℕ) (size : ℕ) → size ≤ MAX_BLOCK → measured mode file < 65535 * size → Fits (wire_text mode file) size
 measured_fits mode file size small few =
     let whole = measured_whole mode file size small few in omega (arith, whole)

@@ -5,6 +5,7 @@ use Rattle.std.specs.List.{AllByRecursion}
 use Rattle.std.proofs.lemmas.Bool.{cases_eq}
 use Rattle.std.proofs.lemmas.List.{length-append}
 use Rattle.std.proofs.lemmas.Fmt.{length-decimal-le, decimal-digits_of, decimal_digit}
+use Rattle.tftp_wire.specs.declared.limits.TheConstants.{MAX_REQUEST}
 use Rattle.tftp_wire.specs.declared.mode.Mode.{Mode}
 use Rattle.tftp_wire.specs.declared.options.RawOption.{RawOption}
 use Rattle.tftp_wire.specs.declared.packet.Packet.TheVariants.{Oack}
@@ -115,4 +116,4 @@ valid_oack kind mode told limits options ks fits ok e some =
     let all = spelled_all ks words in
     let three = three_at_most kind mode told limits options ks ok e in
     let l = all.short in
-    (some_options ks some, all.options, (let n : suc (suc (length (options_bytes (agreed_options ks)))) ≤ 512 = omega (arith, l, three) in n))
+    (some_options ks some, all.options, (let n : suc (suc (length (options_bytes (agreed_options ks)))) ≤ MAX_REQUEST = omega (arith, l, three) in n))

@@ -3,6 +3,7 @@ use Rattle.std.proofs.Common.{◌≡◌, ℕ, ◌<◌, Bool, true, false, not, L
 use Rattle.std.specs.Prelude.{◌≢◌, if◌then◌else◌}
 use Rattle.std.specs.List.{Contains}
 use Rattle.std.proofs.lemmas.Bool.{true≢false, cond_both}
+use Rattle.tftp_negotiate.specs.declared.limits.TheConstants.{DEFAULT_BLOCK}
 use Rattle.tftp_wire.specs.declared.packet.Request.{Request as WireRequest}
 use Rattle.tftp_file.specs.Block.{block}
 use Rattle.tftp_player.specs.Machine.{Endpoint, At_server, Elsewhere, host_of, request_port, Packet, Request, Data, Ack, Message, Party, Machine, with_end}
@@ -33,7 +34,7 @@ asks m h at write request text g =
 
 pub opens : (m : Machine) → Holds m → (at peer : Endpoint) (write plain : Bool) (request : WireRequest) (text : List ℕ) (size number : ℕ) →
     (m.party at).is_open ≡ false → host_of at ≡ At_server → Contains m.sent (message peer request_port (Request write request)) → 0 < size →
-    (plain ≡ true → size ≡ 512) → (plain ≡ false → number ≡ 0) → (write ≡ true → (text ≡ []) × (number ≡ 0)) →
+    (plain ≡ true → size ≡ DEFAULT_BLOCK) → (plain ≡ false → number ≡ 0) → (write ≡ true → (text ≡ []) × (number ≡ 0)) →
     (k : Packet) → Told (opened plain peer write request text size number) peer k →
     Holds (record { sent = m.sent ++ message at peer k ∷ []; party = with_end m.party at (opened plain peer write request text size number) })
 opens m h at peer write plain request text size number closed server asks_so positive small begins empty k t =

@@ -4,6 +4,7 @@ use Rattle.std.specs.Prelude.{◌≢◌, if◌then◌else◌, nat_lt}
 use Rattle.std.specs.List.{Contains}
 use Rattle.std.proofs.lemmas.Bool.{true≢false, cases_eq}
 use Rattle.std.proofs.lemmas.List.Elements.{Contains-append_cases, Contains-append_left, Contains-push}
+use Rattle.tftp_negotiate.specs.declared.limits.TheConstants.{DEFAULT_BLOCK}
 use Rattle.tftp_file.specs.Block.{block, block_count}
 use Rattle.tftp_player.specs.Machine.{Endpoint, Elsewhere, host_of, request_port, Packet, Request, Data, Ack, Oack, Error, Message, Party, Machine, with_end, start}
 use Rattle.tftp_player.specs.Rules.{Rule, Asks, Opens_plainly, Opens_with, Takes_oack, Takes_ack, Takes_data, Appends, Sends_next, Completes, Fails, Fails_with, Says_error, Repeats, Strays, message, Waits, taken, opened, asking, Guard, after, IsLegal, run}
@@ -164,9 +165,9 @@ recorded_keeps (Sends_next at peer) m h r g =
     })
     (other (λ y p. IsFirstAck (m.sent ++ added) y (with_end m.party at x y) p) at peer k (λ e. cc))
 recorded_keeps (Opens_plainly at peer true request text) m h r g =
-    opens m h r at peer (opened true peer true request text 512 0) (Ack 0) g.0 refl refl (λ p e. cc) g.2 (λ e. cc) (λ _. refl)
+    opens m h r at peer (opened true peer true request text DEFAULT_BLOCK 0) (Ack 0) g.0 refl refl (λ p e. cc) g.2 (λ e. cc) (λ _. refl)
 recorded_keeps (Opens_plainly at peer false request text) m h r g =
-    opens m h r at peer (opened true peer false request text 512 1) (Data 1 (block text 512 1)) g.0 refl refl (λ p e. cc) g.2 (λ e. cc) (λ _. refl)
+    opens m h r at peer (opened true peer false request text DEFAULT_BLOCK 1) (Data 1 (block text DEFAULT_BLOCK 1)) g.0 refl refl (λ p e. cc) g.2 (λ e. cc) (λ _. refl)
 recorded_keeps (Opens_with at peer write request text size) m h r g =
     opens m h r at peer (opened false peer write request text size 0) (Oack size) g.0 refl refl (λ p e. cc)
     (subst (λ (b : Bool). Contains m.sent (message peer request_port (Request b request))) (sym (not-not write)) g.2) (λ _. (refl, refl)) (λ e. cc)
@@ -179,11 +180,11 @@ recorded_keeps (Takes_oack at peer size) m h r g =
     (λ c. absurd (true≢false (sym g.0.1 ∙ c)), λ c. Contains-append_left m.sent (d ∷ []) (message peer at (Oack size)) g.1)))
 recorded_keeps (Takes_ack at peer) m h r g =
     let x = m.party at in
-    let k = Data 1 (block x.text 512 1) in
-    takes m h r at peer 512 g.0 (message at peer k ∷ [])
-    (other (λ y p. IsFirstAck (m.sent ++ message at peer k ∷ []) y (with_end m.party at (taken x peer 512) y) p) at peer k (λ e. cc))
+    let k = Data 1 (block x.text DEFAULT_BLOCK 1) in
+    takes m h r at peer DEFAULT_BLOCK g.0 (message at peer k ∷ [])
+    (other (λ y p. IsFirstAck (m.sent ++ message at peer k ∷ []) y (with_end m.party at (taken x peer DEFAULT_BLOCK) y) p) at peer k (λ e. cc))
 recorded_keeps (Takes_data at peer bytes) m h r g =
-    takes m h r at peer 512 g.0 [] (nothing (λ y p. IsFirstAck (m.sent ++ []) y (with_end m.party at (taken (m.party at) peer 512) y) p))
+    takes m h r at peer DEFAULT_BLOCK g.0 [] (nothing (λ y p. IsFirstAck (m.sent ++ []) y (with_end m.party at (taken (m.party at) peer DEFAULT_BLOCK) y) p))
 recorded_keeps (Appends at peer bytes) m h r g =
     let old = m.party at in
     let x = record old { number = old.number + 1; done = nat_lt (length bytes) old.size; text = old.text ++ bytes } in

@@ -4,6 +4,7 @@ use Rattle.std.specs.Prelude.{◌&&◌, not, is_some, IfErr, if◌then◌else◌
 use Rattle.std.proofs.lemmas.Bool.{true≢false, ltb-true, eq-eqb}
 use Rattle.std.proofs.lemmas.List.{take_min, drop_min}
 use Rattle.std.proofs.lemmas.Option.{same_Some}
+use Rattle.tftp_negotiate.specs.declared.limits.TheConstants.{DEFAULT_BLOCK}
 use Rattle.tftp_wire.specs.declared.mode.Mode.{Mode}
 use Rattle.tftp_wire.specs.declared.options.RawOption.{RawOption}
 use Rattle.tftp_wire.specs.declared.packet.Packet.{Packet}
@@ -62,28 +63,28 @@ says_something bytes fine = by_fault (first_fault bytes) refl where
   by_fault (Some fault) e = (None, (fault, e))
 
 -- of a text that was counted to its end, the first block is wanted
-first_want : (m n : ℕ) → m ≡ n → block_length m 512 1 ≡ min 512 n
+first_want : (m n : ℕ) → m ≡ n → block_length m DEFAULT_BLOCK 1 ≡ min DEFAULT_BLOCK n
 first_want m n e = omega arith
 
-first_whole : (m n : ℕ) → m ≡ n → min (block_length m 512 1) n ≡ block_length m 512 1
+first_whole : (m n : ℕ) → m ≡ n → min (block_length m DEFAULT_BLOCK 1) n ≡ block_length m DEFAULT_BLOCK 1
 first_whole m n e = omega arith
 
 -- and it came
-first_moved : (text rest piece : List ℕ) (m : ℕ) → m ≡ length text → Moved text (Some rest) (block_length m 512 1) [] piece (block_length m 512 1) →
-    (piece ≡ block text 512 1) × (rest ≡ drop 512 text)
+first_moved : (text rest piece : List ℕ) (m : ℕ) → m ≡ length text → Moved text (Some rest) (block_length m DEFAULT_BLOCK 1) [] piece (block_length m DEFAULT_BLOCK 1) →
+    (piece ≡ block text DEFAULT_BLOCK 1) × (rest ≡ drop DEFAULT_BLOCK text)
 first_moved text rest piece m e f =
     let want = first_want m (length text) e in (
-      f.given ∙ (ap (λ (k : ℕ). take k text) want ∙ take_min 512 text),
-      same_Some rest (drop (block_length m 512 1) text) f.rest ∙ (ap (λ (k : ℕ). drop k text) want ∙ drop_min 512 text),
+      f.given ∙ (ap (λ (k : ℕ). take k text) want ∙ take_min DEFAULT_BLOCK text),
+      same_Some rest (drop (block_length m DEFAULT_BLOCK 1) text) f.rest ∙ (ap (λ (k : ℕ). drop k text) want ∙ drop_min DEFAULT_BLOCK text),
     )
 
 -- a source in memory with the whole text gives it
 cannot_be_short : (text : List ℕ) (m : ℕ) (after : Option (List ℕ)) (piece : List ℕ) → m ≡ length text → (answer : Result ℕ FileFault) →
-    Fills (Some text) after (block_length m 512 1) [] piece answer → result_count_is (block_length m 512 1) answer ≡ false →
+    Fills (Some text) after (block_length m DEFAULT_BLOCK 1) [] piece answer → result_count_is (block_length m DEFAULT_BLOCK 1) answer ≡ false →
     answer ≢ Err file_faults.Memory → (answer ≡ Err file_faults.Read → ⊥) → ⊥
 cannot_be_short text m after piece e (Ok k) fills short memory read =
-    let whole : k ≡ block_length m 512 1 = fills.count ∙ first_whole m (length text) e in
-    true≢false (sym (eq-eqb k (block_length m 512 1) whole) ∙ short)
+    let whole : k ≡ block_length m DEFAULT_BLOCK 1 = fills.count ∙ first_whole m (length text) e in
+    true≢false (sym (eq-eqb k (block_length m DEFAULT_BLOCK 1) whole) ∙ short)
 cannot_be_short text m after piece e (Err file_faults.Read) fills short memory read = read refl
 cannot_be_short text m after piece e (Err file_faults.Memory) fills short memory read = memory refl
 

@@ -6,6 +6,7 @@ use Rattle.std.proofs.Math.Nat.{div-lt_iff_lt-mul}
 use Rattle.std.proofs.lemmas.Bool.{true≢false, eq-eqb}
 use Rattle.std.proofs.lemmas.List.{append-nil, length-drop, length-take, take_min, drop_min, drop-drop}
 use Rattle.std.proofs.lemmas.Option.{same_Some}
+use Rattle.tftp_wire.specs.declared.limits.TheConstants.{MAX_BLOCK}
 use Rattle.tftp_wire.specs.declared.packet.Packet.TheVariants.{Data}
 use Rattle.tftp_wire.specs.Spelling.{IsValid}
 use Rattle.tftp_file.specs.Memory.{memory_source}
@@ -111,7 +112,7 @@ number_fits text size n p f l =
     let d : length text / size < 65535 = (div-lt_iff_lt-mul {k = size} {x = length text} {y = 65535} p).1 f in
     omega arith
 
-pub valid_data : (text : List ℕ) (size n : ℕ) → 0 < size → size ≤ 65464 → Fits text size → n + 1 ≤ block_count text size → IsValid (Data (n + 1) (block text size (n + 1)))
+pub valid_data : (text : List ℕ) (size n : ℕ) → 0 < size → size ≤ MAX_BLOCK → Fits text size → n + 1 ≤ block_count text size → IsValid (Data (n + 1) (block text size (n + 1)))
 valid_data text size n p small f l =
     let e = length-take size (drop ((n + 1 - 1) * size) text) in
     ((let z : n + 1 ≢ 0 = omega arith in z), number_fits text size (n + 1) p f l, omega (arith, e))
@@ -140,7 +141,7 @@ data_goes views messages k x terms n from turn held refuses_commit sender measur
     (subst (λ (l : List ℕ). Goes views messages k x (data_turn x terms n from) (end_after x (data_turn x terms n from) (Source l))) (sym b.left_is) g))
 
 -- the sender's state after a block is kept
-pub data_kept : (x : OpenEnd) (terms : Terms) (n : ℕ) (from : Endpoint) → EndKept x → x.state.role.length ≡ length (sent_text x) → is_sender x.state.role.side ≡ true → 0 < terms.size → terms.size ≤ 65464 →
+pub data_kept : (x : OpenEnd) (terms : Terms) (n : ℕ) (from : Endpoint) → EndKept x → x.state.role.length ≡ length (sent_text x) → is_sender x.state.role.side ≡ true → 0 < terms.size → terms.size ≤ MAX_BLOCK →
     Fits (sent_text x) terms.size → n + 1 ≤ block_count (sent_text x) terms.size → from ≡ terms.peer → EndKept (data_end x terms n from)
 data_kept x terms n from kept measured sender positive small fits l peer = record {
   phase = record { sender = sender; positive = positive; size = small; fits = fits; so_far = l; left = refl; last_sent_to = peer; measured = measured };

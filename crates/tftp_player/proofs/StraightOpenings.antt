@@ -3,6 +3,7 @@ use Rattle.std.proofs.Common.{◌≡◌, ◌≢◌, ℕ, ◌+◌, ◌*◌, ◌/�
 use Rattle.std.specs.Prelude.{if◌then◌else◌, slice_get}
 use Rattle.std.proofs.lemmas.Bool.{lt-ltb, le-leb}
 use Rattle.std.proofs.lemmas.Option.{same_Some}
+use Rattle.tftp_negotiate.specs.declared.limits.TheConstants.{DEFAULT_BLOCK}
 use Rattle.tftp_wire.specs.declared.mode.Mode.{Mode}
 use Rattle.tftp_wire.specs.declared.mode.Mode.TheVariants.{Octet, Netascii}
 use Rattle.tftp_wire.specs.declared.packet.Packet.{Packet}
@@ -137,7 +138,7 @@ module _ (strangers : Bool) (old new : WorldState) (name : List ℕ) (mode : Mod
       let same : s.0 ≡ file = same_Some s.0 file (sym s.1 ∙ (ap (λ (files : List StoredFile). file_at files h.path) has.files ∙ h.there)) in
       subst (λ (f : List ℕ). Opens h.run.asked (sending_end h.run.asked reader.address reader.state.progress.last_sent mode h.path f agreed) report mid) same s.2)
 
-  read_plainly : IsOk strangers old → ReadsStraight old new name mode asked file [] → IsThrough old new (read_count [] (block_count text 512))
+  read_plainly : IsOk strangers old → ReadsStraight old new name mode asked file [] → IsThrough old new (read_count [] (block_count text DEFAULT_BLOCK))
   read_plainly ok h =
       let b = read_begins [] ok h in
       let x = server_of [] h in
@@ -146,13 +147,13 @@ module _ (strangers : Bool) (old new : WorldState) (name : List ℕ) (mode : Mod
       let ra = reader.address in
       let st = default_terms ra in
       let rt = default_terms sa in
-      let m = length text / 512 in
+      let m = length text / DEFAULT_BLOCK in
       let sender : SendsAt strangers (k + 1) k (before_next k) sa ra st rt mode file refl refl refl b.w (0 + 1) =
       record { x = x; there = b.server_at; address = refl; phase = refl; file_is = refl; mode_is = refl } in
       let fit = fit_of strangers (k + 1) k (before_next k) sa ra st rt mode file refl refl refl b.w (0 + 1) b.ready.ok sender in
-      let first : 0 + 1 ≤ block_count text 512 = omega arith in
-      let piece = block text 512 (0 + 1) in
-      let within : length piece ≤ 512 = block_within text 512 fit.positive fit.fits 0 first in
+      let first : 0 + 1 ≤ block_count text DEFAULT_BLOCK = omega arith in
+      let piece = block text DEFAULT_BLOCK (0 + 1) in
+      let within : length piece ≤ DEFAULT_BLOCK = block_within text DEFAULT_BLOCK fit.positive fit.fits 0 first in
       let receiver : AwaitsAt strangers (k + 1) k (before_next k) sa ra st rt mode file refl refl refl true b.w 0 = record {
         x = reader;
         there = b.client_at;
@@ -160,16 +161,16 @@ module _ (strangers : Bool) (old new : WorldState) (name : List ℕ) (mode : Mod
         receiver = refl;
         willing = (refl, refl);
         mode_is = refl;
-        received = nothing_yet mode 512 text;
+        received = nothing_yet mode DEFAULT_BLOCK text;
         holds = nothing_held mode;
         stores = from_server reader.state (Waiting asked old.limits.max_file) sa (data_bytes 1 piece) (Data 1 piece) refl refl refl
-            ∙ (ap (λ (c : Bool). if c then receiver_action true mode [] rt 0 (Some (Data 1 piece)) else no_answer) (le-leb (length piece) 512 within)
+            ∙ (ap (λ (c : Bool). if c then receiver_action true mode [] rt 0 (Some (Data 1 piece)) else no_answer) (le-leb (length piece) DEFAULT_BLOCK within)
             ∙ (data_next mode [] rt 0 piece
-            ∙ next_is_stored strangers (k + 1) k (before_next k) sa ra st rt mode file refl refl refl reader 0 fit first refl (nothing_yet mode 512 text)));
+            ∙ next_is_stored strangers (k + 1) k (before_next k) sa ra st rt mode file refl refl refl reader 0 fit first refl (nothing_yet mode DEFAULT_BLOCK text)));
       } in
-      let rest : 0 + 1 + m ≡ block_count text 512 = omega arith in
+      let rest : 0 + 1 + m ≡ block_count text DEFAULT_BLOCK = omega arith in
       let over = from_data strangers (k + 1) k (before_next k) sa ra st rt mode file refl refl refl true m (length old.sent + 1) 0 b.w new rest b.ready sender receiver b.left in
-      reader_through old new (length old.sent + 1 + 2 + 2 * m) (read_count [] (block_count text 512)) over (omega arith)
+      reader_through old new (length old.sent + 1 + 2 + 2 * m) (read_count [] (block_count text DEFAULT_BLOCK)) over (omega arith)
 
   -- from the server's OACK on, which the client accepts
   read_on : (x : OpenEnd) (st rt : Terms) (packet : Packet) → HasBegun true strangers old new reader x → x.state.progress.last_sent_to ≡ reader.address → x.state.progress.phase ≡ Sending st 0 → x.file ≡ file → x.state.role.mode ≡ mode →
@@ -287,7 +288,7 @@ module _ (strangers : Bool) (old new : WorldState) (name : List ℕ) (mode : Mod
   begins_now : (n : ℕ) (terms : Terms) → n < 65535 * terms.size → begin_action n terms ≡ Send terms 1
   begins_now n terms few = ap (λ (c : Bool). if c then Send terms 1 else Respond (Refuse None FileTooLarge outcomes.TooLarge)) (lt-ltb n (65535 * terms.size) few)
 
-  write_plainly : IsOk strangers old → WritesStraight old new name mode asked file [] → IsThrough old new (write_count (block_count written 512))
+  write_plainly : IsOk strangers old → WritesStraight old new name mode asked file [] → IsThrough old new (write_count (block_count written DEFAULT_BLOCK))
   write_plainly ok h =
       let x = taker_of [] h in
       let st = default_terms x.address in

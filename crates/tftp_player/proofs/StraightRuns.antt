@@ -4,6 +4,7 @@ use Rattle.std.specs.Prelude.{nat_lt, is_some, slice_get, slice_set, ⊤}
 use Rattle.std.proofs.lemmas.Bool.{lt-ltb, le-ltb}
 use Rattle.std.proofs.lemmas.List.{take-append-drop}
 use Rattle.std.proofs.lemmas.Option.{slice_get_within}
+use Rattle.tftp_wire.specs.declared.limits.TheConstants.{MAX_BLOCK}
 use Rattle.tftp_wire.specs.declared.mode.Mode.{Mode}
 use Rattle.tftp_wire.specs.declared.packet.Packet.TheVariants.{Data, Ack}
 use Rattle.tftp_wire.specs.Spelling.{Spells}
@@ -182,7 +183,7 @@ module _ (strangers : Bool) (ks kr : ℕ) (apart : kr ≢ ks) (sa ra : Endpoint)
   -- what holds of a sender, in words of its text
   pub record IsFit : Type 0 where
     pub positive : 0 < st.size
-    pub small : st.size ≤ 65464
+    pub small : st.size ≤ MAX_BLOCK
     pub fits : Fits text st.size
 
   text_of_sender : (w : WorldState) (n : ℕ) (s : SendsAt w n) → sent_text s.x ≡ text

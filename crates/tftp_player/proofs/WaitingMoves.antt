@@ -3,6 +3,8 @@ use Rattle.std.proofs.Common.{◌≡◌, ℕ, ◌*◌, ◌<◌, ◌≤◌, true,
 use Rattle.std.specs.Prelude.{◌==◌, ◌&&◌, if◌then◌else◌, nat_lt, nat_le}
 use Rattle.std.specs.List.{Contains, AllByRecursion}
 use Rattle.std.proofs.lemmas.Bool.{leb-true, ltb-true, eqb-true}
+use Rattle.tftp_negotiate.specs.declared.limits.TheConstants.{DEFAULT_BLOCK}
+use Rattle.tftp_wire.specs.declared.limits.TheConstants.{MAX_BLOCK}
 use Rattle.tftp_wire.specs.declared.mode.Mode.{Mode}
 use Rattle.tftp_wire.specs.declared.options.RawOption.{RawOption}
 use Rattle.tftp_wire.specs.declared.packet.Packet.{Packet as WirePacket}
@@ -55,7 +57,7 @@ use Rattle.tftp_player.proofs.PhaseMoves.{Acting, OfDecoded, if_acts, both_true}
 use Rattle.tftp_player.proofs.Standing.{open_view, placed}
 
 -- a block size of an agreement
-pub agreed_size : (known : List Known) → AllByRecursion IsAgreeable known → (0 < size known) × (size known ≤ 65464)
+pub agreed_size : (known : List Known) → AllByRecursion IsAgreeable known → (0 < size known) × (size known ≤ MAX_BLOCK)
 agreed_size [] h = (omega arith, omega arith)
 agreed_size (Blksize n ∷ known) h = let l = h.0.0 in (omega arith, h.0.1)
 agreed_size (Timeout n ∷ known) h = agreed_size known h.1
@@ -63,7 +65,7 @@ agreed_size (Tsize n ∷ known) h = agreed_size known h.1
 
 -- and of one that a client took
 pub taken_size : (asked : Asked) (kind : Kind) (options : List RawOption) (mode : Mode) (limit : ℕ) (known : List Known) → IsAskable asked → agreement asked kind mode options limit ≡ Ok known →
-    (0 < size known) × (size known ≤ 65464)
+    (0 < size known) × (size known ≤ MAX_BLOCK)
 taken_size asked kind options mode limit known askable e =
     agreed_size known (taken_may_be_agreed asked kind mode options limit known askable e).values
 
@@ -115,11 +117,11 @@ module _ (views : List EndView) (messages : List Message) (k : ℕ) (x0 : OpenEn
   accept_cases reader options come (Err refusal) e = refusal_acts refusal
 
   -- a reader gets DATA 1
-  first_acts : is_sender x0.state.role.side ≡ false → (piece : List ℕ) → length piece ≤ 512 → Spells (Data 1 piece) bytes → Contains messages (message from x0.address (Says_data 1 piece)) →
+  first_acts : is_sender x0.state.role.side ≡ false → (piece : List ℕ) → length piece ≤ DEFAULT_BLOCK → Spells (Data 1 piece) bytes → Contains messages (message from x0.address (Says_data 1 piece)) →
       Answers (receiver_action true x0.state.role.mode [] (default_terms from) 0 (Some (Data 1 piece)))
   first_acts reader piece l spelled come =
       let terms = default_terms from in
-      let last = nat_lt (length piece) 512 in
+      let last = nat_lt (length piece) DEFAULT_BLOCK in
       let none : x0.state.progress.held ≡ [] = kept.phase.4 reader in
       let waits : IsWaiting (open_view waiter) from = ((refl, refl), kept.phase.0, refl, server) in
       let got : Receives views messages k waiter terms 1 from piece = record {
@@ -135,7 +137,7 @@ module _ (views : List EndView) (messages : List Message) (k : ℕ) (x0 : OpenEn
       λ reply outcome turn held h. from_response views messages k waiter (Refuse (Some terms) reply outcome) from turn held
       (refused_goes views messages k waiter terms 1 from piece kept got x0.state.progress.held (holding_of waiter) reply outcome kept.held (kept.committed reader)
       (x0.state.progress.held ++ piece, sym (append_assoc (wire_text x0.state.role.mode x0.stored) x0.state.progress.held piece) ∙ ap (λ (t : List ℕ). t ++ piece) (sym (told views messages k waiter terms 1 from piece kept got)))) h in
-      if_acts Answers (nat_lt 512 (length piece)) (illegal_action terms)
+      if_acts Answers (nat_lt DEFAULT_BLOCK (length piece)) (illegal_action terms)
       (if is_readable x0.state.role.mode [] piece last then Store terms 1 else Respond (Refuse (Some terms) replies.NotNetascii outcomes.NotNetascii))
       (λ e. refuse replies.IllegalOperation outcomes.Illegal)
       (λ e. if_acts Answers (is_readable x0.state.role.mode [] piece last) (Store terms 1) (Respond (Refuse (Some terms) replies.NotNetascii outcomes.NotNetascii))
@@ -144,7 +146,7 @@ module _ (views : List EndView) (messages : List Message) (k : ℕ) (x0 : OpenEn
       (subst (λ (bs : List ℕ). StoresIn memory_source (world_sink refuses_commit) terms 1 from bs waiter.state (files_of waiter) turn held) (data_of 1 piece bytes spelled) h))
       (λ g. refuse replies.NotNetascii outcomes.NotNetascii))
 
-  first_cases : is_sender x0.state.role.side ≡ false → (number : ℕ) (piece : List ℕ) → number ≡ 1 → length piece ≤ 512 → Spells (Data number piece) bytes → Contains messages (message from x0.address (Says_data number piece)) →
+  first_cases : is_sender x0.state.role.side ≡ false → (number : ℕ) (piece : List ℕ) → number ≡ 1 → length piece ≤ DEFAULT_BLOCK → Spells (Data number piece) bytes → Contains messages (message from x0.address (Says_data number piece)) →
       Answers (receiver_action true x0.state.role.mode [] (default_terms from) 0 (Some (Data number piece)))
   first_cases reader number piece is l =
       subst (λ (n : ℕ). Spells (Data n piece) bytes → Contains messages (message from x0.address (Says_data n piece)) → Answers (receiver_action true x0.state.role.mode [] (default_terms from) 0 (Some (Data n piece))))
@@ -157,9 +159,9 @@ module _ (views : List EndView) (messages : List Message) (k : ℕ) (x0 : OpenEn
   reader_acts reader (Some (Read r)) spelled come = refuse_waiter replies.IllegalOperation outcomes.Illegal
   reader_acts reader (Some (Write r)) spelled come = refuse_waiter replies.IllegalOperation outcomes.Illegal
   reader_acts reader (Some (Data number piece)) spelled come =
-      if_acts Answers (number == 1 && nat_le (length piece) 512) (receiver_action true x0.state.role.mode [] (default_terms from) 0 (Some (Data number piece))) no_answer
-      (λ e. let b = both_true (number == 1) (nat_le (length piece) 512) e in
-      first_cases reader number piece (eqb-true number 1 b.0) (leb-true (length piece) 512 b.1) (spelled (Data number piece) refl) (come (Data number piece) refl))
+      if_acts Answers (number == 1 && nat_le (length piece) DEFAULT_BLOCK) (receiver_action true x0.state.role.mode [] (default_terms from) 0 (Some (Data number piece))) no_answer
+      (λ e. let b = both_true (number == 1) (nat_le (length piece) DEFAULT_BLOCK) e in
+      first_cases reader number piece (eqb-true number 1 b.0) (leb-true (length piece) DEFAULT_BLOCK b.1) (spelled (Data number piece) refl) (come (Data number piece) refl))
       (λ e. refuse_waiter replies.IllegalOperation outcomes.Illegal)
   reader_acts reader (Some (Ack acked)) spelled come = refuse_waiter replies.IllegalOperation outcomes.Illegal
   reader_acts reader (Some (Error code text)) spelled come = close_waiter (outcomes.PeerError code)
@@ -167,7 +169,7 @@ module _ (views : List EndView) (messages : List Message) (k : ℕ) (x0 : OpenEn
       accept_cases reader options (come (Oack options) refl) (agreement asked kinds.Read x0.state.role.mode options limit) refl
 
   -- a writer begins
-  begin_acts : is_sender x0.state.role.side ≡ true → (terms : Terms) → terms.peer ≡ from → 0 < terms.size → terms.size ≤ 65464 →
+  begin_acts : is_sender x0.state.role.side ≡ true → (terms : Terms) → terms.peer ≡ from → 0 < terms.size → terms.size ≤ MAX_BLOCK →
       (Fits (text_of_end waiter) terms.size → IsShown (set views k (record (open_view waiter) { peer = Some from; size = terms.size; number = 1 })) (messages ++ message x0.address from (Says_data 1 (block (text_of_end waiter) terms.size 1)) ∷ [])) →
       Answers (begin_action x0.state.role.length terms)
   begin_acts writer terms peer positive small shown =

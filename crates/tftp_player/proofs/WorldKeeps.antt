@@ -5,6 +5,8 @@ use Rattle.std.specs.List.{Contains, AllByRecursion}
 use Rattle.std.proofs.lemmas.Option.{same_Some}
 use Rattle.std.proofs.lemmas.Bool.{true≢false, ltb-true}
 use Rattle.std.proofs.lemmas.List.{append-nil}
+use Rattle.tftp_wire.specs.declared.limits.TheConstants.{MAX_BLOCK}
+use Rattle.tftp_negotiate.specs.declared.limits.TheConstants.{DEFAULT_BLOCK}
 use Rattle.tftp_wire.specs.declared.mode.Mode.{Mode}
 use Rattle.tftp_wire.specs.declared.mode.Mode.TheVariants.{Octet, Netascii}
 use Rattle.tftp_wire.specs.declared.packet.Packet.{Packet as WirePacket}
@@ -113,10 +115,10 @@ sending_keeps : (strangers : Bool) (w v : WorldState) (from : Endpoint) (bytes :
 sending_keeps strangers w v from bytes request path file [] report ok come agreeable valid fits o =
     let text = wire_text request.mode file in
     let x = sending_end w from bytes request.mode path file [] in
-    let one : 1 ≤ block_count text 512 = omega arith in
-    let p = Data 1 (block text 512 1) in
+    let one : 1 ≤ block_count text DEFAULT_BLOCK = omega arith in
+    let p = Data 1 (block text DEFAULT_BLOCK 1) in
     let shown_now = serves_plainly (map view_of_end w.ends) ok.messages ok.shown x.address from false request text refl (ap (λ (n : ℕ). 1024 + n) (sym (length_views w))) come fits in
-    opening_keeps strangers w v ok x report p (spells_own p (valid_data text 512 0 (omega arith) (omega arith) fits one)) shown_now (at_server x.address refl) refl
+    opening_keeps strangers w v ok x report p (spells_own p (valid_data text DEFAULT_BLOCK 0 (omega arith) (omega arith) fits one)) shown_now (at_server x.address refl) refl
     (record {
       phase = record { sender = refl; positive = omega arith; size = omega arith; fits = fits; so_far = one; left = refl; last_sent_to = refl; measured = refl };
       held = empty_held request.mode;
@@ -202,7 +204,7 @@ module _ (strangers : Bool) (w v : WorldState) (from : Endpoint) (bytes : List �
       let agreeable = answered_values kinds.Read mode m w.limits options agreed ok.max_block e in
       let b = agreed_size agreed agreeable in
       let fits : Fits (wire_text mode file) (size agreed) = measured_fits mode file (size agreed) b.1 few in
-      let small = let c = b.1 in let l : m < 65535 * 65464 = omega arith in l in
+      let small = let c = b.1 in let l : m < 65535 * MAX_BLOCK = omega arith in l in
       let same : o.0 ≡ file = same_Some o.0 file (sym o.1 ∙ there) in
       subst (λ (n : Mode). Fits (wire_text n file) (size agreed) → Opens w (sending_end w from bytes n path file agreed) report v → IsOk strangers v) come.1
       (sending_keeps strangers w v from bytes come.0 path file agreed report ok come.2 agreeable

@@ -1,6 +1,7 @@
 -- What stays true of the guarded machine, and carries the proof that it is safe.
 use Rattle.std.specs.Prelude.{◌≡◌, ◌≢◌, ◌*◌, ◌<◌, ◌≤◌, Bool, true, false, not, [], length, take, None, Some}
 use Rattle.std.specs.List.{Contains}
+use Rattle.tftp_negotiate.specs.declared.limits.TheConstants.{DEFAULT_BLOCK}
 use Rattle.tftp_file.specs.Block.{block, IsBeginningOf}
 use Rattle.tftp_player.specs.Machine.{Endpoint, Host, At_server, At_client, Elsewhere, host_of, Packet, Request, Data, Ack, Oack, Error, Message, Party, Machine}
 
@@ -84,7 +85,7 @@ pub record IsSound (ends : Endpoint → Party) (a : Endpoint) (x : Party) : Type
   pub asked : x.client ≡ false → (p : Endpoint) → x.peer ≡ Some p → host_of p ≢ Elsewhere →
       HasAsked x (ends p)
   -- an end that was opened without options has blocks of 512 bytes
-  pub plain : x.client ≡ false → x.plain ≡ true → x.size ≡ 512
+  pub plain : x.client ≡ false → x.plain ≡ true → x.size ≡ DEFAULT_BLOCK
   -- a server's sender that was opened with options begins once its peer took it
   pub begun : x.client ≡ false → x.sender ≡ true → x.plain ≡ false → 1 ≤ x.number →
       (p : Endpoint) → x.peer ≡ Some p → host_of p ≢ Elsewhere → (ends p).peer ≡ Some a

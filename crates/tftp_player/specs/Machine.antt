@@ -1,6 +1,7 @@
 -- The guarded machine: the datagrams that were ever sent, and the ends of all transfers.
 use Rattle.std.specs.Prelude.{ℕ, ◌==◌, nat_eq, if◌then◌else◌, Bool, false, List, [], ◌∷◌, Option, None}
 use Rattle.std.specs.Cmp.Lexicographic.{pointwise}
+use Rattle.tftp_negotiate.specs.declared.limits.TheConstants.{DEFAULT_BLOCK}
 use Rattle.tftp_wire.specs.declared.mode.Mode.{Mode}
 use Rattle.tftp_wire.specs.declared.mode.Mode.TheVariants.{Octet}
 use Rattle.tftp_wire.specs.declared.packet.Request.{Request as WireRequest}
@@ -94,7 +95,7 @@ nobody =
       mode = Octet;
       request = no_request;
       peer = None;
-      size = 512;
+      size = DEFAULT_BLOCK;
       number = 0;
       done = false;
       failed = false;

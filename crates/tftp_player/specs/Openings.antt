@@ -1,5 +1,6 @@
 -- How the ends of a world open: by the openings of an end, with what the world keeps beside them.
 use Rattle.std.specs.Prelude.{ℕ, false, List, [], ◌∷◌, length, drop}
+use Rattle.tftp_negotiate.specs.declared.limits.TheConstants.{DEFAULT_BLOCK}
 use Rattle.tftp_wire.specs.declared.mode.Mode.{Mode}
 use Rattle.tftp_negotiate.specs.declared.asked.Asked.{Asked}
 use Rattle.tftp_negotiate.specs.declared.known.Known.{Known}
@@ -36,13 +37,13 @@ writing_client w name mode asked file =
 
 -- what the server's end has left of a text once it has opened: DATA 1 was taken off, where no option is agreed
 abbrev pub left_at_first : List Known → List ℕ → List ℕ
-left_at_first [] text = drop 512 text
+left_at_first [] text = drop DEFAULT_BLOCK text
 left_at_first (known ∷ agreed) text = text
 
 -- the server sends a file, which was requested so
 abbrev pub sending_end : WorldState → Endpoint → List ℕ → Mode → List ℕ → List ℕ → List Known → OpenEnd
 sending_end w peer request mode path file agreed =
-    opening w (serving_read agreed peer mode (length (wire_text mode file)) w.retries (block (wire_text mode file) 512 1)) request path file (left_at_first agreed (wire_text mode file))
+    opening w (serving_read agreed peer mode (length (wire_text mode file)) w.retries (block (wire_text mode file) DEFAULT_BLOCK 1)) request path file (left_at_first agreed (wire_text mode file))
 
 -- the server takes a file, as it was requested so
 abbrev pub receiving_end : WorldState → Endpoint → List ℕ → Mode → List ℕ → List Known → OpenEnd

@@ -1,5 +1,6 @@
 -- The ends of a world by what the struct that plays it keeps of them.
 use Rattle.std.specs.Prelude.{ℕ, ◌≡◌, ◌+◌, Bool, true, false, not, List, [], ◌∷◌, Option, Some, None, is_some, option_map}
+use Rattle.tftp_negotiate.specs.declared.limits.TheConstants.{DEFAULT_BLOCK}
 use Rattle.tftp_ends.specs.declared.outcome.Outcome.TheVariants.{TimedOut}
 use Rattle.tftp_ends.specs.declared.record.Record.{Record}
 use Rattle.tftp_ends.specs.declared.side.Side.TheVariants.{ServerRead}
@@ -55,7 +56,7 @@ served_as port s state left draft request =
 
 -- a record of an end that nobody holds
 abbrev pub unheld : Record
-unheld = record { side = ServerRead; peer = None; size = 512; timeout = None; number = 0; complete = false; outcome = Some TimedOut }
+unheld = record { side = ServerRead; peer = None; size = DEFAULT_BLOCK; timeout = None; number = 0; complete = false; outcome = Some TimedOut }
 
 -- a closed end of the server, with this draft and this record
 abbrev pub served_closed : ℕ → Served → Option Drafted → Record → ClosedEnd

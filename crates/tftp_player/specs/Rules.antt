@@ -1,6 +1,7 @@
 -- What may happen in the guarded machine: any rule may act whenever its guard holds.
 use Rattle.std.specs.Prelude.{◌≡◌, ℕ, ◌+◌, ◌<◌, ◌≤◌, Bool, true, false, not, nat_lt, if◌then◌else◌, List, [], ◌∷◌, ◌++◌, length, None, Some, ◌⊎◌}
 use Rattle.std.specs.List.{Contains}
+use Rattle.tftp_negotiate.specs.declared.limits.TheConstants.{DEFAULT_BLOCK}
 use Rattle.tftp_wire.specs.declared.packet.Request.{Request as WireRequest}
 use Rattle.tftp_file.specs.Block.{block, block_count, Fits}
 use Rattle.tftp_player.specs.Machine.{Endpoint, At_server, At_client, Elsewhere, host_of, request_port, Packet, Request, Data, Ack, Oack, Error, Message, Party, nobody, Machine, with_end}
@@ -71,14 +72,14 @@ MayAct (Asks at write request text) sent x =
     (x.is_open ≡ false) × (host_of at ≡ At_client) × (write ≡ false → text ≡ [])
 MayAct (Opens_plainly at peer write request text) sent x =
     (x.is_open ≡ false) × (host_of at ≡ At_server)
-    × Contains sent (message peer request_port (Request write request)) × HasText write text 512
+    × Contains sent (message peer request_port (Request write request)) × HasText write text DEFAULT_BLOCK
 MayAct (Opens_with at peer write request text size) sent x =
     (x.is_open ≡ false) × (host_of at ≡ At_server)
     × Contains sent (message peer request_port (Request write request)) × HasText write text size × (0 < size)
 MayAct (Takes_oack at peer size) sent x =
     Waits x peer × Contains sent (message peer at (Oack size)) × (x.sender ≡ true → Fits x.text size)
 MayAct (Takes_ack at peer) sent x =
-    Waits x peer × (x.sender ≡ true) × Contains sent (message peer at (Ack 0)) × Fits x.text 512
+    Waits x peer × (x.sender ≡ true) × Contains sent (message peer at (Ack 0)) × Fits x.text DEFAULT_BLOCK
 MayAct (Takes_data at peer bytes) sent x =
     Waits x peer × (x.sender ≡ false) × Contains sent (message peer at (Data 1 bytes))
 MayAct (Appends at peer bytes) sent x = IsNext sent x at peer bytes
@@ -138,11 +139,11 @@ actor (Strays stray) = stray.from
 -- the end that acts, after the rule
 abbrev pub party_after : Rule → Party → Party
 party_after (Asks at write request text) x = asking write request text
-party_after (Opens_plainly at peer write request text) x = opened true peer write request text 512 (if write then 0 else 1)
+party_after (Opens_plainly at peer write request text) x = opened true peer write request text DEFAULT_BLOCK (if write then 0 else 1)
 party_after (Opens_with at peer write request text size) x = opened false peer write request text size 0
 party_after (Takes_oack at peer size) x = taken x peer size
-party_after (Takes_ack at peer) x = taken x peer 512
-party_after (Takes_data at peer bytes) x = taken x peer 512
+party_after (Takes_ack at peer) x = taken x peer DEFAULT_BLOCK
+party_after (Takes_data at peer bytes) x = taken x peer DEFAULT_BLOCK
 party_after (Appends at peer bytes) x = appended x bytes
 party_after (Sends_next at peer) x = record x { number = x.number + 1 }
 party_after (Completes at peer) x = record x { done = true }
@@ -156,11 +157,11 @@ party_after (Strays stray) x = x
 abbrev pub packets : Rule → Party → List Message
 packets (Asks at write request text) x = message at request_port (Request write request) ∷ []
 packets (Opens_plainly at peer write request text) x =
-    message at peer (if write then Ack 0 else Data 1 (block text 512 1)) ∷ []
+    message at peer (if write then Ack 0 else Data 1 (block text DEFAULT_BLOCK 1)) ∷ []
 packets (Opens_with at peer write request text size) x = message at peer (Oack size) ∷ []
 packets (Takes_oack at peer size) x =
     message at peer (if x.sender then Data 1 (block x.text size 1) else Ack 0) ∷ []
-packets (Takes_ack at peer) x = message at peer (Data 1 (block x.text 512 1)) ∷ []
+packets (Takes_ack at peer) x = message at peer (Data 1 (block x.text DEFAULT_BLOCK 1)) ∷ []
 packets (Takes_data at peer bytes) x = []
 packets (Appends at peer bytes) x = message at peer (Ack (x.number + 1)) ∷ []
 packets (Sends_next at peer) x =

@@ -1,6 +1,7 @@
 -- What every world keeps, and what makes it safe.
 use Rattle.std.specs.Prelude.{◌≡◌, ◌≢◌, ℕ, ◌*◌, ◌<◌, ◌≤◌, ◌⊎◌, Bool, true, false, List, [], map, length, drop, slice_get, Some, None}
 use Rattle.std.specs.List.{Contains}
+use Rattle.tftp_wire.specs.declared.limits.TheConstants.{MAX_BLOCK}
 use Rattle.tftp_wire.specs.declared.mode.Mode.{Mode}
 use Rattle.tftp_wire.specs.declared.mode.Mode.TheVariants.{Octet, Netascii}
 use Rattle.tftp_wire.specs.declared.packet.Packet.{Packet as WirePacket}
@@ -28,7 +29,7 @@ sent_text x = wire_text x.state.role.mode x.file
 pub record IsUnderWay (x : OpenEnd) (terms : Terms) (number : ℕ) : Type 0 where
   pub sender : is_sender x.state.role.side ≡ true
   pub positive : 0 < terms.size
-  pub size : terms.size ≤ 65464
+  pub size : terms.size ≤ MAX_BLOCK
   pub fits : Fits (sent_text x) terms.size
   pub so_far : number ≤ block_count (sent_text x) terms.size
   pub left : x.left ≡ drop (number * terms.size) (sent_text x)
