@@ -10,3 +10,4 @@ pub mod Stream
 pub mod Decoding
 pub mod Lines
 pub mod Path
+pub mod Shared

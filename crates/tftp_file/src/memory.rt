@@ -6,6 +6,7 @@ ghost use Rattle.tftp_file.specs.Memory.{new_mem_sink, with_told};
 
 use crate::encoding::{Encoding, give};
 use crate::{FileFault, Sink, Source, StoreFault};
+use bytes::Bytes as SharedBytes;
 use std::alloc::Global;
 use std::marker::Model;
 use tftp_wire::Mode;
@@ -14,20 +15,17 @@ use tftp_wire::Mode;
 /// that is left.
 #[derive(Debug, Drop)]
 pub struct MemSource {
-    bytes: Vec<u8>,
-    at: usize,
+    bytes: SharedBytes,
     encoding: Encoding,
 }
 
 impl Model for MemSource {
-    ghost use Rattle.std.specs.Prelude.{List, ℕ, drop, ◌≤◌, vec_len};
+    ghost use Rattle.std.specs.Prelude.{List, ℕ};
     ghost use Rattle.tftp_file.specs.Encoding.{text_left};
 
     ghost Value = { List ℕ };
 
-    ghost view = { λ s. text_left s.encoding (drop s.at s.bytes.items) };
-
-    ghost invariant = { λ s. s.at ≤ vec_len s.bytes };
+    ghost view = { λ s. text_left s.encoding s.bytes };
 }
 
 impl MemSource {
@@ -37,11 +35,18 @@ impl MemSource {
         ensures ok { IfOk result (λ source. source ≡ wire_text mode bytes.now) }
         ensures memory { IfErr result (λ fault. fault ≡ FileFault.Memory) }
     {
-        Ok(MemSource {
-            bytes: Vec::from_slice(alloc, bytes)?,
-            at: 0,
+        let bytes = SharedBytes::copy_from_slice(alloc, bytes)?;
+        Ok(MemSource::of_shared(bytes, mode))
+    }
+
+    /// A source of the wire text in the mode of bytes that others hold too. It takes no memory.
+    pub fn of_shared(bytes: SharedBytes, mode: Mode) -> MemSource
+        ensures { result ≡ wire_text mode bytes }
+    {
+        MemSource {
+            bytes,
             encoding: Encoding::from(mode),
-        })
+        }
     }
 }
 
@@ -59,8 +64,8 @@ impl Source for MemSource {
     ghost joins = { λ _ _ _ _ _. tt };
 
     fn fill(&mut self, want: usize, out: &mut Vec<u8>) -> Result<usize, FileFault> {
-        let given = give(&self.bytes[self.at..], self.encoding, want, out)?;
-        self.at += given.taken;
+        let given = give(self.bytes.as_slice(), self.encoding, want, out)?;
+        self.bytes.advance(given.taken);
         self.encoding = given.encoding;
         Ok(given.count)
     }

@@ -2,7 +2,7 @@
 
 use std::process::Abort;
 use std::test::Fail;
-use tftp_file::{FileFault, Files, MemSink, MemSource, Sink, Source, StoreFault};
+use tftp_file::{FileBytes, FileFault, Files, MemSink, MemSource, Sink, Source, StoreFault};
 use tftp_wire::Mode;
 
 fn fill<S: Source>(source: &mut S, want: usize, out: &mut Vec<u8>) -> Result<usize, FileFault> {
@@ -47,6 +47,22 @@ fn octet_is_given_as_it_is(rt: HostRuntime) -> Result<(), Fail> {
     for piece in OCTET {
         gives(&rt, &mut &mut source, 2, &mut out, piece);
     }
+    Ok(())
+}
+
+#[test]
+fn a_file_is_shared_and_grows_on(rt: HostRuntime) -> Result<(), Fail> {
+    let mut file = FileBytes::new(rt.alloc());
+    file.append(b"A")?;
+    file.append(b"\n")?;
+    let shared = file.share()?;
+    file.append(b"B")?;
+    assert_eq!(rt; shared.as_slice(), b"A\n".as_slice(), "as it was shared");
+    assert_eq!(rt; file.as_slice(), b"A\nB".as_slice(), "the file goes on alone");
+    assert_eq!(rt; file.share()?.as_slice(), b"A\nB".as_slice(), "shared again");
+    let mut source = MemSource::of_shared(shared, Mode::Netascii);
+    let mut out = Vec::new(rt.alloc());
+    gives(&rt, &mut source, 512, &mut out, b"A\r\n");
     Ok(())
 }
 

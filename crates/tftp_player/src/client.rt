@@ -15,7 +15,7 @@ use crate::shelf::Shelf;
 use std::alloc::Global;
 use std::marker::Model;
 use tftp_ends::{End, EndConfig, EndFault, Endpoint, OpenFault, Record};
-use tftp_file::{Files, MAX_WIRE, MemSource, wire_length_within};
+use tftp_file::{Files, MAX_WIRE, MemSource, SharedBytes, wire_length_within};
 use tftp_negotiate::Asked;
 use tftp_wire::{Bytes, Mode};
 
@@ -25,7 +25,7 @@ pub(crate) struct Client {
     end: End,
     files: Files<MemSource, Shelf>,
     /// The file that it sends, as its host keeps it; empty for one that receives.
-    file: Bytes,
+    file: SharedBytes,
 }
 
 impl Model for Client {
@@ -63,7 +63,7 @@ impl Client {
                 Client {
                     end,
                     files: Files::Sink(Shelf::new(alloc)),
-                    file: Bytes::from(Vec::new(alloc)),
+                    file: SharedBytes::new(),
                 },
                 effect_of(client_at(port), step, out),
             )),
@@ -104,13 +104,16 @@ impl Client {
             &mut out,
         ) {
             Ok((end, step)) => {
-                let Ok(source) = MemSource::new(alloc, file.as_slice(), mode) else {
+                let Ok(file) = SharedBytes::from_vec(file.into_vec()) else {
+                    return Err(WorldFault::Memory);
+                };
+                let Ok(shared) = file.clone() else {
                     return Err(WorldFault::Memory);
                 };
                 Ok((
                     Client {
                         end,
-                        files: Files::Source(source),
+                        files: Files::Source(MemSource::of_shared(shared, mode)),
                         file,
                     },
                     effect_of(client_at(port), step, out),

@@ -14,9 +14,9 @@ use crate::fault::WorldFault;
 use crate::hosts::server_at;
 use std::alloc::Global;
 use tftp_ends::{Endpoint, Outcome, Record};
-use tftp_file::{Path, PathFault, path_of};
+use tftp_file::{Path, PathFault, SharedBytes, path_of};
 use tftp_server::{MemDraft, MemStore, Server, ServerFault};
-use tftp_wire::{Bytes, Mode, PacketRef, decode_ref};
+use tftp_wire::{Mode, PacketRef, decode_ref};
 
 /// A server's end: what it was asked for, and how it ended once it is closed. While it is open the
 /// server holds it under its port.
@@ -25,7 +25,7 @@ pub(crate) struct Served {
     pub(crate) mode: Mode,
     pub(crate) path: Path,
     /// The file that it sends, as it was when the end opened; empty for one that receives.
-    pub(crate) file: Bytes,
+    pub(crate) file: SharedBytes,
     /// Whether its next append or commit is to be refused.
     pub(crate) refuses: bool,
     /// What it has stored, if it receives and is closed; the server has it while it is open.
@@ -35,7 +35,7 @@ pub(crate) struct Served {
 
 impl Served {
     /// An end as it opens, for the file at a path.
-    fn new(mode: Mode, path: Path, file: Bytes) -> Served
+    fn new(mode: Mode, path: Path, file: SharedBytes) -> Served
         ensures { result ≡ new_served mode path file }
     {
         Served {
@@ -169,7 +169,7 @@ impl Served {
 }
 
 /// What a datagram to the request port asks for, where the port's tests that ask no store let it
-/// pass: only then the file is looked up and copied.
+/// pass: only then the file is looked up.
 pub(crate) fn wanted_end(
     alloc: Global,
     server: &Server<MemStore>,
@@ -185,7 +185,7 @@ pub(crate) fn wanted_end(
     }
 }
 
-/// What a datagram asks for: the end that may open, with its own copy of the file that it sends.
+/// What a datagram asks for: the end that may open, with the file that it sends.
 fn requested_end(
     alloc: Global,
     store: &MemStore,
@@ -226,7 +226,7 @@ fn sender_at(
     ensures { IfOk result (λ o. o ≡ sender_at store.now.files mode (path_of_name name.now)) }
 {
     match path_of(alloc, name) {
-        Ok(path) => sender_of(alloc, store, mode, path),
+        Ok(path) => sender_of(store, mode, path),
         Err(PathFault::Memory) => Err(WorldFault::Memory),
         Err(PathFault::Empty) => Ok(None),
         Err(PathFault::Segment) => Ok(None),
@@ -235,17 +235,12 @@ fn sender_at(
     }
 }
 
-fn sender_of(
-    alloc: Global,
-    store: &MemStore,
-    mode: Mode,
-    path: Path,
-) -> Result<Option<Served>, WorldFault>
+fn sender_of(store: &MemStore, mode: Mode, path: Path) -> Result<Option<Served>, WorldFault>
     ensures { IfOk result (λ o. o ≡ sender_at store.now.files mode (Ok path)) }
 {
-    match store.file(&path) {
+    match store.shared_file(&path) {
         None => Ok(None),
-        Some(file) => match Bytes::from_slice(alloc, file) {
+        Some(file) => match file.clone() {
             Ok(file) => Ok(Some(Served::new(mode, path, file))),
             Err(_) => Err(WorldFault::Memory),
         },
@@ -257,7 +252,7 @@ fn receiver_at(alloc: Global, mode: Mode, name: &[u8]) -> Result<Option<Served>,
     ensures { IfOk result (λ o. o ≡ receiver_at mode (path_of_name name.now)) }
 {
     match path_of(alloc, name) {
-        Ok(path) => Ok(Some(Served::new(mode, path, Bytes::from(Vec::new(alloc))))),
+        Ok(path) => Ok(Some(Served::new(mode, path, SharedBytes::new()))),
         Err(PathFault::Memory) => Err(WorldFault::Memory),
         Err(PathFault::Empty) => Ok(None),
         Err(PathFault::Segment) => Ok(None),

@@ -127,8 +127,8 @@ impl World {
     /// numbered. The sender of a stray is foreign ([`World::is_foreign`]).
     ///
     /// It copies a datagram's bytes once, since an end keeps the last one that it sent; its look-ups
-    /// take a time that grows with the logarithm of the open transfers, and a request that is served
-    /// copies the file.
+    /// take a time that grows with the logarithm of the open transfers. A file is never copied: the
+    /// server and the ends that send it share its bytes.
     pub fn apply(&mut self, event: Event) -> Result<Report, WorldFault>
         requires { IsPlayable event }
         // the step of the event

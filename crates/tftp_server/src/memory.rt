@@ -1,6 +1,6 @@
 //! A store that holds its files in memory.
 
-ghost use Rattle.std.specs.Prelude.{◌≡◌, IfOk, IfErr, option_map, true, false, List, ℕ, OnOk, OnErr};
+ghost use Rattle.std.specs.Prelude.{◌≡◌, IfOk, IfErr, option_copied, option_map, true, false, List, ℕ, OnOk, OnErr};
 ghost use Rattle.tftp_server.specs.Store.{file_at, with_file};
 ghost use Rattle.tftp_server.specs.Memory.{contents, in_path_order, has_distinct_paths, with_told};
 
@@ -8,14 +8,19 @@ use crate::store::{Opening, Store};
 use std::alloc::{AllocError, Global};
 use std::collections::BTreeMap;
 use std::marker::Model;
-use tftp_file::{MAX_WIRE, MemSource, Path, StoreFault, wire_length_within};
-use tftp_wire::{Bytes, Mode};
+use tftp_file::{
+    FileBytes, MAX_WIRE, MemSource, Path, SharedBytes, StoreFault, wire_length_within,
+};
+use tftp_wire::Mode;
 
 /// A store in memory. Contracts see its files in the order of their paths, and whether it was told
 /// to refuse its next append or commit.
+///
+/// It holds each file once: the sources that it opens and a draft that was committed share the
+/// bytes of theirs.
 #[derive(Drop)]
 pub struct MemStore {
-    files: BTreeMap<Path, Bytes>,
+    files: BTreeMap<Path, SharedBytes>,
     refuses_next: bool,
 }
 
@@ -44,11 +49,18 @@ impl MemStore {
         })
     }
 
+    /// The bytes of the file at the path, if there is one. A clone shares them, and copies none.
+    pub fn shared_file(&self, path: &Path) -> Option<&SharedBytes>
+        ensures { option_copied result ≡ file_at path.now self.now.files }
+    {
+        self.files.get(path)
+    }
+
     /// The bytes of the file at the path, if there is one.
     pub fn file(&self, path: &Path) -> Option<&[u8]>
         ensures { option_map (λ bytes. bytes.now) result ≡ file_at path.now self.now.files }
     {
-        match self.files.get(path) {
+        match self.shared_file(path) {
             Some(bytes) => Some(bytes.as_slice()),
             None => None,
         }
@@ -73,7 +85,7 @@ impl MemStore {
 /// committed.
 #[derive(Debug, Drop)]
 pub struct MemDraft {
-    bytes: Vec<u8>,
+    bytes: FileBytes,
     is_committed: bool,
 }
 
@@ -82,7 +94,7 @@ impl Model for MemDraft {
 
     ghost Value = { Drafted };
 
-    ghost view = { λ d. record { bytes = d.bytes.items; committed = d.is_committed } };
+    ghost view = { λ d. record { bytes = d.bytes; committed = d.is_committed } };
 }
 
 impl MemDraft {
@@ -112,19 +124,19 @@ impl Store for MemStore {
 
     fn open(
         &self,
-        alloc: Global,
+        _alloc: Global,
         path: &Path,
         mode: Mode,
     ) -> Result<Opening<MemSource>, StoreFault> {
-        let Some(bytes) = self.file(path) else {
+        let Some(bytes) = self.shared_file(path) else {
             return Err(StoreFault::Missing);
         };
-        let Ok(source) = MemSource::new(alloc, bytes, mode) else {
+        let Ok(shared) = bytes.clone() else {
             return Err(StoreFault::Memory);
         };
         Ok(Opening {
-            source,
-            length: wire_length_within(bytes, mode, MAX_WIRE + 1),
+            source: MemSource::of_shared(shared, mode),
+            length: wire_length_within(bytes.as_slice(), mode, MAX_WIRE + 1),
         })
     }
 
@@ -133,7 +145,7 @@ impl Store for MemStore {
             return Err(StoreFault::Exists);
         }
         Ok(MemDraft {
-            bytes: Vec::new(alloc),
+            bytes: FileBytes::new(alloc),
             is_committed: false,
         })
     }
@@ -143,7 +155,7 @@ impl Store for MemStore {
             self.refuses_next = false;
             return Err(StoreFault::Full);
         }
-        draft.bytes.extend_from_slice(bytes)?;
+        draft.bytes.append(bytes)?;
         draft.is_committed = false;
         Ok(())
     }
@@ -161,7 +173,7 @@ impl Store for MemStore {
         if !replace && self.files.contains_key(path) {
             return Err(StoreFault::Exists);
         }
-        let Ok(()) = put_copy(&mut self.files, path, &draft.bytes) else {
+        let Ok(()) = put(&mut self.files, path, &mut draft.bytes) else {
             return Err(StoreFault::Full);
         };
         draft.is_committed = true;
@@ -173,28 +185,41 @@ impl Store for MemStore {
 fn in_path_order(
     alloc: Global,
     files: Vec<(Path, Vec<u8>)>,
-) -> Result<BTreeMap<Path, Bytes>, AllocError>
+) -> Result<BTreeMap<Path, SharedBytes>, AllocError>
     ensures { IfOk result (λ held. held.entries ≡ in_path_order (contents files.items)) }
 {
     let mut held = BTreeMap::new(alloc);
     for (path, bytes) in files {
-        held.insert(path, Bytes::from(bytes))?;
+        add(&mut held, path, bytes)?;
     }
     Ok(held)
 }
 
-/// Puts a copy of the bytes into the files. After a refusal they are as before.
-fn put_copy(
-    files: &mut BTreeMap<Path, Bytes>,
-    path: &Path,
-    bytes: &Vec<u8>,
+/// Adds a file.
+fn add(
+    files: &mut BTreeMap<Path, SharedBytes>,
+    path: Path,
+    bytes: Vec<u8>,
 ) -> Result<(), AllocError>
-    ensures ok { OnOk result (files.new.entries ≡ with_file files.old.entries path.now
-        bytes.now.items) }
+    ensures { OnOk result (files.new.entries ≡ with_file files.old.entries path bytes.items) }
+{
+    let shared = SharedBytes::from_vec(bytes)?;
+    files.insert(path, shared)?;
+    Ok(())
+}
+
+/// Puts the bytes into the files, which share them. After a refusal the files are as before.
+fn put(
+    files: &mut BTreeMap<Path, SharedBytes>,
+    path: &Path,
+    bytes: &mut FileBytes,
+) -> Result<(), AllocError>
+    ensures ok { OnOk result (files.new.entries ≡ with_file files.old.entries path.now bytes.old) }
     ensures err { OnErr result (files.new.entries ≡ files.old.entries) }
+    ensures bytes { bytes.new ≡ bytes.old }
 {
     let path = path.clone()?;
-    let bytes = bytes.clone()?;
-    files.insert(path, Bytes::from(bytes))?;
+    let shared = bytes.share()?;
+    files.insert(path, shared)?;
     Ok(())
 }
