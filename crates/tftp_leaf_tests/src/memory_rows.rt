@@ -58,8 +58,16 @@ fn a_file_is_shared_and_grows_on(rt: HostRuntime) -> Result<(), Fail> {
     let shared = file.share()?;
     file.append(b"B")?;
     assert_eq!(rt; shared.as_slice(), b"A\n".as_slice(), "as it was shared");
-    assert_eq!(rt; file.as_slice(), b"A\nB".as_slice(), "the file goes on alone");
-    assert_eq!(rt; file.share()?.as_slice(), b"A\nB".as_slice(), "shared again");
+    assert_eq!(rt;
+        file.as_slice(),
+        b"A\nB".as_slice(),
+        "the file goes on alone"
+    );
+    assert_eq!(rt;
+        file.share()?.as_slice(),
+        b"A\nB".as_slice(),
+        "shared again"
+    );
     let mut source = MemSource::of_shared(shared, Mode::Netascii);
     let mut out = Vec::new(rt.alloc());
     gives(&rt, &mut source, 512, &mut out, b"A\r\n");
