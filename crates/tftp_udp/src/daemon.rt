@@ -12,6 +12,7 @@ use crate::folder::FolderStore;
 use crate::log_line::LogLine;
 use crate::port::{Port, place_of, wait_for};
 use crate::printed::Printed;
+use crate::shared_file::PortFile;
 use crate::udp::{DATAGRAM_BUFFER, address_of, read_clock, receive, send};
 use crate::watch::{Watch, deadline, is_due};
 use mio::net::UdpSocket;
@@ -86,7 +87,7 @@ struct Daemon<R: Files + Drop> {
     requests: UdpSocket,
     is_ready: bool,
     spare: Option<Spare>,
-    ports: Vec<Port<TransferSocket>>,
+    ports: Vec<Port<TransferSocket<R::File>>>,
     watch: Watch,
     out: Vec<u8>,
     tids: Vec<u16>,
@@ -254,11 +255,13 @@ impl<R: Files + Drop> Daemon<R> {
         }
         self.out.clear();
         self.server.store_mut().set_port(tid);
-        let Ok(opened) = self.server.on_request(from, tid, bytes, &mut self.out) else {
+        let opened = self.server.on_request(from, tid, bytes, &mut self.out);
+        let file = self.server.store().take_opened();
+        let Ok(opened) = opened else {
             return;
         };
         if opened.tid.is_some() {
-            self.open(rt, from, bytes);
+            self.open(rt, from, bytes, file);
             return;
         }
         if let Some(to) = opened.to {
@@ -282,7 +285,13 @@ impl<R: Files + Drop> Daemon<R> {
 
     /// Gives the spare port to the transfer that opened, and sends its first datagram. There is room in the
     /// list.
-    fn open<E: Eprint>(&mut self, rt: &E, from: Endpoint, bytes: &[u8]) {
+    fn open<E: Eprint>(
+        &mut self,
+        rt: &E,
+        from: Endpoint,
+        bytes: &[u8],
+        file: Option<PortFile<R::File>>,
+    ) {
         let Some(Spare { tid, mut socket }) = self.spare.take() else {
             return;
         };
@@ -308,6 +317,7 @@ impl<R: Files + Drop> Daemon<R> {
             is_ready: false,
             socket: TransferSocket {
                 udp: socket,
+                file,
                 bytes: data_length(self.out.as_slice()),
                 log_entry,
             },

@@ -4,19 +4,24 @@ ghost use Rattle.std.specs.Prelude.{◌≢◌, IfErr};
 ghost use Rattle.tftp_udp.specs.Folder.{MayNotOpen, MayNotStore, MayNotName};
 ghost use Rattle.tftp_file.specs.declared.fault.StoreFault.TheVariants.{Memory};
 
+use crate::ahead::Ahead;
+use crate::file_work::WRITE_BUFFER;
 use crate::local::length_on_wire;
+use crate::shared_file::{FolderSource, PortFile, share_source, share_writer};
 use std::alloc::Global;
+use std::cell::RefCell;
 use std::fs::{self, Metadata, OpenFile, OpenOptions};
 use std::io::{self, BufReader, BufWriter, ErrorKind, Write};
 use std::os::unix::fs::MetadataExt;
+use std::rc::Rc;
 use std::rt::Files;
 use tftp_file::{FileFault, Path, ReadSource, StoreFault};
 use tftp_server::{Opening, Store};
 use tftp_wire::Mode;
 
-/// The bytes of a file that are read or written at once. Blocks of this size and more pass the
-/// buffer.
-const BUFFER: usize = 32_768;
+/// The most bytes of a file that are read into a buffer at once. Blocks of this size and more pass
+/// it.
+const READ_BUFFER: usize = 32_768;
 
 /// The files in a folder and below it. It tells no meaning: what a disk holds between calls is not
 /// known.
@@ -30,12 +35,14 @@ pub struct FolderStore<R: Files + Drop> {
     /// Without links, and without a slash at its end.
     root: String,
     port: u16,
+    /// The file that was opened or begun last, until its port takes it.
+    opened: RefCell<Option<PortFile<R::File>>>,
 }
 
 /// A file that is being written to a [`FolderStore`].
 #[derive(Drop)]
 pub struct FolderDraft<F: Write + Drop> {
-    writer: BufWriter<F>,
+    writer: Rc<RefCell<BufWriter<F>>>,
     draft: String,
     target: String,
 }
@@ -65,12 +72,19 @@ impl<R: Files + Drop> FolderStore<R> {
             files,
             root,
             port: 0,
+            opened: RefCell::new(None),
         })
     }
 
     /// Tells the port of the next transfer, for which its draft is named.
     pub fn set_port(&mut self, port: u16) {
         self.port = port;
+    }
+
+    /// Takes the file that was opened or begun since this was last asked, for the port of its
+    /// transfer.
+    pub(crate) fn take_opened(&self) -> Option<PortFile<R::File>> {
+        self.opened.try_replace(None).unwrap_or(None)
     }
 
     /// Goes along a path, from the folder on. `Missing` if a folder on the way is.
@@ -232,7 +246,7 @@ impl<R: Files + Drop> Store for FolderStore<R> {
     ghost use Rattle.std.specs.Prelude.{None};
     ghost use Rattle.tftp_udp.specs.Folder.{MayNotOpen, MayNotStore, MayNotBegin, MayNotName};
 
-    type Source = ReadSource<BufReader<R::File>>;
+    type Source = FolderSource<R::File>;
 
     type Draft = FolderDraft<R::File>;
 
@@ -250,18 +264,20 @@ impl<R: Files + Drop> Store for FolderStore<R> {
         alloc: Global,
         path: &Path,
         mode: Mode,
-    ) -> Result<Opening<ReadSource<BufReader<R::File>>>, StoreFault> {
+    ) -> Result<Opening<FolderSource<R::File>>, StoreFault> {
         let (mut file, length) = self.open_file(alloc, path)?;
         let Ok(length) = length_on_wire(&mut file, mode, length) else {
             return Err(StoreFault::Io);
         };
-        let Ok(reader) = BufReader::with_capacity(alloc, BUFFER, file) else {
+        // A short file has a short buffer.
+        let room = length.min(READ_BUFFER as u64) as usize;
+        let Ok(reader) = BufReader::with_capacity(alloc, room, file) else {
             return Err(StoreFault::Memory);
         };
-        Ok(Opening {
-            source: ReadSource::new(reader, mode),
-            length,
-        })
+        let ahead = Ahead::new(alloc, ReadSource::new(reader, mode), length);
+        let (source, port) = share_source(alloc, ahead)?;
+        let _ = self.opened.try_replace(Some(port));
+        Ok(Opening { source, length })
     }
 
     /// It follows no link, and makes no folder. What is no regular file is never replaced.
@@ -287,9 +303,11 @@ impl<R: Files + Drop> Store for FolderStore<R> {
         let port = self.port;
         let draft = format!(in alloc; "{root}/.tftp-{port}")?;
         let file = self.make_draft(draft.as_str())?;
-        let Ok(writer) = BufWriter::with_capacity(alloc, BUFFER, file) else {
+        let Ok(writer) = BufWriter::with_capacity(alloc, WRITE_BUFFER, file) else {
             return Err(StoreFault::Memory);
         };
+        let (writer, port) = share_writer(alloc, writer)?;
+        let _ = self.opened.try_replace(Some(port));
         Ok(FolderDraft {
             writer,
             draft,
@@ -298,7 +316,7 @@ impl<R: Files + Drop> Store for FolderStore<R> {
     }
 
     fn append(&mut self, draft: &mut FolderDraft<R::File>, bytes: &[u8]) -> Result<(), StoreFault> {
-        match draft.writer.write_all(bytes) {
+        match draft.write(bytes) {
             Ok(()) => Ok(()),
             Err(error) => Err(write_fault(&error)),
         }
@@ -324,9 +342,22 @@ impl<R: Files + Drop> Store for FolderStore<R> {
 }
 
 impl<F: Write + OpenFile + Drop> FolderDraft<F> {
+    /// Holds bytes to be written.
+    fn write(&self, bytes: &[u8]) -> io::Result<()> {
+        match self.writer.try_borrow_mut() {
+            Ok(mut writer) => writer.write_all(bytes),
+            Err(_) => Err(io::Error::from(ErrorKind::ResourceBusy)),
+        }
+    }
+
     /// Brings all that was appended to the disk.
-    fn write_out(&mut self) -> io::Result<()> {
-        self.writer.flush()?;
-        self.writer.get_ref().sync_all()
+    fn write_out(&self) -> io::Result<()> {
+        match self.writer.try_borrow_mut() {
+            Ok(mut writer) => {
+                writer.flush()?;
+                writer.get_ref().sync_all()
+            }
+            Err(_) => Err(io::Error::from(ErrorKind::ResourceBusy)),
+        }
     }
 }

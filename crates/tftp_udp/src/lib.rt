@@ -7,17 +7,20 @@
 //! Begin with [`tftp_words`] and [`tftpd_words`].
 #![tactic(auto)]
 
+mod ahead;
 mod client;
 mod client_end;
 mod client_words;
 mod daemon;
 mod daemon_words;
+mod file_work;
 mod folder;
 mod local;
 mod log_line;
 mod port;
 mod printed;
 mod progress_line;
+mod shared_file;
 mod udp;
 mod watch;
 mod without_options;
@@ -30,5 +33,6 @@ pub use log_line::LogLine;
 pub use port::{Port, place_of, wait_for};
 pub use printed::Printed;
 pub use progress_line::{LineClock, ProgressLine};
+pub use shared_file::FolderSource;
 pub use watch::{LONGEST_WAIT, Watch, deadline, is_due};
 pub use without_options::fallback;

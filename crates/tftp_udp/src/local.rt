@@ -5,6 +5,8 @@ ghost use Rattle.std.specs.Prelude.{◌≡◌, ◌≢◌, ◌+◌, min, Ok};
 ghost use Rattle.tftp_wire.specs.declared.mode.Mode.TheVariants.{Octet};
 ghost use Rattle.tftp_file.specs.declared.fault.StoreFault.TheVariants.{Memory};
 
+use crate::ahead::Ahead;
+use crate::file_work::{FileWork, WRITE_BUFFER};
 use std::alloc::Global;
 use std::fs;
 use std::io::{self, BufReader, BufWriter, ErrorKind, Read, Seek, SeekFrom, Write};
@@ -12,8 +14,8 @@ use std::rt::Files;
 use tftp_file::{FileFault, MAX_WIRE, ReadSource, Sink, StoreFault, wire_length};
 use tftp_wire::Mode;
 
-/// The bytes that are read or written at once. Blocks of this size and more pass the buffer.
-const BUFFER: usize = 65_536;
+/// The bytes that are read into a buffer at once. Blocks of this size and more pass it.
+const READ_BUFFER: usize = 32_768;
 
 /// The length of a file on the wire, or `MAX_WIRE + 1` where it is greater: so many host bytes in
 /// octet, and in netascii what reading it once counts. The file is then at its front again.
@@ -59,7 +61,7 @@ impl<F: Read> Read for ErrorKeeper<F> {
 }
 
 /// The source of a file that is sent.
-pub(crate) type LocalSource<F> = ReadSource<BufReader<ErrorKeeper<F>>>;
+pub(crate) type LocalSource<F> = Ahead<ReadSource<BufReader<ErrorKeeper<F>>>>;
 
 /// A file that is sent, and its lengths.
 #[derive(Drop)]
@@ -93,9 +95,9 @@ impl<F: Read + Seek + Drop> Outbound<F> {
             reader: file,
             error: None,
         };
-        let reader = BufReader::with_capacity(alloc, BUFFER, reader)?;
+        let reader = BufReader::with_capacity(alloc, READ_BUFFER, reader)?;
         Ok(Outbound {
-            source: ReadSource::new(reader, mode),
+            source: Ahead::new(alloc, ReadSource::new(reader, mode), wire_bytes),
             host_bytes,
             wire_bytes,
         })
@@ -104,7 +106,7 @@ impl<F: Read + Seek + Drop> Outbound<F> {
 
 /// Why a file could not be read further, once it could not.
 pub(crate) fn read_error<F: Read + Drop>(source: LocalSource<F>) -> Option<io::Error> {
-    source.into_inner().into_inner().error
+    source.into_inner().into_inner().into_inner().error
 }
 
 /// A file `LOCAL` that is being fetched, as `LOCAL.part`. It gets its name at the commit, and stays
@@ -129,7 +131,7 @@ impl<R: Files + Drop> LocalFile<R> {
         let file = fs::create(&files, part.as_str())?;
         Ok(LocalFile {
             files,
-            writer: BufWriter::with_capacity(alloc, BUFFER, file)?,
+            writer: BufWriter::with_capacity(alloc, WRITE_BUFFER, file)?,
             local: String::from_str(alloc, local)?,
             part,
             count: 0,
@@ -187,6 +189,12 @@ fn store_fault(error: &io::Error) -> StoreFault
         | ErrorKind::FileTooLarge
         | ErrorKind::OutOfMemory => StoreFault::Full,
         _ => StoreFault::Io,
+    }
+}
+
+impl<R: Files + Drop> FileWork for LocalFile<R> {
+    fn work(&mut self) {
+        self.writer.work();
     }
 }
 

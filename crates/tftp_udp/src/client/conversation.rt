@@ -5,6 +5,7 @@ ghost use Rattle.tftp_ends.specs.Files.{AreFilesOf};
 
 use crate::client::failure::Reason;
 use crate::client::socket::ClientSocket;
+use crate::file_work::FileWork;
 use crate::progress_line::{LineClock, ProgressLine};
 use crate::udp::{DATAGRAM_BUFFER, read_clock};
 use crate::watch::{LONGEST_WAIT, Watch, deadline, is_due};
@@ -77,7 +78,7 @@ impl Conversation {
     }
 
     /// Takes the end to its close. A transfer that takes too many waits has timed out.
-    pub(crate) fn run<C: Clock + Eprint, S: Source, K: Sink>(
+    pub(crate) fn run<C: Clock + Eprint, S: Source + FileWork, K: Sink + FileWork>(
         &mut self,
         rt: &C,
         files: &mut Files<S, K>,
@@ -95,7 +96,7 @@ impl Conversation {
 
     /// Waits once, and takes what came or the timeout that is due; returns how the end closed, if
     /// it did.
-    fn turn<C: Clock, S: Source, K: Sink>(
+    fn turn<C: Clock, S: Source + FileWork, K: Sink + FileWork>(
         &mut self,
         clock: &C,
         files: &mut Files<S, K>,
@@ -117,6 +118,7 @@ impl Conversation {
         if step.progress {
             self.due = deadline(now, Some(self.end.interval()));
             self.advanced_at = now;
+            self.work(files);
             return None;
         }
         if !is_due(now, self.due) {
@@ -150,6 +152,17 @@ impl Conversation {
             self.total = told_length(bytes);
         }
         step
+    }
+
+    /// Has the end's file do its work, once the datagram is out.
+    fn work<S: FileWork, K: FileWork>(&self, files: &mut Files<S, K>)
+        requires { AreFilesOf self.now.end.role.side files.old }
+        ensures { AreFilesOf self.now.end.role.side files.new }
+    {
+        match files {
+            Files::Source(source) => source.work(),
+            Files::Sink(sink) => sink.work(),
+        }
     }
 
     /// Takes a timeout, and sends what goes out.

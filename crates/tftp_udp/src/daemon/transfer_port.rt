@@ -2,10 +2,12 @@
 
 use crate::log_line::LogLine;
 use crate::port::Port;
+use crate::shared_file::PortFile;
 use crate::udp::{receive, send};
 use crate::watch::deadline;
 use mio::net::UdpSocket;
 use std::alloc::Global;
+use std::io::{Read, Write};
 use tftp_ends::{Endpoint, Outcome};
 use tftp_server::{Server, Store};
 use tftp_wire::show_datagram;
@@ -30,8 +32,10 @@ pub(crate) enum Turn {
 
 /// A transfer's socket, with what is reported of the transfer at its close.
 #[derive(Drop)]
-pub(crate) struct TransferSocket {
+pub(crate) struct TransferSocket<F: Read + Write + Drop> {
     pub(crate) udp: UdpSocket,
+    /// The file of the transfer.
+    pub(crate) file: Option<PortFile<F>>,
     /// The bytes of DATA that were sent or taken, each once.
     pub(crate) bytes: u64,
     /// What the log says of it, where there is a log.
@@ -109,9 +113,9 @@ pub(crate) fn timeout_of<S: Store>(server: &Server<S>, tid: u16) -> Option<u8> {
 }
 
 /// Takes datagrams from a transfer's port, until one takes the transfer onward or none is left.
-pub(crate) fn take_datagrams<S: Store>(
+pub(crate) fn take_datagrams<S: Store, F: Read + Write + Drop>(
     server: &mut Server<S>,
-    port: &mut Port<TransferSocket>,
+    port: &mut Port<TransferSocket<F>>,
     now: u64,
     buffer: &mut [u8],
 ) -> Turn {
@@ -127,11 +131,11 @@ pub(crate) fn take_datagrams<S: Store>(
     Turn::Unfinished
 }
 
-/// Takes a datagram, and sends what goes out. One for whose handling there is no memory is a lost
-/// one.
-fn take_datagram<S: Store>(
+/// Takes a datagram, and sends what goes out; the file does its work behind that. A datagram for
+/// whose handling there is no memory is a lost one.
+fn take_datagram<S: Store, F: Read + Write + Drop>(
     server: &mut Server<S>,
-    port: &mut Port<TransferSocket>,
+    port: &mut Port<TransferSocket<F>>,
     now: u64,
     from: Endpoint,
     bytes: &[u8],
@@ -154,13 +158,16 @@ fn take_datagram<S: Store>(
         return Turn::Unfinished;
     }
     port.due = deadline(now, timeout_of(server, port.tid));
+    if let Some(file) = &port.socket.file {
+        file.work();
+    }
     Turn::Onward
 }
 
 /// Tells a transfer that it waited long enough, and answers whether that closed it.
-pub(crate) fn take_timeout<S: Store>(
+pub(crate) fn take_timeout<S: Store, F: Read + Write + Drop>(
     server: &mut Server<S>,
-    port: &mut Port<TransferSocket>,
+    port: &mut Port<TransferSocket<F>>,
     now: u64,
 ) -> bool {
     port.due = deadline(now, timeout_of(server, port.tid));
