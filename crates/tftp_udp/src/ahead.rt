@@ -12,7 +12,8 @@ use tftp_wire::HEADER;
 /// A source over another, whose next block is read before it is asked for: while the peer is busy
 /// with the datagram before it, and not while the peer waits.
 ///
-/// A read that fails ahead answers `Read` when its block is asked for. It tells no meaning.
+/// A read that fails ahead answers `Read` when its block is asked for. Out of memory the block stays, and the
+/// next fill has it. Each fill but the first asks for as much as the one before it. It tells no meaning.
 #[derive(Drop)]
 pub(crate) struct Ahead<S> {
     source: S,
@@ -82,9 +83,13 @@ impl<S: Source> Source for Ahead<S> {
         if self.buffer.is_empty() {
             return fill_now(&mut self.source, &mut self.left, want, out);
         }
-        let taken = take_block(&mut self.buffer, want, out);
-        self.buffer.clear();
-        taken
+        match take_block(&mut self.buffer, want, out) {
+            Ok(count) => {
+                self.buffer.clear();
+                Ok(count)
+            }
+            Err(fault) => Err(fault),
+        }
     }
 }
 
