@@ -40,7 +40,7 @@ data_behind : (number : ℕ) (piece bytes : List ℕ) → Spells (Data number pi
 data_behind number piece bytes s = sym (ap (drop 4) s.whole)
 
 -- terms of an end that had none allow its request
-pub sent_any : (e : EndState) (terms : Option Terms) → length e.progress.last_sent ≤ MAX_REQUEST → SentFits e terms
+pub sent_any : (e : EndState) (terms : Option Terms) → length e.position.last_sent ≤ MAX_REQUEST → SentFits e terms
 sent_any e None w = w
 sent_any e (Some terms) w = omega (arith, w)
 
@@ -67,7 +67,7 @@ module _ (e : EndState) (from : Endpoint) (bytes : List ℕ) where
   sender_fits client terms number (Some (Oack options)) s =
       if_either Fits (client && terms.by_oack) (Respond Ignore) (illegal_action terms) (λ _. tt) (λ _. s)
 
-  next_fits : (held : List ℕ) (terms : Terms) (number : ℕ) (piece : List ℕ) → SentFits e (Some terms) → e.progress.held ≡ held → piece ≡ drop 4 bytes → Fits (next_action e.role.mode held terms number piece)
+  next_fits : (held : List ℕ) (terms : Terms) (number : ℕ) (piece : List ℕ) → SentFits e (Some terms) → e.position.held ≡ held → piece ≡ drop 4 bytes → Fits (next_action e.role.mode held terms number piece)
   next_fits held terms number piece s h p =
       let last = nat_lt (length piece) terms.size in
       let store = if is_readable e.role.mode held piece last then Store terms number else Respond (Refuse (Some terms) NotNetascii outcomes.NotNetascii) in
@@ -82,7 +82,7 @@ module _ (e : EndState) (from : Endpoint) (bytes : List ℕ) where
       ))
       (λ _. s)))
 
-  data_fits : (held : List ℕ) (terms : Terms) (stored number : ℕ) (piece : List ℕ) → SentFits e (Some terms) → e.progress.held ≡ held → piece ≡ drop 4 bytes → Fits (data_action e.role.mode held terms stored number piece)
+  data_fits : (held : List ℕ) (terms : Terms) (stored number : ℕ) (piece : List ℕ) → SentFits e (Some terms) → e.position.held ≡ held → piece ≡ drop 4 bytes → Fits (data_action e.role.mode held terms stored number piece)
   data_fits held terms stored number piece s h p =
       let next = if number == stored + 1 then next_action e.role.mode held terms number piece else illegal_action terms in
       let other = if nat_lt number stored then Respond Ignore else next in
@@ -91,7 +91,7 @@ module _ (e : EndState) (from : Endpoint) (bytes : List ℕ) where
       (λ _. if_either Fits (number == stored + 1) (next_action e.role.mode held terms number piece) (illegal_action terms)
       (λ _. next_fits held terms number piece s h p) (λ _. s)))
 
-  receiver_fits : (client : Bool) (held : List ℕ) (terms : Terms) (stored : ℕ) (decoded : Option Packet) → SentFits e (Some terms) → e.progress.held ≡ held → Decodes bytes decoded → Fits (receiver_action client e.role.mode held terms stored decoded)
+  receiver_fits : (client : Bool) (held : List ℕ) (terms : Terms) (stored : ℕ) (decoded : Option Packet) → SentFits e (Some terms) → e.position.held ≡ held → Decodes bytes decoded → Fits (receiver_action client e.role.mode held terms stored decoded)
   receiver_fits client held terms stored None s h d = s
   receiver_fits client held terms stored (Some (Read r)) s h d = s
   receiver_fits client held terms stored (Some (Write r)) s h d = s
@@ -103,25 +103,25 @@ module _ (e : EndState) (from : Endpoint) (bytes : List ℕ) where
       if_either Fits (client && terms.by_oack) again (illegal_action terms)
       (λ _. if_either Fits (stored == 0) (Respond ResendReply) (Respond Ignore) (λ _. tt) (λ _. tt)) (λ _. s)
 
-  refusal_fits : (refusal : Refusal) → length e.progress.last_sent ≤ MAX_REQUEST → Fits (refusal_action refusal)
+  refusal_fits : (refusal : Refusal) → length e.position.last_sent ≤ MAX_REQUEST → Fits (refusal_action refusal)
   refusal_fits refusals.Repeated w = w
   refusal_fits refusals.TooLarge w = w
   refusal_fits refusals.NotAsked w = w
   refusal_fits refusals.BadValue w = w
 
-  accept_fits : (answer : Result (List Known) Refusal) → length e.progress.last_sent ≤ MAX_REQUEST → Fits (accept_action from answer)
+  accept_fits : (answer : Result (List Known) Refusal) → length e.position.last_sent ≤ MAX_REQUEST → Fits (accept_action from answer)
   accept_fits (Ok agreed) w = tt
   accept_fits (Err refusal) w = refusal_fits refusal w
 
-  begin_fits : (length_now : ℕ) (terms : Terms) → length e.progress.last_sent ≤ MAX_REQUEST → Fits (begin_action length_now terms)
+  begin_fits : (length_now : ℕ) (terms : Terms) → length e.position.last_sent ≤ MAX_REQUEST → Fits (begin_action length_now terms)
   begin_fits length_now terms w =
       if_either Fits (nat_lt length_now (65535 * terms.size)) (Send terms 1) (Respond (Refuse None FileTooLarge outcomes.TooLarge)) (λ _. sent_any e (Some terms) w) (λ _. w)
 
-  begin_with_fits : (length_now : ℕ) (answer : Result (List Known) Refusal) → length e.progress.last_sent ≤ MAX_REQUEST → Fits (begin_with_action from length_now answer)
+  begin_with_fits : (length_now : ℕ) (answer : Result (List Known) Refusal) → length e.position.last_sent ≤ MAX_REQUEST → Fits (begin_with_action from length_now answer)
   begin_with_fits length_now (Ok agreed) w = begin_fits length_now (agreed_terms from agreed) w
   begin_with_fits length_now (Err refusal) w = refusal_fits refusal w
 
-  reader_fits : (asked : Asked) (limit : ℕ) (decoded : Option Packet) → length e.progress.last_sent ≤ MAX_REQUEST → e.progress.held ≡ [] → Decodes bytes decoded → Fits (reader_action e.role.mode asked limit from decoded)
+  reader_fits : (asked : Asked) (limit : ℕ) (decoded : Option Packet) → length e.position.last_sent ≤ MAX_REQUEST → e.position.held ≡ [] → Decodes bytes decoded → Fits (reader_action e.role.mode asked limit from decoded)
   reader_fits asked limit None w h d = w
   reader_fits asked limit (Some (Read r)) w h d = w
   reader_fits asked limit (Some (Write r)) w h d = w
@@ -133,7 +133,7 @@ module _ (e : EndState) (from : Endpoint) (bytes : List ℕ) where
   reader_fits asked limit (Some (Error code text)) w h d = tt
   reader_fits asked limit (Some (Oack options)) w h d = accept_fits (agreement asked kinds.Read e.role.mode options limit) w
 
-  writer_fits : (asked : Asked) (limit : ℕ) (decoded : Option Packet) → length e.progress.last_sent ≤ MAX_REQUEST → Fits (writer_action e.role.mode asked limit e.role.length from decoded)
+  writer_fits : (asked : Asked) (limit : ℕ) (decoded : Option Packet) → length e.position.last_sent ≤ MAX_REQUEST → Fits (writer_action e.role.mode asked limit e.role.length from decoded)
   writer_fits asked limit None w = w
   writer_fits asked limit (Some (Read r)) w = w
   writer_fits asked limit (Some (Write r)) w = w
@@ -148,7 +148,7 @@ module _ (e : EndState) (from : Endpoint) (bytes : List ℕ) where
       if_either Fits (is_sender e.role.side) (writer_action e.role.mode asked limit e.role.length from decoded) (reader_action e.role.mode asked limit from decoded)
       (λ _. writer_fits asked limit decoded s) (λ _. reader_fits asked limit decoded s fits.2 d)
   phase_fits decoded (Sending terms number) fits s d = sender_fits (is_client e.role.side) terms number decoded s
-  phase_fits decoded (Receiving terms number) fits s d = receiver_fits (is_client e.role.side) e.progress.held terms number decoded s refl d
+  phase_fits decoded (Receiving terms number) fits s d = receiver_fits (is_client e.role.side) e.position.held terms number decoded s refl d
   phase_fits decoded (Dallying terms number dally) fits s d = dally_fits decoded where
     dally_fits : (decoded : Option Packet) → Fits (Respond (dally_response number decoded))
     dally_fits None = tt
@@ -161,5 +161,5 @@ module _ (e : EndState) (from : Endpoint) (bytes : List ℕ) where
   phase_fits decoded (Closed terms number complete outcome) fits s d = tt
 
   -- whatever an end finds at a packet
-  pub packet_fits : (decoded : Option Packet) → IsSound e → Decodes bytes decoded → Fits (packet_action e from decoded e.progress.phase)
-  packet_fits decoded sound d = phase_fits decoded e.progress.phase sound.phase sound.sent d
+  pub packet_fits : (decoded : Option Packet) → IsSound e → Decodes bytes decoded → Fits (packet_action e from decoded e.position.phase)
+  packet_fits decoded sound d = phase_fits decoded e.position.phase sound.phase sound.sent d

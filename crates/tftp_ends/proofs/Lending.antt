@@ -7,11 +7,11 @@ use Rattle.tftp_ends.specs.End.{EndState, step_of}
 use Rattle.tftp_ends.specs.Step.{Turn, Lends, Carries, lent, told}
 
 -- the bytes that are lent went behind others, and the step tells where they go
-pub carries_lent : (before e : EndState) (turn : Turn) (to : Option Endpoint) (outgoing : Outgoing) (old new : List ℕ) (step : Step) → Lends before turn e to outgoing → new ≡ old ++ lent outgoing e → step ≡ step_of before.progress.phase e.progress.phase to → Carries before turn e step.to old new × (step ≡ told before turn)
+pub carries_lent : (before e : EndState) (turn : Turn) (to : Option Endpoint) (outgoing : Outgoing) (old new : List ℕ) (step : Step) → Lends before turn e to outgoing → new ≡ old ++ lent outgoing e → step ≡ step_of before.position.phase e.position.phase to → Carries before turn e step.to old new × (step ≡ told before turn)
 carries_lent before e turn to outgoing old new step l n s =
     (record { state = l.state; goes = ap (λ (x : Step). x.to) s ∙ l.goes; appended = n ∙ ap (λ (x : List ℕ). old ++ x) l.bytes }, s ∙ rw (l.state, l.goes) refl)
 
 -- the step tells where what is lent goes
-pub tells_lent : (before e : EndState) (turn : Turn) (to : Option Endpoint) (outgoing : Outgoing) (step : Step) → Lends before turn e to outgoing → step ≡ step_of before.progress.phase e.progress.phase to → Lends before turn e step.to outgoing × (step ≡ told before turn)
+pub tells_lent : (before e : EndState) (turn : Turn) (to : Option Endpoint) (outgoing : Outgoing) (step : Step) → Lends before turn e to outgoing → step ≡ step_of before.position.phase e.position.phase to → Lends before turn e step.to outgoing × (step ≡ told before turn)
 tells_lent before e turn to outgoing step l s =
     (record { state = l.state; goes = ap (λ (x : Step). x.to) s ∙ l.goes; bytes = l.bytes }, s ∙ rw (l.state, l.goes) refl)

@@ -19,33 +19,33 @@ use Rattle.tftp_ends.specs.End.{EndState, is_sender, is_progress, outcome_of, te
 use Rattle.tftp_ends.specs.Opening.{serving_read, serving_write}
 use Rattle.tftp_ends.specs.Phase.{closed}
 use Rattle.tftp_ends.specs.Run.{IsOpening, Gets, Puts, Serves_read, Serves_write, Event, Datagram, Timeout, Taken, IsOpen, Takes, IsRun, AnswersByProgress, end_behind, count_if, is_timeout, is_data, is_oack, progress_count, timeout_count, data_count, datagram_count, opened_by_data}
-use Rattle.tftp_ends.specs.Step.{Turn, after_turn, response_turn, timeout_turn, with_progress}
+use Rattle.tftp_ends.specs.Step.{Turn, after_turn, response_turn, timeout_turn, with_position}
 use Rattle.tftp_ends.proofs.RunSteps.{Kept, rank, waits, datagram_moves, one_at_most, not_below_itself, no_progress, waits_at_most, number_kept, refused_rises}
 
 -- ---- what a timeout leaves
 pub record Waits (e : EndState) (turn : Turn) : Type 0 where
-  pub kept : Kept e.role.side e.role.length turn.progress.phase
-  pub still : is_progress e.progress.phase turn.progress.phase ≡ false
-  pub rises : rank e.progress.phase ≤ rank turn.progress.phase
-  pub spent : IsOpen (after_turn e turn) → turn.progress.retries_left + 1 + waits e.progress.phase ≤ e.progress.retries_left + waits turn.progress.phase
+  pub kept : Kept e.role.side e.role.length turn.position.phase
+  pub still : is_progress e.position.phase turn.position.phase ≡ false
+  pub rises : rank e.position.phase ≤ rank turn.position.phase
+  pub spent : IsOpen (after_turn e turn) → turn.position.retries_left + 1 + waits e.position.phase ≤ e.position.retries_left + waits turn.position.phase
 
 -- an end that closes at a timeout
-gives_up : (e : EndState) (outcome : Outcome) → IsOpen e → Kept e.role.side e.role.length e.progress.phase → is_progress e.progress.phase (closed outcome e.progress.phase) ≡ false → Waits e (response_turn (Close outcome) e.progress.last_sent_to e)
+gives_up : (e : EndState) (outcome : Outcome) → IsOpen e → Kept e.role.side e.role.length e.position.phase → is_progress e.position.phase (closed outcome e.position.phase) ≡ false → Waits e (response_turn (Close outcome) e.position.last_sent_to e)
 gives_up e outcome o kept still =
-    let rises = refused_rises e.progress.phase (terms_of e.progress.phase) outcome o in
+    let rises = refused_rises e.position.phase (terms_of e.position.phase) outcome o in
     record {
-      kept = number_kept e.role.side e.role.length e.progress.phase kept;
+      kept = number_kept e.role.side e.role.length e.position.phase kept;
       still = still;
       rises = omega (arith, rises);
       spent = λ h. absurd (true≢false h);
     }
 
 -- one that sends its last datagram again
-sends_again : (e : EndState) → 0 < e.progress.retries_left → Kept e.role.side e.role.length e.progress.phase → Waits e (response_turn Retransmit e.progress.last_sent_to e)
+sends_again : (e : EndState) → 0 < e.position.retries_left → Kept e.role.side e.role.length e.position.phase → Waits e (response_turn Retransmit e.position.last_sent_to e)
 sends_again e l kept =
     record {
       kept = kept;
-      still = no_progress e.progress.phase;
+      still = no_progress e.position.phase;
       rises = omega arith;
       spent = λ h. omega arith;
     }
@@ -58,15 +58,15 @@ closed_still (Dallying terms number dally) outcome o = rw (not_below_itself numb
 closed_still (Closed terms number complete was) outcome o = absurd (true≢false o)
 
 -- one that may try again, or not
-tries : (e : EndState) → IsOpen e → Kept e.role.side e.role.length e.progress.phase → Waits e (response_turn (if e.progress.retries_left == 0 then Close outcomes.TimedOut else Retransmit) e.progress.last_sent_to e)
-tries e o kept = elim (cases_eq e.progress.retries_left 0) [
-  | inl none ↦ rw (eq-eqb e.progress.retries_left 0 none) (gives_up e outcomes.TimedOut o kept (closed_still e.progress.phase outcomes.TimedOut o))
-  | inr some ↦ rw (ne_eqb e.progress.retries_left 0 some) (sends_again e (omega arith) kept)
+tries : (e : EndState) → IsOpen e → Kept e.role.side e.role.length e.position.phase → Waits e (response_turn (if e.position.retries_left == 0 then Close outcomes.TimedOut else Retransmit) e.position.last_sent_to e)
+tries e o kept = elim (cases_eq e.position.retries_left 0) [
+  | inl none ↦ rw (eq-eqb e.position.retries_left 0 none) (gives_up e outcomes.TimedOut o kept (closed_still e.position.phase outcomes.TimedOut o))
+  | inr some ↦ rw (ne_eqb e.position.retries_left 0 some) (sends_again e (omega arith) kept)
 ]
 
 -- the end in a phase
 abbrev in_phase_alone : Phase → EndState → EndState
-in_phase_alone p e = with_progress (record e.progress { phase = p }) e
+in_phase_alone p e = with_position (record e.position { phase = p }) e
 
 timeout_at : (e : EndState) (p : Phase) → is_some (outcome_of p) ≡ false → Kept e.role.side e.role.length p → Waits (in_phase_alone p e) (timeout_turn (in_phase_alone p e))
 timeout_at e (Waiting asked limit) o kept = tries (in_phase_alone (Waiting asked limit) e) o kept
@@ -85,10 +85,10 @@ timeout_at e (Closed terms number complete outcome) o kept = absurd (true≢fals
 
 -- ---- what one step leaves
 pub record Steps (e : EndState) (event : Event) (turn : Turn) : Type 0 where
-  pub kept : Kept e.role.side e.role.length turn.progress.phase
-  pub rises : rank e.progress.phase + count_if (is_progress e.progress.phase turn.progress.phase) ≤ rank turn.progress.phase
-  pub sends : is_sender e.role.side ≡ true → count_if (is_data turn.reply || is_oack turn.reply) ≤ count_if (is_progress e.progress.phase turn.progress.phase) + count_if (is_timeout event)
-  pub spent : IsOpen (after_turn e turn) → count_if (is_timeout event) + turn.progress.retries_left + waits e.progress.phase ≤ e.progress.retries_left + e.role.retries * count_if (is_progress e.progress.phase turn.progress.phase) + waits turn.progress.phase
+  pub kept : Kept e.role.side e.role.length turn.position.phase
+  pub rises : rank e.position.phase + count_if (is_progress e.position.phase turn.position.phase) ≤ rank turn.position.phase
+  pub sends : is_sender e.role.side ≡ true → count_if (is_data turn.reply || is_oack turn.reply) ≤ count_if (is_progress e.position.phase turn.position.phase) + count_if (is_timeout event)
+  pub spent : IsOpen (after_turn e turn) → count_if (is_timeout event) + turn.position.retries_left + waits e.position.phase ≤ e.position.retries_left + e.role.retries * count_if (is_progress e.position.phase turn.position.phase) + waits turn.position.phase
 
 -- DATA alone, and only with progress
 counts : (block oack progress : Bool) → oack ≡ false → (block ≡ true → progress ≡ true) → count_if (block || oack) ≤ count_if progress + 0
@@ -101,18 +101,18 @@ gives_back true left left' retries w w' e h = omega arith
 gives_back false left left' retries w w' e h = omega arith
 
 module _ {S K : Type 0} (sources : SourceMeaning S) (sinks : SinkMeaning K) where
-  step : (e : EndState) (event : Event) (turn : Turn) → IsOpen e → Kept e.role.side e.role.length e.progress.phase → Takes sources sinks e event turn → Steps e event turn
+  step : (e : EndState) (event : Event) (turn : Turn) → IsOpen e → Kept e.role.side e.role.length e.position.phase → Takes sources sinks e event turn → Steps e event turn
   step e (Datagram from bytes) turn o kept h =
       let m = datagram_moves sources sinks e from bytes h.0 h.1 turn o kept h.2 in
       record {
         kept = m.kept;
         rises = m.rises;
-        sends = λ s. counts (is_data turn.reply) (is_oack turn.reply) (is_progress e.progress.phase turn.progress.phase) (m.oack s) (m.sends s);
-        spent = λ _. gives_back (is_progress e.progress.phase turn.progress.phase) e.progress.retries_left turn.progress.retries_left e.role.retries (waits e.progress.phase) (waits turn.progress.phase) m.left m.waiting;
+        sends = λ s. counts (is_data turn.reply) (is_oack turn.reply) (is_progress e.position.phase turn.position.phase) (m.oack s) (m.sends s);
+        spent = λ _. gives_back (is_progress e.position.phase turn.position.phase) e.position.retries_left turn.position.retries_left e.role.retries (waits e.position.phase) (waits turn.position.phase) m.left m.waiting;
       }
   step e Timeout turn o kept h =
-      let w : Waits e turn = subst (λ (t : Turn). Waits e t) (sym h) (timeout_at e e.progress.phase o kept) in
-      let none : count_if (is_progress e.progress.phase turn.progress.phase) ≡ 0 = ap count_if w.still in
+      let w : Waits e turn = subst (λ (t : Turn). Waits e t) (sym h) (timeout_at e e.position.phase o kept) in
+      let none : count_if (is_progress e.position.phase turn.position.phase) ≡ 0 = ap count_if w.still in
       record {
         kept = w.kept;
         rises = omega (arith, none, w.rises);
@@ -123,10 +123,10 @@ module _ {S K : Type 0} (sources : SourceMeaning S) (sinks : SinkMeaning K) wher
   -- ---- what a run leaves
   record Behind (e : EndState) (run : List Taken) : Type 0 where
     pub side : (end_behind e run).role.side ≡ e.role.side
-    pub kept : Kept (end_behind e run).role.side (end_behind e run).role.length (end_behind e run).progress.phase
-    pub rises : rank e.progress.phase + progress_count e run ≤ rank (end_behind e run).progress.phase
+    pub kept : Kept (end_behind e run).role.side (end_behind e run).role.length (end_behind e run).position.phase
+    pub rises : rank e.position.phase + progress_count e run ≤ rank (end_behind e run).position.phase
     pub sends : is_sender e.role.side ≡ true → data_count run ≤ progress_count e run + timeout_count run
-    pub spent : IsOpen (end_behind e run) → timeout_count run + (end_behind e run).progress.retries_left + waits e.progress.phase ≤ e.progress.retries_left + e.role.retries * progress_count e run + waits (end_behind e run).progress.phase
+    pub spent : IsOpen (end_behind e run) → timeout_count run + (end_behind e run).position.retries_left + waits e.position.phase ≤ e.position.retries_left + e.role.retries * progress_count e run + waits (end_behind e run).position.phase
 
   open_before : (run : List Taken) (e : EndState) → IsRun sources sinks e run → IsOpen (end_behind e run) → IsOpen e
   open_before [] e r o = o
@@ -137,7 +137,7 @@ module _ {S K : Type 0} (sources : SourceMeaning S) (sinks : SinkMeaning K) wher
       let d : R * (cp + P) ≡ R * cp + R * P = mul-add R cp P in
       omega arith
 
-  behind : (run : List Taken) (e : EndState) → Kept e.role.side e.role.length e.progress.phase → IsRun sources sinks e run → Behind e run
+  behind : (run : List Taken) (e : EndState) → Kept e.role.side e.role.length e.position.phase → IsRun sources sinks e run → Behind e run
   behind [] e kept r =
       record { side = refl; kept = kept; rises = omega arith; sends = λ s. omega arith; spent = λ o. let z : e.role.retries * 0 ≡ 0 = omega arith in omega arith }
   behind (taken ∷ run) e kept r =
@@ -148,15 +148,15 @@ module _ {S K : Type 0} (sources : SourceMeaning S) (sinks : SinkMeaning K) wher
         kept = b.kept;
         rises = omega (arith, a.rises, b.rises);
         sends = λ s. let one = a.sends s in let more = b.sends s in omega arith;
-        spent = λ o. spent_all (count_if (is_timeout taken.event)) (timeout_count run) (end_behind (after_turn e taken.turn) run).progress.retries_left (waits e.progress.phase) taken.turn.progress.retries_left (waits taken.turn.progress.phase) e.progress.retries_left e.role.retries
-            (count_if (is_progress e.progress.phase taken.turn.progress.phase)) (progress_count (after_turn e taken.turn) run) (waits (end_behind (after_turn e taken.turn) run).progress.phase) (b.spent o) (a.spent (open_before run (after_turn e taken.turn) r.2 o));
+        spent = λ o. spent_all (count_if (is_timeout taken.event)) (timeout_count run) (end_behind (after_turn e taken.turn) run).position.retries_left (waits e.position.phase) taken.turn.position.retries_left (waits taken.turn.position.phase) e.position.retries_left e.role.retries
+            (count_if (is_progress e.position.phase taken.turn.position.phase)) (progress_count (after_turn e taken.turn) run) (waits (end_behind (after_turn e taken.turn) run).position.phase) (b.spent o) (a.spent (open_before run (after_turn e taken.turn) r.2 o));
       }
 
   -- ---- from an opening
   record Opened (e : EndState) : Type 0 where
-    pub kept : Kept e.role.side e.role.length e.progress.phase
-    pub fresh : waits e.progress.phase ≡ 0
-    pub all : e.progress.retries_left ≡ e.role.retries
+    pub kept : Kept e.role.side e.role.length e.position.phase
+    pub fresh : waits e.position.phase ≡ 0
+    pub all : e.position.retries_left ≡ e.role.retries
 
   served : (agreed : List Known) (peer : Endpoint) (mode : Mode) (length retries : ℕ) (piece : List ℕ) → length < 65535 * size agreed → Opened (serving_read agreed peer mode length retries piece)
   served [] peer mode length retries piece l = record { kept = (omega arith, l); fresh = refl; all = refl }
@@ -183,14 +183,14 @@ module _ {S K : Type 0} (sources : SourceMeaning S) (sinks : SinkMeaning K) wher
   progress_bound e run o r =
       let b = behind run e (opened e o).kept r in
       let f = end_behind e run in
-      let top = rank_below f.role.side f.role.length f.progress.phase b.kept in
+      let top = rank_below f.role.side f.role.length f.position.phase b.kept in
       omega (arith, b.rises)
 
   pub timeout_bound : (e : EndState) (run : List Taken) → IsOpening e → IsRun sources sinks e run → IsOpen (end_behind e run) → timeout_count run ≤ e.role.retries * (progress_count e run + 1) + 1
   timeout_bound e run o r live =
       let p = opened e o in
       let b = (behind run e p.kept r).spent live in
-      let top = waits_at_most (end_behind e run).progress.phase in
+      let top = waits_at_most (end_behind e run).position.phase in
       let d : e.role.retries * (progress_count e run + 1) ≡ e.role.retries * progress_count e run + e.role.retries * 1 = mul-add e.role.retries (progress_count e run) 1 in
       let one : e.role.retries * 1 ≡ e.role.retries = omega arith in
       omega (arith, b, p.fresh, p.all)

@@ -39,7 +39,7 @@ use Rattle.tftp_ends.specs.Phase.{refused, completed}
 use Rattle.tftp_ends.specs.Receiver.{receiver_action, data_action, next_action, dally_response}
 use Rattle.tftp_ends.specs.Run.{IsOpen, count_if, is_data, is_oack}
 use Rattle.tftp_ends.specs.Sender.{sender_action, acked_action, illegal_action}
-use Rattle.tftp_ends.specs.Step.{Done, Reply, Turn, Acts, DatagramStep, GoesOn, with_progress, response_turn, refused_turn, sent_turn, committed_turn, commit_reply, holding, ack_bytes, data_bytes, error_bytes, block_length, result_count_is}
+use Rattle.tftp_ends.specs.Step.{Done, Reply, Turn, Acts, DatagramStep, GoesOn, with_position, response_turn, refused_turn, sent_turn, committed_turn, commit_reply, holding, ack_bytes, data_bytes, error_bytes, block_length, result_count_is}
 use Rattle.tftp_ends.specs.Text.{is_readable}
 use Rattle.tftp_ends.specs.Waiting.{reader_action, writer_action, accept_action, begin_action, begin_with_action, refusal_action, default_terms, agreed_terms, no_answer}
 
@@ -71,12 +71,12 @@ waits (Closed terms number complete outcome) = 1
 
 -- what a datagram leaves of an end
 pub record Moves (e : EndState) (turn : Turn) : Type 0 where
-  pub kept : Kept e.role.side e.role.length turn.progress.phase
-  pub left : turn.progress.retries_left ≡ (if is_progress e.progress.phase turn.progress.phase then e.role.retries else e.progress.retries_left)
-  pub rises : rank e.progress.phase + count_if (is_progress e.progress.phase turn.progress.phase) ≤ rank turn.progress.phase
-  pub waiting : waits e.progress.phase ≤ waits turn.progress.phase
+  pub kept : Kept e.role.side e.role.length turn.position.phase
+  pub left : turn.position.retries_left ≡ (if is_progress e.position.phase turn.position.phase then e.role.retries else e.position.retries_left)
+  pub rises : rank e.position.phase + count_if (is_progress e.position.phase turn.position.phase) ≤ rank turn.position.phase
+  pub waiting : waits e.position.phase ≤ waits turn.position.phase
   pub oack : is_sender e.role.side ≡ true → is_oack turn.reply ≡ false
-  pub sends : is_sender e.role.side ≡ true → is_data turn.reply ≡ true → is_progress e.progress.phase turn.progress.phase ≡ true
+  pub sends : is_sender e.role.side ≡ true → is_data turn.reply ≡ true → is_progress e.position.phase turn.position.phase ≡ true
 
 -- either way of a test
 pub if_either : {A : Type 0} (P : A → Type 0) (b : Bool) (r s : A) → (b ≡ true → P r) → (b ≡ false → P s) → P (if b then r else s)
@@ -102,13 +102,13 @@ no_progress (Closed (Some terms) number true outcome) = rw (not_below_itself num
 no_progress (Closed (Some terms) number false outcome) = rw (not_below_itself number) refl
 
 -- an end that stays as it is, with no DATA and no OACK where it sends
-stays : (e : EndState) (reply : Option Reply) → Kept e.role.side e.role.length e.progress.phase → (is_sender e.role.side ≡ true → (is_oack reply ≡ false) × (is_data reply ≡ false)) →
-    Moves e (record { progress = e.progress; reply = reply })
+stays : (e : EndState) (reply : Option Reply) → Kept e.role.side e.role.length e.position.phase → (is_sender e.role.side ≡ true → (is_oack reply ≡ false) × (is_data reply ≡ false)) →
+    Moves e (record { position = e.position; reply = reply })
 stays e reply kept quiet =
-    let n : is_progress e.progress.phase e.progress.phase ≡ false = no_progress e.progress.phase in
+    let n : is_progress e.position.phase e.position.phase ≡ false = no_progress e.position.phase in
     record {
       kept = kept;
-      left = ap (λ (b : Bool). if b then e.role.retries else e.progress.retries_left) (sym n);
+      left = ap (λ (b : Bool). if b then e.role.retries else e.position.retries_left) (sym n);
       rises = omega (arith, ap count_if n);
       waiting = omega arith;
       oack = λ s. (quiet s).0;
@@ -148,9 +148,9 @@ refused_rises (Closed t number complete was) terms outcome o = absurd (true≢fa
 
 -- an end that goes into another phase
 goes_into : (e : EndState) (p : Phase) (sent : List ℕ) (to : Endpoint) (reply : Option Reply) → Kept e.role.side e.role.length p →
-    rank e.progress.phase + count_if (is_progress e.progress.phase p) ≤ rank p → waits e.progress.phase ≤ waits p →
-    (is_sender e.role.side ≡ true → (is_oack reply ≡ false) × (is_data reply ≡ true → is_progress e.progress.phase p ≡ true)) →
-    Moves e (record { progress = record e.progress { phase = p; retries_left = if is_progress e.progress.phase p then e.role.retries else e.progress.retries_left; last_sent = sent; last_sent_to = to }; reply = reply })
+    rank e.position.phase + count_if (is_progress e.position.phase p) ≤ rank p → waits e.position.phase ≤ waits p →
+    (is_sender e.role.side ≡ true → (is_oack reply ≡ false) × (is_data reply ≡ true → is_progress e.position.phase p ≡ true)) →
+    Moves e (record { position = record e.position { phase = p; retries_left = if is_progress e.position.phase p then e.role.retries else e.position.retries_left; last_sent = sent; last_sent_to = to }; reply = reply })
 goes_into e p sent to reply kept rises waiting quiet =
     record {
       kept = kept;
@@ -161,15 +161,15 @@ goes_into e p sent to reply kept rises waiting quiet =
       sends = λ s d. (quiet s).1 d;
     }
 
-closes : (e : EndState) (terms : Option Terms) (outcome : Outcome) (reply : Option Reply) → IsOpen e → Kept e.role.side e.role.length e.progress.phase → is_oack reply ≡ false → is_data reply ≡ false →
-    Moves e (record { progress = record e.progress { phase = refused terms outcome e.progress.phase; retries_left = if is_progress e.progress.phase (refused terms outcome e.progress.phase) then e.role.retries else e.progress.retries_left }; reply = reply })
+closes : (e : EndState) (terms : Option Terms) (outcome : Outcome) (reply : Option Reply) → IsOpen e → Kept e.role.side e.role.length e.position.phase → is_oack reply ≡ false → is_data reply ≡ false →
+    Moves e (record { position = record e.position { phase = refused terms outcome e.position.phase; retries_left = if is_progress e.position.phase (refused terms outcome e.position.phase) then e.role.retries else e.position.retries_left }; reply = reply })
 closes e terms outcome reply o kept oack sends =
-    goes_into e (refused terms outcome e.progress.phase) e.progress.last_sent e.progress.last_sent_to reply (number_kept e.role.side e.role.length e.progress.phase kept) (refused_rises e.progress.phase terms outcome o) (waits_at_most e.progress.phase)
+    goes_into e (refused terms outcome e.position.phase) e.position.last_sent e.position.last_sent_to reply (number_kept e.role.side e.role.length e.position.phase kept) (refused_rises e.position.phase terms outcome o) (waits_at_most e.position.phase)
     (λ s. (oack, λ d. absurd (true≢false (sym d ∙ sends))))
 
 -- ---- what a datagram leaves
 module _ {S K : Type 0} (sources : SourceMeaning S) (sinks : SinkMeaning K)
-    (e : EndState) (from : Endpoint) (bytes : List ℕ) (open_now : IsOpen e) (kept : Kept e.role.side e.role.length e.progress.phase) where
+    (e : EndState) (from : Endpoint) (bytes : List ℕ) (open_now : IsOpen e) (kept : Kept e.role.side e.role.length e.position.phase) where
   -- an action leaves this
   abbrev Moving : Action → Type 0
   Moving action = (turn : Turn) (files files' : Files S K) → Acts sources sinks action from bytes e files turn files' → Moves e turn
@@ -184,23 +184,23 @@ module _ {S K : Type 0} (sources : SourceMeaning S) (sinks : SinkMeaning K)
   tells_stranger = responds Stranger (stays e (Some (record { to = from; bytes = error_bytes replies.UnknownTransferId })) kept (λ _. (refl, refl)))
 
   answers_again : is_sender e.role.side ≡ false → Moving (Respond ResendReply)
-  answers_again r = responds ResendReply (stays e (Some (record { to = from; bytes = e.progress.last_sent })) kept (λ s. absurd (true≢false (sym s ∙ r))))
+  answers_again r = responds ResendReply (stays e (Some (record { to = from; bytes = e.position.last_sent })) kept (λ s. absurd (true≢false (sym s ∙ r))))
 
   gives_up : (outcome : Outcome) → Moving (Respond (Close outcome))
-  gives_up outcome = responds (Close outcome) (closes e (terms_of e.progress.phase) outcome None open_now kept refl refl)
+  gives_up outcome = responds (Close outcome) (closes e (terms_of e.position.phase) outcome None open_now kept refl refl)
 
   refuses : (terms : Option Terms) (reply : ErrorReply) (outcome : Outcome) → Moving (Respond (Refuse terms reply outcome))
   refuses terms reply outcome = responds (Refuse terms reply outcome) (closes e terms outcome (Some (record { to = from; bytes = error_bytes reply })) open_now kept refl refl)
 
   -- a source was asked for a block
-  filled : (terms : Terms) (number : ℕ) (piece : List ℕ) (b : Bool) → number ≤ 65535 → e.role.length < 65535 * terms.size → rank e.progress.phase + 1 ≤ number → waits e.progress.phase ≡ 0 → is_progress e.progress.phase (Sending terms number) ≡ true →
+  filled : (terms : Terms) (number : ℕ) (piece : List ℕ) (b : Bool) → number ≤ 65535 → e.role.length < 65535 * terms.size → rank e.position.phase + 1 ≤ number → waits e.position.phase ≡ 0 → is_progress e.position.phase (Sending terms number) ≡ true →
       Moves e (if b then sent_turn (Sending terms number) from (data_bytes number piece) e else refused_turn terms replies.FileChanged outcomes.SourceFault from e)
   filled terms number piece true n fits r w p =
-      let one = one_at_most (is_progress e.progress.phase (Sending terms number)) in
+      let one = one_at_most (is_progress e.position.phase (Sending terms number)) in
       goes_into e (Sending terms number) (data_bytes number piece) from (Some (record { to = from; bytes = data_bytes number piece })) (n, fits) (omega arith) (omega (arith, w)) (λ s. (refl, λ d. p))
   filled terms number piece false n fits r w p = closes e (Some terms) outcomes.SourceFault (Some (record { to = from; bytes = error_bytes replies.FileChanged })) open_now kept refl refl
 
-  sends : (terms : Terms) (number : ℕ) → number ≤ 65535 → e.role.length < 65535 * terms.size → rank e.progress.phase + 1 ≤ number → waits e.progress.phase ≡ 0 → is_progress e.progress.phase (Sending terms number) ≡ true → Moving (Send terms number)
+  sends : (terms : Terms) (number : ℕ) → number ≤ 65535 → e.role.length < 65535 * terms.size → rank e.position.phase + 1 ≤ number → waits e.position.phase ≡ 0 → is_progress e.position.phase (Sending terms number) ≡ true → Moving (Send terms number)
   sends terms number n fits r w p turn (Source source) (Source source') h =
       subst (λ (t : Turn). Moves e t) (sym h.answers) (filled terms number h.piece (result_count_is (block_length e.role.length terms.size number) h.answer) n fits r w p)
   sends terms number n fits r w p turn (Source source) (Sink sink') h = absurd h
@@ -212,13 +212,13 @@ module _ {S K : Type 0} (sources : SourceMeaning S) (sinks : SinkMeaning K)
   from_holding after turn m =
       record { kept = m.kept; left = m.left; rises = m.rises; waiting = m.waiting; oack = m.oack; sends = m.sends }
 
-  acknowledges : (p : Phase) (after : List ℕ) (number : ℕ) → is_sender e.role.side ≡ false → Kept e.role.side e.role.length p → rank e.progress.phase + 1 ≤ rank p → waits e.progress.phase ≤ waits p → Moves e (sent_turn p from (ack_bytes number) (holding after e))
+  acknowledges : (p : Phase) (after : List ℕ) (number : ℕ) → is_sender e.role.side ≡ false → Kept e.role.side e.role.length p → rank e.position.phase + 1 ≤ rank p → waits e.position.phase ≤ waits p → Moves e (sent_turn p from (ack_bytes number) (holding after e))
   acknowledges p after number r k l w =
-      let one = one_at_most (is_progress e.progress.phase p) in
+      let one = one_at_most (is_progress e.position.phase p) in
       from_holding after (sent_turn p from (ack_bytes number) (holding after e))
       (goes_into (holding after e) p (ack_bytes number) from (Some (record { to = from; bytes = ack_bytes number })) k (omega arith) w (λ s. absurd (true≢false (sym s ∙ r))))
 
-  committed : (terms : Terms) (number : ℕ) (after : List ℕ) (answer : Result Done StoreFault) → is_sender e.role.side ≡ false → number ≤ 65535 → rank e.progress.phase ≤ number → waits e.progress.phase ≡ 0 →
+  committed : (terms : Terms) (number : ℕ) (after : List ℕ) (answer : Result Done StoreFault) → is_sender e.role.side ≡ false → number ≤ 65535 → rank e.position.phase ≤ number → waits e.position.phase ≡ 0 →
       Moves e (committed_turn terms number from (holding after e) answer)
   committed terms number after (Ok done) r n l w =
       acknowledges (Dallying terms number Fresh) after number r (n, r) (omega arith) (omega (arith, w))
@@ -226,7 +226,7 @@ module _ {S K : Type 0} (sources : SourceMeaning S) (sinks : SinkMeaning K)
       from_holding after (refused_turn terms (commit_reply fault) outcomes.StoreFault from (holding after e))
       (closes (holding after e) (Some terms) outcomes.StoreFault (Some (record { to = from; bytes = error_bytes (commit_reply fault) })) open_now kept refl refl)
 
-  stored : (terms : Terms) (number : ℕ) (last : Bool) (after : List ℕ) (mid sink' : K) (answer : Result Done StoreFault) (turn : Turn) → is_sender e.role.side ≡ false → number ≤ 65535 → rank e.progress.phase ≤ number → waits e.progress.phase ≡ 0 →
+  stored : (terms : Terms) (number : ℕ) (last : Bool) (after : List ℕ) (mid sink' : K) (answer : Result Done StoreFault) (turn : Turn) → is_sender e.role.side ≡ false → number ≤ 65535 → rank e.position.phase ≤ number → waits e.position.phase ≡ 0 →
       GoesOn sinks terms number from e last after mid answer turn sink' → Moves e turn
   stored terms number true after mid sink' (Err fault) turn r n l w h =
       subst (λ (t : Turn). Moves e t) (sym h.0) (closes e (Some terms) outcomes.StoreFault (Some (record { to = from; bytes = error_bytes replies.DiskFull })) open_now kept refl refl)
@@ -237,7 +237,7 @@ module _ {S K : Type 0} (sources : SourceMeaning S) (sinks : SinkMeaning K)
   stored terms number false after mid sink' (Ok done) turn r n l w h =
       subst (λ (t : Turn). Moves e t) (sym h.0) (acknowledges (Receiving terms number) after number r (n, r) (omega arith) (omega (arith, w)))
 
-  stores : (terms : Terms) (number : ℕ) → is_sender e.role.side ≡ false → number ≤ 65535 → rank e.progress.phase ≤ number → waits e.progress.phase ≡ 0 → Moving (Store terms number)
+  stores : (terms : Terms) (number : ℕ) → is_sender e.role.side ≡ false → number ≤ 65535 → rank e.position.phase ≤ number → waits e.position.phase ≡ 0 → Moving (Store terms number)
   stores terms number r n l w turn (Sink sink) (Sink sink') h =
       stored terms number (nat_lt (length (drop 4 bytes)) terms.size) h.after h.mid sink' h.answer turn r n l w h.rest
   stores terms number r n l w turn (Sink sink) (Source source') h = absurd h
@@ -249,7 +249,7 @@ module _ {S K : Type 0} (sources : SourceMeaning S) (sinks : SinkMeaning K)
     (e0 : EndState) (from : Endpoint) (bytes : List ℕ) where
   -- the end in a phase
   abbrev at : Phase → EndState
-  at p = with_progress (record e0.progress { phase = p }) e0
+  at p = with_position (record e0.position { phase = p }) e0
 
   -- what an action leaves of it
   abbrev Going : (p : Phase) → is_some (outcome_of p) ≡ false → Kept e0.role.side e0.role.length p → Action → Type 0
@@ -278,7 +278,7 @@ module _ {S K : Type 0} (sources : SourceMeaning S) (sinks : SinkMeaning K)
   completes terms n kept =
       let one = one_at_most (is_progress (Sending terms n) (completed (Sending terms n))) in
       responds sources sinks (at (Sending terms n)) from bytes refl kept Complete
-      (goes_into (at (Sending terms n)) (completed (Sending terms n)) e0.progress.last_sent e0.progress.last_sent_to None kept.0 (omega arith) (omega arith) (λ s. (refl, λ d. absurd (true≢false (sym d)))))
+      (goes_into (at (Sending terms n)) (completed (Sending terms n)) e0.position.last_sent e0.position.last_sent_to None kept.0 (omega arith) (omega arith) (λ s. (refl, λ d. absurd (true≢false (sym d)))))
 
   acked_goes : (terms : Terms) (n acked : ℕ) (kept : Kept e0.role.side e0.role.length (Sending terms n)) → Going (Sending terms n) refl kept (acked_action e0.role.length terms n acked)
   acked_goes terms n acked kept =
@@ -421,7 +421,7 @@ module _ {S K : Type 0} (sources : SourceMeaning S) (sinks : SinkMeaning K)
       if_either (Going (Waiting asked limit) o kept) (is_sender e0.role.side) (writer_action e0.role.mode asked limit e0.role.length from decoded) (reader_action e0.role.mode asked limit from decoded)
       (λ _. writer_goes asked limit decoded) (λ r. reader_goes asked limit r decoded d)
   packet_goes (Sending terms n) o kept decoded d = sender_goes (is_client e0.role.side) terms n kept decoded
-  packet_goes (Receiving terms n) o kept decoded d = receiver_goes (Receiving terms n) o kept (is_client e0.role.side) e0.progress.held terms n decoded kept.1 d (omega arith) refl
+  packet_goes (Receiving terms n) o kept decoded d = receiver_goes (Receiving terms n) o kept (is_client e0.role.side) e0.position.held terms n decoded kept.1 d (omega arith) refl
   packet_goes (Dallying terms n dally) o kept decoded d = dally_goes terms n dally kept decoded
   packet_goes (Closed terms n complete outcome) o kept decoded d = absurd (true≢false o)
 
@@ -438,7 +438,7 @@ module _ {S K : Type 0} (sources : SourceMeaning S) (sinks : SinkMeaning K)
       let P = Going p o kept in
       let strange = if has_error_opcode bytes then Respond Ignore else Respond Stranger in
       let known = if has_error_opcode bytes && is_none decoded then Respond (garbled_response p) else packet_action (at p) from decoded p in
-      if_either P (is_stranger (terms_of p) e0.progress.last_sent_to from) strange known
+      if_either P (is_stranger (terms_of p) e0.position.last_sent_to from) strange known
       (λ _. if_either P (has_error_opcode bytes) (Respond Ignore) (Respond Stranger) (λ _. ignored p o kept)
       (λ _. tells_stranger sources sinks (at p) from bytes o kept))
       (λ _. if_either P (has_error_opcode bytes && is_none decoded) (Respond (garbled_response p)) (packet_action (at p) from decoded p)
@@ -446,7 +446,7 @@ module _ {S K : Type 0} (sources : SourceMeaning S) (sinks : SinkMeaning K)
 
 -- what a datagram leaves of an open end
 pub datagram_moves : {S K : Type 0} (sources : SourceMeaning S) (sinks : SinkMeaning K)
-    (e : EndState) (from : Endpoint) (bytes : List ℕ) (files files' : Files S K) (turn : Turn) → IsOpen e → Kept e.role.side e.role.length e.progress.phase →
+    (e : EndState) (from : Endpoint) (bytes : List ℕ) (files files' : Files S K) (turn : Turn) → IsOpen e → Kept e.role.side e.role.length e.position.phase →
     DatagramStep sources sinks from bytes e files turn files' → Moves e turn
 datagram_moves sources sinks e from bytes files files' turn o kept step =
-    datagram_goes sources sinks e from bytes e.progress.phase o kept step.decoded step.says turn files files' step.acts
+    datagram_goes sources sinks e from bytes e.position.phase o kept step.decoded step.says turn files files' step.acts

@@ -10,7 +10,7 @@ use Rattle.tftp_ends.specs.declared.phase.Phase.TheVariants.{Sending}
 use Rattle.tftp_ends.specs.declared.phase.Terms.{Terms}
 use Rattle.tftp_ends.specs.End.{EndState}
 use Rattle.tftp_ends.specs.Phase.{refused}
-use Rattle.tftp_ends.specs.Step.{Turn, Sends, Lends, ReadsData, in_phase, having_sent, with_progress, data_bytes, sent_turn, refused_turn, filled_turn, block_length}
+use Rattle.tftp_ends.specs.Step.{Turn, Sends, Lends, ReadsData, in_phase, having_sent, with_position, data_bytes, sent_turn, refused_turn, filled_turn, block_length}
 
 module _ {S : Type 0} (sources : SourceMeaning S) (terms : Terms) (number : ℕ) (from : Endpoint) (e : EndState) (source source' : S) (buffer : List ℕ) where
   -- what was offered for the next block
@@ -29,15 +29,15 @@ module _ {S : Type 0} (sources : SourceMeaning S) (terms : Terms) (number : ℕ)
       record { answer = o.answer; piece = o.piece; reads = o.reads; answers = refl }
 
   -- the block goes out, and is what a timeout sends again
-  pub sent_whole : (o : ReadsNext true) (e' : EndState) → e' ≡ with_progress (having_sent (record { to = from; bytes = buffer }) (in_phase (Sending terms number) e)) e → IsSent e' LastSent
+  pub sent_whole : (o : ReadsNext true) (e' : EndState) → e' ≡ with_position (having_sent (record { to = from; bytes = buffer }) (in_phase (Sending terms number) e)) e → IsSent e' LastSent
   sent_whole o e' s =
       let is : filled_turn terms number from o.piece e o.answer ≡ sent_turn (Sending terms number) from (data_bytes number o.piece) e = rw (← o.whole) refl in
-      let state : e' ≡ with_progress (having_sent (record { to = from; bytes = data_bytes number o.piece }) (in_phase (Sending terms number) e)) e = s ∙ ap (λ (b : List ℕ). with_progress (having_sent (record { to = from; bytes = b }) (in_phase (Sending terms number) e)) e) o.holds.0 in
-      let lends : Lends e (sent_turn (Sending terms number) from (data_bytes number o.piece) e) e' (Some from) LastSent = record { state = state; goes = refl; bytes = ap (λ (x : EndState). x.progress.last_sent) state } in
+      let state : e' ≡ with_position (having_sent (record { to = from; bytes = data_bytes number o.piece }) (in_phase (Sending terms number) e)) e = s ∙ ap (λ (b : List ℕ). with_position (having_sent (record { to = from; bytes = b }) (in_phase (Sending terms number) e)) e) o.holds.0 in
+      let lends : Lends e (sent_turn (Sending terms number) from (data_bytes number o.piece) e) e' (Some from) LastSent = record { state = state; goes = refl; bytes = ap (λ (x : EndState). x.position.last_sent) state } in
       (filled_turn terms number from o.piece e o.answer, step_at true o, subst (λ (t : Turn). Lends e t e' (Some from) LastSent) (sym is) lends)
 
   -- the file has changed
-  pub sent_error : (o : ReadsNext false) (e' : EndState) → e' ≡ with_progress (in_phase (refused (Some terms) SourceFault e.progress.phase) e) e → IsSent e' (Error FileChanged)
+  pub sent_error : (o : ReadsNext false) (e' : EndState) → e' ≡ with_position (in_phase (refused (Some terms) SourceFault e.position.phase) e) e → IsSent e' (Error FileChanged)
   sent_error o e' s =
       let is : filled_turn terms number from o.piece e o.answer ≡ refused_turn terms FileChanged SourceFault from e = rw (← o.whole) refl in
       let lends : Lends e (refused_turn terms FileChanged SourceFault from e) e' (Some from) (Error FileChanged) = record { state = s; goes = refl; bytes = refl } in

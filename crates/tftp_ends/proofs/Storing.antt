@@ -15,7 +15,7 @@ use Rattle.tftp_ends.specs.declared.phase.Phase.TheVariants.{Receiving, Dallying
 use Rattle.tftp_ends.specs.declared.phase.Terms.{Terms}
 use Rattle.tftp_ends.specs.End.{EndState}
 use Rattle.tftp_ends.specs.Phase.{refused}
-use Rattle.tftp_ends.specs.Step.{Done, Turn, Stores, GoesOn, Lends, in_phase, having_sent, with_progress, holding, ack_bytes, sent_turn, refused_turn, committed_turn}
+use Rattle.tftp_ends.specs.Step.{Done, Turn, Stores, GoesOn, Lends, in_phase, having_sent, with_position, holding, ack_bytes, sent_turn, refused_turn, committed_turn}
 use Rattle.tftp_ends.specs.BlockStored.{StoresPiece, StoresOn, committed_as}
 
 module _ {K : Type 0} (sinks : SinkMeaning K) (terms : Terms) (number : ℕ) (from : Endpoint) (piece : List ℕ) (e : EndState) (behind : List ℕ) (sink sink' : K) where
@@ -28,7 +28,7 @@ module _ {K : Type 0} (sinks : SinkMeaning K) (terms : Terms) (number : ℕ) (fr
 
   -- what was made of the block
   abbrev pub StoresNext : BlockStored → Type 0
-  StoresNext block_stored = StoresPiece sinks e.role.mode e.progress.held piece (ltb (length piece) terms.size) sink sink' block_stored behind
+  StoresNext block_stored = StoresPiece sinks e.role.mode e.position.held piece (ltb (length piece) terms.size) sink sink' block_stored behind
 
   -- what a receiver does at an action that stores, and what its call lends
   abbrev pub IsStored : EndState → Outgoing → Type 0
@@ -60,18 +60,18 @@ module _ {K : Type 0} (sinks : SinkMeaning K) (terms : Terms) (number : ℕ) (fr
       }
 
   -- the block was stored, and more is to come
-  pub stored_more : StoresNext More → (e' : EndState) → e' ≡ with_progress (having_sent (record { to = from; bytes = ack_bytes number }) (in_phase (Receiving terms number) (holding behind e))) e → IsStored e' LastSent
-  stored_more o e' s = (stored_turn More, stores More o, record { state = s; goes = refl; bytes = ap (λ (x : EndState). x.progress.last_sent) s })
+  pub stored_more : StoresNext More → (e' : EndState) → e' ≡ with_position (having_sent (record { to = from; bytes = ack_bytes number }) (in_phase (Receiving terms number) (holding behind e))) e → IsStored e' LastSent
+  stored_more o e' s = (stored_turn More, stores More o, record { state = s; goes = refl; bytes = ap (λ (x : EndState). x.position.last_sent) s })
 
   -- the whole was stored and committed
-  pub stored_all : StoresNext All → (e' : EndState) → e' ≡ with_progress (having_sent (record { to = from; bytes = ack_bytes number }) (in_phase (Dallying terms number Fresh) (holding behind e))) e → IsStored e' LastSent
-  stored_all o e' s = (stored_turn All, stores All o, record { state = s; goes = refl; bytes = ap (λ (x : EndState). x.progress.last_sent) s })
+  pub stored_all : StoresNext All → (e' : EndState) → e' ≡ with_position (having_sent (record { to = from; bytes = ack_bytes number }) (in_phase (Dallying terms number Fresh) (holding behind e))) e → IsStored e' LastSent
+  stored_all o e' s = (stored_turn All, stores All o, record { state = s; goes = refl; bytes = ap (λ (x : EndState). x.position.last_sent) s })
 
   -- the store has refused the block
-  pub stored_not : StoresNext Refused → (e' : EndState) → e' ≡ with_progress (in_phase (refused (Some terms) outcomes.StoreFault e.progress.phase) e) e → IsStored e' (Error DiskFull)
+  pub stored_not : StoresNext Refused → (e' : EndState) → e' ≡ with_position (in_phase (refused (Some terms) outcomes.StoreFault e.position.phase) e) e → IsStored e' (Error DiskFull)
   stored_not o e' s = (stored_turn Refused, stores Refused o, record { state = s; goes = refl; bytes = refl })
 
   -- the store has refused the commit
-  pub not_committed : (reply : ErrorReply) → StoresNext (Uncommitted reply) → (e' : EndState) → e' ≡ with_progress (in_phase (refused (Some terms) outcomes.StoreFault e.progress.phase) (holding behind e)) e → IsStored e' (Error reply)
+  pub not_committed : (reply : ErrorReply) → StoresNext (Uncommitted reply) → (e' : EndState) → e' ≡ with_position (in_phase (refused (Some terms) outcomes.StoreFault e.position.phase) (holding behind e)) e → IsStored e' (Error reply)
   not_committed reply o e' s =
       (stored_turn (Uncommitted reply), stores (Uncommitted reply) o, record { state = s; goes = refl; bytes = refl })

@@ -56,16 +56,16 @@ waiting_action e from decoded _ = Respond Ignore
 abbrev pub packet_action : EndState → Endpoint → Option Packet → Phase → Action
 packet_action e from decoded (Waiting asked limit) = waiting_action e from decoded (Waiting asked limit)
 packet_action e from decoded (Sending terms number) = sender_action (is_client e.role.side) e.role.length terms number decoded
-packet_action e from decoded (Receiving terms number) = receiver_action (is_client e.role.side) e.role.mode e.progress.held terms number decoded
+packet_action e from decoded (Receiving terms number) = receiver_action (is_client e.role.side) e.role.mode e.position.held terms number decoded
 packet_action e from decoded (Dallying terms number dally) = Respond (dally_response number decoded)
 packet_action e from decoded (Closed terms number complete outcome) = Respond Ignore
 
 -- how an open end handles a datagram: first from whom it is, then whether it can be answered at all
 abbrev pub datagram_action : EndState → Endpoint → List ℕ → Option Packet → Action
 datagram_action e from bytes decoded =
-    if is_stranger (terms_of e.progress.phase) e.progress.last_sent_to from then (if has_error_opcode bytes then Respond Ignore else Respond Stranger)
-    else if has_error_opcode bytes && is_none decoded then Respond (garbled_response e.progress.phase)
-    else packet_action e from decoded e.progress.phase
+    if is_stranger (terms_of e.position.phase) e.position.last_sent_to from then (if has_error_opcode bytes then Respond Ignore else Respond Stranger)
+    else if has_error_opcode bytes && is_none decoded then Respond (garbled_response e.position.phase)
+    else packet_action e from decoded e.position.phase
 
 -- how an open end handles a timeout (RFC 1350, sections 2 and 6)
 abbrev pub timeout_response : ℕ → Phase → Response

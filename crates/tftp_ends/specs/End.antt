@@ -13,8 +13,8 @@ use Rattle.tftp_ends.specs.declared.record.Held.{Held}
 use Rattle.tftp_ends.specs.declared.record.Record.{Record}
 use Rattle.tftp_ends.specs.declared.record.Step.{Step}
 
--- how far an end came
-pub record Progress : Type 0 where
+-- where an end is in its transfer, and what it keeps for the next event
+pub record Position : Type 0 where
   pub retries_left : ℕ
   -- what a timeout sends again, and where to
   pub last_sent : List ℕ
@@ -23,10 +23,10 @@ pub record Progress : Type 0 where
   pub held : List ℕ
   pub phase : Phase
 
--- an end: what it is from its opening on, and how far it came, which alone its steps change
+-- an end: what it is from its opening on, and its position, which alone its steps change
 pub record EndState : Type 0 where
   pub role : Role
-  pub progress : Progress
+  pub position : Position
 
 -- the end sends DATA
 abbrev pub is_sender : Side → Bool
@@ -98,17 +98,17 @@ abbrev pub record_of : EndState → Record
 record_of e =
     record {
       side = e.role.side;
-      peer = option_map (λ t. t.peer) (terms_of e.progress.phase);
-      size = size_of (terms_of e.progress.phase);
-      timeout = timeout_of (terms_of e.progress.phase);
-      number = number_of e.progress.phase;
-      complete = is_complete e.progress.phase;
-      outcome = outcome_of e.progress.phase;
+      peer = option_map (λ t. t.peer) (terms_of e.position.phase);
+      size = size_of (terms_of e.position.phase);
+      timeout = timeout_of (terms_of e.position.phase);
+      number = number_of e.position.phase;
+      complete = is_complete e.position.phase;
+      outcome = outcome_of e.position.phase;
     }
 
 -- how many bytes an end keeps between two events
 abbrev pub held_by : EndState → Held
-held_by e = record { datagram = list_length e.progress.last_sent; text = list_length e.progress.held }
+held_by e = record { datagram = list_length e.position.last_sent; text = list_length e.position.held }
 
 -- the peer was taken, the number rose, or the end became complete
 abbrev pub is_progress : Phase → Phase → Bool

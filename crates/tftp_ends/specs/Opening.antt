@@ -32,7 +32,7 @@ abbrev pub opened : Role → Phase → Endpoint → List ℕ → EndState
 opened role phase to sent =
     record {
       role = role;
-      progress = record { retries_left = role.retries; last_sent = sent; last_sent_to = to; held = []; phase = phase };
+      position = record { retries_left = role.retries; last_sent = sent; last_sent_to = to; held = []; phase = phase };
     }
 
 -- what an end is

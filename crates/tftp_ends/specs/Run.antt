@@ -24,7 +24,7 @@ pub data Event : Type 0 where
   Datagram : Endpoint → List ℕ → Event
   Timeout : Event
 
--- an event, and how far the end came and its answer behind it
+-- an event, and the end's position and its answer behind it
 pub record Taken : Type 0 where
   pub event : Event
   pub turn : Turn
@@ -36,7 +36,7 @@ end_behind e (taken ∷ run) = end_behind (after_turn e taken.turn) run
 
 -- the end is open
 abbrev pub IsOpen : EndState → Type 0
-IsOpen e = is_some (outcome_of e.progress.phase) ≡ false
+IsOpen e = is_some (outcome_of e.position.phase) ≡ false
 
 -- a datagram has this opcode
 abbrev pub has_opcode : ℕ → List ℕ → Bool
@@ -69,7 +69,7 @@ module _ {S K : Type 0} (sources : SourceMeaning S) (sinks : SinkMeaning K) wher
   -- it answers a datagram by DATA only where that is progress, and never by an OACK
   abbrev pub AnswersByProgress : EndState → Type 0
   AnswersByProgress e = (from : Endpoint) (bytes : List ℕ) (turn : Turn) → Takes e (Datagram from bytes) turn →
-      (is_oack turn.reply ≡ false) × (is_data turn.reply ≡ true → is_progress e.progress.phase turn.progress.phase ≡ true)
+      (is_oack turn.reply ≡ false) × (is_data turn.reply ≡ true → is_progress e.position.phase turn.position.phase ≡ true)
 
 -- one, where it holds
 abbrev pub count_if : Bool → ℕ
@@ -79,7 +79,7 @@ count_if false = 0
 -- how many steps were progress
 abbrev pub progress_count : EndState → List Taken → ℕ
 progress_count e [] = 0
-progress_count e (taken ∷ run) = count_if (is_progress e.progress.phase taken.turn.progress.phase) + progress_count (after_turn e taken.turn) run
+progress_count e (taken ∷ run) = count_if (is_progress e.position.phase taken.turn.position.phase) + progress_count (after_turn e taken.turn) run
 
 abbrev pub is_timeout : Event → Bool
 is_timeout (Datagram from bytes) = false
@@ -97,7 +97,7 @@ data_count (taken ∷ run) = count_if (is_data taken.turn.reply || is_oack taken
 
 -- whether the datagram that opened an end was
 abbrev pub opened_by_data : EndState → Bool
-opened_by_data e = has_opcode 3 e.progress.last_sent || has_opcode 6 e.progress.last_sent
+opened_by_data e = has_opcode 3 e.position.last_sent || has_opcode 6 e.position.last_sent
 
 -- how many datagrams went out
 abbrev pub datagram_count : List Taken → ℕ

@@ -22,7 +22,7 @@ IsSending e terms = (is_sender e.role.side ≡ true) × (0 < terms.size) × (e.r
 
 -- clients wait and have no text yet, senders send, receivers receive
 abbrev pub PhaseFits : EndState → Phase → Type 0
-PhaseFits e (Waiting asked limit) = (is_client e.role.side ≡ true) × IsAskable asked × (e.progress.held ≡ [])
+PhaseFits e (Waiting asked limit) = (is_client e.role.side ≡ true) × IsAskable asked × (e.position.held ≡ [])
 PhaseFits e (Sending terms number) = IsSending e terms
 PhaseFits e (Receiving terms number) = is_sender e.role.side ≡ false
 PhaseFits e (Dallying terms number dally) = is_sender e.role.side ≡ false
@@ -31,7 +31,7 @@ PhaseFits e (Closed terms number complete outcome) = Unit {0}
 -- the end has acknowledged what it stored: its last datagram is the ACK of its number, but for a server's OACK
 abbrev pub HasAcknowledged : EndState → Terms → ℕ → Type 0
 HasAcknowledged e terms number =
-    is_client e.role.side || (not terms.by_oack || nat_lt 0 number) ≡ true → e.progress.last_sent ≡ ack_bytes number
+    is_client e.role.side || (not terms.by_oack || nat_lt 0 number) ≡ true → e.position.last_sent ≡ ack_bytes number
 
 -- a receiver's last datagram is the ACK of its number
 abbrev pub ResendsAck : EndState → Phase → Type 0
@@ -54,14 +54,14 @@ longest_sent (Some terms) = max MAX_REQUEST (HEADER + terms.size)
 
 -- what holds of an end between two events
 pub record IsSound (e : EndState) : Type 0 where
-  pub phase : PhaseFits e e.progress.phase
-  pub resends : ResendsAck e e.progress.phase
-  pub held : HeldFits e.role.mode e.progress.held
-  pub sent : length e.progress.last_sent ≤ longest_sent (terms_of e.progress.phase)
+  pub phase : PhaseFits e e.position.phase
+  pub resends : ResendsAck e e.position.phase
+  pub held : HeldFits e.role.mode e.position.held
+  pub sent : length e.position.last_sent ≤ longest_sent (terms_of e.position.phase)
 
 -- a retry is spent only where one is left, and only a receiver takes an OACK by an ACK
 abbrev pub ResponseFits : EndState → Response → Type 0
-ResponseFits e Retransmit = 0 < e.progress.retries_left
+ResponseFits e Retransmit = 0 < e.position.retries_left
 ResponseFits e (Accept terms) = is_sender e.role.side ≡ false
 ResponseFits e _ = Unit {0}
 
@@ -73,7 +73,7 @@ ActionFits e (Store terms number) = is_sender e.role.side ≡ false
 
 -- the terms with which an end closes are those that it had, if it had any: they allow the datagram that it keeps
 abbrev pub SentFits : EndState → Option Terms → Type 0
-SentFits e terms = length e.progress.last_sent ≤ longest_sent terms
+SentFits e terms = length e.position.last_sent ≤ longest_sent terms
 
 -- the same, of what an end does where no file is touched
 abbrev pub RefusalFits : EndState → Response → Type 0
@@ -85,7 +85,7 @@ abbrev pub PieceFits : EndState → List ℕ → Action → Type 0
 PieceFits e piece (Respond response) = RefusalFits e response
 PieceFits e piece (Send terms number) = SentFits e (Some terms)
 PieceFits e piece (Store terms number) =
-    SentFits e (Some terms) × (is_readable e.role.mode e.progress.held piece (nat_lt (length piece) terms.size) ≡ true)
+    SentFits e (Some terms) × (is_readable e.role.mode e.position.held piece (nat_lt (length piece) terms.size) ≡ true)
 
 -- what a sender does at a packet where no file is touched
 abbrev pub IsSenders : Response → Type 0

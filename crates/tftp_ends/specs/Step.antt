@@ -23,7 +23,7 @@ use Rattle.tftp_ends.specs.declared.action.Response.{Response}
 use Rattle.tftp_ends.specs.declared.action.Response.TheVariants.{Ignore, Stranger, ResendReply, Retransmit, Wait, Close, Refuse, Accept, Complete}
 use Rattle.tftp_ends.specs.declared.outgoing.Outgoing.{Outgoing}
 use Rattle.tftp_ends.specs.declared.outgoing.Outgoing.TheVariants.{Nothing, LastSent, Error}
-use Rattle.tftp_ends.specs.End.{Progress, EndState, is_progress, step_of}
+use Rattle.tftp_ends.specs.End.{Position, EndState, is_progress, step_of}
 use Rattle.tftp_ends.specs.ErrorReply.{error_packet}
 use Rattle.tftp_ends.specs.Phase.{closed, refused, completed, waited}
 use Rattle.tftp_ends.specs.Action.{Decodes, datagram_action, timeout_response}
@@ -43,20 +43,20 @@ pub record Reply : Type 0 where
   pub bytes : List ℕ
 
 -- an end in another phase: progress gives its retries back
-abbrev pub in_phase : Phase → EndState → Progress
+abbrev pub in_phase : Phase → EndState → Position
 in_phase phase e =
-    record e.progress {
+    record e.position {
       phase = phase;
-      retries_left = if is_progress e.progress.phase phase then e.role.retries else e.progress.retries_left;
+      retries_left = if is_progress e.position.phase phase then e.role.retries else e.position.retries_left;
     }
 
 -- a new datagram was sent, which a timeout will send again
-abbrev pub having_sent : Reply → Progress → Progress
-having_sent reply progress = record progress { last_sent = reply.bytes; last_sent_to = reply.to }
+abbrev pub having_sent : Reply → Position → Position
+having_sent reply position = record position { last_sent = reply.bytes; last_sent_to = reply.to }
 
--- the end, having come so far
-abbrev pub with_progress : Progress → EndState → EndState
-with_progress progress e = record e { progress = progress }
+-- the end at another position
+abbrev pub with_position : Position → EndState → EndState
+with_position position e = record e { position = position }
 
 -- the bytes of an ERROR, and of an ACK
 abbrev pub error_bytes : ErrorReply → List ℕ
@@ -68,42 +68,42 @@ ack_bytes number = canonical (Ack number)
 abbrev pub data_bytes : ℕ → List ℕ → List ℕ
 data_bytes number bytes = canonical (Data number bytes)
 
--- how far the end came after what touches no file, where a datagram came from there
-abbrev pub after : Response → Endpoint → EndState → Progress
-after Ignore from e = e.progress
-after Stranger from e = e.progress
-after ResendReply from e = e.progress
-after Retransmit from e = record e.progress { retries_left = e.progress.retries_left - 1 }
-after Wait from e = record e.progress { phase = waited e.progress.phase }
-after (Close outcome) from e = in_phase (closed outcome e.progress.phase) e
-after (Refuse terms reply outcome) from e = in_phase (refused terms outcome e.progress.phase) e
+-- the position of the end after what touches no file, where a datagram came from there
+abbrev pub after : Response → Endpoint → EndState → Position
+after Ignore from e = e.position
+after Stranger from e = e.position
+after ResendReply from e = e.position
+after Retransmit from e = record e.position { retries_left = e.position.retries_left - 1 }
+after Wait from e = record e.position { phase = waited e.position.phase }
+after (Close outcome) from e = in_phase (closed outcome e.position.phase) e
+after (Refuse terms reply outcome) from e = in_phase (refused terms outcome e.position.phase) e
 after (Accept terms) from e = having_sent (record { to = from; bytes = ack_bytes 0 }) (in_phase (Receiving terms 0) e)
-after Complete from e = in_phase (completed e.progress.phase) e
+after Complete from e = in_phase (completed e.position.phase) e
 
 -- what is answered where no file is touched
 abbrev pub reply_at : Response → Endpoint → EndState → Option Reply
 reply_at Ignore from e = None
 reply_at Stranger from e = Some (record { to = from; bytes = error_bytes replies.UnknownTransferId })
-reply_at ResendReply from e = Some (record { to = from; bytes = e.progress.last_sent })
-reply_at Retransmit from e = Some (record { to = e.progress.last_sent_to; bytes = e.progress.last_sent })
+reply_at ResendReply from e = Some (record { to = from; bytes = e.position.last_sent })
+reply_at Retransmit from e = Some (record { to = e.position.last_sent_to; bytes = e.position.last_sent })
 reply_at Wait from e = None
 reply_at (Close outcome) from e = None
 reply_at (Refuse terms reply outcome) from e = Some (record { to = from; bytes = error_bytes reply })
 reply_at (Accept terms) from e = Some (record { to = from; bytes = ack_bytes 0 })
 reply_at Complete from e = None
 
--- how far an end came after an event, and its answer
+-- an end's position after an event, and its answer
 pub record Turn : Type 0 where
-  pub progress : Progress
+  pub position : Position
   pub reply : Option Reply
 
 -- the end after a turn
 abbrev pub after_turn : EndState → Turn → EndState
-after_turn e turn = with_progress turn.progress e
+after_turn e turn = with_position turn.position e
 
 -- the turn of what touches no file
 abbrev pub response_turn : Response → Endpoint → EndState → Turn
-response_turn response from e = record { progress = after response from e; reply = reply_at response from e }
+response_turn response from e = record { position = after response from e; reply = reply_at response from e }
 
 -- an ERROR, and closed with these terms
 abbrev pub refused_turn : Terms → ErrorReply → Outcome → Endpoint → EndState → Turn
@@ -113,7 +113,7 @@ refused_turn terms reply outcome from e = response_turn (Refuse (Some terms) rep
 abbrev pub sent_turn : Phase → Endpoint → List ℕ → EndState → Turn
 sent_turn phase from bytes e =
     let reply : Reply = record { to = from; bytes = bytes } in
-    record { progress = having_sent reply (in_phase phase e); reply = Some reply }
+    record { position = having_sent reply (in_phase phase e); reply = Some reply }
 
 -- how many bytes DATA of this number carries, of a file of that length
 abbrev pub block_length : ℕ → ℕ → ℕ → ℕ
@@ -145,7 +145,7 @@ committed_turn terms number from e (Err fault) = refused_turn terms (commit_repl
 
 -- a receiver that holds back this much text
 abbrev pub holding : List ℕ → EndState → EndState
-holding held e = with_progress (record e.progress { held = held }) e
+holding held e = with_position (record e.position { held = held }) e
 
 -- a source was asked for so many bytes, and this came of it; one that may not fail to read hasn't
 pub record ReadsBlock (before after : Option (List ℕ)) (may_fail : Type 0) (want : ℕ) (piece : List ℕ) (answer : Result ℕ FileFault) : Type 0 where
@@ -195,7 +195,7 @@ module _ {K : Type 0} (sinks : SinkMeaning K) where
     pub after : List ℕ
     pub mid : K
     pub answer : Result Done StoreFault
-    pub decoded : Decoded e.role.mode e.progress.held piece bytes after
+    pub decoded : Decoded e.role.mode e.position.held piece bytes after
     pub appended : Appended bytes sink mid answer
     pub memory : answer ≢ Err store_faults.Memory
     pub rest : GoesOn terms number from e (nat_lt (length piece) terms.size) after mid answer turn sink'
@@ -225,11 +225,11 @@ module _ {S K : Type 0} (sources : SourceMeaning S) (sinks : SinkMeaning K) wher
 
 -- what an open end does at a timeout
 abbrev pub timeout_turn : EndState → Turn
-timeout_turn e = response_turn (timeout_response e.progress.retries_left e.progress.phase) e.progress.last_sent_to e
+timeout_turn e = response_turn (timeout_response e.position.retries_left e.position.phase) e.position.last_sent_to e
 
 -- what a call tells of a turn
 abbrev pub told : EndState → Turn → Step
-told e turn = step_of e.progress.phase turn.progress.phase (option_map (λ (r : Reply). r.to) turn.reply)
+told e turn = step_of e.position.phase turn.position.phase (option_map (λ (r : Reply). r.to) turn.reply)
 
 -- what a call appends
 abbrev pub reply_bytes : Option Reply → List ℕ
@@ -263,15 +263,15 @@ UsesFile (Store terms number) = Unit {0}
 -- the bytes that an end lends of what goes out
 abbrev pub lent : Outgoing → EndState → List ℕ
 lent Nothing e = []
-lent LastSent e = e.progress.last_sent
+lent LastSent e = e.position.last_sent
 lent (Error reply) e = error_bytes reply
 
 -- the most bytes that go out where no file is touched
 abbrev pub response_room : EndState → Response → ℕ
 response_room e Ignore = 0
 response_room e Stranger = 24
-response_room e ResendReply = length e.progress.last_sent
-response_room e Retransmit = length e.progress.last_sent
+response_room e ResendReply = length e.position.last_sent
+response_room e Retransmit = length e.position.last_sent
 response_room e Wait = 0
 response_room e (Close outcome) = 0
 response_room e (Refuse terms reply outcome) = 24

@@ -56,7 +56,7 @@ impl Model for End {
 
     ghost view = { λ e. record {
       role = e.role;
-      progress = record {
+      position = record {
         retries_left = e.retries_left;
         last_sent = e.last_sent.items;
         last_sent_to = e.last_sent_to;
@@ -67,7 +67,7 @@ impl Model for End {
 
     ghost invariant = { λ e. IsSound (record {
       role = e.role;
-      progress = record {
+      position = record {
         retries_left = e.retries_left;
         last_sent = e.last_sent.items;
         last_sent_to = e.last_sent_to;
@@ -87,7 +87,7 @@ impl End {
     /// How far the end came. What a repeated block is answered by is the ACK of the number.
     pub fn record(&self) -> Record
         ensures record { result ≡ record_of self.now }
-        ensures resends { ResendsAck self.now self.now.progress.phase }
+        ensures resends { ResendsAck self.now self.now.position.phase }
     {
         let terms = self.phase.terms();
         Record {
@@ -103,7 +103,7 @@ impl End {
 
     /// How the end closed, once it is closed.
     pub fn outcome(&self) -> Option<Outcome>
-        ensures { result ≡ outcome_of self.now.progress.phase }
+        ensures { result ≡ outcome_of self.now.position.phase }
     {
         self.phase.outcome()
     }
@@ -112,7 +112,7 @@ impl End {
     /// block of the agreed size, or 512 for a request or an OACK, and of text one at most.
     pub fn held(&self) -> Held
         ensures held { result ≡ held_by self.now }
-        ensures datagram { result.datagram ≤ longest_sent (terms_of self.now.progress.phase) }
+        ensures datagram { result.datagram ≤ longest_sent (terms_of self.now.position.phase) }
         ensures text { result.text ≤ 1 }
     {
         Held {
@@ -124,7 +124,7 @@ impl End {
     /// The seconds that the caller lets pass in silence before a timeout: the agreed ones (RFC
     /// 2349, "Timeout Interval Option Specification"), or 1.
     pub fn interval(&self) -> u8
-        ensures { result ≡ interval_of (terms_of self.now.progress.phase) }
+        ensures { result ≡ interval_of (terms_of self.now.position.phase) }
     {
         let agreed = self.phase.terms().and_then(|terms| terms.timeout);
         agreed.unwrap_or(1)
@@ -133,8 +133,8 @@ impl End {
     /// Whether a datagram from there is not from the other end, or, before there is one, not from
     /// the server's address.
     fn is_stranger(&self, from: Endpoint) -> bool
-        ensures { result ≡ is_stranger (terms_of self.now.progress.phase)
-            self.now.progress.last_sent_to from }
+        ensures { result ≡ is_stranger (terms_of self.now.position.phase)
+            self.now.position.last_sent_to from }
     {
         match self.phase.terms() {
             Some(terms) => terms.peer != from,
@@ -144,7 +144,7 @@ impl End {
 
     /// What begins as an ERROR and is none ends the transfer in silence, but not a dally.
     fn garbled_response(&self) -> Response
-        ensures { result ≡ garbled_response self.now.progress.phase }
+        ensures { result ≡ garbled_response self.now.position.phase }
     {
         match self.phase {
             Phase::Waiting { .. } | Phase::Sending { .. } | Phase::Receiving { .. } =>
@@ -158,7 +158,7 @@ impl End {
     /// How the end handles a packet from its peer, or from the server while it has none.
     fn packet_action(&self, from: Endpoint, decoded: &Option<PacketRef<'_>>) -> Action
         ensures action { result
-            ≡ packet_action self.now from (option_map owned decoded.now) self.now.progress.phase }
+            ≡ packet_action self.now from (option_map owned decoded.now) self.now.position.phase }
         ensures fits { ActionFits self.now result }
         ensures sound { IsSound self.now }
     {
@@ -211,8 +211,8 @@ impl End {
 
     /// How the end handles a timeout (RFC 1350, sections 2 and 6).
     fn timeout_response(&self) -> Response
-        ensures response { result ≡ timeout_response self.now.progress.retries_left
-            self.now.progress.phase }
+        ensures response { result ≡ timeout_response self.now.position.retries_left
+            self.now.position.phase }
         ensures fits { ResponseFits self.now result }
         ensures refusal { RefusalFits self.now result }
     {
@@ -236,14 +236,14 @@ impl End {
 
     /// Whether the end is closed.
     fn is_closed(&self) -> bool
-        ensures { result ≡ is_some (outcome_of self.now.progress.phase) }
+        ensures { result ≡ is_some (outcome_of self.now.position.phase) }
     {
         self.outcome().is_some()
     }
 
     /// Where the end stands.
     fn phase(&self) -> Phase
-        ensures { result ≡ self.now.progress.phase }
+        ensures { result ≡ self.now.position.phase }
     {
         self.phase
     }
@@ -276,7 +276,7 @@ impl End {
             × DatagramStep S.meaning K.meaning from bytes.now self.old files.old turn files.new
             × Lends self.old turn self.new answer.0.to answer.1 × (answer.0 ≡ told self.old turn)) }
         ensures closed { IsErrOf result EndFault.Closed
-            ↔ IsSome (outcome_of self.old.progress.phase) }
+            ↔ IsSome (outcome_of self.old.position.phase) }
         ensures memory { IsErrOf result EndFault.Memory → (decoded : Option Packet)
             × Decodes bytes.now decoded
             × UsesFile (datagram_action self.old from bytes.now decoded) }
@@ -301,7 +301,7 @@ impl End {
             Lends self.old (timeout_turn self.old) self.new answer.0.to answer.1
             × (answer.0 ≡ told self.old (timeout_turn self.old))) }
         ensures closed { IsErrOf result EndFault.Closed
-            ↔ IsSome (outcome_of self.old.progress.phase) }
+            ↔ IsSome (outcome_of self.old.position.phase) }
         ensures memory { IsErrOf result EndFault.Memory → ⊥ }
         ensures err { OnErr result (self.new ≡ self.old) }
     {
@@ -342,7 +342,7 @@ impl End {
             × Carries self.old turn self.new step.to out.old.items out.new.items
             × (step ≡ told self.old turn)) }
         ensures closed { IsErrOf result EndFault.Closed
-            ↔ IsSome (outcome_of self.old.progress.phase) }
+            ↔ IsSome (outcome_of self.old.position.phase) }
         ensures memory { IsErrOf result EndFault.Memory → (decoded : Option Packet)
             × Decodes bytes.now decoded
             × IsAnswered (datagram_action self.old from bytes.now decoded) }
@@ -372,9 +372,9 @@ impl End {
             Carries self.old (timeout_turn self.old) self.new step.to out.old.items out.new.items
             × (step ≡ told self.old (timeout_turn self.old))) }
         ensures closed { IsErrOf result EndFault.Closed
-            ↔ IsSome (outcome_of self.old.progress.phase) }
+            ↔ IsSome (outcome_of self.old.position.phase) }
         ensures memory { IsErrOf result EndFault.Memory
-            → IsAnswered (timeout_action self.old.progress.retries_left self.old.progress.phase) }
+            → IsAnswered (timeout_action self.old.position.retries_left self.old.position.phase) }
         ensures err { OnErr result ((self.new ≡ self.old) × (out.new.items ≡ out.old.items)) }
     {
         if self.is_closed() {

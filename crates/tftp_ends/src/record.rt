@@ -1,4 +1,4 @@
-//! What an end tells of itself: how far it came, and what a call did.
+//! What an end reports of itself: where it is in its transfer, and what a call did.
 
 use crate::endpoint::Endpoint;
 use crate::outcome::Outcome;

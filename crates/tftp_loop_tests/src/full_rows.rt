@@ -1,4 +1,4 @@
-//! Puts to a `tftpd` whose files may not grow: the client hears that the disk is full, and nothing is named.
+//! Puts to a `tftpd` whose files may not grow: the client is told that the disk is full, and nothing is named.
 
 use crate::loopback::bytes_of;
 use crate::programs::{limited_program, listening, told};

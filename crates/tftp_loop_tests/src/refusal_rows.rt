@@ -94,7 +94,7 @@ fn requests_are_refused(rt: HostRuntime) -> Result<(), Fail> {
     Ok(())
 }
 
-/// At `--cap` another client hears that the server is busy, and a repeated request is not answered a second time.
+/// At `--cap` another client is told that the server is busy, and a repeated request is not answered a second time.
 fn is_busy<R: Net + Abort>(rt: &R, server: SocketAddr) -> Result<(), Fail> {
     let request = b"\0\x01a\0octet\0".as_slice();
     let first = loopback_socket(rt)?;

@@ -10,7 +10,7 @@ use std::process::{self, Abort, Stdio};
 use std::rt::Runtime;
 use std::test::Fail;
 
-/// A client of the test asks to write the file `n`, sends one whole block, and is heard of no more.
+/// A client of the test asks to write the file `n`, sends one whole block, and sends nothing more.
 fn vanishes<R: Net + Abort>(rt: &R, server: &str) -> Result<(), Fail> {
     let socket = loopback_socket(rt)?;
     let mut buffer = [0; 600];

@@ -21,7 +21,7 @@ use Rattle.tftp_player.specs.Clients.{server_at, left_in}
 use Rattle.tftp_player.specs.Effect.{said_by, report_by}
 use Rattle.tftp_player.specs.Machine.{Endpoint, request_port}
 use Rattle.tftp_player.specs.Played.{PlayerKept, end_at, ends_from, records_from, served_as, served_end}
-use Rattle.tftp_player.specs.Requested.{IsRequested, OpensNone, IsWanted, new_served, requested_by}
+use Rattle.tftp_player.specs.Requested.{IsRequested, OpensNone, IsAdmitted, new_served, requested_by}
 use Rattle.tftp_player.specs.Requests.{is_transfer, IsRepeated, open_transfers, served, service}
 use Rattle.tftp_player.specs.Serving.{PlayedServer, ServedKept, Transfer}
 use Rattle.tftp_player.specs.Stage.{IsOwned, IsRising, IsStaged, ends_of, world_of}
@@ -141,7 +141,7 @@ module _ (from : Endpoint) (bytes : List ℕ) (before : PlayedServer) (ps : List
 
   -- ---- where an end opens
   module _ (after : PlayedServer) (opened : Opened) (out : List ℕ) (h : Step (record { new = after; opened = opened; sent = out }))
-      (t : ℕ) (told : opened.tid ≡ Some t) (o : Option Served) (wanted : IsWanted before from bytes o) where
+      (t : ℕ) (told : opened.tid ≡ Some t) (o : Option Served) (admitted : IsAdmitted before from bytes o) where
     abbrev result' : PortLeft
     result' = record { new = after; opened = opened; sent = out }
 
@@ -172,7 +172,7 @@ module _ (from : Endpoint) (bytes : List ℕ) (before : PlayedServer) (ps : List
         true≢false (sym (opens_asks (w []) (q []).mode (q []).path (q []).file ask opens) ∙ shut)
 
     requests : IsRequested before.store.files bytes o
-    requests = elim wanted [
+    requests = elim admitted [
       | inl r ↦ r
       | inr none ↦ absurd (is_let_in none.1)
     ]
@@ -198,7 +198,7 @@ module _ (from : Endpoint) (bytes : List ℕ) (before : PlayedServer) (ps : List
     recorded : (sent : List Datagram) → option_map (λ (g : Transfer). record_of g.end) (at port after.held) ≡ Some (record_of (x sent).state)
     recorded sent = ap (option_map (λ (g : Transfer). record_of g.end)) (found sent) ∙ ap (λ (e : EndState). Some (record_of e)) (q sent).is_new.state
 
-    -- it was wanted, and it is held
+    -- it was admitted, and it is held
     pub opened_requested : o ≡ None → ⊥
     opened_requested e = let f : None ≡ Some (own []) = sym e ∙ requested_own [] in cc
 
@@ -222,7 +222,7 @@ module _ (from : Endpoint) (bytes : List ℕ) (before : PlayedServer) (ps : List
         record {
           transfer = transfer [];
           found = found [];
-          is_open = ap (λ (e : EndState). is_some (outcome_of e.progress.phase)) new.state ∙ ap is_some new.still;
+          is_open = ap (λ (e : EndState). is_some (outcome_of e.position.phase)) new.state ∙ ap is_some new.still;
           side = ap (λ (e : EndState). is_client e.role.side) new.state ∙ new.side;
           files = new.files;
           commits = new.commits;
@@ -286,17 +286,17 @@ module _ (from : Endpoint) (bytes : List ℕ) (before : PlayedServer) (ps : List
         StageAsks from bytes before after ps ps1 (record { from = here; to = opened.to; bytes = given; closed = None })
     opened_asks kept here ps0 ps1 start given e at_here a b empty is_out sent =
         let new_end = (q sent).is_new in
-        let d = datagram (x sent).address (x sent).state.progress.last_sent_to (x sent).state.progress.last_sent in
-        let bytes_are : given ≡ (x sent).state.progress.last_sent = is_out ∙ (ap (λ (s : List ℕ). s ++ out) empty ∙ (q sent).sent) in
+        let d = datagram (x sent).address (x sent).state.position.last_sent_to (x sent).state.position.last_sent in
+        let bytes_are : given ≡ (x sent).state.position.last_sent = is_out ∙ (ap (λ (s : List ℕ). s ++ out) empty ∙ (q sent).sent) in
         let place : here ≡ (x sent).address = at_here ∙ (ap server_at (port_world sent) ∙ sym new_end.address) in
-        let goes : opened.to ≡ Some (x sent).state.progress.last_sent_to = (q sent).to ∙ ap (λ (p : Endpoint). Some p) (sym new_end.to) in
+        let goes : opened.to ≡ Some (x sent).state.position.last_sent_to = (q sent).to ∙ ap (λ (p : Endpoint). Some p) (sym new_end.to) in
         let players : ps1 ≡ ps ++ Server (own sent) ∷ [] = b ∙ (ap (λ (qs : List Player). qs ++ Server kept ∷ []) a ∙ ap (λ (s : Served). ps ++ Server s ∷ []) (same_served kept sent e)) in
         let report : report_by sent (record { from = here; to = opened.to; bytes = given; closed = None }) ≡ sent_report (w sent) =
         ap (λ (p : Option Endpoint). report_by sent (record { from = here; to = p; bytes = given; closed = None })) goes in
         let new : world_of before.config (sent ++ said_by here opened.to given) after ps1 ≡ opened_in (w sent) (x sent) =
         ap (λ (p : Endpoint). world_of before.config (sent ++ said_by p opened.to given) after ps1) place
         ∙ (ap (λ (p : Option Endpoint). world_of before.config (sent ++ said_by (x sent).address p given) after ps1) goes
-        ∙ (ap (λ (bs : List ℕ). world_of before.config (sent ++ datagram (x sent).address (x sent).state.progress.last_sent_to bs ∷ []) after ps1) bytes_are
+        ∙ (ap (λ (bs : List ℕ). world_of before.config (sent ++ datagram (x sent).address (x sent).state.position.last_sent_to bs ∷ []) after ps1) bytes_are
         ∙ (ap (λ (s : Stored). record (world_of before.config (sent ++ d ∷ []) after ps1) { files = s.files }) (ap (λ (s : PlayedServer). s.store) (q sent).new)
         ∙ (ap (λ (qs : List Player). record (w sent) { sent = sent ++ d ∷ []; ends = ends_of after qs }) players
         ∙ ap (λ (xs : List WorldEnd). record (w sent) { sent = sent ++ d ∷ []; ends = xs }) (ends_now sent))))) in

@@ -47,7 +47,7 @@ client_step : (there : Option (List ℕ)) (client : Bool) (from : Endpoint) (byt
 client_step there client from bytes e files files' turn is h = subst (λ (b : Bool). EndStep b there from bytes e files turn files') (sym is) h
 
 client_stepped : (port : ℕ) (c c' : PlayedClient) (server : PlayedServer) (from : Endpoint) (bytes : List ℕ) (effect : Effect) (r : Record) →
-    PlayerKept port server.held (Client c) → is_some (outcome_of c.end.progress.phase) ≡ false → ClientDatagramStep port from bytes c c' effect r →
+    PlayerKept port server.held (Client c) → is_some (outcome_of c.end.position.phase) ≡ false → ClientDatagramStep port from bytes c c' effect r →
     PlayerStepped port (Client c) (Client c') server server from bytes effect r
 client_stepped port c c' server from bytes effect r kept open_now t =
     let there = in_the_way server.config.overwrite (file_at server.store.files []) in
@@ -90,8 +90,8 @@ module _ (port : ℕ) (s s' : Served) (before after : PlayedServer) (from : Endp
   files_fit : AreFilesOf h.end.role.side h.files
   files_fit = subst (λ (k : Transfer). AreFilesOf k.end.role.side k.files) (sym is_kept) kept_here.files
 
-  commits_last : CommitsLast h.files h.end.progress.phase
-  commits_last = subst (λ (k : Transfer). CommitsLast k.files k.end.progress.phase) (sym is_kept) kept_here.commits
+  commits_last : CommitsLast h.files h.end.position.phase
+  commits_last = subst (λ (k : Transfer). CommitsLast k.files k.end.position.phase) (sym is_kept) kept_here.commits
 
   steps_so : StepIn memory_meaning memory_source from bytes h.end (files_in (with_told before.store s.refuses) s.path before.config.overwrite h.files) t.turn (files_in t.store t.next.path before.config.overwrite t.next.files)
   steps_so = subst (λ (p : List ℕ). StepIn memory_meaning memory_source from bytes h.end (files_in (with_told before.store s.refuses) p before.config.overwrite h.files) t.turn (files_in t.store t.next.path before.config.overwrite t.next.files)) path_is t.steps

@@ -18,10 +18,10 @@ use Rattle.tftp_ends.specs.declared.phase.Phase.{Phase}
 use Rattle.tftp_ends.specs.declared.phase.Phase.TheVariants.{Waiting, Sending, Receiving, Dallying, Closed}
 use Rattle.tftp_ends.specs.declared.phase.Terms.{Terms}
 use Rattle.tftp_ends.specs.Action.{datagram_action, is_stranger}
-use Rattle.tftp_ends.specs.End.{EndState, is_complete, Progress}
+use Rattle.tftp_ends.specs.End.{EndState, is_complete, Position}
 use Rattle.tftp_ends.specs.Files.{AreSame}
 use Rattle.tftp_ends.specs.Receiver.{dally_response}
-use Rattle.tftp_ends.specs.Step.{Done, Turn, Acts, Appended, GoesOn, after, committed_turn, holding, with_progress}
+use Rattle.tftp_ends.specs.Step.{Done, Turn, Acts, Appended, GoesOn, after, committed_turn, holding, with_position}
 use Rattle.tftp_file.specs.declared.files.Files.{Files}
 use Rattle.tftp_file.specs.declared.files.Files.TheVariants.{Source, Sink}
 use Rattle.tftp_server.specs.Draft.{DraftingBecomes, files_in, KeepsStore, drafting_sink}
@@ -44,11 +44,11 @@ use Rattle.tftp_player.proofs.StageLemmas.{held_files}
 record Rests (action : Action) (from : Endpoint) (e : EndState) : Type 0 where
   pub response : Response
   pub is : action ≡ Respond response
-  pub same : after response from e ≡ e.progress
+  pub same : after response from e ≡ e.position
 
 module _ (from : Endpoint) (bytes : List ℕ) (e0 : EndState) where
   abbrev end_in : Phase → EndState
-  end_in phase = with_progress (record e0.progress { phase = phase }) e0
+  end_in phase = with_position (record e0.position { phase = phase }) e0
 
   abbrev RestsIn : Phase → Action → Type 0
   RestsIn phase action = Rests action from (end_in phase)
@@ -82,18 +82,18 @@ module _ (from : Endpoint) (bytes : List ℕ) (e0 : EndState) where
   complete_rests (Receiving terms n) decoded c = absurd (true≢false (sym c))
   complete_rests (Dallying terms n dally) decoded c =
       let phase = Dallying terms n dally in
-      rests_if phase (is_stranger (Some terms) e0.progress.last_sent_to from) _ _ (strange phase)
+      rests_if phase (is_stranger (Some terms) e0.position.last_sent_to from) _ _ (strange phase)
       (rests_if phase (has_error_opcode bytes && is_none decoded) _ _ (ignores phase) (dallies phase n decoded))
   complete_rests (Closed terms n complete outcome) decoded c =
       let phase = Closed terms n complete outcome in
-      rests_if phase (is_stranger terms e0.progress.last_sent_to from) _ _ (strange phase)
+      rests_if phase (is_stranger terms e0.position.last_sent_to from) _ _ (strange phase)
       (rests_if phase (has_error_opcode bytes && is_none decoded) _ _ (ignores phase) (ignores phase))
 
 -- ---- a datagram
 -- a draft after a turn, and the server's files
 pub record Leaves (turn : Turn) (d d' : Drafts) : Type 0 where
   pub files : FilesAfter d.replace (not d.draft.committed && d'.draft.committed) d.path d'.draft.bytes d.store.files d'.store.files
-  pub commits : is_complete turn.progress.phase ≡ false → d'.draft.committed ≡ false
+  pub commits : is_complete turn.position.phase ≡ false → d'.draft.committed ≡ false
 
 -- nothing was committed
 record IsUncommitted (d d' : Drafts) : Type 0 where
@@ -110,7 +110,7 @@ none_put : (b : Bool) → (not b && false) ≡ false
 none_put true = refl
 none_put false = refl
 
-leaves_same : (turn : Turn) (d d' : Drafts) → d' ≡ d → (is_complete turn.progress.phase ≡ false → d.draft.committed ≡ false) → Leaves turn d d'
+leaves_same : (turn : Turn) (d d' : Drafts) → d' ≡ d → (is_complete turn.position.phase ≡ false → d.draft.committed ≡ false) → Leaves turn d d'
 leaves_same turn d d' same commits =
     subst (Leaves turn d) (sym same) (record { files = subst (λ (b : Bool). FilesAfter d.replace b d.path d.draft.bytes d.store.files d.store.files) (sym (none_new d.draft.committed)) refl; commits = commits })
 
@@ -182,7 +182,7 @@ module _ (from : Endpoint) (bytes : List ℕ) (e : EndState) (turn : Turn) (d d'
       record {
         files = subst (λ (b : Bool). FilesAfter d.replace b d.path d'.draft.bytes d.store.files d'.store.files)
             (sym (ap (λ (b : Bool). not b && d'.draft.committed) un ∙ ap (λ (z : Holding). z.committed) now)) here;
-        commits = λ incomplete. absurd (true≢false (ap (λ (t : Turn). is_complete t.progress.phase) (sym is) ∙ incomplete));
+        commits = λ incomplete. absurd (true≢false (ap (λ (t : Turn). is_complete t.position.phase) (sym is) ∙ incomplete));
       }
   committed_leaves terms number held mid (Err fault) un u h becomes is = leaves_uncommitted turn d d' (record {
     path = becomes.path ∙ u.path;
@@ -211,29 +211,29 @@ module _ (from : Endpoint) (bytes : List ℕ) (e : EndState) (turn : Turn) (d d'
   acts_leaves (Send terms number) un h = absurd h
   acts_leaves (Store terms number) un h = goes_leaves terms number (nat_lt _ terms.size) h.after h.mid h.answer un (appended_un h.bytes h.mid h.answer un h.appended) h.rest
 
-  rests_leaves : (action : Action) → Rests action from e → (is_complete e.progress.phase ≡ false → d.draft.committed ≡ false) → ActsSo action → Leaves turn d d'
+  rests_leaves : (action : Action) → Rests action from e → (is_complete e.position.phase ≡ false → d.draft.committed ≡ false) → ActsSo action → Leaves turn d d'
   rests_leaves action r commits h =
       let acts : ActsSo (Respond r.response) = subst ActsSo r.is h in
-      let same : turn.progress ≡ e.progress = ap (λ (t : Turn). t.progress) acts.0 ∙ r.same in
-      leaves_same turn d d' (ap sink_in acts.1) (λ incomplete. commits (sym (ap (λ (p : Progress). is_complete p.phase) same) ∙ incomplete))
+      let same : turn.position ≡ e.position = ap (λ (t : Turn). t.position) acts.0 ∙ r.same in
+      leaves_same turn d d' (ap sink_in acts.1) (λ incomplete. commits (sym (ap (λ (p : Position). is_complete p.phase) same) ∙ incomplete))
 
-  leaves_by : (decoded : Option Packet) (complete : Bool) → is_complete e.progress.phase ≡ complete → (is_complete e.progress.phase ≡ false → d.draft.committed ≡ false) →
+  leaves_by : (decoded : Option Packet) (complete : Bool) → is_complete e.position.phase ≡ complete → (is_complete e.position.phase ≡ false → d.draft.committed ≡ false) →
       ActsSo (datagram_action e from bytes decoded) → Leaves turn d d'
-  leaves_by decoded true c commits h = rests_leaves (datagram_action e from bytes decoded) (complete_rests from bytes e e.progress.phase decoded c) commits h
+  leaves_by decoded true c commits h = rests_leaves (datagram_action e from bytes decoded) (complete_rests from bytes e e.position.phase decoded c) commits h
   leaves_by decoded false c commits h = acts_leaves (datagram_action e from bytes decoded) (commits c) h
 
 -- of the end in the world whose transfer this is
 pub record ServedLeaves (x : OpenEnd) (turn : Turn) (held : Files (List ℕ) Holding) (next : Files (List ℕ) Drafted) (overwrite : Bool) (files files' : List StoredFile) : Type 0 where
   pub files_after : FilesAfter overwrite (has_committed x (end_after x turn held)) x.path (end_after x turn held).stored files files'
-  pub commits : CommitsLast next turn.progress.phase
+  pub commits : CommitsLast next turn.position.phase
 
 module _ (port : ℕ) (s : Served) (from : Endpoint) (bytes : List ℕ) (e : EndState) (request : List ℕ) (store store' : Stored) (path' : List ℕ) (replace : Bool) (turn : Turn) where
   pub served_leaves : (files files' : Files (List ℕ) Drafted) → StepIn memory_meaning memory_source from bytes e (files_in store s.path replace files) turn (files_in store' path' replace files') →
-      KeepsStore files store store' → AreSame (λ (a b : List ℕ). ⊤) (λ (a b : Drafted). ⊤) files files' → CommitsLast files e.progress.phase →
+      KeepsStore files store store' → AreSame (λ (a b : List ℕ). ⊤) (λ (a b : Drafted). ⊤) files files' → CommitsLast files e.position.phase →
       ServedLeaves (served_as port s e (left_in files) (draft_of files) request) turn (held_files store'.refuses files') files' replace store.files store'.files
   served_leaves (Source left) (Source left') h stays kind k = record { files_after = ap (λ (st : Stored). st.files) stays; commits = tt }
   served_leaves (Sink draft) (Sink draft') h stays kind k =
-      let l = leaves_by from bytes e turn _ _ h.decoded (is_complete e.progress.phase) refl k h.acts in
+      let l = leaves_by from bytes e turn _ _ h.decoded (is_complete e.position.phase) refl k h.acts in
       record { files_after = l.files; commits = l.commits }
   served_leaves (Source left) (Sink draft') h stays kind k = absurd kind
   served_leaves (Sink draft) (Source left') h stays kind k = absurd kind

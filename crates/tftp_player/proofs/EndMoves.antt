@@ -23,7 +23,7 @@ use Rattle.tftp_ends.specs.declared.action.Response.{Response}
 use Rattle.tftp_ends.specs.declared.action.Response.TheVariants.{Ignore, Stranger, ResendReply, Retransmit, Close, Refuse}
 use Rattle.tftp_ends.specs.End.{is_sender, terms_of, is_complete, outcome_of}
 use Rattle.tftp_ends.specs.ErrorReply.{code_of, text_of, error_packet}
-use Rattle.tftp_ends.specs.Step.{Turn, Reply, response_turn, after, with_progress}
+use Rattle.tftp_ends.specs.Step.{Turn, Reply, response_turn, after, with_position}
 use Rattle.tftp_player.specs.Machine.{Endpoint, Error, Message}
 use Rattle.tftp_player.specs.Rules.{Says_error, Repeats, message}
 use Rattle.tftp_player.specs.Said.{said}
@@ -109,8 +109,8 @@ error_says r from to = (error_packet r, spells_own (error_packet r) (valid_error
 -- the last datagram sent stays, or is the answer
 abbrev pub Newest : OpenEnd → Turn → OpenEnd → Type 0
 Newest x turn y =
-    ((y.state.progress.last_sent_to ≡ x.state.progress.last_sent_to) × (y.state.progress.last_sent ≡ x.state.progress.last_sent))
-    ⊎ (turn.reply ≡ Some (record { to = y.state.progress.last_sent_to; bytes = y.state.progress.last_sent }))
+    ((y.state.position.last_sent_to ≡ x.state.position.last_sent_to) × (y.state.position.last_sent ≡ x.state.position.last_sent))
+    ⊎ (turn.reply ≡ Some (record { to = y.state.position.last_sent_to; bytes = y.state.position.last_sent }))
 
 -- what a message of this datagram is there
 abbrev pub IsThere : List Message → Endpoint → Endpoint → List ℕ → Type 0
@@ -124,7 +124,7 @@ pub record Goes (views : List EndView) (messages : List Message) (k : ℕ) (x : 
   pub kept : EndKept y
   pub side : y.state.role.side ≡ x.state.role.side
   pub last_sent : Newest x turn y
-  pub stored : is_complete x.state.progress.phase ≡ true → y.stored ≡ x.stored
+  pub stored : is_complete x.state.position.phase ≡ true → y.stored ≡ x.stored
 
 pub open_live : (phase : Phase) → is_some (outcome_of phase) ≡ false → has_failed phase ≡ false
 open_live (Waiting asked limit) e = refl
@@ -139,10 +139,10 @@ same_files false x = refl
 
 -- a response, which touches no file
 pub from_response : (views : List EndView) (messages : List Message) (k : ℕ) (x : OpenEnd) (response : Response) (from : Endpoint) (turn : Turn) (held : Files (List ℕ) Holding) →
-    Goes views messages k x (response_turn response from x.state) (in_state (with_progress (after response from x.state) x.state) x) →
+    Goes views messages k x (response_turn response from x.state) (in_state (with_position (after response from x.state) x.state) x) →
     (turn ≡ response_turn response from x.state) × (held ≡ files_of x) → Goes views messages k x turn (end_after x turn held)
 from_response views messages k x response from turn held g h =
-    let y = in_state (with_progress (after response from x.state) x.state) x in
+    let y = in_state (with_position (after response from x.state) x.state) x in
     let same : with_files y (files_of x) ≡ y = same_files (is_sender x.state.role.side) y in
     subst (λ (t : Turn). Goes views messages k x t (end_after x t held)) (sym h.0)
     (subst (λ (f : Files (List ℕ) Holding). Goes views messages k x (response_turn response from x.state) (with_files y f)) (sym h.1)
@@ -158,7 +158,7 @@ text_sent true g f w h e = refl
 text_sent false g f w h e = absurd (true≢false (sym e))
 
 -- how many retries are left has no part in it
-phase_retries : (phase : Phase) (x : OpenEnd) (r : ℕ) → PhaseKept x phase → PhaseKept (in_state (with_progress (record x.state.progress { retries_left = r }) x.state) x) phase
+phase_retries : (phase : Phase) (x : OpenEnd) (r : ℕ) → PhaseKept x phase → PhaseKept (in_state (with_position (record x.state.position { retries_left = r }) x.state) x) phase
 phase_retries (Waiting asked limit) x r h = h
 phase_retries (Sending terms number) x r h = record {
   sender = h.sender;
@@ -188,10 +188,10 @@ going_live (Closed terms number complete outcome) e = absurd (true≢false (sym 
 
 module _ (views : List EndView) (messages : List Message) (k : ℕ) (x : OpenEnd) (s : Stands views messages k (open_view x)) (kept : EndKept x) where
   -- nothing changes
-  pub ignores : (from : Endpoint) → is_some (outcome_of x.state.progress.phase) ≡ false → Goes views messages k x (response_turn Ignore from x.state) x
+  pub ignores : (from : Endpoint) → is_some (outcome_of x.state.position.phase) ≡ false → Goes views messages k x (response_turn Ignore from x.state) x
   ignores from o = record {
     said_now = [];
-    shown = goes views messages k (open_view x) s [] (open_live x.state.progress.phase o) tt;
+    shown = goes views messages k (open_view x) s [] (open_live x.state.position.phase o) tt;
     replies = refl;
     kept = kept;
     side = refl;
@@ -200,10 +200,10 @@ module _ (views : List EndView) (messages : List Message) (k : ℕ) (x : OpenEnd
   }
 
   -- a stranger is told so
-  pub tells_stranger : (from : Endpoint) → is_some (outcome_of x.state.progress.phase) ≡ false → Goes views messages k x (response_turn Stranger from x.state) x
+  pub tells_stranger : (from : Endpoint) → is_some (outcome_of x.state.position.phase) ≡ false → Goes views messages k x (response_turn Stranger from x.state) x
   tells_stranger from o = record {
     said_now = message x.address from Error ∷ [];
-    shown = goes views messages k (open_view x) s (Says_error x.address from ∷ []) (open_live x.state.progress.phase o) (refl, tt, tt);
+    shown = goes views messages k (open_view x) s (Says_error x.address from ∷ []) (open_live x.state.position.phase o) (refl, tt, tt);
     replies = error_says UnknownTransferId x.address from;
     kept = kept;
     side = refl;
@@ -212,12 +212,12 @@ module _ (views : List EndView) (messages : List Message) (k : ℕ) (x : OpenEnd
   }
 
   -- the last datagram sent goes out again
-  pub answers_again : (from : Endpoint) → is_some (outcome_of x.state.progress.phase) ≡ false → from ≡ x.state.progress.last_sent_to →
-      IsThere messages x.address x.state.progress.last_sent_to x.state.progress.last_sent → Goes views messages k x (response_turn ResendReply from x.state) x
+  pub answers_again : (from : Endpoint) → is_some (outcome_of x.state.position.phase) ≡ false → from ≡ x.state.position.last_sent_to →
+      IsThere messages x.address x.state.position.last_sent_to x.state.position.last_sent → Goes views messages k x (response_turn ResendReply from x.state) x
   answers_again from o same old =
       let m = message x.address from (said old.0) in record {
         said_now = m ∷ [];
-        shown = goes views messages k (open_view x) s (Repeats m ∷ []) (open_live x.state.progress.phase o)
+        shown = goes views messages k (open_view x) s (Repeats m ∷ []) (open_live x.state.position.phase o)
             (refl, subst (λ (to : Endpoint). Contains messages (message x.address to (said old.0))) (sym same) old.2, tt);
         replies = (old.0, old.1, refl);
         kept = kept;
@@ -227,15 +227,15 @@ module _ (views : List EndView) (messages : List Message) (k : ℕ) (x : OpenEnd
       }
 
   -- a timeout: the last datagram sent goes out again, for one retry
-  pub retries : (from : Endpoint) → is_some (outcome_of x.state.progress.phase) ≡ false →
-      IsThere messages x.address x.state.progress.last_sent_to x.state.progress.last_sent →
-      Goes views messages k x (response_turn Retransmit from x.state) (in_state (with_progress (after Retransmit from x.state) x.state) x)
+  pub retries : (from : Endpoint) → is_some (outcome_of x.state.position.phase) ≡ false →
+      IsThere messages x.address x.state.position.last_sent_to x.state.position.last_sent →
+      Goes views messages k x (response_turn Retransmit from x.state) (in_state (with_position (after Retransmit from x.state) x.state) x)
   retries from o old =
-      let m = message x.address x.state.progress.last_sent_to (said old.0) in record {
+      let m = message x.address x.state.position.last_sent_to (said old.0) in record {
         said_now = m ∷ [];
-        shown = goes views messages k (open_view x) s (Repeats m ∷ []) (open_live x.state.progress.phase o) (refl, old.2, tt);
+        shown = goes views messages k (open_view x) s (Repeats m ∷ []) (open_live x.state.position.phase o) (refl, old.2, tt);
         replies = (old.0, old.1, refl);
-        kept = record { phase = phase_retries x.state.progress.phase x (x.state.progress.retries_left - 1) kept.phase; held = kept.held; committed = kept.committed };
+        kept = record { phase = phase_retries x.state.position.phase x (x.state.position.retries_left - 1) kept.phase; held = kept.held; committed = kept.committed };
         side = refl;
         last_sent = inl (refl, refl);
         stored = λ _. refl;
@@ -243,49 +243,49 @@ module _ (views : List EndView) (messages : List Message) (k : ℕ) (x : OpenEnd
 
   -- an end that has given up is kept
   closed_kept : (terms : Option Terms) (outcome : Outcome) →
-      EndKept (in_state (with_progress (after (Refuse terms UnknownTransferId outcome) x.address x.state) x.state) x)
+      EndKept (in_state (with_position (after (Refuse terms UnknownTransferId outcome) x.address x.state) x.state) x)
   closed_kept terms outcome = record { phase = tt; held = kept.held; committed = kept.committed }
 
   -- it gives up in silence
-  pub gives_up : (outcome : Outcome) (from : Endpoint) → goes_on x.state.progress.phase ≡ true →
-      Goes views messages k x (response_turn (Close outcome) from x.state) (in_state (with_progress (after (Close outcome) from x.state) x.state) x)
+  pub gives_up : (outcome : Outcome) (from : Endpoint) → goes_on x.state.position.phase ≡ true →
+      Goes views messages k x (response_turn (Close outcome) from x.state) (in_state (with_position (after (Close outcome) from x.state) x.state) x)
   gives_up outcome from going =
-      let y = in_state (with_progress (after (Close outcome) from x.state) x.state) x in
-      let live = going_live x.state.progress.phase going in
+      let y = in_state (with_position (after (Close outcome) from x.state) x.state) x in
+      let live = going_live x.state.position.phase going in
       let b = is_sender x.state.role.side in
       let f = wire_text x.state.role.mode x.file in
       let w = wire_text x.state.role.mode x.stored in
-      let shown_now = closes views messages k (open_view x) s (text_of_end y) live (text_cut b (goes_on x.state.progress.phase) f w x.state.progress.held)
-      (text_sent b (goes_on x.state.progress.phase) f w x.state.progress.held) in
+      let shown_now = closes views messages k (open_view x) s (text_of_end y) live (text_cut b (goes_on x.state.position.phase) f w x.state.position.held)
+      (text_sent b (goes_on x.state.position.phase) f w x.state.position.held) in
       record {
         said_now = [];
         shown = subst (λ (ms : List Message). IsShown (set views k (open_view y)) ms) (sym (append-nil messages))
             (subst (λ (v : EndView). IsShown (set views k v) messages)
-            (failed_view (open_view x) (text_of_end y) (is_complete x.state.progress.phase) (open_view x).peer (open_view x).size live.0) shown_now);
+            (failed_view (open_view x) (text_of_end y) (is_complete x.state.position.phase) (open_view x).peer (open_view x).size live.0) shown_now);
         replies = refl;
-        kept = closed_kept (terms_of x.state.progress.phase) outcome;
+        kept = closed_kept (terms_of x.state.position.phase) outcome;
         side = refl;
         last_sent = inl (refl, refl);
         stored = λ _. refl;
       }
 
   -- it gives up, and says so
-  pub refuses_now : (reply : ErrorReply) (outcome : Outcome) (from : Endpoint) → goes_on x.state.progress.phase ≡ true →
-      Goes views messages k x (response_turn (Refuse (terms_of x.state.progress.phase) reply outcome) from x.state) (in_state (with_progress (after (Refuse (terms_of x.state.progress.phase) reply outcome) from x.state) x.state) x)
+  pub refuses_now : (reply : ErrorReply) (outcome : Outcome) (from : Endpoint) → goes_on x.state.position.phase ≡ true →
+      Goes views messages k x (response_turn (Refuse (terms_of x.state.position.phase) reply outcome) from x.state) (in_state (with_position (after (Refuse (terms_of x.state.position.phase) reply outcome) from x.state) x.state) x)
   refuses_now reply outcome from going =
-      let y = in_state (with_progress (after (Refuse (terms_of x.state.progress.phase) reply outcome) from x.state) x.state) x in
-      let live = going_live x.state.progress.phase going in
+      let y = in_state (with_position (after (Refuse (terms_of x.state.position.phase) reply outcome) from x.state) x.state) x in
+      let live = going_live x.state.position.phase going in
       let b = is_sender x.state.role.side in
       let f = wire_text x.state.role.mode x.file in
       let w = wire_text x.state.role.mode x.stored in
-      let shown_now = refuses views messages k (open_view x) s from (text_of_end y) live (text_cut b (goes_on x.state.progress.phase) f w x.state.progress.held)
-      (text_sent b (goes_on x.state.progress.phase) f w x.state.progress.held) in
+      let shown_now = refuses views messages k (open_view x) s from (text_of_end y) live (text_cut b (goes_on x.state.position.phase) f w x.state.position.held)
+      (text_sent b (goes_on x.state.position.phase) f w x.state.position.held) in
       record {
         said_now = message x.address from Error ∷ [];
         shown = subst (λ (v : EndView). IsShown (set views k v) (messages ++ message x.address from Error ∷ []))
-            (failed_view (open_view x) (text_of_end y) (is_complete x.state.progress.phase) (open_view x).peer (open_view x).size live.0) shown_now;
+            (failed_view (open_view x) (text_of_end y) (is_complete x.state.position.phase) (open_view x).peer (open_view x).size live.0) shown_now;
         replies = error_says reply x.address from;
-        kept = closed_kept (terms_of x.state.progress.phase) outcome;
+        kept = closed_kept (terms_of x.state.position.phase) outcome;
         side = refl;
         last_sent = inl (refl, refl);
         stored = λ _. refl;

@@ -19,7 +19,7 @@ use Rattle.tftp_ends.specs.declared.action.Response.TheVariants.{Ignore, Strange
 use Rattle.tftp_ends.specs.End.{is_sender, is_client, terms_of, outcome_of}
 use Rattle.tftp_ends.specs.Action.{same_address, same_endpoint, is_stranger, garbled_response, packet_action, datagram_action, timeout_response}
 use Rattle.tftp_wire.specs.Reading.{has_error_opcode}
-use Rattle.tftp_ends.specs.Step.{response_turn, after, with_progress}
+use Rattle.tftp_ends.specs.Step.{response_turn, after, with_position}
 use Rattle.tftp_ends.specs.Waiting.{reader_action, writer_action}
 use Rattle.tftp_player.specs.Machine.{Endpoint, server_ip, Message}
 use Rattle.tftp_player.specs.Shows.{EndView}
@@ -34,7 +34,7 @@ use Rattle.tftp_player.proofs.Standing.{open_view, placed}
 module _ (views : List EndView) (messages : List Message) (k : ℕ) (x0 : OpenEnd)
     (refuses_commit : Holding → StoreFault → Type 0) (from : Endpoint) (bytes : List ℕ) (decoded : Option WirePacket)
     (spelled : (p : WirePacket) → decoded ≡ Some p → Spells p bytes) (come : OfDecoded messages from x0 decoded)
-    (old : IsThere messages x0.address x0.state.progress.last_sent_to x0.state.progress.last_sent) where
+    (old : IsThere messages x0.address x0.state.position.last_sent_to x0.state.position.last_sent) where
   abbrev There : Phase → Type 0
   There phase = Stands views messages k (open_view (placed phase x0))
 
@@ -43,9 +43,9 @@ module _ (views : List EndView) (messages : List Message) (k : ℕ) (x0 : OpenEn
 
   -- an open end with a packet from its peer, or from the server while it waits
   by_packet : (phase : Phase) → There phase → EndKept (placed phase x0) → is_some (outcome_of phase) ≡ false →
-      is_stranger (terms_of phase) x0.state.progress.last_sent_to from ≡ false → Goes_on phase (packet_action (placed phase x0).state from decoded phase)
+      is_stranger (terms_of phase) x0.state.position.last_sent_to from ≡ false → Goes_on phase (packet_action (placed phase x0).state from decoded phase)
   by_packet (Waiting asked limit) s kept o near =
-      let at_server : from.ip ≡ server_ip = sym (same_ips x0.state.progress.last_sent_to from (not_false (same_address x0.state.progress.last_sent_to from) near)) ∙ ap (λ (p : Endpoint). p.ip) kept.phase.2 in
+      let at_server : from.ip ≡ server_ip = sym (same_ips x0.state.position.last_sent_to from (not_false (same_address x0.state.position.last_sent_to from) near)) ∙ ap (λ (p : Endpoint). p.ip) kept.phase.2 in
       let x = placed (Waiting asked limit) x0 in
       if_acts (Goes_on (Waiting asked limit)) (is_sender x0.state.role.side) (writer_action x0.state.role.mode asked limit x0.state.role.length from decoded) (reader_action x0.state.role.mode asked limit from decoded)
       (λ w. writer_acts views messages k x0 asked limit s kept refuses_commit from bytes at_server w decoded come)
@@ -75,7 +75,7 @@ module _ (views : List EndView) (messages : List Message) (k : ℕ) (x0 : OpenEn
   by_datagram phase s kept o =
       let P = Goes_on phase in
       let e = (placed phase x0).state in
-      let far = is_stranger (terms_of phase) x0.state.progress.last_sent_to from in
+      let far = is_stranger (terms_of phase) x0.state.position.last_sent_to from in
       let near_action = if has_error_opcode bytes && is_none decoded then Respond (garbled_response phase) else packet_action e from decoded phase in
       if_acts P far (if has_error_opcode bytes then Respond Ignore else Respond Stranger) near_action
       (λ f. if_acts P (has_error_opcode bytes) (Respond Ignore) (Respond Stranger)
@@ -87,25 +87,25 @@ module _ (views : List EndView) (messages : List Message) (k : ℕ) (x0 : OpenEn
 
 -- an open end at a timeout
 module _ (views : List EndView) (messages : List Message) (k : ℕ) (x0 : OpenEnd)
-    (old : IsThere messages x0.address x0.state.progress.last_sent_to x0.state.progress.last_sent) where
+    (old : IsThere messages x0.address x0.state.position.last_sent_to x0.state.position.last_sent) where
   abbrev Turns_at : OpenEnd → Response → Type 0
-  Turns_at x response = Goes views messages k x (response_turn response x.state.progress.last_sent_to x.state) (in_state (with_progress (after response x.state.progress.last_sent_to x.state) x.state) x)
+  Turns_at x response = Goes views messages k x (response_turn response x.state.position.last_sent_to x.state) (in_state (with_position (after response x.state.position.last_sent_to x.state) x.state) x)
 
   if_turns : (x : OpenEnd) (b : Bool) (r s : Response) → Turns_at x r → Turns_at x s → Turns_at x (if b then r else s)
   if_turns x true r s f g = f
   if_turns x false r s f g = g
 
   waits_or_gives_up : (phase : Phase) → Stands views messages k (open_view (placed phase x0)) → EndKept (placed phase x0) → is_some (outcome_of phase) ≡ false → goes_on phase ≡ true →
-      Turns_at (placed phase x0) (if x0.state.progress.retries_left == 0 then Close outcomes.TimedOut else Retransmit)
+      Turns_at (placed phase x0) (if x0.state.position.retries_left == 0 then Close outcomes.TimedOut else Retransmit)
   waits_or_gives_up phase s kept o going =
       let x = placed phase x0 in
-      if_turns x (x0.state.progress.retries_left == 0) (Close outcomes.TimedOut) Retransmit
-      (gives_up views messages k x s kept outcomes.TimedOut x0.state.progress.last_sent_to going)
-      (retries views messages k x s kept x0.state.progress.last_sent_to o old)
+      if_turns x (x0.state.position.retries_left == 0) (Close outcomes.TimedOut) Retransmit
+      (gives_up views messages k x s kept outcomes.TimedOut x0.state.position.last_sent_to going)
+      (retries views messages k x s kept x0.state.position.last_sent_to o old)
 
   -- a dally goes on, or ends
   dally_turns : (terms : Terms) (n : ℕ) (dally : Dally) → Stands views messages k (open_view (placed (Dallying terms n dally) x0)) → EndKept (placed (Dallying terms n dally) x0) →
-      Turns_at (placed (Dallying terms n dally) x0) (timeout_response x0.state.progress.retries_left (Dallying terms n dally))
+      Turns_at (placed (Dallying terms n dally) x0) (timeout_response x0.state.position.retries_left (Dallying terms n dally))
   dally_turns terms n Fresh s kept = record {
     said_now = [];
     shown = goes views messages k (open_view (placed (Dallying terms n Fresh) x0)) s [] refl tt;
@@ -126,7 +126,7 @@ module _ (views : List EndView) (messages : List Message) (k : ℕ) (x0 : OpenEn
   }
 
   pub by_timeout : (phase : Phase) → Stands views messages k (open_view (placed phase x0)) → EndKept (placed phase x0) → is_some (outcome_of phase) ≡ false →
-      Turns_at (placed phase x0) (timeout_response x0.state.progress.retries_left phase)
+      Turns_at (placed phase x0) (timeout_response x0.state.position.retries_left phase)
   by_timeout (Waiting asked limit) s kept o = waits_or_gives_up (Waiting asked limit) s kept o refl
   by_timeout (Sending terms n) s kept o = waits_or_gives_up (Sending terms n) s kept o refl
   by_timeout (Receiving terms n) s kept o = waits_or_gives_up (Receiving terms n) s kept o refl

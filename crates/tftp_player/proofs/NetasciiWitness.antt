@@ -43,7 +43,7 @@ abbrev w1 : WorldState
 w1 = opened_in w0 client
 
 abbrev d0 : Datagram
-d0 = record { from = client.address; to = client.state.progress.last_sent_to; bytes = client.state.progress.last_sent }
+d0 = record { from = client.address; to = client.state.position.last_sent_to; bytes = client.state.position.last_sent }
 
 abbrev server : OpenEnd
 server = sending_end w1 client.address d0.bytes Netascii name file []
@@ -52,7 +52,7 @@ abbrev w2 : WorldState
 w2 = opened_in w1 server
 
 abbrev d1 : Datagram
-d1 = record { from = server.address; to = client.address; bytes = server.state.progress.last_sent }
+d1 = record { from = server.address; to = client.address; bytes = server.state.position.last_sent }
 
 abbrev done : Done
 done = tt

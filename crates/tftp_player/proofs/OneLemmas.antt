@@ -22,7 +22,7 @@ stays old new report s = none old new (ap (λ (w : WorldState). w.sent) s.is)
 -- an end opened
 opens : (old new : WorldState) (x : OpenEnd) (report : Report) → Opens old x report new → AddsOneAtMost old new
 opens old new x report o = record {
-  said = record { from = x.address; to = x.state.progress.last_sent_to; bytes = x.state.progress.last_sent } ∷ [];
+  said = record { from = x.address; to = x.state.position.last_sent_to; bytes = x.state.position.last_sent } ∷ [];
   few = omega arith;
   sent = ap (λ (w : WorldState). w.sent) o.is;
 }

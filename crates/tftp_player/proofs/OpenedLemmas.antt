@@ -108,7 +108,7 @@ entered config sent sent0 sent1 server server1 ps ps1 old c effect port report v
 
 -- what a new end sends
 abbrev first_effect : OpenEnd → Effect
-first_effect x = record { from = x.address; to = Some x.state.progress.last_sent_to; bytes = x.state.progress.last_sent; closed = None }
+first_effect x = record { from = x.address; to = Some x.state.position.last_sent_to; bytes = x.state.position.last_sent; closed = None }
 
 -- a client that entered is the end that its event opens
 opens_so : (w : WorldState) (event : Event) (c : PlayedClient) (effect : Effect) (port : ℕ) (report : Report) (new : WorldState) (x : OpenEnd) →
@@ -119,7 +119,7 @@ opens_so w event c effect port report new x is effects e step =
     (subst (λ (v : WorldState). WorldStep w event (sent_report w) v)
     (sym (e.is
     ∙ (ap (λ (f : Effect). record w { sent = w.sent ++ said_by f.from f.to f.bytes; ends = w.ends ++ standing (client_end port c) ∷ [] }) effects
-    ∙ ap (λ (y : WorldEnd). record w { sent = w.sent ++ said_by x.address (Some x.state.progress.last_sent_to) x.state.progress.last_sent; ends = w.ends ++ y ∷ [] }) is)))
+    ∙ ap (λ (y : WorldEnd). record w { sent = w.sent ++ said_by x.address (Some x.state.position.last_sent_to) x.state.position.last_sent; ends = w.ends ++ y ∷ [] }) is)))
     step)
 
 module _ (config : Config) (sent : List Datagram) (server : PlayedServer) (ps : List Player) (records : List (ℕ × Record)) (old : WorldState)

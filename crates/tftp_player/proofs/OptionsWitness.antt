@@ -59,7 +59,7 @@ abbrev w1 : WorldState
 w1 = opened_in w0 client
 
 abbrev d0 : Datagram
-d0 = record { from = client.address; to = client.state.progress.last_sent_to; bytes = client.state.progress.last_sent }
+d0 = record { from = client.address; to = client.state.position.last_sent_to; bytes = client.state.position.last_sent }
 
 abbrev server : OpenEnd
 server = sending_end w1 client.address d0.bytes Octet name file agreed
@@ -68,7 +68,7 @@ abbrev w2 : WorldState
 w2 = opened_in w1 server
 
 abbrev d1 : Datagram
-d1 = record { from = server.address; to = client.address; bytes = server.state.progress.last_sent }
+d1 = record { from = server.address; to = client.address; bytes = server.state.position.last_sent }
 
 abbrev turn3 : Turn
 turn3 = response_turn (Accept (agreed_terms server.address agreed)) server.address client.state
@@ -95,7 +95,7 @@ abbrev w4 : WorldState
 w4 = record w3 { sent = w3.sent ++ replied server.address turn4.reply; ends = slice_set w3.ends 1 (standing sending) }
 
 abbrev d3 : Datagram
-d3 = record { from = server.address; to = client.address; bytes = sending.state.progress.last_sent }
+d3 = record { from = server.address; to = client.address; bytes = sending.state.position.last_sent }
 
 abbrev done : Done
 done = tt

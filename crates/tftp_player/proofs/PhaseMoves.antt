@@ -72,19 +72,19 @@ Acting views messages k x refuses_commit from bytes action =
     Acts memory_source (world_sink refuses_commit) action from bytes x.state (files_of x) turn held →
     Goes views messages k x turn (end_after x turn held)
 
--- the packet that was heard was sent
+-- the packet that was handled was sent
 abbrev pub OfDecoded : List Message → Endpoint → OpenEnd → Option WirePacket → Type 0
 OfDecoded messages from x decoded = (p : WirePacket) → decoded ≡ Some p → Contains messages (message from x.address (said p))
 
 module _ (views : List EndView) (messages : List Message) (k : ℕ) (x : OpenEnd) (s : Stands views messages k (open_view x)) (kept : EndKept x)
-    (refuses_commit : Holding → StoreFault → Type 0) (from : Endpoint) (bytes : List ℕ) (open_now : is_some (outcome_of x.state.progress.phase) ≡ false) where
+    (refuses_commit : Holding → StoreFault → Type 0) (from : Endpoint) (bytes : List ℕ) (open_now : is_some (outcome_of x.state.position.phase) ≡ false) where
   pub ignore_acts : Acting views messages k x refuses_commit from bytes (Respond Ignore)
   ignore_acts turn held h = from_response views messages k x Ignore from turn held (ignores views messages k x s kept from open_now) h
 
   pub stranger_acts : Acting views messages k x refuses_commit from bytes (Respond Stranger)
   stranger_acts turn held h = from_response views messages k x Stranger from turn held (tells_stranger views messages k x s kept from open_now) h
 
-  pub again_acts : from ≡ x.state.progress.last_sent_to → IsThere messages x.address x.state.progress.last_sent_to x.state.progress.last_sent → Acting views messages k x refuses_commit from bytes (Respond ResendReply)
+  pub again_acts : from ≡ x.state.position.last_sent_to → IsThere messages x.address x.state.position.last_sent_to x.state.position.last_sent → Acting views messages k x refuses_commit from bytes (Respond ResendReply)
   again_acts same old turn held h = from_response views messages k x ResendReply from turn held (answers_again views messages k x s kept from open_now same old) h
 
 module _ (views : List EndView) (messages : List Message) (k : ℕ) (x0 : OpenEnd) (terms : Terms) (n : ℕ)
@@ -137,7 +137,7 @@ module _ (views : List EndView) (messages : List Message) (k : ℕ) (x0 : OpenEn
 module _ (views : List EndView) (messages : List Message) (k : ℕ) (x0 : OpenEnd) (terms : Terms) (n : ℕ)
     (s : Stands views messages k (open_view (placed (Receiving terms n) x0))) (kept : EndKept (placed (Receiving terms n) x0))
     (refuses_commit : Holding → StoreFault → Type 0) (from : Endpoint) (bytes : List ℕ)
-    (peer : terms.peer ≡ from) (old : IsThere messages x0.address x0.state.progress.last_sent_to x0.state.progress.last_sent) where
+    (peer : terms.peer ≡ from) (old : IsThere messages x0.address x0.state.position.last_sent_to x0.state.position.last_sent) where
   abbrev receiver : OpenEnd
   receiver = placed (Receiving terms n) x0
 
@@ -153,11 +153,11 @@ module _ (views : List EndView) (messages : List Message) (k : ℕ) (x0 : OpenEn
 
   -- a receiver with its next block
   next_acts : (number : ℕ) (piece : List ℕ) → number ≡ n + 1 → Spells (Data number piece) bytes → Contains messages (message from x0.address (Says_data number piece)) →
-      Acting views messages k receiver refuses_commit from bytes (next_action x0.state.role.mode x0.state.progress.held terms number piece)
+      Acting views messages k receiver refuses_commit from bytes (next_action x0.state.role.mode x0.state.position.held terms number piece)
   next_acts number piece is spelled come =
       let P = Acting views messages k receiver refuses_commit from bytes in
       let last = nat_lt (length piece) terms.size in
-      let store = if is_readable x0.state.role.mode x0.state.progress.held piece last then Store terms number else Respond (Refuse (Some terms) replies.NotNetascii outcomes.NotNetascii) in
+      let store = if is_readable x0.state.role.mode x0.state.position.held piece last then Store terms number else Respond (Refuse (Some terms) replies.NotNetascii outcomes.NotNetascii) in
       if_acts P (nat_lt terms.size (length piece)) (illegal_action terms)
       (if number == 65535 && (length piece == terms.size) then Respond (Refuse (Some terms) replies.FileTooLarge outcomes.TooLarge) else store)
       (λ e. refuse_receiver replies.IllegalOperation outcomes.Illegal)
@@ -176,27 +176,27 @@ module _ (views : List EndView) (messages : List Message) (k : ℕ) (x0 : OpenEn
       } in
       if_acts P (number == 65535 && (length piece == terms.size)) (Respond (Refuse (Some terms) replies.FileTooLarge outcomes.TooLarge)) store
       (λ f. refuse_receiver replies.FileTooLarge outcomes.TooLarge)
-      (λ f. if_acts P (is_readable x0.state.role.mode x0.state.progress.held piece last) (Store terms number) (Respond (Refuse (Some terms) replies.NotNetascii outcomes.NotNetascii))
+      (λ f. if_acts P (is_readable x0.state.role.mode x0.state.position.held piece last) (Store terms number) (Respond (Refuse (Some terms) replies.NotNetascii outcomes.NotNetascii))
       (λ readable turn held h. block_goes views messages k receiver terms number from piece kept got readable refuses_commit turn held
       (subst (λ (bs : List ℕ). StoresIn memory_source (world_sink refuses_commit) terms number from bs receiver.state (files_of receiver) turn held) (data_of number piece bytes spelled) h))
       (λ g. refuse_receiver replies.NotNetascii outcomes.NotNetascii)))
 
   data_acts : (number : ℕ) (piece : List ℕ) → Spells (Data number piece) bytes → Contains messages (message from x0.address (Says_data number piece)) →
-      Acting views messages k receiver refuses_commit from bytes (data_action x0.state.role.mode x0.state.progress.held terms n number piece)
+      Acting views messages k receiver refuses_commit from bytes (data_action x0.state.role.mode x0.state.position.held terms n number piece)
   data_acts number piece spelled come =
       let P = Acting views messages k receiver refuses_commit from bytes in
-      let later = if number == n + 1 then next_action x0.state.role.mode x0.state.progress.held terms number piece else illegal_action terms in
+      let later = if number == n + 1 then next_action x0.state.role.mode x0.state.position.held terms number piece else illegal_action terms in
       if_acts P (number == n) (Respond ResendReply) (if nat_lt number n then Respond Ignore else later)
       (λ e. again_receiver)
       (λ e. if_acts P (nat_lt number n) (Respond Ignore) later
       (λ f. ignore_receiver)
-      (λ f. if_acts P (number == n + 1) (next_action x0.state.role.mode x0.state.progress.held terms number piece) (illegal_action terms)
+      (λ f. if_acts P (number == n + 1) (next_action x0.state.role.mode x0.state.position.held terms number piece) (illegal_action terms)
       (λ g. next_acts number piece (eqb-true number (n + 1) g) spelled come)
       (λ g. refuse_receiver replies.IllegalOperation outcomes.Illegal)))
 
   -- a receiver with any packet
   pub receiver_acts : (client : Bool) (decoded : Option WirePacket) → ((p : WirePacket) → decoded ≡ Some p → Spells p bytes) → OfDecoded messages from x0 decoded →
-      Acting views messages k receiver refuses_commit from bytes (receiver_action client x0.state.role.mode x0.state.progress.held terms n decoded)
+      Acting views messages k receiver refuses_commit from bytes (receiver_action client x0.state.role.mode x0.state.position.held terms n decoded)
   receiver_acts client None spelled come = refuse_receiver replies.IllegalOperation outcomes.Illegal
   receiver_acts client (Some (Read r)) spelled come = refuse_receiver replies.IllegalOperation outcomes.Illegal
   receiver_acts client (Some (Write r)) spelled come = refuse_receiver replies.IllegalOperation outcomes.Illegal
@@ -213,7 +213,7 @@ module _ (views : List EndView) (messages : List Message) (k : ℕ) (x0 : OpenEn
 module _ (views : List EndView) (messages : List Message) (k : ℕ) (x0 : OpenEnd) (terms : Terms) (n : ℕ) (dally : Dally)
     (s : Stands views messages k (open_view (placed (Dallying terms n dally) x0))) (kept : EndKept (placed (Dallying terms n dally) x0))
     (refuses_commit : Holding → StoreFault → Type 0) (from : Endpoint) (bytes : List ℕ)
-    (peer : terms.peer ≡ from) (old : IsThere messages x0.address x0.state.progress.last_sent_to x0.state.progress.last_sent) where
+    (peer : terms.peer ≡ from) (old : IsThere messages x0.address x0.state.position.last_sent_to x0.state.position.last_sent) where
   abbrev dallier : OpenEnd
   dallier = placed (Dallying terms n dally) x0
 

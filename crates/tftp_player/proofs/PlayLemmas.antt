@@ -16,7 +16,7 @@ use Rattle.tftp_ends.specs.declared.phase.Phase.TheVariants.{Waiting, Sending, R
 use Rattle.tftp_ends.specs.declared.phase.Dally.TheVariants.{Fresh, Waited}
 use Rattle.tftp_ends.specs.Files.{AreFilesOf}
 use Rattle.tftp_ends.specs.End.{EndState, is_complete, outcome_of}
-use Rattle.tftp_ends.specs.Step.{Turn, Reply, reply_bytes, timeout_turn, after_turn, with_progress}
+use Rattle.tftp_ends.specs.Step.{Turn, Reply, reply_bytes, timeout_turn, after_turn, with_position}
 use Rattle.tftp_server.specs.State.{at}
 use Rattle.tftp_server.specs.declared.config.Config.{Config}
 use Rattle.tftp_player.specs.Machine.{Endpoint}
@@ -117,7 +117,7 @@ module _ (place : ℕ) (before after : PlayedServer) (ps : List Player) (p : Pla
 
 -- ---- a timeout
 -- an end that is not complete after a timeout was not before
-not_yet : (phase : Phase) (e : EndState) → is_complete (timeout_turn (with_progress (record e.progress { phase = phase }) e)).progress.phase ≡ false → is_some (outcome_of phase) ≡ false → is_complete phase ≡ false
+not_yet : (phase : Phase) (e : EndState) → is_complete (timeout_turn (with_position (record e.position { phase = phase }) e)).position.phase ≡ false → is_some (outcome_of phase) ≡ false → is_complete phase ≡ false
 not_yet (Waiting asked limit) e k open_now = refl
 not_yet (Sending terms number) e k open_now = refl
 not_yet (Receiving terms number) e k open_now = refl
@@ -125,9 +125,9 @@ not_yet (Dallying terms number Fresh) e k open_now = k
 not_yet (Dallying terms number Waited) e k open_now = k
 not_yet (Closed terms number complete outcome) e k open_now = absurd (true≢false open_now)
 
-timeout_commits : (files : Files (List ℕ) Drafted) (e : EndState) → is_some (outcome_of e.progress.phase) ≡ false → CommitsLast files e.progress.phase → CommitsLast files (timeout_turn e).progress.phase
+timeout_commits : (files : Files (List ℕ) Drafted) (e : EndState) → is_some (outcome_of e.position.phase) ≡ false → CommitsLast files e.position.phase → CommitsLast files (timeout_turn e).position.phase
 timeout_commits (Source left) e open_now k = tt
-timeout_commits (Sink draft) e open_now k = λ f. k (not_yet e.progress.phase e f open_now)
+timeout_commits (Sink draft) e open_now k = λ f. k (not_yet e.position.phase e f open_now)
 
 -- the open end at this port took a timeout
 pub record TimedOut (port : ℕ) (p p' : Player) (before after : PlayedServer) (effect : Effect) (r : Record) : Type 0 where
@@ -147,8 +147,8 @@ player_times_out port (Server s) (Server s') before after effect r kept open_now
     let k = served_kept port s before.held open_now kept in
     let here : h ≡ k.transfer = same_transfer h k.transfer (sym t.1 ∙ k.found) in
     let fits : AreFilesOf h.end.role.side h.files = subst (λ (v : Transfer). AreFilesOf v.end.role.side v.files) (sym here) k.files in
-    let commits : CommitsLast h.files (timeout_turn h.end).progress.phase =
-    timeout_commits h.files h.end (ap (λ (v : Transfer). is_some (outcome_of v.end.progress.phase)) here ∙ k.is_open) (subst (λ (v : Transfer). CommitsLast v.files v.end.progress.phase) (sym here) k.commits) in
+    let commits : CommitsLast h.files (timeout_turn h.end).position.phase =
+    timeout_commits h.files h.end (ap (λ (v : Transfer). is_some (outcome_of v.end.position.phase)) here ∙ k.is_open) (subst (λ (v : Transfer). CommitsLast v.files v.end.position.phase) (sym here) k.commits) in
     record {
       end = held_end port s h;
       stepped =
@@ -237,7 +237,7 @@ placed_is w (Some reply) = refl
 
 pub report_is : (w : WorldState) (x : OpenEnd) (turn : Turn) (effect : Effect) → effect ≡ effect_of x.address turn → report_by w.sent effect ≡ report_of w x turn
 report_is w x turn effect e =
-    ap (report_by w.sent) e ∙ ap (λ (a : Option ℕ). record { added = a; closed = closed_at x.address (outcome_of turn.progress.phase) }) (placed_is w turn.reply)
+    ap (report_by w.sent) e ∙ ap (λ (a : Option ℕ). record { added = a; closed = closed_at x.address (outcome_of turn.position.phase) }) (placed_is w turn.reply)
 
 timed_by : (config : Config) (sent : List Datagram) (place : ℕ) (before after : PlayedServer) (ps ps' : List Player) (effect : Effect) (port : ℕ) (x : WorldEnd) →
     IsAtPort (world_of config sent before ps) port place x →

@@ -121,11 +121,11 @@ pub record IsNewEnd (w : WorldState) (from : Endpoint) (s : Served) (transfer : 
   pub state : transfer.end ≡ x.state
   pub end : served_as (next_port w) s transfer.end (left_in transfer.files) (draft_of transfer.files) transfer.request ≡ x
   pub address : x.address ≡ server_at (next_port w)
-  pub still : outcome_of x.state.progress.phase ≡ None
-  pub to : x.state.progress.last_sent_to ≡ from
+  pub still : outcome_of x.state.position.phase ≡ None
+  pub to : x.state.position.last_sent_to ≡ from
   pub side : is_client x.state.role.side ≡ false
   pub files : AreFilesOf transfer.end.role.side transfer.files
-  pub commits : CommitsLast transfer.files transfer.end.progress.phase
+  pub commits : CommitsLast transfer.files transfer.end.position.phase
   pub mode : transfer.end.role.mode ≡ s.mode
   pub path : transfer.path ≡ s.path
   pub ended : s.ended ≡ None
@@ -201,7 +201,7 @@ module _ (w : WorldState) (asking : PortAsking) (result : PortLeft) where
     pub is_new : IsNewEnd w asking.from (new_served mode path file) transfer end
     pub tid : result.opened.tid ≡ Some asking.tid
     pub to : result.opened.to ≡ Some asking.from
-    pub sent : result.sent ≡ end.state.progress.last_sent
+    pub sent : result.sent ≡ end.state.position.last_sent
     pub new : result.new ≡ record asking.old { held = with_new asking.tid transfer asking.old.held }
     pub serves : Serves what w asking.from asking.bytes (sent_report w) (opened_in w end)
 

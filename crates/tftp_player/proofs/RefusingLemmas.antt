@@ -57,7 +57,7 @@ fits_told side (Source left) f = f
 fits_told side (Sink holding) f = f
 
 -- a client, by whether it is closed
-client_told : (port : ℕ) (c : PlayedClient) (b : Bool) → is_some (outcome_of c.end.progress.phase) ≡ b → AreFilesOf c.end.role.side c.files →
+client_told : (port : ℕ) (c : PlayedClient) (b : Bool) → is_some (outcome_of c.end.position.phase) ≡ b → AreFilesOf c.end.role.side c.files →
     standing (client_end port (if b then c else record c { files = told_files c.files })) ≡ told_end (standing (client_end port c))
 client_told port c true e fits = sym (told_closed (standing (client_end port c)) (standing_closed (client_end port c) ∙ e))
 client_told port c false e fits =
@@ -111,7 +111,7 @@ told_ended None h s = drafts_ended (draft_at h) s
 
 pub player_told : (port : ℕ) (held : List (ℕ × Transfer)) (p : Player) → PlayerKept port held p →
     (end_at port held (told_player port held p) ≡ told_end (end_at port held p)) × PlayerKept port held (told_player port held p)
-player_told port held (Client c) k = (client_told port c (is_some (outcome_of c.end.progress.phase)) refl k.1, kept_told c (is_some (outcome_of c.end.progress.phase)) (k.0, k.1))
+player_told port held (Client c) k = (client_told port c (is_some (outcome_of c.end.position.phase)) refl k.1, kept_told c (is_some (outcome_of c.end.position.phase)) (k.0, k.1))
 player_told port held (Server s) k =
     let t = told_served_end port held s in
     let same : t.ended ≡ s.ended = told_ended s.ended (at port held) s in (

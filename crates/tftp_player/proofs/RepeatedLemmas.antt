@@ -81,7 +81,7 @@ module _ (from : Endpoint) (packet : Packet) where
         any_found port held t kept.found (record { still = kept.is_open; peer = own.peer; same = own.same })
 
     end_repeats : (port : ℕ) (p : Player) → PlayerKept port held p → Repeats from packet (end_at port held p) → server.AnyRepeats from packet held
-    end_repeats port (Client c) kept r = absurd (by_case (outcome_of c.end.progress.phase) r) where
+    end_repeats port (Client c) kept r = absurd (by_case (outcome_of c.end.position.phase) r) where
       by_case : (o : Option Outcome) → Repeats from packet (by_outcome o (client_end port c)) → ⊥
       by_case None asked = true≢false (sym kept.0 ∙ asked.server)
       by_case (Some outcome) none = none

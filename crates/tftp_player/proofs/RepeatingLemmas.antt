@@ -170,11 +170,11 @@ module _ (from : Endpoint) (packet : Packet) where
   Lasts x = is_closed x ≡ false → Repeats from packet x
 
   turn_lasts : (x : OpenEnd) (turn : Turn) (held : Files (List ℕ) Holding) →
-      ((agreed : Terms) → terms_of x.state.progress.phase ≡ Some agreed → terms_of turn.progress.phase ≡ Some agreed) → WasAskedBy from packet x → Lasts (standing (end_after x turn held))
-  turn_lasts x turn held stays r = by_case (outcome_of (end_after x turn held).state.progress.phase) where
+      ((agreed : Terms) → terms_of x.state.position.phase ≡ Some agreed → terms_of turn.position.phase ≡ Some agreed) → WasAskedBy from packet x → Lasts (standing (end_after x turn held))
+  turn_lasts x turn held stays r = by_case (outcome_of (end_after x turn held).state.position.phase) where
     by_files : (files : Files (List ℕ) Holding) → WasAskedBy from packet (end_after x turn files)
-    by_files (Source left) = record { server = r.server; peer = same_peer x.state.progress.phase turn.progress.phase from r.peer stays; same = r.same }
-    by_files (Sink holding) = record { server = r.server; peer = same_peer x.state.progress.phase turn.progress.phase from r.peer stays; same = r.same }
+    by_files (Source left) = record { server = r.server; peer = same_peer x.state.position.phase turn.position.phase from r.peer stays; same = r.same }
+    by_files (Sink holding) = record { server = r.server; peer = same_peer x.state.position.phase turn.position.phase from r.peer stays; same = r.same }
 
     by_case : (o : Option Outcome) → Lasts (by_outcome o (end_after x turn held))
     by_case None open_now = by_files held

@@ -24,8 +24,8 @@ use Rattle.tftp_player.specs.declared.report.Report.{Report}
 opens : (old new : WorldState) (x : OpenEnd) (report : Report) → Opens old x report new → HasSentEach old → HasSentEach new
 opens old new x report o h =
     subst HasSentEach (sym o.is)
-    (let a = length-append old.ends (Open_end x ∷ []) in let b = length-append old.sent (record { from = x.address; to = x.state.progress.last_sent_to; bytes = x.state.progress.last_sent } ∷ []) in
-    let l : length (old.ends ++ Open_end x ∷ []) ≤ length (old.sent ++ record { from = x.address; to = x.state.progress.last_sent_to; bytes = x.state.progress.last_sent } ∷ []) = omega (arith, a, b, h) in l)
+    (let a = length-append old.ends (Open_end x ∷ []) in let b = length-append old.sent (record { from = x.address; to = x.state.position.last_sent_to; bytes = x.state.position.last_sent } ∷ []) in
+    let l : length (old.ends ++ Open_end x ∷ []) ≤ length (old.sent ++ record { from = x.address; to = x.state.position.last_sent_to; bytes = x.state.position.last_sent } ∷ []) = omega (arith, a, b, h) in l)
 
 -- nothing happened
 stays : (old new : WorldState) (report : Report) → Stays old report new → HasSentEach old → HasSentEach new

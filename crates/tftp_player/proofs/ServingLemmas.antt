@@ -31,7 +31,7 @@ use Rattle.tftp_player.proofs.HeldLemmas.{at-with_next}
 pub closes_as : (port : ℕ) (h next : Transfer) (held held' : List (ℕ × Transfer)) (turn : Turn) (step : Step) → at port held ≡ Some h → held' ≡ with_next port next held → next.end ≡ after_turn h.end turn → step ≡ told h.end turn →
     ClosesAs step.closed (at port held')
 closes_as port h next held held' turn step found e is tells =
-    subst (ClosesAs step.closed) (sym (ap (at port) e ∙ at-with_next port h next held found)) (ap (λ (s : Step). s.closed) tells ∙ ap (λ (e : EndState). outcome_of e.progress.phase) (sym is))
+    subst (ClosesAs step.closed) (sym (ap (at port) e ∙ at-with_next port h next held found)) (ap (λ (s : Step). s.closed) tells ∙ ap (λ (e : EndState). outcome_of e.position.phase) (sym is))
 
 pub times_out_closes : (port : ℕ) (old new : List (ℕ × Transfer)) (step : Step) (before after : List ℕ) → TimesOut port old new step before after → ClosesAs step.closed (at port new)
 times_out_closes port old new step before after t = closes_as port t.transfer (with_end t.end t.transfer) old new (timeout_turn t.transfer.end) step t.found t.held t.carries.state t.tells
@@ -46,7 +46,7 @@ pub effect_is : (at : Endpoint) (e e' : EndState) (turn : Turn) (step : Step) (s
     (let effect : Effect = record { from = at; to = step.to; bytes = out; closed = step.closed } in effect) ≡ effect_of at turn
 effect_is at e e' turn step start out none c tells =
     ap (λ (s : Step). record { from = at; to = s.to; bytes = out; closed = s.closed }) tells
-    ∙ ap (λ (bytes : List ℕ). record { from = at; to = (told e turn).to; bytes = bytes; closed = outcome_of turn.progress.phase }) (c.appended ∙ ap (λ (s : List ℕ). s ++ reply_bytes turn.reply) none)
+    ∙ ap (λ (bytes : List ℕ). record { from = at; to = (told e turn).to; bytes = bytes; closed = outcome_of turn.position.phase }) (c.appended ∙ ap (λ (s : List ℕ). s ++ reply_bytes turn.reply) none)
 
 -- what it left at the server, which has become that, where it was taken out if it has closed
 turns_served : (port : ℕ) (was old new : Served) (before mid after : PlayedServer) (e : EndState) (turn : Turn) (next : Transfer) (refuses : Bool) (store : Stored) (effect : Effect) (r : Record) →
@@ -55,15 +55,15 @@ turns_served : (port : ℕ) (was old new : Served) (before mid after : PlayedSer
     ServedTurns port was new before after e turn next refuses store effect r
 turns_served port was old new before mid after e turn next refuses store effect r is found server told_so c recorded effects =
     let d : Concludes port (Some next) old new mid after = subst (λ (o : Option Transfer). Concludes port o old new mid after) found c in
-    let closed : is_closed next ≡ is_some (outcome_of turn.progress.phase) = ap (λ (e : EndState). is_some (outcome_of e.progress.phase)) is in
+    let closed : is_closed next ≡ is_some (outcome_of turn.position.phase) = ap (λ (e : EndState). is_some (outcome_of e.position.phase)) is in
     record {
       end = is;
       effects = effects;
       recorded = recorded ∙ ap record_of is;
       served = d.0 ∙ (ap (λ (r : Record). concluded_served (is_closed next) r (draft_of next.files) old) (sym recorded)
-          ∙ (ap (λ (b : Bool). concluded_served b r (draft_of next.files) old) closed ∙ ap (concluded_served (is_some (outcome_of turn.progress.phase)) r (draft_of next.files)) told_so));
+          ∙ (ap (λ (b : Bool). concluded_served b r (draft_of next.files) old) closed ∙ ap (concluded_served (is_some (outcome_of turn.position.phase)) r (draft_of next.files)) told_so));
       server = d.1 ∙ (ap (λ (b : Bool). record mid { held = concluded_held b port mid.held }) closed
-          ∙ ap (λ (m : PlayedServer). record m { held = concluded_held (is_some (outcome_of turn.progress.phase)) port m.held }) server);
+          ∙ ap (λ (m : PlayedServer). record m { held = concluded_held (is_some (outcome_of turn.position.phase)) port m.held }) server);
     }
 
 pub served_times_out : (port : ℕ) (old new : Served) (before mid after : PlayedServer) (step : Step) (start out : List ℕ) (effect : Effect) (r : Record) → start ≡ [] →

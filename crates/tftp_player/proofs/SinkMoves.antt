@@ -127,36 +127,36 @@ stores_in false f refuses_commit terms number from piece e left sink turn (Sourc
 -- what the machine has for a receiver that was sent this block
 pub record Receives (views : List EndView) (messages : List Message) (k : ℕ) (x : OpenEnd) (terms : Terms) (number : ℕ) (from : Endpoint) (piece : List ℕ) : Type 0 where
   pub receiver : is_sender x.state.role.side ≡ false
-  pub going : goes_on x.state.progress.phase ≡ true
-  pub incomplete : is_complete x.state.progress.phase ≡ false
+  pub going : goes_on x.state.position.phase ≡ true
+  pub incomplete : is_complete x.state.position.phase ≡ false
   pub peer : from ≡ terms.peer
   pub fits : number < 2 ^ 16
   pub stored : IsShown (set views k (record (open_view x) { peer = Some terms.peer; size = terms.size; number = number; done = nat_lt (length piece) terms.size; text = text_of_end x ++ piece })) (messages ++ message x.address from (Says_ack number) ∷ [])
   pub refused : (t : List ℕ) → IsBeginningOf t (text_of_end x ++ piece) →
-      IsShown (set views k (record (open_view x) { peer = Some terms.peer; size = terms.size; number = number_of x.state.progress.phase; failed = true; text = t })) (messages ++ message x.address from Error ∷ [])
+      IsShown (set views k (record (open_view x) { peer = Some terms.peer; size = terms.size; number = number_of x.state.position.phase; failed = true; text = t })) (messages ++ message x.address from Error ∷ [])
 
 -- the block goes on with netascii, or is octet
 abbrev pub Readable : OpenEnd → Terms → List ℕ → Type 0
-Readable x terms piece = is_readable x.state.role.mode x.state.progress.held piece (nat_lt (length piece) terms.size) ≡ true
+Readable x terms piece = is_readable x.state.role.mode x.state.position.held piece (nat_lt (length piece) terms.size) ≡ true
 
 module _ (views : List EndView) (messages : List Message) (k : ℕ) (x : OpenEnd) (terms : Terms) (number : ℕ) (from : Endpoint) (piece : List ℕ)
     (kept : EndKept x) (r : Receives views messages k x terms number from piece) where
   -- what it has of its peer's text
-  pub told : text_of_end x ≡ wire_text x.state.role.mode x.stored ++ x.state.progress.held
+  pub told : text_of_end x ≡ wire_text x.state.role.mode x.stored ++ x.state.position.held
   told =
       let w = wire_text x.state.role.mode x.stored in
-      text_else (is_sender x.state.role.side) (wire_text x.state.role.mode x.file) (if goes_on x.state.progress.phase then w ++ x.state.progress.held else w) r.receiver
-      ∙ ap (λ (b : Bool). if b then w ++ x.state.progress.held else w) r.going
+      text_else (is_sender x.state.role.side) (wire_text x.state.role.mode x.file) (if goes_on x.state.position.phase then w ++ x.state.position.held else w) r.receiver
+      ∙ ap (λ (b : Bool). if b then w ++ x.state.position.held else w) r.going
 
   uncommitted : x.committed ≡ false
   uncommitted = kept.committed r.receiver ∙ r.incomplete
 
   -- the text, with the block
-  more_text : (more after : List ℕ) → Decoded x.state.role.mode x.state.progress.held piece more after →
+  more_text : (more after : List ℕ) → Decoded x.state.role.mode x.state.position.held piece more after →
       text_of_end x ++ piece ≡ wire_text x.state.role.mode (x.stored ++ more) ++ after
   more_text more after d =
       ap (λ (t : List ℕ). t ++ piece) told
-      ∙ stored_more x.state.role.mode x.stored x.state.progress.held piece more after (goes_on_with x.state.role.mode x.state.progress.held piece more after kept.held d)
+      ∙ stored_more x.state.role.mode x.stored x.state.position.held piece more after (goes_on_with x.state.role.mode x.state.position.held piece more after kept.held d)
 
   -- the store refused it
   pub refused_goes : (held : List ℕ) (sink : Holding) (reply : ErrorReply) (outcome : Outcome) → HeldFits x.state.role.mode held → sink.committed ≡ false →
@@ -180,7 +180,7 @@ module _ (views : List EndView) (messages : List Message) (k : ℕ) (x : OpenEnd
       }
 
   -- the block is acknowledged: stored, or stored and committed
-  acknowledged : (sink : Holding) (more after : List ℕ) → sink.bytes ≡ x.stored ++ more → Decoded x.state.role.mode x.state.progress.held piece more after →
+  acknowledged : (sink : Holding) (more after : List ℕ) → sink.bytes ≡ x.stored ++ more → Decoded x.state.role.mode x.state.position.held piece more after →
       (t : List ℕ) → wire_text x.state.role.mode (x.stored ++ more) ++ after ≡ t → (done : Bool) → nat_lt (length piece) terms.size ≡ done →
       IsShown (set views k (record (open_view x) { peer = Some terms.peer; size = terms.size; number = number; done = done; text = t })) (messages ++ message x.address from (Says_ack number) ∷ [])
   acknowledged sink more after bytes d t text done last =
@@ -189,8 +189,8 @@ module _ (views : List EndView) (messages : List Message) (k : ℕ) (x : OpenEnd
       (subst (λ (b : Bool). IsShown (set views k (record (open_view x) { peer = Some terms.peer; size = terms.size; number = number; done = b; text = text_of_end x ++ piece })) (messages ++ message x.address from (Says_ack number) ∷ []))
       last r.stored)
 
-  failed_not : has_failed x.state.progress.phase ≡ false
-  failed_not = (going_live x.state.progress.phase r.going).1
+  failed_not : has_failed x.state.position.phase ≡ false
+  failed_not = (going_live x.state.position.phase r.going).1
 
   -- it is no failure
   sound_view : (t : List ℕ) (done : Bool) (ms : List Message) →
@@ -198,7 +198,7 @@ module _ (views : List EndView) (messages : List Message) (k : ℕ) (x : OpenEnd
       IsShown (set views k (record (open_view x) { peer = Some terms.peer; size = terms.size; number = number; done = done; failed = false; text = t })) ms
   sound_view t done ms h = subst (λ (b : Bool). IsShown (set views k (record (open_view x) { peer = Some terms.peer; size = terms.size; number = number; done = done; failed = b; text = t })) ms) failed_not h
 
-  next_goes : (sink : Holding) (more after : List ℕ) → sink.bytes ≡ x.stored ++ more → sink.committed ≡ false → Decoded x.state.role.mode x.state.progress.held piece more after →
+  next_goes : (sink : Holding) (more after : List ℕ) → sink.bytes ≡ x.stored ++ more → sink.committed ≡ false → Decoded x.state.role.mode x.state.position.held piece more after →
       nat_lt (length piece) terms.size ≡ false →
       let turn = sent_turn (Receiving terms number) from (ack_bytes number) (holding after x.state) in
       Goes views messages k x turn (end_after x turn (Sink sink))
@@ -212,21 +212,21 @@ module _ (views : List EndView) (messages : List Message) (k : ℕ) (x : OpenEnd
         said_now = message x.address from (Says_ack number) ∷ [];
         shown = sound_view (text_of_end y) false (messages ++ message x.address from (Says_ack number) ∷ []) (acknowledged sink more after bytes d (text_of_end y) text false last);
         replies = (Ack number, spells_own (Ack number) r.fits, refl);
-        kept = record { phase = (r.receiver, r.peer); held = held_fits x.state.role.mode x.state.progress.held piece more after kept.held d; committed = λ _. un };
+        kept = record { phase = (r.receiver, r.peer); held = held_fits x.state.role.mode x.state.position.held piece more after kept.held d; committed = λ _. un };
         side = refl;
         last_sent = inr refl;
         stored = λ c. absurd (true≢false (sym c ∙ r.incomplete));
       }
 
-  whole_goes : Readable x terms piece → (sink : Holding) (more after : List ℕ) → sink.bytes ≡ x.stored ++ more → sink.committed ≡ true → Decoded x.state.role.mode x.state.progress.held piece more after →
+  whole_goes : Readable x terms piece → (sink : Holding) (more after : List ℕ) → sink.bytes ≡ x.stored ++ more → sink.committed ≡ true → Decoded x.state.role.mode x.state.position.held piece more after →
       nat_lt (length piece) terms.size ≡ true →
       let turn = sent_turn (Dallying terms number Fresh) from (ack_bytes number) (holding after x.state) in
       Goes views messages k x turn (end_after x turn (Sink sink))
   whole_goes readable sink more after bytes done d last =
       let turn = sent_turn (Dallying terms number Fresh) from (ack_bytes number) (holding after x.state) in
       let y = end_after x turn (Sink sink) in
-      let none : after ≡ [] = none_held x.state.role.mode x.state.progress.held piece more after kept.held d
-      (subst (λ (b : Bool). is_readable x.state.role.mode x.state.progress.held piece b ≡ true) last readable) in
+      let none : after ≡ [] = none_held x.state.role.mode x.state.position.held piece more after kept.held d
+      (subst (λ (b : Bool). is_readable x.state.role.mode x.state.position.held piece b ≡ true) last readable) in
       let text : wire_text x.state.role.mode (x.stored ++ more) ++ after ≡ text_of_end y =
       ap (λ (z : List ℕ). wire_text x.state.role.mode (x.stored ++ more) ++ z) none
       ∙ (append-nil (wire_text x.state.role.mode (x.stored ++ more))
@@ -236,7 +236,7 @@ module _ (views : List EndView) (messages : List Message) (k : ℕ) (x : OpenEnd
         said_now = message x.address from (Says_ack number) ∷ [];
         shown = sound_view (text_of_end y) true (messages ++ message x.address from (Says_ack number) ∷ []) (acknowledged sink more after bytes d (text_of_end y) text true last);
         replies = (Ack number, spells_own (Ack number) r.fits, refl);
-        kept = record { phase = (r.receiver, r.peer); held = held_fits x.state.role.mode x.state.progress.held piece more after kept.held d; committed = λ _. done };
+        kept = record { phase = (r.receiver, r.peer); held = held_fits x.state.role.mode x.state.position.held piece more after kept.held d; committed = λ _. done };
         side = refl;
         last_sent = inr refl;
         stored = λ c. absurd (true≢false (sym c ∙ r.incomplete));
@@ -244,7 +244,7 @@ module _ (views : List EndView) (messages : List Message) (k : ℕ) (x : OpenEnd
 
   -- after a commit
   commit_goes : Readable x terms piece → (refuses_commit : Holding → StoreFault → Type 0) (mid sink : Holding) (more after : List ℕ) (turn : Turn) → mid.bytes ≡ x.stored ++ more → mid.committed ≡ false →
-      Decoded x.state.role.mode x.state.progress.held piece more after → nat_lt (length piece) terms.size ≡ true →
+      Decoded x.state.role.mode x.state.position.held piece more after → nat_lt (length piece) terms.size ≡ true →
       Committed (world_sink refuses_commit) terms number from (holding after x.state) mid turn sink →
       Goes views messages k x turn (end_after x turn (Sink sink))
   commit_goes readable refuses_commit mid sink more after turn bytes un d last c =
@@ -259,11 +259,11 @@ module _ (views : List EndView) (messages : List Message) (k : ℕ) (x : OpenEnd
             let begins : IsBeginningOf (wire_text x.state.role.mode sink.bytes) (text_of_end x ++ piece) =
             (after, ap (λ (z : List ℕ). wire_text x.state.role.mode z ++ after) (same ∙ bytes) ∙ sym (more_text more after d)) in
             subst (λ (z : Turn). Goes views messages k x z (end_after x z (Sink sink))) (sym turn_is)
-            (refused_goes after sink (commit_reply fault) outcomes.StoreFault (held_fits x.state.role.mode x.state.progress.held piece more after kept.held d) (still ∙ un) begins)
+            (refused_goes after sink (commit_reply fault) outcomes.StoreFault (held_fits x.state.role.mode x.state.position.held piece more after kept.held d) (still ∙ un) begins)
 
   -- after an append
   append_goes : Readable x terms piece → (refuses_commit : Holding → StoreFault → Type 0) (mid sink : Holding) (more after : List ℕ) (turn : Turn) (answer : Result Done StoreFault) (last : Bool) → nat_lt (length piece) terms.size ≡ last →
-      Decoded x.state.role.mode x.state.progress.held piece more after → Took (holding_of x) mid more answer →
+      Decoded x.state.role.mode x.state.position.held piece more after → Took (holding_of x) mid more answer →
       GoesOn (world_sink refuses_commit) terms number from x.state last after mid answer turn sink →
       Goes views messages k x turn (end_after x turn (Sink sink))
   append_goes readable refuses_commit mid sink more after turn (Err f) last is d (All_of_it ok same un) h = absurd (let e : Err f ≡ Ok tt = ok in cc)
@@ -271,13 +271,13 @@ module _ (views : List EndView) (messages : List Message) (k : ℕ) (x : OpenEnd
   append_goes readable refuses_commit mid sink more after turn (Err f) last is d (None_of_it fault err same still) h =
       let w = wire_text x.state.role.mode x.stored in
       let begins : IsBeginningOf (wire_text x.state.role.mode mid.bytes) (text_of_end x ++ piece) = (
-        x.state.progress.held ++ piece,
-        ap (λ (z : List ℕ). wire_text x.state.role.mode z ++ (x.state.progress.held ++ piece)) same
-            ∙ (sym (append_assoc w x.state.progress.held piece) ∙ ap (λ (z : List ℕ). z ++ piece) (sym told)),
+        x.state.position.held ++ piece,
+        ap (λ (z : List ℕ). wire_text x.state.role.mode z ++ (x.state.position.held ++ piece)) same
+            ∙ (sym (append_assoc w x.state.position.held piece) ∙ ap (λ (z : List ℕ). z ++ piece) (sym told)),
       ) in
       subst (λ (z : Holding). Goes views messages k x turn (end_after x turn (Sink z))) (sym h.1)
       (subst (λ (t : Turn). Goes views messages k x t (end_after x t (Sink mid))) (sym h.0)
-      (refused_goes x.state.progress.held mid replies.DiskFull outcomes.StoreFault kept.held (still ∙ uncommitted) begins))
+      (refused_goes x.state.position.held mid replies.DiskFull outcomes.StoreFault kept.held (still ∙ uncommitted) begins))
   append_goes readable refuses_commit mid sink more after turn (Ok u) true is d (All_of_it ok same un) h =
       commit_goes readable refuses_commit mid sink more after turn same (un uncommitted) d is h
   append_goes readable refuses_commit mid sink more after turn (Ok u) false is d (All_of_it ok same un) h =

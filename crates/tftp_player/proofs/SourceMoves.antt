@@ -24,7 +24,7 @@ use Rattle.tftp_ends.specs.declared.phase.Phase.TheVariants.{Sending}
 use Rattle.tftp_ends.specs.declared.phase.Terms.{Terms}
 use Rattle.tftp_ends.specs.declared.action.Response.TheVariants.{Complete}
 use Rattle.tftp_ends.specs.End.{EndState, is_sender}
-use Rattle.tftp_ends.specs.Step.{Turn, response_turn, after, Sends, SendsFrom, sent_turn, refused_turn, data_bytes, block_length, filled_turn, result_count_is, after_turn, with_progress}
+use Rattle.tftp_ends.specs.Step.{Turn, response_turn, after, Sends, SendsFrom, sent_turn, refused_turn, data_bytes, block_length, filled_turn, result_count_is, after_turn, with_position}
 use Rattle.tftp_player.specs.Machine.{Endpoint, Data as Says_data, Ack as Says_ack, Message}
 use Rattle.tftp_player.specs.Rules.{message}
 use Rattle.tftp_player.specs.Said.{said}
@@ -180,7 +180,7 @@ module _ (views : List EndView) (messages : List Message) (k : ℕ) (x0 : OpenEn
 
   -- the last block is acknowledged
   pub ends_whole : (from : Endpoint) → terms.peer ≡ from → Contains messages (message from x0.address (Says_ack n)) → n ≡ block_count (sent_text x0) terms.size →
-      Goes views messages k (placed (Sending terms n) x0) (response_turn Complete from (placed (Sending terms n) x0).state) (in_state (with_progress (after Complete from (placed (Sending terms n) x0).state) (placed (Sending terms n) x0).state) (placed (Sending terms n) x0))
+      Goes views messages k (placed (Sending terms n) x0) (response_turn Complete from (placed (Sending terms n) x0).state) (in_state (with_position (after Complete from (placed (Sending terms n) x0).state) (placed (Sending terms n) x0).state) (placed (Sending terms n) x0))
   ends_whole from peer acked last =
       let x = placed (Sending terms n) x0 in
       let u = kept.phase in
@@ -188,7 +188,7 @@ module _ (views : List EndView) (messages : List Message) (k : ℕ) (x0 : OpenEn
       let told : text_of_end x ≡ text = text_if (is_sender x.state.role.side) text (received_text x) u.sender in
       let whole : n ≡ block_count (text_of_end x) terms.size = subst (λ (t : List ℕ). n ≡ block_count t terms.size) (sym told) last in
       let shown_now = completes views messages k (open_view x) s from (refl, refl) u.sender (ap Some peer) acked whole in
-      let y = in_state (with_progress (after Complete from x.state) x.state) x in
+      let y = in_state (with_position (after Complete from x.state) x.state) x in
       let still : text_of_end x ≡ text_of_end y = told ∙ sym (text_if (is_sender x.state.role.side) text (received_text y) u.sender) in
       record {
         said_now = [];

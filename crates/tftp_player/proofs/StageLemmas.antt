@@ -100,10 +100,10 @@ files_kept side (Sink holding) (Source left) k f = absurd k
 
 -- a client is no transfer
 pub no_transfer : (x : OpenEnd) → is_client x.state.role.side ≡ true → is_transfer (standing x) ≡ false
-no_transfer x e = standing_transfer x ∙ ap (λ (b : Bool). not b && not (is_some (outcome_of x.state.progress.phase))) e
+no_transfer x e = standing_transfer x ∙ ap (λ (b : Bool). not b && not (is_some (outcome_of x.state.position.phase))) e
 
 pub client_open : (port : ℕ) (c c' : PlayedClient) (server : PlayedServer) (turn : Turn) (files : Files (List ℕ) Holding) (effect : Effect) (r : Record) →
-    PlayerKept port server.held (Client c) → is_some (outcome_of c.end.progress.phase) ≡ false → ClientTurns port c c' turn files effect r → SameKind c.files files →
+    PlayerKept port server.held (Client c) → is_some (outcome_of c.end.position.phase) ≡ false → ClientTurns port c c' turn files effect r → SameKind c.files files →
     Stepped port (Client c) (client_end port c) (Client c') server server turn files effect r
 client_open port c c' server turn files effect r kept open_now t kind =
     let client : client_end port c' ≡ end_after (client_end port c) turn files = ap (client_end port) t.client ∙ client_after port c turn c.files files kind in
@@ -131,7 +131,7 @@ client_open port c c' server turn files effect r kept open_now t kind =
 
 -- as it stands in the world
 pub client_steps : (port : ℕ) (c c' : PlayedClient) (before after : PlayedServer) (turn : Turn) (files : Files (List ℕ) Holding) (effect : Effect) (r : Record) →
-    PlayerKept port before.held (Client c) → is_some (outcome_of c.end.progress.phase) ≡ false → ClientTurns port c c' turn files effect r → after ≡ before → SameKind c.files files →
+    PlayerKept port before.held (Client c) → is_some (outcome_of c.end.position.phase) ≡ false → ClientTurns port c c' turn files effect r → after ≡ before → SameKind c.files files →
     Stepped port (Client c) (client_end port c) (Client c') before after turn files effect r
 client_steps port c c' before after turn files effect r kept open_now t same kind =
     subst (λ (s : PlayedServer). Stepped port (Client c) (client_end port c) (Client c') before s turn files effect r) (sym same)
@@ -216,7 +216,7 @@ pub record TransferGoes (h next : Transfer) (turn : Turn) (was refuses : Bool) :
   pub path : next.path ≡ h.path
   pub request : next.request ≡ h.request
   pub told : KeepsTold h.files was refuses
-  pub commits : CommitsLast next.files turn.progress.phase
+  pub commits : CommitsLast next.files turn.position.phase
 
 module _ (port : ℕ) (s : Served) (before : PlayedServer) (h next : Transfer) (turn : Turn) (refuses : Bool) (store : Stored) (effect : Effect) (r : Record)
     (found : at port before.held ≡ Some h) (open_now : is_some s.ended ≡ false) (kept : ServedKept port s before.held) (recorded : r ≡ record_of (after_turn h.end turn))
@@ -255,7 +255,7 @@ module _ (port : ℕ) (s : Served) (before : PlayedServer) (h next : Transfer) (
   phase_is = ap (λ (y : OpenEnd). y.state) after_is
 
   -- the end, by whether it has closed
-  end_by : (b : Bool) → is_some (outcome_of turn.progress.phase) ≡ b →
+  end_by : (b : Bool) → is_some (outcome_of turn.position.phase) ≡ b →
       end_at port (concluded_held b port (with_next port next before.held)) (Server (concluded_served b r draft told)) ≡ standing x1
   end_by true closed =
       let y = served_as port told (after_turn h.end turn) (left_in next.files) draft h.request in
@@ -266,9 +266,9 @@ module _ (port : ℕ) (s : Served) (before : PlayedServer) (h next : Transfer) (
       served_is port told (with_next port next before.held) next open_now (at-with_next port h next before.held found)
       ∙ (ap (λ (e : EndState). Open_end (served_as port told e (left_in next.files) draft next.request)) goes.end
       ∙ (ap (λ (l : List ℕ). Open_end (served_as port told (after_turn h.end turn) (left_in next.files) draft l)) goes.request
-      ∙ (ap Open_end (sym after_is) ∙ sym (standing_open x1 (ap (λ (e : EndState). is_some (outcome_of e.progress.phase)) phase_is ∙ still)))))
+      ∙ (ap Open_end (sym after_is) ∙ sym (standing_open x1 (ap (λ (e : EndState). is_some (outcome_of e.position.phase)) phase_is ∙ still)))))
 
-  kept_by : (b : Bool) → is_some (outcome_of turn.progress.phase) ≡ b → PlayerKept port (concluded_held b port (with_next port next before.held)) (Server (concluded_served b r draft told))
+  kept_by : (b : Bool) → is_some (outcome_of turn.position.phase) ≡ b → PlayerKept port (concluded_held b port (with_next port next before.held)) (Server (concluded_served b r draft told))
   kept_by true closed = record {
     closed = ap (λ (q : Record). is_some q.outcome) recorded ∙ closed;
     side = ap (λ (q : Record). is_client q.side) recorded ∙ side_is;
@@ -278,10 +278,10 @@ module _ (port : ℕ) (s : Served) (before : PlayedServer) (h next : Transfer) (
       subst (λ (o : Option Record). IsServed port told o (with_next port next before.held)) (sym (not_some s.ended open_now)) (record {
         transfer = next;
         found = at-with_next port h next before.held found;
-        is_open = ap (λ (e : EndState). is_some (outcome_of e.progress.phase)) goes.end ∙ still;
+        is_open = ap (λ (e : EndState). is_some (outcome_of e.position.phase)) goes.end ∙ still;
         side = ap (λ (e : EndState). is_client e.role.side) goes.end ∙ side_is;
         files = subst (λ (e : EndState). AreFilesOf e.role.side next.files) (sym goes.end) fits;
-        commits = subst (λ (e : EndState). CommitsLast next.files e.progress.phase) (sym goes.end) goes.commits;
+        commits = subst (λ (e : EndState). CommitsLast next.files e.position.phase) (sym goes.end) goes.commits;
         mode = ap (λ (e : EndState). e.role.mode) goes.end ∙ mode_is;
         path = path_is;
       })
@@ -306,18 +306,18 @@ module _ (port : ℕ) (s : Served) (before : PlayedServer) (h next : Transfer) (
   owned_by false place ps is there rises all =
       server_owned ps place (Server s) told (with_next port next before.held) there (not_some s.ended open_now) (AllKeys-with_next (IsOwned ps) port next before.held all)
 
-  transfer_now : (b : Bool) → is_some (outcome_of turn.progress.phase) ≡ b →
+  transfer_now : (b : Bool) → is_some (outcome_of turn.position.phase) ≡ b →
       is_transfer (end_at port (concluded_held b port (with_next port next before.held)) (Server (concluded_served b r draft told))) ≡ not b
   transfer_now b e =
       ap is_transfer (end_by b e)
       ∙ (standing_transfer x1
-      ∙ (ap (λ (q : EndState). not (is_client q.role.side) && not (is_some (outcome_of q.progress.phase))) phase_is
-      ∙ (ap (λ (c : Bool). not c && not (is_some (outcome_of turn.progress.phase))) side_is ∙ ap not e)))
+      ∙ (ap (λ (q : EndState). not (is_client q.role.side) && not (is_some (outcome_of q.position.phase))) phase_is
+      ∙ (ap (λ (c : Bool). not c && not (is_some (outcome_of turn.position.phase))) side_is ∙ ap not e)))
 
   transfer_was : is_transfer (Open_end x0) ≡ true
   transfer_was = ap not (ap (λ (t : Transfer). is_client t.end.role.side) here ∙ kept.side)
 
-  counted_by : (b : Bool) → is_some (outcome_of turn.progress.phase) ≡ b →
+  counted_by : (b : Bool) → is_some (outcome_of turn.position.phase) ≡ b →
       ((is_transfer (end_at port (concluded_held b port (with_next port next before.held)) (Server (concluded_served b r draft told))) ≡ is_transfer (Open_end x0)) × (length (concluded_held b port (with_next port next before.held)) ≡ length before.held))
       ⊎ ((is_transfer (Open_end x0) ≡ true) × (is_transfer (end_at port (concluded_held b port (with_next port next before.held)) (Server (concluded_served b r draft told))) ≡ false) × (suc (length (concluded_held b port (with_next port next before.held))) ≡ length before.held))
   counted_by true e =
@@ -325,7 +325,7 @@ module _ (port : ℕ) (s : Served) (before : PlayedServer) (h next : Transfer) (
   counted_by false e = inl (transfer_now false e ∙ sym transfer_was, length-with_next port next before.held)
 
   abbrev ended : Bool
-  ended = is_some (outcome_of turn.progress.phase)
+  ended = is_some (outcome_of turn.position.phase)
 
   stepped_so : effect ≡ effect_of (server_at port) turn → (before.store.refuses ≡ false → store.refuses ≡ false) →
       Stepped port (Server s) x0 (Server (concluded_served ended r draft told)) before (record before { store = store; held = concluded_held ended port (with_next port next before.held) }) turn (held_files refuses next.files)
@@ -348,11 +348,11 @@ module _ (port : ℕ) (s : Served) (before : PlayedServer) (h next : Transfer) (
 -- an end of the server whose transfer made a turn, as it stands in the world
 pub served_steps : (port : ℕ) (s s' : Served) (before after : PlayedServer) (h next : Transfer) (turn : Turn) (refuses : Bool) (store : Stored) (effect : Effect) (r : Record) →
     at port before.held ≡ Some h → is_some s.ended ≡ false → PlayerKept port before.held (Server s) →
-    SameDraftKind h.files next.files → next.path ≡ h.path → next.request ≡ h.request → KeepsTold h.files s.refuses refuses → CommitsLast next.files turn.progress.phase → (before.store.refuses ≡ false → store.refuses ≡ false) →
+    SameDraftKind h.files next.files → next.path ≡ h.path → next.request ≡ h.request → KeepsTold h.files s.refuses refuses → CommitsLast next.files turn.position.phase → (before.store.refuses ≡ false → store.refuses ≡ false) →
     ServedTurns port s s' before after h.end turn next refuses store effect r →
     Stepped port (Server s) (held_end port s h) (Server s') before after turn (held_files refuses next.files) effect r
 served_steps port s s' before after h next turn refuses store effect r found open_now kept kind path request told commits quiet t =
     let goes : TransferGoes h next turn s.refuses refuses = record { end = t.end; kind = kind; path = path; request = request; told = told; commits = commits } in
     subst (λ (q : Served). Stepped port (Server s) (held_end port s h) (Server q) before after turn (held_files refuses next.files) effect r) (sym t.served)
-    (subst (λ (v : PlayedServer). Stepped port (Server s) (held_end port s h) (Server (concluded_served (is_some (outcome_of turn.progress.phase)) r (draft_of next.files) (record s { refuses = refuses }))) before v turn (held_files refuses next.files) effect r) (sym t.server)
+    (subst (λ (v : PlayedServer). Stepped port (Server s) (held_end port s h) (Server (concluded_served (is_some (outcome_of turn.position.phase)) r (draft_of next.files) (record s { refuses = refuses }))) before v turn (held_files refuses next.files) effect r) (sym t.server)
     (stepped_so port s before h next turn refuses store effect r found open_now (served_kept port s before.held open_now kept) t.recorded goes t.effects quiet))

@@ -7,7 +7,7 @@ use Rattle.tftp_ends.specs.declared.outcome.Outcome.{Outcome}
 use Rattle.tftp_ends.specs.declared.phase.Phase.{Phase}
 use Rattle.tftp_ends.specs.declared.phase.Phase.TheVariants.{Waiting, Sending, Receiving, Dallying, Closed}
 use Rattle.tftp_ends.specs.End.{is_sender, is_client, terms_of, number_of, is_complete, outcome_of, size_of, record_of}
-use Rattle.tftp_ends.specs.Step.{with_progress}
+use Rattle.tftp_ends.specs.Step.{with_position}
 use Rattle.tftp_player.specs.Requests.{is_transfer}
 use Rattle.tftp_player.specs.Shows.{EndView}
 use Rattle.tftp_player.specs.World.{WorldState, OpenEnd, WorldEnd, Open_end, Closed_end, end_record, end_address, is_closed, datagram, in_state, closed_end, by_outcome, standing, text_of, peer_of, view_of_end, file_at}
@@ -29,21 +29,21 @@ open_view x =
       client = is_client x.state.role.side;
       sender = is_sender x.state.role.side;
       mode = x.state.role.mode;
-      peer = peer_of x.state.progress.phase;
-      size = size_of (terms_of x.state.progress.phase);
-      number = number_of x.state.progress.phase;
-      done = is_complete x.state.progress.phase;
-      failed = has_failed x.state.progress.phase;
+      peer = peer_of x.state.position.phase;
+      size = size_of (terms_of x.state.position.phase);
+      number = number_of x.state.position.phase;
+      done = is_complete x.state.position.phase;
+      failed = has_failed x.state.position.phase;
       text = text_of x;
     }
 
 -- an end in this phase
 abbrev pub placed : Phase → OpenEnd → OpenEnd
-placed phase x = in_state (with_progress (record x.state.progress { phase = phase }) x.state) x
+placed phase x = in_state (with_position (record x.state.position { phase = phase }) x.state) x
 
 -- an end stands in the world by how it ended
 pub stands_as : {A : Type 0} (f : WorldEnd → A) (a : A) (x : OpenEnd) → f (Open_end x) ≡ a → f (Closed_end (closed_end x)) ≡ a → f (standing x) ≡ a
-stands_as {A = A} f a x open_now closed_now = by_case (outcome_of x.state.progress.phase) where
+stands_as {A = A} f a x open_now closed_now = by_case (outcome_of x.state.position.phase) where
   by_case : (o : Option Outcome) → f (by_outcome o x) ≡ a
   by_case None = open_now
   by_case (Some outcome) = closed_now
@@ -57,7 +57,7 @@ view_in (Dallying terms number dally) x = refl
 view_in (Closed terms number complete outcome) x = refl
 
 pub standing_view : (x : OpenEnd) → view_of_end (standing x) ≡ open_view x
-standing_view x = view_in x.state.progress.phase x
+standing_view x = view_in x.state.position.phase x
 
 pub standing_record : (x : OpenEnd) → end_record (standing x) ≡ record_of x.state
 standing_record x = stands_as end_record (record_of x.state) x refl refl
@@ -70,29 +70,29 @@ no_outcome None e = refl
 no_outcome (Some outcome) e = absurd (true≢false e)
 
 -- an open end stands as it is
-pub standing_open : (x : OpenEnd) → is_some (outcome_of x.state.progress.phase) ≡ false → standing x ≡ Open_end x
-standing_open x e = ap (λ (o : Option Outcome). by_outcome o x) (no_outcome (outcome_of x.state.progress.phase) e)
+pub standing_open : (x : OpenEnd) → is_some (outcome_of x.state.position.phase) ≡ false → standing x ≡ Open_end x
+standing_open x e = ap (λ (o : Option Outcome). by_outcome o x) (no_outcome (outcome_of x.state.position.phase) e)
 
-pub open_is : (x : OpenEnd) → is_some (outcome_of x.state.progress.phase) ≡ false → view_of_end (Open_end x) ≡ open_view x
+pub open_is : (x : OpenEnd) → is_some (outcome_of x.state.position.phase) ≡ false → view_of_end (Open_end x) ≡ open_view x
 open_is x e = ap view_of_end (sym (standing_open x e)) ∙ standing_view x
 
 -- a closed one stands with its record
-pub standing_ended : (x : OpenEnd) → is_some (outcome_of x.state.progress.phase) ≡ true → standing x ≡ Closed_end (closed_end x)
-standing_ended x e = by_case (outcome_of x.state.progress.phase) e where
+pub standing_ended : (x : OpenEnd) → is_some (outcome_of x.state.position.phase) ≡ true → standing x ≡ Closed_end (closed_end x)
+standing_ended x e = by_case (outcome_of x.state.position.phase) e where
   by_case : (o : Option Outcome) → is_some o ≡ true → by_outcome o x ≡ Closed_end (closed_end x)
   by_case None closed = absurd (true≢false (sym closed))
   by_case (Some outcome) closed = refl
 
 -- it is closed if it has ended
-pub standing_closed : (x : OpenEnd) → is_closed (standing x) ≡ is_some (outcome_of x.state.progress.phase)
-standing_closed x = by_case (outcome_of x.state.progress.phase) where
+pub standing_closed : (x : OpenEnd) → is_closed (standing x) ≡ is_some (outcome_of x.state.position.phase)
+standing_closed x = by_case (outcome_of x.state.position.phase) where
   by_case : (o : Option Outcome) → is_closed (by_outcome o x) ≡ is_some o
   by_case None = refl
   by_case (Some outcome) = refl
 
 -- it is a transfer if it is the server's and has not ended
-pub standing_transfer : (x : OpenEnd) → is_transfer (standing x) ≡ (not (is_client x.state.role.side) && not (is_some (outcome_of x.state.progress.phase)))
-standing_transfer x = by_case (outcome_of x.state.progress.phase) where
+pub standing_transfer : (x : OpenEnd) → is_transfer (standing x) ≡ (not (is_client x.state.role.side) && not (is_some (outcome_of x.state.position.phase)))
+standing_transfer x = by_case (outcome_of x.state.position.phase) where
   and_true : (b : Bool) → b ≡ (b && true)
   and_true true = refl
   and_true false = refl
@@ -106,10 +106,10 @@ standing_transfer x = by_case (outcome_of x.state.progress.phase) where
   by_case (Some outcome) = and_false (not (is_client x.state.role.side))
 
 -- and it is kept in its world
-pub standing_kept : (w : WorldState) (x : OpenEnd) → EndKept x → Contains w.sent (datagram x.address x.state.progress.last_sent_to x.state.progress.last_sent) →
-    (w.overwrite ≡ false → is_client x.state.role.side ≡ false → is_sender x.state.role.side ≡ false → is_complete x.state.progress.phase ≡ true → file_at w.files x.path ≡ Some x.stored) →
+pub standing_kept : (w : WorldState) (x : OpenEnd) → EndKept x → Contains w.sent (datagram x.address x.state.position.last_sent_to x.state.position.last_sent) →
+    (w.overwrite ≡ false → is_client x.state.role.side ≡ false → is_sender x.state.role.side ≡ false → is_complete x.state.position.phase ≡ true → file_at w.files x.path ≡ Some x.stored) →
     IsKeptIn w (standing x)
-standing_kept w x kept last_sent stored = by_case (outcome_of x.state.progress.phase) refl where
-  by_case : (o : Option Outcome) → outcome_of x.state.progress.phase ≡ o → IsKeptIn w (by_outcome o x)
+standing_kept w x kept last_sent stored = by_case (outcome_of x.state.position.phase) refl where
+  by_case : (o : Option Outcome) → outcome_of x.state.position.phase ≡ o → IsKeptIn w (by_outcome o x)
   by_case None e = record { stands = record { still = e; kept = kept; last_sent = last_sent }; stored = stored }
   by_case (Some outcome) e = record { stands = kept.committed; stored = stored }

@@ -42,31 +42,31 @@ none_garbled true = refl
 none_garbled false = refl
 
 -- a packet from where it may come is handled as what it is
-near : (e : EndState) (from : Endpoint) (bytes : List ℕ) (packet : Packet) → is_stranger (terms_of e.progress.phase) e.progress.last_sent_to from ≡ false →
-    datagram_action e from bytes (Some packet) ≡ packet_action e from (Some packet) e.progress.phase
+near : (e : EndState) (from : Endpoint) (bytes : List ℕ) (packet : Packet) → is_stranger (terms_of e.position.phase) e.position.last_sent_to from ≡ false →
+    datagram_action e from bytes (Some packet) ≡ packet_action e from (Some packet) e.position.phase
 near e from bytes packet known =
     ap (λ (b : Bool). if b then (if has_error_opcode bytes then Respond Ignore else Respond Stranger)
-    else if has_error_opcode bytes && false then Respond (garbled_response e.progress.phase)
-    else packet_action e from (Some packet) e.progress.phase) known
-    ∙ ap (λ (b : Bool). if b then Respond (garbled_response e.progress.phase) else packet_action e from (Some packet) e.progress.phase) (none_garbled (has_error_opcode bytes))
+    else if has_error_opcode bytes && false then Respond (garbled_response e.position.phase)
+    else packet_action e from (Some packet) e.position.phase) known
+    ∙ ap (λ (b : Bool). if b then Respond (garbled_response e.position.phase) else packet_action e from (Some packet) e.position.phase) (none_garbled (has_error_opcode bytes))
 
 peer_near : (terms : Terms) (to from : Endpoint) → terms.peer ≡ from → is_stranger (Some terms) to from ≡ false
 peer_near terms to from peer = ap (λ (b : Bool). not b) (ap (λ (p : Endpoint). same_endpoint p from) peer ∙ same_self from)
 
 -- an end that has a peer, in this phase
-pub from_peer : (e : EndState) (phase : Phase) (terms : Terms) (from : Endpoint) (bytes : List ℕ) (packet : Packet) → e.progress.phase ≡ phase → terms_of phase ≡ Some terms → terms.peer ≡ from →
+pub from_peer : (e : EndState) (phase : Phase) (terms : Terms) (from : Endpoint) (bytes : List ℕ) (packet : Packet) → e.position.phase ≡ phase → terms_of phase ≡ Some terms → terms.peer ≡ from →
     datagram_action e from bytes (Some packet) ≡ packet_action e from (Some packet) phase
 from_peer e phase terms from bytes packet is agreed peer =
-    near e from bytes packet (ap (λ (p : Phase). is_stranger (terms_of p) e.progress.last_sent_to from) is ∙ (ap (λ (o : Option Terms). is_stranger o e.progress.last_sent_to from) agreed ∙ peer_near terms e.progress.last_sent_to from peer))
+    near e from bytes packet (ap (λ (p : Phase). is_stranger (terms_of p) e.position.last_sent_to from) is ∙ (ap (λ (o : Option Terms). is_stranger o e.position.last_sent_to from) agreed ∙ peer_near terms e.position.last_sent_to from peer))
     ∙ ap (packet_action e from (Some packet)) is
 
 -- a client that waits, with a packet from the server's address
-pub from_server : (e : EndState) (phase : Phase) (from : Endpoint) (bytes : List ℕ) (packet : Packet) → e.progress.phase ≡ phase → terms_of phase ≡ None → e.progress.last_sent_to.ip ≡ from.ip →
+pub from_server : (e : EndState) (phase : Phase) (from : Endpoint) (bytes : List ℕ) (packet : Packet) → e.position.phase ≡ phase → terms_of phase ≡ None → e.position.last_sent_to.ip ≡ from.ip →
     datagram_action e from bytes (Some packet) ≡ packet_action e from (Some packet) phase
 from_server e phase from bytes packet is none server =
     near e from bytes packet
-    (ap (λ (p : Phase). is_stranger (terms_of p) e.progress.last_sent_to from) is
-    ∙ (ap (λ (o : Option Terms). is_stranger o e.progress.last_sent_to from) none
+    (ap (λ (p : Phase). is_stranger (terms_of p) e.position.last_sent_to from) is
+    ∙ (ap (λ (o : Option Terms). is_stranger o e.position.last_sent_to from) none
     ∙ ap (λ (b : Bool). not b) (ap (λ (ip : List ℕ). pointwise nat_eq ip from.ip) server ∙ same_list from.ip)))
     ∙ ap (packet_action e from (Some packet)) is
 

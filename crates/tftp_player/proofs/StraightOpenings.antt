@@ -43,27 +43,27 @@ use Rattle.tftp_player.proofs.SaidLemmas.{spells_own, own_oack, taken_oack}
 use Rattle.tftp_player.proofs.StraightActions.{from_server, data_next, block_within}
 use Rattle.tftp_player.proofs.StraightPort.{HasAsked, has_asked, port_comes, has_opened, accepted_answers}
 use Rattle.tftp_player.proofs.StraightRuns.{IsLeft, goes_on, IsReady, ready_next, IsOver, stays_at, set_at, SendsAt, AwaitsAt, fit_of, next_is_stored, awaits_now, ack_ready, ack_sender, ack_receiver, from_data}
-use Rattle.tftp_player.proofs.StraightSteps.{ports_of, delivered, hears_send, hears_oack}
+use Rattle.tftp_player.proofs.StraightSteps.{ports_of, delivered, handles_send, handles_oack}
 use Rattle.tftp_player.proofs.WaitingMoves.{agreed_size}
 use Rattle.tftp_player.proofs.WorldKeeps.{answered_values}
 
 -- ---- both ends are open
 pub record HasBegun (reads strangers : Bool) (old new : WorldState) (c x : OpenEnd) : Type 0 where
   pub w : WorldState
-  pub ready : IsReady strangers w (length old.sent + 1) (datagram x.address x.state.progress.last_sent_to x.state.progress.last_sent)
+  pub ready : IsReady strangers w (length old.sent + 1) (datagram x.address x.state.position.last_sent_to x.state.position.last_sent)
   pub client_at : slice_get w.ends (length old.ends) ≡ Some (Open_end c)
   pub server_at : slice_get w.ends (length old.ends + 1) ≡ Some (Open_end x)
   pub left : IsLeft reads w (length old.sent + 1) new
 
-begins : (reads strangers : Bool) (old new w : WorldState) (c x : OpenEnd) (accepts : Service) → HasAsked strangers old w c → c.state.progress.last_sent_to ≡ request_port → IsLeft reads w (length old.sent) new → IsAccepted w c accepts →
-    ((report : Report) (mid : WorldState) → Serves accepts w c.address c.state.progress.last_sent report mid → Opens w x report mid) → HasBegun reads strangers old new c x
+begins : (reads strangers : Bool) (old new w : WorldState) (c x : OpenEnd) (accepts : Service) → HasAsked strangers old w c → c.state.position.last_sent_to ≡ request_port → IsLeft reads w (length old.sent) new → IsAccepted w c accepts →
+    ((report : Report) (mid : WorldState) → Serves accepts w c.address c.state.position.last_sent report mid → Opens w x report mid) → HasBegun reads strangers old new c x
 begins reads strangers old new w c x accepts has to left accepted opens =
     let i = length old.sent in
     let k = length old.ends in
-    let d0 = datagram c.address c.state.progress.last_sent_to c.state.progress.last_sent in
-    let d1 = datagram x.address x.state.progress.last_sent_to x.state.progress.last_sent in
+    let d0 = datagram c.address c.state.position.last_sent_to c.state.position.last_sent in
+    let d1 = datagram x.address x.state.position.last_sent_to x.state.position.last_sent in
     let g = goes_on reads w new i has.count left in
-    let p = port_comes w g.mid i c g.report accepts (ports_of strangers w has.ok) accepted (has.newest ∙ ap (λ (a : Endpoint). Some (datagram c.address a c.state.progress.last_sent)) to) g.step in
+    let p = port_comes w g.mid i c g.report accepts (ports_of strangers w has.ok) accepted (has.newest ∙ ap (λ (a : Endpoint). Some (datagram c.address a c.state.position.last_sent)) to) g.step in
     let o = has_opened w g.mid x g.report (opens g.report g.mid p) in
     let first : IsReady strangers w i d0 = record { ok = has.ok; newest = has.newest; count = has.count } in
     record {
@@ -127,7 +127,7 @@ module _ (strangers : Bool) (old new : WorldState) (name : List ℕ) (mode : Mod
 
   -- the server's end
   abbrev server_of : (agreed : List Known) → ReadsStraight old new name mode asked file agreed → OpenEnd
-  server_of agreed h = sending_end h.run.asked reader.address reader.state.progress.last_sent mode h.path file agreed
+  server_of agreed h = sending_end h.run.asked reader.address reader.state.position.last_sent mode h.path file agreed
 
   read_begins : (agreed : List Known) → IsOk strangers old → (h : ReadsStraight old new name mode asked file agreed) → HasBegun true strangers old new reader (server_of agreed h)
   read_begins agreed ok h =
@@ -136,7 +136,7 @@ module _ (strangers : Bool) (old new : WorldState) (name : List ℕ) (mode : Mod
       begins true strangers old new h.run.asked reader (server_of agreed h) (Sends h.path mode h.length agreed) has refl left h.accepted
       (λ report mid s.
       let same : s.0 ≡ file = same_Some s.0 file (sym s.1 ∙ (ap (λ (files : List StoredFile). file_at files h.path) has.files ∙ h.there)) in
-      subst (λ (f : List ℕ). Opens h.run.asked (sending_end h.run.asked reader.address reader.state.progress.last_sent mode h.path f agreed) report mid) same s.2)
+      subst (λ (f : List ℕ). Opens h.run.asked (sending_end h.run.asked reader.address reader.state.position.last_sent mode h.path f agreed) report mid) same s.2)
 
   read_plainly : IsOk strangers old → ReadsStraight old new name mode asked file [] → IsThrough old new (read_count [] (block_count text DEFAULT_BLOCK))
   read_plainly ok h =
@@ -173,8 +173,8 @@ module _ (strangers : Bool) (old new : WorldState) (name : List ℕ) (mode : Mod
       reader_through old new (length old.sent + 1 + 2 + 2 * m) (read_count [] (block_count text DEFAULT_BLOCK)) over (omega arith)
 
   -- from the server's OACK on, which the client accepts
-  read_on : (x : OpenEnd) (st rt : Terms) (packet : Packet) → HasBegun true strangers old new reader x → x.state.progress.last_sent_to ≡ reader.address → x.state.progress.phase ≡ Sending st 0 → x.file ≡ file → x.state.role.mode ≡ mode →
-      Spells packet x.state.progress.last_sent → datagram_action reader.state x.address x.state.progress.last_sent (Some packet) ≡ Respond (Accept rt) → st.peer ≡ reader.address → rt.peer ≡ x.address → rt.size ≡ st.size →
+  read_on : (x : OpenEnd) (st rt : Terms) (packet : Packet) → HasBegun true strangers old new reader x → x.state.position.last_sent_to ≡ reader.address → x.state.position.phase ≡ Sending st 0 → x.file ≡ file → x.state.role.mode ≡ mode →
+      Spells packet x.state.position.last_sent → datagram_action reader.state x.address x.state.position.last_sent (Some packet) ≡ Respond (Accept rt) → st.peer ≡ reader.address → rt.peer ≡ x.address → rt.size ≡ st.size →
       IsThrough old new (3 + 2 * block_count text st.size)
   read_on x st rt packet b to phase file_is mode_is spelled accepts sp rp same =
       let i = length old.sent in
@@ -182,10 +182,10 @@ module _ (strangers : Bool) (old new : WorldState) (name : List ℕ) (mode : Mod
       let sa = x.address in
       let ra = reader.address in
       let g = goes_on true b.w new (i + 1) b.ready.count b.left in
-      let heard = delivered b.w g.mid (i + 1) k reader sa x.state.progress.last_sent g.report (ports_of strangers b.w b.ready.ok)
-      (b.ready.newest ∙ ap (λ (a : Endpoint). Some (datagram sa a x.state.progress.last_sent)) to) b.client_at g.step in
-      let y = hears_oack b.w g.mid k reader sa x.state.progress.last_sent g.report heard packet rt spelled accepts in
-      let d1 = datagram sa x.state.progress.last_sent_to x.state.progress.last_sent in
+      let handled = delivered b.w g.mid (i + 1) k reader sa x.state.position.last_sent g.report (ports_of strangers b.w b.ready.ok)
+      (b.ready.newest ∙ ap (λ (a : Endpoint). Some (datagram sa a x.state.position.last_sent)) to) b.client_at g.step in
+      let y = handles_oack b.w g.mid k reader sa x.state.position.last_sent g.report handled packet rt spelled accepts in
+      let d1 = datagram sa x.state.position.last_sent_to x.state.position.last_sent in
       let d2 = datagram ra sa (ack_bytes 0) in
       let ready = ready_next strangers b.w g.mid (i + 1) d1 d2 g.report b.ready g.step y.4.sent in
       let sender : SendsAt strangers (k + 1) k (before_next k) sa ra st rt mode file sp rp same g.mid 0 =
@@ -197,7 +197,7 @@ module _ (strangers : Bool) (old new : WorldState) (name : List ℕ) (mode : Mod
       let first : 0 + 1 ≤ blocks = omega (arith, rest) in
       let receiver = awaits_now strangers (k + 1) k (before_next k) sa ra st rt mode file sp rp same true g.mid y.0 0 fit first
       (set_at b.w g.mid k (Open_end reader) (Open_end y.0) y.4.ends b.client_at) y.4.address y.1 (ap is_sender y.4.side) (ap is_client y.4.side, y.5) y.4.mode
-      (new_text mode y.0.state.role.mode y.0.stored y.0.state.progress.held st.size text y.4.mode y.2 y.3) (new_held mode y.0.state.role.mode y.0.state.progress.held y.4.mode y.3) in
+      (new_text mode y.0.state.role.mode y.0.stored y.0.state.position.held st.size text y.4.mode y.2 y.3) (new_held mode y.0.state.role.mode y.0.state.position.held y.4.mode y.3) in
       let n = goes_on true g.mid new (i + 1 + 1) ready.count g.left in
       let ready_then = ack_ready strangers (k + 1) k (before_next k) sa ra st rt mode file sp rp same g.mid n.mid (i + 1 + 1) 0 n.report ready sender (omega arith) n.step first in
       let sender_then = ack_sender strangers (k + 1) k (before_next k) sa ra st rt mode file sp rp same g.mid n.mid (i + 1 + 1) 0 n.report ready sender (omega arith) n.step first in
@@ -246,7 +246,7 @@ module _ (strangers : Bool) (old new : WorldState) (name : List ℕ) (mode : Mod
 
   -- the server's end
   abbrev taker_of : (agreed : List Known) → WritesStraight old new name mode asked file agreed → OpenEnd
-  taker_of agreed h = receiving_end h.run.asked writer.address writer.state.progress.last_sent mode h.path agreed
+  taker_of agreed h = receiving_end h.run.asked writer.address writer.state.position.last_sent mode h.path agreed
 
   write_begins : (agreed : List Known) → IsOk strangers old → (h : WritesStraight old new name mode asked file agreed) → HasBegun false strangers old new writer (taker_of agreed h)
   write_begins agreed ok h =
@@ -255,9 +255,9 @@ module _ (strangers : Bool) (old new : WorldState) (name : List ℕ) (mode : Mod
       begins false strangers old new h.run.asked writer (taker_of agreed h) (Takes h.path mode agreed) has refl left h.accepted (λ report mid s. s)
 
   -- from the server's answer on, which has the client send DATA 1
-  write_on : (x : OpenEnd) (st rt : Terms) (packet : Packet) → HasBegun false strangers old new writer x → x.state.progress.last_sent_to ≡ writer.address → x.state.progress.phase ≡ Receiving rt 0 →
-      is_sender x.state.role.side ≡ false → x.state.role.mode ≡ mode → x.stored ≡ [] → x.state.progress.held ≡ [] → Spells packet x.state.progress.last_sent →
-      datagram_action writer.state x.address x.state.progress.last_sent (Some packet) ≡ Send st 1 → st.peer ≡ x.address → rt.peer ≡ writer.address → rt.size ≡ st.size →
+  write_on : (x : OpenEnd) (st rt : Terms) (packet : Packet) → HasBegun false strangers old new writer x → x.state.position.last_sent_to ≡ writer.address → x.state.position.phase ≡ Receiving rt 0 →
+      is_sender x.state.role.side ≡ false → x.state.role.mode ≡ mode → x.stored ≡ [] → x.state.position.held ≡ [] → Spells packet x.state.position.last_sent →
+      datagram_action writer.state x.address x.state.position.last_sent (Some packet) ≡ Send st 1 → st.peer ≡ x.address → rt.peer ≡ writer.address → rt.size ≡ st.size →
       IsThrough old new (write_count (block_count written st.size))
   write_on x st rt packet b to phase receives mode_is stored held spelled sends sp rp same =
       let i = length old.sent in
@@ -265,11 +265,11 @@ module _ (strangers : Bool) (old new : WorldState) (name : List ℕ) (mode : Mod
       let sa = writer.address in
       let ra = x.address in
       let g = goes_on false b.w new (i + 1) b.ready.count b.left in
-      let heard = delivered b.w g.mid (i + 1) k writer ra x.state.progress.last_sent g.report (ports_of strangers b.w b.ready.ok)
-      (b.ready.newest ∙ ap (λ (a : Endpoint). Some (datagram ra a x.state.progress.last_sent)) to) b.client_at g.step in
+      let handled = delivered b.w g.mid (i + 1) k writer ra x.state.position.last_sent g.report (ports_of strangers b.w b.ready.ok)
+      (b.ready.newest ∙ ap (λ (a : Endpoint). Some (datagram ra a x.state.position.last_sent)) to) b.client_at g.step in
       let behind : written ≡ drop (0 * st.size) written = ap (λ (n : ℕ). drop n written) (let z : 0 ≡ 0 * st.size = omega arith in z) in
-      let y = hears_send b.w g.mid k writer ra x.state.progress.last_sent g.report heard packet st 0 written spelled sends refl refl behind in
-      let d1 = datagram ra x.state.progress.last_sent_to x.state.progress.last_sent in
+      let y = handles_send b.w g.mid k writer ra x.state.position.last_sent g.report handled packet st 0 written spelled sends refl refl behind in
+      let d1 = datagram ra x.state.position.last_sent_to x.state.position.last_sent in
       let d2 = datagram sa ra (data_bytes (0 + 1) (block written st.size (0 + 1))) in
       let ready = ready_next strangers b.w g.mid (i + 1) d1 d2 g.report b.ready g.step y.2.sent in
       let sender : SendsAt strangers k (k + 1) (behind_last k) sa ra st rt mode file sp rp same g.mid (0 + 1) =
@@ -281,7 +281,7 @@ module _ (strangers : Bool) (old new : WorldState) (name : List ℕ) (mode : Mod
       let first : 0 + 1 ≤ blocks = omega (arith, rest) in
       let receiver = awaits_now strangers k (k + 1) (behind_last k) sa ra st rt mode file sp rp same false g.mid x 0 fit first
       (stays_at b.w g.mid k (k + 1) (Open_end x) (Open_end y.0) y.2.ends (behind_last k) b.server_at) refl phase receives tt mode_is
-      (new_text mode x.state.role.mode x.stored x.state.progress.held st.size written mode_is stored held) (new_held mode x.state.role.mode x.state.progress.held mode_is held) in
+      (new_text mode x.state.role.mode x.stored x.state.position.held st.size written mode_is stored held) (new_held mode x.state.role.mode x.state.position.held mode_is held) in
       let over = from_data strangers k (k + 1) (behind_last k) sa ra st rt mode file sp rp same false m (i + 1 + 1) 0 g.mid new rest ready sender receiver g.left in
       writer_through old new (i + 1 + 1 + 2 + 2 * m) (write_count blocks) over (omega (arith, rest))
 

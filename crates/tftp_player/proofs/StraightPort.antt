@@ -37,8 +37,8 @@ use Rattle.tftp_player.proofs.WorldRuns.{step_keeps}
 -- ---- a client asked
 pub record HasAsked (strangers : Bool) (old w : WorldState) (c : OpenEnd) : Type 0 where
   pub ok : IsOk strangers w
-  pub sent : w.sent ≡ old.sent ++ datagram c.address c.state.progress.last_sent_to c.state.progress.last_sent ∷ []
-  pub newest : slice_get w.sent (length old.sent) ≡ Some (datagram c.address c.state.progress.last_sent_to c.state.progress.last_sent)
+  pub sent : w.sent ≡ old.sent ++ datagram c.address c.state.position.last_sent_to c.state.position.last_sent ∷ []
+  pub newest : slice_get w.sent (length old.sent) ≡ Some (datagram c.address c.state.position.last_sent_to c.state.position.last_sent)
   pub count : length w.sent ≡ length old.sent + 1
   pub ends : length w.ends ≡ length old.ends + 1
   pub there : slice_get w.ends (length old.ends) ≡ Some (Open_end c)
@@ -47,7 +47,7 @@ pub record HasAsked (strangers : Bool) (old w : WorldState) (c : OpenEnd) : Type
 pub has_asked : (strangers : Bool) (old w : WorldState) (c : OpenEnd) (event : Event) (report : Report) → MayHappen strangers event → IsOk strangers old → WorldStep old event report w →
     w ≡ opened_in old c → HasAsked strangers old w c
 has_asked strangers old w c event report may ok s is =
-    let d = datagram c.address c.state.progress.last_sent_to c.state.progress.last_sent in
+    let d = datagram c.address c.state.position.last_sent_to c.state.position.last_sent in
     let ends : w.ends ≡ old.ends ++ Open_end c ∷ [] = ap (λ (u : WorldState). u.ends) is in
     let sent : w.sent ≡ old.sent ++ d ∷ [] = ap (λ (u : WorldState). u.sent) is in
     record {
@@ -75,15 +75,15 @@ same_repeated from (Some packet) ends a b f g = same_answer a b f g
 module _ (w v : WorldState) (i : ℕ) (c : OpenEnd) (report : Report) (accepts : Service) (ports : HasPorts w) (accepted : IsAccepted w c accepts) where
   -- what the port did
   abbrev pub Comes : Type 0
-  Comes = Serves accepts w c.address c.state.progress.last_sent report v
+  Comes = Serves accepts w c.address c.state.position.last_sent report v
 
   -- no end has the request port
   outside : (k : ℕ) (x : WorldEnd) → slice_get w.ends k ≡ Some x → end_address x ≡ request_port → ⊥
   outside k x there here = let a = ports k x there in let b = ap (λ (p : Endpoint). p.port) here in omega (arith, a, b)
 
-  arrived : Arrives w c.address request_port c.state.progress.last_sent report v → Comes
+  arrived : Arrives w c.address request_port c.state.position.last_sent report v → Comes
   arrived (At_request_port here port decoded says repeated same serves) =
-      let bytes = c.state.progress.last_sent in
+      let bytes = c.state.position.last_sent in
       let one : decoded ≡ accepted.decoded = says_one bytes decoded accepted.decoded says accepted.says in
       let same_now : IsRepeated repeated c.address accepted.decoded w.ends = subst (λ (d : Option Packet). IsRepeated repeated c.address d w.ends) one same in
       let two : repeated ≡ accepted.repeated = same_repeated c.address accepted.decoded w.ends repeated accepted.repeated same_now accepted.repeats in
@@ -94,15 +94,15 @@ module _ (w v : WorldState) (i : ℕ) (c : OpenEnd) (report : Report) (accepts :
   arrived (At_closed_end k x at here s) = absurd (outside k (Closed_end x) at here)
   arrived (At_nobody away nobody s) = absurd (away refl)
 
-  pub port_comes : slice_get w.sent i ≡ Some (datagram c.address request_port c.state.progress.last_sent) → WorldStep w (Deliver i) report v → Comes
+  pub port_comes : slice_get w.sent i ≡ Some (datagram c.address request_port c.state.position.last_sent) → WorldStep w (Deliver i) report v → Comes
   port_comes newest s =
-      let d = datagram c.address request_port c.state.progress.last_sent in
+      let d = datagram c.address request_port c.state.position.last_sent in
       let same : s.0 ≡ d = same_Some s.0 d (sym s.1 ∙ newest) in
       arrived (subst (λ (z : Datagram). Arrives w z.from z.to z.bytes report v) same s.2)
 
 -- an end opened
 pub record HasOpened (w v : WorldState) (x : OpenEnd) : Type 0 where
-  pub sent : v.sent ≡ w.sent ++ datagram x.address x.state.progress.last_sent_to x.state.progress.last_sent ∷ []
+  pub sent : v.sent ≡ w.sent ++ datagram x.address x.state.position.last_sent_to x.state.position.last_sent ∷ []
   pub ends : v.ends ≡ w.ends ++ Open_end x ∷ []
 
 pub has_opened : (w v : WorldState) (x : OpenEnd) (report : Report) → Opens w x report v → HasOpened w v x
@@ -164,4 +164,4 @@ module _ (w : WorldState) where
 
 -- so is what it accepts
 pub accepted_answers : (w : WorldState) (c : OpenEnd) (accepts : Service) → IsAccepted w c accepts → IsAnswer w accepts
-accepted_answers w c accepts h = subst (IsAnswer w) h.is (service_answers w h.repeated c.state.progress.last_sent h.decoded)
+accepted_answers w c accepts h = subst (IsAnswer w) h.is (service_answers w h.repeated c.state.position.last_sent h.decoded)

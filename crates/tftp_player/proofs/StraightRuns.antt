@@ -1,6 +1,6 @@
 -- A run without loss, from the first DATA or the first ACK that is on its way.
 use Rattle.std.proofs.Common.{◌≡◌, ◌≢◌, ℕ, ◌+◌, ◌*◌, ◌/◌, ◌<◌, ◌≤◌, suc, zero, Bool, true, false, List, [], ◌∷◌, ◌++◌, length, take, drop, Some, refl, sym, ap, ◌∙◌, subst, arith, length-append}
-use Rattle.std.specs.Prelude.{nat_lt, is_some, slice_get, slice_set, ⊤}
+use Rattle.std.specs.Prelude.{nat_lt, slice_get, slice_set, ⊤}
 use Rattle.std.proofs.lemmas.Bool.{lt-ltb, le-ltb}
 use Rattle.std.proofs.lemmas.List.{take-append-drop}
 use Rattle.std.proofs.lemmas.Option.{slice_get_within}
@@ -16,7 +16,7 @@ use Rattle.tftp_ends.specs.declared.phase.Dally.TheVariants.{Fresh}
 use Rattle.tftp_ends.specs.declared.phase.Phase.{Phase}
 use Rattle.tftp_ends.specs.declared.phase.Phase.TheVariants.{Sending, Receiving, Dallying}
 use Rattle.tftp_ends.specs.declared.phase.Terms.{Terms}
-use Rattle.tftp_ends.specs.End.{is_sender, is_client, is_complete, outcome_of}
+use Rattle.tftp_ends.specs.End.{is_sender, is_client, is_complete}
 use Rattle.tftp_ends.specs.Action.{datagram_action}
 use Rattle.tftp_ends.specs.Receiver.{next_action}
 use Rattle.tftp_ends.specs.Step.{ack_bytes, data_bytes}
@@ -35,7 +35,7 @@ use Rattle.tftp_player.proofs.Places.{slice_get-set_same, slice_get-set_other, s
 use Rattle.tftp_player.proofs.SaidLemmas.{spells_own}
 use Rattle.tftp_player.proofs.SourceMoves.{valid_data, number_fits}
 use Rattle.tftp_player.proofs.StraightActions.{from_peer, acked_more, acked_last, piece_readable, next_stores, data_next, block_full, block_last, block_within, never_long, last_rest}
-use Rattle.tftp_player.proofs.StraightSteps.{ports_of, Hears, delivered, Becomes, hears_send, hears_last, is_told, HasStored, stored_phase, takes_data, hears_data}
+use Rattle.tftp_player.proofs.StraightSteps.{ports_of, Handles, delivered, Becomes, handles_send, handles_last, is_told, HasStored, stored_phase, takes_data, handles_data}
 use Rattle.tftp_player.proofs.WorldRuns.{step_keeps}
 
 pub deliver_may : (strangers : Bool) (i : ℕ) → MayHappen strangers (Deliver i)
@@ -158,7 +158,7 @@ module _ (strangers : Bool) (ks kr : ℕ) (apart : kr ≢ ks) (sa ra : Endpoint)
     pub x : OpenEnd
     pub there : slice_get w.ends ks ≡ Some (Open_end x)
     pub address : x.address ≡ sa
-    pub phase : x.state.progress.phase ≡ Sending st n
+    pub phase : x.state.position.phase ≡ Sending st n
     pub file_is : x.file ≡ file
     pub mode_is : x.state.role.mode ≡ mode
 
@@ -170,8 +170,8 @@ module _ (strangers : Bool) (ks kr : ℕ) (apart : kr ≢ ks) (sa ra : Endpoint)
     pub receiver : is_sender x.state.role.side ≡ false
     pub willing : IsWilling reads x
     pub mode_is : x.state.role.mode ≡ mode
-    pub received : wire_text x.state.role.mode x.stored ++ x.state.progress.held ≡ take (n * st.size) text
-    pub holds : HeldFits x.state.role.mode x.state.progress.held
+    pub received : wire_text x.state.role.mode x.stored ++ x.state.position.held ≡ take (n * st.size) text
+    pub holds : HeldFits x.state.role.mode x.state.position.held
     pub stores : datagram_action x.state sa (data_bytes (n + 1) (piece n)) (Some (Data (n + 1) (piece n))) ≡ Store rt (n + 1)
 
   -- a receiver that has all
@@ -224,30 +224,30 @@ module _ (strangers : Bool) (ks kr : ℕ) (apart : kr ≢ ks) (sa ra : Endpoint)
   }
 
   -- a receiver stores the next block of its sender's text
-  pub next_is_stored : (x : OpenEnd) (n : ℕ) → IsFit → n + 1 ≤ blocks → x.state.role.mode ≡ mode → wire_text x.state.role.mode x.stored ++ x.state.progress.held ≡ take (n * st.size) text →
-      next_action x.state.role.mode x.state.progress.held rt (n + 1) (piece n) ≡ Store rt (n + 1)
+  pub next_is_stored : (x : OpenEnd) (n : ℕ) → IsFit → n + 1 ≤ blocks → x.state.role.mode ≡ mode → wire_text x.state.role.mode x.stored ++ x.state.position.held ≡ take (n * st.size) text →
+      next_action x.state.role.mode x.state.position.held rt (n + 1) (piece n) ≡ Store rt (n + 1)
   next_is_stored x n f l mode_is received =
       let within : length (piece n) ≤ rt.size = let e = block_within text st.size f.positive f.fits n l in omega (arith, e, same_size) in
       let text_is : wire_text x.state.role.mode file ≡ text = ap (λ (m : Mode). wire_text m file) mode_is in
       let rest = drop ((n + 1) * st.size) text in
-      let whole : ((wire_text x.state.role.mode x.stored ++ x.state.progress.held) ++ piece n) ++ rest ≡ wire_text x.state.role.mode file =
+      let whole : ((wire_text x.state.role.mode x.stored ++ x.state.position.held) ++ piece n) ++ rest ≡ wire_text x.state.role.mode file =
       ap (λ (t : List ℕ). (t ++ piece n) ++ rest) received
       ∙ (ap (λ (t : List ℕ). t ++ rest) (take-block text n st.size)
       ∙ (take-append-drop ((n + 1) * st.size) text ∙ sym text_is)) in
-      next_stores x.state.role.mode x.state.progress.held rt (n + 1) (piece n) within
+      next_stores x.state.role.mode x.state.position.held rt (n + 1) (piece n) within
       (λ a b. never_long text st.size f.positive f.fits n l a (b ∙ same_size))
-      (piece_readable x.state.role.mode file x.stored x.state.progress.held (piece n) rest (nat_lt (length (piece n)) rt.size) whole
+      (piece_readable x.state.role.mode file x.stored x.state.position.held (piece n) rest (nat_lt (length (piece n)) rt.size) whole
       (λ e. last_rest text st.size f.positive f.fits n (ap (nat_lt (length (piece n))) (sym same_size) ∙ e)))
 
-  receiving_stores : (x : OpenEnd) (n : ℕ) → IsFit → n + 1 ≤ blocks → x.state.progress.phase ≡ Receiving rt n → x.state.role.mode ≡ mode → wire_text x.state.role.mode x.stored ++ x.state.progress.held ≡ take (n * st.size) text →
+  receiving_stores : (x : OpenEnd) (n : ℕ) → IsFit → n + 1 ≤ blocks → x.state.position.phase ≡ Receiving rt n → x.state.role.mode ≡ mode → wire_text x.state.role.mode x.stored ++ x.state.position.held ≡ take (n * st.size) text →
       datagram_action x.state sa (data_bytes (n + 1) (piece n)) (Some (Data (n + 1) (piece n))) ≡ Store rt (n + 1)
   receiving_stores x n f l phase mode_is received =
       from_peer x.state (Receiving rt n) rt sa (data_bytes (n + 1) (piece n)) (Data (n + 1) (piece n)) phase refl receiver_peer
-      ∙ (data_next x.state.role.mode x.state.progress.held rt n (piece n) ∙ next_is_stored x n f l mode_is received)
+      ∙ (data_next x.state.role.mode x.state.position.held rt n (piece n) ∙ next_is_stored x n f l mode_is received)
 
   -- a receiver that takes this phase with what it has
-  pub awaits_now : (reads : Bool) (w : WorldState) (x : OpenEnd) (n : ℕ) → IsFit → n + 1 ≤ blocks → slice_get w.ends kr ≡ Some (Open_end x) → x.address ≡ ra → x.state.progress.phase ≡ Receiving rt n → is_sender x.state.role.side ≡ false → IsWilling reads x →
-      x.state.role.mode ≡ mode → wire_text x.state.role.mode x.stored ++ x.state.progress.held ≡ take (n * st.size) text → HeldFits x.state.role.mode x.state.progress.held → AwaitsAt reads w n
+  pub awaits_now : (reads : Bool) (w : WorldState) (x : OpenEnd) (n : ℕ) → IsFit → n + 1 ≤ blocks → slice_get w.ends kr ≡ Some (Open_end x) → x.address ≡ ra → x.state.position.phase ≡ Receiving rt n → is_sender x.state.role.side ≡ false → IsWilling reads x →
+      x.state.role.mode ≡ mode → wire_text x.state.role.mode x.stored ++ x.state.position.held ≡ take (n * st.size) text → HeldFits x.state.role.mode x.state.position.held → AwaitsAt reads w n
   awaits_now reads w x n f l there address phase receiver willing mode_is received holds = record {
     x = x;
     there = there;
@@ -266,21 +266,21 @@ module _ (strangers : Bool) (ks kr : ℕ) (apart : kr ≢ ks) (sa ra : Endpoint)
     fit : IsFit
     fit = fit_of w (n + 1) ready.ok s
 
-    heard : Hears w kr r.x sa (data_bytes (n + 1) (piece n)) report v
-    heard = delivered w v i kr r.x sa (data_bytes (n + 1) (piece n)) report (ports_of strangers w ready.ok)
+    handled : Handles w kr r.x sa (data_bytes (n + 1) (piece n)) report v
+    handled = delivered w v i kr r.x sa (data_bytes (n + 1) (piece n)) report (ports_of strangers w ready.ok)
         (ready.newest ∙ ap (λ (a : Endpoint). Some (datagram sa a (data_bytes (n + 1) (piece n)))) (sym r.address)) r.there step
 
     -- what a client that was not told to refuse makes of it
-    taken_by : is_client r.x.state.role.side ≡ true → r.x.refuses ≡ false → TookAll report.closed × (is_told heard.held ≡ false)
+    taken_by : is_client r.x.state.role.side ≡ true → r.x.refuses ≡ false → TookAll report.closed × (is_told handled.held ≡ false)
     taken_by client untold =
-        takes_data w v kr r.x sa (data_bytes (n + 1) (piece n)) report heard rt (n + 1) (piece n) client untold (spelled_at n fit l) r.stores r.receiver
+        takes_data w v kr r.x sa (data_bytes (n + 1) (piece n)) report handled rt (n + 1) (piece n) client untold (spelled_at n fit l) r.stores r.receiver
 
     took_all : (b : Bool) → IsWilling b r.x → UnlessReads b (TookAll report.closed) → TookAll report.closed
     took_all true willing said = (taken_by willing.0 willing.1).0
     took_all false willing said = said
 
-    stored : (y : OpenEnd) × HasStored w v kr r.x sa (data_bytes (n + 1) (piece n)) report heard rt (n + 1) (piece n) y
-    stored = hears_data w v kr r.x sa (data_bytes (n + 1) (piece n)) report heard rt (n + 1) (piece n) r.holds (took_all reads r.willing taken) (spelled_at n fit l) r.stores r.receiver
+    stored : (y : OpenEnd) × HasStored w v kr r.x sa (data_bytes (n + 1) (piece n)) report handled rt (n + 1) (piece n) y
+    stored = handles_data w v kr r.x sa (data_bytes (n + 1) (piece n)) report handled rt (n + 1) (piece n) r.holds (took_all reads r.willing taken) (spelled_at n fit l) r.stores r.receiver
 
     stays_willing : (b : Bool) → IsWilling b r.x → IsWilling b stored.0
     stays_willing true willing = (ap is_client stored.1.becomes.side ∙ willing.0, stored.1.told ∙ (taken_by willing.0 willing.1).1)
@@ -295,9 +295,9 @@ module _ (strangers : Bool) (ks kr : ℕ) (apart : kr ≢ ks) (sa ra : Endpoint)
     pub data_sender : SendsAt v (n + 1)
     data_sender = sender_stays w v (n + 1) (Open_end stored.0) stored.1.becomes.ends s
 
-    has_more : wire_text stored.0.state.role.mode stored.0.stored ++ stored.0.state.progress.held ≡ take ((n + 1) * st.size) text
+    has_more : wire_text stored.0.state.role.mode stored.0.stored ++ stored.0.state.position.held ≡ take ((n + 1) * st.size) text
     has_more =
-        ap (λ (m : Mode). wire_text m stored.0.stored ++ stored.0.state.progress.held) stored.1.becomes.mode
+        ap (λ (m : Mode). wire_text m stored.0.stored ++ stored.0.state.position.held) stored.1.becomes.mode
         ∙ (stored.1.received ∙ (ap (λ (t : List ℕ). t ++ piece n) r.received ∙ take-block text n st.size))
 
     -- which is not the last
@@ -307,7 +307,7 @@ module _ (strangers : Bool) (ks kr : ℕ) (apart : kr ≢ ks) (sa ra : Endpoint)
         let full : length (piece n) ≡ rt.size = block_full text st.size fit.positive fit.fits n more ∙ sym same_size in
         awaits_now reads v y (n + 1) fit (let m : n + 1 + 1 ≤ blocks = omega (arith, more) in m) (set_at w v kr (Open_end r.x) (Open_end y) stored.1.becomes.ends r.there) (stored.1.becomes.address ∙ r.address)
         (stored.1.phase ∙ stored_more_phase rt (n + 1) (length (piece n)) full) (ap is_sender stored.1.becomes.side ∙ r.receiver) (stays_willing reads r.willing)
-        (stored.1.becomes.mode ∙ r.mode_is) has_more (subst (λ (m : Mode). HeldFits m y.state.progress.held) (sym stored.1.becomes.mode) stored.1.holds)
+        (stored.1.becomes.mode ∙ r.mode_is) has_more (subst (λ (m : Mode). HeldFits m y.state.position.held) (sym stored.1.becomes.mode) stored.1.holds)
 
     -- or the last
     pub data_all : n + 1 ≡ blocks → HasAllAt v
@@ -329,8 +329,8 @@ module _ (strangers : Bool) (ks kr : ℕ) (apart : kr ≢ ks) (sa ra : Endpoint)
     fit_now : IsFit
     fit_now = fit_of w n ready.ok s
 
-    heard_ack : Hears w ks s.x ra (ack_bytes n) report v
-    heard_ack = delivered w v i ks s.x ra (ack_bytes n) report (ports_of strangers w ready.ok)
+    handled_ack : Handles w ks s.x ra (ack_bytes n) report v
+    handled_ack = delivered w v i ks s.x ra (ack_bytes n) report (ports_of strangers w ready.ok)
         (ready.newest ∙ ap (λ (a : Endpoint). Some (datagram ra a (ack_bytes n))) (sym s.address)) s.there step
 
     ack_spelled : Spells (Ack n) (ack_bytes n)
@@ -345,8 +345,8 @@ module _ (strangers : Bool) (ks kr : ℕ) (apart : kr ≢ ks) (sa ra : Endpoint)
       sends_more = from_peer s.x.state (Sending st n) st ra (ack_bytes n) (Ack n) s.phase refl sender_peer
           ∙ acked_more s.x.state.role.length n st (subst (λ (m : ℕ). n < m / st.size + 1) (sym measured) more)
 
-      sent_more : (y : OpenEnd) × (y.state.progress.phase ≡ Sending st (n + 1)) × Becomes w v ks s.x ra (ack_bytes n) report heard_ack y (datagram s.x.address ra (data_bytes (n + 1) (piece n)) ∷ [])
-      sent_more = hears_send w v ks s.x ra (ack_bytes n) report heard_ack (Ack n) st n text ack_spelled sends_more way.sender measured
+      sent_more : (y : OpenEnd) × (y.state.position.phase ≡ Sending st (n + 1)) × Becomes w v ks s.x ra (ack_bytes n) report handled_ack y (datagram s.x.address ra (data_bytes (n + 1) (piece n)) ∷ [])
+      sent_more = handles_send w v ks s.x ra (ack_bytes n) report handled_ack (Ack n) st n text ack_spelled sends_more way.sender measured
           (way.left ∙ ap (drop (n * st.size)) (text_of_sender w n s))
 
       pub ack_ready : IsReady strangers v (i + 1) (data_at n)
@@ -374,7 +374,7 @@ module _ (strangers : Bool) (ks kr : ℕ) (apart : kr ≢ ks) (sa ra : Endpoint)
           (subst (λ (m : ℕ). m / st.size + 1 ≤ n) (sym measured) (let e : blocks ≤ n = omega (arith, last) in e))
 
       is_done : (y : WorldEnd) × IsComplete y × (v.sent ≡ w.sent ++ []) × (v.ends ≡ slice_set w.ends ks y)
-      is_done = hears_last w v ks s.x ra (ack_bytes n) report heard_ack (Ack n) ack_spelled sends_none
+      is_done = handles_last w v ks s.x ra (ack_bytes n) report handled_ack (Ack n) ack_spelled sends_none
 
       pub ack_over : IsOver v ks kr (i + 1)
       ack_over = record {

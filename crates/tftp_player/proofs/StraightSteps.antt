@@ -1,8 +1,7 @@
 -- What the delivery of a datagram does at the open end for which it is, where that sends, stores or is complete.
-use Rattle.std.proofs.Common.{◌≡◌, ℕ, ◌+◌, ◌*◌, Bool, true, false, List, [], ◌∷◌, ◌++◌, length, map, drop, Option, Some, None, Result, Ok, Err, refl, sym, ap, ◌∙◌, subst, arith}
+use Rattle.std.proofs.Common.{◌≡◌, ℕ, ◌+◌, ◌*◌, Bool, true, false, List, [], ◌∷◌, ◌++◌, length, drop, Option, Some, None, Result, Ok, Err, refl, sym, ap, ◌∙◌, subst, arith}
 use Rattle.std.specs.Prelude.{◌≢◌, if◌then◌else◌, nat_lt, slice_get, slice_set, IfErr}
 use Rattle.std.proofs.lemmas.Bool.{true≢false}
-use Rattle.std.proofs.lemmas.List.{map-set}
 use Rattle.std.proofs.lemmas.Option.{same_Some}
 use Rattle.tftp_wire.specs.declared.packet.Packet.{Packet}
 use Rattle.tftp_wire.specs.declared.packet.Packet.TheVariants.{Data}
@@ -27,7 +26,7 @@ use Rattle.tftp_ends.specs.declared.phase.Dally.TheVariants.{Fresh}
 use Rattle.tftp_ends.specs.declared.phase.Phase.{Phase}
 use Rattle.tftp_ends.specs.declared.phase.Phase.TheVariants.{Sending, Receiving, Dallying}
 use Rattle.tftp_ends.specs.declared.phase.Terms.{Terms}
-use Rattle.tftp_ends.specs.End.{EndState, is_sender, is_client, is_complete, outcome_of}
+use Rattle.tftp_ends.specs.End.{EndState, is_sender, is_client, outcome_of}
 use Rattle.tftp_ends.specs.Action.{Decodes, datagram_action}
 use Rattle.tftp_ends.specs.Step.{Turn, Done, Acts, Appended, GoesOn, Stores, StoresIn, response_turn, sent_turn, refused_turn, committed_turn, commit_reply, holding, ack_bytes, data_bytes, after_turn}
 use Rattle.tftp_ends.specs.Text.{Decoded}
@@ -52,13 +51,13 @@ pub ports_of : (strangers : Bool) (w : WorldState) → IsOk strangers w → HasP
 ports_of strangers w ok k x e = (ok.shown.3.ends k _ (view_at w.ends k x e)).1
 
 -- a delivery at an open end had it make this turn
-pub record Hears (w : WorldState) (k : ℕ) (x : OpenEnd) (from : Endpoint) (bytes : List ℕ) (report : Report) (v : WorldState) : Type 0 where
+pub record Handles (w : WorldState) (k : ℕ) (x : OpenEnd) (from : Endpoint) (bytes : List ℕ) (report : Report) (v : WorldState) : Type 0 where
   pub turn : Turn
   pub held : Files (List ℕ) Holding
   pub steps : EndStep (is_client x.state.role.side) (in_the_way w.overwrite (file_at w.files x.path)) from bytes x.state (files_of x) turn held
   pub sent : v.sent ≡ w.sent ++ replied x.address turn.reply
   pub ends : v.ends ≡ slice_set w.ends k (standing (end_after x turn held))
-  pub closed : report.closed ≡ closed_at x.address (outcome_of turn.progress.phase)
+  pub closed : report.closed ≡ closed_at x.address (outcome_of turn.position.phase)
 
 -- two ends at one address are one
 same_end : (w : WorldState) (k j : ℕ) (x y : WorldEnd) → HasPorts w → slice_get w.ends k ≡ Some x → slice_get w.ends j ≡ Some y → end_address y ≡ end_address x → (j ≡ k) × (y ≡ x)
@@ -71,8 +70,8 @@ same_end w k j x y ports here there same =
 
 module _ (w v : WorldState) (k : ℕ) (x : OpenEnd) (from : Endpoint) (bytes : List ℕ) (report : Report)
     (ports : HasPorts w) (there : slice_get w.ends k ≡ Some (Open_end x)) where
-  heard : OnDatagram w k x from bytes report v → Hears w k x from bytes report v
-  heard h = record {
+  handled : OnDatagram w k x from bytes report v → Handles w k x from bytes report v
+  handled h = record {
     turn = h.turn;
     held = h.held;
     steps = h.steps;
@@ -81,21 +80,21 @@ module _ (w v : WorldState) (k : ℕ) (x : OpenEnd) (from : Endpoint) (bytes : L
     closed = ap (λ (r : Report). r.closed) h.turns.tells;
   }
 
-  arrived : Arrives w from x.address bytes report v → Hears w k x from bytes report v
+  arrived : Arrives w from x.address bytes report v → Handles w k x from bytes report v
   arrived (At_request_port here port decoded says repeated same served) =
       absurd (let a = ports k (Open_end x) there in let b = ap (λ (p : Endpoint). p.port) here in omega (arith, a, b))
   arrived (At_open_end j y at here h) =
       let e = same_end w k j (Open_end x) (Open_end y) ports there at here in
       let same : y ≡ x = (let f : Open_end y ≡ Open_end x = e.1 in cc) in
-      heard (subst (λ (z : OpenEnd). OnDatagram w k z from bytes report v) same (subst (λ (i : ℕ). OnDatagram w i y from bytes report v) e.0 h))
+      handled (subst (λ (z : OpenEnd). OnDatagram w k z from bytes report v) same (subst (λ (i : ℕ). OnDatagram w i y from bytes report v) e.0 h))
   arrived (At_closed_end j y at here s) =
       let e = same_end w k j (Open_end x) (Closed_end y) ports there at here in
       absurd (true≢false (ap is_closed e.1))
   arrived (At_nobody away nobody s) = absurd (nobody k (Open_end x) there refl)
 
--- a datagram for an open end is heard there
+-- a datagram for an open end is handled there
 pub delivered : (w v : WorldState) (i k : ℕ) (x : OpenEnd) (from : Endpoint) (bytes : List ℕ) (report : Report) → HasPorts w →
-    slice_get w.sent i ≡ Some (datagram from x.address bytes) → slice_get w.ends k ≡ Some (Open_end x) → WorldStep w (Deliver i) report v → Hears w k x from bytes report v
+    slice_get w.sent i ≡ Some (datagram from x.address bytes) → slice_get w.ends k ≡ Some (Open_end x) → WorldStep w (Deliver i) report v → Handles w k x from bytes report v
 delivered w v i k x from bytes report ports sent there s =
     let d = s.0 in
     let same : d ≡ datagram from x.address bytes = same_Some d (datagram from x.address bytes) (sym s.1 ∙ sent) in
@@ -146,7 +145,7 @@ commit_taken there before after (Err faults.Full) untold h may = absurd (true≢
 commit_taken there before after (Err faults.Io) untold h may = absurd may
 commit_taken there before after (Err faults.Memory) untold h may = absurd may
 
-module _ (w v : WorldState) (k : ℕ) (x : OpenEnd) (from : Endpoint) (bytes : List ℕ) (report : Report) (h : Hears w k x from bytes report v) where
+module _ (w v : WorldState) (k : ℕ) (x : OpenEnd) (from : Endpoint) (bytes : List ℕ) (report : Report) (h : Handles w k x from bytes report v) where
   abbrev refuses_commit : Holding → StoreFault → Type 0
   refuses_commit = may_refuse_commit (is_client x.state.role.side) (in_the_way w.overwrite (file_at w.files x.path))
 
@@ -171,10 +170,10 @@ module _ (w v : WorldState) (k : ℕ) (x : OpenEnd) (from : Endpoint) (bytes : L
   abbrev pub data_turn_at : Terms → ℕ → List ℕ → Turn
   data_turn_at terms n piece = sent_turn (Sending terms (n + 1)) from (data_bytes (n + 1) piece) x.state
 
-  pub hears_send : (packet : Packet) (terms : Terms) (n : ℕ) (text : List ℕ) → Spells packet bytes → datagram_action x.state from bytes (Some packet) ≡ Send terms (n + 1) →
+  pub handles_send : (packet : Packet) (terms : Terms) (n : ℕ) (text : List ℕ) → Spells packet bytes → datagram_action x.state from bytes (Some packet) ≡ Send terms (n + 1) →
       is_sender x.state.role.side ≡ true → x.state.role.length ≡ length text → x.left ≡ drop (n * terms.size) text →
-      (y : OpenEnd) × (y.state.progress.phase ≡ Sending terms (n + 1)) × Becomes y (datagram x.address from (data_bytes (n + 1) (block text terms.size (n + 1))) ∷ [])
-  hears_send packet terms n text spelled is sender measured left =
+      (y : OpenEnd) × (y.state.position.phase ≡ Sending terms (n + 1)) × Becomes y (datagram x.address from (data_bytes (n + 1) (block text terms.size (n + 1))) ∷ [])
+  handles_send packet terms n text spelled is sender measured left =
       let a = acts_as packet (Send terms (n + 1)) spelled is in
       let f = sends_from (is_sender x.state.role.side) sender refuses_commit terms (n + 1) from x.state x.left (holding_of x) h.turn h.held a in
       let b = block_sent terms n from x.state text x.left h.turn f.0 measured left f.2 in
@@ -199,9 +198,9 @@ module _ (w v : WorldState) (k : ℕ) (x : OpenEnd) (from : Endpoint) (bytes : L
   same_with true z = refl
   same_with false z = refl
 
-  pub hears_last : (packet : Packet) → Spells packet bytes → datagram_action x.state from bytes (Some packet) ≡ Respond Complete →
+  pub handles_last : (packet : Packet) → Spells packet bytes → datagram_action x.state from bytes (Some packet) ≡ Respond Complete →
       (y : WorldEnd) × IsComplete y × (v.sent ≡ w.sent ++ []) × (v.ends ≡ slice_set w.ends k y)
-  hears_last packet spelled is =
+  handles_last packet spelled is =
       let a = acts_as packet (Respond Complete) spelled is in
       let turn = response_turn Complete from x.state in (
         standing (in_state (after_turn x.state turn) x),
@@ -214,9 +213,9 @@ module _ (w v : WorldState) (k : ℕ) (x : OpenEnd) (from : Endpoint) (bytes : L
       )
 
   -- ---- a reader accepts an OACK
-  pub hears_oack : (packet : Packet) (terms : Terms) → Spells packet bytes → datagram_action x.state from bytes (Some packet) ≡ Respond (Accept terms) →
-      (y : OpenEnd) × (y.state.progress.phase ≡ Receiving terms 0) × (y.stored ≡ x.stored) × (y.state.progress.held ≡ x.state.progress.held) × Becomes y (datagram x.address from (ack_bytes 0) ∷ []) × (y.refuses ≡ x.refuses)
-  hears_oack packet terms spelled is =
+  pub handles_oack : (packet : Packet) (terms : Terms) → Spells packet bytes → datagram_action x.state from bytes (Some packet) ≡ Respond (Accept terms) →
+      (y : OpenEnd) × (y.state.position.phase ≡ Receiving terms 0) × (y.stored ≡ x.stored) × (y.state.position.held ≡ x.state.position.held) × Becomes y (datagram x.address from (ack_bytes 0) ∷ []) × (y.refuses ≡ x.refuses)
+  handles_oack packet terms spelled is =
       let a = acts_as packet (Respond (Accept terms)) spelled is in
       let turn = response_turn (Accept terms) from x.state in
       let y = in_state (after_turn x.state turn) x in (
@@ -241,9 +240,9 @@ module _ (w v : WorldState) (k : ℕ) (x : OpenEnd) (from : Endpoint) (bytes : L
   -- ---- a receiver stores a block that its store takes
   -- the end has this block and what it had before
   pub record HasStored (terms : Terms) (number : ℕ) (piece : List ℕ) (y : OpenEnd) : Type 0 where
-    pub phase : y.state.progress.phase ≡ stored_phase terms number (nat_lt (length piece) terms.size)
-    pub received : wire_text x.state.role.mode y.stored ++ y.state.progress.held ≡ (wire_text x.state.role.mode x.stored ++ x.state.progress.held) ++ piece
-    pub holds : HeldFits x.state.role.mode y.state.progress.held
+    pub phase : y.state.position.phase ≡ stored_phase terms number (nat_lt (length piece) terms.size)
+    pub received : wire_text x.state.role.mode y.stored ++ y.state.position.held ≡ (wire_text x.state.role.mode x.stored ++ x.state.position.held) ++ piece
+    pub holds : HeldFits x.state.role.mode y.state.position.held
     pub told : y.refuses ≡ is_told h.held
     pub becomes : Becomes y (datagram x.address from (ack_bytes number) ∷ [])
 
@@ -258,7 +257,7 @@ module _ (w v : WorldState) (k : ℕ) (x : OpenEnd) (from : Endpoint) (bytes : L
   -- a client that was not told to refuse takes the block, and is not told to then
   module _ (terms : Terms) (number : ℕ) (piece : List ℕ) (client : is_client x.state.role.side ≡ true) where
     abbrev closed_by : Turn → Option (ℕ × Outcome)
-    closed_by turn = closed_at x.address (outcome_of turn.progress.phase)
+    closed_by turn = closed_at x.address (outcome_of turn.position.phase)
 
     goes_untold : (mid sink : Holding) (after : List ℕ) (answer : Result Done StoreFault) (last : Bool) → h.held ≡ Sink sink → mid.refuses ≡ false → answer ≡ Ok tt →
         GoesOn (world_sink refuses_commit) terms number from x.state last after mid answer h.turn sink → TookAll report.closed × (is_told h.held ≡ false)
@@ -280,21 +279,21 @@ module _ (w v : WorldState) (k : ℕ) (x : OpenEnd) (from : Endpoint) (bytes : L
         let p = piece_taken (holding_of x) b.mid b.bytes b.answer refuses_commit untold b.appended b.memory in
         goes_untold b.mid f.0 b.after b.answer (nat_lt (length piece) terms.size) f.1 p.1 p.0 b.rest
 
-  module _ (terms : Terms) (number : ℕ) (piece : List ℕ) (holds : HeldFits x.state.role.mode x.state.progress.held) (all : TookAll report.closed) where
+  module _ (terms : Terms) (number : ℕ) (piece : List ℕ) (holds : HeldFits x.state.role.mode x.state.position.held) (all : TookAll report.closed) where
     -- no turn is that of a store that refused
     fault_none : (reply : ErrorReply) (e : EndState) → h.turn ≡ refused_turn terms reply outcomes.StoreFault from e → ⊥
-    fault_none reply e is = (subst TookAll (h.closed ∙ ap (λ (t : Turn). closed_at x.address (outcome_of t.progress.phase)) is) all) refl
+    fault_none reply e is = (subst TookAll (h.closed ∙ ap (λ (t : Turn). closed_at x.address (outcome_of t.position.phase)) is) all) refl
 
     stores_as : (last : Bool) (sink : Holding) (bytes_now after : List ℕ) → nat_lt (length piece) terms.size ≡ last →
         h.turn ≡ sent_turn (stored_phase terms number last) from (ack_bytes number) (holding after x.state) → h.held ≡ Sink sink →
-        sink.bytes ≡ x.stored ++ bytes_now → Decoded x.state.role.mode x.state.progress.held piece bytes_now after → (y : OpenEnd) × HasStored terms number piece y
+        sink.bytes ≡ x.stored ++ bytes_now → Decoded x.state.role.mode x.state.position.held piece bytes_now after → (y : OpenEnd) × HasStored terms number piece y
     stores_as true sink bytes_now after is turns held same d = (
       end_after x (sent_turn (Dallying terms number Fresh) from (ack_bytes number) (holding after x.state)) (Sink sink),
       record {
         phase = ap (stored_phase terms number) (sym is);
         received = ap (λ (z : List ℕ). wire_text x.state.role.mode z ++ after) same
-            ∙ sym (stored_more x.state.role.mode x.stored x.state.progress.held piece bytes_now after (goes_on_with x.state.role.mode x.state.progress.held piece bytes_now after holds d));
-        holds = held_fits x.state.role.mode x.state.progress.held piece bytes_now after holds d;
+            ∙ sym (stored_more x.state.role.mode x.stored x.state.position.held piece bytes_now after (goes_on_with x.state.role.mode x.state.position.held piece bytes_now after holds d));
+        holds = held_fits x.state.role.mode x.state.position.held piece bytes_now after holds d;
         told = sym (ap is_told held);
         becomes = record {
           sent = h.sent ∙ ap (λ (t : Turn). w.sent ++ replied x.address t.reply) turns;
@@ -313,8 +312,8 @@ module _ (w v : WorldState) (k : ℕ) (x : OpenEnd) (from : Endpoint) (bytes : L
       record {
         phase = ap (stored_phase terms number) (sym is);
         received = ap (λ (z : List ℕ). wire_text x.state.role.mode z ++ after) same
-            ∙ sym (stored_more x.state.role.mode x.stored x.state.progress.held piece bytes_now after (goes_on_with x.state.role.mode x.state.progress.held piece bytes_now after holds d));
-        holds = held_fits x.state.role.mode x.state.progress.held piece bytes_now after holds d;
+            ∙ sym (stored_more x.state.role.mode x.stored x.state.position.held piece bytes_now after (goes_on_with x.state.role.mode x.state.position.held piece bytes_now after holds d));
+        holds = held_fits x.state.role.mode x.state.position.held piece bytes_now after holds d;
         told = sym (ap is_told held);
         becomes = record {
           sent = h.sent ∙ ap (λ (t : Turn). w.sent ++ replied x.address t.reply) turns;
@@ -331,7 +330,7 @@ module _ (w v : WorldState) (k : ℕ) (x : OpenEnd) (from : Endpoint) (bytes : L
 
     -- a commit that was not refused
     commits_as : (mid sink : Holding) (bytes_now after : List ℕ) → nat_lt (length piece) terms.size ≡ true → h.held ≡ Sink sink → mid.bytes ≡ x.stored ++ bytes_now →
-        Decoded x.state.role.mode x.state.progress.held piece bytes_now after →
+        Decoded x.state.role.mode x.state.position.held piece bytes_now after →
         (answer : Result Done StoreFault) → h.turn ≡ committed_turn terms number from (holding after x.state) answer → Kept_all mid sink answer → (y : OpenEnd) × HasStored terms number piece y
     commits_as mid sink bytes_now after is held same d answer t (For_good ok kept_bytes done) =
         stores_as true sink bytes_now after is (t ∙ ap (committed_turn terms number from (holding after x.state)) ok) held (kept_bytes ∙ same) d
@@ -339,7 +338,7 @@ module _ (w v : WorldState) (k : ℕ) (x : OpenEnd) (from : Endpoint) (bytes : L
         absurd (fault_none (commit_reply fault) (holding after x.state) (t ∙ ap (committed_turn terms number from (holding after x.state)) err))
 
     appends_as : (mid sink : Holding) (bytes_now after : List ℕ) (answer : Result Done StoreFault) (last : Bool) → nat_lt (length piece) terms.size ≡ last → h.held ≡ Sink sink →
-        Decoded x.state.role.mode x.state.progress.held piece bytes_now after → Took (holding_of x) mid bytes_now answer →
+        Decoded x.state.role.mode x.state.position.held piece bytes_now after → Took (holding_of x) mid bytes_now answer →
         GoesOn (world_sink refuses_commit) terms number from x.state last after mid answer h.turn sink → (y : OpenEnd) × HasStored terms number piece y
     appends_as mid sink bytes_now after (Err fault) last is held d took_now g = absurd (fault_none DiskFull x.state g.0)
     appends_as mid sink bytes_now after (Ok done) last is held d (None_of_it fault err same still) g = absurd (let e : Ok done ≡ Err fault = err in cc)
@@ -348,9 +347,9 @@ module _ (w v : WorldState) (k : ℕ) (x : OpenEnd) (from : Endpoint) (bytes : L
     appends_as mid sink bytes_now after (Ok done) false is held d (All_of_it ok same un) g =
         stores_as false sink bytes_now after is g.0 held (ap (λ (z : Holding). z.bytes) g.1 ∙ same) d
 
-    pub hears_data : Spells (Data number piece) bytes → datagram_action x.state from bytes (Some (Data number piece)) ≡ Store terms number → is_sender x.state.role.side ≡ false →
+    pub handles_data : Spells (Data number piece) bytes → datagram_action x.state from bytes (Some (Data number piece)) ≡ Store terms number → is_sender x.state.role.side ≡ false →
         (y : OpenEnd) × HasStored terms number piece y
-    hears_data spelled is receiver =
+    handles_data spelled is receiver =
         let f = stores_here terms number piece spelled is receiver in
         let b = f.2 in
         appends_as b.mid f.0 b.bytes b.after b.answer (nat_lt (length piece) terms.size) refl f.1 b.decoded

@@ -14,9 +14,9 @@ use Rattle.tftp_ends.specs.declared.action.Action.TheVariants.{Respond}
 use Rattle.tftp_ends.specs.declared.action.Response.TheVariants.{Ignore, Stranger}
 use Rattle.tftp_ends.specs.declared.phase.Phase.{Phase}
 use Rattle.tftp_ends.specs.declared.phase.Phase.TheVariants.{Waiting, Sending, Receiving, Dallying, Closed}
-use Rattle.tftp_ends.specs.End.{is_client, terms_of, outcome_of, record_of, Progress}
+use Rattle.tftp_ends.specs.End.{is_client, terms_of, outcome_of, record_of, Position}
 use Rattle.tftp_ends.specs.Action.{same_address, same_endpoint, is_stranger, garbled_response, packet_action}
-use Rattle.tftp_ends.specs.Step.{Turn, Acts, with_progress}
+use Rattle.tftp_ends.specs.Step.{Turn, Acts, with_position}
 use Rattle.tftp_player.specs.Machine.{Endpoint, At_server, Elsewhere, host_of, request_port}
 use Rattle.tftp_player.specs.Strangers.{HasNoStranger, IsRecordedSo, StraysChangeNoRecord, ClientsHaveServers}
 use Rattle.tftp_player.specs.World.{WorldState, OpenEnd, WorldEnd, Open_end, end_record, end_address, file_at, in_the_way, files_of, end_after, standing, peer_of, view_of_end}
@@ -42,9 +42,9 @@ not_server from far same =
 
 -- to an open end whose peer is no stranger
 is_strange : (phase : Phase) (x0 : OpenEnd) (from : Endpoint) → PhaseKept (placed phase x0) phase → host_of from ≡ Elsewhere → ((p : Endpoint) → peer_of phase ≡ Some p → host_of p ≢ Elsewhere) →
-    is_some (outcome_of phase) ≡ false → is_stranger (terms_of phase) x0.state.progress.last_sent_to from ≡ true
+    is_some (outcome_of phase) ≡ false → is_stranger (terms_of phase) x0.state.position.last_sent_to from ≡ true
 is_strange (Waiting asked limit) x0 from kept far home o =
-    fails (same_address x0.state.progress.last_sent_to from) (λ e. not_server from far (sym (same_ips x0.state.progress.last_sent_to from e) ∙ ap (λ (p : Endpoint). p.ip) kept.2))
+    fails (same_address x0.state.position.last_sent_to from) (λ e. not_server from far (sym (same_ips x0.state.position.last_sent_to from e) ∙ ap (λ (p : Endpoint). p.ip) kept.2))
 is_strange (Sending terms n) x0 from kept far home o =
     fails (same_endpoint terms.peer from) (λ e. home terms.peer refl (ap host_of (same_endpoints terms.peer from e) ∙ far))
 is_strange (Receiving terms n) x0 from kept far home o =
@@ -58,20 +58,20 @@ module _ (w : WorldState) (k : ℕ) (x : OpenEnd) (from : Endpoint) (bytes : Lis
   abbrev Acts_at : Action → Type 0
   Acts_at action = Acts memory_source (world_sink (may_refuse_commit (is_client x.state.role.side) (in_the_way w.overwrite (file_at w.files x.path)))) action from bytes x.state (files_of x) t.turn t.held
 
-  stays_by : (b : Bool) → Acts_at (if b then Respond Ignore else Respond Stranger) → t.turn.progress ≡ x.state.progress
-  stays_by true h = ap (λ (u : Turn). u.progress) h.0
-  stays_by false h = ap (λ (u : Turn). u.progress) h.0
+  stays_by : (b : Bool) → Acts_at (if b then Respond Ignore else Respond Stranger) → t.turn.position ≡ x.state.position
+  stays_by true h = ap (λ (u : Turn). u.position) h.0
+  stays_by false h = ap (λ (u : Turn). u.position) h.0
 
-  strange_same : is_stranger (terms_of x.state.progress.phase) x.state.progress.last_sent_to from ≡ true → t.turn.progress ≡ x.state.progress
+  strange_same : is_stranger (terms_of x.state.position.phase) x.state.position.last_sent_to from ≡ true → t.turn.position ≡ x.state.position
   strange_same strange =
-      let near = if has_error_opcode bytes && is_none t.steps.decoded then Respond (garbled_response x.state.progress.phase) else packet_action x.state from t.steps.decoded x.state.progress.phase in
+      let near = if has_error_opcode bytes && is_none t.steps.decoded then Respond (garbled_response x.state.position.phase) else packet_action x.state from t.steps.decoded x.state.position.phase in
       stays_by (has_error_opcode bytes)
       (subst (λ (b : Bool). Acts_at (if b then (if has_error_opcode bytes then Respond Ignore else Respond Stranger) else near)) strange t.steps.acts)
 
 -- what is recorded of an end whose state stayed
-after_state : (x : OpenEnd) (turn : Turn) (held : Files (List ℕ) Holding) → turn.progress ≡ x.state.progress → end_record (standing (end_after x turn held)) ≡ record_of x.state
-after_state x turn (Source left) same = standing_record (end_after x turn (Source left)) ∙ ap (λ (p : Progress). record_of (with_progress p x.state)) same
-after_state x turn (Sink holding) same = standing_record (end_after x turn (Sink holding)) ∙ ap (λ (p : Progress). record_of (with_progress p x.state)) same
+after_state : (x : OpenEnd) (turn : Turn) (held : Files (List ℕ) Holding) → turn.position ≡ x.state.position → end_record (standing (end_after x turn held)) ≡ record_of x.state
+after_state x turn (Source left) same = standing_record (end_after x turn (Source left)) ∙ ap (λ (p : Position). record_of (with_position p x.state)) same
+after_state x turn (Sink holding) same = standing_record (end_after x turn (Sink holding)) ∙ ap (λ (p : Position). record_of (with_position p x.state)) same
 
 equal_or_not : (a b : ℕ) → (a ≡ b) ⊎ (a ≢ b)
 equal_or_not a b = elim (eqb_tells a b) [
@@ -108,7 +108,7 @@ arrived strangers old new from to bytes report k x ok far (At_open_end j y at ad
     (λ here. let e : Open_end y ≡ x = same_Some (Open_end y) x (sym at ∙ (ap (slice_get old.ends) (sym here) ∙ there)) in
     let was = (ok.ends j (Open_end y) at).stands in
     let own : HasNoStranger (Open_end y) = subst HasNoStranger (sym e) home in
-    let same = strange_same old j y from bytes report new t (is_strange y.state.progress.phase y from was.kept.phase far own (ap is_some was.still)) in
+    let same = strange_same old j y from bytes report new t (is_strange y.state.position.phase y from was.kept.phase far own (ap is_some was.still)) in
     after_state y t.turn t.held same ∙ ap (λ (z : WorldEnd). end_record z) e)
     (equal_or_not k j)
 arrived strangers old new from to bytes report k x ok far (At_closed_end j y at address s) there home = as_is old new k x (ap (λ (w : WorldState). w.ends) s.is) there

@@ -20,7 +20,7 @@ use Rattle.tftp_ends.specs.declared.phase.Dally.TheVariants.{Fresh, Waited}
 use Rattle.tftp_ends.specs.declared.phase.Phase.{Phase}
 use Rattle.tftp_ends.specs.declared.phase.Phase.TheVariants.{Waiting, Sending, Receiving, Dallying, Closed}
 use Rattle.tftp_ends.specs.declared.phase.Terms.{Terms}
-use Rattle.tftp_ends.specs.End.{EndState, is_client, terms_of, Progress}
+use Rattle.tftp_ends.specs.End.{EndState, is_client, terms_of, Position}
 use Rattle.tftp_ends.specs.Action.{is_stranger, garbled_response, packet_action, datagram_action, timeout_response}
 use Rattle.tftp_ends.specs.Phase.{waited}
 use Rattle.tftp_ends.specs.Sender.{sender_action}
@@ -104,21 +104,21 @@ module _ (agreed : Terms) where
     packet_names : (phase : Phase) → terms_of phase ≡ Some agreed → Names (packet_action e from decoded phase)
     packet_names (Waiting asked limit) h = absurd (let f : None ≡ Some agreed = h in cc)
     packet_names (Sending terms n) h = sender_names (is_client e.role.side) e.role.length terms n decoded (same_Some terms agreed h)
-    packet_names (Receiving terms n) h = receiver_names (is_client e.role.side) e.role.mode e.progress.held terms n decoded (same_Some terms agreed h)
+    packet_names (Receiving terms n) h = receiver_names (is_client e.role.side) e.role.mode e.position.held terms n decoded (same_Some terms agreed h)
     packet_names (Dallying terms n dally) h = dally_says n decoded
     packet_names (Closed terms n complete outcome) h = tt
 
-    datagram_names : terms_of e.progress.phase ≡ Some agreed → Names (datagram_action e from bytes decoded)
+    datagram_names : terms_of e.position.phase ≡ Some agreed → Names (datagram_action e from bytes decoded)
     datagram_names h =
-        either (is_stranger (terms_of e.progress.phase) e.progress.last_sent_to from) _ _ (either (has_error_opcode bytes) _ _ tt tt)
-        (either (has_error_opcode bytes && is_none decoded) _ _ (garbled_says e.progress.phase) (packet_names e.progress.phase h))
+        either (is_stranger (terms_of e.position.phase) e.position.last_sent_to from) _ _ (either (has_error_opcode bytes) _ _ tt tt)
+        (either (has_error_opcode bytes && is_none decoded) _ _ (garbled_says e.position.phase) (packet_names e.position.phase h))
 
   -- ---- nor does its turn
-  abbrev Has : Progress → Type 0
-  Has progress = terms_of progress.phase ≡ Some agreed
+  abbrev Has : Position → Type 0
+  Has position = terms_of position.phase ≡ Some agreed
 
-  kept : (turn turn' : Turn) → turn ≡ turn' → Has turn'.progress → Has turn.progress
-  kept turn turn' is h = subst (λ (t : Turn). Has t.progress) (sym is) h
+  kept : (turn turn' : Turn) → turn ≡ turn' → Has turn'.position → Has turn.position
+  kept turn turn' is h = subst (λ (t : Turn). Has t.position) (sym is) h
 
   waited_terms : (phase : Phase) → terms_of (waited phase) ≡ terms_of phase
   waited_terms (Waiting asked limit) = refl
@@ -127,56 +127,56 @@ module _ (agreed : Terms) where
   waited_terms (Dallying terms n dally) = refl
   waited_terms (Closed terms n complete outcome) = refl
 
-  response_has : (response : Response) (from : Endpoint) (e : EndState) → Says response → Has e.progress → Has (response_turn response from e).progress
+  response_has : (response : Response) (from : Endpoint) (e : EndState) → Says response → Has e.position → Has (response_turn response from e).position
   response_has Ignore from e s h = h
   response_has Stranger from e s h = h
   response_has ResendReply from e s h = h
   response_has Retransmit from e s h = h
-  response_has Wait from e s h = waited_terms e.progress.phase ∙ h
+  response_has Wait from e s h = waited_terms e.position.phase ∙ h
   response_has (Close outcome) from e s h = h
   response_has (Refuse terms reply outcome) from e s h = s
   response_has (Accept terms) from e s h = ap Some s
   response_has Complete from e s h = h
 
-  pub timeout_has : (e : EndState) → Has e.progress → Has (timeout_turn e).progress
-  timeout_has e h = response_has (timeout_response e.progress.retries_left e.progress.phase) e.progress.last_sent_to e (timeout_says e.progress.retries_left e.progress.phase) h
+  pub timeout_has : (e : EndState) → Has e.position → Has (timeout_turn e).position
+  timeout_has e h = response_has (timeout_response e.position.retries_left e.position.phase) e.position.last_sent_to e (timeout_says e.position.retries_left e.position.phase) h
 
-  one_of : (b : Bool) (one two : Turn) → Has one.progress → Has two.progress → Has (if b then one else two).progress
+  one_of : (b : Bool) (one two : Turn) → Has one.position → Has two.position → Has (if b then one else two).position
   one_of true one two h k = h
   one_of false one two h k = k
 
-  filled_has : (terms : Terms) (number : ℕ) (from : Endpoint) (piece : List ℕ) (e : EndState) (answer : Result ℕ FileFault) → terms ≡ agreed → Has (filled_turn terms number from piece e answer).progress
+  filled_has : (terms : Terms) (number : ℕ) (from : Endpoint) (piece : List ℕ) (e : EndState) (answer : Result ℕ FileFault) → terms ≡ agreed → Has (filled_turn terms number from piece e answer).position
   filled_has terms number from piece e answer s = one_of (result_count_is (block_length e.role.length terms.size number) answer) _ _ (ap Some s) (ap Some s)
 
-  committed_has : (terms : Terms) (number : ℕ) (from : Endpoint) (e : EndState) (answer : Result Done StoreFault) → terms ≡ agreed → Has (committed_turn terms number from e answer).progress
+  committed_has : (terms : Terms) (number : ℕ) (from : Endpoint) (e : EndState) (answer : Result Done StoreFault) → terms ≡ agreed → Has (committed_turn terms number from e answer).position
   committed_has terms number from e (Ok done) s = ap Some s
   committed_has terms number from e (Err fault) s = ap Some s
 
   module _ (refuses_commit : Holding → StoreFault → Type 0) (from : Endpoint) (bytes : List ℕ) (e : EndState) where
     goes_has : (terms : Terms) (number : ℕ) (last : Bool) (after : List ℕ) (mid sink' : Holding) (answer : Result Done StoreFault) (turn : Turn) → terms ≡ agreed →
-        GoesOn (world_sink refuses_commit) terms number from e last after mid answer turn sink' → Has turn.progress
+        GoesOn (world_sink refuses_commit) terms number from e last after mid answer turn sink' → Has turn.position
     goes_has terms number last after mid sink' (Err fault) turn s g = kept turn _ g.0 (ap Some s)
     goes_has terms number true after mid sink' (Ok done) turn s g = kept turn _ g.answers (committed_has terms number from (holding after e) g.answer s)
     goes_has terms number false after mid sink' (Ok done) turn s g = kept turn _ g.0 (ap Some s)
 
     stores_has : (terms : Terms) (number : ℕ) (piece : List ℕ) (files files' : Files (List ℕ) Holding) (turn : Turn) → terms ≡ agreed →
-        StoresIn memory_source (world_sink refuses_commit) terms number from piece e files turn files' → Has turn.progress
+        StoresIn memory_source (world_sink refuses_commit) terms number from piece e files turn files' → Has turn.position
     stores_has terms number piece (Sink sink) (Sink sink') turn s d = goes_has terms number _ d.after d.mid sink' d.answer turn s d.rest
     stores_has terms number piece (Sink sink) (Source left) turn s d = absurd d
     stores_has terms number piece (Source left) files' turn s d = absurd d
 
     sends_has : (terms : Terms) (number : ℕ) (files files' : Files (List ℕ) Holding) (turn : Turn) → terms ≡ agreed →
-        SendsFrom memory_source (world_sink refuses_commit) terms number from e files turn files' → Has turn.progress
+        SendsFrom memory_source (world_sink refuses_commit) terms number from e files turn files' → Has turn.position
     sends_has terms number (Source left) (Source left') turn s d = kept turn _ d.answers (filled_has terms number from d.piece e d.answer s)
     sends_has terms number (Source left) (Sink sink) turn s d = absurd d
     sends_has terms number (Sink sink) files' turn s d = absurd d
 
-    acts_has : (action : Action) (files files' : Files (List ℕ) Holding) (turn : Turn) → Names action → Has e.progress →
-        Acts memory_source (world_sink refuses_commit) action from bytes e files turn files' → Has turn.progress
+    acts_has : (action : Action) (files files' : Files (List ℕ) Holding) (turn : Turn) → Names action → Has e.position →
+        Acts memory_source (world_sink refuses_commit) action from bytes e files turn files' → Has turn.position
     acts_has (Respond response) files files' turn s h a = kept turn _ a.0 (response_has response from e s h)
     acts_has (Send terms number) files files' turn s h a = sends_has terms number files files' turn s a
     acts_has (Store terms number) files files' turn s h a = stores_has terms number _ files files' turn s a
 
-    pub step_has : (files files' : Files (List ℕ) Holding) (turn : Turn) → Has e.progress →
-        DatagramStep memory_source (world_sink refuses_commit) from bytes e files turn files' → Has turn.progress
+    pub step_has : (files files' : Files (List ℕ) Holding) (turn : Turn) → Has e.position →
+        DatagramStep memory_source (world_sink refuses_commit) from bytes e files turn files' → Has turn.position
     step_has files files' turn h d = acts_has (datagram_action e from bytes d.decoded) files files' turn (datagram_names e from bytes d.decoded h) h d.acts

@@ -38,7 +38,7 @@ use Rattle.tftp_ends.specs.declared.action.Response.TheVariants.{Close, Refuse, 
 use Rattle.tftp_ends.specs.End.{is_sender}
 use Rattle.tftp_ends.specs.Receiver.{receiver_action}
 use Rattle.tftp_ends.specs.Sender.{illegal_action}
-use Rattle.tftp_ends.specs.Step.{StoresIn, response_turn, after, with_progress}
+use Rattle.tftp_ends.specs.Step.{StoresIn, response_turn, after, with_position}
 use Rattle.tftp_ends.specs.Text.{is_readable}
 use Rattle.tftp_ends.specs.Waiting.{default_terms, agreed_terms, no_answer, refusal_action, accept_action, begin_action, begin_with_action, reader_action, writer_action}
 use Rattle.tftp_player.specs.Machine.{Endpoint, server_ip, Data as Says_data, Ack as Says_ack, Oack as Says_oack, Message}
@@ -97,7 +97,7 @@ module _ (views : List EndView) (messages : List Message) (k : ℕ) (x0 : OpenEn
       agreement asked kinds.Read x0.state.role.mode options limit ≡ Ok known → Answers (Respond (Accept (agreed_terms from known)))
   accept_acts reader options known come e turn held h =
       let response = Accept (agreed_terms from known) in
-      let y = in_state (with_progress (after response from waiter.state) waiter.state) waiter in
+      let y = in_state (with_position (after response from waiter.state) waiter.state) waiter in
       let here : Contains messages (message from x0.address (Says_oack (size known))) =
       subst (λ (n : ℕ). Contains messages (message from x0.address (Says_oack n))) (taken_oack asked kinds.Read x0.state.role.mode options limit known e) come in
       let goes_now : Goes views messages k waiter (response_turn response from waiter.state) y = record {
@@ -122,7 +122,7 @@ module _ (views : List EndView) (messages : List Message) (k : ℕ) (x0 : OpenEn
   first_acts reader piece l spelled come =
       let terms = default_terms from in
       let last = nat_lt (length piece) DEFAULT_BLOCK in
-      let none : x0.state.progress.held ≡ [] = kept.phase.4 reader in
+      let none : x0.state.position.held ≡ [] = kept.phase.4 reader in
       let waits : IsWaiting (open_view waiter) from = ((refl, refl), kept.phase.0, refl, server) in
       let got : Receives views messages k waiter terms 1 from piece = record {
         receiver = reader;
@@ -135,8 +135,8 @@ module _ (views : List EndView) (messages : List Message) (k : ℕ) (x0 : OpenEn
       } in
       let refuse : (reply : ErrorReply) (outcome : Outcome) → Answers (Respond (Refuse (Some terms) reply outcome)) =
       λ reply outcome turn held h. from_response views messages k waiter (Refuse (Some terms) reply outcome) from turn held
-      (refused_goes views messages k waiter terms 1 from piece kept got x0.state.progress.held (holding_of waiter) reply outcome kept.held (kept.committed reader)
-      (x0.state.progress.held ++ piece, sym (append_assoc (wire_text x0.state.role.mode x0.stored) x0.state.progress.held piece) ∙ ap (λ (t : List ℕ). t ++ piece) (sym (told views messages k waiter terms 1 from piece kept got)))) h in
+      (refused_goes views messages k waiter terms 1 from piece kept got x0.state.position.held (holding_of waiter) reply outcome kept.held (kept.committed reader)
+      (x0.state.position.held ++ piece, sym (append_assoc (wire_text x0.state.role.mode x0.stored) x0.state.position.held piece) ∙ ap (λ (t : List ℕ). t ++ piece) (sym (told views messages k waiter terms 1 from piece kept got)))) h in
       if_acts Answers (nat_lt DEFAULT_BLOCK (length piece)) (illegal_action terms)
       (if is_readable x0.state.role.mode [] piece last then Store terms 1 else Respond (Refuse (Some terms) replies.NotNetascii outcomes.NotNetascii))
       (λ e. refuse replies.IllegalOperation outcomes.Illegal)

@@ -73,15 +73,15 @@ module _ (strangers : Bool) (w v : WorldState) (ok : IsOk strangers w) (report :
     place = view_at w.ends k (Open_end x) at ∙ ap (λ (v : EndView). Some v) (open_is x (ap is_some (ok.ends k (Open_end x) at).stands.still));
   }
 
-  -- what an end has heard keeps the world
+  -- how an end handled a datagram keeps the world
   datagram_keeps : (k : ℕ) (x : OpenEnd) (from : Endpoint) (bytes : List ℕ) → slice_get w.ends k ≡ Some (Open_end x) →
       ((p : WirePacket) → Spells p bytes → Contains ok.messages (message from x.address (said p))) → OnDatagram w k x from bytes report v → IsOk strangers v
   datagram_keeps k x from bytes at come h =
       let here = (ok.ends k (Open_end x) at).stands in
       let spelled = says_spelled bytes h.steps.decoded h.steps.says in
-      let old = there_now strangers w ok x.address x.state.progress.last_sent_to x.state.progress.last_sent here.last_sent in
+      let old = there_now strangers w ok x.address x.state.position.last_sent_to x.state.position.last_sent here.last_sent in
       let goes_now = by_datagram (map view_of_end w.ends) ok.messages k x (may_refuse_commit (is_client x.state.role.side) (in_the_way w.overwrite (file_at w.files x.path))) from bytes h.steps.decoded spelled
-      (λ p e. come p (spelled p e)) old x.state.progress.phase (stands k x at) here.kept (ap is_some here.still) h.turn h.held h.steps.acts in
+      (λ p e. come p (spelled p e)) old x.state.position.phase (stands k x at) here.kept (ap is_some here.still) h.turn h.held h.steps.acts in
       turn_keeps strangers w v ok k x h.turn h.held report at goes_now h.turns
 
   -- a datagram that came keeps the world
@@ -101,10 +101,10 @@ module _ (strangers : Bool) (w v : WorldState) (ok : IsOk strangers w) (report :
   timeout_keeps k (Closed_end x) at s = stays_ok strangers w v report ok s
   timeout_keeps k (Open_end x) at t =
       let here = (ok.ends k (Open_end x) at).stands in
-      let old = there_now strangers w ok x.address x.state.progress.last_sent_to x.state.progress.last_sent here.last_sent in
-      let g = by_timeout (map view_of_end w.ends) ok.messages k x old x.state.progress.phase (stands k x at) here.kept (ap is_some here.still) in
+      let old = there_now strangers w ok x.address x.state.position.last_sent_to x.state.position.last_sent here.last_sent in
+      let g = by_timeout (map view_of_end w.ends) ok.messages k x old x.state.position.phase (stands k x at) here.kept (ap is_some here.still) in
       turn_keeps strangers w v ok k x (timeout_turn x.state) (files_of x) report at
-      (from_response (map view_of_end w.ends) ok.messages k x (timeout_response x.state.progress.retries_left x.state.progress.phase) x.state.progress.last_sent_to (timeout_turn x.state) (files_of x) g (refl, refl)) t
+      (from_response (map view_of_end w.ends) ok.messages k x (timeout_response x.state.position.retries_left x.state.position.phase) x.state.position.last_sent_to (timeout_turn x.state) (files_of x) g (refl, refl)) t
 
 -- what is to be refused has no part in what an end tells
 told_open : (b : Bool) (x : OpenEnd) → view_of_end (Open_end (if b then x else record x { refuses = true })) ≡ view_of_end (Open_end x)
@@ -136,7 +136,7 @@ told_kept w true x h = h
 told_kept w false x h = record {
   stands = record {
     still = h.stands.still;
-    kept = record { phase = phase_told x.state.progress.phase x h.stands.kept.phase; held = h.stands.kept.held; committed = h.stands.kept.committed };
+    kept = record { phase = phase_told x.state.position.phase x h.stands.kept.phase; held = h.stands.kept.held; committed = h.stands.kept.committed };
     last_sent = h.stands.last_sent;
   };
   stored = h.stored;

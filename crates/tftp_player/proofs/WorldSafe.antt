@@ -61,14 +61,14 @@ module _ (strangers : Bool) (w : WorldState) (ok : IsOk strangers w) where
   among x i = (i.0, view_at w.ends i.0 x i.1)
 
   begins : (x : WorldEnd) → is_sender (end_record x).side ≡ false → IsBeginningOf (wire_text (end_mode x) (end_stored x)) (end_text x)
-  begins (Open_end x) r = stored_begins (is_sender x.state.role.side) (goes_on x.state.progress.phase) (wire_text x.state.role.mode x.file) (wire_text x.state.role.mode x.stored) x.state.progress.held r
+  begins (Open_end x) r = stored_begins (is_sender x.state.role.side) (goes_on x.state.position.phase) (wire_text x.state.role.mode x.file) (wire_text x.state.role.mode x.stored) x.state.position.held r
   begins (Closed_end x) r = stored_begins (is_sender x.recorded.side) false (wire_text x.mode x.file) (wire_text x.mode x.stored) [] r
 
   whole : (x : WorldEnd) → is_sender (end_record x).side ≡ false → (end_record x).complete ≡ true → end_text x ≡ wire_text (end_mode x) (end_stored x)
   whole (Open_end x) r d =
       let t = wire_text x.state.role.mode x.stored in
       text_else (is_sender x.state.role.side) (wire_text x.state.role.mode x.file) (received_text x) r
-      ∙ ap (λ (b : Bool). if b then t ++ x.state.progress.held else t) (complete_stops x.state.progress.phase d)
+      ∙ ap (λ (b : Bool). if b then t ++ x.state.position.held else t) (complete_stops x.state.position.phase d)
   whole (Closed_end x) r d = text_else (is_sender x.recorded.side) (wire_text x.mode x.file) (wire_text x.mode x.stored) r
 
   sends : (x : WorldEnd) → is_sender (end_record x).side ≡ true → end_text x ≡ wire_text (end_mode x) (end_file x)

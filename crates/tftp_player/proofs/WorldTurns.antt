@@ -99,7 +99,7 @@ still_stands w v added (Open_end x) more h = record {
   still = h.still;
   kept = h.kept;
   last_sent =
-      let d = datagram x.address x.state.progress.last_sent_to x.state.progress.last_sent in
+      let d = datagram x.address x.state.position.last_sent_to x.state.position.last_sent in
       subst (λ (ds : List Datagram). Contains ds d) (sym more) (Contains-append_left w.sent added d h.last_sent);
 }
 still_stands w v added (Closed_end x) more h = h
@@ -153,20 +153,20 @@ turn_keeps strangers w v ok k x turn held report at g t = subst (λ (z : WorldSt
   was = (ok.ends k (Open_end x) at).stands
 
   last_sent_is : (to : Endpoint) (bytes : List ℕ) → Newest x turn (end_after x turn held) →
-      Contains (w.sent ++ replied x.address turn.reply) (datagram x.address (end_after x turn held).state.progress.last_sent_to (end_after x turn held).state.progress.last_sent)
+      Contains (w.sent ++ replied x.address turn.reply) (datagram x.address (end_after x turn held).state.position.last_sent_to (end_after x turn held).state.position.last_sent)
   last_sent_is to bytes (inl e) =
-      let there = Contains-append_left w.sent (replied x.address turn.reply) (datagram x.address x.state.progress.last_sent_to x.state.progress.last_sent) was.last_sent in
-      subst (λ (p : Endpoint). Contains (w.sent ++ replied x.address turn.reply) (datagram x.address p (end_after x turn held).state.progress.last_sent)) (sym e.0)
-      (subst (λ (b : List ℕ). Contains (w.sent ++ replied x.address turn.reply) (datagram x.address x.state.progress.last_sent_to b)) (sym e.1) there)
+      let there = Contains-append_left w.sent (replied x.address turn.reply) (datagram x.address x.state.position.last_sent_to x.state.position.last_sent) was.last_sent in
+      subst (λ (p : Endpoint). Contains (w.sent ++ replied x.address turn.reply) (datagram x.address p (end_after x turn held).state.position.last_sent)) (sym e.0)
+      (subst (λ (b : List ℕ). Contains (w.sent ++ replied x.address turn.reply) (datagram x.address x.state.position.last_sent_to b)) (sym e.1) there)
   last_sent_is to bytes (inr e) =
-      let d = datagram x.address (end_after x turn held).state.progress.last_sent_to (end_after x turn held).state.progress.last_sent in
+      let d = datagram x.address (end_after x turn held).state.position.last_sent_to (end_after x turn held).state.position.last_sent in
       Contains-append_right w.sent (replied x.address turn.reply) d
       (subst (λ (r : Option Reply). Contains (replied x.address r) d) (sym e) (here_in d))
 
   stays : w.overwrite ≡ false → (q c : List ℕ) → file_at w.files q ≡ Some c → file_at t.files q ≡ Some c
   stays = files_stay w.overwrite (not (is_client x.state.role.side) && has_committed x (end_after x turn held)) x.path (end_after x turn held).stored w.files t.files t.stored
 
-  stored_is : w.overwrite ≡ false → is_client (end_after x turn held).state.role.side ≡ false → is_sender (end_after x turn held).state.role.side ≡ false → is_complete (end_after x turn held).state.progress.phase ≡ true →
+  stored_is : w.overwrite ≡ false → is_client (end_after x turn held).state.role.side ≡ false → is_sender (end_after x turn held).state.role.side ≡ false → is_complete (end_after x turn held).state.position.phase ≡ true →
       file_at t.files (end_after x turn held).path ≡ Some (end_after x turn held).stored
   stored_is o c r d =
       let y = end_after x turn held in
@@ -175,7 +175,7 @@ turn_keeps strangers w v ok k x turn held report at g t = subst (λ (z : WorldSt
       let receiver : is_sender x.state.role.side ≡ false = ap is_sender (sym g.side) ∙ r in
       let old = was.kept.committed receiver in
       let new : y.committed ≡ true = g.kept.committed r ∙ d in
-      let under : file_at t.files x.path ≡ Some y.stored = elim (complete_then (is_complete x.state.progress.phase) (is_client x.state.role.side) x.committed y.committed old new client) [
+      let under : file_at t.files x.path ≡ Some y.stored = elim (complete_then (is_complete x.state.position.phase) (is_client x.state.role.side) x.committed y.committed old new client) [
         | inl h ↦ stays o x.path y.stored ((ok.ends k (Open_end x) at).stored o client receiver h.0 ∙ ap (λ (z : List ℕ). Some z) (sym (g.stored h.0)))
         | inr h ↦ (subst (λ (b : Bool). FilesAfter w.overwrite b x.path y.stored w.files t.files) h t.stored).here
       ] in
@@ -196,21 +196,21 @@ turn_keeps strangers w v ok k x turn held report at g t = subst (λ (z : WorldSt
         ends = λ j z i. elim (slice_get-set_cases w.ends k j (standing y) z i) [
           | inl h ↦ subst (λ (u : WorldEnd). IsKeptIn (world_after w k x turn held t.files) u) (sym h.1)
               (standing_kept (world_after w k x turn held t.files) y g.kept
-              (subst (λ (a : Endpoint). Contains (w.sent ++ replied x.address turn.reply) (datagram a y.state.progress.last_sent_to y.state.progress.last_sent)) (sym place)
-              (last_sent_is y.state.progress.last_sent_to y.state.progress.last_sent g.last_sent)) stored_is)
+              (subst (λ (a : Endpoint). Contains (w.sent ++ replied x.address turn.reply) (datagram a y.state.position.last_sent_to y.state.position.last_sent)) (sym place)
+              (last_sent_is y.state.position.last_sent_to y.state.position.last_sent g.last_sent)) stored_is)
           | inr h ↦ still_kept w (world_after w k x turn held t.files) (replied x.address turn.reply) z refl refl stays (ok.ends j z h.1)
         ];
       }
 
 -- an end that opened keeps the world
 pub opening_keeps : (strangers : Bool) (w v : WorldState) (ok : IsOk strangers w) (x : OpenEnd) (report : Report) (p : WirePacket) →
-    Spells p x.state.progress.last_sent → IsShown (map view_of_end w.ends ++ view_of_end (Open_end x) ∷ []) (ok.messages ++ message x.address x.state.progress.last_sent_to (said p) ∷ []) →
-    host_of x.address ≢ Elsewhere → outcome_of x.state.progress.phase ≡ None → EndKept x → is_complete x.state.progress.phase ≡ false → Opens w x report v → IsOk strangers v
+    Spells p x.state.position.last_sent → IsShown (map view_of_end w.ends ++ view_of_end (Open_end x) ∷ []) (ok.messages ++ message x.address x.state.position.last_sent_to (said p) ∷ []) →
+    host_of x.address ≢ Elsewhere → outcome_of x.state.position.phase ≡ None → EndKept x → is_complete x.state.position.phase ≡ false → Opens w x report v → IsOk strangers v
 opening_keeps strangers w v ok x report p spells shown own still kept incomplete o = subst (λ (z : WorldState). IsOk strangers z) (sym o.is) later where
   later : IsOk strangers (opened_in w x)
   later =
-      let reply : Option Reply = Some (record { to = x.state.progress.last_sent_to; bytes = x.state.progress.last_sent }) in
-      let m = message x.address x.state.progress.last_sent_to (said p) in
+      let reply : Option Reply = Some (record { to = x.state.position.last_sent_to; bytes = x.state.position.last_sent }) in
+      let m = message x.address x.state.position.last_sent_to (said p) in
       let r : Replies x.address reply (m ∷ []) = (p, spells, refl) in
       record {
         messages = ok.messages ++ m ∷ [];
@@ -225,7 +225,7 @@ opening_keeps strangers w v ok x report p spells shown own still kept incomplete
             stands = record {
               still = still;
               kept = kept;
-              last_sent = let d = datagram x.address x.state.progress.last_sent_to x.state.progress.last_sent in Contains-append_right w.sent (replied x.address reply) d (here_in d);
+              last_sent = let d = datagram x.address x.state.position.last_sent_to x.state.position.last_sent in Contains-append_right w.sent (replied x.address reply) d (here_in d);
             };
             stored = λ o c f d. absurd (true≢false (sym d ∙ incomplete));
           })

@@ -46,7 +46,7 @@ abbrev w1 : WorldState
 w1 = opened_in w0 client
 
 abbrev d0 : Datagram
-d0 = record { from = client.address; to = client.state.progress.last_sent_to; bytes = client.state.progress.last_sent }
+d0 = record { from = client.address; to = client.state.position.last_sent_to; bytes = client.state.position.last_sent }
 
 abbrev server : OpenEnd
 server = receiving_end w1 client.address d0.bytes Octet name []
@@ -55,7 +55,7 @@ abbrev w2 : WorldState
 w2 = opened_in w1 server
 
 abbrev d1 : Datagram
-d1 = record { from = server.address; to = client.address; bytes = server.state.progress.last_sent }
+d1 = record { from = server.address; to = client.address; bytes = server.state.position.last_sent }
 
 abbrev turn3 : Turn
 turn3 = filled_turn (default_terms server.address) 1 server.address file client.state (Ok 1)
@@ -67,7 +67,7 @@ abbrev w3 : WorldState
 w3 = record w2 { sent = w2.sent ++ replied client.address turn3.reply; ends = slice_set w2.ends 0 (standing sending) }
 
 abbrev d2 : Datagram
-d2 = record { from = client.address; to = server.address; bytes = sending.state.progress.last_sent }
+d2 = record { from = client.address; to = server.address; bytes = sending.state.position.last_sent }
 
 abbrev done : Done
 done = tt

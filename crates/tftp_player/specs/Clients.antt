@@ -86,7 +86,7 @@ told_files (Sink holding) = Sink (record holding { refuses = true })
 
 -- the client, told so while it is open
 abbrev pub told_client : PlayedClient → PlayedClient
-told_client c = if is_some (outcome_of c.end.progress.phase) then c else record c { files = told_files c.files }
+told_client c = if is_some (outcome_of c.end.position.phase) then c else record c { files = told_files c.files }
 
 -- why the world has no new client
 abbrev pub open_fault : OpenFault → WorldFault

@@ -11,7 +11,7 @@ use Rattle.tftp_player.specs.declared.report.Report.{Report}
 -- what a turn of the end there comes to
 abbrev pub effect_of : Endpoint → Turn → Effect
 effect_of at turn =
-    record { from = at; to = option_map (λ (r : Reply). r.to) turn.reply; bytes = reply_bytes turn.reply; closed = outcome_of turn.progress.phase }
+    record { from = at; to = option_map (λ (r : Reply). r.to) turn.reply; bytes = reply_bytes turn.reply; closed = outcome_of turn.position.phase }
 
 -- nothing comes of it
 abbrev pub no_effect : Endpoint → Effect

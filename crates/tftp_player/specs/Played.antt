@@ -127,7 +127,7 @@ PlayerDatagramStep port from bytes _ _ before after effect r = ⊥
 
 -- an end takes events no more
 abbrev pub has_ended : Player → Bool
-has_ended (Client c) = is_some (outcome_of c.end.progress.phase)
+has_ended (Client c) = is_some (outcome_of c.end.position.phase)
 has_ended (Server s) = is_some s.ended
 
 -- where it is

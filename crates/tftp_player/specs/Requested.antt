@@ -44,6 +44,6 @@ OpensNone server from bytes =
     × (asks_store (asks server.config.cap (length server.held) repeated server.config.limits bytes decoded) ≡ false)
 
 -- the end that a datagram from there asks for, or none where the port opens none
-abbrev pub IsWanted : PlayedServer → Endpoint → List ℕ → Option Served → Type 0
-IsWanted server from bytes wanted =
-    IsRequested server.store.files bytes wanted ⊎ ((wanted ≡ None) × OpensNone server from bytes)
+abbrev pub IsAdmitted : PlayedServer → Endpoint → List ℕ → Option Served → Type 0
+IsAdmitted server from bytes admitted =
+    IsRequested server.store.files bytes admitted ⊎ ((admitted ≡ None) × OpensNone server from bytes)

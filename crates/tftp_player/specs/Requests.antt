@@ -43,7 +43,7 @@ service w repeated bytes decoded = served w (asks w.cap (open_transfers w.ends) 
 -- an end of the server was asked for from there by a datagram that spells this packet
 pub record WasAskedBy (from : Endpoint) (packet : Packet) (x : OpenEnd) : Type 0 where
   pub server : is_client x.state.role.side ≡ false
-  pub peer : peer_of x.state.progress.phase ≡ Some from
+  pub peer : peer_of x.state.position.phase ≡ Some from
   pub same : Spells packet x.request
 
 -- it is open

@@ -40,7 +40,7 @@ pub record ServedKept (port : ℕ) (s : Served) (held : List (ℕ × Transfer)) 
   pub is_open : server.is_closed transfer ≡ false
   pub side : is_client transfer.end.role.side ≡ false
   pub files : AreFilesOf transfer.end.role.side transfer.files
-  pub commits : CommitsLast transfer.files transfer.end.progress.phase
+  pub commits : CommitsLast transfer.files transfer.end.position.phase
   pub mode : transfer.end.role.mode ≡ s.mode
   pub path : transfer.path ≡ s.path
 
@@ -59,8 +59,8 @@ pub record ServedTurns (port : ℕ) (old new : Served) (before after : PlayedSer
   pub end : next.end ≡ after_turn e turn
   pub effects : effect ≡ effect_of (server_at port) turn
   pub recorded : r ≡ record_of (after_turn e turn)
-  pub served : new ≡ concluded_served (is_some (outcome_of turn.progress.phase)) r (draft_of next.files) (record old { refuses = refuses })
-  pub server : after ≡ record before { store = store; held = concluded_held (is_some (outcome_of turn.progress.phase)) port (with_next port next before.held) }
+  pub served : new ≡ concluded_served (is_some (outcome_of turn.position.phase)) r (draft_of next.files) (record old { refuses = refuses })
+  pub server : after ≡ record before { store = store; held = concluded_held (is_some (outcome_of turn.position.phase)) port (with_next port next before.held) }
 
 -- a timeout did
 abbrev pub ServedTimeoutStep : ℕ → Served → Served → PlayedServer → PlayedServer → Effect → Record → Type 0
@@ -85,7 +85,7 @@ pub record ServedDatagramStep (port : ℕ) (from : Endpoint) (bytes : List ℕ) 
 -- how the transfer has closed, as its step told
 abbrev pub ClosesAs : Option Outcome → Option Transfer → Type 0
 ClosesAs closed None = ⊥
-ClosesAs closed (Some h) = closed ≡ outcome_of h.end.progress.phase
+ClosesAs closed (Some h) = closed ≡ outcome_of h.end.position.phase
 
 -- it was taken out with its record and its draft, if it has closed
 abbrev pub Concludes : ℕ → Option Transfer → Served → Served → PlayedServer → PlayedServer → Type 0

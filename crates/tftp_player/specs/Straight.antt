@@ -49,10 +49,10 @@ AllTaken (report ∷ reports) = TookAll report.closed × AllTaken reports
 -- the server's port comes to this at the request of the client x
 pub record IsAccepted (w : WorldState) (x : OpenEnd) (accepts : Service) : Type 0 where
   pub decoded : Option Packet
-  pub says : Decodes x.state.progress.last_sent decoded
+  pub says : Decodes x.state.position.last_sent decoded
   pub repeated : Bool
   pub repeats : IsRepeated repeated x.address decoded w.ends
-  pub is : service w repeated x.state.progress.last_sent decoded ≡ accepts
+  pub is : service w repeated x.state.position.last_sent decoded ≡ accepts
 
 -- the client takes the answer: without an option, or by an OACK that fits what it asked (RFC 2347, "Negotiation Protocol")
 abbrev pub TakesAnswer : Asked → Kind → Mode → ℕ → List Known → Type 0

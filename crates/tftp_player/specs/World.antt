@@ -36,7 +36,7 @@ abbrev pub in_the_way : Bool → Option (List ℕ) → Option (List ℕ)
 in_the_way true there = None
 in_the_way false there = there
 
--- an open end: what it is and how far it came, and the file that it sends or receives
+-- an open end: its role and its position, and the file that it sends or receives
 pub record OpenEnd : Type 0 where
   pub address : Endpoint
   pub state : EndState
@@ -195,7 +195,7 @@ by_outcome (Some outcome) x = Closed_end (closed_end x)
 
 -- the end as it stands after a turn: open, or closed with its record
 abbrev pub standing : OpenEnd → WorldEnd
-standing x = by_outcome (outcome_of x.state.progress.phase) x
+standing x = by_outcome (outcome_of x.state.position.phase) x
 
 -- the end has committed what it stored, and had not before
 abbrev pub has_committed : OpenEnd → OpenEnd → Bool
@@ -223,7 +223,7 @@ closed_at at (Some outcome) = Some (at.port, outcome)
 -- what is reported of a turn of an open end
 abbrev pub report_of : WorldState → OpenEnd → Turn → Report
 report_of w x turn =
-    record { added = added_at w turn.reply; closed = closed_at x.address (outcome_of turn.progress.phase) }
+    record { added = added_at w turn.reply; closed = closed_at x.address (outcome_of turn.position.phase) }
 
 -- nothing was sent, and no end closed
 abbrev pub no_report : Report
@@ -232,7 +232,7 @@ no_report = record { added = None; closed = None }
 -- the world, after an end opened and sent its first datagram
 abbrev pub opened_in : WorldState → OpenEnd → WorldState
 opened_in w x =
-    record w { sent = w.sent ++ datagram x.address x.state.progress.last_sent_to x.state.progress.last_sent ∷ []; ends = w.ends ++ Open_end x ∷ [] }
+    record w { sent = w.sent ++ datagram x.address x.state.position.last_sent_to x.state.position.last_sent ∷ []; ends = w.ends ++ Open_end x ∷ [] }
 
 -- a datagram was sent, and no end changed
 abbrev pub said_in : WorldState → Datagram → WorldState
@@ -253,7 +253,7 @@ goes_on (Closed terms number complete outcome) = false
 -- what a receiver has of its peer's text: what it stored, as it travels, and the text held back
 abbrev pub received_text : OpenEnd → List ℕ
 received_text x =
-    if goes_on x.state.progress.phase then wire_text x.state.role.mode x.stored ++ x.state.progress.held else wire_text x.state.role.mode x.stored
+    if goes_on x.state.position.phase then wire_text x.state.role.mode x.stored ++ x.state.position.held else wire_text x.state.role.mode x.stored
 
 -- a sender's text, or what a receiver has of its peer's
 abbrev pub text_of : OpenEnd → List ℕ

@@ -33,19 +33,19 @@ pub record IsUnderWay (x : OpenEnd) (terms : Terms) (number : ℕ) : Type 0 wher
   pub fits : Fits (sent_text x) terms.size
   pub so_far : number ≤ block_count (sent_text x) terms.size
   pub left : x.left ≡ drop (number * terms.size) (sent_text x)
-  pub last_sent_to : x.state.progress.last_sent_to ≡ terms.peer
+  pub last_sent_to : x.state.position.last_sent_to ≡ terms.peer
   -- its file is as long as it was measured
   pub measured : x.state.role.length ≡ length (sent_text x)
 
 -- what holds of an end in this phase
 abbrev pub PhaseKept : OpenEnd → Phase → Type 0
 PhaseKept x (Waiting asked limit) =
-    (is_client x.state.role.side ≡ true) × IsAskable asked × (x.state.progress.last_sent_to ≡ request_port) × (x.left ≡ sent_text x)
-    × (is_sender x.state.role.side ≡ false → x.state.progress.held ≡ [])
+    (is_client x.state.role.side ≡ true) × IsAskable asked × (x.state.position.last_sent_to ≡ request_port) × (x.left ≡ sent_text x)
+    × (is_sender x.state.role.side ≡ false → x.state.position.held ≡ [])
     × (is_sender x.state.role.side ≡ true → x.state.role.length ≡ length (sent_text x))
 PhaseKept x (Sending terms number) = IsUnderWay x terms number
-PhaseKept x (Receiving terms number) = (is_sender x.state.role.side ≡ false) × (x.state.progress.last_sent_to ≡ terms.peer)
-PhaseKept x (Dallying terms number dally) = (is_sender x.state.role.side ≡ false) × (x.state.progress.last_sent_to ≡ terms.peer)
+PhaseKept x (Receiving terms number) = (is_sender x.state.role.side ≡ false) × (x.state.position.last_sent_to ≡ terms.peer)
+PhaseKept x (Dallying terms number dally) = (is_sender x.state.role.side ≡ false) × (x.state.position.last_sent_to ≡ terms.peer)
 PhaseKept x (Closed terms number complete outcome) = Unit {0}
 
 -- in octet no text is held back
@@ -55,17 +55,17 @@ HeldFits Netascii held = Unit {0}
 
 -- what holds of an end, whatever was sent
 pub record EndKept (x : OpenEnd) : Type 0 where
-  pub phase : PhaseKept x x.state.progress.phase
-  pub held : HeldFits x.state.role.mode x.state.progress.held
+  pub phase : PhaseKept x x.state.position.phase
+  pub held : HeldFits x.state.role.mode x.state.position.held
   -- a receiver has committed what it stored exactly if it is complete
-  pub committed : is_sender x.state.role.side ≡ false → x.committed ≡ is_complete x.state.progress.phase
+  pub committed : is_sender x.state.role.side ≡ false → x.committed ≡ is_complete x.state.position.phase
 
 -- what holds of an open end in its world
 pub record IsOpenIn (w : WorldState) (x : OpenEnd) : Type 0 where
-  pub still : outcome_of x.state.progress.phase ≡ None
+  pub still : outcome_of x.state.position.phase ≡ None
   pub kept : EndKept x
   -- its last datagram was sent
-  pub last_sent : Contains w.sent (datagram x.address x.state.progress.last_sent_to x.state.progress.last_sent)
+  pub last_sent : Contains w.sent (datagram x.address x.state.position.last_sent_to x.state.position.last_sent)
 
 -- a closed receiver has committed what it stored exactly if it is complete
 abbrev pub ClosedKept : ClosedEnd → Type 0

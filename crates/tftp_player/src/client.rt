@@ -138,7 +138,7 @@ impl Client {
         from: Endpoint,
         bytes: &[u8],
     ) -> Result<(Effect, Record), WorldFault>
-        requires { is_some (outcome_of self.old.end.progress.phase) ≡ false }
+        requires { is_some (outcome_of self.old.end.position.phase) ≡ false }
         ensures steps { IfOk result (λ r.
             ClientDatagramStep port from bytes.now self.old self.new r.0 r.1) }
         ensures memory { IfErr result (λ fault. fault ≡ WorldFault.Memory) }
@@ -158,7 +158,7 @@ impl Client {
         alloc: Global,
         port: u16,
     ) -> Result<(Effect, Record), WorldFault>
-        requires { is_some (outcome_of self.old.end.progress.phase) ≡ false }
+        requires { is_some (outcome_of self.old.end.position.phase) ≡ false }
         ensures turns { IfOk result (λ r.
             ClientTurns port self.old self.new (timeout_turn self.old.end) self.old.files r.0 r.1) }
         ensures memory { IfErr result (λ fault. fault ≡ WorldFault.Memory) }

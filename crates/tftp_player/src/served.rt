@@ -3,7 +3,7 @@
 ghost use Rattle.std.specs.Prelude.{◌≡◌, false, Some, Ok, option_copied, option_map, IfOk, IfErr, OnErr};
 ghost use Rattle.tftp_wire.specs.Borrowed.{owned};
 ghost use Rattle.tftp_file.specs.Path.{path_of_name};
-ghost use Rattle.tftp_player.specs.Requested.{IsRequested, IsWanted, new_served, receiver_at, requested_by, sender_at};
+ghost use Rattle.tftp_player.specs.Requested.{IsRequested, IsAdmitted, new_served, receiver_at, requested_by, sender_at};
 ghost use Rattle.tftp_ends.specs.Step.{timeout_turn};
 ghost use Rattle.tftp_server.specs.State.{at};
 ghost use Rattle.tftp_player.specs.Played.{IsServed, draft_or_new, served_draft, told_served_end};
@@ -170,13 +170,13 @@ impl Served {
 
 /// What a datagram to the request port asks for, where the port's tests that ask no store let it
 /// pass: only then the file is looked up.
-pub(crate) fn wanted_end(
+pub(crate) fn admitted_end(
     alloc: Global,
     server: &Server<MemStore>,
     from: Endpoint,
     bytes: &[u8],
 ) -> Result<Option<Served>, WorldFault>
-    ensures { IfOk result (IsWanted server.now from bytes.now) }
+    ensures { IfOk result (IsAdmitted server.now from bytes.now) }
 {
     match server.may_open(from, bytes) {
         Ok(true) => requested_end(alloc, server.store(), bytes),

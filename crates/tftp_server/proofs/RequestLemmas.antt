@@ -196,7 +196,7 @@ module _ {S F D : Type 0} (meaning : StoreMeaning S D) (sources : SourceMeaning 
         Written tid was out (record { tid = Some tid; to = Some from })
     write_opened tid was out d transfer is put asks sent = (
       A_transfer transfer after.store,
-      transfer.end.progress.last_sent,
+      transfer.end.position.last_sent,
       asked_apart (A_transfer transfer after.store) (subst (λ (x : Decision F D). AsksToWrite meaning sources (before_write none) from bytes path mode agreed (came_to x after.store)) is asks),
       sent ∙ ap (λ (x : Decision F D). was ++ decided_bytes x) is,
       rw (config_kept, store_kept, put) refl,

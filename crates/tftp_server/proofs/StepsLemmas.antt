@@ -112,11 +112,11 @@ module _ {F D : Type 0} where
       by true h = absurd (different {R = R} fault memory (closed.1 h))
       by false h = refl
 
-  pub timeout_fault : (transfer : Option (Held F D)) (held : Held F D) (fault : EndFault) (server : ServerFault) → transfer ≡ Some held → server ≡ of_end fault → (IsErrOf {T = Step} (Err fault) ends.Closed ↔ (is_closed held ≡ true)) → (IsErrOf {T = Step} (Err fault) ends.Memory → IsAnswered (timeout_action held.end.progress.retries_left held.end.progress.phase)) → TimeoutFault transfer server
+  pub timeout_fault : (transfer : Option (Held F D)) (held : Held F D) (fault : EndFault) (server : ServerFault) → transfer ≡ Some held → server ≡ of_end fault → (IsErrOf {T = Step} (Err fault) ends.Closed ↔ (is_closed held ≡ true)) → (IsErrOf {T = Step} (Err fault) ends.Memory → IsAnswered (timeout_action held.end.position.retries_left held.end.position.phase)) → TimeoutFault transfer server
   timeout_fault transfer held fault server there same closed memory =
       subst (λ (t : Option (Held F D)). TimeoutFault t server) (sym there) (subst (λ (f : ServerFault). TimeoutFault (Some held) f) (sym same) (by fault closed memory))
     where
-      by : (f : EndFault) → (IsErrOf {T = Step} (Err f) ends.Closed ↔ (is_closed held ≡ true)) → (IsErrOf {T = Step} (Err f) ends.Memory → IsAnswered (timeout_action held.end.progress.retries_left held.end.progress.phase)) → TimeoutFault (Some held) (of_end f)
+      by : (f : EndFault) → (IsErrOf {T = Step} (Err f) ends.Closed ↔ (is_closed held ≡ true)) → (IsErrOf {T = Step} (Err f) ends.Memory → IsAnswered (timeout_action held.end.position.retries_left held.end.position.phase)) → TimeoutFault (Some held) (of_end f)
       by ends.Closed c m = ap not (c.0 refl)
       by ends.Memory c m = (open_unless_closed {R = Step} held ends.Memory c refl, m refl)
 

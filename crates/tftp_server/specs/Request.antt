@@ -65,7 +65,7 @@ module _ {S F D : Type 0} where
       record {
         new = record old { store = store; held = with_new tid held old.held };
         opened = record { tid = Some tid; to = Some from };
-        sent = held.end.progress.last_sent;
+        sent = held.end.position.last_sent;
       }
 
 module _ {S F D : Type 0} (meaning : StoreMeaning S D) (sources : SourceMeaning F) (old : ServerState S F D) (from : Endpoint) (bytes : List ℕ) where
@@ -154,4 +154,4 @@ came_to (Open held) store = A_transfer held store
 -- what a decision has sent so far
 abbrev pub decided_bytes : {F D : Type 0} → Decision F D → List ℕ
 decided_bytes (Refuse reply) = []
-decided_bytes (Open held) = held.end.progress.last_sent
+decided_bytes (Open held) = held.end.position.last_sent

@@ -28,7 +28,7 @@ pub record ServerState (S F D : Type 0) : Type 0 where
 module _ {F D : Type 0} where
   -- the transfer has closed
   abbrev pub is_closed : Held F D → Bool
-  is_closed held = is_some (outcome_of held.end.progress.phase)
+  is_closed held = is_some (outcome_of held.end.position.phase)
 
   -- there is a transfer, and it has not closed
   abbrev pub is_open : Option (Held F D) → Bool

@@ -62,7 +62,7 @@ module _ {F D : Type 0} where
   -- why a timeout was not taken: there is no open transfer, or there is no memory for its datagram
   abbrev pub TimeoutFault : Option (Held F D) → ServerFault → Type 0
   TimeoutFault transfer NoSuchTid = is_open transfer ≡ false
-  TimeoutFault (Some held) Memory = (is_closed held ≡ false) × IsAnswered (timeout_action held.end.progress.retries_left held.end.progress.phase)
+  TimeoutFault (Some held) Memory = (is_closed held ≡ false) × IsAnswered (timeout_action held.end.position.retries_left held.end.position.phase)
   TimeoutFault transfer _ = ⊥
 
   -- why a datagram was not taken: there is no open transfer, or no memory for an action of this kind

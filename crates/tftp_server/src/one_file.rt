@@ -23,7 +23,7 @@ pub(crate) fn on_datagram_of_source<S: Source, K: Sink>(
     ensures steps { IfOk result (MakesStep S.meaning K.meaning
         (appends out.old.items out.new.items) from bytes.now end.old end.new
         (Files.Source source.old) (Files.Source source.new)) }
-    ensures closed { IsErrOf result EndFault.Closed ↔ IsSome (outcome_of end.old.progress.phase) }
+    ensures closed { IsErrOf result EndFault.Closed ↔ IsSome (outcome_of end.old.position.phase) }
     ensures memory { IsErrOf result EndFault.Memory → (decoded : Option Packet)
         × Decodes bytes.now decoded × IsAnswered (datagram_action end.old from bytes.now decoded) }
     ensures err { OnErr result ((end.new ≡ end.old) × (out.new.items ≡ out.old.items)
@@ -50,7 +50,7 @@ pub(crate) fn on_datagram_of_sink<S: Source, K: Sink>(
     ensures steps { IfOk result (MakesStep S.meaning K.meaning
         (appends out.old.items out.new.items) from bytes.now end.old end.new
         (Files.Sink sink.old) (Files.Sink sink.new)) }
-    ensures closed { IsErrOf result EndFault.Closed ↔ IsSome (outcome_of end.old.progress.phase) }
+    ensures closed { IsErrOf result EndFault.Closed ↔ IsSome (outcome_of end.old.position.phase) }
     ensures memory { IsErrOf result EndFault.Memory → (decoded : Option Packet)
         × Decodes bytes.now decoded × IsAnswered (datagram_action end.old from bytes.now decoded) }
     ensures err { OnErr result ((end.new ≡ end.old) × (out.new.items ≡ out.old.items)
@@ -77,7 +77,7 @@ pub(crate) fn handle_datagram_of_source<S: Source, K: Sink>(
     ensures steps { IfOk result (λ answer. MakesStep S.meaning K.meaning
         (lends answer.1) from bytes.now end.old end.new
         (Files.Source source.old) (Files.Source source.new) answer.0) }
-    ensures closed { IsErrOf result EndFault.Closed ↔ IsSome (outcome_of end.old.progress.phase) }
+    ensures closed { IsErrOf result EndFault.Closed ↔ IsSome (outcome_of end.old.position.phase) }
     ensures memory { IsErrOf result EndFault.Memory → (decoded : Option Packet)
         × Decodes bytes.now decoded × UsesFile (datagram_action end.old from bytes.now decoded) }
     ensures err { OnErr result ((end.new ≡ end.old)
@@ -103,7 +103,7 @@ pub(crate) fn handle_datagram_of_sink<S: Source, K: Sink>(
     ensures steps { IfOk result (λ answer. MakesStep S.meaning K.meaning
         (lends answer.1) from bytes.now end.old end.new
         (Files.Sink sink.old) (Files.Sink sink.new) answer.0) }
-    ensures closed { IsErrOf result EndFault.Closed ↔ IsSome (outcome_of end.old.progress.phase) }
+    ensures closed { IsErrOf result EndFault.Closed ↔ IsSome (outcome_of end.old.position.phase) }
     ensures memory { IsErrOf result EndFault.Memory → (decoded : Option Packet)
         × Decodes bytes.now decoded × UsesFile (datagram_action end.old from bytes.now decoded) }
     ensures err { OnErr result ((end.new ≡ end.old)

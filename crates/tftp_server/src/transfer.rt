@@ -109,8 +109,8 @@ impl<F, D> Transfer<F, D> {
             × (self.new ≡ with_end self.new.end self.old)) }
         ensures closed { IsErrOf result EndFault.Closed ↔ (is_closed self.old ≡ true) }
         ensures memory { IsErrOf result EndFault.Memory
-            → IsAnswered (timeout_action self.old.end.progress.retries_left
-            self.old.end.progress.phase) }
+            → IsAnswered (timeout_action self.old.end.position.retries_left
+            self.old.end.position.phase) }
         ensures err { OnErr result ((self.new ≡ self.old) × (out.new.items ≡ out.old.items)) }
     {
         self.end.on_timeout(out)

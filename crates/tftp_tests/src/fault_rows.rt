@@ -91,7 +91,7 @@ fn one_call_is_refused(rt: HostRuntime) -> Result<(), Fail> {
     Ok(())
 }
 
-/// Three calls write the file. The fourth begins another draft, and hears the store's own fault
+/// Three calls write the file. The fourth begins another draft, and gets the store's own fault
 /// before that there is the file.
 #[test]
 fn the_calls_before_it_are_passed_on(rt: HostRuntime) -> Result<(), Fail> {

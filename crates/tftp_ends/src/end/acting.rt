@@ -2,7 +2,7 @@
 
 ghost use Rattle.std.specs.Prelude.{◌≡◌, ◌≤◌, drop, length, OnErr, IfOk};
 ghost use Rattle.tftp_ends.specs.Files.{AreFilesOf, KeepsFiles, AreSame};
-ghost use Rattle.tftp_ends.specs.Step.{Turn, Acts, Lends, UsesFile, ack_bytes, having_sent, in_phase, response_turn, with_progress, room_of, response_room, lent};
+ghost use Rattle.tftp_ends.specs.Step.{Turn, Acts, Lends, UsesFile, ack_bytes, having_sent, in_phase, response_turn, with_position, room_of, response_room, lent};
 ghost use Rattle.tftp_ends.specs.End.{number_of, terms_of};
 ghost use Rattle.tftp_ends.specs.Sound.{PhaseFits, ActionFits, PieceFits, RefusalFits, SentFits, ResponseFits, ResendsAck};
 
@@ -34,7 +34,7 @@ impl End {
         requires fits { PhaseFits self.old phase }
         requires resends { ResendsAck self.old phase }
         requires sent { SentFits self.old (terms_of phase) }
-        ensures { self.new ≡ with_progress (in_phase phase self.old) self.old }
+        ensures { self.new ≡ with_position (in_phase phase self.old) self.old }
     {
         self.retries_left = self
             .phase
@@ -45,7 +45,7 @@ impl End {
     /// Goes into a phase and acknowledges its block. It takes no memory.
     pub(crate) fn acknowledge(&mut self, phase: Phase, from: Endpoint) -> Outgoing
         requires { PhaseFits self.old phase }
-        ensures state { self.new ≡ with_progress (having_sent
+        ensures state { self.new ≡ with_position (having_sent
             (record { to = from; bytes = ack_bytes (number_of phase) }) (in_phase phase self.old))
             self.old }
         ensures sent { result ≡ Outgoing.LastSent }

@@ -68,7 +68,7 @@ impl End {
         requires { AreFilesOf Side.ServerRead files.old }
         ensures serves { IfOk result (λ opened.
             ServesFiles S.meaning agreed.now peer mode length retries files.old files.new opened.0
-            × (out.new.items ≡ out.old.items ++ opened.0.progress.last_sent)) }
+            × (out.new.items ≡ out.old.items ++ opened.0.position.last_sent)) }
         ensures step { IfOk result (λ opened. opened.1 ≡ opening_step peer) }
         ensures ok { OnOk result (length < 65535 * size agreed.now) }
         ensures bad_request { IsErrOf result OpenFault.BadRequest → ⊥ }
@@ -105,7 +105,7 @@ impl End {
         requires fits { length < 65535 * DEFAULT_BLOCK }
         ensures serves { IfOk result (λ opened.
             ServesFiles S.meaning [] peer mode length retries files.old files.new opened.0
-            × (out.new.items ≡ out.old.items ++ opened.0.progress.last_sent)) }
+            × (out.new.items ≡ out.old.items ++ opened.0.position.last_sent)) }
         ensures step { IfOk result (λ opened. opened.1 ≡ opening_step peer) }
         ensures source { IsErrOf result OpenFault.SourceFault
             → FilesCannotStart S.meaning length files.old }
@@ -192,7 +192,7 @@ impl End {
         out: &mut Vec<u8>,
     ) -> Result<(End, Step), OpenFault>
         ensures end { IfOk result (λ opened. (opened.0 ≡ serving_write agreed.now peer mode retries)
-            × (out.new.items ≡ out.old.items ++ opened.0.progress.last_sent)) }
+            × (out.new.items ≡ out.old.items ++ opened.0.position.last_sent)) }
         ensures step { IfOk result (λ opened. opened.1 ≡ opening_step peer) }
         ensures err { IfErr result (λ fault. (fault ≡ OpenFault.Memory)
             × (out.new.items ≡ out.old.items)) }

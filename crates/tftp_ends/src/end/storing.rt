@@ -153,7 +153,7 @@ impl End {
     ) -> Result<Outgoing, AllocError>
         requires receiver { is_sender self.old.role.side ≡ false }
         requires sent { SentFits self.old (Some terms) }
-        requires reads { is_readable self.old.role.mode self.old.progress.held piece.now
+        requires reads { is_readable self.old.role.mode self.old.position.held piece.now
             (nat_lt (length piece.now) terms.size) ≡ true }
         ensures stores { IfOk result (λ outgoing. (turn : Turn)
             × Stores K.meaning terms number from piece.now self.old sink.old turn sink.new

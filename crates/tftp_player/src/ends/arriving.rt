@@ -11,7 +11,7 @@ use crate::effect::{Effect, no_effect};
 use crate::ends::{Ends, is_recorded_closed};
 use crate::hosts::{REQUEST_PORT, server_at};
 use crate::player::Player;
-use crate::served::wanted_end;
+use crate::served::admitted_end;
 use tftp_ends::Endpoint;
 use tftp_wire::Bytes;
 
@@ -111,7 +111,7 @@ impl Ends {
         let Ok(()) = self.records.reserve(1) else {
             return Err(WorldFault::Memory);
         };
-        let Ok(wanted) = wanted_end(self.alloc, &self.server, from, bytes) else {
+        let Ok(admitted) = admitted_end(self.alloc, &self.server, from, bytes) else {
             return Err(WorldFault::Memory);
         };
         let mut out = Vec::new(self.alloc);
@@ -126,7 +126,9 @@ impl Ends {
                 closed: None,
             });
         };
-        let Some(served) = wanted else { unreachable!() };
+        let Some(served) = admitted else {
+            unreachable!()
+        };
         let Some(record) = self.server.record(port) else {
             unreachable!()
         };

@@ -158,7 +158,7 @@ fn serve_source<F: Source + Drop>(
 ) -> Result<(End, F), OpenFault>
     ensures serves { IfOk result (λ opened. ServesRead F.meaning agreed.now peer mode length
         retries source opened.1 opened.0
-        × (out.new.items ≡ out.old.items ++ opened.0.progress.last_sent)) }
+        × (out.new.items ≡ out.old.items ++ opened.0.position.last_sent)) }
     ensures sends { IfOk result (λ opened. is_sender opened.0.role.side ≡ true) }
     ensures ok { OnOk result (length < 65535 * size agreed.now) }
     ensures bad_request { IsErrOf result OpenFault.BadRequest → ⊥ }
@@ -194,7 +194,7 @@ fn prepare(
     out: &mut Vec<u8>,
 ) -> Result<(End, Vec<u8>), AllocError>
     ensures end { IfOk result (λ made. (made.0 ≡ serving_write agreed.now from mode retries)
-        × (out.new.items ≡ out.old.items ++ made.0.progress.last_sent)) }
+        × (out.new.items ≡ out.old.items ++ made.0.position.last_sent)) }
     ensures request { IfOk result (λ made. made.1.items ≡ bytes.now) }
     ensures room { OnOk result (length out.old.items + MAX_ERROR ≤ vec_capacity out.new) }
     ensures err { OnErr result (out.new.items ≡ out.old.items) }

@@ -3,7 +3,7 @@ use Rattle.std.proofs.Common.{◌≡◌, ◌∙◌, ap, Some, rules}
 use Rattle.tftp_ends.specs.declared.outcome.Outcome.TheVariants as outcomes
 use Rattle.tftp_ends.specs.End.{EndState}
 use Rattle.tftp_ends.specs.Phase.{refused}
-use Rattle.tftp_ends.specs.Step.{holding, in_phase, with_progress}
+use Rattle.tftp_ends.specs.Step.{holding, in_phase, with_position}
 use Rattle.tftp_ends.proofs.Storing.{stored_more, stored_all, stored_not, not_committed}
 use Rattle.tftp_ends.proofs.end.End.store.Goals as goal
 
@@ -27,7 +27,7 @@ returns-in-Refused-clause-stores g c =
 pub returns-in-Uncommitted-clause-stores : goal.returns-in-Uncommitted-clause-stores
 returns-in-Uncommitted-clause-stores g c =
     let takes = rw (c.in-Uncommitted.is, c.from.ensures) at c.in_ok-stored.ensures.takes in
-    let e : EndState = record { role = c.self.inside.role; progress = record { retries_left = c.self.inside.retries_left; last_sent = c.self.inside.last_sent.items; last_sent_to = c.self.inside.last_sent_to; held = c.self.inside.decoder; phase = c.self.inside.phase } } in
-    let closes : c.go_into-in-Uncommitted-2.new.self ≡ with_progress (in_phase (refused (Some c.args.terms) outcomes.StoreFault e.progress.phase) e) e = search rules in
+    let e : EndState = record { role = c.self.inside.role; position = record { retries_left = c.self.inside.retries_left; last_sent = c.self.inside.last_sent.items; last_sent_to = c.self.inside.last_sent_to; held = c.self.inside.decoder; phase = c.self.inside.phase } } in
+    let closes : c.go_into-in-Uncommitted-2.new.self ≡ with_position (in_phase (refused (Some c.args.terms) outcomes.StoreFault e.position.phase) e) e = search rules in
     rw (← c.self.view_is)
     (not_committed _ _ _ _ _ _ _ _ _ c.in-Uncommitted.reply takes _ (ap (λ (x : EndState). holding c.in_ok-stored.behind x) (c.self-in-Uncommitted.view_is ∙ closes)))

@@ -30,24 +30,24 @@ pub unreachable-requires : goal.unreachable-requires
 unreachable-requires c =
     let range : (k : ℕ) → get_or c.args.bytes.now k 0 < 256 = λ k. omega (arith, c.type_inv.bytes k) in
     opened_requested c.args.from c.args.bytes.now c.args.self.now.server c.args.self.now.players.items c.args.self.now.records.items _ c.in-Some.port c.requires.staged c.requires.block refl c.in-Some.ensures.some c.in-Some.ensures.fits range
-    c.on_request.new.self c.in-Ok-on_request.opened c.in-Ok-on_request.ensures.steps.0 c.in-Ok-on_request.ensures.steps.2 c.in-Some-tid.field-0 c.in-Some-tid.is c.in-Ok-wanted_end.wanted c.in-Ok-wanted_end.ensures c.in_default-wanted.is
+    c.on_request.new.self c.in-Ok-on_request.opened c.in-Ok-on_request.ensures.steps.0 c.in-Ok-on_request.ensures.steps.2 c.in-Some-tid.field-0 c.in-Some-tid.is c.in-Ok-admitted_end.admitted c.in-Ok-admitted_end.ensures c.in_default-admitted.is
 
 pub unreachable-requires-in_default-record : goal.unreachable-requires-in_default-record
 unreachable-requires-in_default-record c =
     let range : (k : ℕ) → get_or c.args.bytes.now k 0 < 256 = λ k. omega (arith, c.type_inv.bytes k) in
     opened_recorded c.args.from c.args.bytes.now c.args.self.now.server c.args.self.now.players.items c.args.self.now.records.items _ c.in-Some.port c.requires.staged c.requires.block refl c.in-Some.ensures.some c.in-Some.ensures.fits range
-    c.on_request.new.self c.in-Ok-on_request.opened c.in-Ok-on_request.ensures.steps.0 c.in-Ok-on_request.ensures.steps.2 c.in-Some-tid.field-0 c.in-Some-tid.is c.in-Ok-wanted_end.wanted c.in-Ok-wanted_end.ensures c.record.result c.record.ensures c.in_default-record.is
+    c.on_request.new.self c.in-Ok-on_request.opened c.in-Ok-on_request.ensures.steps.0 c.in-Ok-on_request.ensures.steps.2 c.in-Some-tid.field-0 c.in-Some-tid.is c.in-Ok-admitted_end.admitted c.in-Ok-admitted_end.ensures c.record.result c.record.ensures c.in_default-record.is
 
 pub returns-clause-staged : goal.returns-clause-staged
 returns-clause-staged c =
     let range : (k : ℕ) → get_or c.args.bytes.now k 0 < 256 = λ k. omega (arith, c.type_inv.bytes k) in
     opened_staged c.args.from c.args.bytes.now c.args.self.now.server c.args.self.now.players.items c.args.self.now.records.items _ c.in-Some.port c.requires.staged c.requires.block refl c.in-Some.ensures.some c.in-Some.ensures.fits range
-    c.on_request.new.self c.in-Ok-on_request.opened c.in-Ok-on_request.ensures.steps.0 c.in-Ok-on_request.ensures.steps.2 c.in-Some-tid.field-0 c.in-Some-tid.is c.in-Ok-wanted_end.wanted c.in-Ok-wanted_end.ensures
-    c.in-Some-wanted.served c.in-Some-record.record c.reserve.new.self.items _ c.reserve-2.new.self.items _ c.in-Some-wanted.is (sym c.in-Some-record.is ∙ c.record.ensures) c.in-Ok.ensures.items c.push_reserved-2.ensures.items c.in-Ok-reserve.ensures.items c.push_reserved.ensures.items
+    c.on_request.new.self c.in-Ok-on_request.opened c.in-Ok-on_request.ensures.steps.0 c.in-Ok-on_request.ensures.steps.2 c.in-Some-tid.field-0 c.in-Some-tid.is c.in-Ok-admitted_end.admitted c.in-Ok-admitted_end.ensures
+    c.in-Some-admitted.served c.in-Some-record.record c.reserve.new.self.items _ c.reserve-2.new.self.items _ c.in-Some-admitted.is (sym c.in-Some-record.is ∙ c.record.ensures) c.in-Ok.ensures.items c.push_reserved-2.ensures.items c.in-Ok-reserve.ensures.items c.push_reserved.ensures.items
 
 pub returns-clause-asks : goal.returns-clause-asks
 returns-clause-asks c =
     let range : (k : ℕ) → get_or c.args.bytes.now k 0 < 256 = λ k. omega (arith, c.type_inv.bytes k) in
     opened_asks c.args.from c.args.bytes.now c.args.self.now.server c.args.self.now.players.items c.args.self.now.records.items _ c.in-Some.port c.requires.staged c.requires.block refl c.in-Some.ensures.some c.in-Some.ensures.fits range
-    c.on_request.new.self c.in-Ok-on_request.opened c.in-Ok-on_request.ensures.steps.0 c.in-Ok-on_request.ensures.steps.2 c.in-Some-tid.field-0 c.in-Some-tid.is c.in-Ok-wanted_end.wanted c.in-Ok-wanted_end.ensures
-    c.in-Some-wanted.served c.server_at.result c.reserve.new.self.items _ c.new-out.result.items _ c.in-Some-wanted.is c.server_at.ensures c.in-Ok.ensures.items c.push_reserved-2.ensures.items c.new-out.ensures.items (c.from-2.ensures ∙ c.in-Ok-on_request.ensures.steps.1)
+    c.on_request.new.self c.in-Ok-on_request.opened c.in-Ok-on_request.ensures.steps.0 c.in-Ok-on_request.ensures.steps.2 c.in-Some-tid.field-0 c.in-Some-tid.is c.in-Ok-admitted_end.admitted c.in-Ok-admitted_end.ensures
+    c.in-Some-admitted.served c.server_at.result c.reserve.new.self.items _ c.new-out.result.items _ c.in-Some-admitted.is c.server_at.ensures c.in-Ok.ensures.items c.push_reserved-2.ensures.items c.new-out.ensures.items (c.from-2.ensures ∙ c.in-Ok-on_request.ensures.steps.1)

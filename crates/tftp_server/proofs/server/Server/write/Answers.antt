@@ -14,7 +14,7 @@ returns-clause-sent g c =
       | in-Ok-begin w ↦ rw (w.result-is, w.out-is, w.new-transfer.ensures) c.in-Ok.ensures.end.1
       | in-Err w ↦
           rw (w.result-is, w.out-is)
-          (refused_bytes (begin_reply w.in-Err.fault) (w.in-Err.fault ≢ Memory) c.args.out.now.items c.in-Ok.end.progress.last_sent c.prepare.new.out.items w.truncate.new.self.items c.len-start.result w.begin_refused.result
+          (refused_bytes (begin_reply w.in-Err.fault) (w.in-Err.fault ≢ Memory) c.args.out.now.items c.in-Ok.end.position.last_sent c.prepare.new.out.items w.truncate.new.self.items c.len-start.result w.begin_refused.result
           start c.in-Ok.ensures.end.1 w.truncate.ensures.items w.begin_refused.ensures.refused)
     ]
 
@@ -27,7 +27,7 @@ returns-clause-err g c =
       | in-Err w ↦
           rw (w.result-is, w.out-is, ← c.self.view_is)
           (nothing_begun g.S.Store.meaning g.S.Source.Source.meaning old c.args.from c.args.bytes.now c.begin.new.self w.in-Err.fault c.args.out.now.items w.truncate.new.self.items w.begin_refused.result w.in-Err.ensures.memory w.begin_refused.ensures.why
-          (cut_on_err c.args.out.now.items c.in-Ok.end.progress.last_sent c.prepare.new.out.items w.truncate.new.self.items c.len-start.result w.begin_refused.result start c.in-Ok.ensures.end.1 w.truncate.ensures.items))
+          (cut_on_err c.args.out.now.items c.in-Ok.end.position.last_sent c.prepare.new.out.items w.truncate.new.self.items c.len-start.result w.begin_refused.result start c.in-Ok.ensures.end.1 w.truncate.ensures.items))
     ]
 
 pub returns-clause-asks : goal.returns-clause-asks
