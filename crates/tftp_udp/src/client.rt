@@ -4,16 +4,22 @@ mod conversation;
 mod failure;
 mod socket;
 
+ghost use Rattle.std.specs.Prelude.{◌≡◌, true, false, IfOk};
+ghost use Rattle.tftp_ends.specs.Files.{AreFilesOf};
+ghost use Rattle.tftp_ends.specs.End.{is_sender};
+
 use crate::client::conversation::Conversation;
 pub(crate) use crate::client::failure::Failure;
 use crate::client::failure::Reason;
 use crate::client::socket::ClientSocket;
 use crate::client_end::ClientEnd;
 use crate::local::{LocalFile, LocalSource, Outbound, read_error};
+use crate::udp::Udp;
 use crate::without_options::fallback;
+use std::alloc::Global;
 use std::io::Read;
-use std::net::Net;
-use std::rt::{Files as FileSystem, Runtime};
+use std::rt::Files as FileSystem;
+use std::time::Clock;
 use tftp_ends::{End, EndConfig, Endpoint, Outcome};
 use tftp_file::{Files, MAX_WIRE};
 use tftp_negotiate::{Asked, Kind, Limits, MAX_BLOCK};
@@ -56,11 +62,12 @@ impl Job<'_> {
 }
 
 /// Transfers a file, and returns its bytes on this host.
-pub(crate) fn transfer<R: Runtime + AllocGlobal + Net>(
+pub(crate) fn transfer<R: FileSystem + Clone + Drop + Udp + Clock + Eprint>(
     rt: &R,
+    alloc: Global,
     job: &Job<'_>,
 ) -> Result<u64, Failure> {
-    let failure = match transfer_once(rt, job) {
+    let failure = match transfer_once(rt, alloc, job) {
         Ok(count) => return Ok(count),
         Err(failure) => failure,
     };
@@ -70,81 +77,187 @@ pub(crate) fn transfer<R: Runtime + AllocGlobal + Net>(
                 asked: Asked::default(),
                 ..*job
             };
-            transfer_once(rt, &plain)
+            transfer_once(rt, alloc, &plain)
         }
         _ => Err(failure),
     }
 }
 
 /// One transfer, on a socket of its own.
-fn transfer_once<R: Runtime + AllocGlobal + Net>(rt: &R, job: &Job<'_>) -> Result<u64, Failure> {
+fn transfer_once<R: FileSystem + Clone + Drop + Udp + Clock + Eprint>(
+    rt: &R,
+    alloc: Global,
+    job: &Job<'_>,
+) -> Result<u64, Failure> {
     match job.kind {
-        Kind::Read => get(rt, job),
-        Kind::Write => put(rt, job),
+        Kind::Read => get(rt, alloc, job),
+        Kind::Write => put(rt, alloc, job),
     }
 }
 
 /// Fetches a file.
-fn get<R: Runtime + AllocGlobal + Net>(rt: &R, job: &Job<'_>) -> Result<u64, Failure> {
-    let alloc = rt.alloc();
-    let system = rt.clone().map_err(|_| Failure::memory())?;
-    let local = LocalFile::create(system, alloc, job.local).map_err(Failure::of_file)?;
-    let socket = ClientSocket::bind(rt).map_err(Failure::of_socket)?;
+fn get<R: FileSystem + Clone + Drop + Udp + Clock + Eprint>(
+    rt: &R,
+    alloc: Global,
+    job: &Job<'_>,
+) -> Result<u64, Failure> {
+    match create_local(rt, alloc, job.local) {
+        Ok(local) => get_into(rt, alloc, job, local),
+        Err(failure) => Err(failure),
+    }
+}
+
+/// The local file of one that is fetched.
+fn create_local<R: FileSystem + Clone + Drop>(
+    rt: &R,
+    alloc: Global,
+    path: &str,
+) -> Result<LocalFile<R>, Failure> {
+    let Ok(system) = rt.clone() else {
+        return Err(Failure::memory());
+    };
+    match LocalFile::create(system, alloc, path) {
+        Ok(local) => Ok(local),
+        Err(error) => Err(Failure::of_file(error)),
+    }
+}
+
+/// Fetches a file into the local one.
+fn get_into<N: Udp + Clock + Eprint, R: FileSystem + Drop>(
+    rt: &N,
+    alloc: Global,
+    job: &Job<'_>,
+    local: LocalFile<R>,
+) -> Result<u64, Failure> {
+    match ask_to_get(rt, alloc, job) {
+        Ok(conversation) => converse(rt, conversation, Files::Sink(local), 0),
+        Err(failure) => Err(failure),
+    }
+}
+
+/// Sends the request for a file.
+fn ask_to_get<N: Udp + Clock>(rt: &N, alloc: Global, job: &Job<'_>) -> Result<Conversation, Failure>
+    ensures { IfOk result (λ conversation. is_sender conversation.end.role.side ≡ false) }
+{
+    let socket = bind_socket(rt)?;
     let mut out = Vec::new(alloc);
-    let name = job.name.as_bytes();
     let opened = End::get(
         alloc,
         job.server,
-        name,
+        job.name.as_bytes(),
         job.mode,
         &job.asked,
         &job.config(),
         &mut out,
     );
-    let (end, step) = opened.map_err(Failure::of_opening)?;
-    socket.send(&step, out.as_slice());
-    let mut conversation = Conversation::new(rt, alloc, socket, end, job.shows_progress, None)?;
-    let mut files: Files<LocalSource<R::File>, LocalFile<R>> = Files::Sink(local);
-    let outcome = conversation.run(rt, &mut files);
-    conversation.finish(rt, stored(&files));
-    ended(outcome, files, 0, conversation.into_peer_reason())
+    match opened {
+        Ok((end, step)) => {
+            socket.send(&step, out.as_slice());
+            begin(rt, alloc, socket, end, job.shows_progress, None)
+        }
+        Err(fault) => Err(Failure::of_opening(fault)),
+    }
+}
+
+/// The socket of a transfer.
+fn bind_socket<N: Udp>(net: &N) -> Result<ClientSocket, Failure> {
+    match ClientSocket::bind(net) {
+        Ok(socket) => Ok(socket),
+        Err(error) => Err(Failure::of_socket(error)),
+    }
+}
+
+/// The conversation of an end whose request was sent.
+fn begin<C: Clock>(
+    clock: &C,
+    alloc: Global,
+    socket: ClientSocket,
+    end: End,
+    shows_progress: bool,
+    total: Option<u64>,
+) -> Result<Conversation, Failure>
+    ensures { IfOk result (λ conversation. conversation.end.role.side ≡ end.role.side) }
+{
+    match Conversation::new(clock, alloc, socket, end, shows_progress, total) {
+        Ok(conversation) => Ok(conversation),
+        Err(_) => Err(Failure::memory()),
+    }
 }
 
 /// Sends a file.
-fn put<R: Runtime + AllocGlobal + Net>(rt: &R, job: &Job<'_>) -> Result<u64, Failure> {
-    let alloc = rt.alloc();
-    let outbound = Outbound::open(rt, alloc, job.local, job.mode).map_err(Failure::of_file)?;
-    let socket = ClientSocket::bind(rt).map_err(Failure::of_socket)?;
-    let length = outbound.wire_bytes;
+fn put<R: FileSystem + Clone + Drop + Udp + Clock + Eprint>(
+    rt: &R,
+    alloc: Global,
+    job: &Job<'_>,
+) -> Result<u64, Failure> {
+    match Outbound::open(rt, alloc, job.local, job.mode) {
+        Ok(outbound) => put_from(rt, alloc, job, outbound),
+        Err(error) => Err(Failure::of_file(error)),
+    }
+}
+
+/// Sends the local file.
+fn put_from<R: FileSystem + Drop + Udp + Clock + Eprint>(
+    rt: &R,
+    alloc: Global,
+    job: &Job<'_>,
+    outbound: Outbound<R::File>,
+) -> Result<u64, Failure> {
+    match ask_to_put(rt, alloc, job, outbound.wire_bytes) {
+        Ok(conversation) => {
+            let files: Files<LocalSource<R::File>, LocalFile<R>> = Files::Source(outbound.source);
+            converse(rt, conversation, files, outbound.host_bytes)
+        }
+        Err(failure) => Err(failure),
+    }
+}
+
+/// Sends the request to take a file of this length on the wire.
+fn ask_to_put<N: Udp + Clock>(
+    rt: &N,
+    alloc: Global,
+    job: &Job<'_>,
+    length: u64,
+) -> Result<Conversation, Failure>
+    ensures { IfOk result (λ conversation. is_sender conversation.end.role.side ≡ true) }
+{
+    let socket = bind_socket(rt)?;
     let asked = Asked {
         tsize: job.asked.tsize.map(|_| length),
         ..job.asked
     };
     let mut out = Vec::new(alloc);
-    let name = job.name.as_bytes();
     let opened = End::put(
         alloc,
         job.server,
-        name,
+        job.name.as_bytes(),
         job.mode,
         &asked,
         length,
         &job.config(),
         &mut out,
     );
-    let (end, step) = opened.map_err(Failure::of_opening)?;
-    socket.send(&step, out.as_slice());
-    let total = Some(length);
-    let mut conversation = Conversation::new(rt, alloc, socket, end, job.shows_progress, total)?;
-    let mut files: Files<LocalSource<R::File>, LocalFile<R>> = Files::Source(outbound.source);
+    match opened {
+        Ok((end, step)) => {
+            socket.send(&step, out.as_slice());
+            begin(rt, alloc, socket, end, job.shows_progress, Some(length))
+        }
+        Err(fault) => Err(Failure::of_opening(fault)),
+    }
+}
+
+/// Takes a transfer to its end. Where it sends the local file, `sent` is the length of that.
+fn converse<C: Clock + Eprint, R: FileSystem + Drop>(
+    rt: &C,
+    mut conversation: Conversation,
+    mut files: Files<LocalSource<R::File>, LocalFile<R>>,
+    sent: u64,
+) -> Result<u64, Failure>
+    requires { AreFilesOf conversation.end.role.side files }
+{
     let outcome = conversation.run(rt, &mut files);
-    conversation.finish(rt, None);
-    ended(
-        outcome,
-        files,
-        outbound.host_bytes,
-        conversation.into_peer_reason(),
-    )
+    conversation.finish(rt, stored(&files));
+    ended(outcome, files, sent, conversation.into_peer_reason())
 }
 
 /// The bytes that were stored, where the file is received.

@@ -1,18 +1,19 @@
 //! The command line of `tftp`.
 
-ghost use Rattle.std.specs.Prelude.{◌≡◌, ◌≤◌, IfOk};
+ghost use Rattle.std.specs.Prelude.{◌≡◌, ◌≤◌, IfOk, IfErr};
 ghost use Rattle.tftp_udp.specs.ClientEnd.{status_of};
 
 use crate::client::{Failure, Job, transfer};
 use crate::client_end::ClientEnd;
-use crate::udp::endpoint_in;
+use crate::udp::{Udp, endpoint_in};
 use clap::error::ErrorKind;
 use clap::{Arg, ArgMatches, Command, value_parser};
 use std::alloc::{AllocError, Global};
 use std::convert::AsStr;
 use std::io::{self, IsTerminal};
 use std::net::Net;
-use std::rt::Runtime;
+use std::rt::{Files, Runtime};
+use std::time::Clock;
 use tftp_arguments::{flag, number, own_words, print_usage, word};
 use tftp_negotiate::{Asked, DEFAULT_BLOCK, Kind, MAX_BLOCK, MIN_BLOCK};
 use tftp_wire::Mode;
@@ -59,40 +60,100 @@ fn transfer_words<'a, R: Runtime + AllocGlobal + Net, S: AsStr>(
     ensures { IfOk result (λ status. status ≤ 2) }
 {
     let texts = BlockTexts::new(rt.alloc())?;
-    let command = command(rt.alloc(), &texts)?;
-    run_command(rt, command, words, has_terminal)
+    transfer_texts(rt, rt.alloc(), &texts, words, has_terminal)
 }
 
-/// Reads the words by what `tftp` understands, and does what they say.
-fn run_command<'a, R: Runtime + AllocGlobal + Net, S: AsStr>(
+/// Reads the words, and does what they say.
+fn transfer_texts<'a, R: Files + Clone + Drop + Udp + Clock + Print + Eprint, S: AsStr>(
     rt: &R,
-    mut command: Command<'a>,
+    alloc: Global,
+    texts: &'a BlockTexts,
     words: &'a [S],
     has_terminal: bool,
 ) -> anyhow::Result<u8>
     ensures { IfOk result (λ status. status ≤ 2) }
 {
-    match command.try_get_matches_from_mut(words) {
-        Ok(matches) => run_matches(rt, &mut command, &matches, has_terminal),
-        Err(error) => Ok(print_usage(rt, &error)),
+    match read_words(rt, alloc, texts, words, has_terminal) {
+        Ok(ordered) => run_ordered(rt, alloc, &ordered),
+        Err(error) => Err(error),
     }
 }
 
-/// Does what the words say that were understood.
-fn run_matches<R: Runtime + AllocGlobal + Net>(
+/// Does what the words say that were read.
+fn run_ordered<R: Files + Clone + Drop + Udp + Clock + Print + Eprint>(
     rt: &R,
-    command: &mut Command<'_>,
-    matches: &ArgMatches<'_>,
-    has_terminal: bool,
+    alloc: Global,
+    ordered: &Ordered<'_>,
 ) -> anyhow::Result<u8>
+    requires { IfErr ordered.now (λ status. status ≤ 2) }
     ensures { IfOk result (λ status. status ≤ 2) }
 {
+    match ordered {
+        Ok(order) => Ok(run_order(rt, alloc, order)?),
+        Err(status) => Ok(*status),
+    }
+}
+
+/// What a command line orders.
+#[derive(Clone, Copy)]
+struct Order<'a> {
+    job: Job<'a>,
+    /// The reason of a failure is told.
+    is_verbose: bool,
+}
+
+/// What a command line orders, or the status where it was answered at once.
+type Ordered<'a> = Result<Order<'a>, u8>;
+
+/// Reads the words by what `tftp` understands.
+fn read_words<'a, P: Print + Eprint, S: AsStr>(
+    rt: &P,
+    alloc: Global,
+    texts: &'a BlockTexts,
+    words: &'a [S],
+    has_terminal: bool,
+) -> anyhow::Result<Ordered<'a>>
+    ensures { IfOk result (λ ordered. IfErr ordered (λ status. status ≤ 2)) }
+{
+    match command(alloc, texts) {
+        Ok(mut command) => match_words(rt, &mut command, words, has_terminal),
+        Err(error) => Err(error),
+    }
+}
+
+/// Reads the words by the command.
+fn match_words<'a, P: Print + Eprint, S: AsStr>(
+    rt: &P,
+    command: &mut Command<'a>,
+    words: &'a [S],
+    has_terminal: bool,
+) -> anyhow::Result<Ordered<'a>>
+    ensures { IfOk result (λ ordered. IfErr ordered (λ status. status ≤ 2)) }
+{
+    match command.try_get_matches_from_mut(words) {
+        Ok(matches) => read_matches(rt, command, &matches, has_terminal),
+        Err(error) => Ok(Err(print_usage(rt, &error))),
+    }
+}
+
+/// What the words order that were understood.
+fn read_matches<'a, P: Print + Eprint>(
+    rt: &P,
+    command: &mut Command<'a>,
+    matches: &ArgMatches<'a>,
+    has_terminal: bool,
+) -> anyhow::Result<Ordered<'a>>
+    ensures { IfOk result (λ ordered. IfErr ordered (λ status. status ≤ 2)) }
+{
     let Some((word, matches)) = matches.subcommand() else {
-        return Ok(2);
+        return Ok(Err(2));
     };
     match job_of(kind_of(word), matches, has_terminal) {
-        Some(job) => Ok(run_job(rt, &job, matches.get_flag("verbose"))?),
-        None => report_address(rt, command),
+        Some(job) => Ok(Ok(Order {
+            job,
+            is_verbose: matches.get_flag("verbose"),
+        })),
+        None => Ok(Err(report_address(rt, command)?)),
     }
 }
 
@@ -106,7 +167,7 @@ fn kind_of(word: &str) -> Kind {
 }
 
 /// Reports that the word for the server is no address.
-fn report_address<R: Runtime + AllocGlobal>(rt: &R, command: &mut Command<'_>) -> anyhow::Result<u8>
+fn report_address<P: Print + Eprint>(rt: &P, command: &mut Command<'_>) -> anyhow::Result<u8>
     ensures { IfOk result (λ status. status ≤ 2) }
 {
     let message = "invalid value for '<ADDR:PORT>': not an IPv4 address and a port";
@@ -115,16 +176,16 @@ fn report_address<R: Runtime + AllocGlobal>(rt: &R, command: &mut Command<'_>) -
 }
 
 /// Makes the transfer, prints how it ended, and returns the status.
-fn run_job<R: Runtime + AllocGlobal + Net>(
+fn run_order<R: Files + Clone + Drop + Udp + Clock + Print + Eprint>(
     rt: &R,
-    job: &Job<'_>,
-    is_verbose: bool,
+    alloc: Global,
+    order: &Order<'_>,
 ) -> io::Result<u8>
     ensures { IfOk result (λ status. status ≤ 2) }
 {
-    match transfer(rt, job) {
+    match transfer(rt, alloc, &order.job) {
         Ok(count) => print_end(rt, ClientEnd::Complete(count)),
-        Err(failure) => report(rt, &failure, is_verbose),
+        Err(failure) => report(rt, &failure, order.is_verbose),
     }
 }
 

@@ -1,32 +1,28 @@
 //! `tftpd`: a server over UDP, in one thread.
 
+mod report;
+mod sockets;
 mod transfer_port;
 
 ghost use Rattle.tftp_server.specs.Config.{IsConfig};
 
+use crate::daemon::report::{close_port, log_unopened};
+use crate::daemon::sockets::{REQUESTS, Sockets, Spare};
 use crate::daemon::transfer_port::{
-    LogEntry, MOST_AT_ONCE, TransferSocket, Turn, data_length, shown, take_datagrams, take_timeout,
+    LogEntry, MOST_AT_ONCE, TransferSocket, Turn, data_length, take_datagrams, take_timeout,
     timeout_of,
 };
 use crate::folder::FolderStore;
-use crate::log_line::LogLine;
 use crate::port::{Port, place_of, wait_for};
 use crate::printed::Printed;
-use crate::shared_file::PortFile;
-use crate::udp::{DATAGRAM_BUFFER, address_of, read_clock, receive, send};
-use crate::watch::{Watch, deadline, is_due};
-use mio::net::UdpSocket;
-use mio::{Events, Interest, Poll, Token};
+use crate::udp::{DATAGRAM_BUFFER, Udp};
+use crate::watch::{deadline, is_due};
+use mio::{Events, Token};
 use std::alloc::{AllocError, Global};
-use std::io;
-use std::net::Net;
-use std::rt::{Files, Runtime};
-use std::time::{Clock, Duration};
-use tftp_ends::{Endpoint, Record};
+use std::rt::Files;
+use std::time::Clock;
+use tftp_ends::Endpoint;
 use tftp_server::{Config, Server, Store};
-
-/// The token of the request port; a transfer's is its port, which is never 0.
-const REQUESTS: Token = Token(0);
 
 /// The most events that one wait reports.
 const MOST_EVENTS: usize = 128;
@@ -72,123 +68,135 @@ impl From<AllocError> for ServiceFault {
     }
 }
 
-/// A port that waits for a transfer.
-#[derive(Drop)]
-struct Spare {
-    tid: u16,
-    socket: UdpSocket,
-}
-
 /// A server with its sockets.
 #[derive(Drop)]
 struct Daemon<R: Files + Drop> {
     server: Server<FolderStore<R>>,
-    poll: Poll,
-    requests: UdpSocket,
-    is_ready: bool,
-    spare: Option<Spare>,
-    ports: Vec<Port<TransferSocket<R::File>>>,
-    watch: Watch,
+    sockets: Sockets,
+    ports: Vec<TransferPort<R>>,
     out: Vec<u8>,
     tids: Vec<u16>,
-    ip: [u8; 4],
     logs: bool,
     alloc: Global,
 }
 
+/// The port of a transfer.
+type TransferPort<R> = Port<TransferSocket<<R as Files>::File>>;
+
 /// Serves until so many transfers have closed, or so many waits are over.
-pub(crate) fn serve<R: Runtime + AllocGlobal + Net>(
+pub(crate) fn serve<R: Files + Clone + Drop + Udp + Clock + Print + Eprint>(
     rt: &R,
+    alloc: Global,
     service: &Service<'_>,
 ) -> Result<(), ServiceFault>
     requires { IsConfig service.now.config }
 {
-    let alloc = rt.alloc();
+    match open_server(rt, alloc, service) {
+        Ok(server) => listen(rt, alloc, server, service),
+        Err(fault) => Err(fault),
+    }
+}
+
+/// A server over the folder.
+fn open_server<R: Files + Clone + Drop>(
+    rt: &R,
+    alloc: Global,
+    service: &Service<'_>,
+) -> Result<Server<FolderStore<R>>, ServiceFault>
+    requires { IsConfig service.now.config }
+{
     let Ok(files) = rt.clone() else {
         return Err(ServiceFault::Memory);
     };
     let Ok(store) = FolderStore::new(files, alloc, service.root) else {
         return Err(ServiceFault::File);
     };
-    let Ok(server) = Server::new(alloc, service.config, store) else {
-        return Err(ServiceFault::Memory);
-    };
-    let Ok((mut daemon, listening)) = Daemon::bind(rt, alloc, server, service) else {
-        return Err(ServiceFault::Socket);
-    };
-    let line = Printed::Listening(listening);
-    if println!(rt; "{line}").is_err() {
-        return Err(ServiceFault::Output);
+    match Server::new(alloc, service.config, store) {
+        Ok(server) => Ok(server),
+        Err(_) => Err(ServiceFault::Memory),
     }
-    daemon.run(rt, alloc, service)
 }
 
-/// Binds a port of the system's choice at the address.
-fn bind_spare<N: Net>(net: &N, ip: [u8; 4]) -> Option<Spare> {
-    let Ok(socket) = UdpSocket::bind(net, address_of(Endpoint { ip, port: 0 })) else {
-        return None;
+/// Binds the request port, and serves what comes to it.
+fn listen<N: Udp + Clock + Print + Eprint, R: Files + Drop>(
+    rt: &N,
+    alloc: Global,
+    server: Server<FolderStore<R>>,
+    service: &Service<'_>,
+) -> Result<(), ServiceFault> {
+    match bind(rt, service.listen) {
+        Ok(sockets) => Daemon::new(alloc, server, sockets, service.logs).run(rt, service),
+        Err(fault) => Err(fault),
+    }
+}
+
+/// Binds the request port, and prints where it is.
+fn bind<N: Udp + Clock + Print>(rt: &N, listen: Endpoint) -> Result<Sockets, ServiceFault> {
+    let Ok(sockets) = Sockets::bind(rt, listen) else {
+        return Err(ServiceFault::Socket);
     };
-    let Ok(address) = socket.local_addr() else {
-        return None;
-    };
-    Some(Spare {
-        tid: address.port(),
-        socket,
-    })
+    let line = Printed::Listening(sockets.listening);
+    match println!(rt; "{line}") {
+        Ok(()) => Ok(sockets),
+        Err(_) => Err(ServiceFault::Output),
+    }
 }
 
 impl<R: Files + Drop> Daemon<R> {
-    /// Binds the request port, and tells where it is.
-    fn bind<N: Net + Clock>(
-        rt: &N,
+    /// A server that has no transfer yet.
+    fn new(
         alloc: Global,
         server: Server<FolderStore<R>>,
-        service: &Service<'_>,
-    ) -> io::Result<(Daemon<R>, Endpoint)> {
-        let listen = service.listen;
-        let mut requests = UdpSocket::bind(rt, address_of(listen))?;
-        let port = requests.local_addr()?.port();
-        let poll = Poll::new(rt)?;
-        poll.registry()
-            .register(&mut requests, REQUESTS, Interest::READABLE)?;
-        let daemon = Daemon {
+        sockets: Sockets,
+        logs: bool,
+    ) -> Daemon<R> {
+        Daemon {
             server,
-            poll,
-            requests,
-            is_ready: false,
-            spare: None,
+            sockets,
             ports: Vec::new(alloc),
-            watch: Watch::new(read_clock(rt, 0)),
             out: Vec::new(alloc),
             tids: Vec::new(alloc),
-            ip: listen.ip,
-            logs: service.logs,
+            logs,
             alloc,
-        };
-        Ok((
-            daemon,
-            Endpoint {
-                ip: listen.ip,
-                port,
-            },
-        ))
+        }
+    }
+
+    /// Takes what comes, until so many transfers have closed, or so many waits are over.
+    fn run<N: Udp + Clock + Print + Eprint>(
+        &mut self,
+        rt: &N,
+        service: &Service<'_>,
+    ) -> Result<(), ServiceFault> {
+        match Events::with_capacity(self.alloc, MOST_EVENTS) {
+            Ok(mut events) => self.take_events(rt, service, &mut events),
+            Err(_) => Err(ServiceFault::Memory),
+        }
+    }
+
+    /// Takes what comes, with room for the events of a wait.
+    fn take_events<N: Udp + Clock + Print + Eprint>(
+        &mut self,
+        rt: &N,
+        service: &Service<'_>,
+        events: &mut Events,
+    ) -> Result<(), ServiceFault> {
+        match Vec::from_elem(self.alloc, 0u8, DATAGRAM_BUFFER) {
+            Ok(mut buffer) => self.take_rounds(rt, service, events, buffer.as_mut_slice()),
+            Err(_) => Err(ServiceFault::Memory),
+        }
     }
 
     /// Takes what comes, wait by wait.
-    fn run<N: Runtime + AllocGlobal + Net>(
+    fn take_rounds<N: Udp + Clock + Print + Eprint>(
         &mut self,
         rt: &N,
-        alloc: Global,
         service: &Service<'_>,
+        events: &mut Events,
+        buffer: &mut [u8],
     ) -> Result<(), ServiceFault> {
-        let mut events = Events::with_capacity(alloc, MOST_EVENTS)?;
-        let mut buffer = Vec::from_elem(alloc, 0u8, DATAGRAM_BUFFER)?;
         let mut left = service.transfers;
         for _ in 0..service.rounds {
-            self.wait(rt, &mut events);
-            self.take_requests(rt, buffer.as_mut_slice());
-            left = self.take_transfers(rt, left, buffer.as_mut_slice())?;
-            left = self.take_timeouts(rt, left, buffer.as_mut_slice())?;
+            left = self.take_round(rt, left, events, buffer)?;
             if left == 0 {
                 return Ok(());
             }
@@ -196,16 +204,28 @@ impl<R: Files + Drop> Daemon<R> {
         Ok(())
     }
 
+    /// Waits once, and takes what came and what is due. `left` counts the transfers that are yet to close.
+    fn take_round<N: Udp + Clock + Print + Eprint>(
+        &mut self,
+        rt: &N,
+        left: u32,
+        events: &mut Events,
+        buffer: &mut [u8],
+    ) -> Result<u32, ServiceFault> {
+        self.wait(rt, events);
+        self.take_requests(rt, buffer);
+        let left = self.take_transfers(rt, left, buffer)?;
+        self.take_timeouts(rt, left, buffer)
+    }
+
     /// Waits until a datagram is there or a transfer is due, and a second at most.
-    fn wait<N: Net + Clock>(&mut self, rt: &N, events: &mut Events) {
-        let wait = if self.is_ready || self.ports.iter().any(|port| port.is_ready) {
+    fn wait<C: Clock>(&mut self, clock: &C, events: &mut Events) {
+        let millis = if self.sockets.is_ready {
             0
         } else {
-            wait_for(self.watch.now, self.ports.as_slice())
+            wait_of(self.sockets.watch.now, self.ports.as_slice())
         };
-        let _ = self.poll.poll(events, Some(Duration::from_millis(wait)));
-        let reading = read_clock(rt, self.watch.reading);
-        self.watch.advance(reading);
+        self.sockets.wait(clock, events, millis);
         for event in events.iter() {
             self.note(event.token());
         }
@@ -214,28 +234,19 @@ impl<R: Files + Drop> Daemon<R> {
     /// Notes that a datagram is there.
     fn note(&mut self, token: Token) {
         if token == REQUESTS {
-            self.is_ready = true;
-            return;
-        }
-        let Ok(tid) = u16::try_from(token.0) else {
-            return;
-        };
-        let Some(place) = place_of(tid, self.ports.as_slice()) else {
-            return;
-        };
-        if let Some(port) = self.ports.get_mut(place) {
-            port.is_ready = true;
+            self.sockets.is_ready = true;
+        } else {
+            note_ready(token, self.ports.as_mut_slice());
         }
     }
 
     /// Takes requests that are there, as many as a wake-up takes.
-    fn take_requests<N: Net + Eprint>(&mut self, rt: &N, buffer: &mut [u8]) {
+    fn take_requests<N: Udp + Eprint>(&mut self, rt: &N, buffer: &mut [u8]) {
         for _ in 0..MOST_AT_ONCE {
-            if !self.is_ready || self.ports.try_reserve(1).is_err() {
+            if !self.sockets.is_ready || self.ports.try_reserve(1).is_err() {
                 return;
             }
-            let Some((from, count)) = receive(&self.requests, buffer) else {
-                self.is_ready = false;
+            let Some((from, count)) = self.sockets.receive_request(buffer) else {
                 return;
             };
             self.take_request(rt, from, &buffer[..count]);
@@ -244,103 +255,94 @@ impl<R: Files + Drop> Daemon<R> {
 
     /// Takes a datagram that came to the request port. One that may open a transfer is lost where no port
     /// can be bound for it.
-    fn take_request<N: Net + Eprint>(&mut self, rt: &N, from: Endpoint, bytes: &[u8]) {
-        // A port is bound only where the server may open a transfer; else no identifier is used.
-        let mut tid = 0;
-        if let Ok(true) = self.server.may_open(from, bytes) {
-            let Some(port) = self.spare_port(rt) else {
-                return;
-            };
-            tid = port;
+    fn take_request<N: Udp + Eprint>(&mut self, rt: &N, from: Endpoint, bytes: &[u8]) {
+        if let Some(tid) = self.port_for(rt, from, bytes) {
+            self.handle_request(rt, from, tid, bytes);
         }
+    }
+
+    /// The port of the transfer that a datagram may open, and 0 where it opens none.
+    fn port_for<N: Udp>(&mut self, net: &N, from: Endpoint, bytes: &[u8]) -> Option<u16> {
+        // A port is bound only where the server may open a transfer; else no identifier is used.
+        if let Ok(true) = self.server.may_open(from, bytes) {
+            return self.sockets.spare_port(net);
+        }
+        Some(0)
+    }
+
+    /// Takes a datagram that came to the request port, for which this port is there.
+    fn handle_request<E: Eprint>(&mut self, rt: &E, from: Endpoint, tid: u16, bytes: &[u8]) {
         self.out.clear();
         self.server.store_mut().set_port(tid);
-        let opened = self.server.on_request(from, tid, bytes, &mut self.out);
-        let file = self.server.store().take_opened();
-        let Ok(opened) = opened else {
-            return;
-        };
-        if opened.tid.is_some() {
-            self.open(rt, from, bytes, file);
-            return;
+        if let Ok(opened) = self.server.on_request(from, tid, bytes, &mut self.out) {
+            if opened.tid.is_some() {
+                self.open(rt, from, bytes);
+            } else {
+                self.refuse(rt, opened.to, from, bytes);
+            }
         }
-        if let Some(to) = opened.to {
-            send(&self.requests, to, self.out.as_slice());
+        // A file that no transfer took.
+        let _ = self.server.store().take_opened();
+    }
+
+    /// Sends the answer to a datagram that opened no transfer, if there is one.
+    fn refuse<E: Eprint>(&self, rt: &E, to: Option<Endpoint>, from: Endpoint, bytes: &[u8]) {
+        if let Some(to) = to {
+            self.sockets.answer(to, self.out.as_slice());
         }
         if self.logs {
-            self.log_unopened(rt, from, bytes);
+            log_unopened(rt, self.alloc, from, bytes, self.out.as_slice());
         }
     }
 
-    /// The port that waits for the next transfer, which is bound if none is.
-    fn spare_port<N: Net>(&mut self, net: &N) -> Option<u16> {
-        if self.spare.is_none() {
-            self.spare = bind_spare(net, self.ip);
-        }
-        match &self.spare {
-            Some(spare) => Some(spare.tid),
-            None => None,
+    /// Gives the spare port to the transfer that opened, and sends its first datagram.
+    fn open<E: Eprint>(&mut self, rt: &E, from: Endpoint, bytes: &[u8]) {
+        if let Some(spare) = self.sockets.open_spare(from, self.out.as_slice()) {
+            self.open_at(rt, spare, from, bytes);
         }
     }
 
-    /// Gives the spare port to the transfer that opened, and sends its first datagram. There is room in the
-    /// list.
-    fn open<E: Eprint>(
-        &mut self,
-        rt: &E,
-        from: Endpoint,
-        bytes: &[u8],
-        file: Option<PortFile<R::File>>,
-    ) {
-        let Some(Spare { tid, mut socket }) = self.spare.take() else {
-            return;
-        };
-        let first = self.out.as_slice();
-        send(&socket, from, first);
-        let log_entry = if self.logs {
-            let entry = LogEntry::new(self.alloc, from, bytes, first, self.watch.now);
-            let line = entry.opened(tid);
-            let _ = eprintln!(rt; "{line}");
-            Some(entry)
-        } else {
-            None
-        };
-        // Without readiness the transfer's datagrams are received before its timeouts.
-        let _ = self
-            .poll
-            .registry()
-            .register(&mut socket, Token(usize::from(tid)), Interest::READABLE);
-        let due = deadline(self.watch.now, timeout_of(&self.server, tid));
-        let _ = self.ports.push(Port {
-            tid,
-            due,
+    /// Takes the port of a transfer that opened into the list, where there is room.
+    fn open_at<E: Eprint>(&mut self, rt: &E, mut spare: Spare, from: Endpoint, bytes: &[u8]) {
+        let log_entry = self.log_opened(rt, spare.tid, from, bytes);
+        self.sockets.register(&mut spare);
+        let port = self.port_of(spare, log_entry);
+        let _ = self.ports.push(port);
+    }
+
+    /// The port of a transfer that opened, with its file.
+    fn port_of(&self, spare: Spare, log_entry: Option<LogEntry>) -> TransferPort<R> {
+        let agreed = timeout_of(&self.server, spare.tid);
+        Port {
+            tid: spare.tid,
+            due: deadline(self.sockets.watch.now, agreed),
             is_ready: false,
             socket: TransferSocket {
-                udp: socket,
-                file,
+                udp: spare.socket,
+                file: self.server.store().take_opened(),
                 bytes: data_length(self.out.as_slice()),
                 log_entry,
             },
-        });
+        }
     }
 
-    /// Writes the line of a datagram that opened no transfer.
-    fn log_unopened<E: Eprint>(&self, rt: &E, peer: Endpoint, bytes: &[u8]) {
-        let request = shown(self.alloc, bytes);
-        let answer = shown(self.alloc, self.out.as_slice());
-        let line = if self.out.is_empty() {
-            LogLine::Ignored {
-                peer,
-                request: request.as_str(),
-            }
-        } else {
-            LogLine::Refused {
-                peer,
-                request: request.as_str(),
-                answer: answer.as_str(),
-            }
-        };
+    /// Writes the line of a request that opened a transfer at the port, where there is a log; what its
+    /// close is to say of it.
+    fn log_opened<E: Eprint>(
+        &self,
+        rt: &E,
+        tid: u16,
+        from: Endpoint,
+        bytes: &[u8],
+    ) -> Option<LogEntry> {
+        if !self.logs {
+            return None;
+        }
+        let first = self.out.as_slice();
+        let entry = LogEntry::new(self.alloc, from, bytes, first, self.sockets.watch.now);
+        let line = entry.opened(tid);
         let _ = eprintln!(rt; "{line}");
+        Some(entry)
     }
 
     /// Takes what came to the ports of transfers. `left` counts the transfers that are yet to close.
@@ -359,7 +361,7 @@ impl<R: Files + Drop> Daemon<R> {
             if !port.is_ready {
                 continue;
             }
-            let now = self.watch.now;
+            let now = self.sockets.watch.now;
             let turn = take_datagrams(&mut self.server, port, now, buffer);
             port.is_ready = turn == Turn::Unfinished;
             if turn == Turn::Closed {
@@ -377,7 +379,7 @@ impl<R: Files + Drop> Daemon<R> {
         left: u32,
         buffer: &mut [u8],
     ) -> Result<u32, ServiceFault> {
-        let now = self.watch.now;
+        let now = self.sockets.watch.now;
         if wait_for(now, self.ports.as_slice()) > 0 {
             return Ok(left);
         }
@@ -403,7 +405,7 @@ impl<R: Files + Drop> Daemon<R> {
 
     /// Takes a timeout at the port, if it is due and nothing came; answers whether its transfer closed.
     fn is_over(&mut self, place: usize, buffer: &mut [u8]) -> bool {
-        let now = self.watch.now;
+        let now = self.sockets.watch.now;
         let Some(port) = self.ports.get_mut(place) else {
             return false;
         };
@@ -423,29 +425,28 @@ impl<R: Files + Drop> Daemon<R> {
             return Ok(());
         }
         let port = self.ports.swap_remove(place);
-        let Some((record, _)) = self.server.take_closed(port.tid) else {
-            return Ok(());
-        };
-        let Record {
-            peer: Some(peer),
-            outcome: Some(outcome),
-            ..
-        } = record
-        else {
-            return Ok(());
-        };
-        if let Some(entry) = &port.socket.log_entry {
-            let line = entry.closed(port.tid, port.socket.bytes, self.watch.now, outcome);
-            let _ = eprintln!(rt; "{line}");
-        }
-        let line = Printed::Closed {
-            port: port.tid,
-            peer: peer.port,
-            outcome,
-        };
-        match println!(rt; "{line}") {
-            Ok(()) => Ok(()),
-            Err(_) => Err(ServiceFault::Output),
-        }
+        close_port(rt, &mut self.server, port, self.sockets.watch.now)
+    }
+}
+
+/// How long to wait, in milliseconds, where no request is there.
+fn wait_of<S>(now: u64, ports: &[Port<S>]) -> u64 {
+    if ports.iter().any(|port| port.is_ready) {
+        0
+    } else {
+        wait_for(now, ports)
+    }
+}
+
+/// Notes that a datagram is there at the port of a transfer.
+fn note_ready<S>(token: Token, ports: &mut [Port<S>]) {
+    let Ok(tid) = u16::try_from(token.0) else {
+        return;
+    };
+    let Some(place) = place_of(tid, ports) else {
+        return;
+    };
+    if let Some(port) = ports.get_mut(place) {
+        port.is_ready = true;
     }
 }

@@ -1,10 +1,10 @@
 //! The command line of `tftpd`.
 
-ghost use Rattle.std.specs.Prelude.{◌≤◌, IfOk, IfSome};
+ghost use Rattle.std.specs.Prelude.{◌≤◌, IfOk, IfErr, IfSome};
 ghost use Rattle.tftp_server.specs.Config.{IsConfig};
 
 use crate::daemon::{Service, ServiceFault, serve};
-use crate::udp::endpoint_in;
+use crate::udp::{Udp, endpoint_in};
 use anyhow::Result;
 use clap::error::ErrorKind;
 use clap::{Arg, ArgMatches, Command, value_parser};
@@ -12,7 +12,8 @@ use std::alloc::Global;
 use std::convert::AsStr;
 use std::io;
 use std::net::Net;
-use std::rt::Runtime;
+use std::rt::{Files, Runtime};
+use std::time::Clock;
 use tftp_arguments::{flag, number, own_words, print_usage, word};
 use tftp_negotiate::{Limits, MAX_BLOCK, MIN_BLOCK};
 use tftp_server::Config;
@@ -50,40 +51,91 @@ fn serve_words<'a, R: Runtime + AllocGlobal + Net, S: AsStr>(rt: &R, words: &'a 
     ensures { IfOk result (λ status. status ≤ 2) }
 {
     let texts = Texts::new(rt.alloc(), &Config::default())?;
-    let command = command(rt.alloc(), &texts)?;
-    run_command(rt, command, words)
+    serve_texts(rt, rt.alloc(), &texts, words)
 }
 
-/// Reads the words by what `tftpd` understands, and serves as they say.
-fn run_command<'a, R: Runtime + AllocGlobal + Net, S: AsStr>(
+/// Reads the words, and serves as they say.
+fn serve_texts<'a, R: Files + Clone + Drop + Udp + Clock + Print + Eprint, S: AsStr>(
     rt: &R,
-    mut command: Command<'a>,
+    alloc: Global,
+    texts: &'a Texts,
     words: &'a [S],
 ) -> Result<u8>
     ensures { IfOk result (λ status. status ≤ 2) }
 {
-    match command.try_get_matches_from_mut(words) {
-        Ok(matches) => run_matches(rt, &mut command, &matches),
-        Err(error) => Ok(print_usage(rt, &error)),
+    match read_words(rt, alloc, texts, words) {
+        Ok(asked) => serve_asked(rt, alloc, &asked),
+        Err(error) => Err(error),
     }
 }
 
-/// Serves as the words say that were understood.
-fn run_matches<R: Runtime + AllocGlobal + Net>(
+/// Serves as the words say that were read.
+fn serve_asked<R: Files + Clone + Drop + Udp + Clock + Print + Eprint>(
     rt: &R,
-    command: &mut Command<'_>,
-    matches: &ArgMatches<'_>,
+    alloc: Global,
+    asked: &Asked<'_>,
 ) -> Result<u8>
+    requires service { IfOk asked.now (λ service. IsConfig service.config) }
+    requires status { IfErr asked.now (λ status. status ≤ 2) }
     ensures { IfOk result (λ status. status ≤ 2) }
 {
+    match asked {
+        Ok(service) => Ok(report(rt, serve(rt, alloc, service))?),
+        Err(status) => Ok(*status),
+    }
+}
+
+/// What a command line asks for, or the status where it was answered at once.
+type Asked<'a> = std::result::Result<Service<'a>, u8>;
+
+/// Reads the words by what `tftpd` understands.
+fn read_words<'a, P: Print + Eprint, S: AsStr>(
+    rt: &P,
+    alloc: Global,
+    texts: &'a Texts,
+    words: &'a [S],
+) -> Result<Asked<'a>>
+    ensures service { IfOk result (λ asked. IfOk asked (λ service. IsConfig service.config)) }
+    ensures status { IfOk result (λ asked. IfErr asked (λ status. status ≤ 2)) }
+{
+    match command(alloc, texts) {
+        Ok(mut command) => match_words(rt, &mut command, words),
+        Err(error) => Err(error),
+    }
+}
+
+/// Reads the words by the command.
+fn match_words<'a, P: Print + Eprint, S: AsStr>(
+    rt: &P,
+    command: &mut Command<'a>,
+    words: &'a [S],
+) -> Result<Asked<'a>>
+    ensures service { IfOk result (λ asked. IfOk asked (λ service. IsConfig service.config)) }
+    ensures status { IfOk result (λ asked. IfErr asked (λ status. status ≤ 2)) }
+{
+    match command.try_get_matches_from_mut(words) {
+        Ok(matches) => read_matches(rt, command, &matches),
+        Err(error) => Ok(Err(print_usage(rt, &error))),
+    }
+}
+
+/// What the words ask for that were understood.
+fn read_matches<'a, P: Print + Eprint>(
+    rt: &P,
+    command: &mut Command<'a>,
+    matches: &ArgMatches<'a>,
+) -> Result<Asked<'a>>
+    ensures service { IfOk result (λ asked. IfOk asked (λ service. IsConfig service.config)) }
+    ensures status { IfOk result (λ asked. IfErr asked (λ status. status ≤ 2)) }
+{
     match service(matches) {
-        Some(service) => Ok(report(rt, serve(rt, &service))?),
-        None => report_address(rt, command),
+        Some(service) => Ok(Ok(service)),
+        None => Ok(Err(report_address(rt, command)?)),
     }
 }
 
 /// Reports that the word for the request port is no address.
-fn report_address<R: Runtime + AllocGlobal>(rt: &R, command: &mut Command<'_>) -> Result<u8>
+fn report_address<P: Print + Eprint>(rt: &P, command: &mut Command<'_>) -> Result<u8>
     ensures { IfOk result (λ status. status ≤ 2) }
 {
     let message = "invalid value for '--listen <ADDR:PORT>': not an IPv4 address and a port";

@@ -4,8 +4,10 @@
 
 ghost use Rattle.std.specs.Prelude.{◌≤◌, length, IfSome};
 
+use mio::Poll;
 use mio::net::UdpSocket;
-use std::net::{SocketAddr, SocketAddrV4};
+use std::io;
+use std::net::{self, Net, SocketAddr, SocketAddrV4};
 use std::time::Clock;
 use tftp_ends::Endpoint;
 use tftp_wire::MAX_DATA;
@@ -13,6 +15,32 @@ use tftp_wire::MAX_DATA;
 /// The bytes of a buffer for datagrams: one more than the longest valid one has, so that a longer
 /// one is malformed and never cut to fit (RFC 2348, "Blocksize Option Specification").
 pub(crate) const DATAGRAM_BUFFER: usize = MAX_DATA + 1;
+
+/// What opens sockets for UDP: a [`Net`] without its streams and listeners.
+pub(crate) trait Udp {
+    /// Binds a socket that does not wait.
+    fn bind_polled(&self, address: SocketAddr) -> io::Result<UdpSocket>;
+
+    /// Binds a socket that waits.
+    fn bind_waiting(&self, address: SocketAddr) -> io::Result<net::UdpSocket>;
+
+    /// What waits for sockets that do not wait.
+    fn poll(&self) -> io::Result<Poll>;
+}
+
+impl<N: Net> Udp for N {
+    fn bind_polled(&self, address: SocketAddr) -> io::Result<UdpSocket> {
+        UdpSocket::bind(self, address)
+    }
+
+    fn bind_waiting(&self, address: SocketAddr) -> io::Result<net::UdpSocket> {
+        net::UdpSocket::bind(self, address)
+    }
+
+    fn poll(&self) -> io::Result<Poll> {
+        Poll::new(self)
+    }
+}
 
 /// The endpoint that a word `ADDR:PORT` names, with a dotted IPv4 address.
 pub(crate) fn endpoint_in(word: &str) -> Option<Endpoint> {

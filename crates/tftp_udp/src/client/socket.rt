@@ -2,10 +2,10 @@
 
 ghost use Rattle.std.specs.Prelude.{◌≤◌, length, IfSome};
 
-use crate::udp::{address_of, endpoint_of};
+use crate::udp::{Udp, address_of, endpoint_of};
 use crate::watch::LONGEST_WAIT;
 use std::io;
-use std::net::{Ipv4Addr, Net, SocketAddr, UdpSocket};
+use std::net::{Ipv4Addr, SocketAddr, UdpSocket};
 use std::time::Duration;
 use tftp_ends::{Endpoint, Step};
 
@@ -20,9 +20,9 @@ pub(crate) struct ClientSocket {
 
 impl ClientSocket {
     /// Binds a port of the system's choice at every address of this host.
-    pub(crate) fn bind<N: Net>(net: &N) -> io::Result<ClientSocket> {
+    pub(crate) fn bind<U: Udp>(udp: &U) -> io::Result<ClientSocket> {
         let any = SocketAddr::from((Ipv4Addr::UNSPECIFIED, 0));
-        let socket = UdpSocket::bind(net, any)?;
+        let socket = udp.bind_waiting(any)?;
         socket.set_read_timeout(Some(Duration::from_millis(LONGEST_WAIT)))?;
         Ok(ClientSocket {
             socket,

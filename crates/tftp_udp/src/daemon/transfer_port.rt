@@ -10,7 +10,7 @@ use std::alloc::Global;
 use std::io::{Read, Write};
 use tftp_ends::{Endpoint, Outcome};
 use tftp_server::{Server, Store};
-use tftp_wire::show_datagram;
+use tftp_wire::{PacketRef, decode_ref, show_datagram};
 
 /// The most datagrams that are received from one socket in a wake-up: a flood at one port does not
 /// starve the others.
@@ -101,8 +101,8 @@ pub(crate) fn shown(alloc: Global, bytes: &[u8]) -> String {
 
 /// The bytes of a file that a datagram carries.
 pub(crate) fn data_length(datagram: &[u8]) -> u64 {
-    match datagram {
-        [0, 3, _, _, data @ ..] => data.len() as u64,
+    match decode_ref(datagram) {
+        Ok(PacketRef::Data { bytes, .. }) => bytes.len() as u64,
         _ => 0,
     }
 }

@@ -1,0 +1,95 @@
+//! What `tftpd` prints of its transfers, and of datagrams that opened none.
+
+use crate::daemon::ServiceFault;
+use crate::daemon::transfer_port::{TransferSocket, shown};
+use crate::log_line::LogLine;
+use crate::port::Port;
+use crate::printed::Printed;
+use std::alloc::Global;
+use std::io::{Read, Write};
+use tftp_ends::{Endpoint, Outcome, Record};
+use tftp_server::{Server, Store};
+
+/// Writes the line of a datagram that opened no transfer.
+pub(crate) fn log_unopened<E: Eprint>(
+    rt: &E,
+    alloc: Global,
+    peer: Endpoint,
+    bytes: &[u8],
+    answer: &[u8],
+) {
+    let request = shown(alloc, bytes);
+    let shown_answer = shown(alloc, answer);
+    let line = if answer.is_empty() {
+        LogLine::Ignored {
+            peer,
+            request: request.as_str(),
+        }
+    } else {
+        LogLine::Refused {
+            peer,
+            request: request.as_str(),
+            answer: shown_answer.as_str(),
+        }
+    };
+    let _ = eprintln!(rt; "{line}");
+}
+
+/// Takes a closed transfer out of the server; how far it came.
+fn record_of_closed<S: Store + Drop>(server: &mut Server<S>, tid: u16) -> Option<Record> {
+    let (record, _) = server.take_closed(tid)?;
+    Some(record)
+}
+
+/// Closes the port of a transfer, and prints how the transfer ended.
+pub(crate) fn close_port<P: Print + Eprint, S: Store + Drop, F: Read + Write + Drop>(
+    rt: &P,
+    server: &mut Server<S>,
+    port: Port<TransferSocket<F>>,
+    now: u64,
+) -> Result<(), ServiceFault> {
+    let record = record_of_closed(server, port.tid);
+    report_close(rt, &port, record, now)
+}
+
+/// Prints how a transfer ended, and writes its line where there is a log.
+fn report_close<P: Print + Eprint, F: Read + Write + Drop>(
+    rt: &P,
+    port: &Port<TransferSocket<F>>,
+    record: Option<Record>,
+    now: u64,
+) -> Result<(), ServiceFault> {
+    let Some(
+        Record {
+            peer: Some(peer),
+            outcome: Some(outcome),
+            ..
+        },
+    ) = record
+    else {
+        return Ok(());
+    };
+    log_closed(rt, port, now, outcome);
+    let line = Printed::Closed {
+        port: port.tid,
+        peer: peer.port,
+        outcome,
+    };
+    match println!(rt; "{line}") {
+        Ok(()) => Ok(()),
+        Err(_) => Err(ServiceFault::Output),
+    }
+}
+
+/// Writes the line of a transfer's close, where there is a log.
+fn log_closed<E: Eprint, F: Read + Write + Drop>(
+    rt: &E,
+    port: &Port<TransferSocket<F>>,
+    now: u64,
+    outcome: Outcome,
+) {
+    if let Some(entry) = &port.socket.log_entry {
+        let line = entry.closed(port.tid, port.socket.bytes, now, outcome);
+        let _ = eprintln!(rt; "{line}");
+    }
+}
