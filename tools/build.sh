@@ -33,7 +33,8 @@ crates_below() {
 # proves and builds one crate of the repository at this folder
 build() {
     log=$PWD/out/$1.log
-    verb=lib
+    # rt gives a second and a fourth processor to large crates alone
+    verb="lib --jobs $(nproc)"
     # a program runs once it is built: it only prints its help
     test ! -f "crates/$1/src/main.rt" || verb="run -- --help"
     start=$(date +%s)

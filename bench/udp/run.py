@@ -189,6 +189,8 @@ def clocked(process, log, run):
 
 def measure_server(client, running, case, room):
     process, port = running
+    if case.verb == "put" and case.count > 32:
+        time.sleep(2.1)  # tftpd keeps the places of the round before for two timeouts
     forget_memory(process)
     gave, cpu = clocked(process, f"{room}/perf.log", lambda: transfer(client, port, case, room))
     total = case.count * case.size

@@ -1,17 +1,12 @@
-//! What the TFTP programs do, as functions over readers, writers and traits.
+//! What the four TFTP programs do, under one name: those over text are `tftp_text`'s, those over UDP
+//! `tftp_udp`'s.
 //!
-//! A program's `main` only hands in the system. Begin with [`show_run`] and [`play_run`]. The
-//! programs over UDP are those of `tftp_udp`.
+//! Begin with [`show_run`], [`play_run`], [`tftp_words`] and [`tftpd_words`].
 #![tactic(auto)]
 
-mod arguments;
-mod play;
-mod script;
-mod show;
-
-pub use arguments::{play_command, play_words, show_command, show_words};
-pub use play::play_run;
-pub use show::{show_lines, show_run};
+pub use tftp_text::{
+    play_command, play_run, play_words, show_command, show_lines, show_run, show_words,
+};
 pub use tftp_udp::{
     ClientEnd, FolderDraft, FolderStore, LONGEST_WAIT, LineClock, LogLine, Port, Printed,
     ProgressLine, Watch, deadline, fallback, is_due, place_of, tftp_command, tftp_words,

@@ -7,9 +7,9 @@ use std::os::unix::fs::symlink;
 use std::process::{self, Abort, Command, Processes};
 use std::rt::Runtime;
 use std::test::Fail;
-use tftp_cmd::FolderStore;
 use tftp_file::{Path, Source, StoreFault, path_of};
 use tftp_server::Store;
+use tftp_udp::FolderStore;
 use tftp_wire::Mode;
 
 fn path(alloc: Global, name: &str) -> Result<Path, Fail> {
