@@ -1,24 +1,12 @@
-//! The tests of ends, server and world, over their public calls.
+//! The tests of server and world, over their public calls.
 #![tactic(auto)]
 
 #[cfg(test)]
 mod drawn_rows;
 #[cfg(test)]
-mod end_rows;
-#[cfg(test)]
-mod fault_end_rows;
-#[cfg(test)]
 mod fault_rows;
 #[cfg(test)]
-mod lending_rows;
-#[cfg(test)]
-mod long_end_rows;
-#[cfg(test)]
 mod memory_turn_rows;
-#[cfg(test)]
-mod netascii_end_rows;
-#[cfg(test)]
-mod option_end_rows;
 #[cfg(test)]
 mod port_rows;
 #[cfg(test)]
@@ -29,7 +17,3 @@ mod read_rows;
 mod server_write_rows;
 #[cfg(test)]
 mod store_rows;
-#[cfg(test)]
-mod write_rows;
-#[cfg(test)]
-mod wrong_rows;
