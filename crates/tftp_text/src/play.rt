@@ -3,6 +3,7 @@
 ghost use Rattle.std.specs.Prelude.{◌≡◌, ◌≤◌, ◌⊎◌, IfErr, IfOk, IfSome};
 ghost use Rattle.tftp_text.specs.declared.play.fault.PlayFault.TheVariants.{Memory, Unreadable};
 
+mod datagram_line;
 mod fault;
 mod script_run;
 

@@ -1,8 +1,1 @@
-pub mod ClientEnd
-pub mod Fallback
-pub mod Folder
-pub mod LogLine
-pub mod Printed
-pub mod ProgressLine
 pub mod Reason
-pub mod Watch

@@ -12,16 +12,14 @@ use crate::client::conversation::Conversation;
 pub(crate) use crate::client::failure::Failure;
 use crate::client::failure::Reason;
 use crate::client::socket::ClientSocket;
-use crate::client_end::ClientEnd;
-use crate::local::{LocalFile, LocalSource, Outbound, read_error};
 use crate::udp::Udp;
-use crate::without_options::fallback;
 use std::alloc::Global;
 use std::io::Read;
 use std::rt::Files as FileSystem;
 use std::time::Clock;
 use tftp_ends::{End, EndConfig, Endpoint, Outcome};
 use tftp_file::{Files, MAX_WIRE};
+use tftp_host::{ClientEnd, LocalFile, LocalSource, Outbound, fallback, read_error};
 use tftp_negotiate::{Asked, Kind, Limits, MAX_BLOCK};
 use tftp_wire::Mode;
 

@@ -1,10 +1,9 @@
 //! The command line of `tftp`.
 
 ghost use Rattle.std.specs.Prelude.{◌≡◌, ◌≤◌, IfOk, IfErr};
-ghost use Rattle.tftp_udp.specs.ClientEnd.{status_of};
+ghost use Rattle.tftp_host.specs.ClientEnd.{status_of};
 
 use crate::client::{Failure, Job, transfer};
-use crate::client_end::ClientEnd;
 use crate::udp::{Udp, endpoint_in};
 use clap::error::ErrorKind;
 use clap::{Arg, ArgMatches, Command, value_parser};
@@ -15,6 +14,7 @@ use std::net::Net;
 use std::rt::{Files, Runtime};
 use std::time::Clock;
 use tftp_arguments::{flag, number, own_words, print_usage, word};
+use tftp_host::ClientEnd;
 use tftp_negotiate::{Asked, DEFAULT_BLOCK, Kind, MAX_BLOCK, MIN_BLOCK};
 use tftp_wire::Mode;
 

@@ -12,16 +12,13 @@ use crate::daemon::transfer_port::{
     LogEntry, MOST_AT_ONCE, TransferSocket, Turn, data_length, take_datagrams, take_timeout,
     timeout_of,
 };
-use crate::folder::FolderStore;
-use crate::port::{Port, place_of, wait_for};
-use crate::printed::Printed;
 use crate::udp::{DATAGRAM_BUFFER, Udp};
-use crate::watch::{deadline, is_due};
 use mio::{Events, Token};
 use std::alloc::{AllocError, Global};
 use std::rt::Files;
 use std::time::Clock;
 use tftp_ends::Endpoint;
+use tftp_host::{FolderStore, Port, Printed, deadline, is_due, place_of, wait_for};
 use tftp_server::{Config, Server, Store};
 
 /// The most events that one wait reports.
@@ -223,7 +220,7 @@ impl<R: Files + Drop> Daemon<R> {
         let millis = if self.sockets.is_ready {
             0
         } else {
-            wait_of(self.sockets.watch.now, self.ports.as_slice())
+            millis_to_wait(self.sockets.watch.now, self.ports.as_slice())
         };
         self.sockets.wait(clock, events, millis);
         for event in events.iter() {
@@ -430,7 +427,7 @@ impl<R: Files + Drop> Daemon<R> {
 }
 
 /// How long to wait, in milliseconds, where no request is there.
-fn wait_of<S>(now: u64, ports: &[Port<S>]) -> u64 {
+fn millis_to_wait<S>(now: u64, ports: &[Port<S>]) -> u64 {
     if ports.iter().any(|port| port.is_ready) {
         0
     } else {

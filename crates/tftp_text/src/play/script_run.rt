@@ -6,17 +6,16 @@ ghost use Rattle.tftp_server.specs.Config.{IsConfig};
 ghost use Rattle.tftp_server.specs.Memory.{contents, has_distinct_paths};
 
 use crate::play::PlayFault;
+use crate::play::datagram_line::DatagramLine;
 use crate::script::{Playable, Statement};
-use itoa::Buffer;
 use rand_core::SeedableRng;
 use rand_pcg::Pcg32;
 use std::alloc::{AllocError, Global};
 use std::io::{BufWriter, Write};
-use tftp_ends::{Endpoint, Record, Side};
+use tftp_ends::{Record, Side};
 use tftp_file::Path;
 use tftp_player::{Event, Report, World, WorldFault, draw};
 use tftp_server::Config;
-use tftp_wire::show_datagram;
 
 /// Most deliveries of one settling.
 const MAX_SETTLED: usize = 1_000_000;
@@ -25,8 +24,7 @@ const MAX_SETTLED: usize = 1_000_000;
 #[derive(Drop)]
 pub(crate) struct ScriptRun<W: Write + Drop> {
     world: World,
-    /// The line of a datagram, which is written whole.
-    line: String,
+    line: DatagramLine,
     output: BufWriter<W>,
 }
 
@@ -43,7 +41,7 @@ impl<W: Write + Drop> ScriptRun<W> {
     {
         Ok(ScriptRun {
             world: World::new(alloc, files, config).map_err(|_| AllocError)?,
-            line: String::new(alloc),
+            line: DatagramLine::new(alloc),
             output: BufWriter::new(alloc, output)?,
         })
     }
@@ -129,36 +127,9 @@ impl<W: Write + Drop> ScriptRun<W> {
         let Some(datagram) = self.world.sent().get(place) else {
             return Ok(());
         };
-        self.line.clear();
-        self.line.push('#')?;
-        push_number(&mut self.line, place)?;
-        self.line.push(' ')?;
-        push_endpoint(&mut self.line, datagram.from)?;
-        self.line.push_str(" > ")?;
-        push_endpoint(&mut self.line, datagram.to)?;
-        self.line.push(' ')?;
-        show_datagram(datagram.bytes.as_slice(), &mut self.line).map_err(|_| AllocError)?;
-        self.line.push('\n')?;
-        self.output.write_all(self.line.as_bytes())?;
+        self.output.write_all(self.line.show(place, datagram)?)?;
         Ok(())
     }
-}
-
-/// Appends an endpoint as its `Display` writes it, and faster: there are two in the line of each
-/// datagram.
-fn push_endpoint(line: &mut String, endpoint: Endpoint) -> Result<(), AllocError> {
-    let [a, b, c, d] = endpoint.ip;
-    push_number(line, usize::from(a))?;
-    for byte in [b, c, d] {
-        line.push('.')?;
-        push_number(line, usize::from(byte))?;
-    }
-    line.push(':')?;
-    push_number(line, usize::from(endpoint.port))
-}
-
-fn push_number(line: &mut String, number: usize) -> Result<(), AllocError> {
-    line.push_str(Buffer::new().format(number))
 }
 
 /// Writes how far an end came.

@@ -5,14 +5,12 @@ ghost use Rattle.tftp_ends.specs.Files.{AreFilesOf};
 
 use crate::client::failure::Reason;
 use crate::client::socket::ClientSocket;
-use crate::file_work::FileWork;
-use crate::progress_line::{LineClock, ProgressLine};
 use crate::udp::{DATAGRAM_BUFFER, read_clock};
-use crate::watch::{LONGEST_WAIT, Watch, deadline, is_due};
 use std::alloc::{AllocError, Global};
 use std::time::Clock;
 use tftp_ends::{End, Endpoint, Outcome, Step, decode_packet};
 use tftp_file::{Files, Sink, Source};
+use tftp_host::{FileWork, LONGEST_WAIT, LineClock, ProgressLine, Watch, deadline, is_due};
 use tftp_wire::{PacketRef, show_ref};
 
 /// The most waits of a transfer.

@@ -1,12 +1,12 @@
 //! Why a client's transfer failed, and what is known of the reason.
 
 ghost use Rattle.std.specs.Prelude.{◌≡◌};
-ghost use Rattle.tftp_udp.specs.declared.client_end.ClientEnd.TheVariants as ends;
+ghost use Rattle.tftp_host.specs.declared.client_end.ClientEnd.TheVariants as ends;
 
-use crate::client_end::ClientEnd;
 use std::alloc::AllocError;
 use std::{fmt, io};
 use tftp_ends::OpenFault;
+use tftp_host::ClientEnd;
 
 /// What is known of the reason of a failure. `{}` writes it in words.
 #[derive(Debug, Drop)]

@@ -3,11 +3,11 @@
 ghost use Rattle.std.specs.Prelude.{◌≤◌, length, IfSome};
 
 use crate::udp::{Udp, address_of, endpoint_of};
-use crate::watch::LONGEST_WAIT;
 use std::io;
 use std::net::{Ipv4Addr, SocketAddr, UdpSocket};
 use std::time::Duration;
 use tftp_ends::{Endpoint, Step};
+use tftp_host::LONGEST_WAIT;
 
 /// The socket of a client: any port of its server may answer the request, so it is connected to
 /// none.

@@ -2,12 +2,10 @@
 
 use crate::daemon::ServiceFault;
 use crate::daemon::transfer_port::{TransferSocket, shown};
-use crate::log_line::LogLine;
-use crate::port::Port;
-use crate::printed::Printed;
 use std::alloc::Global;
 use std::io::{Read, Write};
 use tftp_ends::{Endpoint, Outcome, Record};
+use tftp_host::{LogLine, Port, Printed};
 use tftp_server::{Server, Store};
 
 /// Writes the line of a datagram that opened no transfer.

@@ -3,12 +3,12 @@
 ghost use Rattle.std.specs.Prelude.{◌≤◌, length, IfSome};
 
 use crate::udp::{Udp, address_of, read_clock, receive, send};
-use crate::watch::Watch;
 use mio::net::UdpSocket;
 use mio::{Events, Interest, Poll, Token};
 use std::io;
 use std::time::{Clock, Duration};
 use tftp_ends::Endpoint;
+use tftp_host::Watch;
 
 /// The token of the request port; a transfer's is its port, which is never 0.
 pub(crate) const REQUESTS: Token = Token(0);

@@ -1,14 +1,11 @@
 //! A transfer of `tftpd` at its port: what comes to it, and what goes out.
 
-use crate::log_line::LogLine;
-use crate::port::Port;
-use crate::shared_file::PortFile;
 use crate::udp::{receive, send};
-use crate::watch::deadline;
 use mio::net::UdpSocket;
 use std::alloc::Global;
 use std::io::{Read, Write};
 use tftp_ends::{Endpoint, Outcome};
+use tftp_host::{LogLine, Port, PortFile, deadline};
 use tftp_server::{Server, Store};
 use tftp_wire::{PacketRef, decode_ref, show_datagram};
 

@@ -1,6 +1,6 @@
 -- The time of a program over UDP, and its deadlines (own; RFC 2349, "Timeout Interval Option Specification").
 use Rattle.std.specs.Prelude.{ℕ, ◌+◌, ◌-◌, ◌*◌, min, List, [], ◌∷◌, Option, Some, None}
-use Rattle.tftp_udp.specs.declared.watch.Watch.{Watch}
+use Rattle.tftp_host.specs.declared.watch.Watch.{Watch}
 
 -- the greatest time that there is
 abbrev pub last_moment : ℕ

@@ -1,7 +1,7 @@
 //! The ports of a server's transfers, and for how long none of them needs anything.
 
 ghost use Rattle.std.specs.Prelude.{◌≡◌, ◌==◌, ◌≤◌, ◌-◌, map, position, All};
-ghost use Rattle.tftp_udp.specs.Watch.{wait_of};
+ghost use Rattle.tftp_host.specs.Watch.{wait_of};
 
 use crate::watch::LONGEST_WAIT;
 

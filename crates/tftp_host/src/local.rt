@@ -40,7 +40,7 @@ pub(crate) fn length_on_wire<F: Read + Seek>(
 
 /// A reader that keeps its newest error.
 #[derive(Drop)]
-pub(crate) struct ErrorKeeper<F> {
+pub struct ErrorKeeper<F> {
     reader: F,
     error: Option<io::Error>,
 }
@@ -61,22 +61,22 @@ impl<F: Read> Read for ErrorKeeper<F> {
 }
 
 /// The source of a file that is sent.
-pub(crate) type LocalSource<F> = Ahead<ReadSource<BufReader<ErrorKeeper<F>>>>;
+pub type LocalSource<F> = Ahead<ReadSource<BufReader<ErrorKeeper<F>>>>;
 
 /// A file that is sent, and its lengths.
 #[derive(Drop)]
-pub(crate) struct Outbound<F: Read + Drop> {
-    pub(crate) source: LocalSource<F>,
+pub struct Outbound<F: Read + Drop> {
+    pub source: LocalSource<F>,
     /// The bytes of the file.
-    pub(crate) host_bytes: u64,
+    pub host_bytes: u64,
     /// The bytes of its text on the wire, or `MAX_WIRE + 1` where they are more.
-    pub(crate) wire_bytes: u64,
+    pub wire_bytes: u64,
 }
 
 impl<F: Read + Seek + Drop> Outbound<F> {
     /// Opens a regular file to be sent. What is no regular file is refused before it is opened,
     /// since opening a FIFO would wait.
-    pub(crate) fn open<R: Files<File = F>>(
+    pub fn open<R: Files<File = F>>(
         files: &R,
         alloc: Global,
         local: &str,
@@ -105,14 +105,14 @@ impl<F: Read + Seek + Drop> Outbound<F> {
 }
 
 /// Why a file could not be read further, once it could not.
-pub(crate) fn read_error<F: Read + Drop>(source: LocalSource<F>) -> Option<io::Error> {
+pub fn read_error<F: Read + Drop>(source: LocalSource<F>) -> Option<io::Error> {
     source.into_inner().into_inner().into_inner().error
 }
 
 /// A file `LOCAL` that is being fetched, as `LOCAL.part`. It gets its name at the commit, and stays
 /// as it is if there is none.
 #[derive(Drop)]
-pub(crate) struct LocalFile<R: Files + Drop> {
+pub struct LocalFile<R: Files + Drop> {
     files: R,
     writer: BufWriter<R::File>,
     local: String,
@@ -123,7 +123,7 @@ pub(crate) struct LocalFile<R: Files + Drop> {
 
 impl<R: Files + Drop> LocalFile<R> {
     /// A new file, in the place of an old `LOCAL.part`. `AlreadyExists` if there is a `LOCAL`.
-    pub(crate) fn create(files: R, alloc: Global, local: &str) -> io::Result<LocalFile<R>> {
+    pub fn create(files: R, alloc: Global, local: &str) -> io::Result<LocalFile<R>> {
         if fs::symlink_metadata(&files, local).is_ok() {
             return Err(io::Error::from(ErrorKind::AlreadyExists));
         }
@@ -140,12 +140,12 @@ impl<R: Files + Drop> LocalFile<R> {
     }
 
     /// The bytes that were stored.
-    pub(crate) fn count(&self) -> u64 {
+    pub fn count(&self) -> u64 {
         self.count
     }
 
     /// Why the newest bytes were not stored, or the file was not named.
-    pub(crate) fn into_error(self) -> Option<io::Error> {
+    pub fn into_error(self) -> Option<io::Error> {
         self.error
     }
 

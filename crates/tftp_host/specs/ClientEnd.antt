@@ -4,8 +4,8 @@ use Rattle.std.specs.Fmt.{decimal}
 use Rattle.tftp_ends.specs.Outcome.{outcome_text}
 use Rattle.tftp_ends.specs.declared.fault.OpenFault.{OpenFault}
 use Rattle.tftp_ends.specs.declared.fault.OpenFault.TheVariants as open_faults
-use Rattle.tftp_udp.specs.declared.client_end.ClientEnd.{ClientEnd}
-use Rattle.tftp_udp.specs.declared.client_end.ClientEnd.TheVariants.{Complete, Failed, FileFault, SocketFault, NotOpened, Memory}
+use Rattle.tftp_host.specs.declared.client_end.ClientEnd.{ClientEnd}
+use Rattle.tftp_host.specs.declared.client_end.ClientEnd.TheVariants.{Complete, Failed, FileFault, SocketFault, NotOpened, Memory}
 
 -- the status: 0 for a complete transfer, 1 for one that failed, 2 where none was opened
 abbrev pub status_of : ClientEnd → ℕ

@@ -40,7 +40,7 @@ pub enum LogLine<'a> {
 
 impl fmt::Display for LogLine<'_> {
     ghost use Rattle.std.specs.Prelude.{Some};
-    ghost use Rattle.tftp_udp.specs.LogLine.{log_text};
+    ghost use Rattle.tftp_host.specs.LogLine.{log_text};
 
     ghost output = { λ line. Some (log_text line) };
 

@@ -10,7 +10,7 @@ use tftp_wire::MAX_BLOCK;
 pub(crate) const WRITE_BUFFER: usize = 2 * MAX_BLOCK as usize;
 
 /// A file that has work behind a datagram. What of it fails shows at the next call that needs it.
-pub(crate) trait FileWork {
+pub trait FileWork {
     /// Does it.
     fn work(&mut self);
 }

@@ -4,8 +4,8 @@ use Rattle.std.specs.Fmt.{decimal}
 use Rattle.tftp_ends.specs.Endpoint.{endpoint_text}
 use Rattle.tftp_ends.specs.Outcome.{outcome_text}
 use Rattle.tftp_ends.specs.declared.endpoint.Endpoint.{Endpoint}
-use Rattle.tftp_udp.specs.declared.log_line.LogLine.{LogLine}
-use Rattle.tftp_udp.specs.declared.log_line.LogLine.TheVariants.{Opened, Refused, Ignored, Closed}
+use Rattle.tftp_host.specs.declared.log_line.LogLine.{LogLine}
+use Rattle.tftp_host.specs.declared.log_line.LogLine.TheVariants.{Opened, Refused, Ignored, Closed}
 
 -- whence a datagram came, and what it is
 abbrev pub asked_text : Endpoint → List ℕ → List ℕ → List ℕ

@@ -1,7 +1,7 @@
 //! How a run of `tftp` ended: its last line and its status.
 
 ghost use Rattle.std.specs.Prelude.{◌≡◌};
-ghost use Rattle.tftp_udp.specs.ClientEnd.{open_fault_word, status_of};
+ghost use Rattle.tftp_host.specs.ClientEnd.{open_fault_word, status_of};
 
 use std::fmt;
 use tftp_ends::{OpenFault, Outcome};
@@ -55,7 +55,7 @@ fn open_fault_word(fault: OpenFault) -> &'static str
 
 impl fmt::Display for ClientEnd {
     ghost use Rattle.std.specs.Prelude.{Some};
-    ghost use Rattle.tftp_udp.specs.ClientEnd.{end_text};
+    ghost use Rattle.tftp_host.specs.ClientEnd.{end_text};
 
     ghost output = { λ end. Some (end_text end) };
 

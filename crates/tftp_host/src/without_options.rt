@@ -1,7 +1,7 @@
 //! Whether a transfer is tried again without options.
 
 ghost use Rattle.std.specs.Prelude.{◌≡◌, ◌↔◌, IsTrue};
-ghost use Rattle.tftp_udp.specs.Fallback.{FallsBack};
+ghost use Rattle.tftp_host.specs.Fallback.{FallsBack};
 
 use tftp_ends::Outcome;
 use tftp_negotiate::Asked;

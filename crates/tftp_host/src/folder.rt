@@ -1,7 +1,7 @@
 //! A store over a folder: a server's files are those in it and below it.
 
 ghost use Rattle.std.specs.Prelude.{◌≢◌, IfErr};
-ghost use Rattle.tftp_udp.specs.Folder.{MayNotOpen, MayNotStore, MayNotName};
+ghost use Rattle.tftp_host.specs.Folder.{MayNotOpen, MayNotStore, MayNotName};
 ghost use Rattle.tftp_file.specs.declared.fault.StoreFault.TheVariants.{Memory};
 
 use crate::ahead::Ahead;
@@ -83,7 +83,7 @@ impl<R: Files + Drop> FolderStore<R> {
 
     /// Takes the file that was opened or begun since this was last asked, for the port of its
     /// transfer.
-    pub(crate) fn take_opened(&self) -> Option<PortFile<R::File>> {
+    pub fn take_opened(&self) -> Option<PortFile<R::File>> {
         self.opened.try_replace(None).unwrap_or(None)
     }
 
@@ -244,7 +244,7 @@ fn name_fault(error: &io::Error, replace: bool) -> StoreFault
 
 impl<R: Files + Drop> Store for FolderStore<R> {
     ghost use Rattle.std.specs.Prelude.{None};
-    ghost use Rattle.tftp_udp.specs.Folder.{MayNotOpen, MayNotStore, MayNotBegin, MayNotName};
+    ghost use Rattle.tftp_host.specs.Folder.{MayNotOpen, MayNotStore, MayNotBegin, MayNotName};
 
     type Source = FolderSource<R::File>;
 

@@ -1,7 +1,7 @@
 //! How far a client's transfer came, as a line, and when a line is due.
 
 ghost use Rattle.std.specs.Prelude.{◌≡◌, ◌↔◌, IsTrue, if◌then◌else◌, Some};
-ghost use Rattle.tftp_udp.specs.ProgressLine.{IsLineDue, percent_of, tenths_of};
+ghost use Rattle.tftp_host.specs.ProgressLine.{IsLineDue, percent_of, tenths_of};
 
 use std::fmt;
 
@@ -65,7 +65,7 @@ impl ProgressLine {
 
 impl fmt::Display for ProgressLine {
     ghost use Rattle.std.specs.Prelude.{Some};
-    ghost use Rattle.tftp_udp.specs.ProgressLine.{progress_line_text};
+    ghost use Rattle.tftp_host.specs.ProgressLine.{progress_line_text};
 
     ghost output = { λ line. Some (progress_line_text line) };
 

@@ -1,7 +1,7 @@
 //! A program's own time in milliseconds, and when a transfer has waited long enough.
 
 ghost use Rattle.std.specs.Prelude.{◌≡◌, ◌≤◌, ◌↔◌, IsTrue, min};
-ghost use Rattle.tftp_udp.specs.Watch.{deadline_of, later_by};
+ghost use Rattle.tftp_host.specs.Watch.{deadline_of, later_by};
 
 /// The longest single wait, in milliseconds.
 pub const LONGEST_WAIT: u64 = 1_000;

@@ -15,7 +15,7 @@ use tftp_wire::HEADER;
 /// A read that fails ahead answers `Read` when its block is asked for. Out of memory the block stays, and the
 /// next fill has it. Each fill but the first asks for as much as the one before it. It tells no meaning.
 #[derive(Drop)]
-pub(crate) struct Ahead<S> {
+pub struct Ahead<S> {
     source: S,
     /// The bytes of the wire text that the source has still to give.
     left: u64,

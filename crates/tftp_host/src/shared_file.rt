@@ -10,7 +10,7 @@ use std::rc::Rc;
 use tftp_file::{FileFault, ReadSource, Source};
 
 /// A file that is read.
-pub(crate) type FileAhead<F> = Ahead<ReadSource<BufReader<F>>>;
+pub type FileAhead<F> = Ahead<ReadSource<BufReader<F>>>;
 
 /// The source of a transfer that reads a file of a folder.
 #[derive(Drop)]
@@ -39,7 +39,7 @@ impl<F: Read + Drop> Source for FolderSource<F> {
 
 /// The file of a transfer, as its port has it.
 #[derive(Drop)]
-pub(crate) enum PortFile<F: Read + Write + Drop> {
+pub enum PortFile<F: Read + Write + Drop> {
     /// It is read.
     Read(Rc<RefCell<FileAhead<F>>>),
     /// It is written.
@@ -47,8 +47,8 @@ pub(crate) enum PortFile<F: Read + Write + Drop> {
 }
 
 impl<F: Read + Write + Drop> PortFile<F> {
-    /// Has the file do its work behind a datagram.
-    pub(crate) fn work(&self) {
+    /// Has the file do its work behind a datagram: the next block is read, or what was taken is written.
+    pub fn work(&self) {
         match self {
             PortFile::Read(ahead) => work_in(ahead),
             PortFile::Written(writer) => work_in(writer),
