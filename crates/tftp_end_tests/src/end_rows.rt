@@ -5,6 +5,7 @@ ghost use Rattle.std.specs.Prelude.{◌≡◌, false, IfOk};
 ghost use Rattle.tftp_ends.specs.End.{is_sender};
 ghost use Rattle.tftp_ends.specs.Files.{AreFilesOf};
 
+use crate::expect::{expect, expect_bytes, expect_equal};
 use std::alloc::Global;
 use std::process::Abort;
 use std::test::Fail;
@@ -63,8 +64,8 @@ fn asks_by_a_request(rt: HostRuntime) -> Result<(), Fail> {
     let mut out = Vec::new(rt.alloc());
     let (_, step) = get(rt.alloc(), b"boot.img", &mut out)?;
     let request = b"\x00\x01boot.img\x00octet\x00".as_slice();
-    assert_eq!(rt; out.as_slice(), request, "an RRQ");
-    assert_eq!(rt; step.to, Some(SERVER), "to the request port");
+    expect_bytes(&rt, out.as_slice(), request, "an RRQ");
+    expect_equal(&rt, &step.to, &Some(SERVER), "to the request port");
     Ok(())
 }
 
@@ -83,7 +84,7 @@ const ASKED: Record = Record {
 fn has_no_peer_before_the_first_answer(rt: HostRuntime) -> Result<(), Fail> {
     let mut out = Vec::new(rt.alloc());
     let (end, _) = get(rt.alloc(), b"boot.img", &mut out)?;
-    assert_eq!(rt; end.record(), ASKED, "the record");
+    expect_equal(&rt, &end.record(), &ASKED, "the record");
     Ok(())
 }
 
@@ -93,13 +94,14 @@ const WRONG_NAMES: [&[u8]; 3] = [b"", b"a\x00b", &[b'a'; 504]];
 fn is_bad_request(rt: &impl Abort, alloc: Global, name: &[u8]) {
     let mut out = Vec::new(alloc);
     let refused = get(alloc, name, &mut out);
-    assert_eq!(rt; refused.err(), Some(OpenFault::BadRequest), "{name:?}");
-    assert!(rt; out.is_empty(), "nothing is sent for {name:?}");
+    let found = (name, refused.err(), out.is_empty());
+    let wanted = (name, Some(OpenFault::BadRequest), true);
+    expect_equal(rt, &found, &wanted, "a wrong name, and nothing is sent");
 }
 
 #[test]
 fn asks_for_no_wrong_name(rt: HostRuntime) {
-    for name in WRONG_NAMES {
+    for &name in &WRONG_NAMES {
         is_bad_request(&rt, rt.alloc(), name);
     }
 }
@@ -113,16 +115,23 @@ fn takes(
     from: Endpoint,
     bytes: &[u8],
     answer: &[u8],
-) -> Result<Step, Fail>
+) -> Step
     requires { AreFilesOf end.old.role.side files.old }
     ensures { AreFilesOf end.new.role.side files.new }
 {
     let mut out = Vec::new(alloc);
-    let step = end.on_datagram(files, from, bytes, &mut out)?;
-    assert_eq!(rt; out.as_slice(), answer, "the answer to {bytes:?}");
+    let step = end
+        .on_datagram(files, from, bytes, &mut out)
+        .expect(rt, "the end takes it");
     let to = if answer.is_empty() { None } else { Some(from) };
-    assert_eq!(rt; step.to, to, "where the answer to {bytes:?} goes");
-    Ok(step)
+    let found = (bytes, out.as_slice(), step.to);
+    expect_equal(
+        rt,
+        &found,
+        &(bytes, answer, to),
+        "the answer, and where it goes",
+    );
+    step
 }
 
 /// A server's end that has sent DATA 1 of a file to the client.
@@ -145,8 +154,8 @@ fn sender(
         5,
         &mut out,
     )?;
-    assert_eq!(rt; out.len(), 4 + file.len(), "DATA 1 has the file");
-    assert_eq!(rt; step.to, Some(CLIENT), "it goes to the client");
+    expect_equal(rt, &out.len(), &(4 + file.len()), "DATA 1 has the file");
+    expect_equal(rt, &step.to, &Some(CLIENT), "it goes to the client");
     Ok((end, files))
 }
 
@@ -163,7 +172,7 @@ fn sends_a_full_block(rt: HostRuntime) -> Result<(), Fail> {
         SERVER_END,
         ACK_1,
         UNKNOWN_ID,
-    )?;
+    );
     takes(
         &rt,
         rt.alloc(),
@@ -172,24 +181,24 @@ fn sends_a_full_block(rt: HostRuntime) -> Result<(), Fail> {
         CLIENT,
         ACK_1,
         EMPTY_DATA_2,
-    )?;
-    takes(&rt, rt.alloc(), &mut end, &mut files, CLIENT, ACK_1, b"")?;
-    let step = takes(&rt, rt.alloc(), &mut end, &mut files, CLIENT, ACK_2, b"")?;
-    assert_eq!(rt; step.closed, Some(Outcome::Complete), "the last ACK");
-    assert_eq!(rt; end.record().number, 2, "the blocks");
+    );
+    takes(&rt, rt.alloc(), &mut end, &mut files, CLIENT, ACK_1, b"");
+    let step = takes(&rt, rt.alloc(), &mut end, &mut files, CLIENT, ACK_2, b"");
+    expect_equal(&rt, &step.closed, &Some(Outcome::Complete), "the last ACK");
+    expect_equal(&rt, &end.record().number, &2, "the blocks");
     Ok(())
 }
 
 #[test]
 fn a_closed_end_takes_nothing(rt: HostRuntime) -> Result<(), Fail> {
     let (mut end, mut files) = sender(&rt, rt.alloc(), b"ABC")?;
-    takes(&rt, rt.alloc(), &mut end, &mut files, CLIENT, ACK_1, b"")?;
+    takes(&rt, rt.alloc(), &mut end, &mut files, CLIENT, ACK_1, b"");
     let mut out = Vec::new(rt.alloc());
     let late = end.on_datagram(&mut files, CLIENT, ACK_1, &mut out);
-    assert_eq!(rt; late.err(), Some(EndFault::Closed), "a late ACK");
+    expect_equal(&rt, &late.err(), &Some(EndFault::Closed), "a late ACK");
     let late = end.on_timeout(&mut out);
-    assert_eq!(rt; late.err(), Some(EndFault::Closed), "a late timeout");
-    assert!(rt; out.is_empty(), "nothing is sent");
+    expect_equal(&rt, &late.err(), &Some(EndFault::Closed), "a late timeout");
+    expect(&rt, out.is_empty(), "nothing is sent");
     Ok(())
 }
 
@@ -215,14 +224,18 @@ fn receives_a_short_block(rt: HostRuntime) -> Result<(), Fail> {
         SERVER_END,
         DATA_1,
         ACK_1,
-    )?;
-    assert!(rt; step.progress, "a block is stored");
-    assert!(rt; end.record().complete, "stored, committed and acknowledged");
+    );
+    expect(&rt, step.progress, "a block is stored");
+    expect(
+        &rt,
+        end.record().complete,
+        "stored, committed and acknowledged",
+    );
     let Files::Sink(sink) = &files else {
         return Err(Fail::from("a sink"));
     };
-    assert_eq!(rt; sink.as_bytes(), b"ABC".as_slice(), "what is stored");
-    assert!(rt; sink.is_committed(), "it is committed");
+    expect_bytes(&rt, sink.as_bytes(), b"ABC".as_slice(), "what is stored");
+    expect(&rt, sink.is_committed(), "it is committed");
     Ok(())
 }
 
@@ -238,7 +251,7 @@ fn dallies(rt: HostRuntime) -> Result<(), Fail> {
         SERVER_END,
         DATA_1,
         ACK_1,
-    )?;
+    );
     takes(
         &rt,
         rt.alloc(),
@@ -247,17 +260,18 @@ fn dallies(rt: HostRuntime) -> Result<(), Fail> {
         SERVER_END,
         DATA_1,
         ACK_1,
-    )?;
+    );
     let mut out = Vec::new(rt.alloc());
     let first = end.on_timeout(&mut out)?;
-    assert_eq!(rt; first.closed, None, "the first timeout");
+    expect_equal(&rt, &first.closed, &None, "the first timeout");
     let second = end.on_timeout(&mut out)?;
-    assert_eq!(rt;
-        second.closed,
-        Some(Outcome::Complete),
-        "the second timeout"
+    expect_equal(
+        &rt,
+        &second.closed,
+        &Some(Outcome::Complete),
+        "the second timeout",
     );
-    assert!(rt; out.is_empty(), "nothing is sent");
+    expect(&rt, out.is_empty(), "nothing is sent");
     Ok(())
 }
 
@@ -265,8 +279,8 @@ fn dallies(rt: HostRuntime) -> Result<(), Fail> {
 fn asks_again(rt: &impl Abort, end: &mut End, out: &mut Vec<u8>) -> Result<(), Fail> {
     out.clear();
     let step = end.on_timeout(out)?;
-    assert_eq!(rt; step.to, Some(SERVER), "to the request port");
-    assert_eq!(rt; out.as_slice(), RRQ_A, "the same bytes");
+    expect_equal(rt, &step.to, &Some(SERVER), "to the request port");
+    expect_bytes(rt, out.as_slice(), RRQ_A, "the same bytes");
     Ok(())
 }
 
@@ -280,8 +294,8 @@ fn gives_up_in_silence(rt: HostRuntime) -> Result<(), Fail> {
     }
     out.clear();
     let step = end.on_timeout(&mut out)?;
-    assert_eq!(rt; step.closed, Some(Outcome::TimedOut), "the sixth");
-    assert!(rt; out.is_empty(), "nothing is sent");
+    expect_equal(&rt, &step.closed, &Some(Outcome::TimedOut), "the sixth");
+    expect(&rt, out.is_empty(), "nothing is sent");
     Ok(())
 }
 
@@ -301,13 +315,13 @@ const ERRORS: [(ErrorReply, u16, &str); 11] = [
 ];
 
 fn is_error(rt: &impl Abort, reply: ErrorReply, code: u16, text: &str) {
-    assert_eq!(rt; reply.code(), code, "the code of {text}");
-    assert_eq!(rt; reply.text(), text, "the text of {code}");
+    let found = (reply.code(), reply.text());
+    expect_equal(rt, &found, &(code, text), "the code and the text");
 }
 
 #[test]
 fn error_codes(rt: HostRuntime) {
-    for (reply, code, text) in ERRORS {
+    for &(reply, code, text) in &ERRORS {
         is_error(&rt, reply, code, text);
     }
 }
@@ -332,15 +346,15 @@ fn is_outcome(
     number: u8,
     text: &str,
 ) -> Result<(), Fail> {
-    assert_eq!(rt; outcome.number(), number, "the number of {text}");
     let shown = format!(in alloc; "{outcome:?}")?;
-    assert_eq!(rt; shown.as_str(), text, "the words of {number}");
+    let found = (outcome.number(), shown.as_str());
+    expect_equal(rt, &found, &(number, text), "the number and the words");
     Ok(())
 }
 
 #[test]
 fn outcomes(rt: HostRuntime) -> Result<(), Fail> {
-    for (outcome, number, text) in OUTCOMES {
+    for &(outcome, number, text) in &OUTCOMES {
         is_outcome(&rt, rt.alloc(), outcome, number, text)?;
     }
     Ok(())
@@ -356,15 +370,25 @@ const SIDES: [(Side, bool, bool); 4] = [
 
 #[test]
 fn sides(rt: HostRuntime) {
-    for (side, sends, asks) in SIDES {
-        let found = (side.is_sender(), side.is_client());
-        assert_eq!(rt; found, (sends, asks), "of {side:?}");
+    for &(side, sends, asks) in &SIDES {
+        let found = (side, side.is_sender(), side.is_client());
+        expect_equal(
+            &rt,
+            &found,
+            &(side, sends, asks),
+            "whether it sends, and asks",
+        );
     }
 }
 
 #[test]
 fn endpoints_are_printed(rt: HostRuntime) -> Result<(), Fail> {
     let shown = format!(in rt.alloc(); "{SERVER}")?;
-    assert_eq!(rt; shown.as_str(), "10.0.0.1:69", "an address and a port");
+    expect_equal(
+        &rt,
+        &shown.as_str(),
+        &"10.0.0.1:69",
+        "an address and a port",
+    );
     Ok(())
 }

@@ -5,6 +5,7 @@ ghost use Rattle.std.specs.Prelude.{◌≡◌, ◌<◌, false, IfOk};
 ghost use Rattle.tftp_ends.specs.End.{is_sender};
 ghost use Rattle.tftp_ends.specs.Files.{AreFilesOf};
 
+use crate::expect::{expect, expect_equal};
 use std::alloc::Global;
 use std::process::Abort;
 use std::test::Fail;
@@ -84,14 +85,16 @@ fn answers(
     files: &mut Sending,
     ack: &[u8],
     answer: &[u8],
-) -> Result<Option<Outcome>, Fail>
+) -> Option<Outcome>
     requires { AreFilesOf end.old.role.side files.old }
     ensures { AreFilesOf end.new.role.side files.new }
 {
     let mut out = Vec::new(alloc);
-    let step = end.on_datagram(files, CLIENT, ack, &mut out)?;
-    assert_eq!(rt; out.as_slice(), answer, "the answer to {ack:?}");
-    Ok(step.closed)
+    let step = end
+        .on_datagram(files, CLIENT, ack, &mut out)
+        .expect(rt, "the end takes it");
+    expect_equal(rt, &(ack, out.as_slice()), &(ack, answer), "the answer");
+    step.closed
 }
 
 /// So many blocks are sent; where the next one is wanted, the file has changed.
@@ -107,12 +110,13 @@ fn breaks_off(
 {
     let (mut end, mut files) = sender(alloc, file, give, fail)?;
     for at in 0..sent {
-        answers(rt, alloc, &mut end, &mut files, ACKS[at], DATA[at])?;
+        answers(rt, alloc, &mut end, &mut files, ACKS[at], DATA[at]);
     }
     let changed = b"\x00\x05\x00\x00file changed\x00";
-    let closed = answers(rt, alloc, &mut end, &mut files, ACKS[sent], changed)?;
-    assert_eq!(rt; closed, Some(Outcome::SourceFault), "after block {sent}");
-    assert_eq!(rt; usize::from(end.record().number), sent, "the blocks sent");
+    let closed = answers(rt, alloc, &mut end, &mut files, ACKS[sent], changed);
+    let found = (usize::from(end.record().number), closed);
+    let wanted = (sent, Some(Outcome::SourceFault));
+    expect_equal(rt, &found, &wanted, "the blocks sent, and how it closed");
     Ok(())
 }
 
@@ -153,15 +157,17 @@ fn takes(
     sink: &mut MemSink,
     data: &[u8],
     answer: &[u8],
-) -> Result<Option<Outcome>, Fail>
+) -> Option<Outcome>
     requires { is_sender end.old.role.side ≡ false }
     ensures { is_sender end.new.role.side ≡ false }
 {
     let mut files: Files<MemSource, &mut MemSink> = Files::Sink(sink);
     let mut out = Vec::new(alloc);
-    let step = end.on_datagram(&mut files, CLIENT, data, &mut out)?;
-    assert_eq!(rt; out.as_slice(), answer, "the answer to {data:?}");
-    Ok(step.closed)
+    let step = end
+        .on_datagram(&mut files, CLIENT, data, &mut out)
+        .expect(rt, "the end takes it");
+    expect_equal(rt, &(data, out.as_slice()), &(data, answer), "the answer");
+    step.closed
 }
 
 /// So many blocks are stored; what the next one asks of the sink is refused.
@@ -171,19 +177,16 @@ fn is_full(rt: &impl Abort, alloc: Global, stored: usize, next: &[u8]) -> Result
     let mut end = receiver(alloc)?;
     let mut sink = MemSink::new(alloc, 1000, false);
     for at in 0..stored {
-        takes(rt, alloc, &mut end, &mut sink, DATA[at], ACKS[at + 1])?;
+        takes(rt, alloc, &mut end, &mut sink, DATA[at], ACKS[at + 1]);
     }
     sink.refuse_next(true);
     let full = b"\x00\x05\x00\x03disk full\x00";
-    let closed = takes(rt, alloc, &mut end, &mut sink, next, full)?;
-    assert_eq!(rt; closed, Some(Outcome::StoreFault), "after block {stored}");
-    assert_eq!(rt;
-        usize::from(end.record().number),
-        stored,
-        "the blocks stored"
-    );
-    assert_eq!(rt; sink.as_bytes().len(), 8 * stored, "their bytes");
-    assert!(rt; !sink.is_committed(), "they are not committed");
+    let closed = takes(rt, alloc, &mut end, &mut sink, next, full);
+    let number = usize::from(end.record().number);
+    let found = (number, sink.as_bytes().len(), closed);
+    let wanted = (stored, 8 * stored, Some(Outcome::StoreFault));
+    expect_equal(rt, &found, &wanted, "the blocks stored, and how it closed");
+    expect(rt, !sink.is_committed(), "they are not committed");
     Ok(())
 }
 

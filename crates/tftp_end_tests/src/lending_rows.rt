@@ -3,6 +3,7 @@
 ghost use Rattle.std.specs.Prelude.{◌≡◌, false, IfOk};
 ghost use Rattle.tftp_ends.specs.End.{is_sender};
 
+use crate::expect::{expect_bytes, expect_equal};
 use std::alloc::Global;
 use std::net::{Ipv4Addr, SocketAddrV4};
 use std::test::Fail;
@@ -49,10 +50,15 @@ fn client(alloc: Global) -> Result<End, Fail>
 #[test]
 fn the_last_datagram_is_lent(rt: HostRuntime) -> Result<(), Fail> {
     let end = client(rt.alloc())?;
-    assert_eq!(rt; end.bytes_of(Outgoing::LastSent), RRQ_A, "the request");
-    assert_eq!(rt; end.bytes_of(Outgoing::Nothing), b"".as_slice(), "nothing");
+    expect_bytes(&rt, end.bytes_of(Outgoing::LastSent), RRQ_A, "the request");
+    expect_bytes(
+        &rt,
+        end.bytes_of(Outgoing::Nothing),
+        b"".as_slice(),
+        "nothing",
+    );
     let unknown = end.bytes_of(Outgoing::Error(ErrorReply::UnknownTransferId));
-    assert_eq!(rt; unknown, UNKNOWN_ID, "an ERROR");
+    expect_bytes(&rt, unknown, UNKNOWN_ID, "an ERROR");
     Ok(())
 }
 
@@ -61,9 +67,14 @@ fn an_ack_is_lent(rt: HostRuntime) -> Result<(), Fail> {
     let mut end = client(rt.alloc())?;
     let mut files: Files<MemSource, MemSink> = Files::Sink(MemSink::new(rt.alloc(), 9, false));
     let (step, outgoing) = end.handle_datagram(&mut files, SERVER, b"\x00\x03\x00\x01ABC")?;
-    assert_eq!(rt; step.to, Some(SERVER), "to the server");
-    assert_eq!(rt; end.bytes_of(outgoing), ACK_1, "ACK 1");
-    assert_eq!(rt; end.interval(), 1, "a second where no timeout is agreed");
+    expect_equal(&rt, &step.to, &Some(SERVER), "to the server");
+    expect_bytes(&rt, end.bytes_of(outgoing), ACK_1, "ACK 1");
+    expect_equal(
+        &rt,
+        &end.interval(),
+        &1,
+        "a second where no timeout is agreed",
+    );
     Ok(())
 }
 
@@ -73,12 +84,13 @@ fn an_error_to_a_stranger_is_lent(rt: HostRuntime) -> Result<(), Fail> {
     let mut end = client(rt.alloc())?;
     let mut files: Files<MemSource, MemSink> = Files::Sink(MemSink::new(rt.alloc(), 9, false));
     let (step, outgoing) = end.handle_datagram(&mut files, STRANGER, ACK_1)?;
-    assert_eq!(rt; step.to, Some(STRANGER), "to the stranger");
-    assert_eq!(rt; end.bytes_of(outgoing), UNKNOWN_ID, "ERROR 5");
-    assert_eq!(rt;
+    expect_equal(&rt, &step.to, &Some(STRANGER), "to the stranger");
+    expect_bytes(&rt, end.bytes_of(outgoing), UNKNOWN_ID, "ERROR 5");
+    expect_bytes(
+        &rt,
         end.bytes_of(Outgoing::LastSent),
         RRQ_A,
-        "the request stays"
+        "the request stays",
     );
     Ok(())
 }
@@ -87,13 +99,19 @@ fn an_error_to_a_stranger_is_lent(rt: HostRuntime) -> Result<(), Fail> {
 fn a_timeout_without_a_retry_lends_nothing(rt: HostRuntime) -> Result<(), Fail> {
     let mut end = client(rt.alloc())?;
     let (step, outgoing) = end.handle_timeout()?;
-    assert_eq!(rt; step.closed, Some(Outcome::TimedOut), "it gives up");
-    assert_eq!(rt; outgoing, Outgoing::Nothing, "in silence");
-    assert_eq!(rt; end.outcome(), Some(Outcome::TimedOut), "and stays closed");
-    assert_eq!(rt;
-        end.handle_timeout().err(),
-        Some(EndFault::Closed),
-        "a late timeout"
+    expect_equal(&rt, &step.closed, &Some(Outcome::TimedOut), "it gives up");
+    expect_equal(&rt, &outgoing, &Outgoing::Nothing, "in silence");
+    expect_equal(
+        &rt,
+        &end.outcome(),
+        &Some(Outcome::TimedOut),
+        "and stays closed",
+    );
+    expect_equal(
+        &rt,
+        &end.handle_timeout().err(),
+        &Some(EndFault::Closed),
+        "a late timeout",
     );
     Ok(())
 }
@@ -103,7 +121,7 @@ fn errors_are_appended(rt: HostRuntime) -> Result<(), Fail> {
     let mut out = Vec::from_slice(rt.alloc(), b"old")?;
     ErrorReply::DiskFull.append_to(&mut out)?;
     let want = b"old\x00\x05\x00\x03disk full\x00".as_slice();
-    assert_eq!(rt; out.as_slice(), want, "behind the old bytes");
+    expect_bytes(&rt, out.as_slice(), want, "behind the old bytes");
     Ok(())
 }
 
@@ -117,15 +135,16 @@ const DATAGRAMS: [(&[u8], bool); 4] = [
 
 #[test]
 fn datagrams_are_decoded(rt: HostRuntime) {
-    for (bytes, is_packet) in DATAGRAMS {
+    for &(bytes, is_packet) in &DATAGRAMS {
         let decoded = decode_packet(bytes);
-        assert_eq!(rt; decoded.is_some(), is_packet, "the packet of {bytes:?}");
+        let found = (bytes, decoded.is_some());
+        expect_equal(&rt, &found, &(bytes, is_packet), "whether it is a packet");
     }
 }
 
 #[test]
 fn endpoints_are_socket_addresses(rt: HostRuntime) {
     let address = SocketAddrV4::new(Ipv4Addr::new(10, 0, 0, 1), 69);
-    assert_eq!(rt; Endpoint::from(address), SERVER, "of an address");
-    assert_eq!(rt; SocketAddrV4::from(SERVER), address, "and back");
+    expect_equal(&rt, &Endpoint::from(address), &SERVER, "of an address");
+    expect_equal(&rt, &SocketAddrV4::from(SERVER), &address, "and back");
 }

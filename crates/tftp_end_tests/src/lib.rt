@@ -4,6 +4,8 @@
 #[cfg(test)]
 mod end_rows;
 #[cfg(test)]
+mod expect;
+#[cfg(test)]
 mod fault_end_rows;
 #[cfg(test)]
 mod lending_rows;

@@ -4,6 +4,7 @@
 ghost use Rattle.std.specs.Prelude.{IfOk};
 ghost use Rattle.tftp_ends.specs.Files.{AreFilesOf};
 
+use crate::expect::{expect, expect_bytes, expect_equal};
 use std::alloc::Global;
 use std::io::{self, Read, Repeat, Take};
 use std::process::Abort;
@@ -115,8 +116,8 @@ fn is_whole(rt: &impl Abort, files: &Files<MemSource, MemSink>) -> Result<(), Fa
         return Err(Fail::from("a sink"));
     };
     let bytes = sink.as_bytes();
-    assert_eq!(rt; bytes.len(), 524_279, "how many bytes");
-    assert!(rt; bytes.iter().all(|byte| *byte == b'x'), "each of them");
+    expect_equal(rt, &bytes.len(), &524_279, "how many bytes");
+    expect(rt, bytes.iter().all(|byte| *byte == b'x'), "each of them");
     Ok(())
 }
 
@@ -126,10 +127,11 @@ fn the_last_number_is_reached(rt: HostRuntime) -> Result<(), Fail> {
     let mut data = Vec::new(rt.alloc());
     let (mut client, mut sink) = reader(rt.alloc(), &mut data)?;
     let (mut server, mut source) = sender(rt.alloc(), &mut data)?;
-    assert_eq!(rt;
+    expect_bytes(
+        &rt,
         data.as_slice(),
         b"\x00\x06blksize\x008\x00".as_slice(),
-        "the OACK"
+        "the OACK",
     );
     let mut datagrams = 2u32;
     for _ in 0..65_536u32 {
@@ -143,9 +145,9 @@ fn the_last_number_is_reached(rt: HostRuntime) -> Result<(), Fail> {
         )?;
         datagrams = datagrams.saturating_add(added);
     }
-    assert_eq!(rt; datagrams, 131_073, "how many datagrams");
-    assert_eq!(rt; client.record().number, 65_535, "the last block");
-    assert!(rt; client.record().complete, "it is stored");
-    assert!(rt; server.record().complete, "it is acknowledged");
+    expect_equal(&rt, &datagrams, &131_073, "how many datagrams");
+    expect_equal(&rt, &client.record().number, &65_535, "the last block");
+    expect(&rt, client.record().complete, "it is stored");
+    expect(&rt, server.record().complete, "it is acknowledged");
     is_whole(&rt, &sink)
 }

@@ -4,6 +4,7 @@
 ghost use Rattle.std.specs.Prelude.{◌≡◌, IfOk};
 ghost use Rattle.tftp_ends.specs.Files.{AreFilesOf};
 
+use crate::expect::{expect_bytes, expect_equal};
 use std::alloc::Global;
 use std::process::Abort;
 use std::test::Fail;
@@ -59,14 +60,16 @@ fn takes(
     files: &mut Files<MemSource, MemSink>,
     bytes: &[u8],
     answer: &[u8],
-) -> Result<Step, Fail>
+) -> Step
     requires { AreFilesOf end.old.role.side files.old }
     ensures { AreFilesOf end.new.role.side files.new }
 {
     let mut out = Vec::new(alloc);
-    let step = end.on_datagram(files, SERVER_END, bytes, &mut out)?;
-    assert_eq!(rt; out.as_slice(), answer, "the answer to {bytes:?}");
-    Ok(step)
+    let step = end
+        .on_datagram(files, SERVER_END, bytes, &mut out)
+        .expect(rt, "the end takes it");
+    expect_equal(rt, &(bytes, out.as_slice()), &(bytes, answer), "the answer");
+    step
 }
 
 /// A client that asks to read in netascii.
@@ -96,8 +99,13 @@ fn holds(
     let Files::Sink(sink) = files else {
         return Err(Fail::from("a sink"));
     };
-    assert_eq!(rt; sink.as_bytes(), bytes, "what is stored");
-    assert_eq!(rt; sink.is_committed(), committed, "whether it is committed");
+    expect_bytes(rt, sink.as_bytes(), bytes, "what is stored");
+    expect_equal(
+        rt,
+        &sink.is_committed(),
+        &committed,
+        "whether it is committed",
+    );
     Ok(())
 }
 
@@ -112,18 +120,15 @@ const WRONG: [&[u8]; 4] = [
 
 fn is_refused(rt: &impl Abort, alloc: Global, bytes: &[u8]) -> Result<(), Fail> {
     let (mut end, mut files) = reader(alloc, &Asked::default())?;
-    let step = takes(rt, alloc, &mut end, &mut files, bytes, NOT_NETASCII)?;
-    assert_eq!(rt;
-        step.closed,
-        Some(Outcome::NotNetascii),
-        "closed by {bytes:?}"
-    );
+    let step = takes(rt, alloc, &mut end, &mut files, bytes, NOT_NETASCII);
+    let wanted = (bytes, Some(Outcome::NotNetascii));
+    expect_equal(rt, &(bytes, step.closed), &wanted, "how it closes");
     holds(rt, &files, b"", false)
 }
 
 #[test]
 fn wrong_text_closes_a_receiver(rt: HostRuntime) -> Result<(), Fail> {
-    for bytes in WRONG {
+    for &bytes in &WRONG {
         is_refused(&rt, rt.alloc(), bytes)?;
     }
     Ok(())
@@ -134,9 +139,9 @@ fn cut_behind_cr(rt: &impl Abort, alloc: Global) -> Result<(End, Files<MemSource
     ensures { IfOk result (λ opened. AreFilesOf opened.0.role.side opened.1) }
 {
     let (mut end, mut files) = reader(alloc, &EIGHT)?;
-    takes(rt, alloc, &mut end, &mut files, OACK_8, ACK_0)?;
+    takes(rt, alloc, &mut end, &mut files, OACK_8, ACK_0);
     let data = b"\x00\x03\x00\x01AAAAAAA\r".as_slice();
-    takes(rt, alloc, &mut end, &mut files, data, ACK_1)?;
+    takes(rt, alloc, &mut end, &mut files, data, ACK_1);
     Ok((end, files))
 }
 
@@ -148,7 +153,7 @@ fn a_receiver_keeps_an_ack_and_a_cr(rt: HostRuntime) -> Result<(), Fail> {
         datagram: 4,
         text: 1,
     };
-    assert_eq!(rt; end.held(), held, "an ACK and a CR");
+    expect_equal(&rt, &end.held(), &held, "an ACK and a CR");
     holds(&rt, &files, b"AAAAAAA", false)
 }
 
@@ -168,14 +173,14 @@ fn goes_on(
     stored: &[u8],
 ) -> Result<(), Fail> {
     let (mut end, mut files) = cut_behind_cr(rt, alloc)?;
-    takes(rt, alloc, &mut end, &mut files, bytes, answer)?;
-    assert_eq!(rt; end.record().complete, answer == ACK_2, "complete");
+    takes(rt, alloc, &mut end, &mut files, bytes, answer);
+    expect_equal(rt, &end.record().complete, &(answer == ACK_2), "complete");
     holds(rt, &files, stored, answer == ACK_2)
 }
 
 #[test]
 fn a_pair_is_cut_between_blocks(rt: HostRuntime) -> Result<(), Fail> {
-    for (bytes, answer, stored) in SECONDS {
+    for &(bytes, answer, stored) in &SECONDS {
         goes_on(&rt, rt.alloc(), bytes, answer, stored)?;
     }
     Ok(())
@@ -199,12 +204,12 @@ fn a_sender_keeps_its_block(rt: HostRuntime) -> Result<(), Fail> {
     let source = MemSource::new(rt.alloc(), b"ABCDEFGHI", Mode::Octet)?;
     let mut files: Files<MemSource, MemSink> = Files::Source(source);
     let data = b"\x00\x03\x00\x01ABCDEFGH".as_slice();
-    takes(&rt, rt.alloc(), &mut end, &mut files, OACK_8, data)?;
+    takes(&rt, rt.alloc(), &mut end, &mut files, OACK_8, data);
     let held = Held {
         datagram: 12,
         text: 0,
     };
-    assert_eq!(rt; end.held(), held, "a header and a block");
+    expect_equal(&rt, &end.held(), &held, "a header and a block");
     Ok(())
 }
 
@@ -280,7 +285,7 @@ fn is_got(
         first == host.len() && one == 1,
     )?;
     if data.is_empty() {
-        assert_eq!(rt; 3, datagrams, "a request, DATA 1 and its ACK");
+        expect_equal(rt, &3, &datagrams, "a request, DATA 1 and its ACK");
         return Ok(());
     }
     round(
@@ -291,7 +296,7 @@ fn is_got(
         &mut source,
         &mut data,
     )?;
-    assert_eq!(rt; 5, datagrams, "a request, two DATA and their ACKs");
+    expect_equal(rt, &5, &datagrams, "a request, two DATA and their ACKs");
     holds(rt, &sink, host, true)
 }
 
@@ -326,7 +331,12 @@ fn is_answered(rt: &impl Abort, alloc: Global, request: &[u8], answer: &[u8]) ->
     End::serve_read(
         alloc, &mut files, CLIENT, asks.mode, &agreed, 0, 5, &mut out,
     )?;
-    assert_eq!(rt; out.as_slice(), answer, "the answer to {request:?}");
+    expect_equal(
+        rt,
+        &(request, out.as_slice()),
+        &(request, answer),
+        "the answer",
+    );
     Ok(())
 }
 

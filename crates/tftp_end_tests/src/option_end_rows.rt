@@ -5,6 +5,7 @@ ghost use Rattle.std.specs.Prelude.{◌≡◌, false, true, IfOk};
 ghost use Rattle.tftp_ends.specs.End.{is_sender};
 ghost use Rattle.tftp_ends.specs.Files.{AreFilesOf};
 
+use crate::expect::{expect, expect_bytes, expect_equal};
 use std::alloc::Global;
 use std::process::Abort;
 use std::test::Fail;
@@ -75,8 +76,8 @@ fn asks(
 ) -> Result<(), Fail> {
     let mut out = Vec::new(alloc);
     let (_, step) = End::get(alloc, SERVER, b"boot.img", mode, asked, &CONFIG, &mut out)?;
-    assert_eq!(rt; out.as_slice(), request, "the request");
-    assert_eq!(rt; step.to, Some(SERVER), "to the request port");
+    expect_bytes(rt, out.as_slice(), request, "the request");
+    expect_equal(rt, &step.to, &Some(SERVER), "to the request port");
     Ok(())
 }
 
@@ -131,8 +132,9 @@ const SOME_LENGTH: Asked = Asked {
 fn is_bad_request(rt: &impl Abort, alloc: Global, asked: &Asked) {
     let mut out = Vec::new(alloc);
     let refused = End::get(alloc, SERVER, b"a", Mode::Octet, asked, &CONFIG, &mut out);
-    assert_eq!(rt; refused.err(), Some(OpenFault::BadRequest), "{asked:?}");
-    assert!(rt; out.is_empty(), "nothing is sent");
+    let found = (asked, refused.err(), out.is_empty());
+    let wanted = (asked, Some(OpenFault::BadRequest), true);
+    expect_equal(rt, &found, &wanted, "a wrong option, and nothing is sent");
 }
 
 #[test]
@@ -161,8 +163,8 @@ fn options_count_in_a_request(rt: HostRuntime) {
         &CONFIG,
         &mut out,
     );
-    assert!(rt; longest.is_ok(), "512 bytes");
-    assert_eq!(rt; out.len(), 512, "they are sent");
+    expect(&rt, longest.is_ok(), "512 bytes");
+    expect_equal(&rt, &out.len(), &512, "they are sent");
     let longer = End::get(
         rt.alloc(),
         SERVER,
@@ -172,7 +174,7 @@ fn options_count_in_a_request(rt: HostRuntime) {
         &CONFIG,
         &mut out,
     );
-    assert_eq!(rt; longer.err(), Some(OpenFault::BadRequest), "one more");
+    expect_equal(&rt, &longer.err(), &Some(OpenFault::BadRequest), "one more");
 }
 
 /// What a server agrees to of a read request, of a file of 512 bytes.
@@ -211,8 +213,8 @@ fn sender(
         5,
         &mut out,
     )?;
-    assert_eq!(rt; out.as_slice(), oack, "the OACK");
-    assert_eq!(rt; step.to, Some(CLIENT), "to the client");
+    expect_bytes(rt, out.as_slice(), oack, "the OACK");
+    expect_equal(rt, &step.to, &Some(CLIENT), "to the client");
     Ok((end, files))
 }
 
@@ -231,14 +233,14 @@ const ANSWERS: [(&[u8], &[u8]); 2] = [
 
 fn answers(rt: &impl Abort, alloc: Global, request: &[u8], oack: &[u8]) -> Result<(), Fail> {
     let (end, _) = sender(rt, alloc, request, oack)?;
-    assert_eq!(rt; end.record().size, 1428, "the block size");
-    assert_eq!(rt; end.interval(), 3, "the timeout");
+    expect_equal(rt, &end.record().size, &1428, "the block size");
+    expect_equal(rt, &end.interval(), &3, "the timeout");
     Ok(())
 }
 
 #[test]
 fn answers_by_an_oack(rt: HostRuntime) -> Result<(), Fail> {
-    for (request, oack) in ANSWERS {
+    for &(request, oack) in &ANSWERS {
         answers(&rt, rt.alloc(), request, oack)?;
     }
     Ok(())
@@ -253,14 +255,16 @@ fn takes(
     from: Endpoint,
     bytes: &[u8],
     answer: &[u8],
-) -> Result<Step, Fail>
+) -> Step
     requires { AreFilesOf end.old.role.side files.old }
     ensures { AreFilesOf end.new.role.side files.new }
 {
     let mut out = Vec::new(alloc);
-    let step = end.on_datagram(files, from, bytes, &mut out)?;
-    assert_eq!(rt; out.as_slice(), answer, "the answer to {bytes:?}");
-    Ok(step)
+    let step = end
+        .on_datagram(files, from, bytes, &mut out)
+        .expect(rt, "the end takes it");
+    expect_equal(rt, &(bytes, out.as_slice()), &(bytes, answer), "the answer");
+    step
 }
 
 const ASKS_512: &[u8] = b"\x00\x01a\x00octet\x00blksize\x00512\x00";
@@ -281,9 +285,9 @@ fn sends_after_the_oack_is_acknowledged(rt: HostRuntime) -> Result<(), Fail> {
     let (mut end, mut files) = sender(&rt, rt.alloc(), ASKS_512, OACK_512)?;
     let mut out = Vec::new(rt.alloc());
     end.on_timeout(&mut out)?;
-    assert_eq!(rt; out.as_slice(), OACK_512, "the OACK again");
+    expect_bytes(&rt, out.as_slice(), OACK_512, "the OACK again");
     let data = data_1(rt.alloc())?;
-    takes(&rt, rt.alloc(), &mut end, &mut files, CLIENT, ACK_0, &data)?;
+    takes(&rt, rt.alloc(), &mut end, &mut files, CLIENT, ACK_0, &data);
     takes(
         &rt,
         rt.alloc(),
@@ -292,9 +296,9 @@ fn sends_after_the_oack_is_acknowledged(rt: HostRuntime) -> Result<(), Fail> {
         CLIENT,
         ACK_1,
         EMPTY_DATA_2,
-    )?;
-    let step = takes(&rt, rt.alloc(), &mut end, &mut files, CLIENT, ACK_2, b"")?;
-    assert_eq!(rt; step.closed, Some(Outcome::Complete), "the last ACK");
+    );
+    let step = takes(&rt, rt.alloc(), &mut end, &mut files, CLIENT, ACK_2, b"");
+    expect_equal(&rt, &step.closed, &Some(Outcome::Complete), "the last ACK");
     Ok(())
 }
 
@@ -310,54 +314,15 @@ fn receiver(alloc: Global, asked: &Asked) -> Result<(End, Files<MemSource, MemSi
 /// The OACK is acknowledged by ACK 0, again when it comes again; then come the blocks.
 #[test]
 fn receives_after_the_oack(rt: HostRuntime) -> Result<(), Fail> {
-    let (mut end, mut files) = receiver(rt.alloc(), &SIZE_AND_TIME)?;
-    takes(
-        &rt,
-        rt.alloc(),
-        &mut end,
-        &mut files,
-        SERVER_END,
-        OACK_512,
-        ACK_0,
-    )?;
-    takes(
-        &rt,
-        rt.alloc(),
-        &mut end,
-        &mut files,
-        SERVER_END,
-        OACK_512,
-        ACK_0,
-    )?;
-    let data = data_1(rt.alloc())?;
-    takes(
-        &rt,
-        rt.alloc(),
-        &mut end,
-        &mut files,
-        SERVER_END,
-        &data,
-        ACK_1,
-    )?;
-    takes(
-        &rt,
-        rt.alloc(),
-        &mut end,
-        &mut files,
-        SERVER_END,
-        OACK_512,
-        b"",
-    )?;
-    takes(
-        &rt,
-        rt.alloc(),
-        &mut end,
-        &mut files,
-        SERVER_END,
-        EMPTY_DATA_2,
-        ACK_2,
-    )?;
-    assert!(rt; end.record().complete, "stored and committed");
+    let (alloc, from) = (rt.alloc(), SERVER_END);
+    let (mut end, mut files) = receiver(alloc, &SIZE_AND_TIME)?;
+    takes(&rt, alloc, &mut end, &mut files, from, OACK_512, ACK_0);
+    takes(&rt, alloc, &mut end, &mut files, from, OACK_512, ACK_0);
+    let data = data_1(alloc)?;
+    takes(&rt, alloc, &mut end, &mut files, from, &data, ACK_1);
+    takes(&rt, alloc, &mut end, &mut files, from, OACK_512, b"");
+    takes(&rt, alloc, &mut end, &mut files, from, EMPTY_DATA_2, ACK_2);
+    expect(&rt, end.record().complete, "stored and committed");
     Ok(())
 }
 
@@ -377,15 +342,15 @@ fn goes_on(
     seconds: u8,
 ) -> Result<(), Fail> {
     let (mut end, mut files) = receiver(alloc, &SIZE_AND_TIME)?;
-    takes(rt, alloc, &mut end, &mut files, SERVER_END, oack, ACK_0)?;
-    assert_eq!(rt; end.record().size, size, "the block size");
-    assert_eq!(rt; end.interval(), seconds, "the seconds");
+    takes(rt, alloc, &mut end, &mut files, SERVER_END, oack, ACK_0);
+    expect_equal(rt, &end.record().size, &size, "the block size");
+    expect_equal(rt, &end.interval(), &seconds, "the seconds");
     Ok(())
 }
 
 #[test]
 fn takes_what_the_oack_says(rt: HostRuntime) -> Result<(), Fail> {
-    for (oack, size, seconds) in TAKEN {
+    for &(oack, size, seconds) in &TAKEN {
         goes_on(&rt, rt.alloc(), oack, size, seconds)?;
     }
     Ok(())
@@ -410,15 +375,15 @@ fn refuses(
     outcome: Outcome,
 ) -> Result<(), Fail> {
     let (mut end, mut files) = receiver(alloc, asked)?;
-    let step = takes(rt, alloc, &mut end, &mut files, SERVER_END, oack, error)?;
-    assert_eq!(rt; step.closed, Some(outcome), "how it closes");
-    assert_eq!(rt; end.record().peer, None, "no peer is taken");
+    let step = takes(rt, alloc, &mut end, &mut files, SERVER_END, oack, error);
+    expect_equal(rt, &step.closed, &Some(outcome), "how it closes");
+    expect_equal(rt, &end.record().peer, &None, "no peer is taken");
     Ok(())
 }
 
 #[test]
 fn refuses_an_oack(rt: HostRuntime) -> Result<(), Fail> {
-    for (oack, refusal) in REFUSED {
+    for &(oack, refusal) in &REFUSED {
         let outcome = Outcome::Refused(refusal);
         refuses(
             &rt,
@@ -467,7 +432,7 @@ fn a_file_for_larger_blocks_does_not_fall_back(rt: HostRuntime) -> Result<(), Fa
     let mut out = Vec::new(rt.alloc());
     let (mut end, _) = put(rt.alloc(), 33_553_920, 1428, &mut out)?;
     let request = b"\x00\x02n\x00octet\x00blksize\x001428\x00".as_slice();
-    assert_eq!(rt; out.as_slice(), request, "the request");
+    expect_bytes(&rt, out.as_slice(), request, "the request");
     let source = MemSource::new(rt.alloc(), b"", Mode::Octet)?;
     let mut files: Files<MemSource, MemSink> = Files::Source(source);
     let step = takes(
@@ -478,9 +443,9 @@ fn a_file_for_larger_blocks_does_not_fall_back(rt: HostRuntime) -> Result<(), Fa
         SERVER_END,
         ACK_0,
         FILE_TOO_LARGE,
-    )?;
-    assert_eq!(rt; step.closed, Some(Outcome::TooLarge), "it closes");
-    assert_eq!(rt; end.record().peer, None, "no peer is taken");
+    );
+    expect_equal(&rt, &step.closed, &Some(Outcome::TooLarge), "it closes");
+    expect_equal(&rt, &end.record().peer, &None, "no peer is taken");
     Ok(())
 }
 
@@ -489,12 +454,13 @@ fn a_file_for_larger_blocks_does_not_fall_back(rt: HostRuntime) -> Result<(), Fa
 fn small_blocks_carry_less(rt: HostRuntime) -> Result<(), Fail> {
     let mut out = Vec::new(rt.alloc());
     let longest = put(rt.alloc(), 524_279, 8, &mut out);
-    assert!(rt; longest.is_ok(), "a client offers the longest");
+    expect(&rt, longest.is_ok(), "a client offers the longest");
     let longer = put(rt.alloc(), 524_280, 8, &mut out);
-    assert_eq!(rt;
-        longer.err(),
-        Some(OpenFault::TooLarge),
-        "and no longer one"
+    expect_equal(
+        &rt,
+        &longer.err(),
+        &Some(OpenFault::TooLarge),
+        "and no longer one",
     );
     Ok(())
 }
@@ -516,8 +482,13 @@ fn serves_by_small_blocks(rt: HostRuntime) -> Result<(), Fail> {
         5,
         &mut out,
     );
-    assert_eq!(rt; longer.err(), Some(OpenFault::TooLarge), "one byte more");
-    assert!(rt; out.is_empty(), "nothing is sent");
+    expect_equal(
+        &rt,
+        &longer.err(),
+        &Some(OpenFault::TooLarge),
+        "one byte more",
+    );
+    expect(&rt, out.is_empty(), "nothing is sent");
     Ok(())
 }
 
@@ -528,14 +499,15 @@ fn receives_by_the_agreed_size(rt: HostRuntime) -> Result<(), Fail> {
     let agreed = agreed_of(b"\x00\x01a\x00octet\x00blksize\x008\x00")?;
     let mut out = Vec::new(rt.alloc());
     let (mut end, _) = End::serve_write(rt.alloc(), CLIENT, Mode::Octet, &agreed, 5, &mut out)?;
-    assert_eq!(rt;
+    expect_bytes(
+        &rt,
         out.as_slice(),
         b"\x00\x06blksize\x008\x00".as_slice(),
-        "the OACK"
+        "the OACK",
     );
     let mut files: Files<MemSource, MemSink> = Files::Sink(MemSink::new(rt.alloc(), 99, false));
     let whole = b"\x00\x03\x00\x01ABCDEFGH".as_slice();
-    takes(&rt, rt.alloc(), &mut end, &mut files, CLIENT, whole, ACK_1)?;
+    takes(&rt, rt.alloc(), &mut end, &mut files, CLIENT, whole, ACK_1);
     takes(
         &rt,
         rt.alloc(),
@@ -544,7 +516,7 @@ fn receives_by_the_agreed_size(rt: HostRuntime) -> Result<(), Fail> {
         CLIENT,
         EMPTY_DATA_2,
         ACK_2,
-    )?;
-    assert!(rt; end.record().complete, "stored and committed");
+    );
+    expect(&rt, end.record().complete, "stored and committed");
     Ok(())
 }

@@ -5,6 +5,7 @@ ghost use Rattle.std.specs.Prelude.{◌≡◌, false, true, IfOk};
 ghost use Rattle.tftp_ends.specs.End.{is_sender};
 ghost use Rattle.tftp_ends.specs.Files.{AreFilesOf};
 
+use crate::expect::{expect, expect_bytes, expect_equal};
 use std::alloc::Global;
 use std::process::Abort;
 use std::test::Fail;
@@ -68,14 +69,16 @@ fn takes(
     from: Endpoint,
     bytes: &[u8],
     answer: &[u8],
-) -> Result<Step, Fail>
+) -> Step
     requires { AreFilesOf end.old.role.side files.old }
     ensures { AreFilesOf end.new.role.side files.new }
 {
     let mut out = Vec::new(alloc);
-    let step = end.on_datagram(files, from, bytes, &mut out)?;
-    assert_eq!(rt; out.as_slice(), answer, "the answer to {bytes:?}");
-    Ok(step)
+    let step = end
+        .on_datagram(files, from, bytes, &mut out)
+        .expect(rt, "the end takes it");
+    expect_equal(rt, &(bytes, out.as_slice()), &(bytes, answer), "the answer");
+    step
 }
 
 #[test]
@@ -83,9 +86,9 @@ fn asks_by_a_write_request(rt: HostRuntime) -> Result<(), Fail> {
     let mut out = Vec::new(rt.alloc());
     let (end, step) = put(rt.alloc(), 3, &mut out)?;
     let request = b"\x00\x02n\x00octet\x00".as_slice();
-    assert_eq!(rt; out.as_slice(), request, "a WRQ");
-    assert_eq!(rt; step.to, Some(SERVER), "to the request port");
-    assert_eq!(rt; end.record().side, Side::ClientWrite, "the side");
+    expect_bytes(&rt, out.as_slice(), request, "a WRQ");
+    expect_equal(&rt, &step.to, &Some(SERVER), "to the request port");
+    expect_equal(&rt, &end.record().side, &Side::ClientWrite, "the side");
     Ok(())
 }
 
@@ -94,9 +97,14 @@ fn asks_by_a_write_request(rt: HostRuntime) -> Result<(), Fail> {
 fn a_file_has_its_longest_length(rt: HostRuntime) {
     let mut out = Vec::new(rt.alloc());
     let longest = put(rt.alloc(), 33_553_919, &mut out);
-    assert!(rt; longest.is_ok(), "the longest");
+    expect(&rt, longest.is_ok(), "the longest");
     let longer = put(rt.alloc(), 33_553_920, &mut out);
-    assert_eq!(rt; longer.err(), Some(OpenFault::TooLarge), "one byte more");
+    expect_equal(
+        &rt,
+        &longer.err(),
+        &Some(OpenFault::TooLarge),
+        "one byte more",
+    );
 }
 
 /// ACK 0 answers the request, from the port that the server took (RFC 1350, section 4).
@@ -114,7 +122,7 @@ fn sends_after_ack_0(rt: HostRuntime) -> Result<(), Fail> {
         SERVER_END,
         ACK_0,
         DATA_1,
-    )?;
+    );
     let step = takes(
         &rt,
         rt.alloc(),
@@ -123,12 +131,13 @@ fn sends_after_ack_0(rt: HostRuntime) -> Result<(), Fail> {
         SERVER_END,
         ACK_1,
         b"",
-    )?;
-    assert_eq!(rt; step.closed, Some(Outcome::Complete), "the last ACK");
-    assert_eq!(rt;
-        end.record().peer,
-        Some(SERVER_END),
-        "the port that answered"
+    );
+    expect_equal(&rt, &step.closed, &Some(Outcome::Complete), "the last ACK");
+    expect_equal(
+        &rt,
+        &end.record().peer,
+        &Some(SERVER_END),
+        "the port that answered",
     );
     Ok(())
 }
@@ -139,8 +148,8 @@ fn receiver(rt: &impl Abort, alloc: Global) -> Result<End, Fail>
 {
     let mut out = Vec::new(alloc);
     let (end, step) = End::serve_write(alloc, CLIENT, Mode::Octet, &Agreed::new(), 5, &mut out)?;
-    assert_eq!(rt; out.as_slice(), ACK_0, "ACK 0");
-    assert_eq!(rt; step.to, Some(CLIENT), "it goes to the client");
+    expect_bytes(rt, out.as_slice(), ACK_0, "ACK 0");
+    expect_equal(rt, &step.to, &Some(CLIENT), "it goes to the client");
     Ok(end)
 }
 
@@ -149,13 +158,17 @@ fn receiver(rt: &impl Abort, alloc: Global) -> Result<End, Fail>
 fn stores_a_short_block(rt: HostRuntime) -> Result<(), Fail> {
     let mut end = receiver(&rt, rt.alloc())?;
     let mut files: Files<MemSource, MemSink> = Files::Sink(MemSink::new(rt.alloc(), 9, false));
-    takes(&rt, rt.alloc(), &mut end, &mut files, CLIENT, DATA_1, ACK_1)?;
-    assert!(rt; end.record().complete, "stored, committed and acknowledged");
+    takes(&rt, rt.alloc(), &mut end, &mut files, CLIENT, DATA_1, ACK_1);
+    expect(
+        &rt,
+        end.record().complete,
+        "stored, committed and acknowledged",
+    );
     let Files::Sink(sink) = &files else {
         return Err(Fail::from("a sink"));
     };
-    assert_eq!(rt; sink.as_bytes(), b"ABC".as_slice(), "what is stored");
-    assert!(rt; sink.is_committed(), "it is committed");
+    expect_bytes(&rt, sink.as_bytes(), b"ABC".as_slice(), "what is stored");
+    expect(&rt, sink.is_committed(), "it is committed");
     Ok(())
 }
 
@@ -165,8 +178,8 @@ fn a_refused_commit_is_no_success(rt: HostRuntime) -> Result<(), Fail> {
     let mut end = receiver(&rt, rt.alloc())?;
     let mut files: Files<MemSource, MemSink> = Files::Sink(MemSink::new(rt.alloc(), 9, true));
     let full = b"\x00\x05\x00\x03disk full\x00";
-    let step = takes(&rt, rt.alloc(), &mut end, &mut files, CLIENT, DATA_1, full)?;
-    assert_eq!(rt; step.closed, Some(Outcome::StoreFault), "it closes");
-    assert!(rt; !end.record().complete, "it is not complete");
+    let step = takes(&rt, rt.alloc(), &mut end, &mut files, CLIENT, DATA_1, full);
+    expect_equal(&rt, &step.closed, &Some(Outcome::StoreFault), "it closes");
+    expect(&rt, !end.record().complete, "it is not complete");
     Ok(())
 }

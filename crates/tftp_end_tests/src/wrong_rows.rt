@@ -5,6 +5,7 @@
 ghost use Rattle.std.specs.Prelude.{IfOk, ◌<◌};
 ghost use Rattle.tftp_ends.specs.Files.{AreFilesOf};
 
+use crate::expect::expect_equal;
 use std::alloc::Global;
 use std::process::Abort;
 use std::test::Fail;
@@ -113,7 +114,7 @@ fn server(alloc: Global, out: &mut Vec<u8>) -> Result<(End, Files<MemSource, Mem
 }
 
 /// Which end it is.
-#[derive(Clone, Copy, Debug)]
+#[derive(Clone, Copy, Debug, PartialEq, Eq)]
 enum Role {
     Reader,
     Writer,
@@ -187,24 +188,26 @@ fn is_refused(
     let step = takes(&mut end, &mut files, bytes, &mut out)?;
     let silent = dallies || bytes.starts_with(b"\x00\x05");
     let answer = if silent { b"".as_slice() } else { ILLEGAL };
-    assert_eq!(rt;
-        out.as_slice(),
-        answer,
-        "{role:?} {second:?} answers {bytes:?}"
-    );
     let closed = if dallies {
         None
     } else {
         Some(Outcome::Illegal)
     };
-    assert_eq!(rt; step.closed, closed, "{role:?} {second:?} after {bytes:?}");
+    let state = (role, second, bytes);
+    let found = (state, out.as_slice(), step.closed);
+    expect_equal(
+        rt,
+        &found,
+        &(state, answer, closed),
+        "the answer and the end",
+    );
     Ok(())
 }
 
 #[test]
 fn malformed_each_state(rt: HostRuntime) -> Result<(), Fail> {
-    for state in STATES {
-        for bytes in MALFORMED {
+    for &state in &STATES {
+        for &bytes in &MALFORMED {
             is_refused(&rt, rt.alloc(), state, bytes)?;
         }
     }
@@ -246,16 +249,13 @@ fn ends_in(rt: &impl Abort, alloc: Global, block: usize, fail: bool) -> Result<(
     let (mut end, mut files) = faulty(alloc, give, fail, &mut out)?;
     for asks in &ASKS[..block] {
         takes(&mut end, &mut files, asks, &mut out)?;
-        assert_eq!(rt; out.len(), 12, "DATA of eight bytes");
+        expect_equal(rt, &out.len(), &12, "DATA of eight bytes");
     }
     let step = takes(&mut end, &mut files, ASKS[block], &mut out)?;
-    assert_eq!(rt; out.as_slice(), CHANGED, "behind {block} blocks");
-    assert_eq!(rt;
-        step.closed,
-        Some(Outcome::SourceFault),
-        "behind {block} blocks"
-    );
-    assert_eq!(rt; usize::from(end.record().number), block, "the number stays");
+    let number = usize::from(end.record().number);
+    let found = (number, out.as_slice(), step.closed);
+    let wanted = (block, CHANGED, Some(Outcome::SourceFault));
+    expect_equal(rt, &found, &wanted, "the number stays, and the answer");
     Ok(())
 }
 

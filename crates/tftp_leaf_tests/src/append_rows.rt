@@ -1,6 +1,7 @@
 //! Packets that are appended from borrowed parts. The bytes are written by hand from the layouts of the
 //! packets (RFC 1350, section 5; RFC 2347, "Packet Formats").
 
+use crate::expect::{expect, expect_bytes, expect_equal, expect_text};
 use std::alloc::Global;
 use std::test::Fail;
 use tftp_wire::{
@@ -19,7 +20,7 @@ fn an_ack_is_appended(rt: HostRuntime) -> Result<(), Fail> {
     let mut out = buffer(rt.alloc())?;
     append_ack(&mut out, 258)?;
     let want = b"old \x00\x04\x01\x02".as_slice();
-    assert_eq!(rt; out.as_slice(), want, "ACK 258");
+    expect_bytes(&rt, out.as_slice(), want, "ACK 258");
     Ok(())
 }
 
@@ -29,7 +30,12 @@ fn data_is_appended(rt: HostRuntime) -> Result<(), Fail> {
     append_data(&mut out, 1, b"ABC")?;
     append_data_header(&mut out, 2)?;
     let want = b"old \x00\x03\x00\x01ABC\x00\x03\x00\x02".as_slice();
-    assert_eq!(rt; out.as_slice(), want, "DATA 1, and the header of DATA 2");
+    expect_bytes(
+        &rt,
+        out.as_slice(),
+        want,
+        "DATA 1, and the header of DATA 2",
+    );
     Ok(())
 }
 
@@ -38,7 +44,7 @@ fn an_error_is_appended(rt: HostRuntime) -> Result<(), Fail> {
     let mut out = buffer(rt.alloc())?;
     append_error(&mut out, 1, b"no")?;
     let want = b"old \x00\x05\x00\x01no\x00".as_slice();
-    assert_eq!(rt; out.as_slice(), want, "ERROR 1");
+    expect_bytes(&rt, out.as_slice(), want, "ERROR 1");
     Ok(())
 }
 
@@ -48,7 +54,7 @@ fn requests_are_appended(rt: HostRuntime) -> Result<(), Fail> {
     append_read(&mut out, b"a", Mode::Octet)?;
     append_write(&mut out, b"b", Mode::Netascii)?;
     let want = b"old \x00\x01a\x00octet\x00\x00\x02b\x00netascii\x00".as_slice();
-    assert_eq!(rt; out.as_slice(), want, "RRQ and WRQ");
+    expect_bytes(&rt, out.as_slice(), want, "RRQ and WRQ");
     Ok(())
 }
 
@@ -59,7 +65,7 @@ fn an_oack_is_appended(rt: HostRuntime) -> Result<(), Fail> {
     append_option(&mut out, b"blksize", b"8")?;
     append_option(&mut out, b"tsize", b"")?;
     let want = b"old \x00\x06blksize\x008\x00tsize\x00\x00".as_slice();
-    assert_eq!(rt; out.as_slice(), want, "OACK");
+    expect_bytes(&rt, out.as_slice(), want, "OACK");
     Ok(())
 }
 
@@ -68,7 +74,7 @@ fn a_borrowed_packet_is_shown(rt: HostRuntime) -> Result<(), Fail> {
     let packet = decode_ref(b"\x00\x06blksize\x008\x00tsize\x00\x00")?;
     let mut line = String::new(rt.alloc());
     show_ref(&packet, &mut line)?;
-    assert_eq!(rt; line.as_str(), "OACK blksize=8 tsize=", "its line");
+    expect_text(&rt, line.as_str(), "OACK blksize=8 tsize=", "its line");
     Ok(())
 }
 
@@ -83,20 +89,26 @@ const OPCODES: [(&[u8], bool); 5] = [
 
 #[test]
 fn errors_are_known_by_their_opcode(rt: HostRuntime) {
-    for (bytes, want) in OPCODES {
-        assert_eq!(rt; has_error_opcode(bytes), want, "the opcode of {bytes:?}");
+    for &(bytes, want) in &OPCODES {
+        expect_equal(
+            &rt,
+            &(bytes, has_error_opcode(bytes)),
+            &(bytes, want),
+            "the opcode",
+        );
     }
 }
 
 /// A text holds no zero byte.
 #[test]
 fn texts_hold_no_zero(rt: HostRuntime) {
-    assert!(rt; is_text(b"boot.img"), "a name");
-    assert!(rt; is_text(b""), "no byte");
-    assert!(rt; !is_text(b"a\x00b"), "a zero in the middle");
-    assert_eq!(rt;
-        MAX_REQUEST,
-        512,
-        "the longest request (RFC 2347, \"Packet Formats\")"
+    expect(&rt, is_text(b"boot.img"), "a name");
+    expect(&rt, is_text(b""), "no byte");
+    expect(&rt, !is_text(b"a\x00b"), "a zero in the middle");
+    expect_equal(
+        &rt,
+        &MAX_REQUEST,
+        &512,
+        "the longest request (RFC 2347, \"Packet Formats\")",
     );
 }

@@ -1,5 +1,6 @@
 //! Texts that are drawn, encoded and decoded in pieces that are cut at drawn places (RFC 764).
 
+use crate::expect::expect_equal;
 use rand_core::{Rng, SeedableRng};
 use rand_pcg::Pcg32;
 use std::alloc::Global;
@@ -59,7 +60,12 @@ fn comes_back(rt: &impl Abort, alloc: Global, seed: u64) -> Result<(), Fail> {
     let text = drawn(alloc, &mut rng)?;
     let wire = encoded(alloc, &mut rng, &text)?;
     let back = decoded(alloc, &mut rng, &wire)?;
-    assert_eq!(rt; back.as_slice(), text.as_slice(), "by seed {seed}");
+    expect_equal(
+        rt,
+        &(seed, back.as_slice()),
+        &(seed, text.as_slice()),
+        "by a seed",
+    );
     Ok(())
 }
 

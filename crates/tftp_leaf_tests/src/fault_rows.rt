@@ -1,5 +1,6 @@
 //! A source that gives less than it should, or fails.
 
+use crate::expect::{expect_bytes, expect_equal};
 use std::alloc::Global;
 use std::process::Abort;
 use std::test::Fail;
@@ -24,14 +25,14 @@ fn is_shortened(rt: &impl Abort, alloc: Global, mut source: FaultSource, pieces:
     for piece in pieces {
         let mut out = Vec::new(alloc);
         let filled = fill(&mut source, 4, &mut out);
-        assert_eq!(rt; filled, Ok(piece.len()), "of {piece:?}");
-        assert_eq!(rt; out.as_slice(), *piece, "the bytes");
+        expect_equal(rt, &(*piece, filled), &(*piece, Ok(piece.len())), "a piece");
+        expect_bytes(rt, out.as_slice(), *piece, "the bytes");
     }
 }
 
 #[test]
 fn a_source_ends_early(rt: HostRuntime) -> Result<(), Fail> {
-    for (bytes, mode, give, pieces) in SHORTENED {
+    for &(bytes, mode, give, pieces) in &SHORTENED {
         let source = FaultSource::new(rt.alloc(), bytes, mode, give, false)?;
         is_shortened(&rt, rt.alloc(), source, pieces);
     }
@@ -43,9 +44,14 @@ fn a_source_ends_early(rt: HostRuntime) -> Result<(), Fail> {
 fn a_source_fails_past_its_end(rt: HostRuntime) -> Result<(), Fail> {
     let mut source = FaultSource::new(rt.alloc(), b"ABCDEFGH", Mode::Octet, 6, true)?;
     let mut out = Vec::new(rt.alloc());
-    assert_eq!(rt; fill(&mut source, 4, &mut out), Ok(4), "the first block");
+    expect_equal(
+        &rt,
+        &fill(&mut source, 4, &mut out),
+        &Ok(4),
+        "the first block",
+    );
     let failed = fill(&mut source, 4, &mut out);
-    assert_eq!(rt; failed, Err(FileFault::Read), "two bytes are left");
-    assert_eq!(rt; out.as_slice(), b"ABCD".as_slice(), "the buffer stays");
+    expect_equal(&rt, &failed, &Err(FileFault::Read), "two bytes are left");
+    expect_bytes(&rt, out.as_slice(), b"ABCD".as_slice(), "the buffer stays");
     Ok(())
 }

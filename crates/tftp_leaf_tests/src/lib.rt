@@ -6,6 +6,8 @@ mod append_rows;
 #[cfg(test)]
 mod cut_rows;
 #[cfg(test)]
+mod expect;
+#[cfg(test)]
 mod fault_rows;
 #[cfg(test)]
 mod memory_rows;

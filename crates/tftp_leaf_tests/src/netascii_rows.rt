@@ -1,5 +1,6 @@
 //! Netascii: host bytes and their wire text, pieces of it, and lengths on the wire (RFC 764).
 
+use crate::expect::{expect_bytes, expect_equal};
 use std::alloc::Global;
 use std::io::{Error, ErrorKind, Read, Result as IoResult};
 use std::process::Abort;
@@ -24,7 +25,7 @@ fn is_sent_as(rt: &impl Abort, alloc: Global, host: &[u8], wire: &[u8]) -> Resul
     let mut encoder = NetEncoder::new();
     encoder.push(host, &mut sent)?;
     encoder.finish()?;
-    assert_eq!(rt; sent.as_slice(), wire, "encoded {host:?}");
+    expect_bytes(rt, sent.as_slice(), wire, "encoded");
     Ok(())
 }
 
@@ -33,13 +34,13 @@ fn is_stored_as(rt: &impl Abort, alloc: Global, wire: &[u8], host: &[u8]) -> Res
     let mut decoder = NetDecoder::new();
     decoder.push(wire, &mut stored)?;
     decoder.finish()?;
-    assert_eq!(rt; stored.as_slice(), host, "decoded {wire:?}");
+    expect_bytes(rt, stored.as_slice(), host, "decoded");
     Ok(())
 }
 
 #[test]
 fn texts_both_ways(rt: HostRuntime) -> Result<(), Fail> {
-    for (host, wire) in TEXTS {
+    for &(host, wire) in &TEXTS {
         is_sent_as(&rt, rt.alloc(), host, wire)?;
         is_stored_as(&rt, rt.alloc(), wire, host)?;
     }
@@ -57,12 +58,12 @@ const PIECES: [(&[u8], &[u8], usize); 3] = [
 fn netascii_rows(rt: HostRuntime) -> Result<(), Fail> {
     let mut decoder = NetDecoder::new();
     let mut out = Vec::new(rt.alloc());
-    for (piece, stored, held) in PIECES {
+    for &(piece, stored, held) in &PIECES {
         decoder.push(piece, &mut out)?;
-        assert_eq!(rt; out.as_slice(), stored, "stored after {piece:?}");
-        assert_eq!(rt; decoder.held(), held, "held after {piece:?}");
+        expect_equal(&rt, &(piece, out.as_slice()), &(piece, stored), "stored");
+        expect_equal(&rt, &(piece, decoder.held()), &(piece, held), "held");
     }
-    assert_eq!(rt; decoder.finish(), Ok(()), "the end");
+    expect_equal(&rt, &decoder.finish(), &Ok(()), "the end");
     Ok(())
 }
 
@@ -87,15 +88,25 @@ fn is_refused(
     decoder.push(front, &mut out)?;
     let held = decoder.held();
     let answer = decoder.push(wrong, &mut out);
-    assert_eq!(rt; answer, Err(fault), "{front:?} and {wrong:?}");
-    assert_eq!(rt; out.as_slice(), b"A".as_slice(), "stored after {wrong:?}");
-    assert_eq!(rt; decoder.held(), held, "held after {wrong:?}");
+    expect_equal(
+        rt,
+        &(front, wrong, answer),
+        &(front, wrong, Err(fault)),
+        "the fault",
+    );
+    expect_equal(
+        rt,
+        &(wrong, out.as_slice()),
+        &(wrong, b"A".as_slice()),
+        "stored",
+    );
+    expect_equal(rt, &(wrong, decoder.held()), &(wrong, held), "held");
     Ok(())
 }
 
 #[test]
 fn wrong_texts_change_nothing(rt: HostRuntime) -> Result<(), Fail> {
-    for (front, wrong, fault) in WRONG {
+    for &(front, wrong, fault) in &WRONG {
         is_refused(&rt, rt.alloc(), front, wrong, fault)?;
     }
     Ok(())
@@ -106,8 +117,18 @@ fn a_text_ends_in_no_cr(rt: HostRuntime) -> Result<(), Fail> {
     let mut decoder = NetDecoder::new();
     let mut out = Vec::new(rt.alloc());
     decoder.push(b"A\r", &mut out)?;
-    assert_eq!(rt; decoder.finish(), Err(NetFault::EndsInCr), "CR at the end");
-    assert_eq!(rt; NetFault::EndsInCr.number(), 3, "the number of the fault");
+    expect_equal(
+        &rt,
+        &decoder.finish(),
+        &Err(NetFault::EndsInCr),
+        "CR at the end",
+    );
+    expect_equal(
+        &rt,
+        &NetFault::EndsInCr.number(),
+        &3,
+        "the number of the fault",
+    );
     Ok(())
 }
 
@@ -131,7 +152,7 @@ fn is_stored_in_two(
     decoder.push(front, &mut out)?;
     decoder.push(rest, &mut out)?;
     decoder.finish()?;
-    assert_eq!(rt; out.as_slice(), host, "cut behind {front:?}");
+    expect_equal(rt, &(front, out.as_slice()), &(front, host), "cut");
     Ok(())
 }
 
@@ -140,7 +161,7 @@ fn every_cut(rt: HostRuntime) -> Result<(), Fail> {
     let host = long_line(rt.alloc())?;
     let mut wire = Vec::new(rt.alloc());
     NetEncoder::new().push(host.as_slice(), &mut wire)?;
-    assert_eq!(rt; wire.len(), 513, "the length on the wire");
+    expect_equal(&rt, &wire.len(), &513, "the length on the wire");
     for at in 0..=513 {
         let (front, rest) = wire.as_slice().split_at(at);
         is_stored_in_two(&rt, rt.alloc(), front, rest, host.as_slice())?;
@@ -150,11 +171,16 @@ fn every_cut(rt: HostRuntime) -> Result<(), Fail> {
 
 #[test]
 fn lengths_on_the_wire(rt: HostRuntime) -> Result<(), Fail> {
-    for (host, wire) in TEXTS {
+    for &(host, wire) in &TEXTS {
         let octet = wire_length(host, Mode::Octet)?;
-        assert_eq!(rt; octet, host.len() as u64, "octet {host:?}");
+        expect_equal(&rt, &(host, octet), &(host, host.len() as u64), "octet");
         let netascii = wire_length(host, Mode::Netascii)?;
-        assert_eq!(rt; netascii, wire.len() as u64, "netascii {host:?}");
+        expect_equal(
+            &rt,
+            &(host, netascii),
+            &(host, wire.len() as u64),
+            "netascii",
+        );
     }
     Ok(())
 }
@@ -169,9 +195,14 @@ const WITHIN: [(&[u8], Mode, u64, u64); 4] = [
 
 #[test]
 fn lengths_within_a_limit(rt: HostRuntime) {
-    for (bytes, mode, most, want) in WITHIN {
+    for &(bytes, mode, most, want) in &WITHIN {
         let length = wire_length_within(bytes, mode, most);
-        assert_eq!(rt; length, want, "{bytes:?} in {mode:?} within {most}");
+        expect_equal(
+            &rt,
+            &(bytes, mode, most, length),
+            &(bytes, mode, most, want),
+            "its length",
+        );
     }
 }
 
@@ -201,9 +232,14 @@ const READS: [(u64, Mode, Result<u64, FileFault>); 3] = [
 
 #[test]
 fn a_reader_fails(rt: HostRuntime) {
-    for (reads, mode, want) in READS {
+    for &(reads, mode, want) in &READS {
         let length = wire_length(Failing { reads }, mode);
-        assert_eq!(rt; length, want, "{reads} reads in {mode:?}");
+        expect_equal(&rt, &(reads, mode, length), &(reads, mode, want), "reads");
     }
-    assert_eq!(rt; FileFault::Read.number(), 1, "the number of the fault");
+    expect_equal(
+        &rt,
+        &FileFault::Read.number(),
+        &1,
+        "the number of the fault",
+    );
 }

@@ -3,6 +3,7 @@
 //! A row writes options as `name=value`, with commas between them, and what becomes of them as the
 //! list that is agreed and the block size, or as the refusal.
 
+use crate::expect::{expect, expect_equal, expect_text};
 use std::alloc::{AllocError, Global};
 use std::process::Abort;
 use std::test::Fail;
@@ -131,10 +132,10 @@ fn answers(
     want: &str,
 ) -> Result<(), Fail> {
     let largest = u64::from(limits.max_block);
-    assert!(rt; is_block_size(largest), "the limits of {row:?}");
+    expect(rt, is_block_size(largest), row);
     let options = options_of(alloc, row)?;
     let got = shown(alloc, accept(options.as_slice(), kind, mode, 10, limits))?;
-    assert_eq!(rt; got.as_str(), want, "{kind:?} {mode:?} {row:?}");
+    expect_equal(rt, &(kind, mode, got.as_str()), &(kind, mode, want), row);
     Ok(())
 }
 
@@ -148,16 +149,17 @@ fn takes(
     limit: u64,
     want: &str,
 ) -> Result<(), Fail> {
-    assert!(rt; asked.is_askable(), "what {row:?} answers may be asked");
+    expect(rt, asked.is_askable(), row);
     let options = options_of(alloc, row)?;
     let got = shown(
         alloc,
         check_oack(asked, kind, mode, options.as_slice(), limit),
     )?;
-    assert_eq!(rt;
-        got.as_str(),
-        want,
-        "{kind:?} {mode:?} {row:?} for {asked:?}"
+    expect_equal(
+        rt,
+        &(kind, mode, asked, got.as_str()),
+        &(kind, mode, asked, want),
+        row,
     );
     Ok(())
 }
@@ -179,7 +181,7 @@ const LIMITED: [(&str, &str); 10] = [
 
 #[test]
 fn answers_keep_to_limits(rt: HostRuntime) -> Result<(), Fail> {
-    for (row, want) in LIMITED {
+    for &(row, want) in &LIMITED {
         answers(&rt, rt.alloc(), &TIGHT, (READ, OCTET), row, want)?;
     }
     Ok(())
@@ -211,7 +213,7 @@ const RANGES: [(&str, &str); 21] = [
 ];
 
 fn keeps_to_ranges(rt: &impl Abort, alloc: Global, direction: (Kind, Mode)) -> Result<(), Fail> {
-    for (row, want) in RANGES {
+    for &(row, want) in &RANGES {
         answers(rt, alloc, &ROOMY, direction, row, want)?;
     }
     Ok(())
@@ -219,7 +221,7 @@ fn keeps_to_ranges(rt: &impl Abort, alloc: Global, direction: (Kind, Mode)) -> R
 
 #[test]
 fn answers_keep_to_ranges(rt: HostRuntime) -> Result<(), Fail> {
-    for direction in DIRECTIONS {
+    for &direction in &DIRECTIONS {
         keeps_to_ranges(&rt, rt.alloc(), direction)?;
     }
     Ok(())
@@ -232,7 +234,7 @@ fn leaves_out_no_numbers(
     direction: (Kind, Mode),
     name: &str,
 ) -> Result<(), Fail> {
-    for value in NO_NUMBERS {
+    for &value in &NO_NUMBERS {
         let row = format!(in alloc; "{name}={value}")?;
         answers(rt, alloc, &ROOMY, direction, row.as_str(), "[] 512")?;
     }
@@ -241,8 +243,8 @@ fn leaves_out_no_numbers(
 
 #[test]
 fn answers_leave_out_no_numbers(rt: HostRuntime) -> Result<(), Fail> {
-    for direction in DIRECTIONS {
-        for name in NAMES {
+    for &direction in &DIRECTIONS {
+        for &name in &NAMES {
             leaves_out_no_numbers(&rt, rt.alloc(), direction, name)?;
         }
     }
@@ -268,7 +270,7 @@ const LENGTHS: [(Kind, Mode, &str, &str); 12] = [
 
 #[test]
 fn answers_say_lengths(rt: HostRuntime) -> Result<(), Fail> {
-    for (kind, mode, row, want) in LENGTHS {
+    for &(kind, mode, row, want) in &LENGTHS {
         answers(&rt, rt.alloc(), &TIGHT, (kind, mode), row, want)?;
     }
     Ok(())
@@ -374,7 +376,7 @@ const OACK_LENGTHS: [(Kind, Mode, &str, &str); 10] = [
 
 #[test]
 fn oack_lengths(rt: HostRuntime) -> Result<(), Fail> {
-    for (kind, mode, row, want) in OACK_LENGTHS {
+    for &(kind, mode, row, want) in &OACK_LENGTHS {
         takes(&rt, rt.alloc(), &ALL, (kind, mode), row, 39, want)?;
     }
     Ok(())
@@ -382,7 +384,7 @@ fn oack_lengths(rt: HostRuntime) -> Result<(), Fail> {
 
 /// Each option with each value that is no number is refused in an OACK.
 fn refuses_no_numbers(rt: &impl Abort, alloc: Global, kind: Kind, name: &str) -> Result<(), Fail> {
-    for value in NO_NUMBERS {
+    for &value in &NO_NUMBERS {
         let row = format!(in alloc; "{name}={value}")?;
         takes(rt, alloc, &ALL, (kind, OCTET), row.as_str(), 39, "BadValue")?;
     }
@@ -391,7 +393,7 @@ fn refuses_no_numbers(rt: &impl Abort, alloc: Global, kind: Kind, name: &str) ->
 
 #[test]
 fn oacks_hold_numbers(rt: HostRuntime) -> Result<(), Fail> {
-    for name in NAMES {
+    for &name in &NAMES {
         refuses_no_numbers(&rt, rt.alloc(), READ, name)?;
         refuses_no_numbers(&rt, rt.alloc(), WRITE, name)?;
     }
@@ -410,15 +412,21 @@ const SIZES: [(u16, bool); 6] = [
 
 #[test]
 fn asked_sizes(rt: HostRuntime) {
-    for (size, want) in SIZES {
+    for &(size, want) in &SIZES {
         let asked = Asked {
             blksize: Some(size),
             timeout: None,
             tsize: None,
         };
-        assert_eq!(rt; asked.is_for(READ, OCTET, 0), want, "blksize {size}");
-        assert_eq!(rt; asked.is_askable(), want, "blksize {size}");
-        assert_eq!(rt; is_block_size(u64::from(size)), want, "blksize {size}");
+        let may_ask = asked.is_for(READ, OCTET, 0);
+        expect_equal(&rt, &(size, may_ask), &(size, want), "blksize");
+        expect_equal(&rt, &(size, asked.is_askable()), &(size, want), "blksize");
+        expect_equal(
+            &rt,
+            &(size, is_block_size(u64::from(size))),
+            &(size, want),
+            "blksize",
+        );
     }
 }
 
@@ -427,15 +435,20 @@ const SECONDS: [(u8, bool); 3] = [(0, false), (1, true), (255, true)];
 
 #[test]
 fn asked_seconds(rt: HostRuntime) {
-    for (seconds, want) in SECONDS {
+    for &(seconds, want) in &SECONDS {
         let asked = Asked {
             blksize: None,
             timeout: Some(seconds),
             tsize: None,
         };
         let may_ask = asked.is_for(WRITE, NETASCII, 9);
-        assert_eq!(rt; may_ask, want, "timeout {seconds}");
-        assert_eq!(rt; is_timeout(u64::from(seconds)), want, "timeout {seconds}");
+        expect_equal(&rt, &(seconds, may_ask), &(seconds, want), "timeout");
+        expect_equal(
+            &rt,
+            &(seconds, is_timeout(u64::from(seconds))),
+            &(seconds, want),
+            "timeout",
+        );
     }
 }
 
@@ -452,28 +465,26 @@ const ASKED_LENGTHS: [(Kind, Mode, u64, bool); 6] = [
 
 #[test]
 fn asked_lengths(rt: HostRuntime) {
-    for (kind, mode, tsize, want) in ASKED_LENGTHS {
+    for &(kind, mode, tsize, want) in &ASKED_LENGTHS {
         let asked = Asked {
             blksize: None,
             timeout: None,
             tsize: Some(tsize),
         };
-        assert_eq!(rt;
-            asked.is_for(kind, mode, 9),
-            want,
-            "{kind:?} {mode:?} tsize {tsize}"
-        );
+        let may_ask = (kind, mode, tsize, asked.is_for(kind, mode, 9));
+        expect_equal(&rt, &may_ask, &(kind, mode, tsize, want), "tsize");
     }
 }
 
 #[test]
 fn nothing_is_asked(rt: HostRuntime) {
-    assert!(rt;
+    expect(
+        &rt,
         Asked::default().is_for(READ, OCTET, 9),
-        "nothing may be asked"
+        "nothing may be asked",
     );
-    assert_eq!(rt; Asked::default(), NOTHING, "the default");
-    assert_eq!(rt; NOTHING.tsize_in(OCTET), None, "no length");
+    expect_equal(&rt, &Asked::default(), &NOTHING, "the default");
+    expect_equal(&rt, &NOTHING.tsize_in(OCTET), &None, "no length");
 }
 
 #[test]
@@ -481,25 +492,26 @@ fn agreed_values(rt: HostRuntime) -> Result<(), Fail> {
     let options = options_of(rt.alloc(), "tsize=0,timeout=9,blksize=64")?;
     let outcome = accept(options.as_slice(), READ, OCTET, 10, &ROOMY);
     let agreed = outcome.ok().ok_or("the options are answered")?;
-    assert_eq!(rt; agreed.block_size(), 64, "the block size");
-    assert_eq!(rt; agreed.timeout(), Some(9), "the timeout");
-    assert!(rt; !agreed.is_empty(), "options are agreed");
-    assert_eq!(rt; agreed.as_slice().len(), 3, "three of them");
+    expect_equal(&rt, &agreed.block_size(), &64, "the block size");
+    expect_equal(&rt, &agreed.timeout(), &Some(9), "the timeout");
+    expect(&rt, !agreed.is_empty(), "options are agreed");
+    expect_equal(&rt, &agreed.as_slice().len(), &3, "three of them");
     Ok(())
 }
 
 #[test]
 fn default_values(rt: HostRuntime) {
     let agreed = Agreed::default();
-    assert_eq!(rt;
-        agreed.block_size(),
-        512,
-        "blocks have 512 bytes without options (RFC 1350, section 2)"
+    expect_equal(
+        &rt,
+        &agreed.block_size(),
+        &512,
+        "blocks have 512 bytes without options (RFC 1350, section 2)",
     );
-    assert_eq!(rt; agreed.timeout(), None, "no timeout is agreed");
-    assert!(rt; agreed.is_empty(), "no option is agreed");
-    assert!(rt; Agreed::new().is_empty(), "nor at first");
-    assert_eq!(rt; Known::default(), Known::Tsize(0), "what a read asks");
+    expect_equal(&rt, &agreed.timeout(), &None, "no timeout is agreed");
+    expect(&rt, agreed.is_empty(), "no option is agreed");
+    expect(&rt, Agreed::new().is_empty(), "nor at first");
+    expect_equal(&rt, &Known::default(), &Known::Tsize(0), "what a read asks");
 }
 
 /// The options of a datagram are judged as owned ones are: an RRQ with two options (RFC 2347, "Packet
@@ -512,10 +524,11 @@ fn a_datagram_is_answered(rt: HostRuntime) -> Result<(), Fail> {
     };
     let answer = accept_ref(&read.options, READ, read.mode, 10, &TIGHT);
     let answer = shown(rt.alloc(), answer)?;
-    assert_eq!(rt;
+    expect_text(
+        &rt,
         answer.as_str(),
         "[Blksize(1428), Timeout(3)] 1428",
-        "the RRQ"
+        "the RRQ",
     );
     Ok(())
 }
@@ -532,13 +545,14 @@ fn a_datagram_is_taken(rt: HostRuntime) -> Result<(), Fail> {
         timeout: Some(3),
         tsize: None,
     };
-    assert!(rt; asked.is_askable(), "what may be asked");
+    expect(&rt, asked.is_askable(), "what may be asked");
     let taken = check_oack_ref(&asked, READ, OCTET, &options, 10);
     let taken = shown(rt.alloc(), taken)?;
-    assert_eq!(rt;
+    expect_text(
+        &rt,
         taken.as_str(),
         "[Blksize(1428), Timeout(3)] 1428",
-        "the OACK"
+        "the OACK",
     );
     Ok(())
 }
@@ -554,8 +568,8 @@ const OPTION_NAMES: [(&[u8], Option<Name>); 5] = [
 
 #[test]
 fn option_names(rt: HostRuntime) {
-    for (bytes, name) in OPTION_NAMES {
-        assert_eq!(rt; Name::of(bytes), name, "the name {bytes:?}");
+    for &(bytes, name) in &OPTION_NAMES {
+        expect_equal(&rt, &(bytes, Name::of(bytes)), &(bytes, name), "a name");
     }
 }
 
@@ -572,10 +586,10 @@ const REFUSALS: [(Refusal, u8, &str); 4] = [
 
 #[test]
 fn refusals(rt: HostRuntime) -> Result<(), Fail> {
-    for (refusal, number, text) in REFUSALS {
-        assert_eq!(rt; refusal.number(), number, "{refusal:?}");
+    for &(refusal, number, text) in &REFUSALS {
+        expect_equal(&rt, &refusal.number(), &number, text);
         let shown = format!(in rt.alloc(); "{refusal}")?;
-        assert_eq!(rt; shown.as_str(), text, "{refusal:?}");
+        expect_text(&rt, shown.as_str(), text, text);
     }
     Ok(())
 }

@@ -1,6 +1,7 @@
 //! Packets: their bytes, their lines and their faults, written by hand from the layouts of the packets
 //! (RFC 1350, section 5; RFC 2347, "Packet Formats").
 
+use crate::expect::{expect, expect_bytes, expect_equal, expect_text};
 use std::alloc::Global;
 use std::process::Abort;
 use std::test::Fail;
@@ -94,29 +95,28 @@ fn line_of(alloc: Global, packet: &Packet) -> Result<String, PacketFault> {
 fn has_line(rt: &impl Abort, alloc: Global, bytes: &[u8], want: &str) -> Result<(), Fail> {
     let packet = decode(alloc, bytes)?;
     let line = line_of(alloc, &packet)?;
-    assert_eq!(rt; line.as_str(), want, "the line of {bytes:?}");
-    assert!(rt; is_valid(&packet), "{line} is valid");
+    expect_text(rt, line.as_str(), want, "the line of a packet");
+    expect(rt, is_valid(&packet), want);
     Ok(())
 }
 
 #[test]
 fn packets_show(rt: HostRuntime) -> Result<(), Fail> {
-    for (bytes, want) in PACKETS {
+    for &(bytes, want) in &PACKETS {
         has_line(&rt, rt.alloc(), bytes, want)?;
     }
     Ok(())
 }
 
 fn has_fault(rt: &impl Abort, bytes: &[u8], kind: PacketFaultKind, at: usize) {
-    match decode_ref(bytes) {
-        Ok(packet) => assert!(rt; false, "{bytes:?} was taken as {packet:?}"),
-        Err(fault) => assert_eq!(rt; fault, PacketFault { kind, at }, "the fault of {bytes:?}"),
-    }
+    let fault = PacketFault { kind, at };
+    let found = decode_ref(bytes).err();
+    expect_equal(rt, &(bytes, found), &(bytes, Some(fault)), "the fault");
 }
 
 #[test]
 fn faults_stand(rt: HostRuntime) {
-    for (bytes, kind, at) in FAULTS {
+    for &(bytes, kind, at) in &FAULTS {
         has_fault(&rt, bytes, kind, at);
     }
 }
@@ -125,19 +125,20 @@ fn faults_stand(rt: HostRuntime) {
 fn packet_rows(rt: HostRuntime) -> Result<(), Fail> {
     let packet = decode(rt.alloc(), b"\x00\x01boot.img\x00OCTET\x00")?;
     let mut out = Vec::new(rt.alloc());
-    assert!(rt; is_valid(&packet), "what is read can be written");
+    expect(&rt, is_valid(&packet), "what is read can be written");
     encode(&packet, &mut out)?;
-    assert_eq!(rt;
+    expect_bytes(
+        &rt,
         out.as_slice(),
         b"\x00\x01boot.img\x00octet\x00".as_slice(),
-        "the mode in lower case"
+        "the mode in lower case",
     );
     Ok(())
 }
 
 #[test]
 fn requests_have_512_bytes_at_most(rt: HostRuntime) -> Result<(), Fail> {
-    for (len, kind, at) in LENGTHS {
+    for &(len, kind, at) in &LENGTHS {
         let mut request = Vec::from_slice(rt.alloc(), &[0, 1])?;
         request.resize(len, b'a')?;
         has_fault(&rt, request.as_slice(), kind, at);
@@ -145,19 +146,29 @@ fn requests_have_512_bytes_at_most(rt: HostRuntime) -> Result<(), Fail> {
     Ok(())
 }
 
+/// The copy of a borrowed packet is the owned one.
+fn is_one_packet(
+    rt: &impl Abort,
+    alloc: Global,
+    borrowed: &PacketRef<'_>,
+    owned: &Packet,
+) -> Result<(), Fail> {
+    let copy = borrowed.to_packet(alloc)?;
+    let copy = format!(in alloc; "{copy:?}")?;
+    let owned = format!(in alloc; "{owned:?}")?;
+    expect_text(rt, copy.as_str(), owned.as_str(), "the packet");
+    Ok(())
+}
+
 /// The owned and the borrowed reader give one packet, or one fault.
 fn reads_alike(rt: &impl Abort, alloc: Global, bytes: &[u8]) -> Result<(), Fail> {
     match (decode_ref(bytes), decode(alloc, bytes)) {
-        (Ok(borrowed), Ok(owned)) => {
-            let copy = borrowed.to_packet(alloc)?;
-            let copy = format!(in alloc; "{copy:?}")?;
-            let owned = format!(in alloc; "{owned:?}")?;
-            assert_eq!(rt; copy.as_str(), owned.as_str(), "the packet of {bytes:?}");
+        (Ok(borrowed), Ok(owned)) => is_one_packet(rt, alloc, &borrowed, &owned),
+        (one, other) => {
+            expect_equal(rt, &(bytes, one.err()), &(bytes, other.err()), "the fault");
+            Ok(())
         }
-        (Err(one), Err(other)) => assert_eq!(rt; one, other, "the fault of {bytes:?}"),
-        (borrowed, owned) => assert!(rt; false, "{borrowed:?} but {owned:?} of {bytes:?}"),
     }
-    Ok(())
 }
 
 fn beginnings_read_alike(rt: &impl Abort, alloc: Global, bytes: &[u8]) -> Result<(), Fail> {
@@ -169,7 +180,7 @@ fn beginnings_read_alike(rt: &impl Abort, alloc: Global, bytes: &[u8]) -> Result
 
 #[test]
 fn ref_equals_owned(rt: HostRuntime) -> Result<(), Fail> {
-    for (bytes, _) in PACKETS {
+    for &(bytes, _) in &PACKETS {
         beginnings_read_alike(&rt, rt.alloc(), bytes)?;
     }
     Ok(())
@@ -177,7 +188,7 @@ fn ref_equals_owned(rt: HostRuntime) -> Result<(), Fail> {
 
 #[test]
 fn ref_equals_owned_of_faults(rt: HostRuntime) -> Result<(), Fail> {
-    for (bytes, _, _) in FAULTS {
+    for &(bytes, _, _) in &FAULTS {
         beginnings_read_alike(&rt, rt.alloc(), bytes)?;
     }
     Ok(())
@@ -185,9 +196,9 @@ fn ref_equals_owned_of_faults(rt: HostRuntime) -> Result<(), Fail> {
 
 #[test]
 fn packet_faults_are_numbered(rt: HostRuntime) {
-    assert_eq!(rt; PacketFaultKind::Short.number(), 1, "the first kind");
-    assert_eq!(rt; PacketFaultKind::Memory.number(), 12, "the last kind");
-    assert_eq!(rt; PacketFaultKind::NoValue.name(), "NoValue", "a name");
+    expect_equal(&rt, &PacketFaultKind::Short.number(), &1, "the first kind");
+    expect_equal(&rt, &PacketFaultKind::Memory.number(), &12, "the last kind");
+    expect_text(&rt, PacketFaultKind::NoValue.name(), "NoValue", "a name");
 }
 
 /// A request with an option.
@@ -200,15 +211,15 @@ fn requests_are_copied(rt: HostRuntime) -> Result<(), Fail> {
     };
     let request = borrowed.to_request(rt.alloc())?;
     let name = Bytes::from_slice(rt.alloc(), b"a")?;
-    assert_eq!(rt; request.name, name, "the name");
-    assert_eq!(rt; request.mode, Mode::Octet, "the mode");
+    expect_equal(&rt, &request.name, &name, "the name");
+    expect_equal(&rt, &request.mode, &Mode::Octet, "the mode");
     Ok(())
 }
 
 /// The option and its copy say the same.
 fn is_copied(rt: &impl Abort, alloc: Global, option: OptionRef<'_>) -> Result<(), Fail> {
     let copy = option.to_option(alloc)?;
-    assert_eq!(rt; copy.as_ref(), option, "an option and its copy");
+    expect_equal(rt, &copy.as_ref(), &option, "an option and its copy");
     Ok(())
 }
 
@@ -221,25 +232,35 @@ fn options_are_copied(rt: HostRuntime) -> Result<(), Fail> {
         is_copied(&rt, rt.alloc(), option)?;
     }
     let copies = borrowed.options.to_options(rt.alloc())?;
-    assert_eq!(rt; borrowed.options.iter().count(), 1, "the options");
-    assert_eq!(rt; copies.as_slice().len(), 1, "their copies");
+    expect_equal(&rt, &borrowed.options.iter().count(), &1, "the options");
+    expect_equal(&rt, &copies.as_slice().len(), &1, "their copies");
     Ok(())
 }
 
 #[test]
 fn modes_have_words(rt: HostRuntime) {
-    assert_eq!(rt; Mode::Octet.word(), "octet", "of octet");
-    assert_eq!(rt; Mode::Netascii.word(), "netascii", "of netascii");
+    expect_text(&rt, Mode::Octet.word(), "octet", "of octet");
+    expect_text(&rt, Mode::Netascii.word(), "netascii", "of netascii");
 }
 
 #[test]
 fn bytes_and_options_are_handed_back(rt: HostRuntime) -> Result<(), Fail> {
     let name = Bytes::from(Vec::from_slice(rt.alloc(), b"a")?);
-    assert_eq!(rt; name, Bytes::from_slice(rt.alloc(), b"a")?, "the name");
+    expect_equal(
+        &rt,
+        &name,
+        &Bytes::from_slice(rt.alloc(), b"a")?,
+        "the name",
+    );
     let value = Bytes::from_slice(rt.alloc(), b"8")?;
     let options = RawOptions::from(vec![in rt.alloc(); RawOption { name, value }]?);
-    assert_eq!(rt; options.as_slice().len(), 1, "the options");
+    expect_equal(&rt, &options.as_slice().len(), &1, "the options");
     let options = options.into_vec();
-    assert_eq!(rt; options.as_slice().len(), 1, "the options, handed back");
+    expect_equal(
+        &rt,
+        &options.as_slice().len(),
+        &1,
+        "the options, handed back",
+    );
     Ok(())
 }

@@ -1,5 +1,6 @@
 //! Names of requests, and the paths that they stand for.
 
+use crate::expect::{expect, expect_bytes, expect_equal};
 use std::alloc::Global;
 use std::test::Fail;
 use tftp_file::{PathFault, path_of};
@@ -19,9 +20,14 @@ const FAULTS: [(&[u8], PathFault); 9] = [
 
 #[test]
 fn wrong_names(rt: HostRuntime) {
-    for (bytes, fault) in FAULTS {
+    for &(bytes, fault) in &FAULTS {
         let found = path_of(rt.alloc(), bytes);
-        assert_eq!(rt; found.err(), Some(fault), "{bytes:?}");
+        expect_equal(
+            &rt,
+            &(bytes, found.err()),
+            &(bytes, Some(fault)),
+            "a wrong name",
+        );
     }
 }
 
@@ -36,9 +42,9 @@ const PATHS: [(&[u8], &[u8]); 5] = [
 
 #[test]
 fn paths_of_names(rt: HostRuntime) -> Result<(), Fail> {
-    for (bytes, path) in PATHS {
+    for &(bytes, path) in &PATHS {
         let found = path_of(rt.alloc(), bytes)?;
-        assert_eq!(rt; found.as_bytes(), path, "{bytes:?}");
+        expect_bytes(&rt, found.as_bytes(), path, "the path of a name");
     }
     Ok(())
 }
@@ -47,8 +53,13 @@ fn paths_of_names(rt: HostRuntime) -> Result<(), Fail> {
 fn case_counts(rt: HostRuntime) -> Result<(), Fail> {
     let upper = path_of(rt.alloc(), b"A")?;
     let lower = path_of(rt.alloc(), b"a")?;
-    assert!(rt; upper < lower, "two paths, in the order of their bytes");
-    assert_eq!(rt; PathFault::Segment.number(), 2, "the number of the fault");
+    expect(&rt, upper < lower, "two paths, in the order of their bytes");
+    expect_equal(
+        &rt,
+        &PathFault::Segment.number(),
+        &2,
+        "the number of the fault",
+    );
     Ok(())
 }
 
@@ -80,10 +91,15 @@ fn name(alloc: Global, segments: &[usize]) -> Result<Vec<u8>, Fail> {
 
 #[test]
 fn long_names(rt: HostRuntime) -> Result<(), Fail> {
-    for (segments, fault) in LENGTHS {
+    for &(segments, fault) in &LENGTHS {
         let bytes = name(rt.alloc(), segments)?;
         let found = path_of(rt.alloc(), bytes.as_slice());
-        assert_eq!(rt; found.err(), fault, "{segments:?}");
+        expect_equal(
+            &rt,
+            &(segments, found.err()),
+            &(segments, fault),
+            "the letters of its segments",
+        );
     }
     Ok(())
 }

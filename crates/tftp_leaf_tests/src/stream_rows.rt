@@ -1,5 +1,6 @@
 //! A source over a reader and a sink over a writer, some of which fail.
 
+use crate::expect::{expect, expect_bytes, expect_equal};
 use std::alloc::Global;
 use std::io;
 use std::io::{Read, Write};
@@ -88,8 +89,8 @@ fn commit<K: Sink>(sink: &mut K) -> Result<(), StoreFault> {
 /// The next fill of the source gives this piece.
 fn gives<S: Source>(rt: &impl Abort, source: &mut S, want: usize, out: &mut Vec<u8>, piece: &[u8]) {
     let filled = fill(source, want, out);
-    assert_eq!(rt; filled, Ok(piece.len()), "of {piece:?}");
-    assert_eq!(rt; out.as_slice(), piece, "the bytes");
+    expect_equal(rt, &(piece, filled), &(piece, Ok(piece.len())), "a piece");
+    expect_bytes(rt, out.as_slice(), piece, "the bytes");
 }
 
 /// Fills of three bytes of two line ends, which are four bytes of wire text (RFC 764), and how many
@@ -100,12 +101,12 @@ const LINE_ENDS: [(&[u8], usize); 3] = [(b"\r\n\r", 1), (b"\n", 0), (b"", 0)];
 fn stream_rows(rt: HostRuntime) {
     let mut source = ReadSource::new(b"\n\n".as_slice(), Mode::Netascii);
     let mut out = Vec::new(rt.alloc());
-    assert_eq!(rt; source.held(), 0, "before the first fill");
-    for (piece, held) in LINE_ENDS {
+    expect_equal(&rt, &source.held(), &0, "before the first fill");
+    for &(piece, held) in &LINE_ENDS {
         gives(&rt, &mut source, 3, &mut out, piece);
-        assert_eq!(rt; source.held(), held, "held back after {piece:?}");
+        expect_equal(&rt, &(piece, source.held()), &(piece, held), "held back");
     }
-    assert!(rt; source.get_ref().is_empty(), "the reader is at its end");
+    expect(&rt, source.get_ref().is_empty(), "the reader is at its end");
 }
 
 /// Bytes at a time, the mode, and the fills of four bytes of `A`, LF, `B`, CR, `C`.
@@ -128,7 +129,7 @@ fn gives_pieces(rt: &impl Abort, alloc: Global, at_a_time: usize, mode: Mode, pi
 
 #[test]
 fn short_reads_make_no_short_block(rt: HostRuntime) {
-    for (at_a_time, mode, pieces) in SHORT_READS {
+    for &(at_a_time, mode, pieces) in &SHORT_READS {
         gives_pieces(&rt, rt.alloc(), at_a_time, mode, pieces);
     }
 }
@@ -137,17 +138,27 @@ fn short_reads_make_no_short_block(rt: HostRuntime) {
 fn a_block_in_octet_is_one_read(rt: HostRuntime) {
     let mut source = ReadSource::new(Script::new(b"ABCDEFGH", 8, false), Mode::Octet);
     let mut out = Vec::new(rt.alloc());
-    assert_eq!(rt; fill(&mut source, 4, &mut out), Ok(4), "the first block");
-    assert_eq!(rt; fill(&mut source, 4, &mut out), Ok(4), "the second block");
-    assert_eq!(rt; source.into_inner().reads, 2, "reads");
+    expect_equal(
+        &rt,
+        &fill(&mut source, 4, &mut out),
+        &Ok(4),
+        "the first block",
+    );
+    expect_equal(
+        &rt,
+        &fill(&mut source, 4, &mut out),
+        &Ok(4),
+        "the second block",
+    );
+    expect_equal(&rt, &source.into_inner().reads, &2, "reads");
 }
 
 fn leaves_the_buffer(rt: &impl Abort, alloc: Global, mode: Mode) -> Result<(), Fail> {
     let mut source = ReadSource::new(Script::new(b"AB", 1, true), mode);
     let mut out = Vec::from_slice(alloc, b"header")?;
     let failed = source.fill(3, &mut out);
-    assert_eq!(rt; failed, Err(FileFault::Read), "in {mode:?}");
-    assert_eq!(rt; out.as_slice(), b"header".as_slice(), "in {mode:?}");
+    expect_equal(rt, &failed, &Err(FileFault::Read), mode.word());
+    expect_bytes(rt, out.as_slice(), b"header".as_slice(), mode.word());
     Ok(())
 }
 
@@ -169,16 +180,21 @@ fn reads_nothing(rt: &impl Abort, alloc: Global, mode: Mode, want: usize) -> Res
     let mut source = ReadSource::new(Script::new(b"AB", 2, false), mode);
     let mut out = Vec::from_slice(alloc, b"header")?;
     let refused = source.fill(want, &mut out);
-    assert_eq!(rt; refused, Err(FileFault::Memory), "a fill of {want}");
-    assert_eq!(rt; out.as_slice(), b"header".as_slice(), "the buffer stays");
-    assert_eq!(rt; source.get_ref().reads, 0, "nothing is read");
+    expect_equal(
+        rt,
+        &(want, refused),
+        &(want, Err(FileFault::Memory)),
+        mode.word(),
+    );
+    expect_bytes(rt, out.as_slice(), b"header".as_slice(), "the buffer stays");
+    expect_equal(rt, &source.get_ref().reads, &0, "nothing is read");
     gives(rt, &mut source, 3, &mut out, b"AB");
     Ok(())
 }
 
 #[test]
 fn a_growth_that_is_refused_reads_nothing(rt: HostRuntime) -> Result<(), Fail> {
-    for (mode, want) in GREAT {
+    for &(mode, want) in &GREAT {
         reads_nothing(&rt, rt.alloc(), mode, want)?;
     }
     Ok(())
@@ -196,9 +212,9 @@ fn stream_rows_of_a_sink(rt: HostRuntime) {
         };
         let mut sink = WriteSink::new(tape);
         let past = append(&mut sink, b"ABC");
-        assert_eq!(rt; past, Err(StoreFault::Io), "past the room");
+        expect_equal(&rt, &past, &Err(StoreFault::Io), "past the room");
         let written = sink.get_ref().written.as_slice();
-        assert_eq!(rt; written, b"AB".as_slice(), "what it took");
+        expect_bytes(&rt, written, b"AB".as_slice(), "what it took");
     }
 }
 
@@ -216,18 +232,23 @@ fn unflushed(alloc: Global) -> WriteSink<Tape> {
 fn a_flush_that_fails_commits_nothing(rt: HostRuntime) {
     let mut sink = unflushed(rt.alloc());
     let failed = commit(&mut sink);
-    assert_eq!(rt; failed, Err(StoreFault::Io), "the flush that fails");
-    assert!(rt; !sink.is_committed(), "after the flush that failed");
-    assert_eq!(rt; commit(&mut sink), Ok(()), "the flush after it");
-    assert!(rt; sink.is_committed(), "after the flush");
+    expect_equal(&rt, &failed, &Err(StoreFault::Io), "the flush that fails");
+    expect(&rt, !sink.is_committed(), "after the flush that failed");
+    expect_equal(&rt, &commit(&mut sink), &Ok(()), "the flush after it");
+    expect(&rt, sink.is_committed(), "after the flush");
 }
 
 #[test]
 fn a_flush_that_fails_loses_nothing(rt: HostRuntime) {
     let mut sink = unflushed(rt.alloc());
-    assert_eq!(rt; append(&mut sink, b"ABC"), Ok(()), "the append");
+    expect_equal(&rt, &append(&mut sink, b"ABC"), &Ok(()), "the append");
     let failed = commit(&mut sink);
-    assert_eq!(rt; failed, Err(StoreFault::Io), "the flush that fails");
+    expect_equal(&rt, &failed, &Err(StoreFault::Io), "the flush that fails");
     let tape = sink.into_inner();
-    assert_eq!(rt; tape.written.as_slice(), b"ABC".as_slice(), "in the writer");
+    expect_bytes(
+        &rt,
+        tape.written.as_slice(),
+        b"ABC".as_slice(),
+        "in the writer",
+    );
 }

@@ -1,6 +1,7 @@
 //! From which address `tftpd` answers: from the one that it listens at, and with `0.0.0.0` from the one that the
 //! system's route to the client has, whichever was asked.
 
+use crate::expect::{expect_bytes, expect_equal};
 use crate::programs::{listening, program};
 use crate::scratch::{joined, scratch_folder};
 use crate::test_server::loopback_socket;
@@ -35,13 +36,16 @@ fn answers_from<R: Net + AllocGlobal + Abort>(
         request_port.as_str().parse::<SocketAddr>()?,
     )?;
     let (count, transfer) = socket.recv_from(&mut buffer)?;
-    assert!(rt; &buffer[..count] == b"\0\x03\0\x01ABC".as_slice(), "DATA 1");
+    expect_bytes(
+        rt,
+        &buffer[..count],
+        b"\0\x03\0\x01ABC".as_slice(),
+        "DATA 1",
+    );
     let transfer_port = transfer.port();
     let wanted = format!(in alloc; "{wanted}:{transfer_port}")?;
-    assert!(rt;
-        transfer == wanted.as_str().parse::<SocketAddr>()?,
-        "{transfer} for {asked}"
-    );
+    let wanted = wanted.as_str().parse::<SocketAddr>()?;
+    expect_equal(rt, &transfer, &wanted, asked);
     socket.send_to(&[0, 4, 0, 1], transfer)?;
     Ok(())
 }
@@ -72,7 +76,7 @@ fn two_addresses(rt: HostRuntime) -> Result<(), Fail> {
     let folder = scratch_folder(&rt, process::id(rt.process()), "addresses")?;
     let folder = folder.as_str();
     fs::write(&rt, joined(rt.alloc(), folder, "a")?.as_str(), "ABC")?;
-    for (listen, asked, wanted) in ADDRESSES {
+    for &(listen, asked, wanted) in &ADDRESSES {
         serves_at(&rt, folder, listen, asked, wanted)?;
     }
     fs::remove_dir_all(&rt, folder)?;

@@ -1,5 +1,6 @@
 //! A server of the test that refuses options, and a client that then asks for none.
 
+use crate::expect::{expect, expect_bytes};
 use crate::programs::program;
 use crate::scratch::{joined, scratch_folder};
 use crate::test_server::{address_of, loopback_socket};
@@ -17,7 +18,7 @@ fn answers<R: std::net::Net + Abort>(
 ) -> Result<(), Fail> {
     let mut buffer = [0; 600];
     let (count, client) = requests.recv_from(&mut buffer)?;
-    assert!(rt; &buffer[..count] == wanted, "the request");
+    expect_bytes(rt, &buffer[..count], wanted, "the request");
     let transfer = loopback_socket(rt)?;
     transfer.send_to(answer, client)?;
     Ok(())
@@ -54,7 +55,7 @@ fn falls_back(rt: HostRuntime) -> Result<(), Fail> {
     answers(&rt, &requests, plain, b"\0\x03\0\x01ABC".as_slice())?;
     let output = client.wait_with_output(alloc)?;
     let told = str::from_utf8(output.stdout.as_slice())?;
-    assert!(rt; told.contains("complete 3\nstatus 0\n"), "{told}");
+    expect(&rt, told.contains("complete 3\nstatus 0\n"), told);
     fs::remove_dir_all(&rt, folder.as_str())?;
     Ok(())
 }

@@ -1,5 +1,6 @@
 //! A store over a folder: what it opens, and how a file gets its name.
 
+use crate::expect::{expect, expect_bytes, expect_equal, expect_text};
 use crate::scratch::{joined, scratch_folder};
 use std::alloc::Global;
 use std::fs;
@@ -28,8 +29,8 @@ fn opens<S: Store, R: AllocGlobal + Abort>(
     let mut opening = store.open(rt.alloc(), &path, mode)?;
     let mut text = Vec::new(rt.alloc());
     opening.source.fill(100, &mut text)?;
-    assert!(rt; text.as_slice() == wanted, "{name}");
-    assert_eq!(rt; opening.length, wanted.len() as u64);
+    expect_bytes(rt, text.as_slice(), wanted, name);
+    expect_equal(rt, &opening.length, &(wanted.len() as u64), name);
     Ok(())
 }
 
@@ -42,7 +43,7 @@ fn refuses<S: Store, R: AllocGlobal + Abort>(
 ) -> Result<(), Fail> {
     let path = path(rt.alloc(), name)?;
     let fault = store.open(rt.alloc(), &path, Mode::Octet).err();
-    assert!(rt; fault == Some(wanted), "{name}");
+    expect_equal(rt, &fault, &Some(wanted), name);
     Ok(())
 }
 
@@ -53,7 +54,7 @@ fn fill_folder<R: Runtime + AllocGlobal + Processes>(rt: &R, folder: &str) -> Re
     fs::write(rt, joined(alloc, folder, "served/a")?.as_str(), "A\nB")?;
     fs::write(rt, joined(alloc, folder, "served/sub/b")?.as_str(), "BB")?;
     fs::write(rt, joined(alloc, folder, "secret")?.as_str(), "S")?;
-    for (target, link) in [
+    for &(target, link) in &[
         ("sub/b", "served/inner"),
         ("../secret", "served/outer"),
         ("..", "served/up"),
@@ -79,7 +80,7 @@ fn opens_what_is_in_the_folder(rt: HostRuntime) -> Result<(), Fail> {
     opens(&rt, &store, "a", Mode::Octet, b"A\nB")?;
     opens(&rt, &store, "a", Mode::Netascii, b"A\r\nB")?;
     opens(&rt, &store, "inner", Mode::Octet, b"BB")?;
-    for (name, fault) in [
+    for &(name, fault) in &[
         ("none", StoreFault::Missing),
         ("a/b", StoreFault::Missing),
         ("sub", StoreFault::Missing),
@@ -97,7 +98,7 @@ fn opens_what_is_in_the_folder(rt: HostRuntime) -> Result<(), Fail> {
 /// A file has these contents.
 fn holds<R: Runtime + AllocGlobal + Abort>(rt: &R, file: &str, wanted: &str) -> Result<(), Fail> {
     let text = fs::read_to_string(rt, file)?;
-    assert_eq!(rt; text.as_str(), wanted);
+    expect_text(rt, text.as_str(), wanted, file);
     Ok(())
 }
 
@@ -114,10 +115,10 @@ fn names_at_the_commit(rt: HostRuntime) -> Result<(), Fail> {
     store.set_port(4711);
     let mut draft = store.begin(alloc, &n, false)?;
     store.append(&mut draft, b"first")?;
-    assert!(rt; !fs::exists(&rt, target.as_str())?, "before its commit");
+    expect(&rt, !fs::exists(&rt, target.as_str())?, "before its commit");
     store.commit(&n, &mut draft, false)?;
     holds(&rt, target.as_str(), "first")?;
-    assert!(rt; !fs::exists(&rt, name.as_str())?, "after its commit");
+    expect(&rt, !fs::exists(&rt, name.as_str())?, "after its commit");
     fs::remove_dir_all(&rt, folder.as_str())?;
     Ok(())
 }
@@ -131,10 +132,12 @@ fn replaces_where_told(rt: HostRuntime) -> Result<(), Fail> {
     fs::write(&rt, target.as_str(), "first")?;
     let mut store = FolderStore::new(rt, alloc, folder.as_str())?;
     let n = path(alloc, "n")?;
-    assert!(rt; store.begin(alloc, &n, false).err() == Some(StoreFault::Exists));
+    let begun = store.begin(alloc, &n, false).err();
+    expect_equal(&rt, &begun, &Some(StoreFault::Exists), "the beginning");
     let mut draft = store.begin(alloc, &n, true)?;
     store.append(&mut draft, b"second")?;
-    assert!(rt; store.commit(&n, &mut draft, false) == Err(StoreFault::Exists));
+    let committed = store.commit(&n, &mut draft, false);
+    expect_equal(&rt, &committed, &Err(StoreFault::Exists), "the commit");
     holds(&rt, target.as_str(), "first")?;
     store.commit(&n, &mut draft, true)?;
     holds(&rt, target.as_str(), "second")?;

@@ -1,5 +1,6 @@
 //! Puts to a `tftpd` whose files may not grow: the client is told that the disk is full, and nothing is named.
 
+use crate::expect::expect;
 use crate::loopback::bytes_of;
 use crate::programs::{limited_program, listening, told};
 use crate::scratch::{joined, scratch_folder};
@@ -30,20 +31,20 @@ fn is_refused<R: Runtime + AllocGlobal + Processes + Abort>(
     let words = ["put", address.as_str(), local.as_str(), "n", "--verbose"];
     let told = told(rt, "programs::tftp", &words)?;
     let wanted = "tftp: PeerError(3)\ntftp: ERROR 3 (disk full)\n";
-    assert!(rt; told.as_str().contains(wanted), "{told}");
+    expect(rt, told.as_str().contains(wanted), told.as_str());
     let mut rest = String::new(alloc);
     printed.read_to_string(&mut rest)?;
-    assert!(rt; rest.as_str().contains(" StoreFault\n"), "{rest}");
+    expect(rt, rest.as_str().contains(" StoreFault\n"), rest.as_str());
     server.wait()?;
     let file = joined(alloc, folder, "n")?;
-    assert!(rt; !fs::exists(rt, file.as_str())?, "a file of its name");
+    expect(rt, !fs::exists(rt, file.as_str())?, "a file of its name");
     Ok(())
 }
 
 #[test]
 fn the_disk_is_full(rt: HostRuntime) -> Result<(), Fail> {
     let folder = scratch_folder(&rt, process::id(rt.process()), "full")?;
-    for length in LENGTHS {
+    for &length in &LENGTHS {
         is_refused(&rt, folder.as_str(), length)?;
     }
     fs::remove_dir_all(&rt, folder.as_str())?;

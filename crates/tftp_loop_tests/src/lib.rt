@@ -4,6 +4,8 @@
 #[cfg(test)]
 mod address_rows;
 #[cfg(test)]
+mod expect;
+#[cfg(test)]
 mod fallback_rows;
 #[cfg(test)]
 mod folder_rows;

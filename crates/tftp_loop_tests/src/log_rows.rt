@@ -1,5 +1,6 @@
 //! What `tftpd --log` writes on standard error.
 
+use crate::expect::expect;
 use crate::programs::{listening, program, told};
 use crate::scratch::{joined, scratch_folder};
 use std::fs;
@@ -34,13 +35,13 @@ fn log_lines(rt: HostRuntime) -> Result<(), Fail> {
     )?;
     let output = server.wait_with_output(alloc)?;
     let log = str::from_utf8(output.stderr.as_slice())?;
-    for wanted in [
+    for &wanted in &[
         " RRQ b%20c octet: ERROR 2 (access violation)\n",
         " RRQ a octet: DATA 1 3\n",
         " RRQ a octet: DATA 1 3, 3 bytes, ",
         " ms, Complete\n",
     ] {
-        assert!(rt; log.contains(wanted), "{log}");
+        expect(&rt, log.contains(wanted), log);
     }
     fs::remove_dir_all(&rt, folder)?;
     Ok(())

@@ -1,5 +1,6 @@
 //! One server and its clients, over the loopback address.
 
+use crate::expect::{expect, expect_equal, expect_text};
 use crate::programs::{listening, program, told};
 use crate::scratch::{joined, scratch_folder};
 use std::alloc::Global;
@@ -17,7 +18,7 @@ fn tells<R: Runtime + AllocGlobal + Processes + Abort>(
 ) -> Result<(), Fail> {
     let told = told(rt, "programs::tftp", words)?;
     let told = told.as_str();
-    assert!(rt; told.contains(wanted), "{told}");
+    expect(rt, told.contains(wanted), told);
     Ok(())
 }
 
@@ -35,7 +36,7 @@ pub(crate) fn has_served<P: Read + Drop, R: AllocGlobal + Abort>(
             count = count.saturating_add(1);
         }
     }
-    assert_eq!(rt; count, wanted);
+    expect_equal(rt, &count, &wanted, "the complete transfers");
     Ok(())
 }
 
@@ -75,7 +76,7 @@ fn loopback(rt: HostRuntime) -> Result<(), Fail> {
         "status 2\n\ntest result: ok\ntftp: file fault\n",
     )?;
     let stored = fs::read_to_string(&rt, local)?;
-    assert_eq!(rt; stored.as_str(), "ABC");
+    expect_text(&rt, stored.as_str(), "ABC", "what the client stored");
     has_served(&rt, printed, 1)?;
     server.wait()?;
     fs::remove_dir_all(&rt, folder)?;
@@ -113,7 +114,7 @@ pub(crate) fn bytes_of(alloc: Global, length: usize) -> Result<Vec<u8>, Fail> {
 
 /// Puts a file of each length into a folder.
 fn write_all<R: Runtime + AllocGlobal>(rt: &R, folder: &str) -> Result<(), Fail> {
-    for (name, length) in LENGTHS {
+    for &(name, length) in &LENGTHS {
         let file = joined(rt.alloc(), folder, name)?;
         let bytes = bytes_of(rt.alloc(), length)?;
         fs::write(rt, file.as_str(), bytes.as_slice())?;
@@ -130,11 +131,11 @@ fn local_of(alloc: Global, folder: &str, name: &str) -> Result<String, Fail> {
 
 /// Each client has stored its file.
 fn are_stored<R: Runtime + AllocGlobal + Abort>(rt: &R, folder: &str) -> Result<(), Fail> {
-    for (name, length) in LENGTHS {
+    for &(name, length) in &LENGTHS {
         let local = local_of(rt.alloc(), folder, name)?;
         let stored = fs::read(rt, local.as_str())?;
         let bytes = bytes_of(rt.alloc(), length)?;
-        assert!(rt; stored.as_slice() == bytes.as_slice(), "{name}");
+        expect(rt, stored.as_slice() == bytes.as_slice(), name);
     }
     Ok(())
 }
@@ -142,7 +143,7 @@ fn are_stored<R: Runtime + AllocGlobal + Abort>(rt: &R, folder: &str) -> Result<
 /// A client has completed.
 pub(crate) fn is_complete<R: Abort>(rt: &R, output: &Output) -> Result<(), Fail> {
     let told = str::from_utf8(output.stdout.as_slice())?;
-    assert!(rt; told.contains("status 0\n"), "{told}");
+    expect(rt, told.contains("status 0\n"), told);
     Ok(())
 }
 
@@ -174,7 +175,7 @@ fn sixteen_at_once(rt: HostRuntime) -> Result<(), Fail> {
     let printed = server.stdout.take().ok_or("the server prints")?;
     let (printed, address) = listening(alloc, printed)?;
     let mut clients = Vec::new(alloc);
-    for (name, _) in LENGTHS {
+    for &(name, _) in &LENGTHS {
         clients.push(started(&rt, folder, address.as_str(), name)?)?;
     }
     for client in clients {

@@ -1,5 +1,6 @@
 //! Transfers over a network that loses, doubles and reorders: one that reports complete has the same bytes.
 
+use crate::expect::expect;
 use crate::loopback::bytes_of;
 use crate::programs::{listening, program};
 use crate::proxy::Proxy;
@@ -36,13 +37,10 @@ fn gets_through<R: Runtime + AllocGlobal + Processes + Net + Abort>(
     proxy.run(&mut client)?;
     let output = client.wait_with_output(alloc)?;
     let told = str::from_utf8(output.stdout.as_slice())?;
-    assert!(rt; told.contains("complete 2500\nstatus 0\n"), "{told}");
+    expect(rt, told.contains("complete 2500\nstatus 0\n"), told);
     let wanted = bytes_of(alloc, 2_500)?;
     let stored = fs::read(rt, local.as_str())?;
-    assert!(rt;
-        stored.as_slice() == wanted.as_slice(),
-        "the bytes with {seed}"
-    );
+    expect(rt, stored.as_slice() == wanted.as_slice(), local.as_str());
     Ok(())
 }
 
@@ -79,9 +77,9 @@ fn puts_through<R: Runtime + AllocGlobal + Processes + Net + Abort>(
         Ok(stored) => {
             let wanted = bytes_of(alloc, 2_500)?;
             let is_whole = stored.as_slice() == wanted.as_slice();
-            assert!(rt; is_whole, "the bytes with {seed}");
+            expect(rt, is_whole, name.as_str());
         }
-        Err(_) => assert!(rt; !is_complete, "a file with {seed}"),
+        Err(_) => expect(rt, !is_complete, name.as_str()),
     }
     Ok(is_complete)
 }
@@ -112,7 +110,7 @@ fn puts_survive(rt: HostRuntime) -> Result<(), Fail> {
     for seed in [4, 5, 6] {
         some_complete |= puts_through(&rt, folder, address.as_str(), seed)?;
     }
-    assert!(rt; some_complete, "no put is complete");
+    expect(&rt, some_complete, "no put is complete");
     server.kill()?;
     server.wait()?;
     fs::remove_dir_all(&rt, folder)?;

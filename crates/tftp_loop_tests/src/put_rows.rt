@@ -1,5 +1,6 @@
 //! Puts of `tftp` to a server of the test.
 
+use crate::expect::{expect, expect_bytes};
 use crate::loopback::bytes_of;
 use crate::programs::program;
 use crate::scratch::{joined, scratch_folder};
@@ -30,12 +31,14 @@ fn arrives<R: Runtime + AllocGlobal + Processes + Net + Abort>(
     let (request, file) = take_put(rt, alloc, &requests)?;
     let output = client.wait_with_output(alloc)?;
     let told = str::from_utf8(output.stdout.as_slice())?;
-    assert!(rt; told.contains(wanted), "{told}");
-    assert!(rt;
-        request.as_slice() == b"\0\x02n\0octet\0".as_slice(),
-        "the request"
+    expect(rt, told.contains(wanted), told);
+    expect_bytes(
+        rt,
+        request.as_slice(),
+        b"\0\x02n\0octet\0".as_slice(),
+        "the request",
     );
-    assert!(rt; file.as_slice() == bytes.as_slice(), "the file");
+    expect(rt, file.as_slice() == bytes.as_slice(), "the file");
     Ok(())
 }
 

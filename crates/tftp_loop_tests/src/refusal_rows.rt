@@ -1,5 +1,6 @@
 //! What `tftpd` answers to requests that it refuses: at once, from its request port, and without a transfer.
 
+use crate::expect::{expect, expect_bytes, expect_equal};
 use crate::loopback::has_served;
 use crate::programs::{listening, program};
 use crate::scratch::{joined, scratch_folder};
@@ -66,8 +67,13 @@ fn answers<R: Net + Abort>(
     let mut buffer = [0; 600];
     socket.send_to(request, server)?;
     let (count, from) = socket.recv_from(&mut buffer)?;
-    assert!(rt; from == server, "the request port");
-    assert!(rt; &buffer[..count] == wanted, "{request:?}");
+    expect_equal(rt, &from, &server, "the request port");
+    expect_equal(
+        rt,
+        &(request, &buffer[..count]),
+        &(request, wanted),
+        "the answer",
+    );
     Ok(())
 }
 
@@ -85,7 +91,7 @@ fn requests_are_refused(rt: HostRuntime) -> Result<(), Fail> {
     let printed = server.stdout.take().ok_or("the server prints")?;
     let (_printed, address) = listening(alloc, printed)?;
     let address = address.as_str().parse::<SocketAddr>()?;
-    for (request, wanted) in REFUSALS {
+    for &(request, wanted) in &REFUSALS {
         answers(&rt, address, request, wanted)?;
     }
     server.kill()?;
@@ -103,10 +109,15 @@ fn is_busy<R: Net + Abort>(rt: &R, server: SocketAddr) -> Result<(), Fail> {
     first.send_to(request, server)?;
     answers(rt, server, request, b"\0\x05\0\0server busy\0".as_slice())?;
     let (count, transfer) = first.recv_from(&mut buffer)?;
-    assert!(rt; &buffer[..count] == b"\0\x03\0\x01ABC".as_slice(), "DATA 1");
+    expect_bytes(
+        rt,
+        &buffer[..count],
+        b"\0\x03\0\x01ABC".as_slice(),
+        "DATA 1",
+    );
     first.send_to(&[0, 4, 0, 1], transfer)?;
     first.set_nonblocking(true)?;
-    assert!(rt; first.recv_from(&mut buffer).is_err(), "a second answer");
+    expect(rt, first.recv_from(&mut buffer).is_err(), "a second answer");
     Ok(())
 }
 

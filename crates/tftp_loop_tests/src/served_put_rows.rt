@@ -1,5 +1,6 @@
 //! Puts to `tftpd` that end badly or that replace a file: a file is seen whole under its name, or not at all.
 
+use crate::expect::{expect, expect_bytes, expect_text};
 use crate::programs::{listening, program, told};
 use crate::scratch::{joined, scratch_folder};
 use crate::test_server::loopback_socket;
@@ -16,12 +17,12 @@ fn vanishes<R: Net + Abort>(rt: &R, server: &str) -> Result<(), Fail> {
     let mut buffer = [0; 600];
     socket.send_to(b"\0\x02n\0octet\0", server.parse::<SocketAddr>()?)?;
     let (count, transfer) = socket.recv_from(&mut buffer)?;
-    assert_eq!(rt; &buffer[..count], b"\0\x04\0\0".as_slice(), "ACK 0");
+    expect_bytes(rt, &buffer[..count], b"\0\x04\0\0".as_slice(), "ACK 0");
     let mut block = [7; 516];
     block[..4].copy_from_slice(b"\0\x03\0\x01");
     socket.send_to(&block, transfer)?;
     let (count, _) = socket.recv_from(&mut buffer)?;
-    assert_eq!(rt; &buffer[..count], b"\0\x04\0\x01".as_slice(), "ACK 1");
+    expect_bytes(rt, &buffer[..count], b"\0\x04\0\x01".as_slice(), "ACK 1");
     Ok(())
 }
 
@@ -40,10 +41,14 @@ fn a_client_vanishes(rt: HostRuntime) -> Result<(), Fail> {
     vanishes(&rt, address.as_str())?;
     let mut rest = String::new(alloc);
     printed.read_to_string(&mut rest)?;
-    assert!(rt; rest.as_str().contains(" TimedOut\n"), "{rest}");
+    expect(&rt, rest.as_str().contains(" TimedOut\n"), rest.as_str());
     server.wait()?;
     let file = joined(alloc, folder, "n")?;
-    assert!(rt; fs::read(&rt, file.as_str()).is_err(), "a file of its name");
+    expect(
+        &rt,
+        fs::read(&rt, file.as_str()).is_err(),
+        "a file of its name",
+    );
     fs::remove_dir_all(&rt, folder)?;
     Ok(())
 }
@@ -64,7 +69,11 @@ fn a_server_is_killed(rt: HostRuntime) -> Result<(), Fail> {
     server.kill()?;
     server.wait()?;
     let file = joined(alloc, folder, "n")?;
-    assert!(rt; fs::read(&rt, file.as_str()).is_err(), "a file of its name");
+    expect(
+        &rt,
+        fs::read(&rt, file.as_str()).is_err(),
+        "a file of its name",
+    );
     fs::remove_dir_all(&rt, folder)?;
     Ok(())
 }
@@ -87,10 +96,14 @@ fn a_file_is_replaced(rt: HostRuntime) -> Result<(), Fail> {
     let (_printed, address) = listening(alloc, printed)?;
     let words = ["put", address.as_str(), local.as_str(), "a"];
     let told = told(&rt, "programs::tftp", &words)?;
-    assert!(rt; told.as_str().contains("complete 5\nstatus 0\n"), "{told}");
+    expect(
+        &rt,
+        told.as_str().contains("complete 5\nstatus 0\n"),
+        told.as_str(),
+    );
     server.wait()?;
     let stored = fs::read_to_string(&rt, file.as_str())?;
-    assert_eq!(rt; stored.as_str(), "newer");
+    expect_text(&rt, stored.as_str(), "newer", "the file that is there");
     fs::remove_dir_all(&rt, folder)?;
     Ok(())
 }

@@ -1,6 +1,7 @@
 //! Gets and puts in blocks of several sizes and in both modes, of lengths around the ends of blocks, many at
 //! once (RFC 1350, section 6; RFC 2348; RFC 764).
 
+use crate::expect::expect;
 use crate::loopback::{bytes_of, has_served, is_complete};
 use crate::programs::{listening, program};
 use crate::scratch::scratch_folder;
@@ -110,7 +111,7 @@ fn travel<R: Runtime + AllocGlobal + Processes + Abort>(
     let alloc = rt.alloc();
     let mut clients = Vec::new(alloc);
     for length in lengths {
-        for mode in MODES {
+        for &mode in &MODES {
             clients.push(started(rt, folder, address, size, way, mode, length)?)?;
         }
     }
@@ -119,7 +120,7 @@ fn travel<R: Runtime + AllocGlobal + Processes + Abort>(
         is_complete(rt, &output)?;
     }
     for length in lengths {
-        for mode in MODES {
+        for &mode in &MODES {
             arrived(rt, folder, way, mode, length)?;
         }
     }
@@ -137,7 +138,7 @@ fn arrived<R: Runtime + AllocGlobal + Abort>(
     let copy = copy_of(rt.alloc(), folder, way, mode, length)?;
     let stored = fs::read(rt, copy.as_str())?;
     let wanted = bytes_of(rt.alloc(), length)?;
-    assert!(rt; stored.as_slice() == wanted.as_slice(), "{copy}");
+    expect(rt, stored.as_slice() == wanted.as_slice(), copy.as_str());
     Ok(())
 }
 

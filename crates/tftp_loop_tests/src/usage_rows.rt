@@ -1,5 +1,6 @@
 //! Help texts, and command lines that are not understood: each fault names the option and its range.
 
+use crate::expect::expect;
 use crate::programs::told;
 use std::process::{Abort, Processes};
 use std::rt::Runtime;
@@ -63,13 +64,13 @@ fn prints<R: Runtime + AllocGlobal + Processes + Abort>(
     wanted: &str,
 ) -> Result<(), Fail> {
     let told = told(rt, name, words)?;
-    assert!(rt; told.as_str().contains(wanted), "{told}");
+    expect(rt, told.as_str().contains(wanted), told.as_str());
     Ok(())
 }
 
 #[test]
 fn help_and_faults(rt: HostRuntime) -> Result<(), Fail> {
-    for (name, words, wanted) in ROWS {
+    for &(name, words, wanted) in &ROWS {
         prints(&rt, name, words, wanted)?;
     }
     Ok(())

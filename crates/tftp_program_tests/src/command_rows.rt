@@ -1,6 +1,7 @@
 //! Command lines of the programs, and their statuses.
 
-use tftp_cmd::{play_words, show_words};
+use crate::expect::{expect_bytes, expect_equal};
+use tftp_text::{play_words, show_words};
 
 /// A word behind the program's name, and the status: `tftp-show` takes no argument but these two.
 const SHOW: [(&str, u8); 4] = [
@@ -12,9 +13,9 @@ const SHOW: [(&str, u8); 4] = [
 
 #[test]
 fn show_command_lines(rt: HostRuntime) {
-    for (word, status) in SHOW {
+    for &(word, status) in &SHOW {
         let answer = show_words(&rt, &["tftp-show", word]);
-        assert_eq!(rt; answer, status, "the argument {word}");
+        expect_equal(&rt, &answer, &status, word);
     }
 }
 
@@ -29,10 +30,10 @@ const PLAY: [(&[&str], u8); 5] = [
 
 #[test]
 fn play_command_lines(rt: HostRuntime) {
-    for (words, status) in PLAY {
+    for &(words, status) in &PLAY {
         let mut errors = Vec::new(rt.alloc());
         let answer = play_words(&rt, words, &mut errors);
-        assert_eq!(rt; answer, status, "the status of {words:?}");
+        expect_equal(&rt, &(words, answer), &(words, status), "the status");
     }
 }
 
@@ -41,11 +42,11 @@ const UNREADABLE: [&str; 2] = ["/missing/a.script", "/"];
 
 #[test]
 fn unreadable_scripts(rt: HostRuntime) {
-    for path in UNREADABLE {
+    for &path in &UNREADABLE {
         let mut errors = Vec::new(rt.alloc());
         let answer = play_words(&rt, &["tftp-play", path], &mut errors);
-        assert_eq!(rt; answer, 2, "the status of {path}");
+        expect_equal(&rt, &answer, &2, path);
         let message = b"script: unreadable\n".as_slice();
-        assert_eq!(rt; errors.as_slice(), message, "the message of {path}");
+        expect_bytes(&rt, errors.as_slice(), message, path);
     }
 }

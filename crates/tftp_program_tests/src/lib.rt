@@ -1,8 +1,10 @@
-//! The tests of the programs' functions, over the public calls of `tftp_cmd`.
+//! The tests of the programs' functions, over the public calls of `tftp_text` and `tftp_host`.
 #![tactic(auto)]
 
 #[cfg(test)]
 mod command_rows;
+#[cfg(test)]
+mod expect;
 #[cfg(test)]
 mod faulty_streams;
 #[cfg(test)]

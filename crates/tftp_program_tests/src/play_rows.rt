@@ -1,10 +1,11 @@
 //! Whole runs of `tftp-play` over memory. What they print is written by hand from RFC 1350, sections 2,
 //! 4 and 6, and RFC 1123, section 4.2.3.1.
 
+use crate::expect::{expect, expect_bytes, expect_equal};
 use crate::faulty_streams::{Breaks, Full};
 use crate::playing::plays;
 use std::test::Fail;
-use tftp_cmd::play_run;
+use tftp_text::play_run;
 
 #[test]
 fn play_first(rt: HostRuntime) -> Result<(), Fail> {
@@ -110,7 +111,7 @@ end 1025 server-read peer=1024 size=512 number=1 complete=no TimedOut
 
 #[test]
 fn read_rows(rt: HostRuntime) -> Result<(), Fail> {
-    for (script, want, status) in READS {
+    for &(script, want, status) in &READS {
         plays(&rt, rt.alloc(), script, want, status)?;
     }
     Ok(())
@@ -138,7 +139,7 @@ end 1026 server-read peer=1024 size=512 number=1 complete=no PeerError(5)
 
 #[test]
 fn repeat_rows(rt: HostRuntime) -> Result<(), Fail> {
-    for (script, want, status) in REPEATS {
+    for &(script, want, status) in &REPEATS {
         plays(&rt, rt.alloc(), script, want, status)?;
     }
     Ok(())
@@ -169,7 +170,7 @@ end 1024 client-read peer=none size=512 number=0 complete=no TimedOut
 
 #[test]
 fn quiet_scripts(rt: HostRuntime) -> Result<(), Fail> {
-    for (script, want, status) in QUIET {
+    for &(script, want, status) in &QUIET {
         plays(&rt, rt.alloc(), script, want, status)?;
     }
     Ok(())
@@ -182,10 +183,10 @@ fn a_script_breaks_off(rt: HostRuntime) {
     let mut errors = Vec::new(rt.alloc());
     let broken = Breaks(b"get a octet\n");
     let status = play_run(rt.alloc(), broken, &mut output, &mut errors);
-    assert_eq!(rt; status, 2, "the status");
-    assert!(rt; output.is_empty(), "nothing is played");
+    expect_equal(&rt, &status, &2, "the status");
+    expect(&rt, output.is_empty(), "nothing is played");
     let message = b"script: unreadable\n".as_slice();
-    assert_eq!(rt; errors.as_slice(), message, "the message");
+    expect_bytes(&rt, errors.as_slice(), message, "the message");
 }
 
 #[test]
@@ -193,15 +194,15 @@ fn an_output_takes_nothing(rt: HostRuntime) {
     let mut errors = Vec::new(rt.alloc());
     let script = b"get a octet\n".as_slice();
     let status = play_run(rt.alloc(), script, Full, &mut errors);
-    assert_eq!(rt; status, 2, "the status");
+    expect_equal(&rt, &status, &2, "the status");
     let message = b"output: unwritable\n".as_slice();
-    assert_eq!(rt; errors.as_slice(), message, "the message");
+    expect_bytes(&rt, errors.as_slice(), message, "the message");
 }
 
 #[test]
 fn a_message_cannot_be_written(rt: HostRuntime) {
     let mut output = Vec::new(rt.alloc());
     let status = play_run(rt.alloc(), b"\xff\n".as_slice(), &mut output, Full);
-    assert_eq!(rt; status, 2, "the status");
-    assert!(rt; output.is_empty(), "nothing is played");
+    expect_equal(&rt, &status, &2, "the status");
+    expect(&rt, output.is_empty(), "nothing is played");
 }

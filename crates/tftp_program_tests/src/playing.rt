@@ -1,9 +1,10 @@
 //! Whole runs of `tftp-play` over memory.
 
+use crate::expect::{expect, expect_equal, expect_text};
 use std::alloc::Global;
 use std::process::Abort;
 use std::test::Fail;
-use tftp_cmd::play_run;
+use tftp_text::play_run;
 
 /// The script prints this, with this status and no message.
 pub(crate) fn plays(
@@ -17,8 +18,8 @@ pub(crate) fn plays(
     let mut errors = Vec::new(alloc);
     let answer = play_run(alloc, script.as_bytes(), &mut output, &mut errors);
     let output = str::from_utf8(output.as_slice())?;
-    assert_eq!(rt; output, want, "the output of {script:?}");
-    assert!(rt; errors.is_empty(), "an error of {script:?}");
-    assert_eq!(rt; answer, status, "the status of {script:?}");
+    expect_text(rt, output, want, script);
+    expect(rt, errors.is_empty(), script);
+    expect_equal(rt, &answer, &status, script);
     Ok(())
 }

@@ -1,9 +1,10 @@
 //! Scripts of random events, with transfers of each kind: whatever is drawn, the script runs to its end.
 
+use crate::expect::expect;
 use std::alloc::Global;
 use std::process::Abort;
 use std::test::Fail;
-use tftp_cmd::play_run;
+use tftp_text::play_run;
 
 /// Reads and writes in both modes, with and without options, two writes of one name, and 10,000 events.
 const KEPT: &str = "\
@@ -36,10 +37,10 @@ fn runs(rt: &impl Abort, alloc: Global, script: &str) -> Result<(), Fail> {
     let mut output = Vec::new(alloc);
     let mut errors = Vec::new(alloc);
     let status = play_run(alloc, script.as_bytes(), &mut output, &mut errors);
-    assert!(rt; errors.is_empty(), "an error");
-    assert!(rt; status <= 1, "status {status}");
+    expect(rt, errors.is_empty(), "an error");
+    expect(rt, status <= 1, "the status is 0 or 1");
     let lines = str::from_utf8(output.as_slice())?.lines().count();
-    assert!(rt; lines > 10_000, "{lines} lines");
+    expect(rt, lines > 10_000, "a line for each event");
     Ok(())
 }
 

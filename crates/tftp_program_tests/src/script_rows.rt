@@ -1,9 +1,10 @@
 //! Which lines a script of `tftp-play` may have.
 
+use crate::expect::expect_equal;
 use std::alloc::Global;
 use std::process::Abort;
 use std::test::Fail;
-use tftp_cmd::play_run;
+use tftp_text::play_run;
 
 /// Scripts, and the number of their first faulty line.
 const FAULTS: [(&[u8], usize); 82] = [
@@ -105,19 +106,25 @@ fn is_faulty(rt: &impl Abort, alloc: Global, script: &[u8], number: usize) -> Re
     let mut errors = Vec::new(alloc);
     let status = play_run(alloc, script, &mut output, &mut errors);
     let want = format!(in alloc; "line {number}: fault\n")?;
-    assert_eq!(rt;
-        errors.as_slice(),
-        want.as_bytes(),
-        "the message of {script:?}"
+    expect_equal(
+        rt,
+        &(script, errors.as_slice()),
+        &(script, want.as_bytes()),
+        "the message",
     );
-    assert_eq!(rt; status, 2, "the status of {script:?}");
-    assert!(rt; output.is_empty(), "{script:?} is not played");
+    expect_equal(rt, &(script, status), &(script, 2), "the status");
+    expect_equal(
+        rt,
+        &(script, output.is_empty()),
+        &(script, true),
+        "nothing is played",
+    );
     Ok(())
 }
 
 #[test]
 fn script_faults(rt: HostRuntime) -> Result<(), Fail> {
-    for (script, number) in FAULTS {
+    for &(script, number) in &FAULTS {
         is_faulty(&rt, rt.alloc(), script, number)?;
     }
     Ok(())
@@ -159,13 +166,19 @@ fn plays(
     let mut output = Vec::new(alloc);
     let mut errors = Vec::new(alloc);
     let answer = play_run(alloc, script, &mut output, &mut errors);
-    assert_eq!(rt;
-        output.as_slice(),
-        want.as_bytes(),
-        "the output of {script:?}"
+    expect_equal(
+        rt,
+        &(script, output.as_slice()),
+        &(script, want.as_bytes()),
+        "the output",
     );
-    assert!(rt; errors.is_empty(), "an error of {script:?}");
-    assert_eq!(rt; answer, status, "the status of {script:?}");
+    expect_equal(
+        rt,
+        &(script, errors.is_empty()),
+        &(script, true),
+        "no error",
+    );
+    expect_equal(rt, &(script, answer), &(script, status), "the status");
     Ok(())
 }
 
@@ -230,7 +243,7 @@ end 1024 client-read peer=none size=512 number=0 complete=no PeerError(2)
 
 #[test]
 fn settings_and_files(rt: HostRuntime) -> Result<(), Fail> {
-    for (script, want, status) in SETTINGS {
+    for &(script, want, status) in &SETTINGS {
         plays(&rt, rt.alloc(), script, want, status)?;
     }
     Ok(())

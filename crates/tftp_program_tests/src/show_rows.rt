@@ -1,10 +1,11 @@
 //! Whole runs of `tftp-show` over memory.
 
+use crate::expect::{expect, expect_bytes, expect_equal};
 use crate::faulty_streams::{Breaks, Full};
 use std::alloc::Global;
 use std::process::Abort;
 use std::test::Fail;
-use tftp_cmd::{show_lines, show_run};
+use tftp_text::{show_lines, show_run};
 
 /// Datagrams as hexadecimal digits, and what is printed for them; written by hand from RFC 1350,
 /// section 5, and RFC 2347, "Packet Formats".
@@ -43,19 +44,20 @@ const VECTORS: [(&str, &str); 20] = [
 fn runs(rt: &impl Abort, alloc: Global, input: &[u8], want: &str, status: u8) {
     let mut output = Vec::new(alloc);
     let answer = show_run(alloc, input, &mut output);
-    assert_eq!(rt;
-        output.as_slice(),
-        want.as_bytes(),
-        "the output of {input:?}"
+    expect_equal(
+        rt,
+        &(input, output.as_slice()),
+        &(input, want.as_bytes()),
+        "the output",
     );
-    assert_eq!(rt; answer, status, "the status of {input:?}");
+    expect_equal(rt, &(input, answer), &(input, status), "the status");
 }
 
 #[test]
 fn vectors_show(rt: HostRuntime) -> Result<(), Fail> {
     let mut input = String::new(rt.alloc());
     let mut want = String::new(rt.alloc());
-    for (line, shown) in VECTORS {
+    for &(line, shown) in &VECTORS {
         writeln!(input, "{line}")?;
         writeln!(want, "{shown}")?;
     }
@@ -81,7 +83,7 @@ const INPUTS: [(&[u8], &str, u8); 7] = [
 
 #[test]
 fn ends_of_input(rt: HostRuntime) {
-    for (input, want, status) in INPUTS {
+    for &(input, want, status) in &INPUTS {
         runs(&rt, rt.alloc(), input, want, status);
     }
 }
@@ -91,13 +93,13 @@ const BROKEN: [&[u8]; 3] = [b"", b"00040000\n", b"00040000\n0004"];
 
 #[test]
 fn failures_are_two(rt: HostRuntime) {
-    for input in BROKEN {
+    for &input in &BROKEN {
         let mut output = Vec::new(rt.alloc());
         let status = show_run(rt.alloc(), Breaks(input), &mut output);
-        assert_eq!(rt; status, 2, "a reader that fails after {input:?}");
+        expect_equal(&rt, &(input, status), &(input, 2), "a reader that fails");
     }
     let status = show_run(rt.alloc(), b"00040000\n".as_slice(), Full);
-    assert_eq!(rt; status, 2, "a writer that fails");
+    expect_equal(&rt, &status, &2, "a writer that fails");
 }
 
 /// The lines alone, for a reader and a writer that the caller keeps.
@@ -106,8 +108,8 @@ fn lines_are_appended(rt: HostRuntime) -> Result<(), Fail> {
     let mut output = Vec::from_slice(rt.alloc(), b"old\n")?;
     let mut input = b"00040000\n0".as_slice();
     let packets = show_lines(rt.alloc(), &mut input, &mut output)?;
-    assert!(rt; !packets, "one is no packet");
+    expect(&rt, !packets, "one is no packet");
     let want = b"old\nACK 0\nnot hex\n".as_slice();
-    assert_eq!(rt; output.as_slice(), want, "behind the old bytes");
+    expect_bytes(&rt, output.as_slice(), want, "behind the old bytes");
     Ok(())
 }

@@ -52,7 +52,7 @@ end 1025 server-read peer=1024 size=512 number=1 complete=yes Complete
 
 #[test]
 fn netascii_rows(rt: HostRuntime) -> Result<(), Fail> {
-    for (script, want, status) in NETASCII {
+    for &(script, want, status) in &NETASCII {
         plays(&rt, rt.alloc(), script, want, status)?;
     }
     Ok(())
@@ -91,7 +91,7 @@ end 1024 client-read peer=none size=512 number=0 complete=no PeerError(0)
 
 #[test]
 fn option_rows(rt: HostRuntime) -> Result<(), Fail> {
-    for (script, want, status) in OPTIONS {
+    for &(script, want, status) in &OPTIONS {
         plays(&rt, rt.alloc(), script, want, status)?;
     }
     Ok(())

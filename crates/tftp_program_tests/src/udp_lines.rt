@@ -1,15 +1,16 @@
 //! What the programs over UDP print, as lines.
 
+use crate::expect::{expect_equal, expect_text};
 use std::fmt::Display;
 use std::process::Abort;
 use std::test::Fail;
-use tftp_cmd::{ClientEnd, LineClock, LogLine, Printed, ProgressLine};
 use tftp_ends::{Endpoint, OpenFault, Outcome};
+use tftp_host::{ClientEnd, LineClock, LogLine, Printed, ProgressLine};
 
 /// A value prints this.
 fn prints<R: AllocGlobal + Abort, D: Display>(rt: &R, value: &D, wanted: &str) -> Result<(), Fail> {
     let text = value.to_string(rt.alloc())?;
-    assert_eq!(rt; text.as_str(), wanted);
+    expect_text(rt, text.as_str(), wanted, "what is printed");
     Ok(())
 }
 
@@ -29,12 +30,18 @@ fn client_ends(rt: HostRuntime) -> Result<(), Fail> {
         &ClientEnd::NotOpened(OpenFault::BadRequest),
         "tftp: BadRequest",
     )?;
-    assert_eq!(rt; ClientEnd::Complete(0).status(), 0, "complete");
-    assert_eq!(rt; ClientEnd::Failed(Outcome::TimedOut).status(), 1, "silence");
-    assert_eq!(rt;
-        ClientEnd::NotOpened(OpenFault::TooLarge).status(),
-        2,
-        "not opened"
+    expect_equal(&rt, &ClientEnd::Complete(0).status(), &0, "complete");
+    expect_equal(
+        &rt,
+        &ClientEnd::Failed(Outcome::TimedOut).status(),
+        &1,
+        "silence",
+    );
+    expect_equal(
+        &rt,
+        &ClientEnd::NotOpened(OpenFault::TooLarge).status(),
+        &2,
+        "not opened",
     );
     Ok(())
 }
@@ -86,8 +93,13 @@ const LINES: [(u64, bool); 6] = [
 #[test]
 fn lines_are_rare(rt: HostRuntime) {
     let mut clock = LineClock::default();
-    for (now, is_due) in LINES {
-        assert_eq!(rt; clock.take_due(now), is_due, "at {now}");
+    for &(now, is_due) in &LINES {
+        expect_equal(
+            &rt,
+            &(now, clock.take_due(now)),
+            &(now, is_due),
+            "whether a line is due",
+        );
     }
 }
 

@@ -1,7 +1,8 @@
 //! How long the programs wait, and when a transfer is tried again without options.
 
-use tftp_cmd::{Port, Watch, deadline, fallback, is_due, place_of, wait_for};
+use crate::expect::{expect, expect_equal};
 use tftp_ends::Outcome;
+use tftp_host::{Port, Watch, deadline, fallback, is_due, place_of, wait_for};
 use tftp_negotiate::Asked;
 
 /// Readings of a clock, from 5,000 on, and the time in milliseconds: a wait counts for a second at most,
@@ -17,8 +18,13 @@ const READINGS: [(u64, u64); 5] = [
 #[test]
 fn a_watch_goes_on(rt: HostRuntime) {
     let mut watch = Watch::new(5_000);
-    for (reading, time) in READINGS {
-        assert_eq!(rt; watch.advance(reading), time, "the time at {reading}");
+    for &(reading, time) in &READINGS {
+        expect_equal(
+            &rt,
+            &(reading, watch.advance(reading)),
+            &(reading, time),
+            "the time",
+        );
     }
 }
 
@@ -28,11 +34,16 @@ const DEADLINES: [(Option<u8>, u64); 3] = [(None, 1_700), (Some(1), 1_700), (Som
 
 #[test]
 fn a_transfer_is_due(rt: HostRuntime) {
-    for (agreed, want) in DEADLINES {
-        assert_eq!(rt; deadline(700, agreed), want, "after {agreed:?}");
+    for &(agreed, want) in &DEADLINES {
+        expect_equal(
+            &rt,
+            &(agreed, deadline(700, agreed)),
+            &(agreed, want),
+            "when it is due",
+        );
     }
-    assert!(rt; !is_due(1_699, 1_700), "before it");
-    assert!(rt; is_due(1_700, 1_700), "at the time");
+    expect(&rt, !is_due(1_699, 1_700), "before it");
+    expect(&rt, is_due(1_700, 1_700), "at the time");
 }
 
 fn port(tid: u16, due: u64) -> Port<()> {
@@ -47,15 +58,16 @@ fn port(tid: u16, due: u64) -> Port<()> {
 #[test]
 fn the_nearest_deadline_is_waited_for(rt: HostRuntime) {
     let ports = [port(1030, 900), port(1025, 750), port(1027, 800)];
-    assert_eq!(rt; wait_for(700, &ports), 50, "the nearest");
-    assert_eq!(rt; wait_for(760, &ports), 0, "one that has come");
-    assert_eq!(rt;
-        wait_for::<()>(700, &[]),
-        1_000,
-        "a second where there is none"
+    expect_equal(&rt, &wait_for(700, &ports), &50, "the nearest");
+    expect_equal(&rt, &wait_for(760, &ports), &0, "one that has come");
+    expect_equal(
+        &rt,
+        &wait_for::<()>(700, &[]),
+        &1_000,
+        "a second where there is none",
     );
-    assert_eq!(rt; place_of(1027, &ports), Some(2), "the third port");
-    assert_eq!(rt; place_of(1040, &ports), None, "no such port");
+    expect_equal(&rt, &place_of(1027, &ports), &Some(2), "the third port");
+    expect_equal(&rt, &place_of(1040, &ports), &None, "no such port");
 }
 
 /// Outcomes, whether a block size was asked, and whether the transfer is tried again.
@@ -69,16 +81,17 @@ const OUTCOMES: [(Outcome, Option<u16>, bool); 4] = [
 /// ERROR 8 refuses options (RFC 2347, "Negotiation Protocol").
 #[test]
 fn options_are_left_out_where_they_are_refused(rt: HostRuntime) {
-    for (outcome, blksize, want) in OUTCOMES {
+    for &(outcome, blksize, want) in &OUTCOMES {
         let asked = Asked {
             blksize,
             timeout: None,
             tsize: None,
         };
-        assert_eq!(rt;
-            fallback(outcome, &asked),
-            want,
-            "after {outcome:?} for {asked:?}"
+        expect_equal(
+            &rt,
+            &(outcome, blksize, fallback(outcome, &asked)),
+            &(outcome, blksize, want),
+            "whether it is tried again",
         );
     }
 }

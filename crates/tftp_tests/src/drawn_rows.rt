@@ -1,5 +1,6 @@
 //! Events that random words draw, and a client that writes.
 
+use crate::expect::{expect, expect_bytes, expect_equal};
 use rand_core::SeedableRng;
 use rand_pcg::Pcg32;
 use std::alloc::Global;
@@ -27,13 +28,16 @@ fn a_client_asks_to_write(rt: HostRuntime) -> Result<(), Fail> {
     let alloc = rt.alloc();
     let mut world = World::new(alloc, Vec::new(alloc), Config::default())?;
     put(&mut world, alloc)?;
-    assert_eq!(rt; world.sent().len(), 1);
-    assert_eq!(rt;
-        world.sent()[0].bytes.as_slice(),
-        b"\x00\x02n\x00octet\x00".as_slice()
+    expect_equal(&rt, &world.sent().len(), &1, "one datagram");
+    let request = b"\x00\x02n\x00octet\x00".as_slice();
+    expect_bytes(&rt, world.sent()[0].bytes.as_slice(), request, "a WRQ");
+    expect_equal(&rt, &world.records().len(), &1, "one end");
+    expect_equal(
+        &rt,
+        &world.records()[0].1.side,
+        &Side::ClientWrite,
+        "its side",
     );
-    assert_eq!(rt; world.records().len(), 1);
-    assert_eq!(rt; world.records()[0].1.side, Side::ClientWrite);
     Ok(())
 }
 
@@ -43,12 +47,12 @@ fn draws_what_can_happen(rt: HostRuntime) -> Result<(), Fail> {
     let alloc = rt.alloc();
     let mut rng = Pcg32::seed_from_u64(7);
     let mut world = World::new(alloc, Vec::new(alloc), Config::default())?;
-    assert!(rt; draw(&mut rng, &world).is_none());
+    expect(&rt, draw(&mut rng, &world).is_none(), "nothing is drawn");
     put(&mut world, alloc)?;
     for _ in 0..100 {
         match draw(&mut rng, &world) {
-            Some(event) => assert!(rt; world.apply(event).is_ok()),
-            None => assert!(rt; false, "an end was opened"),
+            Some(event) => expect(&rt, world.apply(event).is_ok(), "it can happen"),
+            None => expect(&rt, false, "an end was opened"),
         }
     }
     Ok(())

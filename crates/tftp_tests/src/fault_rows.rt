@@ -3,12 +3,13 @@
 
 ghost use Rattle.tftp_server.specs.FaultStore.{IsInjected};
 
+use crate::expect::{expect, expect_bytes, expect_equal};
 use std::alloc::Global;
 use std::process::Abort;
 use std::test::Fail;
 use tftp_ends::Endpoint;
 use tftp_file::{Path, StoreFault, path_of};
-use tftp_server::{Config, FaultStore, MemStore, Server, Store};
+use tftp_server::{Config, FaultStore, MemStore, Opened, Server, Store};
 
 const CLIENT: Endpoint = Endpoint {
     ip: [10, 0, 0, 2],
@@ -31,13 +32,21 @@ fn is_refused(
     error: &[u8],
 ) -> Result<(), Fail> {
     let config = Config::default();
-    assert!(rt; config.is_valid(), "the default");
+    expect(rt, config.is_valid(), "the default");
     let mut server = Server::new(alloc, config, store)?;
     let mut out = Vec::new(alloc);
     let opened = server.on_request(CLIENT, 1025, request, &mut out)?;
-    assert_eq!(rt; out.as_slice(), error, "the answer");
-    assert_eq!(rt; opened.tid, None, "no transfer");
-    assert_eq!(rt; opened.to, Some(CLIENT), "it goes to the client");
+    let wanted = Opened {
+        tid: None,
+        to: Some(CLIENT),
+    };
+    expect_bytes(rt, out.as_slice(), error, "the answer");
+    expect_equal(
+        rt,
+        &opened,
+        &wanted,
+        "no transfer, and an answer to the client",
+    );
     Ok(())
 }
 
@@ -74,11 +83,18 @@ fn fails_once(rt: &impl Abort, alloc: Global, at: u64, fault: StoreFault) -> Res
 {
     let path = path_of(alloc, b"n")?;
     let mut store = FaultStore::new(files(alloc)?, at, fault, false, false);
-    assert_eq!(rt; write(&mut store, alloc, &path), Err(fault), "call {at}");
-    assert!(rt; store.get_ref().file(&path).is_none(), "no file");
-    assert_eq!(rt; write(&mut store, alloc, &path), Ok(()), "after call {at}");
+    let found = (at, write(&mut store, alloc, &path));
+    expect_equal(
+        rt,
+        &found,
+        &(at, Err(fault)),
+        "the write in which the call falls",
+    );
+    expect(rt, store.get_ref().file(&path).is_none(), "no file");
+    let found = (at, write(&mut store, alloc, &path));
+    expect_equal(rt, &found, &(at, Ok(())), "the write after it");
     let file = store.get_ref().file(&path).ok_or("a file")?;
-    assert_eq!(rt; file, b"XY".as_slice(), "what was written");
+    expect_bytes(rt, file, b"XY".as_slice(), "what was written");
     Ok(())
 }
 
@@ -97,11 +113,16 @@ fn one_call_is_refused(rt: HostRuntime) -> Result<(), Fail> {
 fn the_calls_before_it_are_passed_on(rt: HostRuntime) -> Result<(), Fail> {
     let path = path_of(rt.alloc(), b"n")?;
     let mut store = FaultStore::new(files(rt.alloc())?, 3, StoreFault::Io, false, false);
-    assert_eq!(rt; write(&mut store, rt.alloc(), &path), Ok(()), "three calls");
+    expect_equal(
+        &rt,
+        &write(&mut store, rt.alloc(), &path),
+        &Ok(()),
+        "three calls",
+    );
     let fourth = write(&mut store, rt.alloc(), &path);
-    assert_eq!(rt; fourth, Err(StoreFault::Io), "the fourth");
+    expect_equal(&rt, &fourth, &Err(StoreFault::Io), "the fourth");
     let fifth = write(&mut store, rt.alloc(), &path);
-    assert_eq!(rt; fifth, Err(StoreFault::Exists), "the fifth");
+    expect_equal(&rt, &fifth, &Err(StoreFault::Exists), "the fifth");
     Ok(())
 }
 
@@ -113,7 +134,7 @@ fn the_inner_store_refuses_as_told(rt: HostRuntime) -> Result<(), Fail> {
     inner.refuse_next(true);
     let mut store = FaultStore::new(inner, 9, StoreFault::Io, false, false);
     let refused = write(&mut store, rt.alloc(), &path);
-    assert_eq!(rt; refused, Err(StoreFault::Full), "the append");
-    assert!(rt; !store.get_ref().refuses(), "it is told no more");
+    expect_equal(&rt, &refused, &Err(StoreFault::Full), "the append");
+    expect(&rt, !store.get_ref().refuses(), "it is told no more");
     Ok(())
 }

@@ -4,6 +4,8 @@
 #[cfg(test)]
 mod drawn_rows;
 #[cfg(test)]
+mod expect;
+#[cfg(test)]
 mod fault_rows;
 #[cfg(test)]
 mod memory_turn_rows;

@@ -1,6 +1,7 @@
 //! A world that finds no memory: what was refused has changed nothing, and the same call then does what
 //! its row says. `rt try --test --fail-alloc N` refuses the Nth allocation of each test.
 
+use crate::expect::{expect, expect_bytes, expect_equal};
 use std::alloc::Global;
 use std::process::Abort;
 use std::test::Fail;
@@ -43,7 +44,8 @@ fn delivers(
     let before = told(world, path);
     match world.apply(Event::Deliver(place)) {
         Err(WorldFault::Memory) => {
-            assert_eq!(rt; told(world, path), before, "after {place} was refused");
+            let found = (place, told(world, path));
+            expect_equal(rt, &found, &(place, before), "after it was refused");
             world.apply(Event::Deliver(place))
         }
         taken => taken,
@@ -61,24 +63,33 @@ fn asks(alloc: Global, world: &mut World) -> Result<Report, WorldFault> {
 }
 
 /// The same of a client that asks.
-fn is_asked(rt: &impl Abort, alloc: Global, world: &mut World, path: &Path) -> Result<(), Fail> {
+fn is_asked(rt: &impl Abort, alloc: Global, world: &mut World, path: &Path) {
     let before = told(world, path);
     let report = match asks(alloc, world) {
         Err(WorldFault::Memory) => {
-            assert_eq!(rt; told(world, path), before, "after the client was refused");
-            asks(alloc, world)?
+            expect_equal(
+                rt,
+                &told(world, path),
+                &before,
+                "after the client was refused",
+            );
+            asks(alloc, world).expect(rt, "the request is taken")
         }
-        taken => taken?,
+        taken => taken.expect(rt, "the request is taken"),
     };
-    assert_eq!(rt; report.added, Some(before.datagrams), "the request is sent");
-    Ok(())
+    expect_equal(
+        rt,
+        &report.added,
+        &Some(before.datagrams),
+        "the request is sent",
+    );
 }
 
 /// A world with a file of two blocks, at this limit of open transfers.
 fn world(rt: &impl Abort, alloc: Global, cap: u8) -> Result<World, Fail> {
     let mut config = Config::default();
     config.cap = cap;
-    assert!(rt; config.is_valid(), "the settings of a server");
+    expect(rt, config.is_valid(), "the settings of a server");
     let files = vec![in alloc; (path_of(alloc, b"a")?, Vec::from_slice(alloc, &[b'x'; 600])?)]?;
     Ok(World::new(alloc, files, config)?)
 }
@@ -93,8 +104,8 @@ fn runs(rt: &impl Abort, world: &mut World, path: &Path, rows: &[Row]) {
             added: *added,
             closed: *closed,
         };
-        let found = delivers(rt, world, path, *place);
-        assert_eq!(rt; found, Ok(report), "what is reported of {place}");
+        let found = (*place, delivers(rt, world, path, *place));
+        expect_equal(rt, &found, &(*place, Ok(report)), "what is reported");
     }
 }
 
@@ -119,10 +130,10 @@ const BUSY: [Row; 3] = [
 fn memory_in_turn(rt: HostRuntime) -> Result<(), Fail> {
     let path = path_of(rt.alloc(), b"a")?;
     let mut world = world(&rt, rt.alloc(), 16)?;
-    is_asked(&rt, rt.alloc(), &mut world, &path)?;
+    is_asked(&rt, rt.alloc(), &mut world, &path);
     runs(&rt, &mut world, &path, &REPEATED_ACK);
     let stored = world.stored(1024).ok_or("a receiver")?;
-    assert_eq!(rt; stored, [b'x'; 600].as_slice(), "what came");
+    expect_bytes(&rt, stored, [b'x'; 600].as_slice(), "what came");
     Ok(())
 }
 
@@ -131,7 +142,7 @@ fn memory_in_turn_at_a_busy_server(rt: HostRuntime) -> Result<(), Fail> {
     let path = path_of(rt.alloc(), b"a")?;
     let mut world = world(&rt, rt.alloc(), 1)?;
     for _ in 0..2 {
-        is_asked(&rt, rt.alloc(), &mut world, &path)?;
+        is_asked(&rt, rt.alloc(), &mut world, &path);
     }
     runs(&rt, &mut world, &path, &BUSY);
     Ok(())
@@ -150,23 +161,26 @@ fn asks_to_write(alloc: Global, world: &mut World, byte: u8) -> Result<Report, W
 }
 
 /// The same of a client that asks to write.
-fn is_put(
-    rt: &impl Abort,
-    alloc: Global,
-    world: &mut World,
-    path: &Path,
-    byte: u8,
-) -> Result<(), Fail> {
+fn is_put(rt: &impl Abort, alloc: Global, world: &mut World, path: &Path, byte: u8) {
     let before = told(world, path);
     let report = match asks_to_write(alloc, world, byte) {
         Err(WorldFault::Memory) => {
-            assert_eq!(rt; told(world, path), before, "after the writer was refused");
-            asks_to_write(alloc, world, byte)?
+            expect_equal(
+                rt,
+                &told(world, path),
+                &before,
+                "after the writer was refused",
+            );
+            asks_to_write(alloc, world, byte).expect(rt, "the request is taken")
         }
-        taken => taken?,
+        taken => taken.expect(rt, "the request is taken"),
     };
-    assert_eq!(rt; report.added, Some(before.datagrams), "the request is sent");
-    Ok(())
+    expect_equal(
+        rt,
+        &report.added,
+        &Some(before.datagrams),
+        "the request is sent",
+    );
 }
 
 /// ACK 0 opens each of two writes, and each client sends its block.
@@ -192,19 +206,19 @@ const NO_ROOM: Commit = (Some(6), Some((1025, Outcome::StoreFault)));
 fn memory_in_turn_at_a_race(rt: HostRuntime) -> Result<(), Fail> {
     let path = path_of(rt.alloc(), b"n")?;
     let mut world = world(&rt, rt.alloc(), 16)?;
-    is_put(&rt, rt.alloc(), &mut world, &path, b'A')?;
+    is_put(&rt, rt.alloc(), &mut world, &path, b'A');
     runs(&rt, &mut world, &path, &[(0, Some(1), None)]);
-    is_put(&rt, rt.alloc(), &mut world, &path, b'B')?;
+    is_put(&rt, rt.alloc(), &mut world, &path, b'B');
     runs(&rt, &mut world, &path, &TWO_WRITES);
     let report = delivers(&rt, &mut world, &path, 4)?;
     let commit = (report.added, report.closed);
     if world.file(&path).is_none() {
-        assert_eq!(rt; commit, NO_ROOM, "the commit");
+        expect_equal(&rt, &commit, &NO_ROOM, "the commit");
         return Ok(());
     }
-    assert_eq!(rt; commit, COMMITTED, "the commit");
+    expect_equal(&rt, &commit, &COMMITTED, "the commit");
     runs(&rt, &mut world, &path, &BEHIND);
     let file = world.file(&path).ok_or("a file")?;
-    assert_eq!(rt; file, b"A".as_slice(), "what came first");
+    expect_bytes(&rt, file, b"A".as_slice(), "what came first");
     Ok(())
 }

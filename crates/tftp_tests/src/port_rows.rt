@@ -1,6 +1,7 @@
 //! Requests to a server, and its table of transfers (RFC 1350, section 4). The answers are those of
 //! RFC 1350, section 5 and appendix I.
 
+use crate::expect::{expect, expect_bytes, expect_equal};
 use std::alloc::Global;
 use std::process::Abort;
 use std::test::Fail;
@@ -27,7 +28,7 @@ fn server_of(
     let mut files = Vec::new(alloc);
     files.push((path_of(alloc, name)?, Vec::from_slice(alloc, bytes)?))?;
     let store = MemStore::new(alloc, files)?;
-    assert!(rt; config.is_valid(), "the settings of a server");
+    expect(rt, config.is_valid(), "the settings of a server");
     Ok(Server::new(alloc, config, store)?)
 }
 
@@ -126,12 +127,12 @@ const ROWS: [(&str, &[u8], &[u8], bool); 15] = [
 #[test]
 fn port_rows(rt: HostRuntime) -> Result<(), Fail> {
     let mut server = server(&rt, rt.alloc(), Config::default())?;
-    for (what, request, answer, opens) in ROWS {
+    for &(what, request, answer, opens) in &ROWS {
         let mut out = Vec::new(rt.alloc());
         let opened = server.on_request(client(2000), 1025, request, &mut out)?;
-        assert_eq!(rt; out.as_slice(), answer, "{what}");
-        assert_eq!(rt; opened.to.is_some(), !answer.is_empty(), "{what}: where to");
-        assert_eq!(rt; opened.tid.is_some(), opens, "{what}: a transfer");
+        let found = (opened.to.is_some(), opened.tid.is_some());
+        expect_bytes(&rt, out.as_slice(), answer, what);
+        expect_equal(&rt, &found, &(!answer.is_empty(), opens), what);
     }
     Ok(())
 }
@@ -140,13 +141,18 @@ fn port_rows(rt: HostRuntime) -> Result<(), Fail> {
 #[test]
 fn a_file_in_a_folder_is_read(rt: HostRuntime) -> Result<(), Fail> {
     let path = path_of(rt.alloc(), b"/a/b")?;
-    assert_eq!(rt; path.as_bytes(), b"a/b".as_slice(), "the path");
+    expect_bytes(&rt, path.as_bytes(), b"a/b".as_slice(), "the path");
     let mut server = server_of(&rt, rt.alloc(), Config::default(), b"a/b", b"XY")?;
     let mut out = Vec::new(rt.alloc());
     let request = b"\x00\x01/a/b\x00octet\x00";
     let opened = server.on_request(client(2000), 1025, request, &mut out)?;
-    assert_eq!(rt; opened.tid, Some(1025), "a transfer");
-    assert_eq!(rt; out.as_slice(), b"\x00\x03\x00\x01XY".as_slice(), "DATA 1");
+    expect_equal(&rt, &opened.tid, &Some(1025), "a transfer");
+    expect_bytes(
+        &rt,
+        out.as_slice(),
+        b"\x00\x03\x00\x01XY".as_slice(),
+        "DATA 1",
+    );
     Ok(())
 }
 
@@ -160,8 +166,8 @@ fn a_file_is_too_large_for_its_blocks(rt: HostRuntime) -> Result<(), Fail> {
     let request = b"\x00\x01a\x00octet\x00blksize\x008\x00";
     let opened = server.on_request(client(2000), 1025, request, &mut out)?;
     let too_large = b"\x00\x05\x00\x00file too large\x00".as_slice();
-    assert_eq!(rt; out.as_slice(), too_large, "the answer");
-    assert_eq!(rt; opened.tid, None, "no transfer");
+    expect_bytes(&rt, out.as_slice(), too_large, "the answer");
+    expect_equal(&rt, &opened.tid, &None, "no transfer");
     Ok(())
 }
 
@@ -201,31 +207,32 @@ const READS: [(&[u8], &[u8]); 8] = [
 
 #[test]
 fn reads_are_answered_with_their_options(rt: HostRuntime) -> Result<(), Fail> {
-    for (request, answer) in READS {
+    for &(request, answer) in &READS {
         let mut server = server(&rt, rt.alloc(), Config::default())?;
         let mut out = Vec::new(rt.alloc());
         let opened = server.on_request(client(2000), 1025, request, &mut out)?;
-        assert_eq!(rt; out.as_slice(), answer, "to {request:?}");
-        assert_eq!(rt; opened.tid, Some(1025), "a transfer for {request:?}");
+        let found = (request, out.as_slice(), opened.tid);
+        expect_equal(
+            &rt,
+            &found,
+            &(request, answer, Some(1025)),
+            "an answer and a transfer",
+        );
     }
     Ok(())
 }
 
 /// A request for the file opens a transfer with this identifier.
-fn open(
-    rt: &impl Abort,
-    alloc: Global,
-    server: &mut Server<MemStore>,
-    tid: u16,
-) -> Result<(), Fail> {
+fn open(rt: &impl Abort, alloc: Global, server: &mut Server<MemStore>, tid: u16) {
     let mut out = Vec::new(alloc);
-    let opened = server.on_request(client(tid), tid, REQUEST, &mut out)?;
+    let opened = server
+        .on_request(client(tid), tid, REQUEST, &mut out)
+        .expect(rt, "the server takes it");
     let wanted = Opened {
         tid: Some(tid),
         to: Some(client(tid)),
     };
-    assert_eq!(rt; opened, wanted, "a transfer opens");
-    Ok(())
+    expect_equal(rt, &opened, &wanted, "a transfer opens");
 }
 
 /// What comes from the endpoint whose transfer is open, and the answer: a read of another file is no
@@ -245,12 +252,17 @@ const REPEATS: [(&[u8], &[u8]); 4] = [
 
 #[test]
 fn a_repeated_request_opens_nothing(rt: HostRuntime) -> Result<(), Fail> {
-    for (request, answer) in REPEATS {
+    for &(request, answer) in &REPEATS {
         let mut server = server(&rt, rt.alloc(), Config::default())?;
-        open(&rt, rt.alloc(), &mut server, 1025)?;
+        open(&rt, rt.alloc(), &mut server, 1025);
         let mut out = Vec::new(rt.alloc());
         server.on_request(client(1025), 1040, request, &mut out)?;
-        assert_eq!(rt; out.as_slice(), answer, "to {request:?}");
+        expect_equal(
+            &rt,
+            &(request, out.as_slice()),
+            &(request, answer),
+            "the answer",
+        );
     }
     Ok(())
 }
@@ -258,28 +270,35 @@ fn a_repeated_request_opens_nothing(rt: HostRuntime) -> Result<(), Fail> {
 #[test]
 fn a_request_opens_anew_behind_the_close(rt: HostRuntime) -> Result<(), Fail> {
     let mut server = server(&rt, rt.alloc(), Config::default())?;
-    open(&rt, rt.alloc(), &mut server, 1025)?;
-    assert_eq!(rt;
-        server.may_open(client(1025), REQUEST),
-        Ok(false),
-        "a repeat"
+    open(&rt, rt.alloc(), &mut server, 1025);
+    expect_equal(
+        &rt,
+        &server.may_open(client(1025), REQUEST),
+        &Ok(false),
+        "a repeat",
     );
-    assert_eq!(rt;
-        server.may_open(client(1026), REQUEST),
-        Ok(true),
-        "of another client"
+    expect_equal(
+        &rt,
+        &server.may_open(client(1026), REQUEST),
+        &Ok(true),
+        "of another client",
     );
     let mut out = Vec::new(rt.alloc());
     server.on_datagram(1025, client(1025), b"\x00\x04\x00\x01", &mut out)?;
     let opened = server.on_request(client(1025), 1026, REQUEST, &mut out)?;
-    assert_eq!(rt; opened.tid, Some(1026), "the transfer was over");
-    assert_eq!(rt; out.as_slice(), b"\x00\x03\x00\x01ABC".as_slice(), "DATA 1");
+    expect_equal(&rt, &opened.tid, &Some(1026), "the transfer was over");
+    expect_bytes(
+        &rt,
+        out.as_slice(),
+        b"\x00\x03\x00\x01ABC".as_slice(),
+        "DATA 1",
+    );
     out.clear();
     // the client has completed, and knows no such transfer
     let unknown = b"\x00\x05\x00\x05unknown transfer id\x00";
     let step = server.on_datagram(1026, client(1025), unknown, &mut out)?;
-    assert_eq!(rt; step.closed, Some(Outcome::PeerError(5)), "it closes");
-    assert!(rt; out.is_empty(), "in silence");
+    expect_equal(&rt, &step.closed, &Some(Outcome::PeerError(5)), "it closes");
+    expect(&rt, out.is_empty(), "in silence");
     Ok(())
 }
 
@@ -288,13 +307,13 @@ fn a_full_server_is_busy(rt: HostRuntime) -> Result<(), Fail> {
     let mut config = Config::default();
     config.cap = 1;
     let mut server = server(&rt, rt.alloc(), config)?;
-    open(&rt, rt.alloc(), &mut server, 1025)?;
+    open(&rt, rt.alloc(), &mut server, 1025);
     let mut out = Vec::new(rt.alloc());
     let opened = server.on_request(client(1026), 1026, REQUEST, &mut out)?;
-    assert_eq!(rt; opened.tid, None, "no second transfer");
-    assert_eq!(rt; opened.to, Some(client(1026)), "but an answer");
+    expect_equal(&rt, &opened.tid, &None, "no second transfer");
+    expect_equal(&rt, &opened.to, &Some(client(1026)), "but an answer");
     let busy = b"\x00\x05\x00\x00server busy\x00".as_slice();
-    assert_eq!(rt; out.as_slice(), busy, "its bytes");
+    expect_bytes(&rt, out.as_slice(), busy, "its bytes");
     Ok(())
 }
 
@@ -304,14 +323,15 @@ fn a_closed_transfer_counts_until_it_is_taken(rt: HostRuntime) -> Result<(), Fai
     let mut config = Config::default();
     config.cap = 1;
     let mut server = server(&rt, rt.alloc(), config)?;
-    open(&rt, rt.alloc(), &mut server, 1025)?;
+    open(&rt, rt.alloc(), &mut server, 1025);
     let mut out = Vec::new(rt.alloc());
     let step = server.on_datagram(1025, client(1025), b"\x00\x04\x00\x01", &mut out)?;
-    assert_eq!(rt; step.closed, Some(Outcome::Complete), "it closes");
+    expect_equal(&rt, &step.closed, &Some(Outcome::Complete), "it closes");
     let opened = server.on_request(client(1026), 1026, REQUEST, &mut out)?;
-    assert_eq!(rt; opened.tid, None, "there is no place");
-    assert!(rt; server.take_closed(1025).is_some(), "it is taken");
-    open(&rt, rt.alloc(), &mut server, 1026)
+    expect_equal(&rt, &opened.tid, &None, "there is no place");
+    expect(&rt, server.take_closed(1025).is_some(), "it is taken");
+    open(&rt, rt.alloc(), &mut server, 1026);
+    Ok(())
 }
 
 /// The identifiers that the server holds.
@@ -327,24 +347,24 @@ const OPENED: [u16; 3] = [1030, 1025, 1027];
 /// A server that holds three transfers.
 fn busy_server(rt: &impl Abort, alloc: Global) -> Result<Server<MemStore>, Fail> {
     let mut server = server(rt, alloc, Config::default())?;
-    for tid in OPENED {
-        open(rt, alloc, &mut server, tid)?;
+    for &tid in &OPENED {
+        open(rt, alloc, &mut server, tid);
     }
     Ok(server)
 }
 
 /// ACK 1 of the one block closes the transfer, and it is taken.
-fn close(
-    rt: &impl Abort,
-    alloc: Global,
-    server: &mut Server<MemStore>,
-    tid: u16,
-) -> Result<(), Fail> {
+fn close(rt: &impl Abort, alloc: Global, server: &mut Server<MemStore>, tid: u16) {
     let mut out = Vec::new(alloc);
-    let step = server.on_datagram(tid, client(tid), b"\x00\x04\x00\x01", &mut out)?;
-    assert_eq!(rt; step.closed, Some(Outcome::Complete), "it closes");
-    assert!(rt; server.take_closed(tid).is_some(), "a closed one is taken");
-    Ok(())
+    let step = server
+        .on_datagram(tid, client(tid), b"\x00\x04\x00\x01", &mut out)
+        .expect(rt, "the server takes it");
+    expect_equal(rt, &step.closed, &Some(Outcome::Complete), "it closes");
+    expect(
+        rt,
+        server.take_closed(tid).is_some(),
+        "a closed one is taken",
+    );
 }
 
 /// The identifiers that are held when the second was closed and another opened.
@@ -353,24 +373,34 @@ const HELD: &[u16] = &[1027, 1030, 1040];
 #[test]
 fn table_rows(rt: HostRuntime) -> Result<(), Fail> {
     let mut server = busy_server(&rt, rt.alloc())?;
-    close(&rt, rt.alloc(), &mut server, 1025)?;
-    open(&rt, rt.alloc(), &mut server, 1040)?;
+    close(&rt, rt.alloc(), &mut server, 1025);
+    open(&rt, rt.alloc(), &mut server, 1040);
     let held = tids(&server, rt.alloc())?;
-    assert_eq!(rt; held.as_slice(), HELD, "in rising order");
+    expect_equal(&rt, &held.as_slice(), &HELD, "in rising order");
     let mut out = Vec::new(rt.alloc());
     let again = server.on_request(client(2000), 1027, REQUEST, &mut out);
-    assert_eq!(rt; again, Err(ServerFault::TidInUse), "an identifier in use");
+    expect_equal(
+        &rt,
+        &again,
+        &Err(ServerFault::TidInUse),
+        "an identifier in use",
+    );
     Ok(())
 }
 
 #[test]
 fn an_open_transfer_stays(rt: HostRuntime) -> Result<(), Fail> {
     let mut server = busy_server(&rt, rt.alloc())?;
-    assert!(rt; server.take_closed(1025).is_none(), "it is not taken");
-    assert!(rt; server.record(1025).is_some(), "it is there");
+    expect(&rt, server.take_closed(1025).is_none(), "it is not taken");
+    expect(&rt, server.record(1025).is_some(), "it is there");
     let mut out = Vec::new(rt.alloc());
     let again = server.on_request(client(1027), 1027, REQUEST, &mut out);
-    assert_eq!(rt; again, Err(ServerFault::TidInUse), "an identifier in use");
+    expect_equal(
+        &rt,
+        &again,
+        &Err(ServerFault::TidInUse),
+        "an identifier in use",
+    );
     Ok(())
 }
 
@@ -382,13 +412,13 @@ fn open_transfers_are_told(rt: HostRuntime) -> Result<(), Fail> {
     let mut server = busy_server(&rt, rt.alloc())?;
     let mut out = Vec::new(rt.alloc());
     let step = server.on_datagram(1025, client(1025), b"\x00\x04\x00\x01", &mut out)?;
-    assert_eq!(rt; step.closed, Some(Outcome::Complete), "one closes");
+    expect_equal(&rt, &step.closed, &Some(Outcome::Complete), "one closes");
     let mut open = Vec::new(rt.alloc());
     for (tid, record) in server.open_transfers() {
-        assert_eq!(rt; record.peer, Some(client(tid)), "its client");
+        expect_equal(&rt, &record.peer, &Some(client(tid)), "its client");
         open.push(tid)?;
     }
-    assert_eq!(rt; open.as_slice(), OPEN, "in rising order");
+    expect_equal(&rt, &open.as_slice(), &OPEN, "in rising order");
     Ok(())
 }
 
@@ -407,12 +437,9 @@ const MAY_OPEN: [(&[u8], bool); 8] = [
 #[test]
 fn what_could_open_a_transfer(rt: HostRuntime) -> Result<(), Fail> {
     let server = server(&rt, rt.alloc(), Config::default())?;
-    for (bytes, want) in MAY_OPEN {
-        assert_eq!(rt;
-            server.may_open(client(1040), bytes),
-            Ok(want),
-            "of {bytes:?}"
-        );
+    for &(bytes, want) in &MAY_OPEN {
+        let found = (bytes, server.may_open(client(1040), bytes));
+        expect_equal(&rt, &found, &(bytes, Ok(want)), "whether it may open one");
     }
     Ok(())
 }
@@ -422,12 +449,18 @@ fn what_could_open_a_transfer(rt: HostRuntime) -> Result<(), Fail> {
 fn a_transfer_lends_its_datagram(rt: HostRuntime) -> Result<(), Fail> {
     let mut server = busy_server(&rt, rt.alloc())?;
     let (step, outgoing) = server.handle_timeout(1025)?;
-    assert_eq!(rt; step.to, Some(client(1025)), "to its client");
+    expect_equal(&rt, &step.to, &Some(client(1025)), "to its client");
     let bytes = server.bytes_of(1025, outgoing).ok_or("a transfer")?;
-    assert_eq!(rt; bytes, b"\x00\x03\x00\x01ABC".as_slice(), "DATA 1 again");
-    assert!(rt;
+    expect_bytes(
+        &rt,
+        bytes,
+        b"\x00\x03\x00\x01ABC".as_slice(),
+        "DATA 1 again",
+    );
+    expect(
+        &rt,
         server.bytes_of(1040, outgoing).is_none(),
-        "no such transfer"
+        "no such transfer",
     );
     Ok(())
 }
@@ -437,7 +470,7 @@ fn a_transfer_completes_without_a_buffer(rt: HostRuntime) -> Result<(), Fail> {
     let mut server = busy_server(&rt, rt.alloc())?;
     let ack = b"\x00\x04\x00\x01";
     let (step, outgoing) = server.handle_datagram(1025, client(1025), ack)?;
-    assert_eq!(rt; step.closed, Some(Outcome::Complete), "the last ACK");
-    assert_eq!(rt; outgoing, Outgoing::Nothing, "in silence");
+    expect_equal(&rt, &step.closed, &Some(Outcome::Complete), "the last ACK");
+    expect_equal(&rt, &outgoing, &Outgoing::Nothing, "in silence");
     Ok(())
 }

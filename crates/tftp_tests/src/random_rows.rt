@@ -1,5 +1,6 @@
 //! Random runs of a world, and after each event what makes it safe, by what the world tells.
 
+use crate::expect::{expect, expect_equal};
 use rand_core::SeedableRng;
 use rand_pcg::Pcg32;
 use std::alloc::Global;
@@ -39,7 +40,7 @@ fn file_of(port: u16) -> &'static [u8] {
 fn asked_world(rt: &impl Abort, alloc: Global) -> Result<World, Fail> {
     let mut config = Config::default();
     config.retries = 10;
-    assert!(rt; config.is_valid(), "the settings of a server");
+    expect(rt, config.is_valid(), "the settings of a server");
     let [a, b] = READ;
     let files = vec![in alloc;
         (path_of(alloc, b"a")?, Vec::from_slice(alloc, a)?),
@@ -53,7 +54,7 @@ fn asked_world(rt: &impl Abort, alloc: Global) -> Result<World, Fail> {
             asked: Asked::default(),
         })?;
     }
-    for bytes in WRITTEN {
+    for &bytes in &WRITTEN {
         world.apply(Event::Put {
             name: Bytes::from_slice(alloc, b"n")?,
             mode: Mode::Octet,
@@ -93,16 +94,21 @@ fn sent_file(port: u16, record: &Record) -> &'static [u8] {
 fn agree(rt: &impl Abort, port: u16, end: &Record, peer: &Record) {
     let established = peer.peer == Some(address(port, end));
     if established {
-        assert_eq!(rt;
-            end.size,
-            peer.size,
-            "the block sizes of {port} and its peer"
+        let wanted = (port, peer.size);
+        expect_equal(
+            rt,
+            &(port, end.size),
+            &wanted,
+            "the block sizes of an end and its peer",
         );
     }
     if end.complete && end.side.is_sender() {
-        assert!(rt;
-            established && peer.complete,
-            "the sender {port} is complete alone"
+        let found = (port, established && peer.complete);
+        expect_equal(
+            rt,
+            &found,
+            &(port, true),
+            "whether a complete sender's peer is complete",
         );
     }
 }
@@ -117,16 +123,32 @@ fn stores(
     file: &[u8],
 ) -> Result<(), Fail> {
     let stored = world.stored(port).ok_or("a receiver")?;
-    assert!(rt; file.starts_with(stored), "what {port} stored");
+    let found = (port, file.starts_with(stored));
+    expect_equal(
+        rt,
+        &found,
+        &(port, true),
+        "whether it stored a beginning of its file",
+    );
     let record = record_at(world, port).ok_or("an end")?;
     if !record.complete {
         return Ok(());
     }
-    assert_eq!(rt; stored, file, "all that {port} stored");
-    assert!(rt; world.committed(port), "what {port} stored is committed");
+    let found = (port, stored, world.committed(port));
+    expect_equal(
+        rt,
+        &found,
+        &(port, file, true),
+        "all that it stored, committed",
+    );
     if !record.side.is_client() {
         let held = world.file(&path_of(alloc, b"n")?).ok_or("the file")?;
-        assert_eq!(rt; held, file, "the file that {port} committed");
+        expect_equal(
+            rt,
+            &(port, held),
+            &(port, file),
+            "the file that it committed",
+        );
     }
     Ok(())
 }
@@ -140,9 +162,12 @@ fn is_safe(
     record: &Record,
 ) -> Result<(), Fail> {
     let Some(address) = record.peer else {
-        assert!(rt;
-            world.stored(port).is_none_or(|stored| stored.is_empty()),
-            "{port} has no peer"
+        let is_empty = world.stored(port).is_none_or(|stored| stored.is_empty());
+        expect_equal(
+            rt,
+            &(port, is_empty),
+            &(port, true),
+            "nothing comes without a peer",
         );
         return Ok(());
     };
@@ -174,6 +199,6 @@ fn random_safe(rt: HostRuntime) -> Result<(), Fail> {
     for seed in 0..RUNS {
         some_complete |= runs_safely(&rt, rt.alloc(), seed)?;
     }
-    assert!(rt; some_complete, "no end completes in any run");
+    expect(&rt, some_complete, "no end completes in any run");
     Ok(())
 }

@@ -1,6 +1,7 @@
 //! Reads in a world, datagram by datagram. The bytes are written by hand from RFC 1350, sections 2, 4
 //! and 6; that a repeated ACK brings nothing is of RFC 1123, section 4.2.3.1.
 
+use crate::expect::{expect, expect_bytes, expect_equal};
 use std::alloc::Global;
 use std::process::Abort;
 use std::test::Fail;
@@ -12,7 +13,7 @@ use tftp_server::Config;
 use tftp_wire::{Bytes, Mode};
 
 /// An event that a run chooses.
-#[derive(Clone, Copy, Debug)]
+#[derive(Clone, Copy, Debug, PartialEq, Eq)]
 enum Move {
     Deliver(usize),
     Timeout(u16),
@@ -27,7 +28,7 @@ fn world_with(rt: &impl Abort, alloc: Global, file: &[u8], config: Config) -> Re
     let path = path_of(alloc, b"a")?;
     let bytes = Vec::from_slice(alloc, file)?;
     let files = vec![in alloc; (path, bytes)]?;
-    assert!(rt; config.is_valid(), "the settings of a server");
+    expect(rt, config.is_valid(), "the settings of a server");
     Ok(World::new(alloc, files, config)?)
 }
 
@@ -44,7 +45,7 @@ fn get(world: &mut World, alloc: Global, name: &[u8]) -> Result<Report, WorldFau
 fn asked_world(rt: &impl Abort, alloc: Global, file: &[u8]) -> Result<World, Fail> {
     let mut world = world_with(rt, alloc, file, Config::default())?;
     let report = get(&mut world, alloc, b"a")?;
-    assert_eq!(rt; report.added, Some(0), "the request is sent");
+    expect_equal(rt, &report.added, &Some(0), "the request is sent");
     Ok(world)
 }
 
@@ -63,19 +64,19 @@ fn runs(rt: &impl Abort, world: &mut World, rows: &[Row]) {
             added: *added,
             closed: *closed,
         };
-        assert_eq!(rt;
-            happens(world, *event),
-            Ok(report),
-            "what is reported of {event:?}"
-        );
+        let found = (*event, happens(world, *event));
+        expect_equal(rt, &found, &(*event, Ok(report)), "what is reported");
     }
 }
 
 /// The datagram at this place has these bytes.
 fn has_sent(rt: &impl Abort, world: &World, place: usize, bytes: &[u8]) {
     match world.sent().get(place) {
-        Some(datagram) => assert_eq!(rt; datagram.bytes.as_slice(), bytes, "datagram {place}"),
-        None => assert!(rt; false, "no datagram {place}"),
+        Some(datagram) => {
+            let found = (place, datagram.bytes.as_slice());
+            expect_equal(rt, &found, &(place, bytes), "a datagram");
+        }
+        None => expect_equal(rt, &(place, false), &(place, true), "a datagram is there"),
     }
 }
 
@@ -84,9 +85,9 @@ fn has_end(rt: &impl Abort, world: &World, place: usize, end: (u16, Side, bool, 
     match world.records().get(place) {
         Some((port, record)) => {
             let found = (*port, record.side, record.complete, record.outcome);
-            assert_eq!(rt; found, end, "end {place}");
+            expect_equal(rt, &(place, found), &(place, end), "an end");
         }
-        None => assert!(rt; false, "no end {place}"),
+        None => expect_equal(rt, &(place, false), &(place, true), "an end is there"),
     }
 }
 
@@ -101,8 +102,8 @@ fn settled(
 ) -> Result<World, Fail> {
     let mut world = world_with(rt, alloc, file, Config::default())?;
     get(&mut world, alloc, name)?;
-    assert_eq!(rt; world.settle(0, 1_000), Ok(count), "all that is sent");
-    assert_eq!(rt; world.sent().len(), count, "datagrams");
+    expect_equal(rt, &world.settle(0, 1_000), &Ok(count), "all that is sent");
+    expect_equal(rt, &world.sent().len(), &count, "datagrams");
     Ok(world)
 }
 
@@ -116,7 +117,7 @@ const EMPTY_FILE: [(usize, &[u8]); 3] = [
 #[test]
 fn an_empty_file_takes_three_datagrams(rt: HostRuntime) -> Result<(), Fail> {
     let world = settled(&rt, rt.alloc(), b"", b"a", 3)?;
-    for (place, bytes) in EMPTY_FILE {
+    for &(place, bytes) in &EMPTY_FILE {
         has_sent(&rt, &world, place, bytes);
     }
     Ok(())
@@ -125,9 +126,9 @@ fn an_empty_file_takes_three_datagrams(rt: HostRuntime) -> Result<(), Fail> {
 #[test]
 fn an_empty_file_is_stored(rt: HostRuntime) -> Result<(), Fail> {
     let world = settled(&rt, rt.alloc(), b"", b"a", 3)?;
-    assert_eq!(rt; world.stored(1024), Some(b"".as_slice()), "what came");
-    assert!(rt; world.committed(1024), "it is committed");
-    assert!(rt; world.stored(1025).is_none(), "a sender stores nothing");
+    expect_equal(&rt, &world.stored(1024), &Some(b"".as_slice()), "what came");
+    expect(&rt, world.committed(1024), "it is committed");
+    expect(&rt, world.stored(1025).is_none(), "a sender stores nothing");
     Ok(())
 }
 
@@ -135,7 +136,7 @@ fn an_empty_file_is_stored(rt: HostRuntime) -> Result<(), Fail> {
 #[test]
 fn an_empty_file_completes_both_ends(rt: HostRuntime) -> Result<(), Fail> {
     let world = settled(&rt, rt.alloc(), b"", b"a", 3)?;
-    assert_eq!(rt; world.records().len(), 2, "ends");
+    expect_equal(&rt, &world.records().len(), &2, "ends");
     has_end(&rt, &world, 0, (1024, Side::ClientRead, true, None));
     let complete = Some(Outcome::Complete);
     has_end(&rt, &world, 1, (1025, Side::ServerRead, true, complete));
@@ -157,10 +158,10 @@ fn a_full_block_is_followed_by_an_empty_one(rt: HostRuntime) -> Result<(), Fail>
 fn a_full_block_is_stored(rt: HostRuntime) -> Result<(), Fail> {
     let world = settled(&rt, rt.alloc(), BLOCK, b"/a", 5)?;
     let stored = world.stored(1024).ok_or("a receiver")?;
-    assert_eq!(rt; stored, BLOCK, "what came");
+    expect_bytes(&rt, stored, BLOCK, "what came");
     let path = path_of(rt.alloc(), b"a")?;
     let file = world.file(&path).ok_or("the file")?;
-    assert_eq!(rt; file, BLOCK, "it stays at the server");
+    expect_bytes(&rt, file, BLOCK, "it stays at the server");
     Ok(())
 }
 
@@ -177,7 +178,7 @@ const REPEATED_ACK: [Row; 5] = [
 fn a_repeated_ack_brings_nothing(rt: HostRuntime) -> Result<(), Fail> {
     let mut world = asked_world(&rt, rt.alloc(), &[b'x'; 1_024])?;
     runs(&rt, &mut world, &REPEATED_ACK);
-    assert_eq!(rt; world.sent().len(), 4, "datagrams");
+    expect_equal(&rt, &world.sent().len(), &4, "datagrams");
     Ok(())
 }
 
@@ -199,7 +200,12 @@ const REPEATED_REQUEST: [Row; 9] = [
 fn a_repeated_request_opens_another_end_behind_the_close(rt: HostRuntime) -> Result<(), Fail> {
     let mut world = asked_world(&rt, rt.alloc(), b"ABC")?;
     runs(&rt, &mut world, &REPEATED_REQUEST);
-    assert_eq!(rt; world.stored(1024), Some(b"ABC".as_slice()), "what came");
+    expect_equal(
+        &rt,
+        &world.stored(1024),
+        &Some(b"ABC".as_slice()),
+        "what came",
+    );
     has_sent(&rt, &world, 4, b"\x00\x05\x00\x05unknown transfer id\x00");
     Ok(())
 }
@@ -261,7 +267,12 @@ fn a_busy_server_refuses(rt: HostRuntime) -> Result<(), Fail> {
     let mut world = world_with(&rt, rt.alloc(), b"ABC", config)?;
     for place in 0..2 {
         let report = get(&mut world, rt.alloc(), b"a")?;
-        assert_eq!(rt; report.added, Some(place), "the request of each client");
+        expect_equal(
+            &rt,
+            &report.added,
+            &Some(place),
+            "the request of each client",
+        );
     }
     runs(&rt, &mut world, &BUSY);
     has_sent(&rt, &world, 3, b"\x00\x05\x00\x00server busy\x00");
@@ -278,8 +289,9 @@ const IMPOSSIBLE: [(Move, WorldFault); 3] = [
 #[test]
 fn what_cannot_happen_is_refused(rt: HostRuntime) -> Result<(), Fail> {
     let mut world = world_with(&rt, rt.alloc(), b"ABC", Config::default())?;
-    for (event, fault) in IMPOSSIBLE {
-        assert_eq!(rt; happens(&mut world, event), Err(fault), "{event:?}");
+    for &(event, fault) in &IMPOSSIBLE {
+        let found = (event, happens(&mut world, event));
+        expect_equal(&rt, &found, &(event, Err(fault)), "what cannot happen");
     }
     Ok(())
 }
@@ -288,8 +300,13 @@ fn what_cannot_happen_is_refused(rt: HostRuntime) -> Result<(), Fail> {
 fn a_name_has_a_byte_at_least(rt: HostRuntime) -> Result<(), Fail> {
     let mut world = world_with(&rt, rt.alloc(), b"ABC", Config::default())?;
     let nameless = get(&mut world, rt.alloc(), b"");
-    assert_eq!(rt; nameless, Err(WorldFault::BadRequest), "an empty name");
-    assert_eq!(rt; world.records().len(), 0, "it takes no port");
+    expect_equal(
+        &rt,
+        &nameless,
+        &Err(WorldFault::BadRequest),
+        "an empty name",
+    );
+    expect_equal(&rt, &world.records().len(), &0, "it takes no port");
     Ok(())
 }
 
@@ -303,9 +320,9 @@ const MISSING: [Row; 2] = [
 fn a_missing_file_opens_no_end(rt: HostRuntime) -> Result<(), Fail> {
     let mut world = world_with(&rt, rt.alloc(), b"ABC", Config::default())?;
     let report = get(&mut world, rt.alloc(), b"b")?;
-    assert_eq!(rt; report.added, Some(0), "the request is sent");
+    expect_equal(&rt, &report.added, &Some(0), "the request is sent");
     runs(&rt, &mut world, &MISSING);
-    assert_eq!(rt; world.records().len(), 1, "the server opened none");
+    expect_equal(&rt, &world.records().len(), &1, "the server opened none");
     Ok(())
 }
 
@@ -321,12 +338,13 @@ fn a_store_refuses_as_told(rt: HostRuntime) -> Result<(), Fail> {
     let mut world = asked_world(&rt, rt.alloc(), b"ABC")?;
     runs(&rt, &mut world, &REFUSED_STORE);
     has_sent(&rt, &world, 2, b"\x00\x05\x00\x03disk full\x00");
-    assert_eq!(rt;
-        world.stored(1024),
-        Some(b"".as_slice()),
-        "nothing is stored"
+    expect_equal(
+        &rt,
+        &world.stored(1024),
+        &Some(b"".as_slice()),
+        "nothing is stored",
     );
-    assert!(rt; !world.committed(1024), "nothing is committed");
+    expect(&rt, !world.committed(1024), "nothing is committed");
     Ok(())
 }
 
@@ -340,12 +358,14 @@ const ADDRESSES: [([u8; 4], bool); 4] = [
 
 #[test]
 fn the_hosts_are_known(rt: HostRuntime) {
-    for (ip, want) in ADDRESSES {
+    for &(ip, want) in &ADDRESSES {
         let endpoint = Endpoint { ip, port: 69 };
-        assert_eq!(rt;
-            World::is_foreign(&endpoint),
-            want,
-            "the address {endpoint}"
+        let found = (endpoint, World::is_foreign(&endpoint));
+        expect_equal(
+            &rt,
+            &found,
+            &(endpoint, want),
+            "whether it is of neither host",
         );
     }
 }
@@ -360,7 +380,12 @@ const WORLD_FAULTS: [(WorldFault, u8); 5] = [
 
 #[test]
 fn world_faults_are_numbered(rt: HostRuntime) {
-    for (fault, number) in WORLD_FAULTS {
-        assert_eq!(rt; fault.number(), number, "the number of: {fault}");
+    for &(fault, number) in &WORLD_FAULTS {
+        expect_equal(
+            &rt,
+            &(fault, fault.number()),
+            &(fault, number),
+            "its number",
+        );
     }
 }

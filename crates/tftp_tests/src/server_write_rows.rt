@@ -3,6 +3,7 @@
 
 ghost use Rattle.tftp_server.specs.FaultStore.{IsInjected};
 
+use crate::expect::{expect, expect_bytes, expect_equal};
 use std::alloc::Global;
 use std::process::Abort;
 use std::test::Fail;
@@ -33,7 +34,7 @@ fn files(alloc: Global) -> Result<MemStore, Fail> {
 fn server(rt: &impl Abort, alloc: Global, overwrite: bool) -> Result<Server<MemStore>, Fail> {
     let mut config = Config::default();
     config.overwrite = overwrite;
-    assert!(rt; config.is_valid(), "the settings of a server");
+    expect(rt, config.is_valid(), "the settings of a server");
     Ok(Server::new(alloc, config, files(alloc)?)?)
 }
 
@@ -62,13 +63,18 @@ const OPENED: [(&[u8], &[u8]); 6] = [
 
 #[test]
 fn writes_are_answered_with_their_options(rt: HostRuntime) -> Result<(), Fail> {
-    for (request, answer) in OPENED {
+    for &(request, answer) in &OPENED {
         let mut server = server(&rt, rt.alloc(), false)?;
         let mut out = Vec::new(rt.alloc());
         let opened = server.on_request(CLIENT, 1025, request, &mut out)?;
-        assert_eq!(rt; out.as_slice(), answer, "to {request:?}");
-        assert_eq!(rt; opened.tid, Some(1025), "a transfer for {request:?}");
-        assert!(rt; server.draft(1025).is_some(), "with a draft");
+        let found = (request, out.as_slice(), opened.tid);
+        expect_equal(
+            &rt,
+            &found,
+            &(request, answer, Some(1025)),
+            "an answer and a transfer",
+        );
+        expect(&rt, server.draft(1025).is_some(), "with a draft");
     }
     Ok(())
 }
@@ -80,11 +86,12 @@ fn open<S: Store>(
     server: &mut Server<S>,
     from: Endpoint,
     tid: u16,
-) -> Result<(), Fail> {
+) {
     let mut out = Vec::new(alloc);
-    let opened = server.on_request(from, tid, WRITE, &mut out)?;
-    assert_eq!(rt; opened.tid, Some(tid), "a transfer opens");
-    Ok(())
+    let opened = server
+        .on_request(from, tid, WRITE, &mut out)
+        .expect(rt, "the server takes it");
+    expect_equal(rt, &opened.tid, &Some(tid), "a transfer opens");
 }
 
 /// A datagram comes to a transfer, which answers it by that.
@@ -96,11 +103,13 @@ fn answers<S: Store>(
     tid: u16,
     bytes: &[u8],
     answer: &[u8],
-) -> Result<Option<Outcome>, Fail> {
+) -> Option<Outcome> {
     let mut out = Vec::new(alloc);
-    let step = server.on_datagram(tid, from, bytes, &mut out)?;
-    assert_eq!(rt; out.as_slice(), answer, "to {bytes:?}");
-    Ok(step.closed)
+    let step = server
+        .on_datagram(tid, from, bytes, &mut out)
+        .expect(rt, "the server takes it");
+    expect_equal(rt, &(bytes, out.as_slice()), &(bytes, answer), "the answer");
+    step.closed
 }
 
 const DATA_A: &[u8] = b"\x00\x03\x00\x01A";
@@ -114,14 +123,14 @@ const ACK_1: &[u8] = b"\x00\x04\x00\x01";
 fn a_write_makes_a_file(rt: HostRuntime) -> Result<(), Fail> {
     let path = path_of(rt.alloc(), b"n")?;
     let mut server = server(&rt, rt.alloc(), false)?;
-    open(&rt, rt.alloc(), &mut server, CLIENT, 1025)?;
-    assert!(rt; server.store().file(&path).is_none(), "no file yet");
-    let closed = answers(&rt, rt.alloc(), &mut server, CLIENT, 1025, DATA_A, ACK_1)?;
-    assert_eq!(rt; closed, None, "the receiver dallies");
+    open(&rt, rt.alloc(), &mut server, CLIENT, 1025);
+    expect(&rt, server.store().file(&path).is_none(), "no file yet");
+    let closed = answers(&rt, rt.alloc(), &mut server, CLIENT, 1025, DATA_A, ACK_1);
+    expect_equal(&rt, &closed, &None, "the receiver dallies");
     let file = server.store().file(&path).ok_or("a file")?;
-    assert_eq!(rt; file, b"A".as_slice(), "what came");
+    expect_bytes(&rt, file, b"A".as_slice(), "what came");
     let draft = server.draft(1025).ok_or("a draft")?;
-    assert!(rt; draft.is_committed(), "its draft is committed");
+    expect(&rt, draft.is_committed(), "its draft is committed");
     Ok(())
 }
 
@@ -129,17 +138,22 @@ fn a_write_makes_a_file(rt: HostRuntime) -> Result<(), Fail> {
 #[test]
 fn a_draft_is_handed_out(rt: HostRuntime) -> Result<(), Fail> {
     let mut server = server(&rt, rt.alloc(), false)?;
-    open(&rt, rt.alloc(), &mut server, CLIENT, 1025)?;
-    answers(&rt, rt.alloc(), &mut server, CLIENT, 1025, DATA_A, ACK_1)?;
+    open(&rt, rt.alloc(), &mut server, CLIENT, 1025);
+    answers(&rt, rt.alloc(), &mut server, CLIENT, 1025, DATA_A, ACK_1);
     let mut out = Vec::new(rt.alloc());
     server.on_timeout(1025, &mut out)?;
-    assert!(rt; server.take_closed(1025).is_none(), "it is open");
+    expect(&rt, server.take_closed(1025).is_none(), "it is open");
     server.on_timeout(1025, &mut out)?;
-    assert!(rt; out.is_empty(), "in silence");
+    expect(&rt, out.is_empty(), "in silence");
     let (record, draft) = server.take_closed(1025).ok_or("a closed transfer")?;
-    assert_eq!(rt; record.outcome, Some(Outcome::Complete), "how it ended");
+    expect_equal(
+        &rt,
+        &record.outcome,
+        &Some(Outcome::Complete),
+        "how it ended",
+    );
     let draft = draft.ok_or("a draft")?;
-    assert_eq!(rt; draft.as_bytes(), b"A".as_slice(), "what it holds");
+    expect_bytes(&rt, draft.as_bytes(), b"A".as_slice(), "what it holds");
     Ok(())
 }
 
@@ -150,9 +164,9 @@ const FILE_EXISTS: &[u8] = b"\x00\x05\x00\x06file exists\x00";
 fn the_first_commit_has_the_name(rt: HostRuntime) -> Result<(), Fail> {
     let path = path_of(rt.alloc(), b"n")?;
     let mut server = server(&rt, rt.alloc(), false)?;
-    open(&rt, rt.alloc(), &mut server, CLIENT, 1025)?;
-    open(&rt, rt.alloc(), &mut server, OTHER, 1026)?;
-    answers(&rt, rt.alloc(), &mut server, CLIENT, 1025, DATA_A, ACK_1)?;
+    open(&rt, rt.alloc(), &mut server, CLIENT, 1025);
+    open(&rt, rt.alloc(), &mut server, OTHER, 1026);
+    answers(&rt, rt.alloc(), &mut server, CLIENT, 1025, DATA_A, ACK_1);
     let closed = answers(
         &rt,
         rt.alloc(),
@@ -161,10 +175,10 @@ fn the_first_commit_has_the_name(rt: HostRuntime) -> Result<(), Fail> {
         1026,
         DATA_B,
         FILE_EXISTS,
-    )?;
-    assert_eq!(rt; closed, Some(Outcome::StoreFault), "the other closes");
+    );
+    expect_equal(&rt, &closed, &Some(Outcome::StoreFault), "the other closes");
     let file = server.store().file(&path).ok_or("a file")?;
-    assert_eq!(rt; file, b"A".as_slice(), "what came first");
+    expect_bytes(&rt, file, b"A".as_slice(), "what came first");
     Ok(())
 }
 
@@ -173,12 +187,12 @@ fn the_first_commit_has_the_name(rt: HostRuntime) -> Result<(), Fail> {
 fn the_last_commit_stands(rt: HostRuntime) -> Result<(), Fail> {
     let path = path_of(rt.alloc(), b"n")?;
     let mut server = server(&rt, rt.alloc(), true)?;
-    open(&rt, rt.alloc(), &mut server, CLIENT, 1025)?;
-    open(&rt, rt.alloc(), &mut server, OTHER, 1026)?;
-    answers(&rt, rt.alloc(), &mut server, CLIENT, 1025, DATA_A, ACK_1)?;
-    answers(&rt, rt.alloc(), &mut server, OTHER, 1026, DATA_B, ACK_1)?;
+    open(&rt, rt.alloc(), &mut server, CLIENT, 1025);
+    open(&rt, rt.alloc(), &mut server, OTHER, 1026);
+    answers(&rt, rt.alloc(), &mut server, CLIENT, 1025, DATA_A, ACK_1);
+    answers(&rt, rt.alloc(), &mut server, OTHER, 1026, DATA_B, ACK_1);
     let file = server.store().file(&path).ok_or("a file")?;
-    assert_eq!(rt; file, b"B".as_slice(), "what came last");
+    expect_bytes(&rt, file, b"B".as_slice(), "what came last");
     Ok(())
 }
 
@@ -191,15 +205,15 @@ fn a_read_goes_on_with_its_file(rt: HostRuntime) -> Result<(), Fail> {
     store_600(alloc, server.store_mut(), &path)?;
     let mut out = Vec::new(alloc);
     server.on_request(CLIENT, 1025, b"\x00\x01a\x00octet\x00", &mut out)?;
-    assert_eq!(rt; out.len(), 516, "DATA 1");
+    expect_equal(&rt, &out.len(), &516, "DATA 1");
     out.clear();
     server.on_request(OTHER, 1026, b"\x00\x02a\x00octet\x00", &mut out)?;
-    answers(&rt, alloc, &mut server, OTHER, 1026, DATA_B, ACK_1)?;
+    answers(&rt, alloc, &mut server, OTHER, 1026, DATA_B, ACK_1);
     let file = server.store().file(&path).ok_or("a file")?;
-    assert_eq!(rt; file, b"B".as_slice(), "it is replaced");
+    expect_bytes(&rt, file, b"B".as_slice(), "it is replaced");
     let mut rest = Vec::from_slice(alloc, b"\x00\x03\x00\x02")?;
     rest.extend_from_slice(&[b'a'; 88])?;
-    answers(&rt, alloc, &mut server, CLIENT, 1025, ACK_1, &rest)?;
+    answers(&rt, alloc, &mut server, CLIENT, 1025, ACK_1, &rest);
     Ok(())
 }
 
@@ -212,17 +226,13 @@ fn store_600<S: Store>(alloc: Global, store: &mut S, path: &Path) -> Result<(), 
 }
 
 /// The request comes again: this is the answer, and no transfer opens.
-fn opens_nothing(
-    rt: &impl Abort,
-    alloc: Global,
-    server: &mut Server<MemStore>,
-    answer: &[u8],
-) -> Result<(), Fail> {
+fn opens_nothing(rt: &impl Abort, alloc: Global, server: &mut Server<MemStore>, answer: &[u8]) {
     let mut out = Vec::new(alloc);
-    let opened = server.on_request(CLIENT, 1030, WRITE, &mut out)?;
-    assert_eq!(rt; opened.tid, None, "no transfer");
-    assert_eq!(rt; out.as_slice(), answer, "the answer");
-    Ok(())
+    let opened = server
+        .on_request(CLIENT, 1030, WRITE, &mut out)
+        .expect(rt, "the server takes it");
+    expect_equal(rt, &opened.tid, &None, "no transfer");
+    expect_bytes(rt, out.as_slice(), answer, "the answer");
 }
 
 /// A request that comes again opens nothing while its transfer is open, nor in the dally; behind the close
@@ -230,14 +240,15 @@ fn opens_nothing(
 #[test]
 fn a_repeated_write_opens_nothing(rt: HostRuntime) -> Result<(), Fail> {
     let mut server = server(&rt, rt.alloc(), false)?;
-    open(&rt, rt.alloc(), &mut server, CLIENT, 1025)?;
-    opens_nothing(&rt, rt.alloc(), &mut server, b"")?;
-    answers(&rt, rt.alloc(), &mut server, CLIENT, 1025, DATA_A, ACK_1)?;
-    opens_nothing(&rt, rt.alloc(), &mut server, b"")?;
+    open(&rt, rt.alloc(), &mut server, CLIENT, 1025);
+    opens_nothing(&rt, rt.alloc(), &mut server, b"");
+    answers(&rt, rt.alloc(), &mut server, CLIENT, 1025, DATA_A, ACK_1);
+    opens_nothing(&rt, rt.alloc(), &mut server, b"");
     let mut out = Vec::new(rt.alloc());
     server.on_timeout(1025, &mut out)?;
     server.on_timeout(1025, &mut out)?;
-    opens_nothing(&rt, rt.alloc(), &mut server, FILE_EXISTS)
+    opens_nothing(&rt, rt.alloc(), &mut server, FILE_EXISTS);
+    Ok(())
 }
 
 /// Where the first call of the store, `begin`, fails: the answer.
@@ -257,7 +268,7 @@ fn failing(
 {
     let store = FaultStore::new(files(alloc)?, at, fault, false, false);
     let config = Config::default();
-    assert!(rt; config.is_valid(), "the default");
+    expect(rt, config.is_valid(), "the default");
     Ok(Server::new(alloc, config, store)?)
 }
 
@@ -273,8 +284,8 @@ fn cannot_begin(
     let mut server = failing(rt, alloc, 0, fault)?;
     let mut out = Vec::new(alloc);
     let opened = server.on_request(CLIENT, 1025, WRITE, &mut out)?;
-    assert_eq!(rt; opened.tid, None, "no transfer");
-    assert_eq!(rt; out.as_slice(), answer, "the answer");
+    expect_equal(rt, &opened.tid, &None, "no transfer");
+    expect_bytes(rt, out.as_slice(), answer, "the answer");
     Ok(())
 }
 
@@ -303,18 +314,23 @@ fn blocks_before(rt: &impl Abort, alloc: Global, at: u64, fault: StoreFault) -> 
     requires { IsInjected fault }
 {
     let mut server = failing(rt, alloc, at, fault)?;
-    open(rt, alloc, &mut server, CLIENT, 1025)?;
+    open(rt, alloc, &mut server, CLIENT, 1025);
     for number in 1..6u8 {
         let mut out = Vec::new(alloc);
         let block = data(alloc, number)?;
         let step = server.on_datagram(1025, CLIENT, block.as_slice(), &mut out)?;
         if step.closed.is_some() {
-            assert_eq!(rt; step.closed, Some(Outcome::StoreFault), "how it closed");
-            assert_eq!(rt; out.as_slice(), DISK_FULL, "what the client is told");
+            expect_equal(
+                rt,
+                &step.closed,
+                &Some(Outcome::StoreFault),
+                "how it closed",
+            );
+            expect_bytes(rt, out.as_slice(), DISK_FULL, "what the client is told");
             return Ok(number - 1);
         }
         let ack = [0, 4, 0, number];
-        assert_eq!(rt; out.as_slice(), ack.as_slice(), "the ACK of {number}");
+        expect_bytes(rt, out.as_slice(), ack.as_slice(), "the ACK of the block");
     }
     Ok(5)
 }
@@ -322,9 +338,19 @@ fn blocks_before(rt: &impl Abort, alloc: Global, at: u64, fault: StoreFault) -> 
 /// The same, and there is no file, nor may the record say that the transfer is complete.
 fn fails_there(rt: &impl Abort, alloc: Global, at: u64, blocks: u8) -> Result<(), Fail> {
     let found = blocks_before(rt, alloc, at, StoreFault::Io)?;
-    assert_eq!(rt; found, blocks, "the blocks before call {at}");
+    expect_equal(
+        rt,
+        &(at, found),
+        &(at, blocks),
+        "the blocks before the call",
+    );
     let found = blocks_before(rt, alloc, at, StoreFault::Full)?;
-    assert_eq!(rt; found, blocks, "the blocks before call {at}, which is full");
+    expect_equal(
+        rt,
+        &(at, found),
+        &(at, blocks),
+        "the blocks before it, which is full",
+    );
     Ok(())
 }
 
@@ -344,10 +370,10 @@ fn fault_each(rt: HostRuntime) -> Result<(), Fail> {
 fn a_refused_append_keeps_what_was_stored(rt: HostRuntime) -> Result<(), Fail> {
     let path: Path = path_of(rt.alloc(), b"n")?;
     let mut server = failing(&rt, rt.alloc(), 2, StoreFault::Full)?;
-    open(&rt, rt.alloc(), &mut server, CLIENT, 1025)?;
+    open(&rt, rt.alloc(), &mut server, CLIENT, 1025);
     let first = data(rt.alloc(), 1)?;
     let first = first.as_slice();
-    answers(&rt, rt.alloc(), &mut server, CLIENT, 1025, first, ACK_1)?;
+    answers(&rt, rt.alloc(), &mut server, CLIENT, 1025, first, ACK_1);
     let second = data(rt.alloc(), 2)?;
     let second = second.as_slice();
     answers(
@@ -358,12 +384,16 @@ fn a_refused_append_keeps_what_was_stored(rt: HostRuntime) -> Result<(), Fail> {
         1025,
         second,
         DISK_FULL,
-    )?;
-    assert!(rt; server.store().get_ref().file(&path).is_none(), "no file");
+    );
+    expect(
+        &rt,
+        server.store().get_ref().file(&path).is_none(),
+        "no file",
+    );
     let record = server.record(1025).ok_or("a transfer")?;
-    assert_eq!(rt; record.number, 1, "one block is stored");
-    assert!(rt; !record.complete, "it is not complete");
+    expect_equal(&rt, &record.number, &1, "one block is stored");
+    expect(&rt, !record.complete, "it is not complete");
     let draft = server.draft(1025).ok_or("a draft")?;
-    assert_eq!(rt; draft.as_bytes().len(), 512, "the block");
+    expect_equal(&rt, &draft.as_bytes().len(), &512, "the block");
     Ok(())
 }

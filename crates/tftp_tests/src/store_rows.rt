@@ -1,5 +1,6 @@
 //! A store in memory, and a server without transfers.
 
+use crate::expect::{expect, expect_bytes, expect_equal};
 use std::alloc::Global;
 use std::process::Abort;
 use std::test::Fail;
@@ -40,10 +41,15 @@ fn written(alloc: Global, path: &Path) -> Result<MemStore, Fail> {
 fn a_file_is_there_after_its_commit(rt: HostRuntime) -> Result<(), Fail> {
     let path = path_of(rt.alloc(), b"/a/b")?;
     let before = length(&empty(rt.alloc())?, rt.alloc(), &path, Mode::Octet);
-    assert_eq!(rt; before, Err(StoreFault::Missing), "before it is written");
+    expect_equal(
+        &rt,
+        &before,
+        &Err(StoreFault::Missing),
+        "before it is written",
+    );
     let store = written(rt.alloc(), &path)?;
     let file = store.file(&path).ok_or("a file")?;
-    assert_eq!(rt; file, b"AB\n".as_slice(), "what was written");
+    expect_bytes(&rt, file, b"AB\n".as_slice(), "what was written");
     Ok(())
 }
 
@@ -53,9 +59,9 @@ fn a_file_has_its_length_on_the_wire(rt: HostRuntime) -> Result<(), Fail> {
     let path = path_of(rt.alloc(), b"/a/b")?;
     let store = written(rt.alloc(), &path)?;
     let octet = length(&store, rt.alloc(), &path, Mode::Octet);
-    assert_eq!(rt; octet, Ok(3), "octet");
+    expect_equal(&rt, &octet, &Ok(3), "octet");
     let netascii = length(&store, rt.alloc(), &path, Mode::Netascii);
-    assert_eq!(rt; netascii, Ok(4), "netascii");
+    expect_equal(&rt, &netascii, &Ok(4), "netascii");
     Ok(())
 }
 
@@ -64,7 +70,7 @@ fn a_name_is_given_once(rt: HostRuntime) -> Result<(), Fail> {
     let path = path_of(rt.alloc(), b"/a/b")?;
     let mut store = written(rt.alloc(), &path)?;
     let again = write(&mut store, rt.alloc(), &path, b"C");
-    assert_eq!(rt; again, Err(StoreFault::Exists), "a second write");
+    expect_equal(&rt, &again, &Err(StoreFault::Exists), "a second write");
     Ok(())
 }
 
@@ -77,7 +83,7 @@ fn a_file_is_replaced(rt: HostRuntime) -> Result<(), Fail> {
     store.append(&mut draft, b"C")?;
     store.commit(&path, &mut draft, true)?;
     let file = store.file(&path).ok_or("a file")?;
-    assert_eq!(rt; file, b"C".as_slice(), "the newer");
+    expect_bytes(&rt, file, b"C".as_slice(), "the newer");
     Ok(())
 }
 
@@ -86,21 +92,27 @@ fn a_call_of_a_store_is_refused_once_as_told(rt: HostRuntime) -> Result<(), Fail
     let mut store = empty(rt.alloc())?;
     let path = path_of(rt.alloc(), b"a")?;
     store.refuse_next(true);
-    assert!(rt; store.refuses(), "it is told");
+    expect(&rt, store.refuses(), "it is told");
     let refused = write(&mut store, rt.alloc(), &path, b"A");
-    assert_eq!(rt; refused, Err(StoreFault::Full), "the call that it was told");
-    assert!(rt; !store.refuses(), "it is told no more");
-    assert_eq!(rt;
-        write(&mut store, rt.alloc(), &path, b"A"),
-        Ok(()),
-        "the next"
+    expect_equal(
+        &rt,
+        &refused,
+        &Err(StoreFault::Full),
+        "the call that it was told",
+    );
+    expect(&rt, !store.refuses(), "it is told no more");
+    expect_equal(
+        &rt,
+        &write(&mut store, rt.alloc(), &path, b"A"),
+        &Ok(()),
+        "the next",
     );
     Ok(())
 }
 
 fn new_server(rt: &impl Abort, alloc: Global) -> Result<Server<MemStore>, Fail> {
     let config = Config::default();
-    assert!(rt; config.is_valid(), "the default");
+    expect(rt, config.is_valid(), "the default");
     Ok(Server::new(alloc, config, empty(alloc)?)?)
 }
 
@@ -108,13 +120,13 @@ fn new_server(rt: &impl Abort, alloc: Global) -> Result<Server<MemStore>, Fail> 
 fn a_new_server_holds_no_transfer(rt: HostRuntime) -> Result<(), Fail> {
     let mut server = new_server(&rt, rt.alloc())?;
     let mut tids = Vec::new(rt.alloc());
-    assert_eq!(rt; server.tids(&mut tids), Ok(()), "the identifiers");
-    assert!(rt; tids.is_empty(), "no identifier");
-    assert!(rt; server.record(1025).is_none(), "no record");
-    assert!(rt; server.take_closed(1025).is_none(), "nothing to take");
+    expect_equal(&rt, &server.tids(&mut tids), &Ok(()), "the identifiers");
+    expect(&rt, tids.is_empty(), "no identifier");
+    expect(&rt, server.record(1025).is_none(), "no record");
+    expect(&rt, server.take_closed(1025).is_none(), "nothing to take");
     let mut out = Vec::new(rt.alloc());
     let timeout = server.on_timeout(1025, &mut out);
-    assert_eq!(rt; timeout, Err(ServerFault::NoSuchTid), "a timeout");
+    expect_equal(&rt, &timeout, &Err(ServerFault::NoSuchTid), "a timeout");
     Ok(())
 }
 
@@ -122,6 +134,6 @@ fn a_new_server_holds_no_transfer(rt: HostRuntime) -> Result<(), Fail> {
 fn a_server_lends_its_store(rt: HostRuntime) -> Result<(), Fail> {
     let mut server = new_server(&rt, rt.alloc())?;
     server.store_mut().refuse_next(true);
-    assert!(rt; server.store().refuses(), "what it was told");
+    expect(&rt, server.store().refuses(), "what it was told");
     Ok(())
 }
