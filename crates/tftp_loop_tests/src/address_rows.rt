@@ -2,14 +2,12 @@
 //! system's route to the client has, whichever was asked.
 
 use crate::expect::{expect_bytes, expect_equal};
-use crate::programs::{listening, program};
-use crate::scratch::{joined, scratch_folder};
-use crate::test_server::loopback_socket;
-use std::fs;
+use crate::programs::serve;
+use crate::scratch::{remove_folder, scratch_folder, write_file};
+use crate::test_server::{loopback_socket, receive, send};
 use std::net::{Net, SocketAddr};
-use std::process::{self, Abort, Processes, Stdio};
+use std::process::{self, Abort, Processes};
 use std::rt::Runtime;
-use std::test::Fail;
 
 /// Where a server listens, at which address it is asked, and from which it answers.
 const ADDRESSES: [(&str, &str, &str); 4] = [
@@ -19,35 +17,23 @@ const ADDRESSES: [(&str, &str, &str); 4] = [
     ("0.0.0.0", "127.0.0.2", "127.0.0.1"),
 ];
 
+/// An address with a port.
+fn at_port<R: AllocGlobal + Abort>(rt: &R, address: &str, port: u16) -> SocketAddr {
+    let text = format!(in rt.alloc(); "{address}:{port}").expect(rt, "memory");
+    text.as_str().parse::<SocketAddr>().expect(rt, address)
+}
+
 /// A request to the server, at this address, is answered from that one. Both go on at the transfer's port.
-fn answers_from<R: Net + AllocGlobal + Abort>(
-    rt: &R,
-    listening: &str,
-    asked: &str,
-    wanted: &str,
-) -> Result<(), Fail> {
-    let alloc = rt.alloc();
-    let port = listening.parse::<SocketAddr>()?.port();
-    let request_port = format!(in alloc; "{asked}:{port}")?;
-    let socket = loopback_socket(rt)?;
+fn answers_from<R: Net + AllocGlobal + Abort>(rt: &R, port: u16, asked: &str, wanted: &str) {
+    let socket = loopback_socket(rt);
     let mut buffer = [0; 600];
-    socket.send_to(
-        b"\0\x01a\0octet\0",
-        request_port.as_str().parse::<SocketAddr>()?,
-    )?;
-    let (count, transfer) = socket.recv_from(&mut buffer)?;
-    expect_bytes(
-        rt,
-        &buffer[..count],
-        b"\0\x03\0\x01ABC".as_slice(),
-        "DATA 1",
-    );
-    let transfer_port = transfer.port();
-    let wanted = format!(in alloc; "{wanted}:{transfer_port}")?;
-    let wanted = wanted.as_str().parse::<SocketAddr>()?;
+    let request = b"\0\x01a\0octet\0".as_slice();
+    send(rt, &socket, request, at_port(rt, asked, port));
+    let (answer, transfer) = receive(rt, &socket, &mut buffer);
+    expect_bytes(rt, answer, b"\0\x03\0\x01ABC".as_slice(), "DATA 1");
+    let wanted = at_port(rt, wanted, transfer.port());
     expect_equal(rt, &transfer, &wanted, asked);
-    socket.send_to(&[0, 4, 0, 1], transfer)?;
-    Ok(())
+    send(rt, &socket, &[0, 4, 0, 1], transfer);
 }
 
 /// Serves one client at an address.
@@ -57,28 +43,21 @@ fn serves_at<R: Runtime + AllocGlobal + Processes + Net + Abort>(
     listen: &str,
     asked: &str,
     wanted: &str,
-) -> Result<(), Fail> {
-    let alloc = rt.alloc();
-    let listen = format!(in alloc; "{listen}:0")?;
-    let serving = [folder, "--listen", listen.as_str()];
-    let mut server = program(rt, "programs::tftpd", &serving)?
-        .stdout(Stdio::piped())
-        .spawn(rt)?;
-    let printed = server.stdout.take().ok_or("the server prints")?;
-    let (_printed, address) = listening(alloc, printed)?;
-    answers_from(rt, address.as_str(), asked, wanted)?;
-    server.wait()?;
-    Ok(())
+) {
+    let listen = format!(in rt.alloc(); "{listen}:0").expect(rt, "memory");
+    let server = serve(rt, &[folder, "--listen", listen.as_str()]);
+    let port = server.socket_address(rt).port();
+    answers_from(rt, port, asked, wanted);
+    server.finish(rt);
 }
 
 #[test]
-fn two_addresses(rt: HostRuntime) -> Result<(), Fail> {
-    let folder = scratch_folder(&rt, process::id(rt.process()), "addresses")?;
+fn two_addresses(rt: HostRuntime) {
+    let folder = scratch_folder(&rt, process::id(rt.process()), "addresses");
     let folder = folder.as_str();
-    fs::write(&rt, joined(rt.alloc(), folder, "a")?.as_str(), "ABC")?;
+    write_file(&rt, folder, "a", b"ABC");
     for &(listen, asked, wanted) in &ADDRESSES {
-        serves_at(&rt, folder, listen, asked, wanted)?;
+        serves_at(&rt, folder, listen, asked, wanted);
     }
-    fs::remove_dir_all(&rt, folder)?;
-    Ok(())
+    remove_folder(&rt, folder);
 }

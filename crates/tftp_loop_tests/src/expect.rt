@@ -26,10 +26,3 @@ pub(crate) fn expect_bytes(rt: &impl Abort, bytes: &[u8], wanted: &[u8], what: &
 {
     assert_eq!(rt; bytes, wanted, "{what}");
 }
-
-/// Ends the test unless the text is the wanted one; `what` says what it is.
-pub(crate) fn expect_text(rt: &impl Abort, text: &str, wanted: &str, what: &str)
-    ensures { text.now ≡ wanted.now }
-{
-    assert_eq!(rt; text, wanted, "{what}");
-}

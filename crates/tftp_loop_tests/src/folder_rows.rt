@@ -1,20 +1,20 @@
 //! A store over a folder: what it opens, and how a file gets its name.
 
-use crate::expect::{expect, expect_bytes, expect_equal, expect_text};
-use crate::scratch::{joined, scratch_folder};
+use crate::expect::{expect, expect_bytes, expect_equal};
+use crate::scratch::{
+    has_bytes, has_file, joined, lacks, make_fifo, make_folder, make_link, remove_folder,
+    scratch_folder, write_file,
+};
 use std::alloc::Global;
-use std::fs;
-use std::os::unix::fs::symlink;
-use std::process::{self, Abort, Command, Processes};
+use std::process::{self, Abort, Processes};
 use std::rt::Runtime;
-use std::test::Fail;
 use tftp_file::{Path, Source, StoreFault, path_of};
 use tftp_server::Store;
 use tftp_udp::FolderStore;
 use tftp_wire::Mode;
 
-fn path(alloc: Global, name: &str) -> Result<Path, Fail> {
-    Ok(path_of(alloc, name.as_bytes())?)
+fn path(rt: &impl Abort, alloc: Global, name: &str) -> Path {
+    path_of(alloc, name.as_bytes()).expect(rt, name)
 }
 
 /// A file is opened with this wire text, and its length.
@@ -24,123 +24,134 @@ fn opens<S: Store, R: AllocGlobal + Abort>(
     name: &str,
     mode: Mode,
     wanted: &[u8],
-) -> Result<(), Fail> {
-    let path = path(rt.alloc(), name)?;
-    let mut opening = store.open(rt.alloc(), &path, mode)?;
+) {
+    let path = path(rt, rt.alloc(), name);
+    let mut opening = store.open(rt.alloc(), &path, mode).expect(rt, name);
     let mut text = Vec::new(rt.alloc());
-    opening.source.fill(100, &mut text)?;
+    opening.source.fill(100, &mut text).expect(rt, name);
     expect_bytes(rt, text.as_slice(), wanted, name);
     expect_equal(rt, &opening.length, &(wanted.len() as u64), name);
-    Ok(())
 }
 
 /// A file is not opened, for this reason.
-fn refuses<S: Store, R: AllocGlobal + Abort>(
-    rt: &R,
-    store: &S,
-    name: &str,
-    wanted: StoreFault,
-) -> Result<(), Fail> {
-    let path = path(rt.alloc(), name)?;
+fn refuses<S: Store, R: AllocGlobal + Abort>(rt: &R, store: &S, name: &str, wanted: StoreFault) {
+    let path = path(rt, rt.alloc(), name);
     let fault = store.open(rt.alloc(), &path, Mode::Octet).err();
     expect_equal(rt, &fault, &Some(wanted), name);
-    Ok(())
 }
 
+/// Links of a folder, and where they lead.
+const LINKS: [(&str, &str); 4] = [
+    ("served/inner", "sub/b"),
+    ("served/outer", "../secret"),
+    ("served/up", ".."),
+    ("served/dangling", "nowhere"),
+];
+
 /// Makes files, links and a FIFO.
-fn fill_folder<R: Runtime + AllocGlobal + Processes>(rt: &R, folder: &str) -> Result<(), Fail> {
-    let alloc = rt.alloc();
-    fs::create_dir_all(rt, joined(alloc, folder, "served/sub")?.as_str())?;
-    fs::write(rt, joined(alloc, folder, "served/a")?.as_str(), "A\nB")?;
-    fs::write(rt, joined(alloc, folder, "served/sub/b")?.as_str(), "BB")?;
-    fs::write(rt, joined(alloc, folder, "secret")?.as_str(), "S")?;
-    for &(target, link) in &[
-        ("sub/b", "served/inner"),
-        ("../secret", "served/outer"),
-        ("..", "served/up"),
-        ("nowhere", "served/dangling"),
-    ] {
-        symlink(rt, target, joined(alloc, folder, link)?.as_str())?;
+fn fill_folder<R: Runtime + AllocGlobal + Processes + Abort>(rt: &R, folder: &str) {
+    make_folder(rt, folder, "served/sub");
+    write_file(rt, folder, "served/a", b"A\nB");
+    write_file(rt, folder, "served/sub/b", b"BB");
+    write_file(rt, folder, "secret", b"S");
+    for &(link, target) in &LINKS {
+        make_link(rt, folder, link, target);
     }
-    let fifo = joined(alloc, folder, "served/fifo")?;
-    Command::new(alloc, "mkfifo")?
-        .arg(fifo.as_str())?
-        .status(rt)?;
-    Ok(())
+    make_fifo(rt, folder, "served/fifo");
 }
+
+/// Names that are not opened, and why.
+const REFUSED: [(&str, StoreFault); 7] = [
+    ("none", StoreFault::Missing),
+    ("a/b", StoreFault::Missing),
+    ("sub", StoreFault::Missing),
+    ("dangling", StoreFault::Missing),
+    ("outer", StoreFault::Io),
+    ("up/secret", StoreFault::Io),
+    ("fifo", StoreFault::Io),
+];
 
 /// Which names of a folder are opened: regular files in it, through links that stay in it.
 #[test]
-fn opens_what_is_in_the_folder(rt: HostRuntime) -> Result<(), Fail> {
-    let folder = scratch_folder(&rt, process::id(rt.process()), "opens")?;
+fn opens_what_is_in_the_folder(rt: HostRuntime) {
+    let folder = scratch_folder(&rt, process::id(rt.process()), "opens");
     let folder = folder.as_str();
-    fill_folder(&rt, folder)?;
-    let served = joined(rt.alloc(), folder, "served")?;
-    let store = FolderStore::new(rt, rt.alloc(), served.as_str())?;
-    opens(&rt, &store, "a", Mode::Octet, b"A\nB")?;
-    opens(&rt, &store, "a", Mode::Netascii, b"A\r\nB")?;
-    opens(&rt, &store, "inner", Mode::Octet, b"BB")?;
-    for &(name, fault) in &[
-        ("none", StoreFault::Missing),
-        ("a/b", StoreFault::Missing),
-        ("sub", StoreFault::Missing),
-        ("dangling", StoreFault::Missing),
-        ("outer", StoreFault::Io),
-        ("up/secret", StoreFault::Io),
-        ("fifo", StoreFault::Io),
-    ] {
-        refuses(&rt, &store, name, fault)?;
+    fill_folder(&rt, folder);
+    let served = joined(&rt, folder, "served");
+    let store = FolderStore::new(rt, rt.alloc(), served.as_str()).expect(&rt, "a folder");
+    opens(&rt, &store, "a", Mode::Octet, b"A\nB");
+    opens(&rt, &store, "a", Mode::Netascii, b"A\r\nB");
+    opens(&rt, &store, "inner", Mode::Octet, b"BB");
+    for &(name, fault) in &REFUSED {
+        refuses(&rt, &store, name, fault);
     }
-    fs::remove_dir_all(&rt, folder)?;
-    Ok(())
+    remove_folder(&rt, folder);
 }
 
-/// A file has these contents.
-fn holds<R: Runtime + AllocGlobal + Abort>(rt: &R, file: &str, wanted: &str) -> Result<(), Fail> {
-    let text = fs::read_to_string(rt, file)?;
-    expect_text(rt, text.as_str(), wanted, file);
-    Ok(())
+/// The path of every draft here.
+fn n(rt: &impl Abort, alloc: Global) -> Path {
+    path(rt, alloc, "n")
+}
+
+/// Begins a draft that may replace a file, and puts these bytes in it.
+fn drafted<S: Store>(
+    rt: &impl Abort,
+    alloc: Global,
+    store: &mut S,
+    replace: bool,
+    bytes: &[u8],
+) -> S::Draft {
+    let path = n(rt, alloc);
+    let mut draft = store.begin(alloc, &path, replace).expect(rt, "a draft");
+    store
+        .append(&mut draft, bytes)
+        .expect(rt, "bytes of a draft");
+    draft
 }
 
 /// A file gets its name at the commit alone, and its draft is gone then.
 #[test]
-fn names_at_the_commit(rt: HostRuntime) -> Result<(), Fail> {
+fn names_at_the_commit(rt: HostRuntime) {
     let alloc = rt.alloc();
-    let folder = scratch_folder(&rt, process::id(rt.process()), "names")?;
-    let target = joined(alloc, folder.as_str(), "n")?;
-    let name = joined(alloc, folder.as_str(), ".tftp-4711")?;
-    let mut store = FolderStore::new(rt, alloc, folder.as_str())?;
-    let n = path(alloc, "n")?;
-    fs::write(&rt, name.as_str(), "left over from an older transfer")?;
+    let folder = scratch_folder(&rt, process::id(rt.process()), "names");
+    let folder = folder.as_str();
+    write_file(
+        &rt,
+        folder,
+        ".tftp-4711",
+        b"left over from an older transfer",
+    );
+    let mut store = FolderStore::new(rt, alloc, folder).expect(&rt, "a folder");
     store.set_port(4711);
-    let mut draft = store.begin(alloc, &n, false)?;
-    store.append(&mut draft, b"first")?;
-    expect(&rt, !fs::exists(&rt, target.as_str())?, "before its commit");
-    store.commit(&n, &mut draft, false)?;
-    holds(&rt, target.as_str(), "first")?;
-    expect(&rt, !fs::exists(&rt, name.as_str())?, "after its commit");
-    fs::remove_dir_all(&rt, folder.as_str())?;
-    Ok(())
+    let mut draft = drafted(&rt, alloc, &mut store, false, b"first");
+    lacks(&rt, folder, "n");
+    expect(&rt, has_file(&rt, folder, ".tftp-4711"), "the draft");
+    store
+        .commit(&n(&rt, alloc), &mut draft, false)
+        .expect(&rt, "the commit");
+    has_bytes(&rt, folder, "n", b"first");
+    lacks(&rt, folder, ".tftp-4711");
+    remove_folder(&rt, folder);
 }
 
 /// A file takes another's place only where that is told.
 #[test]
-fn replaces_where_told(rt: HostRuntime) -> Result<(), Fail> {
+fn replaces_where_told(rt: HostRuntime) {
     let alloc = rt.alloc();
-    let folder = scratch_folder(&rt, process::id(rt.process()), "replaces")?;
-    let target = joined(alloc, folder.as_str(), "n")?;
-    fs::write(&rt, target.as_str(), "first")?;
-    let mut store = FolderStore::new(rt, alloc, folder.as_str())?;
-    let n = path(alloc, "n")?;
-    let begun = store.begin(alloc, &n, false).err();
+    let folder = scratch_folder(&rt, process::id(rt.process()), "replaces");
+    let folder = folder.as_str();
+    write_file(&rt, folder, "n", b"first");
+    let mut store = FolderStore::new(rt, alloc, folder).expect(&rt, "a folder");
+    let path = n(&rt, alloc);
+    let begun = store.begin(alloc, &path, false).err();
     expect_equal(&rt, &begun, &Some(StoreFault::Exists), "the beginning");
-    let mut draft = store.begin(alloc, &n, true)?;
-    store.append(&mut draft, b"second")?;
-    let committed = store.commit(&n, &mut draft, false);
+    let mut draft = drafted(&rt, alloc, &mut store, true, b"second");
+    let committed = store.commit(&path, &mut draft, false);
     expect_equal(&rt, &committed, &Err(StoreFault::Exists), "the commit");
-    holds(&rt, target.as_str(), "first")?;
-    store.commit(&n, &mut draft, true)?;
-    holds(&rt, target.as_str(), "second")?;
-    fs::remove_dir_all(&rt, folder.as_str())?;
-    Ok(())
+    has_bytes(&rt, folder, "n", b"first");
+    store
+        .commit(&path, &mut draft, true)
+        .expect(&rt, "the commit");
+    has_bytes(&rt, folder, "n", b"second");
+    remove_folder(&rt, folder);
 }

@@ -3,10 +3,11 @@
 //! A test knows of no file but its own program. So that program plays the others: run with the name of one
 //! of the first two tests here and further words, it is `tftp` or `tftpd` with these words.
 
-use std::alloc::Global;
+use crate::expect::expect;
 use std::env;
 use std::io::{BufRead, BufReader, Read};
-use std::process::{Command, Processes};
+use std::net::SocketAddr;
+use std::process::{Abort, Child, Command, OpenProcess, Processes, Stdio};
 use std::rt::Runtime;
 use std::test::Fail;
 
@@ -41,19 +42,30 @@ fn tftpd(rt: HostRuntime) -> Result<(), Fail> {
     Ok(())
 }
 
+/// The name of this program.
+fn own_name<R: Runtime + AllocGlobal + Abort>(rt: &R) -> String {
+    let mut words = env::args(rt).expect(rt, "a command line");
+    words.next().expect(rt, "a program has a name")
+}
+
+/// Appends words to a command.
+fn append_words(rt: &impl Abort, command: &mut Command, words: &[&str]) {
+    for word in words {
+        command.arg(*word).expect(rt, "memory");
+    }
+}
+
 /// A command that runs this program as the other.
-pub(crate) fn program<R: Runtime + AllocGlobal>(
+pub(crate) fn program<R: Runtime + AllocGlobal + Abort>(
     rt: &R,
     name: &str,
     words: &[&str],
-) -> Result<Command, Fail> {
-    let own = env::args(rt)?.next().ok_or("a program has a name")?;
-    let mut command = Command::new(rt.alloc(), own.as_str())?;
-    command.arg(name)?;
-    for word in words {
-        command.arg(*word)?;
-    }
-    Ok(command)
+) -> Command {
+    let own = own_name(rt);
+    let mut command = Command::new(rt.alloc(), own.as_str()).expect(rt, "memory");
+    append_words(rt, &mut command, &[name]);
+    append_words(rt, &mut command, words);
+    command
 }
 
 /// What a shell runs so that no file of a program grows beyond some kilobytes, and a longer one is an error
@@ -61,44 +73,168 @@ pub(crate) fn program<R: Runtime + AllocGlobal>(
 const LIMITED: &str = "trap '' XFSZ; ulimit -f 8; exec \"$@\"";
 
 /// A command that runs this program as the other, where files may not grow.
-pub(crate) fn limited_program<R: Runtime + AllocGlobal>(
+pub(crate) fn limited_program<R: Runtime + AllocGlobal + Abort>(
     rt: &R,
     name: &str,
     words: &[&str],
-) -> Result<Command, Fail> {
-    let own = env::args(rt)?.next().ok_or("a program has a name")?;
-    let mut command = Command::new(rt.alloc(), "sh")?;
-    for word in ["-c", LIMITED, "sh", own.as_str(), name] {
-        command.arg(word)?;
-    }
-    for word in words {
-        command.arg(*word)?;
-    }
-    Ok(command)
+) -> Command {
+    let own = own_name(rt);
+    let mut command = Command::new(rt.alloc(), "sh").expect(rt, "memory");
+    append_words(rt, &mut command, &["-c", LIMITED, "sh", own.as_str(), name]);
+    append_words(rt, &mut command, words);
+    command
+}
+
+/// What a program wrote, as text.
+fn text_in<'a>(rt: &impl Abort, bytes: &'a [u8]) -> &'a str {
+    str::from_utf8(bytes).expect(rt, "what a program prints")
 }
 
 /// All that a program prints, its standard output before its standard error.
-pub(crate) fn told<R: Runtime + AllocGlobal + Processes>(
+pub(crate) fn told<R: Runtime + AllocGlobal + Processes + Abort>(
     rt: &R,
     name: &str,
     words: &[&str],
-) -> Result<String, Fail> {
-    let output = program(rt, name, words)?.output(rt)?;
+) -> String {
+    let output = program(rt, name, words).output(rt).expect(rt, name);
     let mut told = String::new(rt.alloc());
-    told.push_str(str::from_utf8(output.stdout.as_slice())?)?;
-    told.push_str(str::from_utf8(output.stderr.as_slice())?)?;
-    Ok(told)
+    for stream in [&output.stdout, &output.stderr] {
+        let text = text_in(rt, stream.as_slice());
+        told.push_str(text).expect(rt, "memory");
+    }
+    told
 }
 
-/// Where a server listens, by the first line that it prints, and what it prints then.
-pub(crate) fn listening<P: Read + Drop>(
-    alloc: Global,
-    printed: P,
-) -> Result<(BufReader<P>, String), Fail> {
-    let mut printed = BufReader::new(alloc, printed)?;
-    let mut line = String::new(alloc);
-    printed.read_line(&mut line)?;
+/// A program prints this, among other lines.
+pub(crate) fn prints<R: Runtime + AllocGlobal + Processes + Abort>(
+    rt: &R,
+    name: &str,
+    words: &[&str],
+    wanted: &str,
+) {
+    let told = told(rt, name, words);
+    expect(rt, told.as_str().contains(wanted), told.as_str());
+}
+
+/// Starts a client with these words.
+pub(crate) fn client<R: Runtime + AllocGlobal + Processes + Abort>(
+    rt: &R,
+    words: &[&str],
+) -> Child<R::Started> {
+    let mut command = program(rt, "programs::tftp", words);
+    command
+        .stdout(Stdio::piped())
+        .spawn(rt)
+        .expect(rt, "a client starts")
+}
+
+/// What a client has printed at its end.
+pub(crate) fn printed_by<R: AllocGlobal + Abort, P: OpenProcess + Drop>(
+    rt: &R,
+    client: Child<P>,
+) -> String {
+    let output = client
+        .wait_with_output(rt.alloc())
+        .expect(rt, "a client ends");
+    let text = text_in(rt, output.stdout.as_slice());
+    String::from_str(rt.alloc(), text).expect(rt, "memory")
+}
+
+/// A client has ended, and printed this among other lines.
+pub(crate) fn ends_with<R: AllocGlobal + Abort, P: OpenProcess + Drop>(
+    rt: &R,
+    client: Child<P>,
+    wanted: &str,
+) {
+    let told = printed_by(rt, client);
+    expect(rt, told.as_str().contains(wanted), told.as_str());
+}
+
+/// A server that a test has started.
+#[derive(Drop)]
+pub(crate) struct Served<P: OpenProcess + Drop> {
+    process: Child<P>,
+    printed: BufReader<P::Stdout>,
+    /// Where it listens.
+    pub(crate) address: String,
+}
+
+/// Starts a server with these words.
+pub(crate) fn serve<R: Runtime + AllocGlobal + Processes + Abort>(
+    rt: &R,
+    words: &[&str],
+) -> Served<R::Started> {
+    let mut command = program(rt, "programs::tftpd", words);
+    start(rt, &mut command)
+}
+
+/// Starts a server by this command.
+pub(crate) fn start<R: AllocGlobal + Processes + Abort>(
+    rt: &R,
+    command: &mut Command,
+) -> Served<R::Started> {
+    let mut process = command
+        .stdout(Stdio::piped())
+        .spawn(rt)
+        .expect(rt, "a server starts");
+    let printed = process.stdout.take().expect(rt, "the server prints");
+    let mut printed = BufReader::new(rt.alloc(), printed).expect(rt, "memory");
+    let address = address_in(rt, &mut printed);
+    Served {
+        process,
+        printed,
+        address,
+    }
+}
+
+/// Where a server listens, by the first line that it prints.
+fn address_in<R: AllocGlobal + Abort, P: Read + Drop>(
+    rt: &R,
+    printed: &mut BufReader<P>,
+) -> String {
+    let mut line = String::new(rt.alloc());
+    printed
+        .read_line(&mut line)
+        .expect(rt, "a line of a server");
     let line = line.as_str().trim_end();
-    let address = line.strip_prefix("listening ").ok_or("the server listens")?;
-    Ok((printed, String::from_str(alloc, address)?))
+    let address = line.strip_prefix("listening ").expect(rt, line);
+    String::from_str(rt.alloc(), address).expect(rt, "memory")
+}
+
+impl<P: OpenProcess + Drop> Served<P> {
+    /// Where it listens.
+    pub(crate) fn socket_address(&self, rt: &impl Abort) -> SocketAddr {
+        let address = self.address.as_str();
+        address.parse::<SocketAddr>().expect(rt, address)
+    }
+
+    /// What it prints until it ends.
+    pub(crate) fn finish<R: AllocGlobal + Abort>(mut self, rt: &R) -> String {
+        let mut rest = String::new(rt.alloc());
+        self.printed
+            .read_to_string(&mut rest)
+            .expect(rt, "the lines of a server");
+        self.process.wait().expect(rt, "a server ends");
+        rest
+    }
+
+    /// What it writes on standard error until it ends, where that is a pipe.
+    pub(crate) fn log<R: AllocGlobal + Abort>(self, rt: &R) -> String {
+        let Served {
+            process,
+            printed: _printed,
+            ..
+        } = self;
+        let output = process
+            .wait_with_output(rt.alloc())
+            .expect(rt, "a server ends");
+        let log = text_in(rt, output.stderr.as_slice());
+        String::from_str(rt.alloc(), log).expect(rt, "memory")
+    }
+
+    /// Ends it, whatever it does.
+    pub(crate) fn kill(mut self, rt: &impl Abort) {
+        self.process.kill().expect(rt, "a server is killed");
+        self.process.wait().expect(rt, "a server ends");
+    }
 }

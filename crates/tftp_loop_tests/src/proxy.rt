@@ -1,10 +1,9 @@
 //! A proxy between one client and a server that loses, doubles and reorders datagrams by a seed.
 
-use crate::test_server::loopback_socket;
+use crate::test_server::{loopback_socket, send};
 use std::alloc::Global;
 use std::net::{Net, SocketAddr, UdpSocket};
-use std::process::{Child, OpenProcess};
-use std::test::Fail;
+use std::process::{Abort, Child, OpenProcess};
 use std::time::Duration;
 
 /// The most turns of a proxy, each of some milliseconds.
@@ -41,31 +40,31 @@ pub(crate) struct Proxy {
 }
 
 /// A socket that waits for a moment only.
-fn hasty_socket<N: Net>(net: &N) -> Result<UdpSocket, Fail> {
-    let socket = loopback_socket(net)?;
-    socket.set_read_timeout(Some(Duration::from_millis(2)))?;
-    Ok(socket)
+fn hasty_socket<N: Net + Abort>(net: &N) -> UdpSocket {
+    let socket = loopback_socket(net);
+    let moment = Some(Duration::from_millis(2));
+    socket.set_read_timeout(moment).expect(net, "a time-out");
+    socket
 }
 
 impl Proxy {
-    pub(crate) fn new<N: Net>(
+    pub(crate) fn new<N: Net + AllocGlobal + Abort>(
         net: &N,
-        alloc: Global,
-        server: &str,
+        server: SocketAddr,
         seed: u64,
-    ) -> Result<Proxy, Fail> {
-        Ok(Proxy {
-            alloc,
-            requests: hasty_socket(net)?,
-            answers: hasty_socket(net)?,
-            server_side: hasty_socket(net)?,
-            server: server.parse::<SocketAddr>()?,
+    ) -> Proxy {
+        Proxy {
+            alloc: net.alloc(),
+            requests: hasty_socket(net),
+            answers: hasty_socket(net),
+            server_side: hasty_socket(net),
+            server,
             client: None,
             transfer: None,
             to_client: Lane { late: None },
             to_server: Lane { late: None },
             seed,
-        })
+        }
     }
 
     /// Where the client sends its request.
@@ -88,79 +87,92 @@ impl Proxy {
     }
 
     /// Passes datagrams on until the client has ended.
-    pub(crate) fn run<P: OpenProcess>(&mut self, client: &mut Child<P>) -> Result<(), Fail> {
-        let mut buffer = Vec::from_elem(self.alloc, 0u8, 65_536)?;
+    pub(crate) fn run<P: OpenProcess>(&mut self, rt: &impl Abort, client: &mut Child<P>) {
+        let mut buffer = Vec::from_elem(self.alloc, 0u8, 65_536).expect(rt, "memory");
         for _ in 0..MOST_TURNS {
-            self.turn(buffer.as_mut_slice())?;
-            if client.try_wait()?.is_some() {
-                return Ok(());
+            self.pass_request(rt, buffer.as_mut_slice());
+            self.pass_to_server(rt, buffer.as_mut_slice());
+            self.pass_to_client(rt, buffer.as_mut_slice());
+            let ended = client.try_wait().expect(rt, "whether the client has ended");
+            if ended.is_some() {
+                return;
             }
         }
-        Ok(())
     }
 
-    /// Passes on what is there.
-    fn turn(&mut self, buffer: &mut [u8]) -> Result<(), Fail> {
-        if let Ok((count, from)) = self.requests.recv_from(buffer) {
-            self.client = Some(from);
-            // A request is lost at most: a second one could open a second transfer.
-            if !matches!(self.fate(), Fate::Lost) {
-                self.server_side.send_to(&buffer[..count], self.server)?;
-            }
+    /// Passes on a request. It is lost at most: a second one could open a second transfer.
+    fn pass_request(&mut self, rt: &impl Abort, buffer: &mut [u8]) {
+        let Ok((count, from)) = self.requests.recv_from(buffer) else {
+            return;
+        };
+        self.client = Some(from);
+        if !matches!(self.fate(), Fate::Lost) {
+            send(rt, &self.server_side, &buffer[..count], self.server);
         }
-        if let (Ok((count, _)), Some(to)) = (self.answers.recv_from(buffer), self.transfer) {
+    }
+
+    /// Passes on what the client sends to its transfer.
+    fn pass_to_server(&mut self, rt: &impl Abort, buffer: &mut [u8]) {
+        let (Ok((count, _)), Some(to)) = (self.answers.recv_from(buffer), self.transfer) else {
+            return;
+        };
+        let fate = self.fate();
+        let late = &mut self.to_server.late;
+        pass(
+            rt,
+            self.alloc,
+            &self.server_side,
+            late,
+            fate,
+            to,
+            &buffer[..count],
+        );
+    }
+
+    /// Passes on what the transfer sends to its client.
+    fn pass_to_client(&mut self, rt: &impl Abort, buffer: &mut [u8]) {
+        let (Ok((count, from)), Some(to)) = (self.server_side.recv_from(buffer), self.client) else {
+            return;
+        };
+        let transfer = self.transfer.unwrap_or(from);
+        self.transfer = Some(transfer);
+        if transfer == from {
             let fate = self.fate();
+            let late = &mut self.to_client.late;
             pass(
+                rt,
                 self.alloc,
-                &self.server_side,
-                &mut self.to_server,
+                &self.answers,
+                late,
                 fate,
                 to,
                 &buffer[..count],
-            )?;
+            );
         }
-        if let (Ok((count, from)), Some(to)) = (self.server_side.recv_from(buffer), self.client) {
-            let transfer = self.transfer.unwrap_or(from);
-            self.transfer = Some(transfer);
-            if transfer == from {
-                let fate = self.fate();
-                pass(
-                    self.alloc,
-                    &self.answers,
-                    &mut self.to_client,
-                    fate,
-                    to,
-                    &buffer[..count],
-                )?;
-            }
-        }
-        Ok(())
     }
 }
 
 /// Sends a datagram as its fate says.
 fn pass(
+    rt: &impl Abort,
     alloc: Global,
     socket: &UdpSocket,
-    lane: &mut Lane,
+    late: &mut Option<Vec<u8>>,
     fate: Fate,
     to: SocketAddr,
     bytes: &[u8],
-) -> Result<(), Fail> {
+) {
     match fate {
-        Fate::Lost => return Ok(()),
+        Fate::Lost => return,
         Fate::Late => {
-            lane.late = Some(Vec::from_slice(alloc, bytes)?);
-            return Ok(());
+            *late = Some(Vec::from_slice(alloc, bytes).expect(rt, "memory"));
+            return;
         }
-        Fate::Doubled => {
-            socket.send_to(bytes, to)?;
-        }
+        Fate::Doubled => send(rt, socket, bytes, to),
         Fate::Delivered => {}
     }
-    socket.send_to(bytes, to)?;
-    if let Some(late) = lane.late.take() {
-        socket.send_to(late.as_slice(), to)?;
+    send(rt, socket, bytes, to);
+    if let Some(late) = late.take() {
+        send(rt, socket, late.as_slice(), to);
     }
-    Ok(())
 }

@@ -1,27 +1,90 @@
-//! A folder for one test.
+//! A folder for one test, and the files in it.
 
-use std::alloc::Global;
+use crate::expect::expect;
+use std::os::unix::fs::symlink;
+use std::process::{Abort, Command, Processes};
 use std::rt::Runtime;
-use std::test::Fail;
-use std::{env, fs, process};
+use std::{env, fs};
 
 /// A new folder among the system's temporary ones.
-pub(crate) fn scratch_folder<R: Runtime + AllocGlobal>(
+pub(crate) fn scratch_folder<R: Runtime + AllocGlobal + Abort>(
     rt: &R,
     id: u32,
     name: &str,
-) -> Result<String, Fail> {
-    let temp = env::temp_dir(rt)?;
+) -> String {
+    let temp = env::temp_dir(rt).expect(rt, "a folder for temporary files");
     let temp = temp.as_path().as_str();
-    let folder = format!(in rt.alloc(); "{temp}/tftp-{name}-{id}")?;
-    fs::create_dir_all(rt, folder.as_str())?;
-    Ok(folder)
+    let folder = format!(in rt.alloc(); "{temp}/tftp-{name}-{id}").expect(rt, "memory");
+    fs::create_dir_all(rt, folder.as_str()).expect(rt, name);
+    folder
 }
 
 /// The path of a name in a folder.
-pub(crate) fn joined(alloc: Global, folder: &str, name: &str) -> Result<String, Fail> {
-    let mut path = String::from_str(alloc, folder)?;
-    path.push('/')?;
-    path.push_str(name)?;
-    Ok(path)
+pub(crate) fn joined<R: AllocGlobal + Abort>(rt: &R, folder: &str, name: &str) -> String {
+    format!(in rt.alloc(); "{folder}/{name}").expect(rt, "memory")
+}
+
+/// Makes a file of a folder.
+pub(crate) fn write_file<R: Runtime + AllocGlobal + Abort>(
+    rt: &R,
+    folder: &str,
+    name: &str,
+    bytes: &[u8],
+) {
+    let file = joined(rt, folder, name);
+    fs::write(rt, file.as_str(), bytes).expect(rt, name);
+}
+
+/// A folder has a file of this name, with these bytes.
+pub(crate) fn has_bytes<R: Runtime + AllocGlobal + Abort>(
+    rt: &R,
+    folder: &str,
+    name: &str,
+    wanted: &[u8],
+) {
+    let file = joined(rt, folder, name);
+    let stored = fs::read(rt, file.as_str()).expect(rt, name);
+    // (a file may be long, and is not printed)
+    expect(rt, stored.as_slice() == wanted, name);
+}
+
+/// Whether a folder has a file of this name.
+pub(crate) fn has_file<R: Runtime + AllocGlobal + Abort>(rt: &R, folder: &str, name: &str) -> bool {
+    let file = joined(rt, folder, name);
+    fs::exists(rt, file.as_str()).expect(rt, name)
+}
+
+/// A folder has no file of this name.
+pub(crate) fn lacks<R: Runtime + AllocGlobal + Abort>(rt: &R, folder: &str, name: &str) {
+    expect(rt, !has_file(rt, folder, name), name);
+}
+
+/// Makes a folder in a folder.
+pub(crate) fn make_folder<R: Runtime + AllocGlobal + Abort>(rt: &R, folder: &str, name: &str) {
+    let path = joined(rt, folder, name);
+    fs::create_dir_all(rt, path.as_str()).expect(rt, name);
+}
+
+/// Makes a link of a folder.
+pub(crate) fn make_link<R: Runtime + AllocGlobal + Abort>(
+    rt: &R,
+    folder: &str,
+    name: &str,
+    target: &str,
+) {
+    let link = joined(rt, folder, name);
+    symlink(rt, target, link.as_str()).expect(rt, name);
+}
+
+/// Makes a FIFO of a folder.
+pub(crate) fn make_fifo<R: AllocGlobal + Processes + Abort>(rt: &R, folder: &str, name: &str) {
+    let fifo = joined(rt, folder, name);
+    let mut command = Command::new(rt.alloc(), "mkfifo").expect(rt, "memory");
+    command.arg(fifo.as_str()).expect(rt, "memory");
+    command.status(rt).expect(rt, name);
+}
+
+/// Removes a folder, with all that is in it.
+pub(crate) fn remove_folder<R: Runtime + Abort>(rt: &R, folder: &str) {
+    fs::remove_dir_all(rt, folder).expect(rt, folder);
 }

@@ -1,15 +1,11 @@
 //! Gets and puts in blocks of several sizes and in both modes, of lengths around the ends of blocks, many at
 //! once (RFC 1350, section 6; RFC 2348; RFC 764).
 
-use crate::expect::expect;
-use crate::loopback::{bytes_of, has_served, is_complete};
-use crate::programs::{listening, program};
-use crate::scratch::scratch_folder;
-use std::alloc::Global;
-use std::fs;
-use std::process::{self, Abort, Child, Processes, Stdio};
+use crate::loopback::{bytes_of, has_served, make_file};
+use crate::programs::{client, ends_with, serve};
+use crate::scratch::{has_bytes, joined, remove_folder, scratch_folder};
+use std::process::{self, Abort, Child, Processes};
 use std::rt::Runtime;
-use std::test::Fail;
 
 /// A mode, as an option of `tftp` and as a part of names.
 #[derive(Clone, Copy)]
@@ -37,109 +33,123 @@ enum Way {
 
 const MODES: [Mode; 2] = [Mode::Octet, Mode::Netascii];
 
-/// Where the file of this length lies in the server's folder.
-fn file_of(alloc: Global, folder: &str, length: usize) -> Result<String, Fail> {
-    Ok(format!(in alloc; "{folder}/file{length}")?)
-}
-
-/// What a get has stored, or where a put has it stored.
-fn copy_of(
-    alloc: Global,
-    folder: &str,
+/// A file that travels: which way, in which mode, and how many bytes of it.
+#[derive(Clone, Copy)]
+struct Travel {
     way: Way,
     mode: Mode,
     length: usize,
-) -> Result<String, Fail> {
-    let way = match way {
-        Way::Get => "got",
-        Way::Put => "put",
-    };
-    let mode = mode.name();
-    Ok(format!(in alloc; "{folder}/{way}.{mode}.{length}")?)
 }
 
-/// Starts a client that gets or puts the file of this length, in blocks of this size.
-fn started<R: Runtime + AllocGlobal + Processes>(
+impl Travel {
+    /// The name of the file in the server's folder.
+    fn file<R: AllocGlobal + Abort>(self, rt: &R) -> String {
+        let length = self.length;
+        format!(in rt.alloc(); "file{length}").expect(rt, "memory")
+    }
+
+    /// The name of what it comes to.
+    fn copy<R: AllocGlobal + Abort>(self, rt: &R) -> String {
+        let way = match self.way {
+            Way::Get => "got",
+            Way::Put => "put",
+        };
+        let (mode, length) = (self.mode.name(), self.length);
+        format!(in rt.alloc(); "{way}.{mode}.{length}").expect(rt, "memory")
+    }
+}
+
+/// Starts a client that gets or puts the file, in blocks of this size.
+fn started<R: Runtime + AllocGlobal + Processes + Abort>(
     rt: &R,
     folder: &str,
     address: &str,
     size: &str,
-    way: Way,
-    mode: Mode,
-    length: usize,
-) -> Result<Child<R::Started>, Fail> {
-    let alloc = rt.alloc();
-    let file = file_of(alloc, folder, length)?;
-    let copy = copy_of(alloc, folder, way, mode, length)?;
-    let mode_name = mode.name();
-    let file_name = format!(in alloc; "file{length}")?;
-    let copy_name = format!(in alloc; "put.{mode_name}.{length}")?;
-    let mut words = Vec::new(alloc);
-    match way {
+    travel: Travel,
+) -> Child<R::Started> {
+    let (file, copy) = (travel.file(rt), travel.copy(rt));
+    match travel.way {
         Way::Get => {
-            words.push("get")?;
-            words.push(address)?;
-            words.push(file_name.as_str())?;
-            words.push(copy.as_str())?;
+            let local = joined(rt, folder, copy.as_str());
+            asked(
+                rt,
+                ["get", address, file.as_str(), local.as_str()],
+                size,
+                travel.mode,
+            )
         }
         Way::Put => {
-            words.push("put")?;
-            words.push(address)?;
-            words.push(file.as_str())?;
-            words.push(copy_name.as_str())?;
+            let local = joined(rt, folder, file.as_str());
+            asked(
+                rt,
+                ["put", address, local.as_str(), copy.as_str()],
+                size,
+                travel.mode,
+            )
         }
     }
-    words.push("--blksize")?;
-    words.push(size)?;
-    if let Mode::Netascii = mode {
-        words.push("--netascii")?;
+}
+
+/// Starts a client with these words, a block size and a mode.
+fn asked<R: Runtime + AllocGlobal + Processes + Abort>(
+    rt: &R,
+    words: [&str; 4],
+    size: &str,
+    mode: Mode,
+) -> Child<R::Started> {
+    let [verb, address, first, second] = words;
+    let words = [
+        verb,
+        address,
+        first,
+        second,
+        "--blksize",
+        size,
+        "--netascii",
+    ];
+    match mode {
+        Mode::Netascii => client(rt, &words),
+        Mode::Octet => client(rt, &words[..6]),
     }
-    let mut client = program(rt, "programs::tftp", words.as_slice())?;
-    let child = client.stdout(Stdio::piped()).spawn(rt)?;
-    Ok(child)
 }
 
 /// Files of all lengths travel this way at once, and arrive.
-fn travel<R: Runtime + AllocGlobal + Processes + Abort>(
+fn travel_at_once<R: Runtime + AllocGlobal + Processes + Abort>(
     rt: &R,
     folder: &str,
     address: &str,
     size: &str,
     way: Way,
     lengths: [usize; 6],
-) -> Result<(), Fail> {
-    let alloc = rt.alloc();
-    let mut clients = Vec::new(alloc);
-    for length in lengths {
+) {
+    let mut clients = Vec::new(rt.alloc());
+    for &length in &lengths {
         for &mode in &MODES {
-            clients.push(started(rt, folder, address, size, way, mode, length)?)?;
+            let travel = Travel { way, mode, length };
+            let client = started(rt, folder, address, size, travel);
+            clients.push(client).expect(rt, "memory");
         }
     }
     for client in clients {
-        let output = client.wait_with_output(alloc)?;
-        is_complete(rt, &output)?;
+        ends_with(rt, client, "status 0\n");
     }
-    for length in lengths {
+    for &length in &lengths {
         for &mode in &MODES {
-            arrived(rt, folder, way, mode, length)?;
+            arrived(rt, folder, Travel { way, mode, length });
         }
     }
-    Ok(())
 }
 
 /// A file has arrived whole.
-fn arrived<R: Runtime + AllocGlobal + Abort>(
-    rt: &R,
-    folder: &str,
-    way: Way,
-    mode: Mode,
-    length: usize,
-) -> Result<(), Fail> {
-    let copy = copy_of(rt.alloc(), folder, way, mode, length)?;
-    let stored = fs::read(rt, copy.as_str())?;
-    let wanted = bytes_of(rt.alloc(), length)?;
-    expect(rt, stored.as_slice() == wanted.as_slice(), copy.as_str());
-    Ok(())
+fn arrived<R: Runtime + AllocGlobal + Abort>(rt: &R, folder: &str, travel: Travel) {
+    let wanted = bytes_of(rt, rt.alloc(), travel.length);
+    has_bytes(rt, folder, travel.copy(rt).as_str(), wanted.as_slice());
+}
+
+/// Makes the file of this length in a server's folder.
+fn make<R: Runtime + AllocGlobal + Abort>(rt: &R, folder: &str, length: usize) {
+    let name = format!(in rt.alloc(); "file{length}").expect(rt, "memory");
+    make_file(rt, folder, name.as_str(), length);
 }
 
 /// A server of files of these lengths, and clients that get and put them in blocks of this size.
@@ -148,57 +158,50 @@ fn serves<R: Runtime + AllocGlobal + Processes + Abort>(
     id: u32,
     size: &str,
     lengths: [usize; 6],
-) -> Result<(), Fail> {
-    let alloc = rt.alloc();
-    let name = format!(in alloc; "size{size}")?;
-    let folder = scratch_folder(rt, id, name.as_str())?;
+) {
+    let name = format!(in rt.alloc(); "size{size}").expect(rt, "memory");
+    let folder = scratch_folder(rt, id, name.as_str());
     let folder = folder.as_str();
-    for length in lengths {
-        let file = file_of(alloc, folder, length)?;
-        fs::write(rt, file.as_str(), bytes_of(alloc, length)?.as_slice())?;
+    for &length in &lengths {
+        make(rt, folder, length);
     }
-    let serving = [
+    let address = "127.0.0.1:0";
+    let words = [
         folder,
         "--listen",
-        "127.0.0.1:0",
+        address,
         "--max-block",
         "65464",
         "--transfers",
         "24",
     ];
-    let mut server = program(rt, "programs::tftpd", &serving)?
-        .stdout(Stdio::piped())
-        .spawn(rt)?;
-    let printed = server.stdout.take().ok_or("the server prints")?;
-    let (printed, address) = listening(alloc, printed)?;
-    travel(rt, folder, address.as_str(), size, Way::Get, lengths)?;
-    travel(rt, folder, address.as_str(), size, Way::Put, lengths)?;
-    has_served(rt, printed, 24)?;
-    server.wait()?;
-    fs::remove_dir_all(rt, folder)?;
-    Ok(())
+    let server = serve(rt, &words);
+    travel_at_once(rt, folder, server.address.as_str(), size, Way::Get, lengths);
+    travel_at_once(rt, folder, server.address.as_str(), size, Way::Put, lengths);
+    has_served(rt, server, 24);
+    remove_folder(rt, folder);
 }
 
 #[test]
-fn blocks_of_512(rt: HostRuntime) -> Result<(), Fail> {
+fn blocks_of_512(rt: HostRuntime) {
     let id = process::id(rt.process());
-    serves(&rt, id, "512", [0, 1, 511, 512, 513, 1_536])
+    serves(&rt, id, "512", [0, 1, 511, 512, 513, 1_536]);
 }
 
 #[test]
-fn blocks_of_1428(rt: HostRuntime) -> Result<(), Fail> {
+fn blocks_of_1428(rt: HostRuntime) {
     let id = process::id(rt.process());
-    serves(&rt, id, "1428", [0, 1, 1_427, 1_428, 1_429, 4_284])
+    serves(&rt, id, "1428", [0, 1, 1_427, 1_428, 1_429, 4_284]);
 }
 
 #[test]
-fn blocks_of_8192(rt: HostRuntime) -> Result<(), Fail> {
+fn blocks_of_8192(rt: HostRuntime) {
     let id = process::id(rt.process());
-    serves(&rt, id, "8192", [0, 1, 8_191, 8_192, 8_193, 24_576])
+    serves(&rt, id, "8192", [0, 1, 8_191, 8_192, 8_193, 24_576]);
 }
 
 #[test]
-fn blocks_of_65464(rt: HostRuntime) -> Result<(), Fail> {
+fn blocks_of_65464(rt: HostRuntime) {
     let id = process::id(rt.process());
-    serves(&rt, id, "65464", [0, 1, 65_463, 65_464, 65_465, 196_392])
+    serves(&rt, id, "65464", [0, 1, 65_463, 65_464, 65_465, 196_392]);
 }

@@ -1,25 +1,40 @@
 //! Servers of the tests' own: a few datagrams each, over one socket for requests and one for a transfer.
 
-use std::alloc::Global;
-use std::io;
 use std::net::{Ipv4Addr, Net, SocketAddr, UdpSocket};
-use std::test::Fail;
+use std::process::Abort;
 use std::time::Duration;
 
 /// How long a test waits for a datagram, in seconds.
 const PATIENCE: u64 = 20;
 
 /// A socket at a port of the loopback address that the system chooses.
-pub(crate) fn loopback_socket<N: Net>(net: &N) -> io::Result<UdpSocket> {
-    let socket = UdpSocket::bind(net, SocketAddr::from((Ipv4Addr::LOCALHOST, 0)))?;
-    socket.set_read_timeout(Some(Duration::from_secs(PATIENCE)))?;
-    Ok(socket)
+pub(crate) fn loopback_socket<N: Net + Abort>(net: &N) -> UdpSocket {
+    let any_port = SocketAddr::from((Ipv4Addr::LOCALHOST, 0));
+    let socket = UdpSocket::bind(net, any_port).expect(net, "a socket");
+    let patience = Some(Duration::from_secs(PATIENCE));
+    socket.set_read_timeout(patience).expect(net, "a time-out");
+    socket
 }
 
 /// The address of a socket, as a word of a command line.
-pub(crate) fn address_of(alloc: Global, socket: &UdpSocket) -> Result<String, Fail> {
-    let address = socket.local_addr()?;
-    Ok(format!(in alloc; "{address}")?)
+pub(crate) fn address_of<R: AllocGlobal + Abort>(rt: &R, socket: &UdpSocket) -> String {
+    let address = socket.local_addr().expect(rt, "an address");
+    format!(in rt.alloc(); "{address}").expect(rt, "memory")
+}
+
+/// Sends a datagram.
+pub(crate) fn send(rt: &impl Abort, socket: &UdpSocket, bytes: &[u8], to: SocketAddr) {
+    socket.send_to(bytes, to).expect(rt, "a datagram goes out");
+}
+
+/// The next datagram, in the buffer, and where it came from.
+pub(crate) fn receive<'a>(
+    rt: &impl Abort,
+    socket: &UdpSocket,
+    buffer: &'a mut [u8],
+) -> (&'a [u8], SocketAddr) {
+    let (count, from) = socket.recv_from(buffer).expect(rt, "a datagram comes");
+    (&buffer[..count], from)
 }
 
 /// The number of a DATA, and its bytes.
@@ -31,32 +46,37 @@ fn data_of(datagram: &[u8]) -> Option<(u16, &[u8])> {
 }
 
 /// Takes one put of a file in blocks of 512 bytes, and returns the request and the file.
-pub(crate) fn take_put<N: Net>(
-    net: &N,
-    alloc: Global,
+pub(crate) fn take_put<N: Net + AllocGlobal + Abort>(
+    rt: &N,
     requests: &UdpSocket,
-) -> Result<(Vec<u8>, Vec<u8>), Fail> {
+) -> (Vec<u8>, Vec<u8>) {
     let mut buffer = [0; 600];
-    let (count, client) = requests.recv_from(&mut buffer)?;
-    let request = Vec::from_slice(alloc, &buffer[..count])?;
-    let transfer = loopback_socket(net)?;
-    transfer.send_to(&[0, 4, 0, 0], client)?;
-    let mut file = Vec::new(alloc);
+    let (request, client) = receive(rt, requests, &mut buffer);
+    let request = Vec::from_slice(rt.alloc(), request).expect(rt, "memory");
+    let transfer = loopback_socket(rt);
+    send(rt, &transfer, &[0, 4, 0, 0], client);
+    (request, take_blocks(rt, &transfer))
+}
+
+/// Takes blocks of 512 bytes until one is shorter.
+fn take_blocks<R: AllocGlobal + Abort>(rt: &R, transfer: &UdpSocket) -> Vec<u8> {
+    let mut buffer = [0; 600];
+    let mut file = Vec::new(rt.alloc());
     let mut newest = 0u16;
     for _ in 0..1_000 {
-        let (count, from) = transfer.recv_from(&mut buffer)?;
-        let Some((number, bytes)) = data_of(&buffer[..count]) else {
+        let (datagram, from) = receive(rt, transfer, &mut buffer);
+        let Some((number, bytes)) = data_of(datagram) else {
             continue;
         };
         if number == newest.saturating_add(1) {
             newest = number;
-            file.extend_from_slice(bytes)?;
+            file.extend_from_slice(bytes).expect(rt, "memory");
         }
         let [high, low] = newest.to_be_bytes();
-        transfer.send_to(&[0, 4, high, low], from)?;
+        send(rt, transfer, &[0, 4, high, low], from);
         if number == newest && bytes.len() < 512 {
-            return Ok((request, file));
+            return file;
         }
     }
-    Ok((request, file))
+    file
 }

@@ -1,10 +1,6 @@
 //! Help texts, and command lines that are not understood: each fault names the option and its range.
 
-use crate::expect::expect;
-use crate::programs::told;
-use std::process::{Abort, Processes};
-use std::rt::Runtime;
-use std::test::Fail;
+use crate::programs::prints;
 
 const TFTP: &str = "programs::tftp";
 
@@ -56,22 +52,9 @@ const ROWS: [(&str, &[&str], &str); 14] = [
     ),
 ];
 
-/// A program prints this.
-fn prints<R: Runtime + AllocGlobal + Processes + Abort>(
-    rt: &R,
-    name: &str,
-    words: &[&str],
-    wanted: &str,
-) -> Result<(), Fail> {
-    let told = told(rt, name, words)?;
-    expect(rt, told.as_str().contains(wanted), told.as_str());
-    Ok(())
-}
-
 #[test]
-fn help_and_faults(rt: HostRuntime) -> Result<(), Fail> {
+fn help_and_faults(rt: HostRuntime) {
     for &(name, words, wanted) in &ROWS {
-        prints(&rt, name, words, wanted)?;
+        prints(&rt, name, words, wanted);
     }
-    Ok(())
 }
