@@ -1,6 +1,7 @@
+pub mod Address
 pub mod ClientEnd
+pub mod DiskFault
 pub mod Fallback
-pub mod Folder
 pub mod LogLine
 pub mod Printed
 pub mod ProgressLine

@@ -30,7 +30,10 @@ pub struct Ahead<S> {
 
 impl<S> Ahead<S> {
     /// Over a source with so many bytes of wire text. Nothing is read ahead before the first fill.
-    pub(crate) fn new(alloc: Global, source: S, length: u64) -> Ahead<S> {
+    pub fn new(alloc: Global, source: S, length: u64) -> Ahead<S>
+        ensures source { result.source ≡ source }
+        ensures left { result.left ≡ length }
+    {
         Ahead {
             source,
             left: length,
@@ -41,7 +44,9 @@ impl<S> Ahead<S> {
     }
 
     /// The source. A block that was read ahead is lost.
-    pub(crate) fn into_inner(self) -> S {
+    pub fn into_inner(self) -> S
+        ensures { result ≡ self.source }
+    {
         self.source
     }
 }

@@ -7,7 +7,7 @@ use std::io::{BufWriter, Write};
 use tftp_wire::MAX_BLOCK;
 
 /// The most bytes of a file that are held back until they are written: two of the longest blocks.
-pub(crate) const WRITE_BUFFER: usize = 2 * MAX_BLOCK as usize;
+pub const WRITE_BUFFER: usize = 2 * MAX_BLOCK as usize;
 
 /// A file that has work behind a datagram. What of it fails shows at the next call that needs it.
 pub trait FileWork {

@@ -25,7 +25,7 @@ fn words_of_a_program<R: Runtime + AllocGlobal>(rt: &R) -> Result<Vec<String>, F
 fn tftp(rt: HostRuntime) -> Result<(), Fail> {
     let words = words_of_a_program(&rt)?;
     if words.len() > 1 {
-        let status = tftp_udp::tftp_words(&rt, words.as_slice(), &rt.stderr());
+        let status = tftp_client::tftp_words(&rt, words.as_slice(), &rt.stderr());
         println!(rt; "status {status}")?;
     }
     Ok(())
@@ -36,7 +36,7 @@ fn tftp(rt: HostRuntime) -> Result<(), Fail> {
 fn tftpd(rt: HostRuntime) -> Result<(), Fail> {
     let words = words_of_a_program(&rt)?;
     if words.len() > 1 {
-        let status = tftp_udp::tftpd_words(&rt, words.as_slice());
+        let status = tftp_daemon::tftpd_words(&rt, words.as_slice());
         println!(rt; "status {status}")?;
     }
     Ok(())

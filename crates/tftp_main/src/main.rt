@@ -4,5 +4,5 @@
 use std::process::ExitCode;
 
 fn main(rt: HostRuntime) -> ExitCode {
-    ExitCode::from(tftp_udp::tftp_command(&rt, &rt.stderr()))
+    ExitCode::from(tftp_client::tftp_command(&rt, &rt.stderr()))
 }

@@ -29,7 +29,7 @@ pub(crate) struct Script {
 }
 
 /// Why a script cannot be played.
-#[derive(Clone, Copy, Debug)]
+#[derive(Clone, Copy)]
 pub(crate) enum ScriptFault {
     /// The first faulty line, counted from 1.
     Line(usize),

@@ -4,5 +4,5 @@
 use std::process::ExitCode;
 
 fn main(rt: HostRuntime) -> ExitCode {
-    ExitCode::from(tftp_udp::tftpd_command(&rt))
+    ExitCode::from(tftp_daemon::tftpd_command(&rt))
 }

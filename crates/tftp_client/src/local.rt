@@ -1,0 +1,201 @@
+//! The local file of a client: one that is fetched is written under another name, and named at the
+//! commit; one that is sent is measured first.
+
+ghost use Rattle.std.specs.Prelude.{◌≢◌};
+ghost use Rattle.tftp_file.specs.declared.fault.StoreFault.TheVariants.{Memory};
+
+use std::alloc::Global;
+use std::fs;
+use std::io::{self, BufReader, BufWriter, ErrorKind, Read, Seek, Write};
+use std::rt::Files;
+use tftp_file::{ReadSource, Sink, StoreFault};
+use tftp_host::{Ahead, FileWork, WRITE_BUFFER, length_on_wire, name_fault};
+use tftp_wire::Mode;
+
+/// The bytes that are read into a buffer at once. Blocks of this size and more pass it.
+const READ_BUFFER: usize = 32_768;
+
+/// A reader that keeps its newest error.
+#[derive(Drop)]
+pub(crate) struct ErrorKeeper<F> {
+    reader: F,
+    error: Option<io::Error>,
+}
+
+impl<F: Read> Read for ErrorKeeper<F> {
+    ghost remaining = { λ keeper. F.remaining keeper.reader };
+
+    fn read(&mut self, buffer: &mut [u8]) -> io::Result<usize> {
+        match self.reader.read(buffer) {
+            Ok(count) => Ok(count),
+            Err(error) => {
+                let kind = error.kind();
+                self.error = Some(error);
+                Err(io::Error::from(kind))
+            }
+        }
+    }
+}
+
+/// The source of a file that is sent.
+pub(crate) type LocalSource<F> = Ahead<ReadSource<BufReader<ErrorKeeper<F>>>>;
+
+/// A file that is sent, and its lengths.
+#[derive(Drop)]
+pub(crate) struct Outbound<F: Read + Drop> {
+    pub(crate) source: LocalSource<F>,
+    /// The bytes of the file.
+    pub(crate) host_bytes: u64,
+    /// The bytes of its text on the wire, or `MAX_WIRE + 1` where they are more.
+    pub(crate) wire_bytes: u64,
+}
+
+impl<F: Read + Seek + Drop> Outbound<F> {
+    /// Opens a regular file to be sent. What is no regular file is refused before it is opened,
+    /// since opening a FIFO would wait.
+    pub(crate) fn open<R: Files<File = F>>(
+        files: &R,
+        alloc: Global,
+        local: &str,
+        mode: Mode,
+    ) -> io::Result<Outbound<F>> {
+        let found = fs::metadata(files, local)?;
+        if !found.is_file() {
+            return Err(io::Error::from(ErrorKind::InvalidInput));
+        }
+        let mut file = fs::open(files, local)?;
+        let host_bytes = found.len();
+        let Ok(wire_bytes) = length_on_wire(&mut file, mode, host_bytes) else {
+            return Err(io::Error::from(ErrorKind::InvalidData));
+        };
+        let reader = ErrorKeeper {
+            reader: file,
+            error: None,
+        };
+        let reader = BufReader::with_capacity(alloc, READ_BUFFER, reader)?;
+        Ok(Outbound {
+            source: Ahead::new(alloc, ReadSource::new(reader, mode), wire_bytes),
+            host_bytes,
+            wire_bytes,
+        })
+    }
+}
+
+/// Why a file could not be read further, once it could not.
+pub(crate) fn read_error<F: Read + Drop>(source: LocalSource<F>) -> Option<io::Error> {
+    source.into_inner().into_inner().into_inner().error
+}
+
+/// A file `LOCAL` that is being fetched, as `LOCAL.part`. It gets its name at the commit, and stays
+/// as it is if there is none.
+#[derive(Drop)]
+pub(crate) struct LocalFile<R: Files + Drop> {
+    files: R,
+    writer: BufWriter<R::File>,
+    local: String,
+    part: String,
+    count: u64,
+    error: Option<io::Error>,
+}
+
+impl<R: Files + Drop> LocalFile<R> {
+    /// A new file, in the place of an old `LOCAL.part`. `AlreadyExists` if there is a `LOCAL`.
+    pub(crate) fn create(files: R, alloc: Global, local: &str) -> io::Result<LocalFile<R>> {
+        if fs::symlink_metadata(&files, local).is_ok() {
+            return Err(io::Error::from(ErrorKind::AlreadyExists));
+        }
+        let part = format!(in alloc; "{local}.part")?;
+        let file = fs::create(&files, part.as_str())?;
+        Ok(LocalFile {
+            files,
+            writer: BufWriter::with_capacity(alloc, WRITE_BUFFER, file)?,
+            local: String::from_str(alloc, local)?,
+            part,
+            count: 0,
+            error: None,
+        })
+    }
+
+    /// The bytes that were stored.
+    pub(crate) fn count(&self) -> u64 {
+        self.count
+    }
+
+    /// Why the newest bytes were not stored, or the file was not named.
+    pub(crate) fn into_error(self) -> Option<io::Error> {
+        self.error
+    }
+
+    /// Records why a call failed, and returns its fault.
+    fn record_error(&mut self, error: io::Error) -> StoreFault
+        ensures { result ≢ Memory }
+    {
+        let fault = name_fault(&error, false);
+        self.error = Some(error);
+        fault
+    }
+
+    /// Names the file, if no file has the name. A hard link never takes the place of one; where the
+    /// system makes none, the file is renamed.
+    fn name(&self) -> io::Result<()> {
+        let (part, local) = (self.part.as_str(), self.local.as_str());
+        match fs::hard_link(&self.files, part, local) {
+            Ok(()) => {
+                let _ = fs::remove_file(&self.files, part);
+                Ok(())
+            }
+            Err(error) if error.kind() == ErrorKind::AlreadyExists => Err(error),
+            Err(_) => {
+                if fs::symlink_metadata(&self.files, local).is_ok() {
+                    return Err(io::Error::from(ErrorKind::AlreadyExists));
+                }
+                fs::rename(&self.files, part, local)
+            }
+        }
+    }
+}
+
+impl<R: Files + Drop> FileWork for LocalFile<R> {
+    fn work(&mut self) {
+        self.writer.work();
+    }
+}
+
+impl<R: Files + Drop> Sink for LocalFile<R> {
+    ghost use Rattle.std.specs.Prelude.{None, ⊤};
+
+    ghost meaning = { record {
+      held = λ _. None;
+      may_refuse_append = λ _ _ _. ⊤;
+      may_refuse_commit = λ _ _. ⊤;
+      becomes = λ _ _ _. ⊤;
+    } };
+
+    ghost is_same = { λ _ _. ⊤ };
+
+    ghost stays = { λ _. tt };
+
+    ghost joins = { λ _ _ _ _ _. tt };
+
+    ghost unmoved = { λ _. tt };
+
+    fn append(&mut self, bytes: &[u8]) -> Result<(), StoreFault> {
+        match self.writer.write_all(bytes) {
+            Ok(()) => {
+                self.count = self.count.saturating_add(bytes.len() as u64);
+                Ok(())
+            }
+            Err(error) => Err(self.record_error(error)),
+        }
+    }
+
+    fn commit(&mut self) -> Result<(), StoreFault> {
+        if let Err(error) = self.writer.flush() {
+            return Err(self.record_error(error));
+        }
+        match self.name() {
+            Ok(()) => Ok(()),
+            Err(error) => Err(self.record_error(error)),
+        }
+    }
+}

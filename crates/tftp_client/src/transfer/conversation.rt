@@ -1,0 +1,251 @@
+//! A client's end from its opening to its close, over its socket.
+
+ghost use Rattle.std.specs.Prelude.{◌≡◌, ◌≤◌, length, IfOk};
+ghost use Rattle.tftp_ends.specs.Files.{AreFilesOf};
+
+use crate::transfer::failure::Reason;
+use crate::transfer::socket::ClientSocket;
+use std::alloc::{AllocError, Global};
+use std::time::Clock;
+use tftp_ends::{End, Endpoint, Outcome, Step, decode_packet};
+use tftp_file::{Files, Sink, Source};
+use tftp_host::{
+    DATAGRAM_BUFFER, FileWork, LONGEST_WAIT, LineClock, ProgressLine, Watch, deadline, is_due,
+    read_clock,
+};
+use tftp_wire::{PacketRef, show_ref};
+
+/// The most waits of a transfer.
+const MAX_WAITS: u32 = 1_000_000;
+
+/// What erases the rest of a terminal's line.
+const ERASE_REST: &str = "\x1b[K";
+
+/// A step in which nothing happens.
+const NO_STEP: Step = Step {
+    to: None,
+    progress: false,
+    closed: None,
+};
+
+/// A client's end with its socket and its time.
+#[derive(Drop)]
+pub(crate) struct Conversation {
+    alloc: Global,
+    socket: ClientSocket,
+    end: End,
+    watch: Watch,
+    due: u64,
+    /// The time of the newest progress.
+    advanced_at: u64,
+    buffer: Vec<u8>,
+    /// Where how far it came is shown: when that was last done.
+    lines: Option<LineClock>,
+    /// The bytes of the whole file, where they are known.
+    total: Option<u64>,
+    peer_reason: Reason,
+}
+
+impl Conversation {
+    /// A conversation that begins, after the end's request was sent.
+    pub(crate) fn new<C: Clock>(
+        clock: &C,
+        alloc: Global,
+        socket: ClientSocket,
+        end: End,
+        shows_progress: bool,
+        total: Option<u64>,
+    ) -> Result<Conversation, AllocError>
+        ensures { IfOk result (λ conversation. conversation.end.role.side ≡ end.role.side) }
+    {
+        let watch = Watch::new(read_clock(clock, 0));
+        Ok(Conversation {
+            alloc,
+            socket,
+            end,
+            watch,
+            due: deadline(watch.now, None),
+            advanced_at: watch.now,
+            buffer: Vec::from_elem(alloc, 0u8, DATAGRAM_BUFFER)?,
+            lines: if shows_progress {
+                Some(LineClock::default())
+            } else {
+                None
+            },
+            total,
+            peer_reason: Reason::Unknown,
+        })
+    }
+
+    /// Takes the end to its close. A transfer that takes too many waits has timed out.
+    pub(crate) fn run<C: Clock + Eprint, S: Source + FileWork, K: Sink + FileWork>(
+        &mut self,
+        rt: &C,
+        files: &mut Files<S, K>,
+    ) -> Outcome
+        requires { AreFilesOf self.old.end.role.side files.old }
+    {
+        for _ in 0..MAX_WAITS {
+            if let Some(outcome) = self.turn(rt, files) {
+                return outcome;
+            }
+            self.show(rt);
+        }
+        Outcome::TimedOut
+    }
+
+    /// Waits once, and takes what came or the timeout that is due; returns how the end closed, if
+    /// it did.
+    fn turn<C: Clock, S: Source + FileWork, K: Sink + FileWork>(
+        &mut self,
+        clock: &C,
+        files: &mut Files<S, K>,
+    ) -> Option<Outcome>
+        requires { AreFilesOf self.old.end.role.side files.old }
+        ensures { AreFilesOf self.new.end.role.side files.new }
+    {
+        let wait = self.due.saturating_sub(self.watch.now).min(LONGEST_WAIT);
+        let received = self.socket.receive(wait, self.buffer.as_mut_slice());
+        let reading = read_clock(clock, self.watch.reading);
+        let now = self.watch.advance(reading);
+        let step = match received {
+            Some((from, count)) => self.take_datagram(files, from, count),
+            None => NO_STEP,
+        };
+        if step.closed.is_some() {
+            return step.closed;
+        }
+        if step.progress {
+            self.due = deadline(now, Some(self.end.interval()));
+            self.advanced_at = now;
+            self.work(files);
+            return None;
+        }
+        if !is_due(now, self.due) {
+            return None;
+        }
+        self.due = deadline(now, Some(self.end.interval()));
+        self.take_timeout().closed
+    }
+
+    /// Takes the datagram in the buffer, and sends what goes out. One for whose handling there is
+    /// no memory is a lost one.
+    fn take_datagram<S: Source, K: Sink>(
+        &mut self,
+        files: &mut Files<S, K>,
+        from: Endpoint,
+        count: usize,
+    ) -> Step
+        requires files { AreFilesOf self.old.end.role.side files.old }
+        requires count { count ≤ length self.old.buffer.items }
+        ensures { AreFilesOf self.new.end.role.side files.new }
+    {
+        let bytes = &self.buffer[..count];
+        let Ok((step, outgoing)) = self.end.handle_datagram(files, from, bytes) else {
+            return NO_STEP;
+        };
+        self.socket.send(&step, self.end.bytes_of(outgoing));
+        if let Some(Outcome::PeerError(_)) = step.closed {
+            self.peer_reason = error_line(self.alloc, bytes);
+        }
+        if step.progress && self.lines.is_some() && self.total.is_none() {
+            self.total = told_length(bytes);
+        }
+        step
+    }
+
+    /// Has the end's file do its work, once the datagram is out.
+    fn work<S: FileWork, K: FileWork>(&self, files: &mut Files<S, K>)
+        requires { AreFilesOf self.now.end.role.side files.old }
+        ensures { AreFilesOf self.now.end.role.side files.new }
+    {
+        match files {
+            Files::Source(source) => source.work(),
+            Files::Sink(sink) => sink.work(),
+        }
+    }
+
+    /// Takes a timeout, and sends what goes out.
+    fn take_timeout(&mut self) -> Step
+        ensures { self.new.end.role.side ≡ self.old.end.role.side }
+    {
+        match self.end.handle_timeout() {
+            Ok((step, outgoing)) => {
+                self.socket.send(&step, self.end.bytes_of(outgoing));
+                step
+            }
+            Err(_) => NO_STEP,
+        }
+    }
+
+    /// How far the transfer came: full blocks, since the last one is no wait's.
+    fn progress_line(&self) -> ProgressLine {
+        let record = self.end.record();
+        let bytes = u64::from(record.number) * u64::from(record.size);
+        ProgressLine {
+            bytes: match self.total {
+                Some(total) => bytes.min(total),
+                None => bytes,
+            },
+            total: self.total,
+            millis: self.advanced_at,
+        }
+    }
+
+    /// Shows how far the transfer came, if that is due.
+    fn show<E: Eprint>(&mut self, rt: &E)
+        ensures { self.new.end ≡ self.old.end }
+    {
+        let Some(lines) = &mut self.lines else {
+            return;
+        };
+        if lines.take_due(self.watch.now) {
+            let line = self.progress_line();
+            let _ = eprint!(rt; "\r{line}{ERASE_REST}");
+        }
+    }
+
+    /// Shows how far it came in the end, and ends the line. `stored` is what a receiver stored, in
+    /// bytes.
+    pub(crate) fn finish<E: Eprint>(&self, rt: &E, stored: Option<u64>) {
+        if self.lines.is_none() {
+            return;
+        }
+        let mut line = self.progress_line();
+        if let Some(bytes) = stored {
+            line.bytes = bytes;
+        }
+        let _ = eprintln!(rt; "\r{line}{ERASE_REST}");
+    }
+
+    /// The ERROR by which the peer gave up, if it did.
+    pub(crate) fn into_peer_reason(self) -> Reason {
+        self.peer_reason
+    }
+}
+
+/// The line of an ERROR.
+fn error_line(alloc: Global, bytes: &[u8]) -> Reason {
+    let Some(packet) = decode_packet(bytes) else {
+        return Reason::Unknown;
+    };
+    let mut line = String::new(alloc);
+    match show_ref(&packet, &mut line) {
+        Ok(()) => Reason::Peer(line),
+        Err(_) => Reason::Unknown,
+    }
+}
+
+/// The length of the file that an OACK tells (RFC 2349, "Transfer Size Option Specification").
+fn told_length(bytes: &[u8]) -> Option<u64> {
+    let Some(PacketRef::Oack(options)) = decode_packet(bytes) else {
+        return None;
+    };
+    for option in options.iter() {
+        if option.name.eq_ignore_ascii_case(b"tsize") {
+            let value = str::from_utf8(option.value).ok()?;
+            return value.parse::<u64>().ok();
+        }
+    }
+    None
+}

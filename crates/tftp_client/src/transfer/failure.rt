@@ -1,0 +1,93 @@
+//! Why a client's transfer failed, and what is known of the reason.
+
+ghost use Rattle.std.specs.Prelude.{◌≡◌};
+ghost use Rattle.tftp_host.specs.declared.client_end.ClientEnd.TheVariants as ends;
+
+use std::alloc::AllocError;
+use std::{fmt, io};
+use tftp_ends::OpenFault;
+use tftp_host::ClientEnd;
+
+/// What is known of the reason of a failure. `{}` writes it in words.
+#[derive(Drop)]
+pub(crate) enum Reason {
+    /// No more than how the program ended.
+    Unknown,
+    /// The ERROR that the peer sent, as a line.
+    Peer(String),
+    /// What the system said.
+    System(io::Error),
+}
+
+impl fmt::Display for Reason {
+    ghost use Rattle.tftp_client.specs.Reason.{reason_text};
+
+    ghost output = { λ reason. reason_text reason };
+
+    fn fmt<W: fmt::Write>(&self, f: &mut fmt::Formatter<W>) -> fmt::Result {
+        match self {
+            Reason::Unknown => f.write_str("no reason is known"),
+            Reason::Peer(line) => f.write_str(line.as_str()),
+            Reason::System(error) => write!(f, "{error}"),
+        }
+    }
+}
+
+/// A transfer that failed, or was not opened.
+#[derive(Drop)]
+pub(crate) struct Failure {
+    /// How the program ends.
+    pub(crate) end: ClientEnd,
+    /// What is known of the reason.
+    pub(crate) reason: Reason,
+}
+
+impl Failure {
+    /// Out of memory.
+    pub(crate) fn memory() -> Failure
+        ensures { result.end ≡ ends.Memory }
+    {
+        Failure {
+            end: ClientEnd::Memory,
+            reason: Reason::Unknown,
+        }
+    }
+
+    /// The local file is there already, or cannot be opened.
+    pub(crate) fn of_file(error: io::Error) -> Failure
+        ensures { result.end ≡ ends.FileFault }
+    {
+        Failure {
+            end: ClientEnd::FileFault,
+            reason: Reason::System(error),
+        }
+    }
+
+    /// There is no socket.
+    pub(crate) fn of_socket(error: io::Error) -> Failure
+        ensures { result.end ≡ ends.SocketFault }
+    {
+        Failure {
+            end: ClientEnd::SocketFault,
+            reason: Reason::System(error),
+        }
+    }
+
+    /// The transfer was not opened.
+    pub(crate) fn of_opening(fault: OpenFault) -> Failure
+        ensures { result.end ≡ ends.NotOpened fault }
+    {
+        Failure {
+            end: ClientEnd::NotOpened(fault),
+            reason: Reason::Unknown,
+        }
+    }
+}
+
+impl From<AllocError> for Failure {
+    ghost from_gives = { λ _ failure. failure.end ≡ ends.Memory };
+
+    fn from(_error: AllocError) -> Failure {
+        Failure::memory()
+    }
+}

@@ -1,0 +1,378 @@
+//! The command line of `tftp`.
+
+ghost use Rattle.std.specs.Prelude.{◌≡◌, ◌≤◌, IfOk, IfErr};
+ghost use Rattle.tftp_host.specs.ClientEnd.{status_of};
+
+use crate::transfer::{Failure, Job, transfer};
+use crate::udp::Udp;
+use clap::error::ErrorKind;
+use clap::{Arg, ArgMatches, Command, value_parser};
+use std::alloc::{AllocError, Global};
+use std::convert::AsStr;
+use std::io::{self, IsTerminal};
+use std::net::Net;
+use std::rt::{Files, Runtime};
+use std::time::Clock;
+use tftp_arguments::{flag, number, own_words, print_usage, word};
+use tftp_host::{ClientEnd, endpoint_in};
+use tftp_negotiate::{Asked, DEFAULT_BLOCK, Kind, MAX_BLOCK, MIN_BLOCK};
+use tftp_wire::Mode;
+
+const EXAMPLES: &str = "\
+Examples:
+  tftp get 192.0.2.1:69 boot.img boot.img --blksize 1428 --tsize --progress
+  tftp put 127.0.0.1:6969 notes.txt notes.txt --netascii";
+
+/// Runs `tftp` with the program's own command line, and returns its status. `errors` is standard error.
+///
+/// See [`tftp_words`].
+pub fn tftp_command<R: Runtime + AllocGlobal + Net, E: IsTerminal>(rt: &R, errors: &E) -> u8
+    ensures { result ≤ 2 }
+{
+    match own_words(rt) {
+        Ok(words) => tftp_words(rt, words.as_slice(), errors),
+        Err(_) => 2,
+    }
+}
+
+/// Runs `tftp` as a command line says, and returns its status. The first word is the program's name;
+/// `errors` is standard error, on which how far a transfer came is shown where it is a terminal.
+///
+/// `--help` and `--version` print and return 0. The status is that of the [`ClientEnd`] whose line is
+/// printed, and 2 for a command line that is not understood, which is reported on standard error, when
+/// out of memory, and where an output cannot be written.
+pub fn tftp_words<R: Runtime + AllocGlobal + Net, S: AsStr, E: IsTerminal>(
+    rt: &R,
+    words: &[S],
+    errors: &E,
+) -> u8
+    ensures { result ≤ 2 }
+{
+    transfer_words(rt, words, errors.is_terminal()).unwrap_or(2)
+}
+
+/// As [`tftp_words`]; it fails when out of memory, or where an output cannot be written.
+fn transfer_words<'a, R: Runtime + AllocGlobal + Net, S: AsStr>(
+    rt: &R,
+    words: &'a [S],
+    has_terminal: bool,
+) -> anyhow::Result<u8>
+    ensures { IfOk result (λ status. status ≤ 2) }
+{
+    let texts = BlockTexts::new(rt.alloc())?;
+    transfer_texts(rt, rt.alloc(), &texts, words, has_terminal)
+}
+
+/// Reads the words, and does what they say.
+fn transfer_texts<'a, R: Files + Clone + Drop + Udp + Clock + Print + Eprint, S: AsStr>(
+    rt: &R,
+    alloc: Global,
+    texts: &'a BlockTexts,
+    words: &'a [S],
+    has_terminal: bool,
+) -> anyhow::Result<u8>
+    ensures { IfOk result (λ status. status ≤ 2) }
+{
+    match read_words(rt, alloc, texts, words, has_terminal) {
+        Ok(ordered) => run_ordered(rt, alloc, &ordered),
+        Err(error) => Err(error),
+    }
+}
+
+/// Does what the words say that were read.
+fn run_ordered<R: Files + Clone + Drop + Udp + Clock + Print + Eprint>(
+    rt: &R,
+    alloc: Global,
+    ordered: &Ordered<'_>,
+) -> anyhow::Result<u8>
+    requires { IfErr ordered.now (λ status. status ≤ 2) }
+    ensures { IfOk result (λ status. status ≤ 2) }
+{
+    match ordered {
+        Ok(order) => Ok(run_order(rt, alloc, order)?),
+        Err(status) => Ok(*status),
+    }
+}
+
+/// What a command line orders.
+#[derive(Clone, Copy)]
+struct Order<'a> {
+    job: Job<'a>,
+    /// The reason of a failure is told.
+    is_verbose: bool,
+}
+
+/// What a command line orders, or the status where it was answered at once.
+type Ordered<'a> = Result<Order<'a>, u8>;
+
+/// Reads the words by what `tftp` understands.
+fn read_words<'a, P: Print + Eprint, S: AsStr>(
+    rt: &P,
+    alloc: Global,
+    texts: &'a BlockTexts,
+    words: &'a [S],
+    has_terminal: bool,
+) -> anyhow::Result<Ordered<'a>>
+    ensures { IfOk result (λ ordered. IfErr ordered (λ status. status ≤ 2)) }
+{
+    match command(alloc, texts) {
+        Ok(mut command) => match_words(rt, &mut command, words, has_terminal),
+        Err(error) => Err(error),
+    }
+}
+
+/// Reads the words by the command.
+fn match_words<'a, P: Print + Eprint, S: AsStr>(
+    rt: &P,
+    command: &mut Command<'a>,
+    words: &'a [S],
+    has_terminal: bool,
+) -> anyhow::Result<Ordered<'a>>
+    ensures { IfOk result (λ ordered. IfErr ordered (λ status. status ≤ 2)) }
+{
+    match command.try_get_matches_from_mut(words) {
+        Ok(matches) => read_matches(rt, command, &matches, has_terminal),
+        Err(error) => Ok(Err(print_usage(rt, &error))),
+    }
+}
+
+/// What the words order that were understood.
+fn read_matches<'a, P: Print + Eprint>(
+    rt: &P,
+    command: &mut Command<'a>,
+    matches: &ArgMatches<'a>,
+    has_terminal: bool,
+) -> anyhow::Result<Ordered<'a>>
+    ensures { IfOk result (λ ordered. IfErr ordered (λ status. status ≤ 2)) }
+{
+    let Some((word, matches)) = matches.subcommand() else {
+        return Ok(Err(2));
+    };
+    match job_of(kind_of(word), matches, has_terminal) {
+        Some(job) => Ok(Ok(Order {
+            job,
+            is_verbose: matches.get_flag("verbose"),
+        })),
+        None => Ok(Err(report_address(rt, command)?)),
+    }
+}
+
+/// What a subcommand asks of the server.
+fn kind_of(word: &str) -> Kind {
+    if word == "put" {
+        Kind::Write
+    } else {
+        Kind::Read
+    }
+}
+
+/// Reports that the word for the server is no address.
+fn report_address<P: Print + Eprint>(rt: &P, command: &mut Command<'_>) -> anyhow::Result<u8>
+    ensures { IfOk result (λ status. status ≤ 2) }
+{
+    let message = "invalid value for '<ADDR:PORT>': not an IPv4 address and a port";
+    let error = command.error(ErrorKind::InvalidValue, message)?;
+    Ok(print_usage(rt, &error))
+}
+
+/// Makes the transfer, prints how it ended, and returns the status.
+fn run_order<R: Files + Clone + Drop + Udp + Clock + Print + Eprint>(
+    rt: &R,
+    alloc: Global,
+    order: &Order<'_>,
+) -> io::Result<u8>
+    ensures { IfOk result (λ status. status ≤ 2) }
+{
+    match transfer(rt, alloc, &order.job) {
+        Ok(count) => print_end(rt, ClientEnd::Complete(count)),
+        Err(failure) => report(rt, &failure, order.is_verbose),
+    }
+}
+
+/// Prints how a transfer ended, and returns the status.
+fn print_end<R: Print + Eprint>(rt: &R, end: ClientEnd) -> io::Result<u8>
+    ensures { IfOk result (λ status. status ≡ status_of end) }
+{
+    match end {
+        ClientEnd::Complete(_) => rt.println(end)?,
+        _ => rt.eprintln(end)?,
+    }
+    Ok(end.status())
+}
+
+/// Prints how a transfer failed, and why where that is told too, and returns the status.
+fn report<R: Print + Eprint>(rt: &R, failure: &Failure, is_verbose: bool) -> io::Result<u8>
+    ensures { IfOk result (λ status. status ≡ status_of failure.now.end) }
+{
+    let status = print_end(rt, failure.end)?;
+    if is_verbose {
+        let reason = &failure.reason;
+        eprintln!(rt; "tftp: {reason}")?;
+    }
+    Ok(status)
+}
+
+/// What the words of a command line that is understood say, if the address is one.
+fn job_of<'a>(kind: Kind, matches: &ArgMatches<'a>, has_terminal: bool) -> Option<Job<'a>> {
+    let is_netascii = matches.get_flag("netascii");
+    Some(Job {
+        kind,
+        server: endpoint_in(matches.get_str("ADDR:PORT")?)?,
+        name: matches.get_str("NAME")?,
+        local: matches.get_str("LOCAL")?,
+        mode: if is_netascii {
+            Mode::Netascii
+        } else {
+            Mode::Octet
+        },
+        asked: asked(matches),
+        retries: matches.get_one::<u8>("retries")?,
+        falls_back: matches.get_flag("fallback"),
+        shows_progress: has_terminal && matches.get_flag("progress"),
+    })
+}
+
+/// The options that are asked.
+fn asked(matches: &ArgMatches<'_>) -> Asked {
+    Asked {
+        blksize: matches.get_one::<u16>("blksize"),
+        timeout: matches.get_one::<u8>("timeout"),
+        tsize: if matches.get_flag("tsize") {
+            Some(0)
+        } else {
+            None
+        },
+    }
+}
+
+/// What `tftp` understands.
+fn command<'a>(alloc: Global, texts: &'a BlockTexts) -> anyhow::Result<Command<'a>> {
+    let command = Command::new(alloc, "tftp")
+        .bin_name("tftp")?
+        .about("Transfers a file by TFTP (RFC 1350, RFC 2347 to 2349)")
+        .version("0.1.0")
+        .after_help(EXAMPLES)
+        .subcommand_required(true)
+        .arg_required_else_help(true);
+    let command = command.subcommand(get_command(alloc, texts)?)?;
+    Ok(command.subcommand(put_command(alloc, texts)?)?)
+}
+
+/// What `tftp get` understands.
+fn get_command<'a>(alloc: Global, texts: &'a BlockTexts) -> anyhow::Result<Command<'a>> {
+    let local = word(
+        alloc,
+        "LOCAL",
+        "The path of the file here, which must not exist",
+    );
+    let command = Command::new(alloc, "get").about("Fetches a file");
+    let command = command.arg(server(alloc))?;
+    let command = command.arg(name(alloc))?;
+    with_options(alloc, command.arg(local)?, texts)
+}
+
+/// What `tftp put` understands.
+fn put_command<'a>(alloc: Global, texts: &'a BlockTexts) -> anyhow::Result<Command<'a>> {
+    let local = word(alloc, "LOCAL", "The path of the file here");
+    let command = Command::new(alloc, "put").about("Sends a file");
+    let command = command.arg(server(alloc))?;
+    let command = command.arg(local)?;
+    with_options(alloc, command.arg(name(alloc))?, texts)
+}
+
+/// The word for the server.
+fn server<'a>(alloc: Global) -> Arg<'a> {
+    word(
+        alloc,
+        "ADDR:PORT",
+        "IPv4 address and UDP port of the server's requests",
+    )
+}
+
+/// The word for the file at the server.
+fn name<'a>(alloc: Global) -> Arg<'a> {
+    word(alloc, "NAME", "The name of the file at the server")
+}
+
+/// The options of a transfer.
+fn with_options<'a>(
+    alloc: Global,
+    command: Command<'a>,
+    texts: &'a BlockTexts,
+) -> anyhow::Result<Command<'a>> {
+    let netascii = flag(
+        alloc,
+        "netascii",
+        "The file is text, and travels with CR LF at its line ends",
+    );
+    let command = command.arg(netascii)?;
+    let command = with_asked(alloc, command, texts)?;
+    let retries = number(
+        alloc,
+        "retries",
+        "0..10",
+        value_parser!(u8).range(0..=10),
+        "How often a datagram is sent again without progress, 0 to 10",
+    );
+    let command = command.arg(retries.default_value("5"))?;
+    let fallback = flag(
+        alloc,
+        "fallback",
+        "Tries again without options where the server refuses them",
+    );
+    with_reports(alloc, command.arg(fallback)?)
+}
+
+/// What is told of a transfer on standard error.
+fn with_reports<'a>(alloc: Global, command: Command<'a>) -> anyhow::Result<Command<'a>> {
+    let progress = flag(
+        alloc,
+        "progress",
+        "Shows how far the transfer came, where standard error is a terminal",
+    );
+    let command = command.arg(progress)?;
+    Ok(command.arg(flag(alloc, "verbose", "Tells the reason of a failure in words"))?)
+}
+
+/// What the help says of the block size.
+#[derive(Drop)]
+struct BlockTexts {
+    range: String,
+    help: String,
+}
+
+impl BlockTexts {
+    fn new(alloc: Global) -> Result<BlockTexts, AllocError> {
+        Ok(BlockTexts {
+            range: format!(in alloc; "{MIN_BLOCK}..{MAX_BLOCK}")?,
+            help: format!(in alloc;
+                "Block size that is asked, in bytes, {MIN_BLOCK} to {MAX_BLOCK}; without it blocks have {DEFAULT_BLOCK}"
+            )?,
+        })
+    }
+}
+
+/// The options that are asked of the server.
+fn with_asked<'a>(
+    alloc: Global,
+    command: Command<'a>,
+    texts: &'a BlockTexts,
+) -> anyhow::Result<Command<'a>> {
+    let blksize = number(
+        alloc,
+        "blksize",
+        texts.range.as_str(),
+        value_parser!(u16).range(i64::from(MIN_BLOCK)..=i64::from(MAX_BLOCK)),
+        texts.help.as_str(),
+    );
+    let command = command.arg(blksize)?;
+    let timeout = number(
+        alloc,
+        "timeout",
+        "1..255",
+        value_parser!(u8).range(1..=255),
+        "Timeout that is asked, in seconds, 1 to 255; without it a datagram is sent again after 1",
+    );
+    let command = command.arg(timeout)?;
+    Ok(command.arg(flag(alloc, "tsize", "Asks for the length of the file"))?)
+}

@@ -1,0 +1,450 @@
+//! `tftpd`: a server over UDP, in one thread.
+
+mod report;
+mod sockets;
+mod transfer_port;
+
+ghost use Rattle.tftp_server.specs.Config.{IsConfig};
+
+use crate::daemon::report::{close_port, log_unopened};
+use crate::daemon::sockets::{REQUESTS, Sockets, Spare};
+use crate::daemon::transfer_port::{
+    LogEntry, MOST_AT_ONCE, TransferSocket, Turn, data_length, take_datagrams, take_timeout,
+    timeout_of,
+};
+use crate::folder::FolderStore;
+use crate::udp::Udp;
+use mio::{Events, Token};
+use std::alloc::{AllocError, Global};
+use std::rt::Files;
+use std::time::Clock;
+use tftp_ends::Endpoint;
+use tftp_host::{DATAGRAM_BUFFER, Port, Printed, deadline, is_due, place_of, wait_for};
+use tftp_server::{Config, Server, Store};
+
+/// The most events that one wait reports.
+const MOST_EVENTS: usize = 128;
+
+/// What `tftpd` is told to do.
+#[derive(Clone, Copy)]
+pub(crate) struct Service<'a> {
+    /// The folder whose files are served.
+    pub(crate) root: &'a str,
+    /// Where requests come to.
+    pub(crate) listen: Endpoint,
+    /// What transfers are allowed.
+    pub(crate) config: Config,
+    /// After how many closed transfers it ends.
+    pub(crate) transfers: u32,
+    /// After how many waits it ends.
+    pub(crate) rounds: u32,
+    /// Each request and each close is a line on standard error.
+    pub(crate) logs: bool,
+}
+
+/// Why `tftpd` did not serve, or stopped.
+#[derive(Clone, Copy)]
+pub(crate) enum ServiceFault {
+    /// The root is no folder.
+    File,
+    /// The request port could not be bound.
+    Socket,
+    /// Writing failed.
+    Output,
+    /// Out of memory.
+    Memory,
+}
+
+impl From<AllocError> for ServiceFault {
+    ghost use Rattle.std.specs.Prelude.{◌≡◌};
+    ghost use Rattle.tftp_daemon.specs.declared.daemon.ServiceFault.TheVariants as faults;
+
+    ghost from_gives = { λ _ fault. fault ≡ faults.Memory };
+
+    fn from(_error: AllocError) -> ServiceFault {
+        ServiceFault::Memory
+    }
+}
+
+/// A server with its sockets.
+#[derive(Drop)]
+struct Daemon<R: Files + Drop> {
+    server: Server<FolderStore<R>>,
+    sockets: Sockets,
+    ports: Vec<TransferPort<R>>,
+    out: Vec<u8>,
+    tids: Vec<u16>,
+    logs: bool,
+    alloc: Global,
+}
+
+/// The port of a transfer.
+type TransferPort<R> = Port<TransferSocket<<R as Files>::File>>;
+
+/// Serves until so many transfers have closed, or so many waits are over.
+pub(crate) fn serve<R: Files + Clone + Drop + Udp + Clock + Print + Eprint>(
+    rt: &R,
+    alloc: Global,
+    service: &Service<'_>,
+) -> Result<(), ServiceFault>
+    requires { IsConfig service.now.config }
+{
+    match open_server(rt, alloc, service) {
+        Ok(server) => listen(rt, alloc, server, service),
+        Err(fault) => Err(fault),
+    }
+}
+
+/// A server over the folder.
+fn open_server<R: Files + Clone + Drop>(
+    rt: &R,
+    alloc: Global,
+    service: &Service<'_>,
+) -> Result<Server<FolderStore<R>>, ServiceFault>
+    requires { IsConfig service.now.config }
+{
+    let Ok(files) = rt.clone() else {
+        return Err(ServiceFault::Memory);
+    };
+    let Ok(store) = FolderStore::new(files, alloc, service.root) else {
+        return Err(ServiceFault::File);
+    };
+    match Server::new(alloc, service.config, store) {
+        Ok(server) => Ok(server),
+        Err(_) => Err(ServiceFault::Memory),
+    }
+}
+
+/// Binds the request port, and serves what comes to it.
+fn listen<N: Udp + Clock + Print + Eprint, R: Files + Drop>(
+    rt: &N,
+    alloc: Global,
+    server: Server<FolderStore<R>>,
+    service: &Service<'_>,
+) -> Result<(), ServiceFault> {
+    match bind(rt, service.listen) {
+        Ok(sockets) => Daemon::new(alloc, server, sockets, service.logs).run(rt, service),
+        Err(fault) => Err(fault),
+    }
+}
+
+/// Binds the request port, and prints where it is.
+fn bind<N: Udp + Clock + Print>(rt: &N, listen: Endpoint) -> Result<Sockets, ServiceFault> {
+    let Ok(sockets) = Sockets::bind(rt, listen) else {
+        return Err(ServiceFault::Socket);
+    };
+    let line = Printed::Listening(sockets.listening);
+    match println!(rt; "{line}") {
+        Ok(()) => Ok(sockets),
+        Err(_) => Err(ServiceFault::Output),
+    }
+}
+
+impl<R: Files + Drop> Daemon<R> {
+    /// A server that has no transfer yet.
+    fn new(
+        alloc: Global,
+        server: Server<FolderStore<R>>,
+        sockets: Sockets,
+        logs: bool,
+    ) -> Daemon<R> {
+        Daemon {
+            server,
+            sockets,
+            ports: Vec::new(alloc),
+            out: Vec::new(alloc),
+            tids: Vec::new(alloc),
+            logs,
+            alloc,
+        }
+    }
+
+    /// Takes what comes, until so many transfers have closed, or so many waits are over.
+    fn run<N: Udp + Clock + Print + Eprint>(
+        &mut self,
+        rt: &N,
+        service: &Service<'_>,
+    ) -> Result<(), ServiceFault> {
+        match Events::with_capacity(self.alloc, MOST_EVENTS) {
+            Ok(mut events) => self.take_events(rt, service, &mut events),
+            Err(_) => Err(ServiceFault::Memory),
+        }
+    }
+
+    /// Takes what comes, with room for the events of a wait.
+    fn take_events<N: Udp + Clock + Print + Eprint>(
+        &mut self,
+        rt: &N,
+        service: &Service<'_>,
+        events: &mut Events,
+    ) -> Result<(), ServiceFault> {
+        match Vec::from_elem(self.alloc, 0u8, DATAGRAM_BUFFER) {
+            Ok(mut buffer) => self.take_rounds(rt, service, events, buffer.as_mut_slice()),
+            Err(_) => Err(ServiceFault::Memory),
+        }
+    }
+
+    /// Takes what comes, wait by wait.
+    fn take_rounds<N: Udp + Clock + Print + Eprint>(
+        &mut self,
+        rt: &N,
+        service: &Service<'_>,
+        events: &mut Events,
+        buffer: &mut [u8],
+    ) -> Result<(), ServiceFault> {
+        let mut left = service.transfers;
+        for _ in 0..service.rounds {
+            left = self.take_round(rt, left, events, buffer)?;
+            if left == 0 {
+                return Ok(());
+            }
+        }
+        Ok(())
+    }
+
+    /// Waits once, and takes what came and what is due. `left` counts the transfers that are yet to close.
+    fn take_round<N: Udp + Clock + Print + Eprint>(
+        &mut self,
+        rt: &N,
+        left: u32,
+        events: &mut Events,
+        buffer: &mut [u8],
+    ) -> Result<u32, ServiceFault> {
+        self.wait(rt, events);
+        self.take_requests(rt, buffer);
+        let left = self.take_transfers(rt, left, buffer)?;
+        self.take_timeouts(rt, left, buffer)
+    }
+
+    /// Waits until a datagram is there or a transfer is due, and a second at most.
+    fn wait<C: Clock>(&mut self, clock: &C, events: &mut Events) {
+        let millis = if self.sockets.is_ready {
+            0
+        } else {
+            millis_to_wait(self.sockets.watch.now, self.ports.as_slice())
+        };
+        self.sockets.wait(clock, events, millis);
+        for event in events.iter() {
+            self.note(event.token());
+        }
+    }
+
+    /// Notes that a datagram is there.
+    fn note(&mut self, token: Token) {
+        if token == REQUESTS {
+            self.sockets.is_ready = true;
+        } else {
+            note_ready(token, self.ports.as_mut_slice());
+        }
+    }
+
+    /// Takes requests that are there, as many as a wake-up takes.
+    fn take_requests<N: Udp + Eprint>(&mut self, rt: &N, buffer: &mut [u8]) {
+        for _ in 0..MOST_AT_ONCE {
+            if !self.sockets.is_ready || self.ports.try_reserve(1).is_err() {
+                return;
+            }
+            let Some((from, count)) = self.sockets.receive_request(buffer) else {
+                return;
+            };
+            self.take_request(rt, from, &buffer[..count]);
+        }
+    }
+
+    /// Takes a datagram that came to the request port. One that may open a transfer is lost where no port
+    /// can be bound for it.
+    fn take_request<N: Udp + Eprint>(&mut self, rt: &N, from: Endpoint, bytes: &[u8]) {
+        if let Some(tid) = self.port_for(rt, from, bytes) {
+            self.handle_request(rt, from, tid, bytes);
+        }
+    }
+
+    /// The port of the transfer that a datagram may open, and 0 where it opens none.
+    fn port_for<N: Udp>(&mut self, net: &N, from: Endpoint, bytes: &[u8]) -> Option<u16> {
+        // A port is bound only where the server may open a transfer; else no identifier is used.
+        if let Ok(true) = self.server.may_open(from, bytes) {
+            return self.sockets.spare_port(net);
+        }
+        Some(0)
+    }
+
+    /// Takes a datagram that came to the request port, for which this port is there.
+    fn handle_request<E: Eprint>(&mut self, rt: &E, from: Endpoint, tid: u16, bytes: &[u8]) {
+        self.out.clear();
+        self.server.store_mut().set_port(tid);
+        if let Ok(opened) = self.server.on_request(from, tid, bytes, &mut self.out) {
+            if opened.tid.is_some() {
+                self.open(rt, from, bytes);
+            } else {
+                self.refuse(rt, opened.to, from, bytes);
+            }
+        }
+        // A file that no transfer took.
+        let _ = self.server.store().take_opened();
+    }
+
+    /// Sends the answer to a datagram that opened no transfer, if there is one.
+    fn refuse<E: Eprint>(&self, rt: &E, to: Option<Endpoint>, from: Endpoint, bytes: &[u8]) {
+        if let Some(to) = to {
+            self.sockets.answer(to, self.out.as_slice());
+        }
+        if self.logs {
+            log_unopened(rt, self.alloc, from, bytes, self.out.as_slice());
+        }
+    }
+
+    /// Gives the spare port to the transfer that opened, and sends its first datagram.
+    fn open<E: Eprint>(&mut self, rt: &E, from: Endpoint, bytes: &[u8]) {
+        if let Some(spare) = self.sockets.open_spare(from, self.out.as_slice()) {
+            self.open_at(rt, spare, from, bytes);
+        }
+    }
+
+    /// Takes the port of a transfer that opened into the list, where there is room.
+    fn open_at<E: Eprint>(&mut self, rt: &E, mut spare: Spare, from: Endpoint, bytes: &[u8]) {
+        let log_entry = self.log_opened(rt, spare.tid, from, bytes);
+        self.sockets.register(&mut spare);
+        let port = self.port_of(spare, log_entry);
+        let _ = self.ports.push(port);
+    }
+
+    /// The port of a transfer that opened, with its file.
+    fn port_of(&self, spare: Spare, log_entry: Option<LogEntry>) -> TransferPort<R> {
+        let agreed = timeout_of(&self.server, spare.tid);
+        Port {
+            tid: spare.tid,
+            due: deadline(self.sockets.watch.now, agreed),
+            is_ready: false,
+            socket: TransferSocket {
+                udp: spare.socket,
+                file: self.server.store().take_opened(),
+                bytes: data_length(self.out.as_slice()),
+                log_entry,
+            },
+        }
+    }
+
+    /// Writes the line of a request that opened a transfer at the port, where there is a log; what its
+    /// close is to say of it.
+    fn log_opened<E: Eprint>(
+        &self,
+        rt: &E,
+        tid: u16,
+        from: Endpoint,
+        bytes: &[u8],
+    ) -> Option<LogEntry> {
+        if !self.logs {
+            return None;
+        }
+        let first = self.out.as_slice();
+        let entry = LogEntry::new(self.alloc, from, bytes, first, self.sockets.watch.now);
+        let line = entry.opened(tid);
+        let _ = eprintln!(rt; "{line}");
+        Some(entry)
+    }
+
+    /// Takes what came to the ports of transfers. `left` counts the transfers that are yet to close.
+    fn take_transfers<P: Print + Eprint>(
+        &mut self,
+        rt: &P,
+        left: u32,
+        buffer: &mut [u8],
+    ) -> Result<u32, ServiceFault> {
+        let mut left = left;
+        // From the end, since a port that closes gives its place to the last.
+        for place in (0..self.ports.len()).rev() {
+            let Some(port) = self.ports.get_mut(place) else {
+                continue;
+            };
+            if !port.is_ready {
+                continue;
+            }
+            let now = self.sockets.watch.now;
+            let turn = take_datagrams(&mut self.server, port, now, buffer);
+            port.is_ready = turn == Turn::Unfinished;
+            if turn == Turn::Closed {
+                self.close(rt, place)?;
+                left = left.saturating_sub(1);
+            }
+        }
+        Ok(left)
+    }
+
+    /// Tells the transfers that are due, by their identifiers, once nothing is left at their ports.
+    fn take_timeouts<P: Print + Eprint>(
+        &mut self,
+        rt: &P,
+        left: u32,
+        buffer: &mut [u8],
+    ) -> Result<u32, ServiceFault> {
+        let now = self.sockets.watch.now;
+        if wait_for(now, self.ports.as_slice()) > 0 {
+            return Ok(left);
+        }
+        let mut left = left;
+        self.tids.clear();
+        if self.server.tids(&mut self.tids).is_err() {
+            return Ok(left);
+        }
+        for at in 0..self.tids.len() {
+            let Some(tid) = self.tids.get(at).copied() else {
+                continue;
+            };
+            let Some(place) = place_of(tid, self.ports.as_slice()) else {
+                continue;
+            };
+            if self.is_over(place, buffer) {
+                self.close(rt, place)?;
+                left = left.saturating_sub(1);
+            }
+        }
+        Ok(left)
+    }
+
+    /// Takes a timeout at the port, if it is due and nothing came; answers whether its transfer closed.
+    fn is_over(&mut self, place: usize, buffer: &mut [u8]) -> bool {
+        let now = self.sockets.watch.now;
+        let Some(port) = self.ports.get_mut(place) else {
+            return false;
+        };
+        if !is_due(now, port.due) {
+            return false;
+        }
+        match take_datagrams(&mut self.server, port, now, buffer) {
+            Turn::Closed => true,
+            Turn::Onward => false,
+            Turn::Empty | Turn::Unfinished => { take_timeout(&mut self.server, port, now) }
+        }
+    }
+
+    /// Takes a closed transfer out of the server, with its port, and prints how it ended.
+    fn close<P: Print + Eprint>(&mut self, rt: &P, place: usize) -> Result<(), ServiceFault> {
+        if place >= self.ports.len() {
+            return Ok(());
+        }
+        let port = self.ports.swap_remove(place);
+        close_port(rt, &mut self.server, port, self.sockets.watch.now)
+    }
+}
+
+/// How long to wait, in milliseconds, where no request is there.
+fn millis_to_wait<S>(now: u64, ports: &[Port<S>]) -> u64 {
+    if ports.iter().any(|port| port.is_ready) {
+        0
+    } else {
+        wait_for(now, ports)
+    }
+}
+
+/// Notes that a datagram is there at the port of a transfer.
+fn note_ready<S>(token: Token, ports: &mut [Port<S>]) {
+    let Ok(tid) = u16::try_from(token.0) else {
+        return;
+    };
+    let Some(place) = place_of(tid, ports) else {
+        return;
+    };
+    if let Some(port) = ports.get_mut(place) {
+        port.is_ready = true;
+    }
+}

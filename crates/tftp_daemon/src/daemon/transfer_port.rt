@@ -1,0 +1,180 @@
+//! A transfer of `tftpd` at its port: what comes to it, and what goes out.
+
+use crate::shared_file::PortFile;
+use crate::udp::{receive, send};
+use mio::net::UdpSocket;
+use std::alloc::Global;
+use std::io::{Read, Write};
+use tftp_ends::{Endpoint, Outcome};
+use tftp_host::{LogLine, Port, deadline};
+use tftp_server::{Server, Store};
+use tftp_wire::{PacketRef, decode_ref, show_datagram};
+
+/// The most datagrams that are received from one socket in a wake-up: a flood at one port does not
+/// starve the others.
+pub(crate) const MOST_AT_ONCE: usize = 32;
+
+/// What came of the datagrams at a transfer's port.
+#[derive(Clone, Copy, PartialEq, Eq)]
+pub(crate) enum Turn {
+    /// Nothing more is there.
+    Empty,
+    /// The transfer went on. What may be left is received at the next readiness, or before a
+    /// timeout.
+    Onward,
+    /// More may be there.
+    Unfinished,
+    /// The transfer closed.
+    Closed,
+}
+
+/// A transfer's socket, with what is reported of the transfer at its close.
+#[derive(Drop)]
+pub(crate) struct TransferSocket<F: Read + Write + Drop> {
+    pub(crate) udp: UdpSocket,
+    /// The file of the transfer.
+    pub(crate) file: Option<PortFile<F>>,
+    /// The bytes of DATA that were sent or taken, each once.
+    pub(crate) bytes: u64,
+    /// What the log says of it, where there is a log.
+    pub(crate) log_entry: Option<LogEntry>,
+}
+
+/// What the log says of a transfer.
+#[derive(Drop)]
+pub(crate) struct LogEntry {
+    peer: Endpoint,
+    request: String,
+    answer: String,
+    opened_at: u64,
+}
+
+impl LogEntry {
+    /// A transfer that this request opens at this time, with this answer.
+    pub(crate) fn new(
+        alloc: Global,
+        peer: Endpoint,
+        request: &[u8],
+        answer: &[u8],
+        opened_at: u64,
+    ) -> LogEntry {
+        LogEntry {
+            peer,
+            request: shown(alloc, request),
+            answer: shown(alloc, answer),
+            opened_at,
+        }
+    }
+
+    /// The line of its opening.
+    pub(crate) fn opened(&self, port: u16) -> LogLine<'_> {
+        LogLine::Opened {
+            port,
+            peer: self.peer,
+            request: self.request.as_str(),
+            answer: self.answer.as_str(),
+        }
+    }
+
+    /// The line of its close.
+    pub(crate) fn closed(&self, port: u16, bytes: u64, now: u64, outcome: Outcome) -> LogLine<'_> {
+        LogLine::Closed {
+            port,
+            peer: self.peer,
+            request: self.request.as_str(),
+            answer: self.answer.as_str(),
+            bytes,
+            millis: now.saturating_sub(self.opened_at),
+            outcome,
+        }
+    }
+}
+
+/// A datagram as its packet's line, or as its first fault. Out of memory it is cut short.
+pub(crate) fn shown(alloc: Global, bytes: &[u8]) -> String {
+    let mut line = String::new(alloc);
+    let _ = show_datagram(bytes, &mut line);
+    line
+}
+
+/// The bytes of a file that a datagram carries.
+pub(crate) fn data_length(datagram: &[u8]) -> u64 {
+    match decode_ref(datagram) {
+        Ok(PacketRef::Data { bytes, .. }) => bytes.len() as u64,
+        _ => 0,
+    }
+}
+
+/// The agreed timeout of a transfer, in seconds.
+pub(crate) fn timeout_of<S: Store>(server: &Server<S>, tid: u16) -> Option<u8> {
+    server.record(tid).and_then(|record| record.timeout)
+}
+
+/// Takes datagrams from a transfer's port, until one takes the transfer onward or none is left.
+pub(crate) fn take_datagrams<S: Store, F: Read + Write + Drop>(
+    server: &mut Server<S>,
+    port: &mut Port<TransferSocket<F>>,
+    now: u64,
+    buffer: &mut [u8],
+) -> Turn {
+    for _ in 0..MOST_AT_ONCE {
+        let Some((from, count)) = receive(&port.socket.udp, buffer) else {
+            return Turn::Empty;
+        };
+        let turn = take_datagram(server, port, now, from, &buffer[..count]);
+        if turn != Turn::Unfinished {
+            return turn;
+        }
+    }
+    Turn::Unfinished
+}
+
+/// Takes a datagram, and sends what goes out; the file does its work behind that. A datagram for
+/// whose handling there is no memory is a lost one.
+fn take_datagram<S: Store, F: Read + Write + Drop>(
+    server: &mut Server<S>,
+    port: &mut Port<TransferSocket<F>>,
+    now: u64,
+    from: Endpoint,
+    bytes: &[u8],
+) -> Turn {
+    let Ok((step, outgoing)) = server.handle_datagram(port.tid, from, bytes) else {
+        return Turn::Unfinished;
+    };
+    let answer = server.bytes_of(port.tid, outgoing).unwrap_or(&[]);
+    if let Some(to) = step.to {
+        send(&port.socket.udp, to, answer);
+    }
+    if step.progress {
+        let carried = data_length(bytes).saturating_add(data_length(answer));
+        port.socket.bytes = port.socket.bytes.saturating_add(carried);
+    }
+    if step.closed.is_some() {
+        return Turn::Closed;
+    }
+    if !step.progress {
+        return Turn::Unfinished;
+    }
+    port.due = deadline(now, timeout_of(server, port.tid));
+    if let Some(file) = &port.socket.file {
+        file.work();
+    }
+    Turn::Onward
+}
+
+/// Tells a transfer that it waited long enough, and answers whether that closed it.
+pub(crate) fn take_timeout<S: Store, F: Read + Write + Drop>(
+    server: &mut Server<S>,
+    port: &mut Port<TransferSocket<F>>,
+    now: u64,
+) -> bool {
+    port.due = deadline(now, timeout_of(server, port.tid));
+    let Ok((step, outgoing)) = server.handle_timeout(port.tid) else {
+        return false;
+    };
+    if let Some(to) = step.to {
+        let answer = server.bytes_of(port.tid, outgoing).unwrap_or(&[]);
+        send(&port.socket.udp, to, answer);
+    }
+    step.closed.is_some()
+}

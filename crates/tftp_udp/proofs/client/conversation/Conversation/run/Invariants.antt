@@ -1,6 +1,0 @@
--- The file stays one of the end's side.
-use Rattle.tftp_ends.specs.Files.{AreFilesOf}
-use Rattle.tftp_udp.proofs.client.conversation.Conversation.run.Given as goal
-
-abbrev pub invariant-loop : goal.invariant-loop
-invariant-loop g l = AreFilesOf l.self.end.role.side l.files
