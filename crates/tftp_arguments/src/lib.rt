@@ -5,5 +5,7 @@
 #![tactic(auto)]
 
 mod arguments;
+mod endpoint;
 
 pub use arguments::{flag, number, own_words, print_usage, word};
+pub use endpoint::endpoint_in;

@@ -8,11 +8,11 @@ ghost use Rattle.std.specs.Prelude.{◌≡◌, true, false, IfOk};
 ghost use Rattle.tftp_ends.specs.Files.{AreFilesOf};
 ghost use Rattle.tftp_ends.specs.End.{is_sender};
 
+use crate::local::{LocalFile, LocalSource, Outbound, read_error};
 use crate::transfer::conversation::Conversation;
 pub(crate) use crate::transfer::failure::Failure;
 use crate::transfer::failure::Reason;
 use crate::transfer::socket::ClientSocket;
-use crate::local::{LocalFile, LocalSource, Outbound, read_error};
 use crate::udp::Udp;
 use std::alloc::Global;
 use std::io::Read;

@@ -1,6 +1,6 @@
 //! Addresses, the size of a datagram and the clock, as the programs over UDP use them.
 
-ghost use Rattle.tftp_host.specs.Address.{IsAddressOf, IsEndpointOf, Names};
+ghost use Rattle.tftp_host.specs.Address.{IsAddressOf, IsEndpointOf};
 
 use std::net::{SocketAddr, SocketAddrV4};
 use std::time::Clock;
@@ -10,16 +10,6 @@ use tftp_wire::MAX_DATA;
 /// The bytes of a buffer for datagrams: one more than the longest valid one has, so that a longer
 /// one is malformed and never cut to fit (RFC 2348, "Blocksize Option Specification").
 pub const DATAGRAM_BUFFER: usize = MAX_DATA + 1;
-
-/// The endpoint that a word `ADDR:PORT` names, with a dotted IPv4 address.
-pub fn endpoint_in(word: &str) -> Option<Endpoint>
-    ensures { Names word.now result }
-{
-    match word.parse::<SocketAddrV4>() {
-        Ok(address) => Some(Endpoint::from(address)),
-        Err(_) => None,
-    }
-}
 
 /// The socket address of an endpoint.
 pub fn address_of(endpoint: Endpoint) -> SocketAddr
