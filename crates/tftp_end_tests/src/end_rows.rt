@@ -1,43 +1,16 @@
 //! Whole transfers, datagram by datagram, at one end. The bytes are written by hand from RFC 1350,
 //! sections 4 to 6 and appendix I.
 
-ghost use Rattle.std.specs.Prelude.{◌≡◌, false, IfOk};
-ghost use Rattle.tftp_ends.specs.End.{is_sender};
-ghost use Rattle.tftp_ends.specs.Files.{AreFilesOf};
-
-use crate::expect::{expect, expect_bytes, expect_equal};
+use crate::expect::expect_equal;
+use crate::open_end::{
+    CLIENT, CONFIG, OpenEnd, SERVER, SERVER_END, is_bad_request, reader, sender_of,
+};
 use std::alloc::Global;
 use std::process::Abort;
-use std::test::Fail;
-use tftp_ends::{
-    End, EndConfig, EndFault, Endpoint, ErrorReply, OpenFault, Outcome, Record, Side, Step,
-};
-use tftp_file::{Files, MemSink, MemSource};
-use tftp_negotiate::{Agreed, Asked, Limits, Refusal};
+use tftp_ends::{ErrorReply, Outcome, Record, Side};
+use tftp_file::MemSource;
+use tftp_negotiate::{Asked, Refusal};
 use tftp_wire::Mode;
-
-const SERVER: Endpoint = Endpoint {
-    ip: [10, 0, 0, 1],
-    port: 69,
-};
-
-const SERVER_END: Endpoint = Endpoint {
-    ip: [10, 0, 0, 1],
-    port: 1025,
-};
-
-const CLIENT: Endpoint = Endpoint {
-    ip: [10, 0, 0, 2],
-    port: 1024,
-};
-
-const CONFIG: EndConfig = EndConfig {
-    limits: Limits {
-        max_block: 1428,
-        max_file: 4_290_183_239,
-    },
-    retries: 5,
-};
 
 const UNKNOWN_ID: &[u8] = b"\x00\x05\x00\x05unknown transfer id\x00";
 
@@ -51,22 +24,16 @@ const ACK_1: &[u8] = b"\x00\x04\x00\x01";
 
 const ACK_2: &[u8] = b"\x00\x04\x00\x02";
 
-/// Asks for a file in octet, without options.
-fn get(alloc: Global, name: &[u8], out: &mut Vec<u8>) -> Result<(End, Step), OpenFault>
-    ensures { IfOk result (λ opened. is_sender opened.0.role.side ≡ false) }
-{
-    let asked = Asked::default();
-    End::get(alloc, SERVER, name, Mode::Octet, &asked, &CONFIG, out)
+/// A client that has asked for a file in octet, without options.
+fn get(rt: &impl Abort, alloc: Global, name: &[u8]) -> OpenEnd<MemSource> {
+    reader(rt, alloc, name, Mode::Octet, &Asked::default(), &CONFIG)
 }
 
 #[test]
-fn asks_by_a_request(rt: HostRuntime) -> Result<(), Fail> {
-    let mut out = Vec::new(rt.alloc());
-    let (_, step) = get(rt.alloc(), b"boot.img", &mut out)?;
-    let request = b"\x00\x01boot.img\x00octet\x00".as_slice();
-    expect_bytes(&rt, out.as_slice(), request, "an RRQ");
-    expect_equal(&rt, &step.to, &Some(SERVER), "to the request port");
-    Ok(())
+fn asks_by_a_request(rt: HostRuntime) {
+    let end = get(&rt, rt.alloc(), b"boot.img");
+    end.has_sent(&rt, b"\x00\x01boot.img\x00octet\x00", Some(SERVER));
+    end.finish();
 }
 
 /// A client that has asked knows no peer and no size.
@@ -81,222 +48,85 @@ const ASKED: Record = Record {
 };
 
 #[test]
-fn has_no_peer_before_the_first_answer(rt: HostRuntime) -> Result<(), Fail> {
-    let mut out = Vec::new(rt.alloc());
-    let (end, _) = get(rt.alloc(), b"boot.img", &mut out)?;
+fn has_no_peer_before_the_first_answer(rt: HostRuntime) {
+    let end = get(&rt, rt.alloc(), b"boot.img");
     expect_equal(&rt, &end.record(), &ASKED, "the record");
-    Ok(())
+    end.finish();
 }
 
 /// Names that no request has: empty, with a zero byte, and too long for 512 bytes.
 const WRONG_NAMES: [&[u8]; 3] = [b"", b"a\x00b", &[b'a'; 504]];
 
-fn is_bad_request(rt: &impl Abort, alloc: Global, name: &[u8]) {
-    let mut out = Vec::new(alloc);
-    let refused = get(alloc, name, &mut out);
-    let found = (name, refused.err(), out.is_empty());
-    let wanted = (name, Some(OpenFault::BadRequest), true);
-    expect_equal(rt, &found, &wanted, "a wrong name, and nothing is sent");
-}
-
 #[test]
 fn asks_for_no_wrong_name(rt: HostRuntime) {
     for &name in &WRONG_NAMES {
-        is_bad_request(&rt, rt.alloc(), name);
+        is_bad_request(&rt, rt.alloc(), name, &Asked::default());
     }
 }
 
-/// The end takes a datagram, and answers it by these bytes, or not at all.
-fn takes(
-    rt: &impl Abort,
-    alloc: Global,
-    end: &mut End,
-    files: &mut Files<MemSource, MemSink>,
-    from: Endpoint,
-    bytes: &[u8],
-    answer: &[u8],
-) -> Step
-    requires { AreFilesOf end.old.role.side files.old }
-    ensures { AreFilesOf end.new.role.side files.new }
-{
-    let mut out = Vec::new(alloc);
-    let step = end
-        .on_datagram(files, from, bytes, &mut out)
-        .expect(rt, "the end takes it");
-    let to = if answer.is_empty() { None } else { Some(from) };
-    let found = (bytes, out.as_slice(), step.to);
-    expect_equal(
-        rt,
-        &found,
-        &(bytes, answer, to),
-        "the answer, and where it goes",
-    );
-    step
-}
-
 /// A server's end that has sent DATA 1 of a file to the client.
-fn sender(
-    rt: &impl Abort,
-    alloc: Global,
-    file: &[u8],
-) -> Result<(End, Files<MemSource, MemSink>), Fail>
-    ensures { IfOk result (λ opened. AreFilesOf opened.0.role.side opened.1) }
-{
-    let mut out = Vec::new(alloc);
-    let mut files = Files::Source(MemSource::new(alloc, file, Mode::Octet)?);
-    let (end, step) = End::serve_read(
-        alloc,
-        &mut files,
-        CLIENT,
-        Mode::Octet,
-        &Agreed::new(),
-        file.len() as u64,
-        5,
-        &mut out,
-    )?;
-    expect_equal(rt, &out.len(), &(4 + file.len()), "DATA 1 has the file");
-    expect_equal(rt, &step.to, &Some(CLIENT), "it goes to the client");
-    Ok((end, files))
+fn sender(rt: &impl Abort, alloc: Global, file: &[u8]) -> OpenEnd<MemSource> {
+    let end = sender_of(rt, alloc, RRQ_A, Mode::Octet, file);
+    let found = (end.sent().len(), end.step().to);
+    let wanted = (4 + file.len(), Some(CLIENT));
+    expect_equal(rt, &found, &wanted, "DATA 1 has the file, for the client");
+    end
 }
 
 /// A file of one full block needs an empty DATA at its end (RFC 1350, section 6); a repeated ACK
 /// gets nothing (RFC 1123, section 4.2.3.1); a stranger gets ERROR 5 and changes nothing.
 #[test]
-fn sends_a_full_block(rt: HostRuntime) -> Result<(), Fail> {
-    let (mut end, mut files) = sender(&rt, rt.alloc(), &[b'x'; 512])?;
-    takes(
-        &rt,
-        rt.alloc(),
-        &mut end,
-        &mut files,
-        SERVER_END,
-        ACK_1,
-        UNKNOWN_ID,
-    );
-    takes(
-        &rt,
-        rt.alloc(),
-        &mut end,
-        &mut files,
-        CLIENT,
-        ACK_1,
-        EMPTY_DATA_2,
-    );
-    takes(&rt, rt.alloc(), &mut end, &mut files, CLIENT, ACK_1, b"");
-    let step = takes(&rt, rt.alloc(), &mut end, &mut files, CLIENT, ACK_2, b"");
-    expect_equal(&rt, &step.closed, &Some(Outcome::Complete), "the last ACK");
+fn sends_a_full_block(rt: HostRuntime) {
+    let mut end = sender(&rt, rt.alloc(), &[b'x'; 512]);
+    end.answers(&rt, SERVER_END, ACK_1, UNKNOWN_ID);
+    end.answers(&rt, CLIENT, ACK_1, EMPTY_DATA_2);
+    end.answers(&rt, CLIENT, ACK_1, b"");
+    end.closes(&rt, CLIENT, ACK_2, b"", Outcome::Complete);
     expect_equal(&rt, &end.record().number, &2, "the blocks");
-    Ok(())
+    end.finish();
 }
 
 #[test]
-fn a_closed_end_takes_nothing(rt: HostRuntime) -> Result<(), Fail> {
-    let (mut end, mut files) = sender(&rt, rt.alloc(), b"ABC")?;
-    takes(&rt, rt.alloc(), &mut end, &mut files, CLIENT, ACK_1, b"");
-    let mut out = Vec::new(rt.alloc());
-    let late = end.on_datagram(&mut files, CLIENT, ACK_1, &mut out);
-    expect_equal(&rt, &late.err(), &Some(EndFault::Closed), "a late ACK");
-    let late = end.on_timeout(&mut out);
-    expect_equal(&rt, &late.err(), &Some(EndFault::Closed), "a late timeout");
-    expect(&rt, out.is_empty(), "nothing is sent");
-    Ok(())
+fn a_closed_end_takes_nothing(rt: HostRuntime) {
+    let mut end = sender(&rt, rt.alloc(), b"ABC");
+    end.answers(&rt, CLIENT, ACK_1, b"");
+    end.takes_nothing(&rt, CLIENT, ACK_1);
+    end.finish();
 }
 
-/// A client that has asked for a file, and a sink for it.
-fn receiver(alloc: Global) -> Result<(End, Files<MemSource, MemSink>), Fail>
-    ensures { IfOk result (λ opened. AreFilesOf opened.0.role.side opened.1) }
-{
-    let mut out = Vec::new(alloc);
-    let (end, _) = get(alloc, b"a", &mut out)?;
-    Ok((end, Files::Sink(MemSink::new(alloc, 1000, false))))
-}
-
-/// The client takes the port that answers, and acknowledges the last block after the commit; it answers
-/// the block again while it dallies (RFC 1350, sections 4 and 6).
+/// The client takes the port that answers, and acknowledges the last block after the commit; it
+/// answers the block again while it dallies (RFC 1350, sections 4 and 6).
 #[test]
-fn receives_a_short_block(rt: HostRuntime) -> Result<(), Fail> {
-    let (mut end, mut files) = receiver(rt.alloc())?;
-    let step = takes(
-        &rt,
-        rt.alloc(),
-        &mut end,
-        &mut files,
-        SERVER_END,
-        DATA_1,
-        ACK_1,
-    );
-    expect(&rt, step.progress, "a block is stored");
-    expect(
-        &rt,
-        end.record().complete,
-        "stored, committed and acknowledged",
-    );
-    let Files::Sink(sink) = &files else {
-        return Err(Fail::from("a sink"));
-    };
-    expect_bytes(&rt, sink.as_bytes(), b"ABC".as_slice(), "what is stored");
-    expect(&rt, sink.is_committed(), "it is committed");
-    Ok(())
+fn receives_a_short_block(rt: HostRuntime) {
+    let mut end = get(&rt, rt.alloc(), b"a");
+    end.answers(&rt, SERVER_END, DATA_1, ACK_1);
+    let found = (end.step().progress, end.record().complete);
+    expect_equal(&rt, &found, &(true, true), "a block, and it is the last");
+    end.has_stored(&rt, b"ABC", true);
+    end.finish();
 }
 
 /// It closes at its second timeout (RFC 1350, section 6).
 #[test]
-fn dallies(rt: HostRuntime) -> Result<(), Fail> {
-    let (mut end, mut files) = receiver(rt.alloc())?;
-    takes(
-        &rt,
-        rt.alloc(),
-        &mut end,
-        &mut files,
-        SERVER_END,
-        DATA_1,
-        ACK_1,
-    );
-    takes(
-        &rt,
-        rt.alloc(),
-        &mut end,
-        &mut files,
-        SERVER_END,
-        DATA_1,
-        ACK_1,
-    );
-    let mut out = Vec::new(rt.alloc());
-    let first = end.on_timeout(&mut out)?;
-    expect_equal(&rt, &first.closed, &None, "the first timeout");
-    let second = end.on_timeout(&mut out)?;
-    expect_equal(
-        &rt,
-        &second.closed,
-        &Some(Outcome::Complete),
-        "the second timeout",
-    );
-    expect(&rt, out.is_empty(), "nothing is sent");
-    Ok(())
+fn dallies(rt: HostRuntime) {
+    let mut end = get(&rt, rt.alloc(), b"a");
+    end.answers(&rt, SERVER_END, DATA_1, ACK_1);
+    end.answers(&rt, SERVER_END, DATA_1, ACK_1);
+    end.times_out(&rt, b"", None, None);
+    end.times_out(&rt, b"", None, Some(Outcome::Complete));
+    end.finish();
 }
 
-/// On a timeout the request is sent again.
-fn asks_again(rt: &impl Abort, end: &mut End, out: &mut Vec<u8>) -> Result<(), Fail> {
-    out.clear();
-    let step = end.on_timeout(out)?;
-    expect_equal(rt, &step.to, &Some(SERVER), "to the request port");
-    expect_bytes(rt, out.as_slice(), RRQ_A, "the same bytes");
-    Ok(())
-}
-
-/// With the retries spent the end closes in silence, and never as complete.
+/// On a timeout the request is sent again, to the request port; with the retries spent the end
+/// closes in silence, and never as complete.
 #[test]
-fn gives_up_in_silence(rt: HostRuntime) -> Result<(), Fail> {
-    let mut out = Vec::new(rt.alloc());
-    let (mut end, _) = get(rt.alloc(), b"a", &mut out)?;
+fn gives_up_in_silence(rt: HostRuntime) {
+    let mut end = get(&rt, rt.alloc(), b"a");
     for _ in 0..5 {
-        asks_again(&rt, &mut end, &mut out)?;
+        end.times_out(&rt, RRQ_A, Some(SERVER), None);
     }
-    out.clear();
-    let step = end.on_timeout(&mut out)?;
-    expect_equal(&rt, &step.closed, &Some(Outcome::TimedOut), "the sixth");
-    expect(&rt, out.is_empty(), "nothing is sent");
-    Ok(())
+    end.times_out(&rt, b"", None, Some(Outcome::TimedOut));
+    end.finish();
 }
 
 /// RFC 1350, appendix I, and RFC 2347, "Negotiation Protocol", for code 8.
@@ -339,25 +169,17 @@ const OUTCOMES: [(Outcome, u8, &str); 9] = [
     (Outcome::NotNetascii, 9, "NotNetascii"),
 ];
 
-fn is_outcome(
-    rt: &impl Abort,
-    alloc: Global,
-    outcome: Outcome,
-    number: u8,
-    text: &str,
-) -> Result<(), Fail> {
-    let shown = format!(in alloc; "{outcome:?}")?;
+fn is_outcome(rt: &impl Abort, alloc: Global, outcome: Outcome, number: u8, text: &str) {
+    let shown = format!(in alloc; "{outcome:?}").expect(rt, "memory");
     let found = (outcome.number(), shown.as_str());
     expect_equal(rt, &found, &(number, text), "the number and the words");
-    Ok(())
 }
 
 #[test]
-fn outcomes(rt: HostRuntime) -> Result<(), Fail> {
+fn outcomes(rt: HostRuntime) {
     for &(outcome, number, text) in &OUTCOMES {
-        is_outcome(&rt, rt.alloc(), outcome, number, text)?;
+        is_outcome(&rt, rt.alloc(), outcome, number, text);
     }
-    Ok(())
 }
 
 /// Sides, and whether each sends DATA, and whether it is a client's.
@@ -372,23 +194,18 @@ const SIDES: [(Side, bool, bool); 4] = [
 fn sides(rt: HostRuntime) {
     for &(side, sends, asks) in &SIDES {
         let found = (side, side.is_sender(), side.is_client());
-        expect_equal(
-            &rt,
-            &found,
-            &(side, sends, asks),
-            "whether it sends, and asks",
-        );
+        let wanted = (side, sends, asks);
+        expect_equal(&rt, &found, &wanted, "whether it sends, and asks");
     }
 }
 
 #[test]
-fn endpoints_are_printed(rt: HostRuntime) -> Result<(), Fail> {
-    let shown = format!(in rt.alloc(); "{SERVER}")?;
+fn endpoints_are_printed(rt: HostRuntime) {
+    let shown = format!(in rt.alloc(); "{SERVER}").expect(&rt, "memory");
     expect_equal(
         &rt,
         &shown.as_str(),
         &"10.0.0.1:69",
         "an address and a port",
     );
-    Ok(())
 }

@@ -19,10 +19,3 @@ pub(crate) fn expect_equal<T: PartialEq + Debug>(rt: &impl Abort, value: &T, wan
 {
     assert_eq!(rt; *value, *wanted, "{what}");
 }
-
-/// Ends the test unless the bytes are the wanted ones; `what` says what they are.
-pub(crate) fn expect_bytes(rt: &impl Abort, bytes: &[u8], wanted: &[u8], what: &str)
-    ensures { bytes.now ≡ wanted.now }
-{
-    assert_eq!(rt; bytes, wanted, "{what}");
-}

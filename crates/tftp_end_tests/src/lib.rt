@@ -14,6 +14,8 @@ mod long_end_rows;
 #[cfg(test)]
 mod netascii_end_rows;
 #[cfg(test)]
+mod open_end;
+#[cfg(test)]
 mod option_end_rows;
 #[cfg(test)]
 mod write_rows;

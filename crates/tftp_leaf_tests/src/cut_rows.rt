@@ -5,20 +5,19 @@ use rand_core::{Rng, SeedableRng};
 use rand_pcg::Pcg32;
 use std::alloc::Global;
 use std::process::Abort;
-use std::test::Fail;
 use tftp_file::{NetDecoder, NetEncoder};
 
 /// The bytes that netascii treats apart, and a letter.
 const BYTES: [u8; 4] = [b'\r', b'\n', b'\0', b'A'];
 
 /// A text of 64 such bytes.
-fn drawn(alloc: Global, rng: &mut Pcg32) -> Result<Vec<u8>, Fail> {
+fn drawn(rt: &impl Abort, alloc: Global, rng: &mut Pcg32) -> Vec<u8> {
     let mut text = Vec::new(alloc);
     for _ in 0..64 {
         let place = rng.next_u32() as usize % 4;
-        text.push(BYTES[place])?;
+        text.push(BYTES[place]).expect(rt, "memory");
     }
-    Ok(text)
+    text
 }
 
 /// The next piece, of six bytes at most, and the rest.
@@ -27,52 +26,72 @@ fn split<'a>(rng: &mut Pcg32, text: &'a [u8]) -> (&'a [u8], &'a [u8]) {
     text.split_at(at.min(text.len()))
 }
 
-fn encoded(alloc: Global, rng: &mut Pcg32, text: &[u8]) -> Result<Vec<u8>, Fail> {
+/// Encodes the next piece, and gives the rest.
+fn encode_piece<'a>(
+    rt: &impl Abort,
+    rng: &mut Pcg32,
+    encoder: &mut NetEncoder,
+    text: &'a [u8],
+    wire: &mut Vec<u8>,
+) -> &'a [u8] {
+    let (piece, rest) = split(rng, text);
+    encoder.push(piece, wire).expect(rt, "memory");
+    rest
+}
+
+fn encoded(rt: &impl Abort, alloc: Global, rng: &mut Pcg32, text: &[u8]) -> Vec<u8> {
     let mut encoder = NetEncoder::new();
     let mut wire = Vec::new(alloc);
     let mut left = text;
     for _ in 0..20 {
-        let (piece, rest) = split(rng, left);
-        encoder.push(piece, &mut wire)?;
-        left = rest;
+        left = encode_piece(rt, rng, &mut encoder, left, &mut wire);
     }
-    encoder.push(left, &mut wire)?;
-    encoder.finish()?;
-    Ok(wire)
+    encoder.push(left, &mut wire).expect(rt, "memory");
+    encoder.finish().expect(rt, "the end of the text");
+    wire
 }
 
-fn decoded(alloc: Global, rng: &mut Pcg32, wire: &[u8]) -> Result<Vec<u8>, Fail> {
+/// Decodes the next piece, and gives the rest.
+fn decode_piece<'a>(
+    rt: &impl Abort,
+    rng: &mut Pcg32,
+    decoder: &mut NetDecoder,
+    wire: &'a [u8],
+    text: &mut Vec<u8>,
+) -> &'a [u8] {
+    let (piece, rest) = split(rng, wire);
+    decoder.push(piece, text).expect(rt, "wire text");
+    rest
+}
+
+fn decoded(rt: &impl Abort, alloc: Global, rng: &mut Pcg32, wire: &[u8]) -> Vec<u8> {
     let mut decoder = NetDecoder::new();
     let mut text = Vec::new(alloc);
     let mut left = wire;
     for _ in 0..40 {
-        let (piece, rest) = split(rng, left);
-        decoder.push(piece, &mut text)?;
-        left = rest;
+        left = decode_piece(rt, rng, &mut decoder, left, &mut text);
     }
-    decoder.push(left, &mut text)?;
-    decoder.finish()?;
-    Ok(text)
+    decoder.push(left, &mut text).expect(rt, "wire text");
+    decoder.finish().expect(rt, "the end of the text");
+    text
 }
 
-fn comes_back(rt: &impl Abort, alloc: Global, seed: u64) -> Result<(), Fail> {
+/// The text comes back from its wire text.
+fn is_kept(rt: &impl Abort, alloc: Global, rng: &mut Pcg32, seed: u64, text: &[u8]) {
+    let wire = encoded(rt, alloc, rng, text);
+    let back = decoded(rt, alloc, rng, wire.as_slice());
+    expect_equal(rt, &(seed, back.as_slice()), &(seed, text), "by a seed");
+}
+
+fn comes_back(rt: &impl Abort, alloc: Global, seed: u64) {
     let mut rng = Pcg32::seed_from_u64(seed);
-    let text = drawn(alloc, &mut rng)?;
-    let wire = encoded(alloc, &mut rng, &text)?;
-    let back = decoded(alloc, &mut rng, &wire)?;
-    expect_equal(
-        rt,
-        &(seed, back.as_slice()),
-        &(seed, text.as_slice()),
-        "by a seed",
-    );
-    Ok(())
+    let text = drawn(rt, alloc, &mut rng);
+    is_kept(rt, alloc, &mut rng, seed, text.as_slice());
 }
 
 #[test]
-fn drawn_texts_come_back(rt: HostRuntime) -> Result<(), Fail> {
+fn drawn_texts_come_back(rt: HostRuntime) {
     for seed in 0..100 {
-        comes_back(&rt, rt.alloc(), seed)?;
+        comes_back(&rt, rt.alloc(), seed);
     }
-    Ok(())
 }

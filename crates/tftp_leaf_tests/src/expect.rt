@@ -17,19 +17,22 @@ pub(crate) fn expect(rt: &impl Abort, holds: bool, what: &str)
 pub(crate) fn expect_equal<T: PartialEq + Debug>(rt: &impl Abort, value: &T, wanted: &T, what: &str)
     ensures { T.eq value.now wanted.now ≡ true }
 {
-    assert_eq!(rt; *value, *wanted, "{what}");
+    assert!(rt;
+        *value == *wanted,
+        "{what}: {value:?} in place of {wanted:?}"
+    );
 }
 
 /// Ends the test unless the bytes are the wanted ones; `what` says what they are.
 pub(crate) fn expect_bytes(rt: &impl Abort, bytes: &[u8], wanted: &[u8], what: &str)
     ensures { bytes.now ≡ wanted.now }
 {
-    assert_eq!(rt; bytes, wanted, "{what}");
+    expect_equal(rt, &bytes, &wanted, what);
 }
 
 /// Ends the test unless the text is the wanted one; `what` says what it is.
 pub(crate) fn expect_text(rt: &impl Abort, text: &str, wanted: &str, what: &str)
     ensures { text.now ≡ wanted.now }
 {
-    assert_eq!(rt; text, wanted, "{what}");
+    expect_equal(rt, &text, &wanted, what);
 }

@@ -1,8 +1,13 @@
 //! The tests of packets, options and the file layer, over their public calls.
+//!
+//! Where a packet, a path or a source ends, a helper calls `drop`: the end of a scope would spell
+//! the drop of each of its parts in the proof of that helper.
 #![tactic(auto)]
 
 #[cfg(test)]
 mod append_rows;
+#[cfg(test)]
+mod calls;
 #[cfg(test)]
 mod cut_rows;
 #[cfg(test)]

@@ -1,175 +1,139 @@
 //! The source and the sink in memory, called through their traits.
 
+use crate::calls::{appends, commits, gives_each};
 use crate::expect::{expect, expect_bytes, expect_equal};
+use std::alloc::Global;
 use std::process::Abort;
-use std::test::Fail;
-use tftp_file::{
-    FileBytes, FileFault, Files, MemSink, MemSource, SharedBytes, Sink, Source, StoreFault,
-};
+use tftp_file::{FileBytes, FileFault, Files, MemSink, MemSource, SharedBytes, StoreFault};
 use tftp_wire::Mode;
 
-fn fill<S: Source>(source: &mut S, want: usize, out: &mut Vec<u8>) -> Result<usize, FileFault> {
-    out.clear();
-    source.fill(want, out)
-}
-
-fn append<K: Sink>(sink: &mut K, bytes: &[u8]) -> Result<(), StoreFault> {
-    sink.append(bytes)
-}
-
-fn commit<K: Sink>(sink: &mut K) -> Result<(), StoreFault> {
-    sink.commit()
-}
-
-/// The next fill of the source gives this piece.
-fn gives<S: Source>(rt: &impl Abort, source: &mut S, want: usize, out: &mut Vec<u8>, piece: &[u8]) {
-    expect_equal(
-        rt,
-        &(piece, fill(source, want, out)),
-        &(piece, Ok(piece.len())),
-        "a piece",
-    );
-    expect_bytes(rt, out.as_slice(), piece, "the bytes");
+/// A source in memory.
+fn source_of(rt: &impl Abort, alloc: Global, bytes: &[u8], mode: Mode) -> MemSource {
+    MemSource::new(alloc, bytes, mode).expect(rt, "memory")
 }
 
 /// A line feed travels as CR LF, and a CR as CR NUL (RFC 764): the text in fills of three bytes.
 const NETASCII: [&[u8]; 3] = [b"\r\0\r", b"\nA", b""];
 
 #[test]
-fn a_pair_may_be_split_between_two_fills(rt: HostRuntime) -> Result<(), Fail> {
-    let mut source = MemSource::new(rt.alloc(), b"\r\nA", Mode::Netascii)?;
-    let mut out = Vec::new(rt.alloc());
-    for &piece in &NETASCII {
-        gives(&rt, &mut source, 3, &mut out, piece);
-    }
-    Ok(())
+fn a_pair_may_be_split_between_two_fills(rt: HostRuntime) {
+    let mut source = source_of(&rt, rt.alloc(), b"\r\nA", Mode::Netascii);
+    gives_each(&rt, rt.alloc(), &mut source, 3, &NETASCII);
+    drop(source);
 }
 
 /// The same bytes in octet, in fills of two.
 const OCTET: [&[u8]; 3] = [b"\r\n", b"A", b""];
 
 #[test]
-fn octet_is_given_as_it_is(rt: HostRuntime) -> Result<(), Fail> {
-    let mut source = MemSource::new(rt.alloc(), b"\r\nA", Mode::Octet)?;
-    let mut out = Vec::new(rt.alloc());
-    for &piece in &OCTET {
-        gives(&rt, &mut &mut source, 2, &mut out, piece);
-    }
-    Ok(())
+fn octet_is_given_as_it_is(rt: HostRuntime) {
+    let mut source = source_of(&rt, rt.alloc(), b"\r\nA", Mode::Octet);
+    gives_each(&rt, rt.alloc(), &mut &mut source, 2, &OCTET);
+    drop(source);
+}
+
+/// Appends to the file, which has memory for it.
+fn grow(rt: &impl Abort, file: &mut FileBytes, bytes: &[u8]) {
+    file.append(bytes).expect(rt, "memory");
+}
+
+/// Shares the file, which has these bytes by then.
+fn share(rt: &impl Abort, file: &mut FileBytes, bytes: &[u8]) -> SharedBytes {
+    let shared = file.share().expect(rt, "memory");
+    expect_bytes(rt, shared.as_slice(), bytes, "as it was shared");
+    shared
 }
 
 /// The file of two appends, as it is shared; it goes on alone.
-fn grows_on(rt: &impl Abort, file: &mut FileBytes) -> Result<SharedBytes, Fail> {
-    file.append(b"A")?;
-    file.append(b"\n")?;
-    let shared = file.share()?;
-    file.append(b"B")?;
-    let whole = b"A\nB".as_slice();
-    expect_bytes(rt, shared.as_slice(), b"A\n".as_slice(), "as it was shared");
-    expect_bytes(rt, file.as_slice(), whole, "the file goes on alone");
-    expect_bytes(rt, file.share()?.as_slice(), whole, "shared again");
-    Ok(shared)
+fn grows_on(rt: &impl Abort, file: &mut FileBytes) -> SharedBytes {
+    grow(rt, file, b"A");
+    grow(rt, file, b"\n");
+    let shared = share(rt, file, b"A\n");
+    grow(rt, file, b"B");
+    expect_bytes(rt, shared.as_slice(), b"A\n", "what was shared stays");
+    expect_bytes(rt, file.as_slice(), b"A\nB", "the file goes on alone");
+    share(rt, file, b"A\nB");
+    shared
 }
 
 #[test]
-fn a_file_is_shared_and_grows_on(rt: HostRuntime) -> Result<(), Fail> {
-    let mut file = FileBytes::new(rt.alloc());
-    let shared = grows_on(&rt, &mut file)?;
+fn a_file_is_shared_and_grows_on(rt: HostRuntime) {
+    let shared = grows_on(&rt, &mut FileBytes::new(rt.alloc()));
     let mut source = MemSource::of_shared(shared, Mode::Netascii);
-    let mut out = Vec::new(rt.alloc());
-    gives(&rt, &mut source, 512, &mut out, b"A\r\n");
-    Ok(())
+    gives_each(&rt, rt.alloc(), &mut source, 512, &[b"A\r\n"]);
+    drop(source);
 }
 
 #[test]
 fn a_full_sink_keeps_what_has_room(rt: HostRuntime) {
+    let rt = &rt;
     let mut sink = MemSink::new(rt.alloc(), 3, false);
-    expect_equal(&rt, &append(&mut sink, b"AB"), &Ok(()), "within the room");
-    let past = append(&mut sink, b"CDE");
-    expect_equal(&rt, &past, &Err(StoreFault::Full), "past the room");
-    expect_bytes(&rt, sink.as_bytes(), b"ABC".as_slice(), "what has room");
-    expect_equal(
-        &rt,
-        &append(&mut sink, b""),
-        &Ok(()),
-        "no bytes have room in a full sink",
-    );
+    appends(rt, &mut sink, b"AB", Ok(()), "within the room");
+    let full = Err(StoreFault::Full);
+    appends(rt, &mut sink, b"CDE", full, "past the room");
+    expect_bytes(rt, sink.as_bytes(), b"ABC", "what has room");
+    appends(rt, &mut sink, b"", Ok(()), "no bytes, which have room");
 }
 
 #[test]
 fn a_sink_is_committed_by_its_commit(rt: HostRuntime) {
+    let rt = &rt;
     let mut sink = MemSink::new(rt.alloc(), 3, false);
-    expect_equal(&rt, &append(&mut sink, b"ABC"), &Ok(()), "within the room");
-    expect(&rt, !sink.is_committed(), "before the commit");
-    expect_equal(&rt, &commit(&mut &mut sink), &Ok(()), "the commit");
-    expect(&rt, sink.is_committed(), "after the commit");
+    appends(rt, &mut sink, b"ABC", Ok(()), "within the room");
+    expect(rt, !sink.is_committed(), "before the commit");
+    commits(rt, &mut &mut sink, Ok(()), "the commit");
+    expect(rt, sink.is_committed(), "after the commit");
 }
 
 #[test]
 fn an_append_is_refused_once_as_told(rt: HostRuntime) {
-    let mut sink = MemSink::new(rt.alloc(), 9, false);
+    let rt = &rt;
+    let mut sink = &mut MemSink::new(rt.alloc(), 9, false);
     sink.refuse_next(true);
-    expect(&rt, sink.refuses(), "told");
-    let refused = append(&mut sink, b"A");
-    expect_equal(&rt, &refused, &Err(StoreFault::Full), "the append");
-    expect(&rt, !sink.refuses(), "told no more");
-    expect_equal(
-        &rt,
-        &append(&mut &mut sink, b"B"),
-        &Ok(()),
-        "the append after it",
-    );
-    expect_bytes(
-        &rt,
-        sink.as_bytes(),
-        b"B".as_slice(),
-        "the one that was taken",
-    );
+    expect(rt, sink.refuses(), "told");
+    appends(rt, sink, b"A", Err(StoreFault::Full), "the append");
+    expect(rt, !sink.refuses(), "told no more");
+    appends(rt, &mut sink, b"B", Ok(()), "the append after it");
+    expect_bytes(rt, sink.as_bytes(), b"B", "the one that was taken");
 }
 
 #[test]
 fn a_commit_is_refused_once_as_told(rt: HostRuntime) {
+    let rt = &rt;
     let mut sink = MemSink::new(rt.alloc(), 9, false);
-    expect_equal(&rt, &append(&mut sink, b"A"), &Ok(()), "the append");
+    appends(rt, &mut sink, b"A", Ok(()), "the append");
     sink.refuse_next(true);
-    expect_equal(
-        &rt,
-        &commit(&mut sink),
-        &Err(StoreFault::Full),
-        "the commit",
-    );
-    expect(&rt, !sink.is_committed(), "after a refused commit");
-    expect_equal(&rt, &commit(&mut sink), &Ok(()), "the commit after it");
-    expect_bytes(&rt, sink.as_bytes(), b"A".as_slice(), "the bytes stay");
+    commits(rt, &mut sink, Err(StoreFault::Full), "the commit");
+    expect(rt, !sink.is_committed(), "after a refused commit");
+    commits(rt, &mut sink, Ok(()), "the commit after it");
+    expect_bytes(rt, sink.as_bytes(), b"A", "the bytes stay");
 }
 
 #[test]
 fn a_commit_is_refused_as_made(rt: HostRuntime) {
+    let rt = &rt;
     let mut sink = MemSink::new(rt.alloc(), 9, true);
-    for _ in 0..2 {
-        expect_equal(&rt, &commit(&mut sink), &Err(StoreFault::Full), "each time");
-    }
-    expect(&rt, !sink.is_committed(), "never");
+    commits(rt, &mut sink, Err(StoreFault::Full), "the first time");
+    commits(rt, &mut sink, Err(StoreFault::Full), "the second time");
+    expect(rt, !sink.is_committed(), "never");
 }
 
 /// A source gives the one byte `A`, and a sink with room for one takes one.
-fn moves_a_byte<S: Source, K: Sink>(rt: &impl Abort, out: &mut Vec<u8>, file: &mut Files<S, K>) {
-    match file {
-        Files::Source(source) => gives(rt, source, 2, out, b"A"),
-        Files::Sink(sink) => expect_equal(rt, &append(sink, b"B"), &Ok(()), "the sink"),
+fn moves_a_byte(rt: &impl Abort, alloc: Global, mut file: Files<MemSource, MemSink>) {
+    match &mut file {
+        Files::Source(source) => gives_each(rt, alloc, source, 2, &[b"A"]),
+        Files::Sink(sink) => appends(rt, sink, b"B", Ok(()), "the sink"),
     }
+    drop(file);
 }
 
 #[test]
-fn files_are_of_either_direction(rt: HostRuntime) -> Result<(), Fail> {
-    let source = MemSource::new(rt.alloc(), b"A", Mode::Octet)?;
+fn files_are_of_either_direction(rt: HostRuntime) {
+    let rt = &rt;
+    let source = source_of(rt, rt.alloc(), b"A", Mode::Octet);
+    moves_a_byte(rt, rt.alloc(), Files::Source(source));
     let sink = MemSink::new(rt.alloc(), 1, false);
-    let mut out = Vec::new(rt.alloc());
-    let mut file: Files<MemSource, MemSink> = Files::Source(source);
-    moves_a_byte(&rt, &mut out, &mut file);
-    file = Files::Sink(sink);
-    moves_a_byte(&rt, &mut out, &mut file);
-    Ok(())
+    moves_a_byte(rt, rt.alloc(), Files::Sink(sink));
 }
 
 const STORE_FAULTS: [(StoreFault, u8); 5] = [
@@ -194,6 +158,6 @@ fn store_faults_are_numbered(rt: HostRuntime) {
 
 #[test]
 fn file_faults_are_numbered(rt: HostRuntime) {
-    expect_equal(&rt, &FileFault::Read.number(), &1, "a read that fails");
-    expect_equal(&rt, &FileFault::Memory.number(), &2, "out of memory");
+    let numbers = (FileFault::Read.number(), FileFault::Memory.number());
+    expect_equal(&rt, &numbers, &(1, 2), "a read that fails, and no memory");
 }

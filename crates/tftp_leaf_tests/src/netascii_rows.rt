@@ -4,7 +4,6 @@ use crate::expect::{expect_bytes, expect_equal};
 use std::alloc::Global;
 use std::io::{Error, ErrorKind, Read, Result as IoResult};
 use std::process::Abort;
-use std::test::Fail;
 use tftp_file::{
     FileFault, MAX_WIRE, NetDecoder, NetEncoder, NetFault, wire_length, wire_length_within,
 };
@@ -20,31 +19,40 @@ const TEXTS: [(&[u8], &[u8]); 6] = [
     (b"a\0b\nc\rd", b"a\0b\r\nc\r\0d"),
 ];
 
-fn is_sent_as(rt: &impl Abort, alloc: Global, host: &[u8], wire: &[u8]) -> Result<(), Fail> {
-    let mut sent = Vec::new(alloc);
-    let mut encoder = NetEncoder::new();
-    encoder.push(host, &mut sent)?;
-    encoder.finish()?;
-    expect_bytes(rt, sent.as_slice(), wire, "encoded");
-    Ok(())
+/// The decoder stores the piece behind what is stored.
+fn store(rt: &impl Abort, decoder: &mut NetDecoder, piece: &[u8], out: &mut Vec<u8>) {
+    decoder.push(piece, out).expect(rt, "wire text");
 }
 
-fn is_stored_as(rt: &impl Abort, alloc: Global, wire: &[u8], host: &[u8]) -> Result<(), Fail> {
+fn is_sent_as(rt: &impl Abort, alloc: Global, host: &[u8], wire: &[u8]) {
+    let mut sent = Vec::new(alloc);
+    let mut encoder = NetEncoder::new();
+    encoder.push(host, &mut sent).expect(rt, "memory");
+    expect_equal(rt, &encoder.finish(), &Ok(()), "the end of the text");
+    expect_bytes(rt, sent.as_slice(), wire, "encoded");
+}
+
+/// A decoder stores the host's bytes of a wire text that comes in these pieces.
+fn is_stored_as(rt: &impl Abort, alloc: Global, pieces: &[&[u8]], host: &[u8]) {
     let mut stored = Vec::new(alloc);
     let mut decoder = NetDecoder::new();
-    decoder.push(wire, &mut stored)?;
-    decoder.finish()?;
-    expect_bytes(rt, stored.as_slice(), host, "decoded");
-    Ok(())
+    for piece in pieces {
+        store(rt, &mut decoder, piece, &mut stored);
+    }
+    let found = (pieces, stored.as_slice(), decoder.finish());
+    expect_equal(rt, &found, &(pieces, host, Ok(())), "decoded, to its end");
+}
+
+fn goes_both_ways(rt: &impl Abort, alloc: Global, host: &[u8], wire: &[u8]) {
+    is_sent_as(rt, alloc, host, wire);
+    is_stored_as(rt, alloc, &[wire], host);
 }
 
 #[test]
-fn texts_both_ways(rt: HostRuntime) -> Result<(), Fail> {
+fn texts_both_ways(rt: HostRuntime) {
     for &(host, wire) in &TEXTS {
-        is_sent_as(&rt, rt.alloc(), host, wire)?;
-        is_stored_as(&rt, rt.alloc(), wire, host)?;
+        goes_both_ways(&rt, rt.alloc(), host, wire);
     }
-    Ok(())
 }
 
 /// Pieces of a wire text in turn, what is stored by then, and how many bytes are held back.
@@ -54,17 +62,27 @@ const PIECES: [(&[u8], &[u8], usize); 3] = [
     (b"\nA", b"\r\nA", 0),
 ];
 
+/// A decoder stores the piece, and then has stored and holds back so much.
+fn stores_and_holds(
+    rt: &impl Abort,
+    decoder: &mut NetDecoder,
+    out: &mut Vec<u8>,
+    piece: &[u8],
+    (stored, held): (&[u8], usize),
+) {
+    store(rt, decoder, piece, out);
+    let found = (piece, out.as_slice(), decoder.held());
+    expect_equal(rt, &found, &(piece, stored, held), "stored and held");
+}
+
 #[test]
-fn netascii_rows(rt: HostRuntime) -> Result<(), Fail> {
+fn netascii_rows(rt: HostRuntime) {
     let mut decoder = NetDecoder::new();
     let mut out = Vec::new(rt.alloc());
     for &(piece, stored, held) in &PIECES {
-        decoder.push(piece, &mut out)?;
-        expect_equal(&rt, &(piece, out.as_slice()), &(piece, stored), "stored");
-        expect_equal(&rt, &(piece, decoder.held()), &(piece, held), "held");
+        stores_and_holds(&rt, &mut decoder, &mut out, piece, (stored, held));
     }
     expect_equal(&rt, &decoder.finish(), &Ok(()), "the end");
-    Ok(())
 }
 
 /// A piece of wire text, a next one that begins none, and the fault.
@@ -76,113 +94,91 @@ const WRONG: [(&[u8], &[u8], NetFault); 5] = [
     (b"A", b"\r\0\rA\n", NetFault::LoneCr),
 ];
 
-fn is_refused(
+/// The decoder, which has stored `A`, refuses the text for this fault, and is as it was.
+fn refuses(
     rt: &impl Abort,
-    alloc: Global,
-    front: &[u8],
+    decoder: &mut NetDecoder,
+    out: &mut Vec<u8>,
     wrong: &[u8],
     fault: NetFault,
-) -> Result<(), Fail> {
+) {
+    let held = decoder.held();
+    let answer = decoder.push(wrong, out);
+    let found = (wrong, answer, out.as_slice(), decoder.held());
+    let wanted = (wrong, Err(fault), b"A".as_slice(), held);
+    expect_equal(
+        rt,
+        &found,
+        &wanted,
+        "the fault, and what is stored and held",
+    );
+}
+
+fn is_refused(rt: &impl Abort, alloc: Global, front: &[u8], wrong: &[u8], fault: NetFault) {
     let mut decoder = NetDecoder::new();
     let mut out = Vec::new(alloc);
-    decoder.push(front, &mut out)?;
-    let held = decoder.held();
-    let answer = decoder.push(wrong, &mut out);
-    expect_equal(
-        rt,
-        &(front, wrong, answer),
-        &(front, wrong, Err(fault)),
-        "the fault",
-    );
-    expect_equal(
-        rt,
-        &(wrong, out.as_slice()),
-        &(wrong, b"A".as_slice()),
-        "stored",
-    );
-    expect_equal(rt, &(wrong, decoder.held()), &(wrong, held), "held");
-    Ok(())
+    store(rt, &mut decoder, front, &mut out);
+    refuses(rt, &mut decoder, &mut out, wrong, fault);
 }
 
 #[test]
-fn wrong_texts_change_nothing(rt: HostRuntime) -> Result<(), Fail> {
+fn wrong_texts_change_nothing(rt: HostRuntime) {
     for &(front, wrong, fault) in &WRONG {
-        is_refused(&rt, rt.alloc(), front, wrong, fault)?;
+        is_refused(&rt, rt.alloc(), front, wrong, fault);
     }
-    Ok(())
 }
 
 #[test]
-fn a_text_ends_in_no_cr(rt: HostRuntime) -> Result<(), Fail> {
+fn a_text_ends_in_no_cr(rt: HostRuntime) {
+    let rt = &rt;
     let mut decoder = NetDecoder::new();
-    let mut out = Vec::new(rt.alloc());
-    decoder.push(b"A\r", &mut out)?;
-    expect_equal(
-        &rt,
-        &decoder.finish(),
-        &Err(NetFault::EndsInCr),
-        "CR at the end",
-    );
-    expect_equal(
-        &rt,
-        &NetFault::EndsInCr.number(),
-        &3,
-        "the number of the fault",
-    );
-    Ok(())
+    store(rt, &mut decoder, b"A\r", &mut Vec::new(rt.alloc()));
+    let fault = NetFault::EndsInCr;
+    expect_equal(rt, &decoder.finish(), &Err(fault), "CR at the end");
+    expect_equal(rt, &fault.number(), &3, "the number of the fault");
 }
 
 /// 511 letters and a line feed, which are 513 bytes of wire text.
-fn long_line(alloc: Global) -> Result<Vec<u8>, Fail> {
-    let mut host = vec![in alloc; b'A'; 511]?;
-    host.push(b'\n')?;
-    Ok(host)
+fn long_line(rt: &impl Abort, alloc: Global) -> Vec<u8> {
+    let mut host = vec![in alloc; b'A'; 511].expect(rt, "memory");
+    host.push(b'\n').expect(rt, "memory");
+    host
 }
 
-/// A decoder stores the host's bytes of the two pieces.
-fn is_stored_in_two(
-    rt: &impl Abort,
-    alloc: Global,
-    front: &[u8],
-    rest: &[u8],
-    host: &[u8],
-) -> Result<(), Fail> {
-    let mut decoder = NetDecoder::new();
-    let mut out = Vec::new(alloc);
-    decoder.push(front, &mut out)?;
-    decoder.push(rest, &mut out)?;
-    decoder.finish()?;
-    expect_equal(rt, &(front, out.as_slice()), &(front, host), "cut");
-    Ok(())
+/// The wire text of such a line.
+fn long_wire_text(rt: &impl Abort, alloc: Global, host: &[u8]) -> Vec<u8> {
+    let mut wire = Vec::new(alloc);
+    NetEncoder::new().push(host, &mut wire).expect(rt, "memory");
+    wire
 }
 
-#[test]
-fn every_cut(rt: HostRuntime) -> Result<(), Fail> {
-    let host = long_line(rt.alloc())?;
-    let mut wire = Vec::new(rt.alloc());
-    NetEncoder::new().push(host.as_slice(), &mut wire)?;
-    expect_equal(&rt, &wire.len(), &513, "the length on the wire");
+fn is_stored_at_every_cut(rt: &impl Abort, alloc: Global, wire: &[u8], host: &[u8]) {
+    expect_equal(rt, &wire.len(), &513, "the length on the wire");
     for at in 0..=513 {
-        let (front, rest) = wire.as_slice().split_at(at);
-        is_stored_in_two(&rt, rt.alloc(), front, rest, host.as_slice())?;
+        let (front, rest) = wire.split_at(at);
+        is_stored_as(rt, alloc, &[front, rest], host);
     }
-    Ok(())
 }
 
 #[test]
-fn lengths_on_the_wire(rt: HostRuntime) -> Result<(), Fail> {
+fn every_cut(rt: HostRuntime) {
+    let rt = &rt;
+    let host = long_line(rt, rt.alloc());
+    let wire = long_wire_text(rt, rt.alloc(), host.as_slice());
+    is_stored_at_every_cut(rt, rt.alloc(), wire.as_slice(), host.as_slice());
+}
+
+fn has_length(rt: &impl Abort, host: &[u8], mode: Mode, want: usize) {
+    let length = wire_length(host, mode);
+    expect_equal(rt, &(host, length), &(host, Ok(want as u64)), mode.word());
+}
+
+#[test]
+fn lengths_on_the_wire(rt: HostRuntime) {
     for &(host, wire) in &TEXTS {
-        let octet = wire_length(host, Mode::Octet)?;
-        expect_equal(&rt, &(host, octet), &(host, host.len() as u64), "octet");
-        let netascii = wire_length(host, Mode::Netascii)?;
-        expect_equal(
-            &rt,
-            &(host, netascii),
-            &(host, wire.len() as u64),
-            "netascii",
-        );
+        has_length(&rt, host, Mode::Octet, host.len());
+        has_length(&rt, host, Mode::Netascii, wire.len());
     }
-    Ok(())
 }
 
 /// A text, its mode, the most that counts, and the length.
@@ -197,12 +193,7 @@ const WITHIN: [(&[u8], Mode, u64, u64); 4] = [
 fn lengths_within_a_limit(rt: HostRuntime) {
     for &(bytes, mode, most, want) in &WITHIN {
         let length = wire_length_within(bytes, mode, most);
-        expect_equal(
-            &rt,
-            &(bytes, mode, most, length),
-            &(bytes, mode, most, want),
-            "its length",
-        );
+        expect_equal(&rt, &(mode, most, length), &(mode, most, want), "a length");
     }
 }
 
@@ -222,19 +213,23 @@ impl Read for Failing {
     }
 }
 
-/// How many reads of 8,192 bytes succeed, and the length: 523,705 of them are the first to be more than
-/// the longest wire text.
+/// How many reads of 8,192 bytes succeed, and the length: 523,705 of them are the first to be more
+/// than the longest wire text.
 const READS: [(u64, Mode, Result<u64, FileFault>); 3] = [
     (3, Mode::Netascii, Err(FileFault::Read)),
     (523_704, Mode::Octet, Err(FileFault::Read)),
     (523_705, Mode::Octet, Ok(MAX_WIRE + 1)),
 ];
 
+fn is_read_so(rt: &impl Abort, reads: u64, mode: Mode, want: Result<u64, FileFault>) {
+    let length = wire_length(Failing { reads }, mode);
+    expect_equal(rt, &(reads, length), &(reads, want), mode.word());
+}
+
 #[test]
 fn a_reader_fails(rt: HostRuntime) {
     for &(reads, mode, want) in &READS {
-        let length = wire_length(Failing { reads }, mode);
-        expect_equal(&rt, &(reads, mode, length), &(reads, mode, want), "reads");
+        is_read_so(&rt, reads, mode, want);
     }
     expect_equal(
         &rt,

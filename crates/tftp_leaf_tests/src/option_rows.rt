@@ -4,14 +4,14 @@
 //! list that is agreed and the block size, or as the refusal.
 
 use crate::expect::{expect, expect_equal, expect_text};
+use crate::packet_rows::{bytes_of, read_request};
 use std::alloc::{AllocError, Global};
 use std::process::Abort;
-use std::test::Fail;
 use tftp_negotiate::{
     Agreed, Asked, Kind, Known, Limits, Name, Refusal, accept, accept_ref, check_oack,
     check_oack_ref, is_block_size, is_timeout,
 };
-use tftp_wire::{Bytes, Mode, PacketRef, RawOption, decode_ref};
+use tftp_wire::{Mode, OptionsRef, PacketRef, RawOption, decode_ref};
 
 const ROOMY: Limits = Limits {
     max_block: 65_464,
@@ -73,8 +73,8 @@ const DIRECTIONS: [(Kind, Mode); 4] = [
     (WRITE, NETASCII),
 ];
 
-/// Values that are no number, whatever the option: the RFCs only say that values are ASCII, and this
-/// project takes a number in one spelling, below 2^64.
+/// Values that are no number, whatever the option: the RFCs only say that values are ASCII, and
+/// this project takes a number in one spelling, below 2^64.
 const NO_NUMBERS: [&str; 14] = [
     "",
     "00",
@@ -94,21 +94,21 @@ const NO_NUMBERS: [&str; 14] = [
 
 const NAMES: [&str; 3] = ["blksize", "timeout", "tsize"];
 
-fn options_of(alloc: Global, row: &str) -> Result<Vec<RawOption>, AllocError> {
+fn options_of(rt: &impl Abort, alloc: Global, row: &str) -> Vec<RawOption> {
     let mut options = Vec::new(alloc);
     for option in row.split(',') {
         if let Some((name, value)) = option.split_once('=') {
-            options.push(option_of(alloc, name, value)?)?;
+            let option = option_of(rt, alloc, name, value);
+            options.push(option).expect(rt, "memory");
         }
     }
-    Ok(options)
+    options
 }
 
-fn option_of(alloc: Global, name: &str, value: &str) -> Result<RawOption, AllocError> {
-    Ok(RawOption {
-        name: Bytes::from_slice(alloc, name.as_bytes())?,
-        value: Bytes::from_slice(alloc, value.as_bytes())?,
-    })
+fn option_of(rt: &impl Abort, alloc: Global, name: &str, value: &str) -> RawOption {
+    let name = bytes_of(rt, alloc, name.as_bytes());
+    let value = bytes_of(rt, alloc, value.as_bytes());
+    RawOption { name, value }
 }
 
 fn shown(alloc: Global, outcome: Result<Agreed, Refusal>) -> Result<String, AllocError> {
@@ -122,6 +122,19 @@ fn shown(alloc: Global, outcome: Result<Agreed, Refusal>) -> Result<String, Allo
     }
 }
 
+/// This becomes of the options of a kind and mode; `what` says which options they are.
+fn comes_out(
+    rt: &impl Abort,
+    alloc: Global,
+    direction: (Kind, Mode),
+    outcome: Result<Agreed, Refusal>,
+    want: &str,
+    what: &str,
+) {
+    let got = shown(alloc, outcome).expect(rt, "memory");
+    expect_equal(rt, &(direction, got.as_str()), &(direction, want), what);
+}
+
 /// A server whose file has 10 bytes answers a request with these options so.
 fn answers(
     rt: &impl Abort,
@@ -130,13 +143,12 @@ fn answers(
     (kind, mode): (Kind, Mode),
     row: &str,
     want: &str,
-) -> Result<(), Fail> {
+) {
     let largest = u64::from(limits.max_block);
     expect(rt, is_block_size(largest), row);
-    let options = options_of(alloc, row)?;
-    let got = shown(alloc, accept(options.as_slice(), kind, mode, 10, limits))?;
-    expect_equal(rt, &(kind, mode, got.as_str()), &(kind, mode, want), row);
-    Ok(())
+    let options = options_of(rt, alloc, row);
+    let outcome = accept(options.as_slice(), kind, mode, 10, limits);
+    comes_out(rt, alloc, (kind, mode), outcome, want, row);
 }
 
 /// A client takes an OACK with these options so.
@@ -148,20 +160,11 @@ fn takes(
     row: &str,
     limit: u64,
     want: &str,
-) -> Result<(), Fail> {
+) {
     expect(rt, asked.is_askable(), row);
-    let options = options_of(alloc, row)?;
-    let got = shown(
-        alloc,
-        check_oack(asked, kind, mode, options.as_slice(), limit),
-    )?;
-    expect_equal(
-        rt,
-        &(kind, mode, asked, got.as_str()),
-        &(kind, mode, asked, want),
-        row,
-    );
-    Ok(())
+    let options = options_of(rt, alloc, row);
+    let outcome = check_oack(asked, kind, mode, options.as_slice(), limit);
+    comes_out(rt, alloc, (kind, mode), outcome, want, row);
 }
 
 /// The first two rows are the lists of a request in two orders; the answer keeps the order
@@ -180,11 +183,10 @@ const LIMITED: [(&str, &str); 10] = [
 ];
 
 #[test]
-fn answers_keep_to_limits(rt: HostRuntime) -> Result<(), Fail> {
+fn answers_keep_to_limits(rt: HostRuntime) {
     for &(row, want) in &LIMITED {
-        answers(&rt, rt.alloc(), &TIGHT, (READ, OCTET), row, want)?;
+        answers(&rt, rt.alloc(), &TIGHT, (READ, OCTET), row, want);
     }
-    Ok(())
 }
 
 /// The ranges of RFC 2348 (8 to 65,464) and RFC 2349 (1 to 255), in both modes, both ways.
@@ -212,47 +214,43 @@ const RANGES: [(&str, &str); 21] = [
     ("tsize=x,tsize=y", "Repeated"),
 ];
 
-fn keeps_to_ranges(rt: &impl Abort, alloc: Global, direction: (Kind, Mode)) -> Result<(), Fail> {
+fn keeps_to_ranges(rt: &impl Abort, alloc: Global, direction: (Kind, Mode)) {
     for &(row, want) in &RANGES {
-        answers(rt, alloc, &ROOMY, direction, row, want)?;
+        answers(rt, alloc, &ROOMY, direction, row, want);
     }
-    Ok(())
 }
 
 #[test]
-fn answers_keep_to_ranges(rt: HostRuntime) -> Result<(), Fail> {
+fn answers_keep_to_ranges(rt: HostRuntime) {
     for &direction in &DIRECTIONS {
-        keeps_to_ranges(&rt, rt.alloc(), direction)?;
+        keeps_to_ranges(&rt, rt.alloc(), direction);
     }
-    Ok(())
+}
+
+/// The option as a row writes it.
+fn row_of(rt: &impl Abort, alloc: Global, name: &str, value: &str) -> String {
+    format!(in alloc; "{name}={value}").expect(rt, "memory")
 }
 
 /// Each option with each value that is no number is left out of the answer.
-fn leaves_out_no_numbers(
-    rt: &impl Abort,
-    alloc: Global,
-    direction: (Kind, Mode),
-    name: &str,
-) -> Result<(), Fail> {
+fn leaves_out_no_numbers(rt: &impl Abort, alloc: Global, direction: (Kind, Mode), name: &str) {
     for &value in &NO_NUMBERS {
-        let row = format!(in alloc; "{name}={value}")?;
-        answers(rt, alloc, &ROOMY, direction, row.as_str(), "[] 512")?;
+        let row = row_of(rt, alloc, name, value);
+        answers(rt, alloc, &ROOMY, direction, row.as_str(), "[] 512");
     }
-    Ok(())
 }
 
 #[test]
-fn answers_leave_out_no_numbers(rt: HostRuntime) -> Result<(), Fail> {
+fn answers_leave_out_no_numbers(rt: HostRuntime) {
     for &direction in &DIRECTIONS {
         for &name in &NAMES {
-            leaves_out_no_numbers(&rt, rt.alloc(), direction, name)?;
+            leaves_out_no_numbers(&rt, rt.alloc(), direction, name);
         }
     }
-    Ok(())
 }
 
-/// A read asks 0 and is answered by the length, here 10; a write says its length (RFC 2349). In netascii
-/// the option is left out.
+/// A read asks 0 and is answered by the length, here 10; a write says its length (RFC 2349). In
+/// netascii the option is left out.
 const LENGTHS: [(Kind, Mode, &str, &str); 12] = [
     (READ, OCTET, "tsize=0", "[Tsize(10)] 512"),
     (READ, OCTET, "tsize=1", "[] 512"),
@@ -269,23 +267,17 @@ const LENGTHS: [(Kind, Mode, &str, &str); 12] = [
 ];
 
 #[test]
-fn answers_say_lengths(rt: HostRuntime) -> Result<(), Fail> {
+fn answers_say_lengths(rt: HostRuntime) {
     for &(kind, mode, row, want) in &LENGTHS {
-        answers(&rt, rt.alloc(), &TIGHT, (kind, mode), row, want)?;
+        answers(&rt, rt.alloc(), &TIGHT, (kind, mode), row, want);
     }
-    Ok(())
 }
 
 #[test]
-fn the_largest_length_is_answered(rt: HostRuntime) -> Result<(), Fail> {
-    answers(
-        &rt,
-        rt.alloc(),
-        &ROOMY,
-        (WRITE, OCTET),
-        "tsize=18446744073709551615",
-        "[Tsize(18446744073709551615)] 512",
-    )
+fn the_largest_length_is_answered(rt: HostRuntime) {
+    let row = "tsize=18446744073709551615";
+    let want = "[Tsize(18446744073709551615)] 512";
+    answers(&rt, rt.alloc(), &ROOMY, (WRITE, OCTET), row, want);
 }
 
 /// OACKs for a client that asked for a block size.
@@ -329,28 +321,23 @@ const UNASKED_OACKS: [(&str, &str); 3] = [
 ];
 
 /// The client takes each OACK of an octet read so, with files of at most 1,000 bytes.
-fn takes_each(
-    rt: &impl Abort,
-    alloc: Global,
-    asked: &Asked,
-    rows: &[(&str, &str)],
-) -> Result<(), Fail> {
+fn takes_each(rt: &impl Abort, alloc: Global, asked: &Asked, rows: &[(&str, &str)]) {
     for (row, want) in rows {
-        takes(rt, alloc, asked, (READ, OCTET), row, 1000, want)?;
+        takes(rt, alloc, asked, (READ, OCTET), row, 1000, want);
     }
-    Ok(())
 }
 
 #[test]
-fn option_rows(rt: HostRuntime) -> Result<(), Fail> {
-    takes_each(&rt, rt.alloc(), &SIZE, &SIZE_OACKS)?;
-    takes_each(&rt, rt.alloc(), &LENGTH, &LENGTH_OACKS)?;
-    takes_each(&rt, rt.alloc(), &WAIT, &WAIT_OACKS)?;
-    takes_each(&rt, rt.alloc(), &NOTHING, &UNASKED_OACKS)
+fn option_rows(rt: HostRuntime) {
+    let rt = &rt;
+    takes_each(rt, rt.alloc(), &SIZE, &SIZE_OACKS);
+    takes_each(rt, rt.alloc(), &LENGTH, &LENGTH_OACKS);
+    takes_each(rt, rt.alloc(), &WAIT, &WAIT_OACKS);
+    takes_each(rt, rt.alloc(), &NOTHING, &UNASKED_OACKS);
 }
 
-/// The other modes and kinds: a write takes the length that it said alone (RFC 2349), and in netascii
-/// no length counts as asked. Files have at most 39 bytes.
+/// The other modes and kinds: a write takes the length that it said alone (RFC 2349), and in
+/// netascii no length counts as asked. Files have at most 39 bytes.
 const OACK_LENGTHS: [(Kind, Mode, &str, &str); 10] = [
     (WRITE, OCTET, "tsize=41", "[Tsize(41)] 512"),
     (WRITE, OCTET, "tsize=40", "BadValue"),
@@ -375,29 +362,26 @@ const OACK_LENGTHS: [(Kind, Mode, &str, &str); 10] = [
 ];
 
 #[test]
-fn oack_lengths(rt: HostRuntime) -> Result<(), Fail> {
+fn oack_lengths(rt: HostRuntime) {
     for &(kind, mode, row, want) in &OACK_LENGTHS {
-        takes(&rt, rt.alloc(), &ALL, (kind, mode), row, 39, want)?;
+        takes(&rt, rt.alloc(), &ALL, (kind, mode), row, 39, want);
     }
-    Ok(())
 }
 
 /// Each option with each value that is no number is refused in an OACK.
-fn refuses_no_numbers(rt: &impl Abort, alloc: Global, kind: Kind, name: &str) -> Result<(), Fail> {
+fn refuses_no_numbers(rt: &impl Abort, alloc: Global, kind: Kind, name: &str) {
     for &value in &NO_NUMBERS {
-        let row = format!(in alloc; "{name}={value}")?;
-        takes(rt, alloc, &ALL, (kind, OCTET), row.as_str(), 39, "BadValue")?;
+        let row = row_of(rt, alloc, name, value);
+        takes(rt, alloc, &ALL, (kind, OCTET), row.as_str(), 39, "BadValue");
     }
-    Ok(())
 }
 
 #[test]
-fn oacks_hold_numbers(rt: HostRuntime) -> Result<(), Fail> {
+fn oacks_hold_numbers(rt: HostRuntime) {
     for &name in &NAMES {
-        refuses_no_numbers(&rt, rt.alloc(), READ, name)?;
-        refuses_no_numbers(&rt, rt.alloc(), WRITE, name)?;
+        refuses_no_numbers(&rt, rt.alloc(), READ, name);
+        refuses_no_numbers(&rt, rt.alloc(), WRITE, name);
     }
-    Ok(())
 }
 
 /// Block sizes, and whether one may be asked (RFC 2348, "Blocksize Option Specification").
@@ -410,23 +394,23 @@ const SIZES: [(u16, bool); 6] = [
     (65_535, false),
 ];
 
+/// Whether the size is for a read, may be asked at all, and is one.
+fn may_be_asked(rt: &impl Abort, size: u16, want: bool) {
+    let asked = Asked {
+        blksize: Some(size),
+        timeout: None,
+        tsize: None,
+    };
+    let is_for_read = asked.is_for(READ, OCTET, 0);
+    let is_size = is_block_size(u64::from(size));
+    let found = (size, is_for_read, asked.is_askable(), is_size);
+    expect_equal(rt, &found, &(size, want, want, want), "blksize");
+}
+
 #[test]
 fn asked_sizes(rt: HostRuntime) {
     for &(size, want) in &SIZES {
-        let asked = Asked {
-            blksize: Some(size),
-            timeout: None,
-            tsize: None,
-        };
-        let may_ask = asked.is_for(READ, OCTET, 0);
-        expect_equal(&rt, &(size, may_ask), &(size, want), "blksize");
-        expect_equal(&rt, &(size, asked.is_askable()), &(size, want), "blksize");
-        expect_equal(
-            &rt,
-            &(size, is_block_size(u64::from(size))),
-            &(size, want),
-            "blksize",
-        );
+        may_be_asked(&rt, size, want);
     }
 }
 
@@ -441,14 +425,9 @@ fn asked_seconds(rt: HostRuntime) {
             timeout: Some(seconds),
             tsize: None,
         };
-        let may_ask = asked.is_for(WRITE, NETASCII, 9);
-        expect_equal(&rt, &(seconds, may_ask), &(seconds, want), "timeout");
-        expect_equal(
-            &rt,
-            &(seconds, is_timeout(u64::from(seconds))),
-            &(seconds, want),
-            "timeout",
-        );
+        let is_for_write = asked.is_for(WRITE, NETASCII, 9);
+        let found = (seconds, is_for_write, is_timeout(u64::from(seconds)));
+        expect_equal(&rt, &found, &(seconds, want, want), "timeout");
     }
 }
 
@@ -478,83 +457,75 @@ fn asked_lengths(rt: HostRuntime) {
 
 #[test]
 fn nothing_is_asked(rt: HostRuntime) {
+    let rt = &rt;
     expect(
-        &rt,
+        rt,
         Asked::default().is_for(READ, OCTET, 9),
         "nothing may be asked",
     );
-    expect_equal(&rt, &Asked::default(), &NOTHING, "the default");
-    expect_equal(&rt, &NOTHING.tsize_in(OCTET), &None, "no length");
+    expect_equal(rt, &Asked::default(), &NOTHING, "the default");
+    expect_equal(rt, &NOTHING.tsize_in(OCTET), &None, "no length");
+}
+
+/// So many options are agreed, with this block size and timeout.
+fn agrees(rt: &impl Abort, agreed: &Agreed, size: u16, timeout: Option<u8>, count: usize) {
+    let list = (agreed.is_empty(), agreed.as_slice().len());
+    expect_equal(rt, &list, &(count == 0, count), "the options");
+    let values = (agreed.block_size(), agreed.timeout());
+    expect_equal(rt, &values, &(size, timeout), "block size and timeout");
 }
 
 #[test]
-fn agreed_values(rt: HostRuntime) -> Result<(), Fail> {
-    let options = options_of(rt.alloc(), "tsize=0,timeout=9,blksize=64")?;
+fn agreed_values(rt: HostRuntime) {
+    let rt = &rt;
+    let options = options_of(rt, rt.alloc(), "tsize=0,timeout=9,blksize=64");
     let outcome = accept(options.as_slice(), READ, OCTET, 10, &ROOMY);
-    let agreed = outcome.ok().ok_or("the options are answered")?;
-    expect_equal(&rt, &agreed.block_size(), &64, "the block size");
-    expect_equal(&rt, &agreed.timeout(), &Some(9), "the timeout");
-    expect(&rt, !agreed.is_empty(), "options are agreed");
-    expect_equal(&rt, &agreed.as_slice().len(), &3, "three of them");
-    Ok(())
+    let agreed = outcome.expect(rt, "the options are answered");
+    agrees(rt, &agreed, 64, Some(9), 3);
 }
 
 #[test]
 fn default_values(rt: HostRuntime) {
-    let agreed = Agreed::default();
-    expect_equal(
-        &rt,
-        &agreed.block_size(),
-        &512,
-        "blocks have 512 bytes without options (RFC 1350, section 2)",
-    );
-    expect_equal(&rt, &agreed.timeout(), &None, "no timeout is agreed");
-    expect(&rt, agreed.is_empty(), "no option is agreed");
-    expect(&rt, Agreed::new().is_empty(), "nor at first");
-    expect_equal(&rt, &Known::default(), &Known::Tsize(0), "what a read asks");
+    let rt = &rt;
+    // blocks have 512 bytes without options (RFC 1350, section 2)
+    agrees(rt, &Agreed::default(), 512, None, 0);
+    expect(rt, Agreed::new().is_empty(), "no option at first");
+    expect_equal(rt, &Known::default(), &Known::Tsize(0), "what a read asks");
 }
 
-/// The options of a datagram are judged as owned ones are: an RRQ with two options (RFC 2347, "Packet
-/// Formats").
+/// The options of a datagram are judged as owned ones are: an RRQ with two options (RFC 2347,
+/// "Packet Formats").
 #[test]
-fn a_datagram_is_answered(rt: HostRuntime) -> Result<(), Fail> {
+fn a_datagram_is_answered(rt: HostRuntime) {
     let request = b"\0\x01boot.img\0octet\0BLKSIZE\01428\0timeout\03\0";
-    let PacketRef::Read(read) = decode_ref(request)? else {
-        return Err(Fail::from("an RRQ"));
-    };
+    let read = read_request(&rt, request);
     let answer = accept_ref(&read.options, READ, read.mode, 10, &TIGHT);
-    let answer = shown(rt.alloc(), answer)?;
-    expect_text(
-        &rt,
-        answer.as_str(),
-        "[Blksize(1428), Timeout(3)] 1428",
-        "the RRQ",
-    );
-    Ok(())
+    let want = "[Blksize(1428), Timeout(3)] 1428";
+    comes_out(&rt, rt.alloc(), (READ, OCTET), answer, want, "the RRQ");
+}
+
+/// The options of an OACK.
+fn oack_options<'a>(rt: &impl Abort, oack: &'a [u8]) -> OptionsRef<'a> {
+    match decode_ref(oack).expect(rt, "a packet") {
+        PacketRef::Oack(options) => options,
+        _ => panic!(rt; "an OACK"),
+    }
 }
 
 /// The OACK that answers it, at a client that asked for more.
 #[test]
-fn a_datagram_is_taken(rt: HostRuntime) -> Result<(), Fail> {
-    let oack = b"\0\x06blksize\01428\0timeout\03\0";
-    let PacketRef::Oack(options) = decode_ref(oack)? else {
-        return Err(Fail::from("an OACK"));
-    };
+fn a_datagram_is_taken(rt: HostRuntime) {
+    let rt = &rt;
+    let options = oack_options(rt, b"\0\x06blksize\01428\0timeout\03\0");
     let asked = Asked {
         blksize: Some(2000),
         timeout: Some(3),
         tsize: None,
     };
-    expect(&rt, asked.is_askable(), "what may be asked");
+    expect(rt, asked.is_askable(), "what may be asked");
     let taken = check_oack_ref(&asked, READ, OCTET, &options, 10);
-    let taken = shown(rt.alloc(), taken)?;
-    expect_text(
-        &rt,
-        taken.as_str(),
-        "[Blksize(1428), Timeout(3)] 1428",
-        "the OACK",
-    );
-    Ok(())
+    let want = "[Blksize(1428), Timeout(3)] 1428";
+    comes_out(rt, rt.alloc(), (READ, OCTET), taken, want, "the OACK");
 }
 
 /// Names are compared without regard to the case of their letters (RFC 2347, "Packet Formats").
@@ -584,12 +555,16 @@ const REFUSALS: [(Refusal, u8, &str); 4] = [
     ),
 ];
 
+/// The refusal has this number and prints this text.
+fn is_told(rt: &impl Abort, alloc: Global, refusal: Refusal, number: u8, text: &str) {
+    expect_equal(rt, &refusal.number(), &number, text);
+    let shown = format!(in alloc; "{refusal}").expect(rt, "memory");
+    expect_text(rt, shown.as_str(), text, text);
+}
+
 #[test]
-fn refusals(rt: HostRuntime) -> Result<(), Fail> {
+fn refusals(rt: HostRuntime) {
     for &(refusal, number, text) in &REFUSALS {
-        expect_equal(&rt, &refusal.number(), &number, text);
-        let shown = format!(in rt.alloc(); "{refusal}")?;
-        expect_text(&rt, shown.as_str(), text, text);
+        is_told(&rt, rt.alloc(), refusal, number, text);
     }
-    Ok(())
 }

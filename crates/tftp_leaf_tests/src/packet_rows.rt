@@ -1,13 +1,12 @@
-//! Packets: their bytes, their lines and their faults, written by hand from the layouts of the packets
-//! (RFC 1350, section 5; RFC 2347, "Packet Formats").
+//! Packets: their bytes, their lines and their faults, written by hand from the layouts of the
+//! packets (RFC 1350, section 5; RFC 2347, "Packet Formats").
 
 use crate::expect::{expect, expect_bytes, expect_equal, expect_text};
 use std::alloc::Global;
 use std::process::Abort;
-use std::test::Fail;
 use tftp_wire::{
-    Bytes, Mode, OptionRef, Packet, PacketFault, PacketFaultKind, PacketRef, RawOption, RawOptions,
-    decode, decode_ref, encode, is_valid, show,
+    Bytes, Mode, OptionRef, OptionsRef, Packet, PacketFault, PacketFaultKind, PacketRef, RawOption,
+    RawOptions, RequestRef, decode, decode_ref, encode, is_valid, show,
 };
 
 /// Datagrams that spell a packet, and its line.
@@ -79,37 +78,46 @@ const FAULTS: [(&[u8], PacketFaultKind, usize); 19] = [
     (b"\x00\x06", PacketFaultKind::EmptyOack, 2),
 ];
 
-/// The opcode of a read request and letters that no zero byte ends, by their length: a request has 512
-/// bytes at most (RFC 2347, "Packet Formats").
+/// The opcode of a read request and letters that no zero byte ends, by their length: a request has
+/// 512 bytes at most (RFC 2347, "Packet Formats").
 const LENGTHS: [(usize, PacketFaultKind, usize); 2] = [
     (512, PacketFaultKind::Unterminated, 2),
     (513, PacketFaultKind::TooLong, 512),
 ];
 
-fn line_of(alloc: Global, packet: &Packet) -> Result<String, PacketFault> {
-    let mut line = String::new(alloc);
-    show(packet, &mut line)?;
-    Ok(line)
+/// The packet that a datagram spells.
+fn packet_of(rt: &impl Abort, alloc: Global, bytes: &[u8]) -> Packet {
+    decode(alloc, bytes).expect(rt, "a packet")
 }
 
-fn has_line(rt: &impl Abort, alloc: Global, bytes: &[u8], want: &str) -> Result<(), Fail> {
-    let packet = decode(alloc, bytes)?;
-    let line = line_of(alloc, &packet)?;
+fn line_of(rt: &impl Abort, alloc: Global, packet: &Packet) -> String {
+    let mut line = String::new(alloc);
+    show(packet, &mut line).expect(rt, "memory");
+    line
+}
+
+fn has_line(rt: &impl Abort, alloc: Global, packet: &Packet, want: &str) {
+    expect(rt, is_valid(packet), want);
+    let line = line_of(rt, alloc, packet);
     expect_text(rt, line.as_str(), want, "the line of a packet");
-    expect(rt, is_valid(&packet), want);
-    Ok(())
+}
+
+fn is_shown_as(rt: &impl Abort, alloc: Global, bytes: &[u8], want: &str) {
+    let packet = packet_of(rt, alloc, bytes);
+    has_line(rt, alloc, &packet, want);
+    drop(packet);
 }
 
 #[test]
-fn packets_show(rt: HostRuntime) -> Result<(), Fail> {
+fn packets_show(rt: HostRuntime) {
+    let rt = &rt;
     for &(bytes, want) in &PACKETS {
-        has_line(&rt, rt.alloc(), bytes, want)?;
+        is_shown_as(rt, rt.alloc(), bytes, want);
     }
-    Ok(())
 }
 
-fn has_fault(rt: &impl Abort, bytes: &[u8], kind: PacketFaultKind, at: usize) {
-    let fault = PacketFault { kind, at };
+/// The borrowed reader finds this fault.
+fn has_fault(rt: &impl Abort, bytes: &[u8], fault: PacketFault) {
     let found = decode_ref(bytes).err();
     expect_equal(rt, &(bytes, found), &(bytes, Some(fault)), "the fault");
 }
@@ -117,150 +125,185 @@ fn has_fault(rt: &impl Abort, bytes: &[u8], kind: PacketFaultKind, at: usize) {
 #[test]
 fn faults_stand(rt: HostRuntime) {
     for &(bytes, kind, at) in &FAULTS {
-        has_fault(&rt, bytes, kind, at);
+        has_fault(&rt, bytes, PacketFault { kind, at });
     }
 }
 
+/// The packet of a datagram, which can be written, is written so.
+fn written(rt: &impl Abort, alloc: Global, bytes: &[u8], out: &mut Vec<u8>) {
+    let packet = packet_of(rt, alloc, bytes);
+    expect(rt, is_valid(&packet), "what is read can be written");
+    encode(&packet, out).expect(rt, "memory");
+    drop(packet);
+}
+
 #[test]
-fn packet_rows(rt: HostRuntime) -> Result<(), Fail> {
-    let packet = decode(rt.alloc(), b"\x00\x01boot.img\x00OCTET\x00")?;
+fn packet_rows(rt: HostRuntime) {
     let mut out = Vec::new(rt.alloc());
-    expect(&rt, is_valid(&packet), "what is read can be written");
-    encode(&packet, &mut out)?;
-    expect_bytes(
-        &rt,
-        out.as_slice(),
-        b"\x00\x01boot.img\x00octet\x00".as_slice(),
-        "the mode in lower case",
-    );
-    Ok(())
+    written(&rt, rt.alloc(), b"\x00\x01boot.img\x00OCTET\x00", &mut out);
+    let lower = b"\x00\x01boot.img\x00octet\x00".as_slice();
+    expect_bytes(&rt, out.as_slice(), lower, "the mode in lower case");
+}
+
+/// The opcode of a read request and letters, with so many bytes in all.
+fn endless_request(rt: &impl Abort, alloc: Global, len: usize) -> Vec<u8> {
+    let mut request = Vec::from_slice(alloc, &[0, 1]).expect(rt, "memory");
+    request.resize(len, b'a').expect(rt, "memory");
+    request
 }
 
 #[test]
-fn requests_have_512_bytes_at_most(rt: HostRuntime) -> Result<(), Fail> {
+fn requests_have_512_bytes_at_most(rt: HostRuntime) {
     for &(len, kind, at) in &LENGTHS {
-        let mut request = Vec::from_slice(rt.alloc(), &[0, 1])?;
-        request.resize(len, b'a')?;
-        has_fault(&rt, request.as_slice(), kind, at);
+        let request = endless_request(&rt, rt.alloc(), len);
+        has_fault(&rt, request.as_slice(), PacketFault { kind, at });
     }
-    Ok(())
 }
 
-/// The copy of a borrowed packet is the owned one.
-fn is_one_packet(
-    rt: &impl Abort,
-    alloc: Global,
-    borrowed: &PacketRef<'_>,
-    owned: &Packet,
-) -> Result<(), Fail> {
-    let copy = borrowed.to_packet(alloc)?;
-    let copy = format!(in alloc; "{copy:?}")?;
-    let owned = format!(in alloc; "{owned:?}")?;
-    expect_text(rt, copy.as_str(), owned.as_str(), "the packet");
-    Ok(())
+/// All that a packet holds, as `Debug` writes it.
+fn text_of(rt: &impl Abort, alloc: Global, packet: &Packet) -> String {
+    format!(in alloc; "{packet:?}").expect(rt, "memory")
+}
+
+fn is_one_packet(rt: &impl Abort, alloc: Global, copy: Packet, owned: Packet) {
+    let copy_text = text_of(rt, alloc, &copy);
+    drop(copy);
+    let text = text_of(rt, alloc, &owned);
+    drop(owned);
+    expect_text(rt, copy_text.as_str(), text.as_str(), "the packet");
+}
+
+/// The copy of the packet that the borrowed reader gives.
+fn copy_of(rt: &impl Abort, alloc: Global, bytes: &[u8]) -> Packet {
+    let borrowed = decode_ref(bytes).expect(rt, "a packet");
+    borrowed.to_packet(alloc).expect(rt, "memory")
 }
 
 /// The owned and the borrowed reader give one packet, or one fault.
-fn reads_alike(rt: &impl Abort, alloc: Global, bytes: &[u8]) -> Result<(), Fail> {
-    match (decode_ref(bytes), decode(alloc, bytes)) {
-        (Ok(borrowed), Ok(owned)) => is_one_packet(rt, alloc, &borrowed, &owned),
-        (one, other) => {
-            expect_equal(rt, &(bytes, one.err()), &(bytes, other.err()), "the fault");
-            Ok(())
-        }
+fn reads_alike(rt: &impl Abort, alloc: Global, bytes: &[u8]) {
+    match decode(alloc, bytes) {
+        Ok(owned) => is_one_packet(rt, alloc, copy_of(rt, alloc, bytes), owned),
+        Err(fault) => has_fault(rt, bytes, fault),
     }
 }
 
-fn beginnings_read_alike(rt: &impl Abort, alloc: Global, bytes: &[u8]) -> Result<(), Fail> {
+fn beginnings_read_alike(rt: &impl Abort, alloc: Global, bytes: &[u8]) {
     for len in 0..bytes.len() + 1 {
-        reads_alike(rt, alloc, &bytes[..len])?;
+        reads_alike(rt, alloc, &bytes[..len]);
     }
-    Ok(())
 }
 
 #[test]
-fn ref_equals_owned(rt: HostRuntime) -> Result<(), Fail> {
+fn ref_equals_owned(rt: HostRuntime) {
     for &(bytes, _) in &PACKETS {
-        beginnings_read_alike(&rt, rt.alloc(), bytes)?;
+        beginnings_read_alike(&rt, rt.alloc(), bytes);
     }
-    Ok(())
 }
 
 #[test]
-fn ref_equals_owned_of_faults(rt: HostRuntime) -> Result<(), Fail> {
+fn ref_equals_owned_of_faults(rt: HostRuntime) {
     for &(bytes, _, _) in &FAULTS {
-        beginnings_read_alike(&rt, rt.alloc(), bytes)?;
+        beginnings_read_alike(&rt, rt.alloc(), bytes);
     }
-    Ok(())
 }
 
 #[test]
 fn packet_faults_are_numbered(rt: HostRuntime) {
-    expect_equal(&rt, &PacketFaultKind::Short.number(), &1, "the first kind");
-    expect_equal(&rt, &PacketFaultKind::Memory.number(), &12, "the last kind");
+    let numbers = (
+        PacketFaultKind::Short.number(),
+        PacketFaultKind::Memory.number(),
+    );
+    expect_equal(&rt, &numbers, &(1, 12), "the first kind and the last");
     expect_text(&rt, PacketFaultKind::NoValue.name(), "NoValue", "a name");
 }
 
 /// A request with an option.
 const REQUEST: &[u8] = b"\x00\x01a\x00octet\x00tsize\x000\x00";
 
+/// The read request that a datagram spells.
+pub(crate) fn read_request<'a>(rt: &impl Abort, bytes: &'a [u8]) -> RequestRef<'a> {
+    match decode_ref(bytes).expect(rt, "a packet") {
+        PacketRef::Read(request) => request,
+        _ => panic!(rt; "an RRQ"),
+    }
+}
+
+pub(crate) fn bytes_of(rt: &impl Abort, alloc: Global, bytes: &[u8]) -> Bytes {
+    Bytes::from_slice(alloc, bytes).expect(rt, "memory")
+}
+
+/// The name and the mode of a copied request.
+fn copied(rt: &impl Abort, alloc: Global, request: &RequestRef<'_>) -> (Bytes, Mode) {
+    let request = request.to_request(alloc).expect(rt, "memory");
+    (request.name, request.mode)
+}
+
 #[test]
-fn requests_are_copied(rt: HostRuntime) -> Result<(), Fail> {
-    let PacketRef::Read(borrowed) = decode_ref(REQUEST)? else {
-        return Err(Fail::from("a read request"));
-    };
-    let request = borrowed.to_request(rt.alloc())?;
-    let name = Bytes::from_slice(rt.alloc(), b"a")?;
-    expect_equal(&rt, &request.name, &name, "the name");
-    expect_equal(&rt, &request.mode, &Mode::Octet, "the mode");
-    Ok(())
+fn requests_are_copied(rt: HostRuntime) {
+    let rt = &rt;
+    let found = copied(rt, rt.alloc(), &read_request(rt, REQUEST));
+    let wanted = (bytes_of(rt, rt.alloc(), b"a"), Mode::Octet);
+    expect_equal(rt, &found, &wanted, "the name and the mode");
 }
 
 /// The option and its copy say the same.
-fn is_copied(rt: &impl Abort, alloc: Global, option: OptionRef<'_>) -> Result<(), Fail> {
-    let copy = option.to_option(alloc)?;
+fn is_copied(rt: &impl Abort, alloc: Global, option: OptionRef<'_>) {
+    let copy = option.to_option(alloc).expect(rt, "memory");
     expect_equal(rt, &copy.as_ref(), &option, "an option and its copy");
-    Ok(())
+    drop(copy);
+}
+
+/// There is one option, and one copy of it.
+fn is_one(rt: &impl Abort, alloc: Global, options: &OptionsRef<'_>) {
+    let copies = options.to_options(alloc).expect(rt, "memory");
+    let counts = (options.iter().count(), copies.as_slice().len());
+    expect_equal(rt, &counts, &(1, 1), "the options and their copies");
 }
 
 #[test]
-fn options_are_copied(rt: HostRuntime) -> Result<(), Fail> {
-    let PacketRef::Read(borrowed) = decode_ref(REQUEST)? else {
-        return Err(Fail::from("a read request"));
-    };
-    for option in &borrowed.options {
-        is_copied(&rt, rt.alloc(), option)?;
+fn options_are_copied(rt: HostRuntime) {
+    let rt = &rt;
+    let options = read_request(rt, REQUEST).options;
+    for option in &options {
+        is_copied(rt, rt.alloc(), option);
     }
-    let copies = borrowed.options.to_options(rt.alloc())?;
-    expect_equal(&rt, &borrowed.options.iter().count(), &1, "the options");
-    expect_equal(&rt, &copies.as_slice().len(), &1, "their copies");
-    Ok(())
+    is_one(rt, rt.alloc(), &options);
 }
 
 #[test]
 fn modes_have_words(rt: HostRuntime) {
-    expect_text(&rt, Mode::Octet.word(), "octet", "of octet");
-    expect_text(&rt, Mode::Netascii.word(), "netascii", "of netascii");
+    let rt = &rt;
+    expect_text(rt, Mode::Octet.word(), "octet", "of octet");
+    expect_text(rt, Mode::Netascii.word(), "netascii", "of netascii");
 }
 
-#[test]
-fn bytes_and_options_are_handed_back(rt: HostRuntime) -> Result<(), Fail> {
-    let name = Bytes::from(Vec::from_slice(rt.alloc(), b"a")?);
+/// Bytes that are made of a vector are those of its slice.
+fn bytes_of_vec(rt: &impl Abort, alloc: Global, bytes: &[u8]) -> Bytes {
+    let name = Bytes::from(Vec::from_slice(alloc, bytes).expect(rt, "memory"));
+    expect_equal(rt, &name, &bytes_of(rt, alloc, bytes), "the name");
+    name
+}
+
+fn an_option(rt: &impl Abort, alloc: Global) -> RawOption {
+    let name = bytes_of_vec(rt, alloc, b"a");
+    let value = bytes_of(rt, alloc, b"8");
+    RawOption { name, value }
+}
+
+fn is_handed_back(rt: &impl Abort, options: RawOptions) {
+    expect_equal(rt, &options.as_slice().len(), &1, "the options");
     expect_equal(
-        &rt,
-        &name,
-        &Bytes::from_slice(rt.alloc(), b"a")?,
-        "the name",
-    );
-    let value = Bytes::from_slice(rt.alloc(), b"8")?;
-    let options = RawOptions::from(vec![in rt.alloc(); RawOption { name, value }]?);
-    expect_equal(&rt, &options.as_slice().len(), &1, "the options");
-    let options = options.into_vec();
-    expect_equal(
-        &rt,
-        &options.as_slice().len(),
+        rt,
+        &options.into_vec().len(),
         &1,
         "the options, handed back",
     );
-    Ok(())
+}
+
+#[test]
+fn bytes_and_options_are_handed_back(rt: HostRuntime) {
+    let rt = &rt;
+    let mut options = Vec::new(rt.alloc());
+    options.push(an_option(rt, rt.alloc())).expect(rt, "memory");
+    is_handed_back(rt, RawOptions::from(options));
 }

@@ -2,8 +2,8 @@
 
 use crate::expect::{expect, expect_bytes, expect_equal};
 use std::alloc::Global;
-use std::test::Fail;
-use tftp_file::{PathFault, path_of};
+use std::process::Abort;
+use tftp_file::{Path, PathFault, path_of};
 
 /// Names that stand for no path, with the first fault.
 const FAULTS: [(&[u8], PathFault); 9] = [
@@ -18,16 +18,16 @@ const FAULTS: [(&[u8], PathFault); 9] = [
     (b"a/b/c/d/e/f/g/h/i", PathFault::Depth),
 ];
 
+/// The name has this fault, or none.
+fn has_fault(rt: &impl Abort, alloc: Global, name: &[u8], fault: Option<PathFault>) {
+    let found = path_of(alloc, name).err();
+    expect_equal(rt, &(name, found), &(name, fault), "the fault of a name");
+}
+
 #[test]
 fn wrong_names(rt: HostRuntime) {
     for &(bytes, fault) in &FAULTS {
-        let found = path_of(rt.alloc(), bytes);
-        expect_equal(
-            &rt,
-            &(bytes, found.err()),
-            &(bytes, Some(fault)),
-            "a wrong name",
-        );
+        has_fault(&rt, rt.alloc(), bytes, Some(fault));
     }
 }
 
@@ -40,31 +40,38 @@ const PATHS: [(&[u8], &[u8]); 5] = [
     (b"Z/z/0/9/a.b_c-d", b"Z/z/0/9/a.b_c-d"),
 ];
 
+/// The path that a name stands for.
+fn path(rt: &impl Abort, alloc: Global, name: &[u8]) -> Path {
+    path_of(alloc, name).expect(rt, "a path")
+}
+
+fn stands_for(rt: &impl Abort, alloc: Global, name: &[u8], wanted: &[u8]) {
+    let found = path(rt, alloc, name);
+    expect_bytes(rt, found.as_bytes(), wanted, "the path of a name");
+    drop(found);
+}
+
 #[test]
-fn paths_of_names(rt: HostRuntime) -> Result<(), Fail> {
+fn paths_of_names(rt: HostRuntime) {
     for &(bytes, path) in &PATHS {
-        let found = path_of(rt.alloc(), bytes)?;
-        expect_bytes(&rt, found.as_bytes(), path, "the path of a name");
+        stands_for(&rt, rt.alloc(), bytes, path);
     }
-    Ok(())
 }
 
 #[test]
-fn case_counts(rt: HostRuntime) -> Result<(), Fail> {
-    let upper = path_of(rt.alloc(), b"A")?;
-    let lower = path_of(rt.alloc(), b"a")?;
-    expect(&rt, upper < lower, "two paths, in the order of their bytes");
-    expect_equal(
-        &rt,
-        &PathFault::Segment.number(),
-        &2,
-        "the number of the fault",
-    );
-    Ok(())
+fn case_counts(rt: HostRuntime) {
+    let rt = &rt;
+    let upper = path(rt, rt.alloc(), b"A");
+    let lower = path(rt, rt.alloc(), b"a");
+    expect(rt, upper < lower, "two paths, in the order of their bytes");
+    drop(upper);
+    drop(lower);
+    let number = PathFault::Segment.number();
+    expect_equal(rt, &number, &2, "the number of the fault");
 }
 
-/// How many letters each segment has, and the fault: a segment has 64 at most, a path 8 segments and
-/// 255 bytes, and the length is tested before the depth, the depth before the segments.
+/// How many letters each segment has, and the fault: a segment has 64 at most, a path 8 segments
+/// and 255 bytes, and the length is tested before the depth, the depth before the segments.
 const LENGTHS: [(&[usize], Option<PathFault>); 7] = [
     (&[1; 8], None),
     (&[1; 9], Some(PathFault::Depth)),
@@ -76,30 +83,26 @@ const LENGTHS: [(&[usize], Option<PathFault>); 7] = [
 ];
 
 /// Segments of so many letters `a`, parted by slashes.
-fn name(alloc: Global, segments: &[usize]) -> Result<Vec<u8>, Fail> {
+fn name_of(rt: &impl Abort, alloc: Global, segments: &[usize]) -> Vec<u8> {
     let mut bytes = Vec::new(alloc);
     for letters in segments {
-        if !bytes.is_empty() {
-            bytes.push(b'/')?;
-        }
-        for _ in 0..*letters {
-            bytes.push(b'a')?;
-        }
+        let end = bytes.len().saturating_add(*letters);
+        bytes.resize(end, b'a').expect(rt, "memory");
+        bytes.push(b'/').expect(rt, "memory");
     }
-    Ok(bytes)
+    // no slash behind the last segment
+    bytes.pop();
+    bytes
+}
+
+fn of_segments(rt: &impl Abort, alloc: Global, segments: &[usize], fault: Option<PathFault>) {
+    let name = name_of(rt, alloc, segments);
+    has_fault(rt, alloc, name.as_slice(), fault);
 }
 
 #[test]
-fn long_names(rt: HostRuntime) -> Result<(), Fail> {
+fn long_names(rt: HostRuntime) {
     for &(segments, fault) in &LENGTHS {
-        let bytes = name(rt.alloc(), segments)?;
-        let found = path_of(rt.alloc(), bytes.as_slice());
-        expect_equal(
-            &rt,
-            &(segments, found.err()),
-            &(segments, fault),
-            "the letters of its segments",
-        );
+        of_segments(&rt, rt.alloc(), segments, fault);
     }
-    Ok(())
 }

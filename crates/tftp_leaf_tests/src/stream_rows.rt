@@ -1,12 +1,12 @@
 //! A source over a reader and a sink over a writer, some of which fail.
 
+use crate::calls::{appends, commits, fails, gives_each};
 use crate::expect::{expect, expect_bytes, expect_equal};
 use std::alloc::Global;
 use std::io;
 use std::io::{Read, Write};
 use std::process::Abort;
-use std::test::Fail;
-use tftp_file::{FileFault, ReadSource, Sink, Source, StoreFault, WriteSink};
+use tftp_file::{FileFault, ReadSource, StoreFault, WriteSink};
 use tftp_wire::Mode;
 
 /// A reader of a text that gives so many bytes at a time, and ends, or fails at the end.
@@ -43,8 +43,8 @@ impl Read for Script {
     }
 }
 
-/// A writer with room for so many bytes, which then takes nothing or fails, and whose first flush may
-/// fail.
+/// A writer with room for so many bytes, which then takes nothing or fails, and whose first flush
+/// may fail.
 #[derive(Drop)]
 struct Tape {
     written: Vec<u8>,
@@ -73,40 +73,31 @@ impl Write for Tape {
     }
 }
 
-fn fill<S: Source>(source: &mut S, want: usize, out: &mut Vec<u8>) -> Result<usize, FileFault> {
-    out.clear();
-    source.fill(want, out)
-}
-
-fn append<K: Sink>(sink: &mut K, bytes: &[u8]) -> Result<(), StoreFault> {
-    sink.append(bytes)
-}
-
-fn commit<K: Sink>(sink: &mut K) -> Result<(), StoreFault> {
-    sink.commit()
-}
-
-/// The next fill of the source gives this piece.
-fn gives<S: Source>(rt: &impl Abort, source: &mut S, want: usize, out: &mut Vec<u8>, piece: &[u8]) {
-    let filled = fill(source, want, out);
-    expect_equal(rt, &(piece, filled), &(piece, Ok(piece.len())), "a piece");
-    expect_bytes(rt, out.as_slice(), piece, "the bytes");
-}
-
 /// Fills of three bytes of two line ends, which are four bytes of wire text (RFC 764), and how many
 /// bytes the source then holds back.
 const LINE_ENDS: [(&[u8], usize); 3] = [(b"\r\n\r", 1), (b"\n", 0), (b"", 0)];
 
+/// The next fill of three bytes gives this piece, and the source then holds so many bytes back.
+fn gives_and_holds(
+    rt: &impl Abort,
+    alloc: Global,
+    source: &mut ReadSource<&[u8]>,
+    piece: &[u8],
+    held: usize,
+) {
+    gives_each(rt, alloc, source, 3, &[piece]);
+    expect_equal(rt, &(piece, source.held()), &(piece, held), "held back");
+}
+
 #[test]
 fn stream_rows(rt: HostRuntime) {
+    let rt = &rt;
     let mut source = ReadSource::new(b"\n\n".as_slice(), Mode::Netascii);
-    let mut out = Vec::new(rt.alloc());
-    expect_equal(&rt, &source.held(), &0, "before the first fill");
+    expect_equal(rt, &source.held(), &0, "before the first fill");
     for &(piece, held) in &LINE_ENDS {
-        gives(&rt, &mut source, 3, &mut out, piece);
-        expect_equal(&rt, &(piece, source.held()), &(piece, held), "held back");
+        gives_and_holds(rt, rt.alloc(), &mut source, piece, held);
     }
-    expect(&rt, source.get_ref().is_empty(), "the reader is at its end");
+    expect(rt, source.get_ref().is_empty(), "the reader is at its end");
 }
 
 /// Bytes at a time, the mode, and the fills of four bytes of `A`, LF, `B`, CR, `C`.
@@ -121,10 +112,7 @@ const SHORT_READS: [(usize, Mode, &[&[u8]]); 6] = [
 
 fn gives_pieces(rt: &impl Abort, alloc: Global, at_a_time: usize, mode: Mode, pieces: &[&[u8]]) {
     let mut source = ReadSource::new(Script::new(b"A\nB\rC", at_a_time, false), mode);
-    let mut out = Vec::new(alloc);
-    for piece in pieces {
-        gives(rt, &mut source, 4, &mut out, piece);
-    }
+    gives_each(rt, alloc, &mut source, 4, pieces);
 }
 
 #[test]
@@ -134,38 +122,26 @@ fn short_reads_make_no_short_block(rt: HostRuntime) {
     }
 }
 
+/// Two blocks of four bytes.
+const BLOCKS: [&[u8]; 2] = [b"ABCD", b"EFGH"];
+
 #[test]
 fn a_block_in_octet_is_one_read(rt: HostRuntime) {
     let mut source = ReadSource::new(Script::new(b"ABCDEFGH", 8, false), Mode::Octet);
-    let mut out = Vec::new(rt.alloc());
-    expect_equal(
-        &rt,
-        &fill(&mut source, 4, &mut out),
-        &Ok(4),
-        "the first block",
-    );
-    expect_equal(
-        &rt,
-        &fill(&mut source, 4, &mut out),
-        &Ok(4),
-        "the second block",
-    );
+    gives_each(&rt, rt.alloc(), &mut source, 4, &BLOCKS);
     expect_equal(&rt, &source.into_inner().reads, &2, "reads");
 }
 
-fn leaves_the_buffer(rt: &impl Abort, alloc: Global, mode: Mode) -> Result<(), Fail> {
+fn leaves_the_buffer(rt: &impl Abort, alloc: Global, mode: Mode) {
     let mut source = ReadSource::new(Script::new(b"AB", 1, true), mode);
-    let mut out = Vec::from_slice(alloc, b"header")?;
-    let failed = source.fill(3, &mut out);
-    expect_equal(rt, &failed, &Err(FileFault::Read), mode.word());
-    expect_bytes(rt, out.as_slice(), b"header".as_slice(), mode.word());
-    Ok(())
+    let fault = FileFault::Read;
+    fails(rt, alloc, &mut source, 3, b"header", fault, mode.word());
 }
 
 #[test]
-fn a_read_that_fails_leaves_the_buffer(rt: HostRuntime) -> Result<(), Fail> {
-    leaves_the_buffer(&rt, rt.alloc(), Mode::Octet)?;
-    leaves_the_buffer(&rt, rt.alloc(), Mode::Netascii)
+fn a_read_that_fails_leaves_the_buffer(rt: HostRuntime) {
+    leaves_the_buffer(&rt, rt.alloc(), Mode::Octet);
+    leaves_the_buffer(&rt, rt.alloc(), Mode::Netascii);
 }
 
 /// More bytes than there is memory for.
@@ -176,46 +152,40 @@ const GREAT: [(Mode, usize); 4] = [
     (Mode::Netascii, usize::MAX / 2),
 ];
 
-fn reads_nothing(rt: &impl Abort, alloc: Global, mode: Mode, want: usize) -> Result<(), Fail> {
+/// Such a fill is refused before anything is read, and the next one gives the text.
+fn reads_nothing(rt: &impl Abort, alloc: Global, mode: Mode, want: usize) {
     let mut source = ReadSource::new(Script::new(b"AB", 2, false), mode);
-    let mut out = Vec::from_slice(alloc, b"header")?;
-    let refused = source.fill(want, &mut out);
-    expect_equal(
-        rt,
-        &(want, refused),
-        &(want, Err(FileFault::Memory)),
-        mode.word(),
-    );
-    expect_bytes(rt, out.as_slice(), b"header".as_slice(), "the buffer stays");
+    let fault = FileFault::Memory;
+    fails(rt, alloc, &mut source, want, b"header", fault, mode.word());
     expect_equal(rt, &source.get_ref().reads, &0, "nothing is read");
-    gives(rt, &mut source, 3, &mut out, b"AB");
-    Ok(())
+    gives_each(rt, alloc, &mut source, 3, &[b"AB"]);
 }
 
 #[test]
-fn a_growth_that_is_refused_reads_nothing(rt: HostRuntime) -> Result<(), Fail> {
+fn a_growth_that_is_refused_reads_nothing(rt: HostRuntime) {
     for &(mode, want) in &GREAT {
-        reads_nothing(&rt, rt.alloc(), mode, want)?;
+        reads_nothing(&rt, rt.alloc(), mode, want);
     }
-    Ok(())
 }
 
-/// A writer with room for two bytes holds two of three, whether it then fails or takes nothing.
+/// A writer with room for two bytes holds two of three.
+fn holds_what_has_room(rt: &impl Abort, alloc: Global, fails: bool) {
+    let mut sink = WriteSink::new(Tape {
+        written: Vec::new(alloc),
+        room: 2,
+        fails,
+        flush_fails: false,
+    });
+    appends(rt, &mut sink, b"ABC", Err(StoreFault::Io), "past the room");
+    let written = sink.get_ref().written.as_slice();
+    expect_bytes(rt, written, b"AB", "what it took");
+}
+
+/// The writer then fails, or takes nothing.
 #[test]
 fn stream_rows_of_a_sink(rt: HostRuntime) {
-    for fails in [true, false] {
-        let tape = Tape {
-            written: Vec::new(rt.alloc()),
-            room: 2,
-            fails,
-            flush_fails: false,
-        };
-        let mut sink = WriteSink::new(tape);
-        let past = append(&mut sink, b"ABC");
-        expect_equal(&rt, &past, &Err(StoreFault::Io), "past the room");
-        let written = sink.get_ref().written.as_slice();
-        expect_bytes(&rt, written, b"AB".as_slice(), "what it took");
-    }
+    holds_what_has_room(&rt, rt.alloc(), true);
+    holds_what_has_room(&rt, rt.alloc(), false);
 }
 
 /// A writer with room for nine bytes, whose first flush fails.
@@ -230,25 +200,20 @@ fn unflushed(alloc: Global) -> WriteSink<Tape> {
 
 #[test]
 fn a_flush_that_fails_commits_nothing(rt: HostRuntime) {
+    let rt = &rt;
     let mut sink = unflushed(rt.alloc());
-    let failed = commit(&mut sink);
-    expect_equal(&rt, &failed, &Err(StoreFault::Io), "the flush that fails");
-    expect(&rt, !sink.is_committed(), "after the flush that failed");
-    expect_equal(&rt, &commit(&mut sink), &Ok(()), "the flush after it");
-    expect(&rt, sink.is_committed(), "after the flush");
+    commits(rt, &mut sink, Err(StoreFault::Io), "the flush that fails");
+    expect(rt, !sink.is_committed(), "after the flush that failed");
+    commits(rt, &mut sink, Ok(()), "the flush after it");
+    expect(rt, sink.is_committed(), "after the flush");
 }
 
 #[test]
 fn a_flush_that_fails_loses_nothing(rt: HostRuntime) {
+    let rt = &rt;
     let mut sink = unflushed(rt.alloc());
-    expect_equal(&rt, &append(&mut sink, b"ABC"), &Ok(()), "the append");
-    let failed = commit(&mut sink);
-    expect_equal(&rt, &failed, &Err(StoreFault::Io), "the flush that fails");
+    appends(rt, &mut sink, b"ABC", Ok(()), "the append");
+    commits(rt, &mut sink, Err(StoreFault::Io), "the flush that fails");
     let tape = sink.into_inner();
-    expect_bytes(
-        &rt,
-        tape.written.as_slice(),
-        b"ABC".as_slice(),
-        "in the writer",
-    );
+    expect_bytes(rt, tape.written.as_slice(), b"ABC", "in the writer");
 }

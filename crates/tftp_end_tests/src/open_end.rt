@@ -1,0 +1,410 @@
+//! An end that a test has opened, with its file, and what tests do with it: each call aborts where
+//! the end refuses.
+
+ghost use Rattle.std.specs.Prelude.{◌≡◌, false, IfOk};
+ghost use Rattle.tftp_ends.specs.End.{is_sender};
+ghost use Rattle.tftp_ends.specs.Files.{AreFilesOf};
+
+use crate::expect::expect_equal;
+use std::alloc::Global;
+use std::marker::Model;
+use std::process::Abort;
+use tftp_ends::{
+    End, EndConfig, EndFault, Endpoint, OpenFault, Outcome, Outgoing, Record, Step, decode_packet,
+};
+use tftp_file::{Files, MemSink, MemSource, Source, wire_length};
+use tftp_negotiate::{Agreed, Asked, Kind, Limits, accept_ref};
+use tftp_wire::{Mode, PacketRef};
+
+pub(crate) const SERVER: Endpoint = Endpoint {
+    ip: [10, 0, 0, 1],
+    port: 69,
+};
+
+pub(crate) const SERVER_END: Endpoint = Endpoint {
+    ip: [10, 0, 0, 1],
+    port: 1025,
+};
+
+pub(crate) const CLIENT: Endpoint = Endpoint {
+    ip: [10, 0, 0, 2],
+    port: 1024,
+};
+
+pub(crate) const CONFIG: EndConfig = EndConfig {
+    limits: Limits {
+        max_block: 1428,
+        max_file: 4_290_183_239,
+    },
+    retries: 5,
+};
+
+/// Blocks of eight bytes.
+pub(crate) const EIGHT: Asked = Asked {
+    blksize: Some(8),
+    timeout: None,
+    tsize: None,
+};
+
+/// What a sink takes: more than any file of the tests has.
+const ROOM: u64 = 1_000_000;
+
+/// An end, its file, what it did last, and the datagram that it sent by that.
+#[derive(Drop)]
+pub(crate) struct OpenEnd<S: Source + Drop> {
+    end: End,
+    files: Files<S, MemSink>,
+    step: Step,
+    sent: Vec<u8>,
+}
+
+impl<S: Source + Drop> Model for OpenEnd<S> {
+    ghost use Rattle.std.specs.Prelude.{⊤};
+    ghost use Rattle.tftp_ends.specs.Files.{AreFilesOf};
+
+    ghost Value = { ⊤ };
+
+    ghost view = { λ _. tt };
+
+    ghost invariant = { λ e. AreFilesOf e.end.role.side e.files };
+}
+
+/// A client that has asked to read a file.
+pub(crate) fn reader(
+    rt: &impl Abort,
+    alloc: Global,
+    name: &[u8],
+    mode: Mode,
+    asked: &Asked,
+    config: &EndConfig,
+) -> OpenEnd<MemSource> {
+    let mut sent = Vec::new(alloc);
+    let (end, step) = End::get(alloc, SERVER, name, mode, asked, config, &mut sent).expect(
+        rt,
+        "it asks to read",
+    );
+    OpenEnd {
+        end,
+        files: Files::Sink(MemSink::new(alloc, ROOM, false)),
+        step,
+        sent,
+    }
+}
+
+/// No client asks to read so, and nothing is sent.
+pub(crate) fn is_bad_request(rt: &impl Abort, alloc: Global, name: &[u8], asked: &Asked) {
+    let mut out = Vec::new(alloc);
+    let refused = End::get(alloc, SERVER, name, Mode::Octet, asked, &CONFIG, &mut out);
+    let found = (name, asked, refused.err(), out.is_empty());
+    let wanted = (name, asked, Some(OpenFault::BadRequest), true);
+    expect_equal(rt, &found, &wanted, "a wrong request, and nothing is sent");
+}
+
+/// No client asks to write a file of this length.
+pub(crate) fn is_too_long(rt: &impl Abort, alloc: Global, asked: &Asked, length: u64) {
+    let mut out = Vec::new(alloc);
+    let refused = End::put(
+        alloc,
+        SERVER,
+        b"n",
+        Mode::Octet,
+        asked,
+        length,
+        &CONFIG,
+        &mut out,
+    );
+    let found = (length, refused.err(), out.is_empty());
+    let wanted = (length, Some(OpenFault::TooLarge), true);
+    expect_equal(rt, &found, &wanted, "too long a file, and nothing is sent");
+}
+
+/// A client that has asked to write a file `n` of this length in octet.
+pub(crate) fn writer<S: Source + Drop>(
+    rt: &impl Abort,
+    alloc: Global,
+    asked: &Asked,
+    config: &EndConfig,
+    length: u64,
+    source: S,
+) -> OpenEnd<S> {
+    let mut sent = Vec::new(alloc);
+    let opened = End::put(
+        alloc,
+        SERVER,
+        b"n",
+        Mode::Octet,
+        asked,
+        length,
+        config,
+        &mut sent,
+    );
+    let (end, step) = opened.expect(rt, "it asks to write");
+    OpenEnd {
+        end,
+        files: Files::Source(source),
+        step,
+        sent,
+    }
+}
+
+/// What a server agrees to of a request to read a file of this length.
+pub(crate) fn agreed_of(rt: &impl Abort, request: &[u8], length: u64) -> Agreed {
+    let Some(PacketRef::Read(asks)) = decode_packet(request) else {
+        panic!(rt; "a request to read");
+    };
+    accept_ref(&asks.options, Kind::Read, asks.mode, length, &CONFIG.limits).expect(
+        rt,
+        "the options are answered",
+    )
+}
+
+/// A server's end that sends a file of this length to the client.
+pub(crate) fn sender<S: Source + Drop>(
+    rt: &impl Abort,
+    alloc: Global,
+    mode: Mode,
+    agreed: &Agreed,
+    length: u64,
+    source: S,
+) -> OpenEnd<S> {
+    let mut sent = Vec::new(alloc);
+    let mut files: Files<S, MemSink> = Files::Source(source);
+    let opened = End::serve_read(
+        alloc, &mut files, CLIENT, mode, agreed, length, 5, &mut sent,
+    );
+    let (end, step) = opened.expect(rt, "it serves a read");
+    OpenEnd {
+        end,
+        files,
+        step,
+        sent,
+    }
+}
+
+/// No server's end sends a file of this length by these options, and nothing is sent.
+pub(crate) fn is_too_long_to_serve(rt: &impl Abort, alloc: Global, agreed: &Agreed, length: u64) {
+    let mut out = Vec::new(alloc);
+    let mut files: Files<MemSource, MemSink> = Files::Source(source_of(
+        rt,
+        alloc,
+        b"",
+        Mode::Octet,
+    ));
+    let refused = End::serve_read(
+        alloc,
+        &mut files,
+        CLIENT,
+        Mode::Octet,
+        agreed,
+        length,
+        5,
+        &mut out,
+    );
+    let found = (length, refused.err(), out.is_empty());
+    let wanted = (length, Some(OpenFault::TooLarge), true);
+    expect_equal(rt, &found, &wanted, "too long a file, and nothing is sent");
+}
+
+/// A server's end that sends this file, held in memory, to the client that asks so.
+pub(crate) fn sender_of(
+    rt: &impl Abort,
+    alloc: Global,
+    request: &[u8],
+    mode: Mode,
+    file: &[u8],
+) -> OpenEnd<MemSource> {
+    let source = source_of(rt, alloc, file, mode);
+    let length = wire_length(file, mode).expect(rt, "bytes in memory are read");
+    let agreed = agreed_of(rt, request, length);
+    sender(rt, alloc, mode, &agreed, length, source)
+}
+
+/// A file in memory.
+pub(crate) fn source_of(rt: &impl Abort, alloc: Global, file: &[u8], mode: Mode) -> MemSource {
+    MemSource::new(alloc, file, mode).expect(rt, "memory")
+}
+
+/// A server's end that takes a file of the client in octet.
+pub(crate) fn serve_write(
+    alloc: Global,
+    agreed: &Agreed,
+    sent: &mut Vec<u8>,
+) -> Result<(End, Step), OpenFault>
+    ensures { IfOk result (λ opened. is_sender opened.0.role.side ≡ false) }
+{
+    End::serve_write(alloc, CLIENT, Mode::Octet, agreed, 5, sent)
+}
+
+/// A server's end that stores a file of the client; its sink may refuse the commit.
+pub(crate) fn storer(
+    rt: &impl Abort,
+    alloc: Global,
+    agreed: &Agreed,
+    refuse_commit: bool,
+) -> OpenEnd<MemSource> {
+    let mut sent = Vec::new(alloc);
+    let opened = serve_write(alloc, agreed, &mut sent);
+    let (end, step) = opened.expect(rt, "it serves a write");
+    OpenEnd {
+        end,
+        files: Files::Sink(MemSink::new(alloc, ROOM, refuse_commit)),
+        step,
+        sent,
+    }
+}
+
+impl<S: Source + Drop> OpenEnd<S> {
+    /// The test is done with it: its drop is proved here once, and not in each test.
+    pub(crate) fn finish(self) {}
+
+    /// The end and its file.
+    pub(crate) fn into_parts(self) -> (End, Files<S, MemSink>)
+        ensures { AreFilesOf result.0.role.side result.1 }
+    {
+        let OpenEnd { end, files, .. } = self;
+        (end, files)
+    }
+
+    /// The end alone.
+    pub(crate) fn as_end(&self) -> &End {
+        &self.end
+    }
+
+    /// How far it came.
+    pub(crate) fn record(&self) -> Record {
+        self.end.record()
+    }
+
+    /// What its last event did.
+    pub(crate) fn step(&self) -> Step {
+        self.step
+    }
+
+    /// What it sent by its last event.
+    pub(crate) fn sent(&self) -> &[u8] {
+        self.sent.as_slice()
+    }
+
+    /// By its last event it has sent these bytes there.
+    pub(crate) fn has_sent(&self, rt: &impl Abort, bytes: &[u8], to: Option<Endpoint>) {
+        let found = (self.sent.as_slice(), self.step.to);
+        expect_equal(rt, &found, &(bytes, to), "what is sent, and where it goes");
+    }
+
+    /// It takes a datagram.
+    pub(crate) fn takes(&mut self, rt: &impl Abort, from: Endpoint, bytes: &[u8]) {
+        self.sent.clear();
+        self.step = self
+            .end
+            .on_datagram(&mut self.files, from, bytes, &mut self.sent)
+            .expect(rt, "the end takes it");
+    }
+
+    /// It takes a datagram, and answers it by these bytes, or not at all.
+    pub(crate) fn answers(&mut self, rt: &impl Abort, from: Endpoint, bytes: &[u8], answer: &[u8]) {
+        self.takes(rt, from, bytes);
+        let to = if answer.is_empty() { None } else { Some(from) };
+        let found = (bytes, self.sent.as_slice(), self.step.to);
+        expect_equal(
+            rt,
+            &found,
+            &(bytes, answer, to),
+            "the answer, and where it goes",
+        );
+    }
+
+    /// It takes a datagram, answers it by these bytes, or not at all, and closes so.
+    pub(crate) fn closes(
+        &mut self,
+        rt: &impl Abort,
+        from: Endpoint,
+        bytes: &[u8],
+        answer: &[u8],
+        outcome: Outcome,
+    ) {
+        self.answers(rt, from, bytes, answer);
+        expect_equal(rt, &self.step.closed, &Some(outcome), "how it closes");
+    }
+
+    /// It takes a timeout, sends these bytes there, and closes so or not.
+    pub(crate) fn times_out(
+        &mut self,
+        rt: &impl Abort,
+        bytes: &[u8],
+        to: Option<Endpoint>,
+        closed: Option<Outcome>,
+    ) {
+        self.sent.clear();
+        self.step = self
+            .end
+            .on_timeout(&mut self.sent)
+            .expect(rt, "the end takes a timeout");
+        let found = (self.sent.as_slice(), self.step.to, self.step.closed);
+        expect_equal(rt, &found, &(bytes, to, closed), "what a timeout does");
+    }
+
+    /// It is closed: it takes no late datagram and no late timeout, and sends nothing.
+    pub(crate) fn takes_nothing(&mut self, rt: &impl Abort, from: Endpoint, bytes: &[u8]) {
+        self.sent.clear();
+        let late = self
+            .end
+            .on_datagram(&mut self.files, from, bytes, &mut self.sent)
+            .err();
+        let timeout = self.end.on_timeout(&mut self.sent).err();
+        let found = (late, timeout, self.sent.is_empty());
+        let closed = Some(EndFault::Closed);
+        expect_equal(rt, &found, &(closed, closed, true), "it is closed");
+    }
+
+    /// It takes a datagram, and lends these bytes for whom sent it.
+    pub(crate) fn lends(&mut self, rt: &impl Abort, from: Endpoint, bytes: &[u8], answer: &[u8]) {
+        let (step, outgoing) = self
+            .end
+            .handle_datagram(&mut self.files, from, bytes)
+            .expect(rt, "the end takes it");
+        let found = (self.end.bytes_of(outgoing), step.to);
+        expect_equal(
+            rt,
+            &found,
+            &(answer, Some(from)),
+            "the answer, and where it goes",
+        );
+    }
+
+    /// It takes a timeout: how it closes, and what it lends.
+    pub(crate) fn handle_timeout(&mut self) -> Result<(Option<Outcome>, Outgoing), EndFault> {
+        let (step, outgoing) = self.end.handle_timeout()?;
+        Ok((step.closed, outgoing))
+    }
+
+    /// Its sink holds these bytes, committed or not.
+    pub(crate) fn has_stored(&self, rt: &impl Abort, bytes: &[u8], committed: bool) {
+        has_stored(rt, &self.files, bytes, committed);
+    }
+}
+
+/// The sink of an end that receives holds these bytes, committed or not.
+pub(crate) fn has_stored<S>(
+    rt: &impl Abort,
+    files: &Files<S, MemSink>,
+    bytes: &[u8],
+    committed: bool,
+) {
+    let Files::Sink(sink) = files else {
+        panic!(rt; "a sink");
+    };
+    let found = (sink.as_bytes(), sink.is_committed());
+    let wanted = (bytes, committed);
+    expect_equal(rt, &found, &wanted, "what is stored, and whether for good");
+}
+
+/// The client gets what the server sent, and the server its answer: how many datagrams that adds.
+pub(crate) fn round<S: Source + Drop>(
+    rt: &impl Abort,
+    client: &mut OpenEnd<MemSource>,
+    server: &mut OpenEnd<S>,
+) -> u32 {
+    client.takes(rt, SERVER_END, server.sent());
+    server.takes(rt, CLIENT, client.sent());
+    if server.sent().is_empty() { 1 } else { 2 }
+}

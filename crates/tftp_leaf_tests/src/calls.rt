@@ -1,0 +1,66 @@
+//! What a test asks of a source or a sink, through its trait.
+
+use crate::expect::expect_equal;
+use std::alloc::Global;
+use std::process::Abort;
+use tftp_file::{FileFault, Sink, Source, StoreFault};
+
+/// The next fill of the source, into an empty buffer, gives this piece.
+fn gives<S: Source>(rt: &impl Abort, source: &mut S, want: usize, out: &mut Vec<u8>, piece: &[u8]) {
+    out.clear();
+    let filled = source.fill(want, out);
+    let wanted = (Ok(piece.len()), piece);
+    expect_equal(rt, &(filled, out.as_slice()), &wanted, "a piece");
+}
+
+/// The source gives these pieces in turn, in fills of so many bytes.
+pub(crate) fn gives_each<S: Source>(
+    rt: &impl Abort,
+    alloc: Global,
+    source: &mut S,
+    want: usize,
+    pieces: &[&[u8]],
+) {
+    let mut out = Vec::new(alloc);
+    for piece in pieces {
+        gives(rt, source, want, &mut out, piece);
+    }
+}
+
+/// A fill of the source, into a buffer that has these bytes, fails so and leaves the bytes as they
+/// are; `what` says which source it is.
+pub(crate) fn fails<S: Source>(
+    rt: &impl Abort,
+    alloc: Global,
+    source: &mut S,
+    want: usize,
+    bytes: &[u8],
+    fault: FileFault,
+    what: &str,
+) {
+    let mut out = Vec::from_slice(alloc, bytes).expect(rt, "memory");
+    let failed = source.fill(want, &mut out);
+    let wanted = (want, Err(fault), bytes);
+    expect_equal(rt, &(want, failed, out.as_slice()), &wanted, what);
+}
+
+/// The sink answers an append of the bytes so; `what` says what they are.
+pub(crate) fn appends<K: Sink>(
+    rt: &impl Abort,
+    sink: &mut K,
+    bytes: &[u8],
+    answer: Result<(), StoreFault>,
+    what: &str,
+) {
+    expect_equal(rt, &sink.append(bytes), &answer, what);
+}
+
+/// The sink answers a commit so; `what` says which one it is.
+pub(crate) fn commits<K: Sink>(
+    rt: &impl Abort,
+    sink: &mut K,
+    answer: Result<(), StoreFault>,
+    what: &str,
+) {
+    expect_equal(rt, &sink.commit(), &answer, what);
+}
