@@ -1,59 +1,52 @@
 //! Events that random words draw, and a client that writes.
 
 use crate::expect::{expect, expect_bytes, expect_equal};
+use crate::worlds::put;
 use rand_core::SeedableRng;
 use rand_pcg::Pcg32;
 use std::alloc::Global;
-use std::test::Fail;
+use std::process::Abort;
 use tftp_ends::Side;
-use tftp_negotiate::Asked;
-use tftp_player::{Event, World, WorldFault, draw};
+use tftp_player::{World, draw};
 use tftp_server::Config;
-use tftp_wire::{Bytes, Mode};
 
-/// A file of `ABC` is sent in octet, under the name `n`.
-fn put(world: &mut World, alloc: Global) -> Result<(), WorldFault> {
-    world.apply(Event::Put {
-        name: Bytes::from_slice(alloc, b"n")?,
-        mode: Mode::Octet,
-        asked: Asked::default(),
-        bytes: Bytes::from_slice(alloc, b"ABC")?,
-    })?;
-    Ok(())
+/// A world whose server has no file.
+fn empty_world(rt: &impl Abort, alloc: Global) -> World {
+    World::new(alloc, Vec::new(alloc), Config::default()).expect(rt, "memory")
 }
 
 /// RFC 1350, figure 5-1: opcode 2, the name, the mode, each of the two ended by a zero byte.
 #[test]
-fn a_client_asks_to_write(rt: HostRuntime) -> Result<(), Fail> {
-    let alloc = rt.alloc();
-    let mut world = World::new(alloc, Vec::new(alloc), Config::default())?;
-    put(&mut world, alloc)?;
+fn a_client_asks_to_write(rt: HostRuntime) {
+    let mut world = empty_world(&rt, rt.alloc());
+    put(&mut world, rt.alloc(), b"ABC").expect(&rt, "the request is sent");
     expect_equal(&rt, &world.sent().len(), &1, "one datagram");
     let request = b"\x00\x02n\x00octet\x00".as_slice();
     expect_bytes(&rt, world.sent()[0].bytes.as_slice(), request, "a WRQ");
     expect_equal(&rt, &world.records().len(), &1, "one end");
-    expect_equal(
-        &rt,
-        &world.records()[0].1.side,
-        &Side::ClientWrite,
-        "its side",
-    );
-    Ok(())
+    let side = world.records()[0].1.side;
+    expect_equal(&rt, &side, &Side::ClientWrite, "its side");
+}
+
+/// What is drawn where an end was opened can happen.
+fn draws_an_event(rt: &impl Abort, rng: &mut Pcg32, world: &mut World) {
+    let event = draw(rng, world).expect(rt, "an end was opened");
+    expect(rt, world.apply(event).is_ok(), "it can happen");
+}
+
+/// Nothing is drawn.
+fn draws_nothing(rt: &impl Abort, rng: &mut Pcg32, world: &World) {
+    expect(rt, draw(rng, world).is_none(), "nothing is drawn");
 }
 
 /// Where no end was opened nothing is drawn. What is drawn else can happen.
 #[test]
-fn draws_what_can_happen(rt: HostRuntime) -> Result<(), Fail> {
-    let alloc = rt.alloc();
+fn draws_what_can_happen(rt: HostRuntime) {
     let mut rng = Pcg32::seed_from_u64(7);
-    let mut world = World::new(alloc, Vec::new(alloc), Config::default())?;
-    expect(&rt, draw(&mut rng, &world).is_none(), "nothing is drawn");
-    put(&mut world, alloc)?;
+    let mut world = empty_world(&rt, rt.alloc());
+    draws_nothing(&rt, &mut rng, &world);
+    put(&mut world, rt.alloc(), b"ABC").expect(&rt, "the request is sent");
     for _ in 0..100 {
-        match draw(&mut rng, &world) {
-            Some(event) => expect(&rt, world.apply(event).is_ok(), "it can happen"),
-            None => expect(&rt, false, "an end was opened"),
-        }
+        draws_an_event(&rt, &mut rng, &mut world);
     }
-    Ok(())
 }

@@ -3,13 +3,14 @@
 
 ghost use Rattle.tftp_server.specs.FaultStore.{IsInjected};
 
-use crate::expect::{expect, expect_bytes, expect_equal};
+use crate::expect::{expect, expect_equal};
+use crate::served::Served;
+use crate::stores::{has_file, lacks_file, path, store_of, write};
 use std::alloc::Global;
 use std::process::Abort;
-use std::test::Fail;
 use tftp_ends::Endpoint;
-use tftp_file::{Path, StoreFault, path_of};
-use tftp_server::{Config, FaultStore, MemStore, Opened, Server, Store};
+use tftp_file::StoreFault;
+use tftp_server::{Config, FaultStore, MemStore, Opened};
 
 const CLIENT: Endpoint = Endpoint {
     ip: [10, 0, 0, 2],
@@ -17,124 +18,99 @@ const CLIENT: Endpoint = Endpoint {
 };
 
 /// A store of the file `a` of the three bytes `ABC`.
-fn files(alloc: Global) -> Result<MemStore, Fail> {
-    let mut files = Vec::new(alloc);
-    files.push((path_of(alloc, b"a")?, Vec::from_slice(alloc, b"ABC")?))?;
-    Ok(MemStore::new(alloc, files)?)
+fn files(rt: &impl Abort, alloc: Global) -> MemStore {
+    store_of(rt, alloc, b"a", b"ABC")
 }
 
-/// A request to the server of that store is answered by this ERROR, and opens no transfer.
-fn is_refused(
-    rt: &impl Abort,
-    alloc: Global,
-    store: FaultStore<MemStore>,
-    request: &[u8],
-    error: &[u8],
-) -> Result<(), Fail> {
-    let config = Config::default();
-    expect(rt, config.is_valid(), "the default");
-    let mut server = Server::new(alloc, config, store)?;
-    let mut out = Vec::new(alloc);
-    let opened = server.on_request(CLIENT, 1025, request, &mut out)?;
-    let wanted = Opened {
-        tid: None,
-        to: Some(CLIENT),
-    };
-    expect_bytes(rt, out.as_slice(), error, "the answer");
-    expect_equal(
-        rt,
-        &opened,
-        &wanted,
-        "no transfer, and an answer to the client",
-    );
-    Ok(())
-}
+/// What a request that is refused opens: no transfer, and an answer goes to the client.
+const REFUSED: Opened = Opened {
+    tid: None,
+    to: Some(CLIENT),
+};
 
-const READ: &[u8] = b"\x00\x01a\x00octet\x00";
+/// A request to read, to the server of that store, is answered by this ERROR and opens no transfer.
+fn is_refused(rt: &impl Abort, alloc: Global, store: FaultStore<MemStore>, error: &[u8]) {
+    let mut served = Served::new(rt, alloc, Config::default(), store);
+    let read = b"\x00\x01a\x00octet\x00";
+    let opened = served.answers_request(rt, CLIENT, 1025, read, error);
+    expect_equal(rt, &opened, &REFUSED, "no transfer, and an answer");
+}
 
 /// Any fault but that there is no such file is an access violation.
 #[test]
-fn a_file_that_cannot_be_opened(rt: HostRuntime) -> Result<(), Fail> {
+fn a_file_that_cannot_be_opened(rt: HostRuntime) {
     let violation = b"\x00\x05\x00\x02access violation\x00";
-    let broken = FaultStore::new(files(rt.alloc())?, 0, StoreFault::Io, true, false);
-    is_refused(&rt, rt.alloc(), broken, READ, violation)?;
-    let full = FaultStore::new(files(rt.alloc())?, 0, StoreFault::Full, true, false);
-    is_refused(&rt, rt.alloc(), full, READ, violation)
+    let store = files(&rt, rt.alloc());
+    let broken = FaultStore::new(store, 0, StoreFault::Io, true, false);
+    is_refused(&rt, rt.alloc(), broken, violation);
+    let store = files(&rt, rt.alloc());
+    let full = FaultStore::new(store, 0, StoreFault::Full, true, false);
+    is_refused(&rt, rt.alloc(), full, violation);
 }
 
 /// Without an option the answer would be the first block, which cannot be read.
 #[test]
-fn a_file_that_cannot_be_read(rt: HostRuntime) -> Result<(), Fail> {
+fn a_file_that_cannot_be_read(rt: HostRuntime) {
     let changed = b"\x00\x05\x00\x00file changed\x00";
-    let store = FaultStore::new(files(rt.alloc())?, 0, StoreFault::Io, false, true);
-    is_refused(&rt, rt.alloc(), store, READ, changed)
+    let store = files(&rt, rt.alloc());
+    let store = FaultStore::new(store, 0, StoreFault::Io, false, true);
+    is_refused(&rt, rt.alloc(), store, changed);
 }
 
-/// A file is written by a beginning, an append and a commit.
-fn write<S: Store>(store: &mut S, alloc: Global, path: &Path) -> Result<(), StoreFault> {
-    let mut draft = store.begin(alloc, path, false)?;
-    store.append(&mut draft, b"XY")?;
-    store.commit(path, &mut draft, false)
+/// The file `n` of the bytes `XY` is written, with this outcome.
+fn writes(
+    rt: &impl Abort,
+    alloc: Global,
+    store: &mut FaultStore<MemStore>,
+    what: &str,
+    wanted: Result<(), StoreFault>,
+) {
+    let found = write(store, alloc, &path(rt, alloc, b"n"), b"XY", false);
+    expect_equal(rt, &found, &wanted, what);
 }
+
+/// The calls that write a file.
+const CALLS: [(u64, &str); 3] = [(0, "begin"), (1, "append"), (2, "commit")];
 
 /// The write in which the call falls leaves no file, and the next one does.
-fn fails_once(rt: &impl Abort, alloc: Global, at: u64, fault: StoreFault) -> Result<(), Fail>
+fn fails_once(rt: &impl Abort, alloc: Global, at: u64, call: &str, fault: StoreFault)
     requires { IsInjected fault }
 {
-    let path = path_of(alloc, b"n")?;
-    let mut store = FaultStore::new(files(alloc)?, at, fault, false, false);
-    let found = (at, write(&mut store, alloc, &path));
-    expect_equal(
-        rt,
-        &found,
-        &(at, Err(fault)),
-        "the write in which the call falls",
-    );
-    expect(rt, store.get_ref().file(&path).is_none(), "no file");
-    let found = (at, write(&mut store, alloc, &path));
-    expect_equal(rt, &found, &(at, Ok(())), "the write after it");
-    let file = store.get_ref().file(&path).ok_or("a file")?;
-    expect_bytes(rt, file, b"XY".as_slice(), "what was written");
-    Ok(())
+    let mut store = FaultStore::new(files(rt, alloc), at, fault, false, false);
+    writes(rt, alloc, &mut store, call, Err(fault));
+    lacks_file(rt, alloc, store.get_ref(), b"n");
+    writes(rt, alloc, &mut store, "the write after it", Ok(()));
+    has_file(rt, alloc, store.get_ref(), b"n", b"XY");
 }
 
 #[test]
-fn one_call_is_refused(rt: HostRuntime) -> Result<(), Fail> {
-    for at in 0..3 {
-        fails_once(&rt, rt.alloc(), at, StoreFault::Io)?;
-        fails_once(&rt, rt.alloc(), at, StoreFault::Full)?;
+fn one_call_is_refused(rt: HostRuntime) {
+    for &(at, call) in &CALLS {
+        fails_once(&rt, rt.alloc(), at, call, StoreFault::Io);
+        fails_once(&rt, rt.alloc(), at, call, StoreFault::Full);
     }
-    Ok(())
 }
 
 /// Three calls write the file. The fourth begins another draft, and gets the store's own fault
 /// before that there is the file.
 #[test]
-fn the_calls_before_it_are_passed_on(rt: HostRuntime) -> Result<(), Fail> {
-    let path = path_of(rt.alloc(), b"n")?;
-    let mut store = FaultStore::new(files(rt.alloc())?, 3, StoreFault::Io, false, false);
-    expect_equal(
-        &rt,
-        &write(&mut store, rt.alloc(), &path),
-        &Ok(()),
-        "three calls",
-    );
-    let fourth = write(&mut store, rt.alloc(), &path);
-    expect_equal(&rt, &fourth, &Err(StoreFault::Io), "the fourth");
-    let fifth = write(&mut store, rt.alloc(), &path);
-    expect_equal(&rt, &fifth, &Err(StoreFault::Exists), "the fifth");
-    Ok(())
+fn the_calls_before_it_are_passed_on(rt: HostRuntime) {
+    let store = files(&rt, rt.alloc());
+    let mut store = FaultStore::new(store, 3, StoreFault::Io, false, false);
+    writes(&rt, rt.alloc(), &mut store, "three calls", Ok(()));
+    let io = Err(StoreFault::Io);
+    writes(&rt, rt.alloc(), &mut store, "the fourth", io);
+    let exists = Err(StoreFault::Exists);
+    writes(&rt, rt.alloc(), &mut store, "the fifth", exists);
 }
 
 /// What was told to be refused below it is refused, too.
 #[test]
-fn the_inner_store_refuses_as_told(rt: HostRuntime) -> Result<(), Fail> {
-    let path = path_of(rt.alloc(), b"n")?;
-    let mut inner = files(rt.alloc())?;
+fn the_inner_store_refuses_as_told(rt: HostRuntime) {
+    let mut inner = files(&rt, rt.alloc());
     inner.refuse_next(true);
     let mut store = FaultStore::new(inner, 9, StoreFault::Io, false, false);
-    let refused = write(&mut store, rt.alloc(), &path);
-    expect_equal(&rt, &refused, &Err(StoreFault::Full), "the append");
+    let full = Err(StoreFault::Full);
+    writes(&rt, rt.alloc(), &mut store, "the append", full);
     expect(&rt, !store.get_ref().refuses(), "it is told no more");
-    Ok(())
 }

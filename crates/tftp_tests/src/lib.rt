@@ -16,6 +16,12 @@ mod random_rows;
 #[cfg(test)]
 mod read_rows;
 #[cfg(test)]
+mod served;
+#[cfg(test)]
 mod server_write_rows;
 #[cfg(test)]
 mod store_rows;
+#[cfg(test)]
+mod stores;
+#[cfg(test)]
+mod worlds;

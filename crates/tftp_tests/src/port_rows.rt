@@ -2,12 +2,12 @@
 //! RFC 1350, section 5 and appendix I.
 
 use crate::expect::{expect, expect_bytes, expect_equal};
+use crate::served::Served;
+use crate::stores::{path, store_of};
 use std::alloc::Global;
 use std::process::Abort;
-use std::test::Fail;
 use tftp_ends::{Endpoint, Outcome, Outgoing};
-use tftp_file::path_of;
-use tftp_server::{Config, MemStore, Opened, Server, ServerFault};
+use tftp_server::{Config, MemStore, Opened, ServerFault};
 
 /// A client, at another port for each request.
 fn client(port: u16) -> Endpoint {
@@ -17,31 +17,20 @@ fn client(port: u16) -> Endpoint {
     }
 }
 
-/// A server of one file.
-fn server_of(
-    rt: &impl Abort,
-    alloc: Global,
-    config: Config,
-    name: &[u8],
-    bytes: &[u8],
-) -> Result<Server<MemStore>, Fail> {
-    let mut files = Vec::new(alloc);
-    files.push((path_of(alloc, name)?, Vec::from_slice(alloc, bytes)?))?;
-    let store = MemStore::new(alloc, files)?;
-    expect(rt, config.is_valid(), "the settings of a server");
-    Ok(Server::new(alloc, config, store)?)
-}
-
-/// A server of the file `a` of the three bytes `ABC`.
-fn server(rt: &impl Abort, alloc: Global, config: Config) -> Result<Server<MemStore>, Fail> {
-    server_of(rt, alloc, config, b"a", b"ABC")
+/// A server of the file `a` of the three bytes `ABC`, which holds so many transfers at most.
+fn server(rt: &impl Abort, alloc: Global, cap: u8) -> Served<MemStore> {
+    let mut config = Config::default();
+    config.cap = cap;
+    Served::new(rt, alloc, config, store_of(rt, alloc, b"a", b"ABC"))
 }
 
 /// The request for the file, in octet.
 const REQUEST: &[u8] = b"\x00\x01a\x00octet\x00";
 
 /// What comes to the request port, the answer to it, and whether a transfer opens.
-const ROWS: [(&str, &[u8], &[u8], bool); 15] = [
+type Row = (&'static str, &'static [u8], &'static [u8], bool);
+
+const ROWS: [Row; 15] = [
     ("begins as an ERROR", b"\x00\x05", b"", false),
     ("an ERROR", b"\x00\x05\x00\x01no\x00", b"", false),
     (
@@ -124,51 +113,56 @@ const ROWS: [(&str, &[u8], &[u8], bool); 15] = [
     ),
 ];
 
+/// What comes to the request port has the answer of its row, and opens a transfer or none.
+fn answers_row(rt: &impl Abort, served: &mut Served<MemStore>, row: &Row) {
+    let (what, request, answer, opens) = *row;
+    let opened = served.answers_request(rt, client(2000), 1025, request, answer);
+    let found = (opened.to.is_some(), opened.tid.is_some());
+    expect_equal(rt, &found, &(!answer.is_empty(), opens), what);
+}
+
 #[test]
-fn port_rows(rt: HostRuntime) -> Result<(), Fail> {
-    let mut server = server(&rt, rt.alloc(), Config::default())?;
-    for &(what, request, answer, opens) in &ROWS {
-        let mut out = Vec::new(rt.alloc());
-        let opened = server.on_request(client(2000), 1025, request, &mut out)?;
-        let found = (opened.to.is_some(), opened.tid.is_some());
-        expect_bytes(&rt, out.as_slice(), answer, what);
-        expect_equal(&rt, &found, &(!answer.is_empty(), opens), what);
+fn port_rows(rt: HostRuntime) {
+    let mut served = server(&rt, rt.alloc(), 16);
+    for row in &ROWS {
+        answers_row(&rt, &mut served, row);
     }
-    Ok(())
+}
+
+/// The request to a server of this one file opens a transfer or none, and is answered by that.
+fn opens(
+    rt: &impl Abort,
+    alloc: Global,
+    name: &[u8],
+    bytes: &[u8],
+    request: &[u8],
+    answer: &[u8],
+    tid: Option<u16>,
+) {
+    let store = store_of(rt, alloc, name, bytes);
+    let mut served = Served::new(rt, alloc, Config::default(), store);
+    let opened = served.answers_request(rt, client(2000), 1025, request, answer);
+    expect_equal(rt, &(request, opened.tid), &(request, tid), "a transfer");
 }
 
 /// A name of two segments, behind a slash that does not count.
 #[test]
-fn a_file_in_a_folder_is_read(rt: HostRuntime) -> Result<(), Fail> {
-    let path = path_of(rt.alloc(), b"/a/b")?;
+fn a_file_in_a_folder_is_read(rt: HostRuntime) {
+    let path = path(&rt, rt.alloc(), b"/a/b");
     expect_bytes(&rt, path.as_bytes(), b"a/b".as_slice(), "the path");
-    let mut server = server_of(&rt, rt.alloc(), Config::default(), b"a/b", b"XY")?;
-    let mut out = Vec::new(rt.alloc());
     let request = b"\x00\x01/a/b\x00octet\x00";
-    let opened = server.on_request(client(2000), 1025, request, &mut out)?;
-    expect_equal(&rt, &opened.tid, &Some(1025), "a transfer");
-    expect_bytes(
-        &rt,
-        out.as_slice(),
-        b"\x00\x03\x00\x01XY".as_slice(),
-        "DATA 1",
-    );
-    Ok(())
+    let data = b"\x00\x03\x00\x01XY";
+    opens(&rt, rt.alloc(), b"a/b", b"XY", request, data, Some(1025));
 }
 
-/// 65,535 blocks of 8 bytes are the most, and the last of them is short (RFC 1350, section 6): a file of
-/// one byte more than they carry, and no answer but the ERROR.
+/// 65,535 blocks of 8 bytes are the most, and the last of them is short (RFC 1350, section 6): a
+/// file of one byte more than they carry, and no answer but the ERROR.
 #[test]
-fn a_file_is_too_large_for_its_blocks(rt: HostRuntime) -> Result<(), Fail> {
-    let bytes = vec![in rt.alloc(); b'x'; 524_280]?;
-    let mut server = server_of(&rt, rt.alloc(), Config::default(), b"a", &bytes)?;
-    let mut out = Vec::new(rt.alloc());
+fn a_file_is_too_large_for_its_blocks(rt: HostRuntime) {
+    let bytes = vec![in rt.alloc(); b'x'; 524_280].expect(&rt, "memory");
     let request = b"\x00\x01a\x00octet\x00blksize\x008\x00";
-    let opened = server.on_request(client(2000), 1025, request, &mut out)?;
-    let too_large = b"\x00\x05\x00\x00file too large\x00".as_slice();
-    expect_bytes(&rt, out.as_slice(), too_large, "the answer");
-    expect_equal(&rt, &opened.tid, &None, "no transfer");
-    Ok(())
+    let too_large = b"\x00\x05\x00\x00file too large\x00";
+    opens(&rt, rt.alloc(), b"a", &bytes, request, too_large, None);
 }
 
 /// Reads of the file, and what opens each: an OACK of the options that the server takes, in their
@@ -206,28 +200,18 @@ const READS: [(&[u8], &[u8]); 8] = [
 ];
 
 #[test]
-fn reads_are_answered_with_their_options(rt: HostRuntime) -> Result<(), Fail> {
+fn reads_are_answered_with_their_options(rt: HostRuntime) {
     for &(request, answer) in &READS {
-        let mut server = server(&rt, rt.alloc(), Config::default())?;
-        let mut out = Vec::new(rt.alloc());
-        let opened = server.on_request(client(2000), 1025, request, &mut out)?;
-        let found = (request, out.as_slice(), opened.tid);
-        expect_equal(
-            &rt,
-            &found,
-            &(request, answer, Some(1025)),
-            "an answer and a transfer",
-        );
+        opens(&rt, rt.alloc(), b"a", b"ABC", request, answer, Some(1025));
     }
-    Ok(())
 }
 
+/// The first block of the file.
+const DATA_1: &[u8] = b"\x00\x03\x00\x01ABC";
+
 /// A request for the file opens a transfer with this identifier.
-fn open(rt: &impl Abort, alloc: Global, server: &mut Server<MemStore>, tid: u16) {
-    let mut out = Vec::new(alloc);
-    let opened = server
-        .on_request(client(tid), tid, REQUEST, &mut out)
-        .expect(rt, "the server takes it");
+fn open(rt: &impl Abort, served: &mut Served<MemStore>, tid: u16) {
+    let opened = served.answers_request(rt, client(tid), tid, REQUEST, DATA_1);
     let wanted = Opened {
         tid: Some(tid),
         to: Some(client(tid)),
@@ -235,8 +219,14 @@ fn open(rt: &impl Abort, alloc: Global, server: &mut Server<MemStore>, tid: u16)
     expect_equal(rt, &opened, &wanted, "a transfer opens");
 }
 
-/// What comes from the endpoint whose transfer is open, and the answer: a read of another file is no
-/// repeat, and the mode's letters make no difference (RFC 1350, section 5).
+/// ACK 1 of the one block closes the transfer.
+fn acknowledge(rt: &impl Abort, served: &mut Served<MemStore>, tid: u16) {
+    let closed = served.answers(rt, client(tid), tid, b"\x00\x04\x00\x01", b"");
+    expect_equal(rt, &closed, &Some(Outcome::Complete), "it closes");
+}
+
+/// What comes from the endpoint whose transfer is open, and the answer: a read of another file is
+/// no repeat, and the mode's letters make no difference (RFC 1350, section 5).
 const REPEATS: [(&[u8], &[u8]); 4] = [
     (b"\x00\x01a\x00octet\x00", b""),
     (b"\x00\x01a\x00OcTeT\x00", b""),
@@ -250,179 +240,146 @@ const REPEATS: [(&[u8], &[u8]); 4] = [
     ),
 ];
 
-#[test]
-fn a_repeated_request_opens_nothing(rt: HostRuntime) -> Result<(), Fail> {
-    for &(request, answer) in &REPEATS {
-        let mut server = server(&rt, rt.alloc(), Config::default())?;
-        open(&rt, rt.alloc(), &mut server, 1025);
-        let mut out = Vec::new(rt.alloc());
-        server.on_request(client(1025), 1040, request, &mut out)?;
-        expect_equal(
-            &rt,
-            &(request, out.as_slice()),
-            &(request, answer),
-            "the answer",
-        );
-    }
-    Ok(())
+/// The repeat is answered by that.
+fn answers_repeat(rt: &impl Abort, alloc: Global, request: &[u8], answer: &[u8]) {
+    let mut served = server(rt, alloc, 16);
+    open(rt, &mut served, 1025);
+    served.answers_request(rt, client(1025), 1040, request, answer);
 }
 
 #[test]
-fn a_request_opens_anew_behind_the_close(rt: HostRuntime) -> Result<(), Fail> {
-    let mut server = server(&rt, rt.alloc(), Config::default())?;
-    open(&rt, rt.alloc(), &mut server, 1025);
-    expect_equal(
-        &rt,
-        &server.may_open(client(1025), REQUEST),
-        &Ok(false),
-        "a repeat",
-    );
-    expect_equal(
-        &rt,
-        &server.may_open(client(1026), REQUEST),
-        &Ok(true),
-        "of another client",
-    );
-    let mut out = Vec::new(rt.alloc());
-    server.on_datagram(1025, client(1025), b"\x00\x04\x00\x01", &mut out)?;
-    let opened = server.on_request(client(1025), 1026, REQUEST, &mut out)?;
+fn a_repeated_request_opens_nothing(rt: HostRuntime) {
+    for &(request, answer) in &REPEATS {
+        answers_repeat(&rt, rt.alloc(), request, answer);
+    }
+}
+
+/// What comes from a client at this port could open a transfer or not, as far as no store is asked.
+fn may_open(rt: &impl Abort, served: &Served<MemStore>, port: u16, bytes: &[u8], wanted: bool) {
+    let found = (bytes, served.server.may_open(client(port), bytes));
+    expect_equal(rt, &found, &(bytes, Ok(wanted)), "whether it may open one");
+}
+
+#[test]
+fn a_request_opens_anew_behind_the_close(rt: HostRuntime) {
+    let mut served = server(&rt, rt.alloc(), 16);
+    open(&rt, &mut served, 1025);
+    may_open(&rt, &served, 1025, REQUEST, false);
+    may_open(&rt, &served, 1026, REQUEST, true);
+    acknowledge(&rt, &mut served, 1025);
+    let opened = served.answers_request(&rt, client(1025), 1026, REQUEST, DATA_1);
     expect_equal(&rt, &opened.tid, &Some(1026), "the transfer was over");
-    expect_bytes(
-        &rt,
-        out.as_slice(),
-        b"\x00\x03\x00\x01ABC".as_slice(),
-        "DATA 1",
-    );
-    out.clear();
     // the client has completed, and knows no such transfer
     let unknown = b"\x00\x05\x00\x05unknown transfer id\x00";
-    let step = server.on_datagram(1026, client(1025), unknown, &mut out)?;
-    expect_equal(&rt, &step.closed, &Some(Outcome::PeerError(5)), "it closes");
-    expect(&rt, out.is_empty(), "in silence");
-    Ok(())
+    let closed = served.answers(&rt, client(1025), 1026, unknown, b"");
+    expect_equal(&rt, &closed, &Some(Outcome::PeerError(5)), "it closes");
+}
+
+/// The request of a second client finds no place.
+fn is_busy(rt: &impl Abort, served: &mut Served<MemStore>) {
+    let busy = b"\x00\x05\x00\x00server busy\x00";
+    let opened = served.answers_request(rt, client(1026), 1026, REQUEST, busy);
+    let wanted = Opened {
+        tid: None,
+        to: Some(client(1026)),
+    };
+    expect_equal(rt, &opened, &wanted, "no second transfer, but an answer");
 }
 
 #[test]
-fn a_full_server_is_busy(rt: HostRuntime) -> Result<(), Fail> {
-    let mut config = Config::default();
-    config.cap = 1;
-    let mut server = server(&rt, rt.alloc(), config)?;
-    open(&rt, rt.alloc(), &mut server, 1025);
-    let mut out = Vec::new(rt.alloc());
-    let opened = server.on_request(client(1026), 1026, REQUEST, &mut out)?;
-    expect_equal(&rt, &opened.tid, &None, "no second transfer");
-    expect_equal(&rt, &opened.to, &Some(client(1026)), "but an answer");
-    let busy = b"\x00\x05\x00\x00server busy\x00".as_slice();
-    expect_bytes(&rt, out.as_slice(), busy, "its bytes");
-    Ok(())
+fn a_full_server_is_busy(rt: HostRuntime) {
+    let mut served = server(&rt, rt.alloc(), 1);
+    open(&rt, &mut served, 1025);
+    is_busy(&rt, &mut served);
 }
 
 /// A closed transfer has its place until it is taken.
 #[test]
-fn a_closed_transfer_counts_until_it_is_taken(rt: HostRuntime) -> Result<(), Fail> {
-    let mut config = Config::default();
-    config.cap = 1;
-    let mut server = server(&rt, rt.alloc(), config)?;
-    open(&rt, rt.alloc(), &mut server, 1025);
-    let mut out = Vec::new(rt.alloc());
-    let step = server.on_datagram(1025, client(1025), b"\x00\x04\x00\x01", &mut out)?;
-    expect_equal(&rt, &step.closed, &Some(Outcome::Complete), "it closes");
-    let opened = server.on_request(client(1026), 1026, REQUEST, &mut out)?;
-    expect_equal(&rt, &opened.tid, &None, "there is no place");
-    expect(&rt, server.take_closed(1025).is_some(), "it is taken");
-    open(&rt, rt.alloc(), &mut server, 1026);
-    Ok(())
+fn a_closed_transfer_counts_until_it_is_taken(rt: HostRuntime) {
+    let mut served = server(&rt, rt.alloc(), 1);
+    open(&rt, &mut served, 1025);
+    acknowledge(&rt, &mut served, 1025);
+    is_busy(&rt, &mut served);
+    take(&rt, &mut served, 1025);
+    open(&rt, &mut served, 1026);
 }
 
-/// The identifiers that the server holds.
-fn tids(server: &Server<MemStore>, alloc: Global) -> Result<Vec<u16>, Fail> {
-    let mut tids = Vec::new(alloc);
-    server.tids(&mut tids)?;
-    Ok(tids)
+/// A closed transfer is taken.
+fn take(rt: &impl Abort, served: &mut Served<MemStore>, tid: u16) {
+    let taken = served.server.take_closed(tid);
+    expect(rt, taken.is_some(), "a closed one is taken");
 }
 
 /// In the order of their opening.
 const OPENED: [u16; 3] = [1030, 1025, 1027];
 
 /// A server that holds three transfers.
-fn busy_server(rt: &impl Abort, alloc: Global) -> Result<Server<MemStore>, Fail> {
-    let mut server = server(rt, alloc, Config::default())?;
+fn busy_server(rt: &impl Abort, alloc: Global) -> Served<MemStore> {
+    let mut served = server(rt, alloc, 16);
     for &tid in &OPENED {
-        open(rt, alloc, &mut server, tid);
+        open(rt, &mut served, tid);
     }
-    Ok(server)
+    served
 }
 
-/// ACK 1 of the one block closes the transfer, and it is taken.
-fn close(rt: &impl Abort, alloc: Global, server: &mut Server<MemStore>, tid: u16) {
+/// A request under an identifier that a transfer has is refused.
+fn is_in_use(rt: &impl Abort, alloc: Global, served: &mut Served<MemStore>, port: u16) {
     let mut out = Vec::new(alloc);
-    let step = server
-        .on_datagram(tid, client(tid), b"\x00\x04\x00\x01", &mut out)
-        .expect(rt, "the server takes it");
-    expect_equal(rt, &step.closed, &Some(Outcome::Complete), "it closes");
-    expect(
-        rt,
-        server.take_closed(tid).is_some(),
-        "a closed one is taken",
-    );
+    let again = served
+        .server
+        .on_request(client(port), 1027, REQUEST, &mut out);
+    let in_use = Err(ServerFault::TidInUse);
+    expect_equal(rt, &again, &in_use, "an identifier in use");
 }
 
-/// The identifiers that are held when the second was closed and another opened.
-const HELD: &[u16] = &[1027, 1030, 1040];
+/// The server holds transfers of these identifiers, in this order.
+fn holds(rt: &impl Abort, alloc: Global, served: &Served<MemStore>, wanted: &[u16]) {
+    let mut tids = Vec::new(alloc);
+    served.server.tids(&mut tids).expect(rt, "memory");
+    expect_equal(rt, &tids.as_slice(), &wanted, "in rising order");
+}
 
+/// The second is closed and another opened.
 #[test]
-fn table_rows(rt: HostRuntime) -> Result<(), Fail> {
-    let mut server = busy_server(&rt, rt.alloc())?;
-    close(&rt, rt.alloc(), &mut server, 1025);
-    open(&rt, rt.alloc(), &mut server, 1040);
-    let held = tids(&server, rt.alloc())?;
-    expect_equal(&rt, &held.as_slice(), &HELD, "in rising order");
-    let mut out = Vec::new(rt.alloc());
-    let again = server.on_request(client(2000), 1027, REQUEST, &mut out);
-    expect_equal(
-        &rt,
-        &again,
-        &Err(ServerFault::TidInUse),
-        "an identifier in use",
-    );
-    Ok(())
+fn table_rows(rt: HostRuntime) {
+    let mut served = busy_server(&rt, rt.alloc());
+    acknowledge(&rt, &mut served, 1025);
+    take(&rt, &mut served, 1025);
+    open(&rt, &mut served, 1040);
+    holds(&rt, rt.alloc(), &served, &[1027, 1030, 1040]);
+    is_in_use(&rt, rt.alloc(), &mut served, 2000);
 }
 
 #[test]
-fn an_open_transfer_stays(rt: HostRuntime) -> Result<(), Fail> {
-    let mut server = busy_server(&rt, rt.alloc())?;
-    expect(&rt, server.take_closed(1025).is_none(), "it is not taken");
-    expect(&rt, server.record(1025).is_some(), "it is there");
-    let mut out = Vec::new(rt.alloc());
-    let again = server.on_request(client(1027), 1027, REQUEST, &mut out);
-    expect_equal(
-        &rt,
-        &again,
-        &Err(ServerFault::TidInUse),
-        "an identifier in use",
-    );
-    Ok(())
+fn an_open_transfer_stays(rt: HostRuntime) {
+    let mut served = busy_server(&rt, rt.alloc());
+    let taken = served.server.take_closed(1025);
+    expect(&rt, taken.is_none(), "it is not taken");
+    let is_there = served.server.record(1025).is_some();
+    expect(&rt, is_there, "it is there");
+    is_in_use(&rt, rt.alloc(), &mut served, 1027);
 }
 
-/// The identifiers of the transfers that are open when the second has closed.
-const OPEN: &[u16] = &[1027, 1030];
-
-#[test]
-fn open_transfers_are_told(rt: HostRuntime) -> Result<(), Fail> {
-    let mut server = busy_server(&rt, rt.alloc())?;
-    let mut out = Vec::new(rt.alloc());
-    let step = server.on_datagram(1025, client(1025), b"\x00\x04\x00\x01", &mut out)?;
-    expect_equal(&rt, &step.closed, &Some(Outcome::Complete), "one closes");
-    let mut open = Vec::new(rt.alloc());
-    for (tid, record) in server.open_transfers() {
-        expect_equal(&rt, &record.peer, &Some(client(tid)), "its client");
-        open.push(tid)?;
+/// The server's open transfers have these identifiers, in this order, and each its client.
+fn lists(rt: &impl Abort, alloc: Global, served: &Served<MemStore>, wanted: &[u16]) {
+    let mut open = Vec::new(alloc);
+    for (tid, record) in served.server.open_transfers() {
+        expect_equal(rt, &record.peer, &Some(client(tid)), "its client");
+        open.push(tid).expect(rt, "memory");
     }
-    expect_equal(&rt, &open.as_slice(), &OPEN, "in rising order");
-    Ok(())
+    expect_equal(rt, &open.as_slice(), &wanted, "in rising order");
 }
 
-/// What comes to the request port, and whether it could open a transfer, as far as no store is asked.
+/// The second has closed.
+#[test]
+fn open_transfers_are_told(rt: HostRuntime) {
+    let mut served = busy_server(&rt, rt.alloc());
+    acknowledge(&rt, &mut served, 1025);
+    lists(&rt, rt.alloc(), &served, &[1027, 1030]);
+}
+
+/// What comes to the request port, and whether it could open a transfer, as far as no store is
+/// asked.
 const MAY_OPEN: [(&[u8], bool); 8] = [
     (b"\x00\x01a\x00octet\x00", true),
     (b"\x00\x01b\x00octet\x00", true),
@@ -435,42 +392,38 @@ const MAY_OPEN: [(&[u8], bool); 8] = [
 ];
 
 #[test]
-fn what_could_open_a_transfer(rt: HostRuntime) -> Result<(), Fail> {
-    let server = server(&rt, rt.alloc(), Config::default())?;
-    for &(bytes, want) in &MAY_OPEN {
-        let found = (bytes, server.may_open(client(1040), bytes));
-        expect_equal(&rt, &found, &(bytes, Ok(want)), "whether it may open one");
+fn what_could_open_a_transfer(rt: HostRuntime) {
+    let served = server(&rt, rt.alloc(), 16);
+    for &(bytes, wanted) in &MAY_OPEN {
+        may_open(&rt, &served, 1040, bytes, wanted);
     }
-    Ok(())
+}
+
+/// The transfer lends these bytes, and an identifier without a transfer none.
+fn lends(rt: &impl Abort, served: &Served<MemStore>, outgoing: Outgoing, wanted: &[u8]) {
+    let lent = served.server.bytes_of(1025, outgoing);
+    expect_bytes(rt, lent.expect(rt, "a transfer"), wanted, "what goes out");
+    let other = served.server.bytes_of(1040, outgoing);
+    expect(rt, other.is_none(), "no such transfer");
 }
 
 /// A timeout lends the block that was sent.
 #[test]
-fn a_transfer_lends_its_datagram(rt: HostRuntime) -> Result<(), Fail> {
-    let mut server = busy_server(&rt, rt.alloc())?;
-    let (step, outgoing) = server.handle_timeout(1025)?;
+fn a_transfer_lends_its_datagram(rt: HostRuntime) {
+    let mut served = busy_server(&rt, rt.alloc());
+    let timeout = served.server.handle_timeout(1025);
+    let (step, outgoing) = timeout.expect(&rt, "the server takes it");
     expect_equal(&rt, &step.to, &Some(client(1025)), "to its client");
-    let bytes = server.bytes_of(1025, outgoing).ok_or("a transfer")?;
-    expect_bytes(
-        &rt,
-        bytes,
-        b"\x00\x03\x00\x01ABC".as_slice(),
-        "DATA 1 again",
-    );
-    expect(
-        &rt,
-        server.bytes_of(1040, outgoing).is_none(),
-        "no such transfer",
-    );
-    Ok(())
+    lends(&rt, &served, outgoing, DATA_1);
 }
 
 #[test]
-fn a_transfer_completes_without_a_buffer(rt: HostRuntime) -> Result<(), Fail> {
-    let mut server = busy_server(&rt, rt.alloc())?;
+fn a_transfer_completes_without_a_buffer(rt: HostRuntime) {
+    let mut served = busy_server(&rt, rt.alloc());
     let ack = b"\x00\x04\x00\x01";
-    let (step, outgoing) = server.handle_datagram(1025, client(1025), ack)?;
-    expect_equal(&rt, &step.closed, &Some(Outcome::Complete), "the last ACK");
-    expect_equal(&rt, &outgoing, &Outgoing::Nothing, "in silence");
-    Ok(())
+    let taken = served.server.handle_datagram(1025, client(1025), ack);
+    let (step, outgoing) = taken.expect(&rt, "the server takes it");
+    let found = (step.closed, outgoing);
+    let complete = (Some(Outcome::Complete), Outgoing::Nothing);
+    expect_equal(&rt, &found, &complete, "the last ACK, in silence");
 }

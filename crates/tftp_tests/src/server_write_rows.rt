@@ -1,15 +1,17 @@
-//! Writes at a server (RFC 1350, sections 2, 4 and 6): what opens them, what they leave in the store, and
-//! stores that fail on the way. The answers are those of RFC 1350, section 5 and appendix I.
+//! Writes at a server (RFC 1350, sections 2, 4 and 6): what opens them, what they leave in the
+//! store, and stores that fail on the way. The answers are those of RFC 1350, section 5 and
+//! appendix I.
 
 ghost use Rattle.tftp_server.specs.FaultStore.{IsInjected};
 
 use crate::expect::{expect, expect_bytes, expect_equal};
+use crate::served::Served;
+use crate::stores::{has_file, lacks_file, path, store_of, write};
 use std::alloc::Global;
 use std::process::Abort;
-use std::test::Fail;
 use tftp_ends::{Endpoint, Outcome};
-use tftp_file::{Path, StoreFault, path_of};
-use tftp_server::{Config, FaultStore, MemStore, Server, Store};
+use tftp_file::StoreFault;
+use tftp_server::{Config, FaultStore, MemStore, Store};
 
 const CLIENT: Endpoint = Endpoint {
     ip: [10, 0, 0, 2],
@@ -24,22 +26,24 @@ const OTHER: Endpoint = Endpoint {
 const WRITE: &[u8] = b"\x00\x02n\x00octet\x00";
 
 /// A store of the file `a` of the three bytes `ABC`.
-fn files(alloc: Global) -> Result<MemStore, Fail> {
-    let mut files = Vec::new(alloc);
-    files.push((path_of(alloc, b"a")?, Vec::from_slice(alloc, b"ABC")?))?;
-    Ok(MemStore::new(alloc, files)?)
+fn files(rt: &impl Abort, alloc: Global) -> MemStore {
+    store_of(rt, alloc, b"a", b"ABC")
 }
 
-/// A server over that store, which may replace files or not.
-fn server(rt: &impl Abort, alloc: Global, overwrite: bool) -> Result<Server<MemStore>, Fail> {
+/// A server over that store, which replaces no file.
+fn server(rt: &impl Abort, alloc: Global) -> Served<MemStore> {
+    Served::new(rt, alloc, Config::default(), files(rt, alloc))
+}
+
+/// A server over that store, which may replace files.
+fn replacing_server(rt: &impl Abort, alloc: Global) -> Served<MemStore> {
     let mut config = Config::default();
-    config.overwrite = overwrite;
-    expect(rt, config.is_valid(), "the settings of a server");
-    Ok(Server::new(alloc, config, files(alloc)?)?)
+    config.overwrite = true;
+    Served::new(rt, alloc, config, files(rt, alloc))
 }
 
-/// Requests to write, and what opens each: an OACK of the options that the server takes, or ACK 0 where there
-/// are none (RFC 2347, "Negotiation Protocol"; RFC 2348; RFC 2349).
+/// Requests to write, and what opens each: an OACK of the options that the server takes, or ACK 0
+/// where there are none (RFC 2347, "Negotiation Protocol"; RFC 2348; RFC 2349).
 const OPENED: [(&[u8], &[u8]); 6] = [
     (WRITE, b"\x00\x04\x00\x00"),
     (b"\x00\x02n\x00NetASCII\x00", b"\x00\x04\x00\x00"),
@@ -61,55 +65,28 @@ const OPENED: [(&[u8], &[u8]); 6] = [
     ),
 ];
 
-#[test]
-fn writes_are_answered_with_their_options(rt: HostRuntime) -> Result<(), Fail> {
-    for &(request, answer) in &OPENED {
-        let mut server = server(&rt, rt.alloc(), false)?;
-        let mut out = Vec::new(rt.alloc());
-        let opened = server.on_request(CLIENT, 1025, request, &mut out)?;
-        let found = (request, out.as_slice(), opened.tid);
-        expect_equal(
-            &rt,
-            &found,
-            &(request, answer, Some(1025)),
-            "an answer and a transfer",
-        );
-        expect(&rt, server.draft(1025).is_some(), "with a draft");
-    }
-    Ok(())
+/// The request opens a transfer with a draft, and is answered by that.
+fn opens(rt: &impl Abort, alloc: Global, request: &[u8], answer: &[u8]) {
+    let mut served = server(rt, alloc);
+    let opened = served.answers_request(rt, CLIENT, 1025, request, answer);
+    let found = (request, opened.tid, served.server.draft(1025).is_some());
+    let wanted = (request, Some(1025), true);
+    expect_equal(rt, &found, &wanted, "a transfer with a draft");
 }
+
+#[test]
+fn writes_are_answered_with_their_options(rt: HostRuntime) {
+    for &(request, answer) in &OPENED {
+        opens(&rt, rt.alloc(), request, answer);
+    }
+}
+
+const ACK_0: &[u8] = b"\x00\x04\x00\x00";
 
 /// A request to write opens a transfer.
-fn open<S: Store>(
-    rt: &impl Abort,
-    alloc: Global,
-    server: &mut Server<S>,
-    from: Endpoint,
-    tid: u16,
-) {
-    let mut out = Vec::new(alloc);
-    let opened = server
-        .on_request(from, tid, WRITE, &mut out)
-        .expect(rt, "the server takes it");
+fn open<S: Store>(rt: &impl Abort, served: &mut Served<S>, from: Endpoint, tid: u16) {
+    let opened = served.answers_request(rt, from, tid, WRITE, ACK_0);
     expect_equal(rt, &opened.tid, &Some(tid), "a transfer opens");
-}
-
-/// A datagram comes to a transfer, which answers it by that.
-fn answers<S: Store>(
-    rt: &impl Abort,
-    alloc: Global,
-    server: &mut Server<S>,
-    from: Endpoint,
-    tid: u16,
-    bytes: &[u8],
-    answer: &[u8],
-) -> Option<Outcome> {
-    let mut out = Vec::new(alloc);
-    let step = server
-        .on_datagram(tid, from, bytes, &mut out)
-        .expect(rt, "the server takes it");
-    expect_equal(rt, &(bytes, out.as_slice()), &(bytes, answer), "the answer");
-    step.closed
 }
 
 const DATA_A: &[u8] = b"\x00\x03\x00\x01A";
@@ -118,144 +95,128 @@ const DATA_B: &[u8] = b"\x00\x03\x00\x01B";
 
 const ACK_1: &[u8] = b"\x00\x04\x00\x01";
 
+/// The transfer's draft is committed.
+fn is_committed(rt: &impl Abort, served: &Served<MemStore>, tid: u16) {
+    let draft = served.server.draft(tid).expect(rt, "a draft");
+    expect(rt, draft.is_committed(), "its draft is committed");
+}
+
 /// The file is there once it is committed, and only then the last block is acknowledged.
 #[test]
-fn a_write_makes_a_file(rt: HostRuntime) -> Result<(), Fail> {
-    let path = path_of(rt.alloc(), b"n")?;
-    let mut server = server(&rt, rt.alloc(), false)?;
-    open(&rt, rt.alloc(), &mut server, CLIENT, 1025);
-    expect(&rt, server.store().file(&path).is_none(), "no file yet");
-    let closed = answers(&rt, rt.alloc(), &mut server, CLIENT, 1025, DATA_A, ACK_1);
+fn a_write_makes_a_file(rt: HostRuntime) {
+    let mut served = server(&rt, rt.alloc());
+    open(&rt, &mut served, CLIENT, 1025);
+    lacks_file(&rt, rt.alloc(), served.server.store(), b"n");
+    let closed = served.answers(&rt, CLIENT, 1025, DATA_A, ACK_1);
     expect_equal(&rt, &closed, &None, "the receiver dallies");
-    let file = server.store().file(&path).ok_or("a file")?;
-    expect_bytes(&rt, file, b"A".as_slice(), "what came");
-    let draft = server.draft(1025).ok_or("a draft")?;
-    expect(&rt, draft.is_committed(), "its draft is committed");
-    Ok(())
+    has_file(&rt, rt.alloc(), served.server.store(), b"n", b"A");
+    is_committed(&rt, &served, 1025);
+}
+
+/// The transfer has closed, and is handed out with a draft of these bytes.
+fn hands_out(rt: &impl Abort, served: &mut Served<MemStore>, tid: u16, bytes: &[u8]) {
+    let taken = served.server.take_closed(tid);
+    let (record, draft) = taken.expect(rt, "a closed transfer");
+    let complete = Some(Outcome::Complete);
+    expect_equal(rt, &record.outcome, &complete, "how it ended");
+    let draft = draft.expect(rt, "a draft");
+    expect_bytes(rt, draft.as_bytes(), bytes, "what it holds");
 }
 
 /// It is closed by its second timeout (RFC 1350, section 6), and handed out with its draft.
 #[test]
-fn a_draft_is_handed_out(rt: HostRuntime) -> Result<(), Fail> {
-    let mut server = server(&rt, rt.alloc(), false)?;
-    open(&rt, rt.alloc(), &mut server, CLIENT, 1025);
-    answers(&rt, rt.alloc(), &mut server, CLIENT, 1025, DATA_A, ACK_1);
-    let mut out = Vec::new(rt.alloc());
-    server.on_timeout(1025, &mut out)?;
-    expect(&rt, server.take_closed(1025).is_none(), "it is open");
-    server.on_timeout(1025, &mut out)?;
-    expect(&rt, out.is_empty(), "in silence");
-    let (record, draft) = server.take_closed(1025).ok_or("a closed transfer")?;
-    expect_equal(
-        &rt,
-        &record.outcome,
-        &Some(Outcome::Complete),
-        "how it ended",
-    );
-    let draft = draft.ok_or("a draft")?;
-    expect_bytes(&rt, draft.as_bytes(), b"A".as_slice(), "what it holds");
-    Ok(())
+fn a_draft_is_handed_out(rt: HostRuntime) {
+    let mut served = server(&rt, rt.alloc());
+    open(&rt, &mut served, CLIENT, 1025);
+    served.answers(&rt, CLIENT, 1025, DATA_A, ACK_1);
+    served.waits(&rt, 1025);
+    let taken = served.server.take_closed(1025);
+    expect(&rt, taken.is_none(), "it is open");
+    served.waits(&rt, 1025);
+    hands_out(&rt, &mut served, 1025, b"A");
 }
 
 const FILE_EXISTS: &[u8] = b"\x00\x05\x00\x06file exists\x00";
 
-/// Two writes of one name are open: the first that is committed has it.
+/// Two writes of one name are open, and the block of the first comes.
+fn open_two(rt: &impl Abort, served: &mut Served<MemStore>) {
+    open(rt, served, CLIENT, 1025);
+    open(rt, served, OTHER, 1026);
+    served.answers(rt, CLIENT, 1025, DATA_A, ACK_1);
+}
+
+/// The first that is committed has the name.
 #[test]
-fn the_first_commit_has_the_name(rt: HostRuntime) -> Result<(), Fail> {
-    let path = path_of(rt.alloc(), b"n")?;
-    let mut server = server(&rt, rt.alloc(), false)?;
-    open(&rt, rt.alloc(), &mut server, CLIENT, 1025);
-    open(&rt, rt.alloc(), &mut server, OTHER, 1026);
-    answers(&rt, rt.alloc(), &mut server, CLIENT, 1025, DATA_A, ACK_1);
-    let closed = answers(
-        &rt,
-        rt.alloc(),
-        &mut server,
-        OTHER,
-        1026,
-        DATA_B,
-        FILE_EXISTS,
-    );
+fn the_first_commit_has_the_name(rt: HostRuntime) {
+    let mut served = server(&rt, rt.alloc());
+    open_two(&rt, &mut served);
+    let closed = served.answers(&rt, OTHER, 1026, DATA_B, FILE_EXISTS);
     expect_equal(&rt, &closed, &Some(Outcome::StoreFault), "the other closes");
-    let file = server.store().file(&path).ok_or("a file")?;
-    expect_bytes(&rt, file, b"A".as_slice(), "what came first");
-    Ok(())
+    has_file(&rt, rt.alloc(), served.server.store(), b"n", b"A");
 }
 
 /// Where files may be replaced, the last commit stands.
 #[test]
-fn the_last_commit_stands(rt: HostRuntime) -> Result<(), Fail> {
-    let path = path_of(rt.alloc(), b"n")?;
-    let mut server = server(&rt, rt.alloc(), true)?;
-    open(&rt, rt.alloc(), &mut server, CLIENT, 1025);
-    open(&rt, rt.alloc(), &mut server, OTHER, 1026);
-    answers(&rt, rt.alloc(), &mut server, CLIENT, 1025, DATA_A, ACK_1);
-    answers(&rt, rt.alloc(), &mut server, OTHER, 1026, DATA_B, ACK_1);
-    let file = server.store().file(&path).ok_or("a file")?;
-    expect_bytes(&rt, file, b"B".as_slice(), "what came last");
-    Ok(())
+fn the_last_commit_stands(rt: HostRuntime) {
+    let mut served = replacing_server(&rt, rt.alloc());
+    open_two(&rt, &mut served);
+    served.answers(&rt, OTHER, 1026, DATA_B, ACK_1);
+    has_file(&rt, rt.alloc(), served.server.store(), b"n", b"B");
+}
+
+/// Makes the file `a` one of 600 letters.
+fn lengthen(rt: &impl Abort, alloc: Global, store: &mut MemStore) {
+    let path = path(rt, alloc, b"a");
+    write(store, alloc, &path, &[b'a'; 600], true).expect(rt, "it is written");
+}
+
+/// DATA of this number: so many times this byte.
+fn data(rt: &impl Abort, alloc: Global, number: u8, byte: u8, count: usize) -> Vec<u8> {
+    let mut bytes = Vec::from_slice(alloc, &[0, 3, 0, number]).expect(rt, "memory");
+    let block = vec![in alloc; byte; count].expect(rt, "memory");
+    bytes.extend_from_slice(&block).expect(rt, "memory");
+    bytes
 }
 
 /// A read of a file that a write replaces goes on with the file that it opened.
 #[test]
-fn a_read_goes_on_with_its_file(rt: HostRuntime) -> Result<(), Fail> {
-    let path = path_of(rt.alloc(), b"a")?;
-    let mut server = server(&rt, rt.alloc(), true)?;
-    let alloc = rt.alloc();
-    store_600(alloc, server.store_mut(), &path)?;
-    let mut out = Vec::new(alloc);
-    server.on_request(CLIENT, 1025, b"\x00\x01a\x00octet\x00", &mut out)?;
-    expect_equal(&rt, &out.len(), &516, "DATA 1");
-    out.clear();
-    server.on_request(OTHER, 1026, b"\x00\x02a\x00octet\x00", &mut out)?;
-    answers(&rt, alloc, &mut server, OTHER, 1026, DATA_B, ACK_1);
-    let file = server.store().file(&path).ok_or("a file")?;
-    expect_bytes(&rt, file, b"B".as_slice(), "it is replaced");
-    let mut rest = Vec::from_slice(alloc, b"\x00\x03\x00\x02")?;
-    rest.extend_from_slice(&[b'a'; 88])?;
-    answers(&rt, alloc, &mut server, CLIENT, 1025, ACK_1, &rest);
-    Ok(())
-}
-
-/// Makes the file one of 600 letters `a`.
-fn store_600<S: Store>(alloc: Global, store: &mut S, path: &Path) -> Result<(), Fail> {
-    let mut draft = store.begin(alloc, path, true)?;
-    store.append(&mut draft, &[b'a'; 600])?;
-    store.commit(path, &mut draft, true)?;
-    Ok(())
+fn a_read_goes_on_with_its_file(rt: HostRuntime) {
+    let mut served = replacing_server(&rt, rt.alloc());
+    lengthen(&rt, rt.alloc(), served.server.store_mut());
+    let read = b"\x00\x01a\x00octet\x00";
+    let first = data(&rt, rt.alloc(), 1, b'a', 512);
+    served.answers_request(&rt, CLIENT, 1025, read, &first);
+    let replace = b"\x00\x02a\x00octet\x00";
+    served.answers_request(&rt, OTHER, 1026, replace, ACK_0);
+    served.answers(&rt, OTHER, 1026, DATA_B, ACK_1);
+    has_file(&rt, rt.alloc(), served.server.store(), b"a", b"B");
+    let rest = data(&rt, rt.alloc(), 2, b'a', 88);
+    served.answers(&rt, CLIENT, 1025, ACK_1, &rest);
 }
 
 /// The request comes again: this is the answer, and no transfer opens.
-fn opens_nothing(rt: &impl Abort, alloc: Global, server: &mut Server<MemStore>, answer: &[u8]) {
-    let mut out = Vec::new(alloc);
-    let opened = server
-        .on_request(CLIENT, 1030, WRITE, &mut out)
-        .expect(rt, "the server takes it");
+fn opens_nothing<S: Store>(rt: &impl Abort, served: &mut Served<S>, tid: u16, answer: &[u8]) {
+    let opened = served.answers_request(rt, CLIENT, tid, WRITE, answer);
     expect_equal(rt, &opened.tid, &None, "no transfer");
-    expect_bytes(rt, out.as_slice(), answer, "the answer");
 }
 
-/// A request that comes again opens nothing while its transfer is open, nor in the dally; behind the close
-/// its file is there.
+/// A request that comes again opens nothing while its transfer is open, nor in the dally; behind
+/// the close its file is there.
 #[test]
-fn a_repeated_write_opens_nothing(rt: HostRuntime) -> Result<(), Fail> {
-    let mut server = server(&rt, rt.alloc(), false)?;
-    open(&rt, rt.alloc(), &mut server, CLIENT, 1025);
-    opens_nothing(&rt, rt.alloc(), &mut server, b"");
-    answers(&rt, rt.alloc(), &mut server, CLIENT, 1025, DATA_A, ACK_1);
-    opens_nothing(&rt, rt.alloc(), &mut server, b"");
-    let mut out = Vec::new(rt.alloc());
-    server.on_timeout(1025, &mut out)?;
-    server.on_timeout(1025, &mut out)?;
-    opens_nothing(&rt, rt.alloc(), &mut server, FILE_EXISTS);
-    Ok(())
+fn a_repeated_write_opens_nothing(rt: HostRuntime) {
+    let mut served = server(&rt, rt.alloc());
+    open(&rt, &mut served, CLIENT, 1025);
+    opens_nothing(&rt, &mut served, 1030, b"");
+    served.answers(&rt, CLIENT, 1025, DATA_A, ACK_1);
+    opens_nothing(&rt, &mut served, 1030, b"");
+    served.waits(&rt, 1025);
+    served.waits(&rt, 1025);
+    opens_nothing(&rt, &mut served, 1030, FILE_EXISTS);
 }
 
-/// Where the first call of the store, `begin`, fails: the answer.
-const UNBEGUN: [(StoreFault, &[u8]); 2] = [
-    (StoreFault::Full, b"\x00\x05\x00\x03disk full\x00"),
-    (StoreFault::Io, b"\x00\x05\x00\x02access violation\x00"),
-];
+const DISK_FULL: &[u8] = b"\x00\x05\x00\x03disk full\x00";
+
+const VIOLATION: &[u8] = b"\x00\x05\x00\x02access violation\x00";
 
 /// A server over a store that refuses the call of this number.
 fn failing(
@@ -263,137 +224,90 @@ fn failing(
     alloc: Global,
     at: u64,
     fault: StoreFault,
-) -> Result<Server<FaultStore<MemStore>>, Fail>
+) -> Served<FaultStore<MemStore>>
     requires { IsInjected fault }
 {
-    let store = FaultStore::new(files(alloc)?, at, fault, false, false);
-    let config = Config::default();
-    expect(rt, config.is_valid(), "the default");
-    Ok(Server::new(alloc, config, store)?)
+    let store = FaultStore::new(files(rt, alloc), at, fault, false, false);
+    Served::new(rt, alloc, Config::default(), store)
 }
 
-/// A draft that cannot be begun.
-fn cannot_begin(
-    rt: &impl Abort,
-    alloc: Global,
-    fault: StoreFault,
-    answer: &[u8],
-) -> Result<(), Fail>
+/// The first call of the store, `begin`, fails: this is the answer, and no transfer opens.
+fn cannot_begin(rt: &impl Abort, alloc: Global, fault: StoreFault, answer: &[u8])
     requires { IsInjected fault }
 {
-    let mut server = failing(rt, alloc, 0, fault)?;
-    let mut out = Vec::new(alloc);
-    let opened = server.on_request(CLIENT, 1025, WRITE, &mut out)?;
-    expect_equal(rt, &opened.tid, &None, "no transfer");
-    expect_bytes(rt, out.as_slice(), answer, "the answer");
-    Ok(())
+    let mut served = failing(rt, alloc, 0, fault);
+    opens_nothing(rt, &mut served, 1025, answer);
 }
 
 #[test]
-fn a_draft_that_cannot_be_begun(rt: HostRuntime) -> Result<(), Fail> {
-    let [(full, disk_full), (io, violation)] = UNBEGUN;
-    cannot_begin(&rt, rt.alloc(), full, disk_full)?;
-    cannot_begin(&rt, rt.alloc(), io, violation)
+fn a_draft_that_cannot_be_begun(rt: HostRuntime) {
+    cannot_begin(&rt, rt.alloc(), StoreFault::Full, DISK_FULL);
+    cannot_begin(&rt, rt.alloc(), StoreFault::Io, VIOLATION);
 }
 
-/// DATA of this number: 512 bytes, or three of the fifth and last.
-fn data(alloc: Global, number: u8) -> Result<Vec<u8>, Fail> {
-    let mut bytes = Vec::from_slice(alloc, &[0, 3, 0, number])?;
-    let length = if number < 5 { 512 } else { 3 };
-    for _ in 0..length {
-        bytes.push(number)?;
-    }
-    Ok(bytes)
+/// The block of this number of a write of five: 512 bytes, or three of the fifth and last.
+fn block(rt: &impl Abort, alloc: Global, number: u8) -> Vec<u8> {
+    let count = if number < 5 { 512 } else { 3 };
+    data(rt, alloc, number, number, count)
 }
 
-const DISK_FULL: &[u8] = b"\x00\x05\x00\x03disk full\x00";
+/// The block of this number comes, and is acknowledged.
+fn acknowledges<S: Store>(rt: &impl Abort, alloc: Global, served: &mut Served<S>, number: u8) {
+    let bytes = block(rt, alloc, number);
+    let closed = served.answers(rt, CLIENT, 1025, &bytes, &[0, 4, 0, number]);
+    expect_equal(rt, &(number, closed), &(number, None), "it stays open");
+}
 
-/// Of a write of five blocks the store refuses the call of this number: the first is `begin`, then an append
-/// for each block, and the commit. How many blocks were acknowledged before.
-fn blocks_before(rt: &impl Abort, alloc: Global, at: u64, fault: StoreFault) -> Result<u8, Fail>
+/// The block of this number comes, and the store refuses it.
+fn refuses<S: Store>(rt: &impl Abort, alloc: Global, served: &mut Served<S>, number: u8) {
+    let bytes = block(rt, alloc, number);
+    let closed = served.answers(rt, CLIENT, 1025, &bytes, DISK_FULL);
+    let wanted = (number, Some(Outcome::StoreFault));
+    expect_equal(rt, &(number, closed), &wanted, "how it closes");
+}
+
+/// Of a write of five blocks the store refuses the call of this number: the first is `begin`, then
+/// an append for each block, and the commit. So many blocks are acknowledged before.
+fn fails_there(rt: &impl Abort, alloc: Global, at: u64, fault: StoreFault, blocks: u8)
     requires { IsInjected fault }
 {
-    let mut server = failing(rt, alloc, at, fault)?;
-    open(rt, alloc, &mut server, CLIENT, 1025);
-    for number in 1..6u8 {
-        let mut out = Vec::new(alloc);
-        let block = data(alloc, number)?;
-        let step = server.on_datagram(1025, CLIENT, block.as_slice(), &mut out)?;
-        if step.closed.is_some() {
-            expect_equal(
-                rt,
-                &step.closed,
-                &Some(Outcome::StoreFault),
-                "how it closed",
-            );
-            expect_bytes(rt, out.as_slice(), DISK_FULL, "what the client is told");
-            return Ok(number - 1);
-        }
-        let ack = [0, 4, 0, number];
-        expect_bytes(rt, out.as_slice(), ack.as_slice(), "the ACK of the block");
+    let mut served = failing(rt, alloc, at, fault);
+    open(rt, &mut served, CLIENT, 1025);
+    for number in 1..=blocks {
+        acknowledges(rt, alloc, &mut served, number);
     }
-    Ok(5)
+    if blocks < 5 {
+        refuses(rt, alloc, &mut served, blocks + 1);
+    }
 }
 
-/// The same, and there is no file, nor may the record say that the transfer is complete.
-fn fails_there(rt: &impl Abort, alloc: Global, at: u64, blocks: u8) -> Result<(), Fail> {
-    let found = blocks_before(rt, alloc, at, StoreFault::Io)?;
-    expect_equal(
-        rt,
-        &(at, found),
-        &(at, blocks),
-        "the blocks before the call",
-    );
-    let found = blocks_before(rt, alloc, at, StoreFault::Full)?;
-    expect_equal(
-        rt,
-        &(at, found),
-        &(at, blocks),
-        "the blocks before it, which is full",
-    );
-    Ok(())
-}
+/// The call that is refused, and the blocks before it; the seventh is behind them all.
+const CALLS: [(u64, u8); 7] = [(1, 0), (2, 1), (3, 2), (4, 3), (5, 4), (6, 4), (7, 5)];
 
 #[test]
-fn fault_each(rt: HostRuntime) -> Result<(), Fail> {
-    fails_there(&rt, rt.alloc(), 1, 0)?;
-    fails_there(&rt, rt.alloc(), 2, 1)?;
-    fails_there(&rt, rt.alloc(), 3, 2)?;
-    fails_there(&rt, rt.alloc(), 4, 3)?;
-    fails_there(&rt, rt.alloc(), 5, 4)?;
-    fails_there(&rt, rt.alloc(), 6, 4)?;
-    fails_there(&rt, rt.alloc(), 7, 5)
+fn fault_each(rt: HostRuntime) {
+    for &(at, blocks) in &CALLS {
+        fails_there(&rt, rt.alloc(), at, StoreFault::Io, blocks);
+        fails_there(&rt, rt.alloc(), at, StoreFault::Full, blocks);
+    }
+}
+
+/// One block is stored, the write is not complete, and there is no file.
+fn keeps_one_block(rt: &impl Abort, alloc: Global, served: &Served<FaultStore<MemStore>>) {
+    lacks_file(rt, alloc, served.server.store().get_ref(), b"n");
+    let record = served.server.record(1025).expect(rt, "a transfer");
+    let found = (record.number, record.complete);
+    expect_equal(rt, &found, &(1, false), "one block is stored, of more");
+    let draft = served.server.draft(1025).expect(rt, "a draft");
+    expect_equal(rt, &draft.as_bytes().len(), &512, "the block");
 }
 
 /// What was refused leaves no file and the blocks before it.
 #[test]
-fn a_refused_append_keeps_what_was_stored(rt: HostRuntime) -> Result<(), Fail> {
-    let path: Path = path_of(rt.alloc(), b"n")?;
-    let mut server = failing(&rt, rt.alloc(), 2, StoreFault::Full)?;
-    open(&rt, rt.alloc(), &mut server, CLIENT, 1025);
-    let first = data(rt.alloc(), 1)?;
-    let first = first.as_slice();
-    answers(&rt, rt.alloc(), &mut server, CLIENT, 1025, first, ACK_1);
-    let second = data(rt.alloc(), 2)?;
-    let second = second.as_slice();
-    answers(
-        &rt,
-        rt.alloc(),
-        &mut server,
-        CLIENT,
-        1025,
-        second,
-        DISK_FULL,
-    );
-    expect(
-        &rt,
-        server.store().get_ref().file(&path).is_none(),
-        "no file",
-    );
-    let record = server.record(1025).ok_or("a transfer")?;
-    expect_equal(&rt, &record.number, &1, "one block is stored");
-    expect(&rt, !record.complete, "it is not complete");
-    let draft = server.draft(1025).ok_or("a draft")?;
-    expect_equal(&rt, &draft.as_bytes().len(), &512, "the block");
-    Ok(())
+fn a_refused_append_keeps_what_was_stored(rt: HostRuntime) {
+    let mut served = failing(&rt, rt.alloc(), 2, StoreFault::Full);
+    open(&rt, &mut served, CLIENT, 1025);
+    acknowledges(&rt, rt.alloc(), &mut served, 1);
+    refuses(&rt, rt.alloc(), &mut served, 2);
+    keeps_one_block(&rt, rt.alloc(), &served);
 }
