@@ -10,12 +10,12 @@ use Rattle.tftp_ends.specs.declared.record.Record.{Record}
 use Rattle.tftp_ends.specs.Action.{Decodes}
 use Rattle.tftp_ends.specs.End.{EndState, is_client, outcome_of, record_of}
 use Rattle.tftp_server.specs.declared.opened.Opened.{Opened}
-use Rattle.tftp_server.specs.Memory.{memory_meaning}
+use Rattle.tftp_store.specs.Memory.{memory_meaning}
 use Rattle.tftp_server.specs.Port.{Service, asks, asks_store}
 use Rattle.tftp_server.specs.Request.{RequestStep}
 use Rattle.tftp_server.specs.State.{at, draft_of}
 use Rattle.tftp_server.specs.State as server
-use Rattle.tftp_server.specs.Store.{Stored}
+use Rattle.tftp_store.specs.Store.{Stored}
 use Rattle.tftp_player.specs.Arriving.{StageAsks}
 use Rattle.tftp_player.specs.Clients.{server_at, left_in}
 use Rattle.tftp_player.specs.Effect.{said_by, report_by}

@@ -11,7 +11,7 @@ use Rattle.tftp_ends.specs.End.{EndState, is_client, outcome_of}
 use Rattle.tftp_ends.specs.Files.{AreFilesOf}
 use Rattle.tftp_ends.specs.Step.{Turn}
 use Rattle.tftp_server.specs.Draft.{files_in}
-use Rattle.tftp_server.specs.Memory.{memory_meaning, with_told}
+use Rattle.tftp_store.specs.Memory.{memory_meaning, with_told}
 use Rattle.tftp_server.specs.Steps.{StepIn}
 use Rattle.tftp_player.specs.Machine.{Endpoint}
 use Rattle.tftp_player.specs.Clients.{ClientDatagramStep}

@@ -25,10 +25,10 @@ use Rattle.tftp_ends.specs.Step.{Done, Turn, Acts, Appended, GoesOn, after, comm
 use Rattle.tftp_file.specs.declared.files.Files.{Files}
 use Rattle.tftp_file.specs.declared.files.Files.TheVariants.{Source, Sink}
 use Rattle.tftp_server.specs.Draft.{DraftingBecomes, files_in, KeepsStore, drafting_sink}
-use Rattle.tftp_server.specs.Memory.{memory_meaning}
+use Rattle.tftp_store.specs.Memory.{memory_meaning}
 use Rattle.tftp_server.specs.State.{draft_of}
 use Rattle.tftp_server.specs.Steps.{StepIn}
-use Rattle.tftp_server.specs.Store.{Stored, Drafted, FileList, with_file}
+use Rattle.tftp_store.specs.Store.{Stored, Drafted, FileList, with_file}
 use Rattle.tftp_player.specs.Machine.{Endpoint}
 use Rattle.tftp_player.specs.Clients.{left_in}
 use Rattle.tftp_player.specs.Played.{served_as}

@@ -8,7 +8,7 @@ use Rattle.std.specs.BTreeMap.{is_at}
 use Rattle.std.specs.Ordering.{match_ordering, is_eq}
 use Rattle.std.specs.declared.cmp.Ordering.{Ordering}
 use Rattle.std.specs.declared.cmp.Ordering.TheVariants.{Less, Equal, Greater}
-use Rattle.tftp_server.specs.Store.{FileList, path_cmp, with_file, is_taken}
+use Rattle.tftp_store.specs.Store.{FileList, path_cmp, with_file, is_taken}
 use Rattle.tftp_player.specs.World.{StoredFile, file_at, in_the_way}
 use Rattle.tftp_player.specs.WorldSteps.{IsStored}
 

@@ -6,7 +6,7 @@ use Rattle.tftp_wire.specs.declared.limits.TheConstants.{MAX_BLOCK}
 use Rattle.tftp_wire.specs.declared.mode.Mode.{Mode}
 use Rattle.tftp_file.specs.Block.{Fits}
 use Rattle.tftp_file.specs.Netascii.{wire_text}
-use Rattle.tftp_server.specs.Store.{measured}
+use Rattle.tftp_store.specs.Store.{measured}
 
 -- a length that was counted to the end is the whole
 counted_whole : (n size : ℕ) → size ≤ MAX_BLOCK → min n (MAX_WIRE + 1) < 65535 * size → min n (MAX_WIRE + 1) ≡ n

@@ -36,7 +36,7 @@ use Rattle.tftp_player.specs.declared.player.Player.{Player}
 use Rattle.tftp_player.specs.declared.player.Player.TheVariants.{Client, Server}
 use Rattle.tftp_player.specs.declared.served.Served.{Served}
 use Rattle.tftp_server.specs.Steps.{with_end}
-use Rattle.tftp_server.specs.Store.{Stored, Drafted}
+use Rattle.tftp_store.specs.Store.{Stored, Drafted}
 use Rattle.tftp_player.specs.declared.report.Report.{Report}
 use Rattle.tftp_player.proofs.PlacedEnds.{told-length, told-get, told-set, Kept_from, kept-get, kept-set, transfers-set, transfers-close}
 use Rattle.tftp_player.proofs.Standing.{standing_record, standing_address, standing_closed}

@@ -19,7 +19,7 @@ use Rattle.tftp_ends.specs.Files.{AreFilesOf}
 use Rattle.tftp_wire.specs.Reading.{has_error_opcode}
 use Rattle.tftp_server.specs.Port.{Ask, Ignores, Refuses, Reads, Writes, Service, Silent, Refused, Sends, Takes, asks_store, by_draft, by_file, by_length, by_name, by_options, by_packet}
 use Rattle.tftp_server.specs.State.{draft_of, with_new}
-use Rattle.tftp_server.specs.Store.{measured}
+use Rattle.tftp_store.specs.Store.{measured}
 use Rattle.tftp_player.specs.Clients.{server_at, left_in}
 use Rattle.tftp_player.specs.Machine.{Endpoint, request_port}
 use Rattle.tftp_player.specs.Openings.{sending_end, receiving_end}

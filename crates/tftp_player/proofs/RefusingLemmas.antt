@@ -13,7 +13,7 @@ use Rattle.tftp_ends.specs.declared.record.Record.{Record}
 use Rattle.tftp_ends.specs.End.{EndState, is_sender, is_client, outcome_of, record_of}
 use Rattle.tftp_ends.specs.Files.{AreFilesOf}
 use Rattle.tftp_server.specs.State.{at, draft_of, draft_at}
-use Rattle.tftp_server.specs.Store.{Drafted}
+use Rattle.tftp_store.specs.Store.{Drafted}
 use Rattle.tftp_server.specs.declared.config.Config.{Config}
 use Rattle.tftp_player.specs.Clients.{left_in, told_files}
 use Rattle.tftp_player.specs.Played.{client_end, served_as, served_end, end_at, ends_from, records_from, PlayerKept, IsServed, told_by, told_served, told_served_end, told_player}

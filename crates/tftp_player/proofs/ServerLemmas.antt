@@ -35,9 +35,9 @@ use Rattle.tftp_ends.specs.Opening.{ServesRead, serving_read, serving_write}
 use Rattle.tftp_ends.specs.Action.{Decodes}
 use Rattle.tftp_ends.specs.Step.{block_length, result_count_is}
 use Rattle.tftp_server.specs.Request.{Came, Nothing, An_error, A_transfer, Goes, Left, RequestStep, Sent, Taken, left_by, opened_length}
-use Rattle.tftp_server.specs.Memory.{MayRefuseBegin, MayRefuseOpen, memory_meaning}
-use Rattle.tftp_server.specs.Store.{Stored, Drafted, Opens, Begins, is_taken, measured, new_draft}
-use Rattle.tftp_server.specs.declared.store.Opening.{Opening}
+use Rattle.tftp_store.specs.Memory.{MayRefuseBegin, MayRefuseOpen, memory_meaning}
+use Rattle.tftp_store.specs.Store.{Stored, Drafted, Opens, Begins, is_taken, measured, new_draft}
+use Rattle.tftp_store.specs.declared.store.Opening.{Opening}
 use Rattle.tftp_player.specs.Machine.{Endpoint}
 use Rattle.tftp_player.specs.World.{WorldState, StoredFile, OpenEnd, file_at, in_the_way}
 use Rattle.tftp_player.specs.Openings.{sending_end, receiving_end}

@@ -12,9 +12,9 @@ use Rattle.tftp_ends.specs.End.{EndState, is_sender}
 use Rattle.tftp_ends.specs.OtherSinks.{SourcesTell, SinksTell, step_as}
 use Rattle.tftp_ends.specs.Step.{Turn, after_turn}
 use Rattle.tftp_server.specs.Draft.{Drafting, files_in, MayRefuseAppend, MayRefuseCommit, DraftingBecomes, drafting_sink}
-use Rattle.tftp_server.specs.Memory.{memory_meaning}
+use Rattle.tftp_store.specs.Memory.{memory_meaning}
 use Rattle.tftp_server.specs.Steps.{StepIn}
-use Rattle.tftp_server.specs.Store.{Stored, Drafted, FileList, is_taken}
+use Rattle.tftp_store.specs.Store.{Stored, Drafted, FileList, is_taken}
 use Rattle.tftp_player.specs.Machine.{Endpoint}
 use Rattle.tftp_player.specs.World.{OpenEnd, StoredFile, file_at, in_the_way, in_state, files_of, holding_of, with_files, end_after}
 use Rattle.tftp_player.specs.WorldSteps.{EndStep, may_refuse_append, may_refuse_commit, FilesAfter, world_sink}

@@ -15,10 +15,10 @@ use Rattle.tftp_ends.specs.End.{EndState, outcome_of, record_of}
 use Rattle.tftp_ends.specs.Files.{KeepsFiles}
 use Rattle.tftp_ends.specs.Step.{Turn, Carries, after_turn, timeout_turn, told, reply_bytes}
 use Rattle.tftp_server.specs.Draft.{files_in, KeepsStore, drafting_sink}
-use Rattle.tftp_server.specs.Memory.{memory_meaning, with_told}
+use Rattle.tftp_store.specs.Memory.{memory_meaning, with_told}
 use Rattle.tftp_server.specs.State.{at, with_next, draft_of, is_closed}
 use Rattle.tftp_server.specs.Steps.{TimesOut, TakesDatagram, TakesRecorded, KeepsHeld, with_end}
-use Rattle.tftp_server.specs.Store.{Stored, Drafted, FileList, new_draft}
+use Rattle.tftp_store.specs.Store.{Stored, Drafted, FileList, new_draft}
 use Rattle.tftp_player.specs.Machine.{Endpoint}
 use Rattle.tftp_player.specs.Clients.{server_at}
 use Rattle.tftp_player.specs.Effect.{effect_of}

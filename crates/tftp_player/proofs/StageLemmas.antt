@@ -11,9 +11,9 @@ use Rattle.tftp_ends.specs.End.{EndState, is_sender, is_client, outcome_of, reco
 use Rattle.tftp_ends.specs.Files.{AreFilesOf, AreSame}
 use Rattle.tftp_ends.specs.Step.{Turn, after_turn}
 use Rattle.tftp_server.specs.Draft.{KeepsStore}
-use Rattle.tftp_server.specs.Memory.{with_told}
+use Rattle.tftp_store.specs.Memory.{with_told}
 use Rattle.tftp_server.specs.State.{at, draft_of, with_next}
-use Rattle.tftp_server.specs.Store.{Stored, Drafted}
+use Rattle.tftp_store.specs.Store.{Stored, Drafted}
 use Rattle.tftp_player.specs.Clients.{server_at, left_in, holding_in, no_holding, ClientTurns}
 use Rattle.tftp_player.specs.Effect.{effect_of}
 use Rattle.tftp_player.specs.PlayedClient.{PlayedClient}

@@ -17,7 +17,7 @@ use Rattle.tftp_file.specs.Path.{path_of_name}
 use Rattle.tftp_file.specs.declared.path.PathFault.{PathFault}
 use Rattle.tftp_ends.specs.declared.error_reply.ErrorReply.TheVariants.{FileTooLarge, ServerBusy}
 use Rattle.tftp_server.specs.Port.{Ask, Ignores, Refuses, Reads, Service, Refused, Sends, Takes, by_draft, by_file, by_length, by_name, by_options, by_packet}
-use Rattle.tftp_server.specs.Store.{measured}
+use Rattle.tftp_store.specs.Store.{measured}
 use Rattle.tftp_player.specs.Machine.{Endpoint, request_port}
 use Rattle.tftp_player.specs.Requests.{IsRepeated, begun_of, open_transfers, opened_of, served, service}
 use Rattle.tftp_player.specs.Straight.{IsAccepted}

@@ -11,7 +11,7 @@ use Rattle.tftp_ends.specs.declared.record.Record.{Record}
 use Rattle.tftp_ends.specs.End.{is_sender}
 use Rattle.tftp_ends.specs.Files.{AreFilesOf}
 use Rattle.tftp_server.specs.State.{at, draft_of}
-use Rattle.tftp_server.specs.Store.{Drafted}
+use Rattle.tftp_store.specs.Store.{Drafted}
 use Rattle.tftp_server.specs.declared.config.Config.{Config}
 use Rattle.tftp_player.specs.Clients.{stored_by, holding_in}
 use Rattle.tftp_player.specs.Played.{client_end, draft_or_new, served_end, end_at, PlayerKept, IsServed, served_draft, stored_of, committed_of}

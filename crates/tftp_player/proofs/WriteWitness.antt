@@ -1,7 +1,7 @@
 -- A write that completes in a world, event by event.
 use Rattle.std.proofs.Common.{◌≡◌, ℕ, cond, Bool, true, false, List, [], ◌∷◌, ◌++◌, Some, None, Ok, refl, sym, ◌∙◌, arith, rules}
 use Rattle.std.specs.BTreeMap.{is_at}
-use Rattle.tftp_server.specs.Store.{path_cmp}
+use Rattle.tftp_store.specs.Store.{path_cmp}
 use Rattle.std.specs.Cmp.Lexicographic.{same_text}
 use Rattle.std.proofs.lemmas.Map.Text.{is_eq-slice_cmp}
 use Rattle.std.specs.Prelude.{◌≢◌, slice_set}

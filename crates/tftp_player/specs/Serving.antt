@@ -10,11 +10,11 @@ use Rattle.tftp_ends.specs.End.{EndState, is_client, is_complete, outcome_of, re
 use Rattle.tftp_ends.specs.Files.{AreFilesOf, AreSame}
 use Rattle.tftp_ends.specs.Step.{Turn, after_turn, timeout_turn}
 use Rattle.tftp_server.specs.Draft.{files_in, KeepsStore}
-use Rattle.tftp_server.specs.Memory.{memory_meaning, with_told}
+use Rattle.tftp_store.specs.Memory.{memory_meaning, with_told}
 use Rattle.tftp_server.specs.State.{Held, ServerState, at, draft_of, with_next, without}
 use Rattle.tftp_server.specs.State as server
 use Rattle.tftp_server.specs.Steps.{StepIn, with_end}
-use Rattle.tftp_server.specs.Store.{Stored, Drafted}
+use Rattle.tftp_store.specs.Store.{Stored, Drafted}
 use Rattle.tftp_player.specs.Machine.{Endpoint}
 use Rattle.tftp_player.specs.Clients.{server_at}
 use Rattle.tftp_player.specs.Effect.{effect_of}

@@ -5,7 +5,7 @@ mod opening;
 
 ghost use Rattle.std.specs.Prelude.{◌≡◌, ◌+◌, [], true, length, option_map, IfOk, IfErr, OnErr};
 ghost use Rattle.tftp_server.specs.Config.{IsConfig};
-ghost use Rattle.tftp_server.specs.Memory.{contents, has_distinct_paths, in_path_order};
+ghost use Rattle.tftp_store.specs.Memory.{contents, has_distinct_paths, in_path_order};
 ghost use Rattle.tftp_player.specs.Arriving.{IsPlayable};
 ghost use Rattle.tftp_player.specs.World.{new_world, file_at};
 ghost use Rattle.tftp_player.specs.WorldSteps.{WorldStep, WorldRefuses};

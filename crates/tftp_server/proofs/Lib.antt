@@ -1,4 +1,3 @@
-pub mod MemoryLemmas
 pub mod StepsLemmas
 pub mod TableLemmas
 pub mod OneFileLemmas

@@ -30,11 +30,11 @@ use Rattle.tftp_server.specs.declared.opened.Opened.{Opened}
 use Rattle.tftp_server.specs.declared.server.request.Asked.{Asked}
 use Rattle.tftp_server.specs.declared.server.request.Decision.{Decision}
 use Rattle.tftp_server.specs.declared.server.request.Decision.TheVariants.{Refuse, Open}
-use Rattle.tftp_server.specs.declared.store.Opening.{Opening}
+use Rattle.tftp_store.specs.declared.store.Opening.{Opening}
 use Rattle.tftp_server.specs.Port.{Ask, Ignores, Refuses, asks, by_packet, by_repeat, by_name, by_kind, by_file, begin_reply}
 use Rattle.tftp_server.specs.Request.{Came, Nothing, An_error, A_transfer, IsRequest, AsksToRead, AsksToWrite, Goes, RequestStep, Sent, Left, ask_of, came_to, decided_bytes, left_by}
 use Rattle.tftp_server.specs.State.{Held, ServerState, IsRepeated, with_new}
-use Rattle.tftp_server.specs.Store.{StoreMeaning, Opens, Begins}
+use Rattle.tftp_store.specs.Store.{StoreMeaning, Opens, Begins}
 
 -- what was appended is cut off again
 cut_back : (before sent all cut : List ℕ) (start : ℕ) → start ≡ length before → all ≡ before ++ sent → cut ≡ take start all → cut ≡ before

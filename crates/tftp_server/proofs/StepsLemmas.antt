@@ -25,7 +25,7 @@ use Rattle.tftp_server.specs.Draft.{Drafting, drafting_sink}
 use Rattle.tftp_server.specs.Fault.{of_end}
 use Rattle.tftp_server.specs.State.{Held, ServerState, is_closed, at, with_next}
 use Rattle.tftp_server.specs.Steps.{Gives, MakesStep, StepIn, TakesBy, TakesDatagramBy, TimesOutBy, StaysAs, KeepsHeld, TimeoutFault, DatagramFaultBy, with_end}
-use Rattle.tftp_server.specs.Store.{StoreMeaning}
+use Rattle.tftp_store.specs.Store.{StoreMeaning}
 
 -- a draft sink by its values
 abbrev pub drafting_of : {S F D : Type 0} → DraftSink S F D → Drafting S D

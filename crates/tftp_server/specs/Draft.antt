@@ -5,7 +5,7 @@ use Rattle.tftp_file.specs.declared.fault.StoreFault.{StoreFault}
 use Rattle.tftp_file.specs.declared.files.Files.{Files}
 use Rattle.tftp_file.specs.declared.files.Files.TheVariants.{Source, Sink}
 use Rattle.tftp_ends.specs.Step.{Done}
-use Rattle.tftp_server.specs.Store.{Stored, Drafted, StoreMeaning, holding_of, files_of, Puts}
+use Rattle.tftp_store.specs.Store.{Stored, Drafted, StoreMeaning, holding_of, files_of, Puts}
 
 -- what a transfer stores in: the store, its draft, the path under which that is to be committed, and whether it may take
 -- the place of a file there

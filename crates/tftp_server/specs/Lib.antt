@@ -1,9 +1,6 @@
 pub mod Config
 pub mod Fault
-pub mod FaultStore
-pub mod Store
 pub mod Draft
-pub mod Memory
 pub mod State
 pub mod Table
 pub mod Steps

@@ -26,10 +26,10 @@ use Rattle.tftp_server.specs.declared.server.request.Asked.{Asked}
 use Rattle.tftp_server.specs.declared.server.request.Asked.TheVariants as asked
 use Rattle.tftp_server.specs.declared.server.request.Decision.{Decision}
 use Rattle.tftp_server.specs.declared.server.request.Decision.TheVariants.{Refuse, Open}
-use Rattle.tftp_server.specs.declared.store.Opening.{Opening}
+use Rattle.tftp_store.specs.declared.store.Opening.{Opening}
 use Rattle.tftp_server.specs.State.{Held, ServerState, IsRepeated, with_new}
 use Rattle.tftp_server.specs.Port.{Ask, Ignores, Refuses, Reads, Writes, Service, Refused, Sends, Takes, asks, by_file, by_draft}
-use Rattle.tftp_server.specs.Store.{StoreMeaning, Opens, Begins}
+use Rattle.tftp_store.specs.Store.{StoreMeaning, Opens, Begins}
 
 -- the length of a file that was opened
 abbrev pub opened_length : {F : Type 0} → Result (Opening F) StoreFault → Result ℕ StoreFault

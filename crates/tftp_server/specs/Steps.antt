@@ -17,7 +17,7 @@ use Rattle.tftp_server.specs.declared.fault.ServerFault.{ServerFault}
 use Rattle.tftp_server.specs.declared.fault.ServerFault.TheVariants.{NoSuchTid, Memory}
 use Rattle.tftp_server.specs.Draft.{Drafting, files_in, drafting_sink, KeepsStore}
 use Rattle.tftp_server.specs.State.{Held, ServerState, at, is_open, is_closed, with_next}
-use Rattle.tftp_server.specs.Store.{StoreMeaning}
+use Rattle.tftp_store.specs.Store.{StoreMeaning}
 
 -- what a call gives of a turn of an end, by the end that it leaves and where the answer goes
 abbrev pub Gives : Type 1

@@ -6,8 +6,8 @@ ghost use Rattle.tftp_ends.specs.End.{is_sender, outcome_of};
 ghost use Rattle.tftp_ends.specs.Step.{IsAnswered, UsesFile};
 ghost use Rattle.tftp_wire.specs.declared.packet.Packet.{Packet};
 
-use crate::store::Store;
 use tftp_file::{Path, Sink, StoreFault};
+use tftp_store::Store;
 
 /// A draft of a store, which is committed under a path.
 #[derive(Drop)]

@@ -10,21 +10,16 @@
 mod config;
 mod draft_sink;
 mod fault;
-mod fault_store;
-mod memory;
 mod one_file;
 mod open_transfers;
 mod opened;
 mod server;
-mod store;
 mod table;
 mod transfer;
 
 pub use config::Config;
 pub use fault::ServerFault;
-pub use fault_store::{FaultStore, OpenedSource};
-pub use memory::{MemDraft, MemStore};
 pub use open_transfers::OpenTransfers;
 pub use opened::Opened;
 pub use server::Server;
-pub use store::{Opening, Store};
+pub use tftp_store::{FaultStore, MemDraft, MemStore, OpenedSource, Opening, Store};

@@ -20,7 +20,6 @@ use crate::fault::ServerFault;
 use crate::open_transfers::OpenTransfers;
 use crate::opened::Opened;
 use crate::server::request::{Asked, Decision};
-use crate::store::Store;
 use crate::table::Table;
 use crate::transfer::Transfer;
 use std::alloc::Global;
@@ -29,6 +28,7 @@ use std::mem;
 use tftp_ends::{Endpoint, ErrorReply, MAX_ERROR, Outgoing, Record, Step};
 use tftp_file::Path;
 use tftp_negotiate::Agreed;
+use tftp_store::Store;
 use tftp_wire::{Mode, RequestRef};
 
 /// A server: what it is set to, its store and the transfers that it holds.

@@ -14,10 +14,10 @@ use crate::draft_sink::DraftSink;
 use crate::one_file::{
     handle_datagram_of_sink, handle_datagram_of_source, on_datagram_of_sink, on_datagram_of_source,
 };
-use crate::store::Store;
 use std::marker::Model;
 use tftp_ends::{End, EndFault, Endpoint, Outgoing, Record, Step};
 use tftp_file::{Files, MemSink, Path, Source};
+use tftp_store::Store;
 use tftp_wire::PacketRef;
 
 /// A transfer: an end with its source or its draft, the path of the file, and the datagram that

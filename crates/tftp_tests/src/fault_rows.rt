@@ -1,7 +1,7 @@
 //! Stores that are made to fail, and what the request port then answers. The answers are those of
 //! RFC 1350, section 5 and appendix I.
 
-ghost use Rattle.tftp_server.specs.FaultStore.{IsInjected};
+ghost use Rattle.tftp_store.specs.FaultStore.{IsInjected};
 
 use crate::expect::{expect, expect_equal};
 use crate::served::Served;

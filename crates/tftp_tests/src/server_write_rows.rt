@@ -2,7 +2,7 @@
 //! store, and stores that fail on the way. The answers are those of RFC 1350, section 5 and
 //! appendix I.
 
-ghost use Rattle.tftp_server.specs.FaultStore.{IsInjected};
+ghost use Rattle.tftp_store.specs.FaultStore.{IsInjected};
 
 use crate::expect::{expect, expect_bytes, expect_equal};
 use crate::served::Served;

@@ -9,8 +9,8 @@ use Rattle.std.specs.declared.cmp.Ordering.{Ordering}
 use Rattle.std.specs.declared.cmp.Ordering.TheVariants.{Less, Equal, Greater}
 use Rattle.std.specs.declared.vec.Vec.{Vec}
 use Rattle.std.proofs.lemmas.Map.Lookups.{exact_bytes}
-use Rattle.tftp_server.specs.Store.{file_at, path_cmp}
-use Rattle.tftp_server.specs.Memory.{contents, has_distinct_paths}
+use Rattle.tftp_store.specs.Store.{file_at, path_cmp}
+use Rattle.tftp_store.specs.Memory.{contents, has_distinct_paths}
 
 some_or : {X : Type 0} (b : Bool) (v : X) (o : Option X) → (b || is_some o) ≡ is_some (cond b (Some v) o)
 some_or true v o = refl

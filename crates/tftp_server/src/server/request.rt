@@ -17,12 +17,12 @@ ghost use Rattle.tftp_server.specs.Request.{AsksToRead, AsksToWrite, IsRequest, 
 use crate::config::Config;
 use crate::fault::ServerFault;
 use crate::server::Server;
-use crate::store::{Opening, Store};
 use crate::transfer::Transfer;
 use std::alloc::{AllocError, Global};
 use tftp_ends::{End, Endpoint, ErrorReply, MAX_ERROR, OpenFault, decode_packet};
 use tftp_file::{Files, MemSink, Path, PathFault, Source, StoreFault, path_of};
 use tftp_negotiate::{Agreed, Kind, Limits, Refusal, accept_ref};
+use tftp_store::{Opening, Store};
 use tftp_wire::{Mode, PacketRef, RequestRef, has_error_opcode};
 
 /// What the request port does before it asks its store.

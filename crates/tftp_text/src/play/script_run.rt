@@ -3,7 +3,7 @@
 ghost use Rattle.std.specs.Prelude.{◌≡◌, true};
 ghost use Rattle.tftp_player.specs.Arriving.{IsPlayable};
 ghost use Rattle.tftp_server.specs.Config.{IsConfig};
-ghost use Rattle.tftp_server.specs.Memory.{contents, has_distinct_paths};
+ghost use Rattle.tftp_store.specs.Memory.{contents, has_distinct_paths};
 
 use crate::play::PlayFault;
 use crate::play::datagram_line::DatagramLine;

@@ -4,8 +4,8 @@ ghost use Rattle.std.specs.Prelude.{◌≡◌, ◌≢◌, is_some, true};
 ghost use Rattle.tftp_text.specs.Playable.{is_playable};
 ghost use Rattle.tftp_text.specs.declared.script.line.LineFault.TheVariants.{Faulty, Memory};
 ghost use Rattle.tftp_file.specs.declared.path.PathFault.TheVariants as path_faults;
-ghost use Rattle.tftp_server.specs.Memory.{contents};
-ghost use Rattle.tftp_server.specs.Store.{file_at};
+ghost use Rattle.tftp_store.specs.Memory.{contents};
+ghost use Rattle.tftp_store.specs.Store.{file_at};
 
 use crate::script::keyword::Keyword;
 use crate::script::statement::{get, put, random, stray};

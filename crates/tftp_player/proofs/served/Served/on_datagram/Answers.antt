@@ -1,7 +1,7 @@
 -- A step of the server's transfer is one of the end, which keeps what it tells at its close.
 use Rattle.std.proofs.Common.{◌≡◌, ◌∙◌, false, refl, ap}
-use Rattle.tftp_server.specs.Memory.{with_told}
-use Rattle.tftp_server.specs.Store.{Stored}
+use Rattle.tftp_store.specs.Memory.{with_told}
+use Rattle.tftp_store.specs.Store.{Stored}
 use Rattle.tftp_player.proofs.ServingLemmas.{closes_as, served_steps, not_taken}
 use Rattle.tftp_player.proofs.served.Served.on_datagram.Goals as goal
 

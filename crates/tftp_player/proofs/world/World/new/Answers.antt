@@ -1,6 +1,6 @@
 -- A world in which nothing has happened is kept.
 use Rattle.std.proofs.Common.{false, subst, sym, arith}
-use Rattle.tftp_server.specs.Memory.{contents, in_path_order}
+use Rattle.tftp_store.specs.Memory.{contents, in_path_order}
 use Rattle.tftp_player.specs.World.{WorldState}
 use Rattle.tftp_player.specs.PlayedWorld.{HasSentEach}
 use Rattle.tftp_player.specs.WorldKept.{IsOk}

@@ -1,7 +1,7 @@
 -- A file whose path none has leaves the paths distinct.
 use Rattle.std.proofs.Common.{rules, ◌≡◌, is_some, is_ok, false}
-use Rattle.tftp_server.specs.Memory.{contents}
-use Rattle.tftp_server.specs.Store.{file_at}
+use Rattle.tftp_store.specs.Memory.{contents}
+use Rattle.tftp_store.specs.Store.{file_at}
 use Rattle.tftp_text.proofs.ScriptLemmas.{has_distinct_paths-pushed}
 use Rattle.tftp_text.proofs.script.Script.add_file.Goals as goal
 

@@ -1,8 +1,8 @@
 -- One more file is put in its place among those before it.
 use Rattle.std.proofs.Common.{ap, sym, ◌∙◌}
-use Rattle.tftp_server.specs.Store.{with_file}
-use Rattle.tftp_server.proofs.MemoryLemmas.{in_path_order-push}
-use Rattle.tftp_server.proofs.memory.in_path_order.Goals as goal
+use Rattle.tftp_store.specs.Store.{with_file}
+use Rattle.tftp_store.proofs.MemoryLemmas.{in_path_order-push}
+use Rattle.tftp_store.proofs.memory.in_path_order.Goals as goal
 
 pub loop-path-preserved : goal.loop-path-preserved
 loop-path-preserved c =

@@ -8,8 +8,8 @@ use Rattle.std.specs.Ordering.{match_ordering, is_eq}
 use Rattle.std.specs.declared.cmp.Ordering.{Ordering}
 use Rattle.std.specs.declared.cmp.Ordering.TheVariants.{Less, Equal, Greater}
 use Rattle.std.specs.declared.vec.Vec.{Vec}
-use Rattle.tftp_server.specs.Store.{FileList, file_at, with_file, path_cmp}
-use Rattle.tftp_server.specs.Memory.{contents, put_all, in_path_order, has_distinct_paths}
+use Rattle.tftp_store.specs.Store.{FileList, file_at, with_file, path_cmp}
+use Rattle.tftp_store.specs.Memory.{contents, put_all, in_path_order, has_distinct_paths}
 
 equal_from_is_eq : (o : Ordering) → is_eq o ≡ true → o ≡ Equal
 equal_from_is_eq Less h = absurd (cc)

@@ -12,7 +12,7 @@ use Rattle.tftp_file.specs.Sink.{Holding}
 use Rattle.tftp_file.specs.declared.fault.StoreFault.{StoreFault}
 use Rattle.tftp_file.specs.declared.fault.StoreFault.TheVariants.{Missing, Exists, Memory}
 use Rattle.tftp_file.specs.declared.length.TheConstants.{MAX_WIRE}
-use Rattle.tftp_server.specs.declared.store.Opening.{Opening}
+use Rattle.tftp_store.specs.declared.store.Opening.{Opening}
 
 -- files by path, in the paths' order
 abbrev pub FileList : Type 0

@@ -1,7 +1,7 @@
 //! A store that fails at calls of its maker's choice.
 
 ghost use Rattle.std.specs.Prelude.{◌≡◌, Err, None, Some};
-ghost use Rattle.tftp_server.specs.FaultStore.{after_call, is_due, IsInjected};
+ghost use Rattle.tftp_store.specs.FaultStore.{after_call, is_due, IsInjected};
 
 use crate::store::{Opening, Store};
 use std::alloc::Global;
@@ -27,7 +27,7 @@ pub struct FaultStore<S> {
 }
 
 impl<S> Model for FaultStore<S> {
-    ghost use Rattle.tftp_server.specs.FaultStore.{FaultStoreState, IsInjected};
+    ghost use Rattle.tftp_store.specs.FaultStore.{FaultStoreState, IsInjected};
 
     ghost Value = { FaultStoreState S };
 
@@ -116,8 +116,8 @@ fn after_call<A>(calls_left: Option<u64>, answer: &Result<A, StoreFault>) -> Opt
 impl<S: Store> Store for FaultStore<S> {
     ghost use Rattle.std.specs.Prelude.{◌≡◌, ◌≢◌, Err, IfErr, IfOk, IsErrOf, true};
     ghost use Rattle.tftp_file.specs.Sink.{Appends, Commits};
-    ghost use Rattle.tftp_server.specs.Store.{Opens, Begins, holding_of, files_of, Puts};
-    ghost use Rattle.tftp_server.specs.FaultStore.{Counts, MayAnswer, fault_meaning, is_due, never_told, opened_meaning};
+    ghost use Rattle.tftp_store.specs.Store.{Opens, Begins, holding_of, files_of, Puts};
+    ghost use Rattle.tftp_store.specs.FaultStore.{Counts, MayAnswer, fault_meaning, is_due, never_told, opened_meaning};
 
     type Source = OpenedSource<S::Source>;
 
@@ -228,7 +228,7 @@ pub struct OpenedSource<F> {
 }
 
 impl<F> Model for OpenedSource<F> {
-    ghost use Rattle.tftp_server.specs.FaultStore.{OpenedSourceState};
+    ghost use Rattle.tftp_store.specs.FaultStore.{OpenedSourceState};
 
     ghost Value = { OpenedSourceState F };
 
@@ -238,7 +238,7 @@ impl<F> Model for OpenedSource<F> {
 impl<F: Source> Source for OpenedSource<F> {
     ghost use Rattle.std.specs.Prelude.{◌≡◌, ◌≤◌, ◌⊎◌, true, Err, vec_capacity};
     ghost use Rattle.tftp_file.specs.Source.{Fills};
-    ghost use Rattle.tftp_server.specs.FaultStore.{opened_meaning};
+    ghost use Rattle.tftp_store.specs.FaultStore.{opened_meaning};
 
     ghost meaning = { opened_meaning F.meaning };
 

@@ -1,8 +1,8 @@
 //! A store that holds its files in memory.
 
 ghost use Rattle.std.specs.Prelude.{◌≡◌, IfOk, IfErr, option_copied, option_map, true, false, List, ℕ, OnOk, OnErr};
-ghost use Rattle.tftp_server.specs.Store.{file_at, with_file};
-ghost use Rattle.tftp_server.specs.Memory.{contents, in_path_order, has_distinct_paths, with_told};
+ghost use Rattle.tftp_store.specs.Store.{file_at, with_file};
+ghost use Rattle.tftp_store.specs.Memory.{contents, in_path_order, has_distinct_paths, with_told};
 
 use crate::store::{Opening, Store};
 use std::alloc::{AllocError, Global};
@@ -25,7 +25,7 @@ pub struct MemStore {
 }
 
 impl Model for MemStore {
-    ghost use Rattle.tftp_server.specs.Store.{Stored};
+    ghost use Rattle.tftp_store.specs.Store.{Stored};
 
     ghost Value = { Stored };
 
@@ -90,7 +90,7 @@ pub struct MemDraft {
 }
 
 impl Model for MemDraft {
-    ghost use Rattle.tftp_server.specs.Store.{Drafted};
+    ghost use Rattle.tftp_store.specs.Store.{Drafted};
 
     ghost Value = { Drafted };
 
@@ -114,7 +114,7 @@ impl MemDraft {
 }
 
 impl Store for MemStore {
-    ghost use Rattle.tftp_server.specs.Memory.{memory_meaning};
+    ghost use Rattle.tftp_store.specs.Memory.{memory_meaning};
 
     type Source = MemSource;
 

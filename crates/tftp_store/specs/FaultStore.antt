@@ -3,7 +3,7 @@ use Rattle.std.specs.Prelude.{ℕ, ◌≡◌, Bool, true, false, ◌-◌, ◌==�
 use Rattle.tftp_file.specs.declared.fault.StoreFault.{StoreFault}
 use Rattle.tftp_file.specs.declared.fault.StoreFault.TheVariants.{Full, Io, Memory}
 use Rattle.tftp_file.specs.Source.{SourceMeaning}
-use Rattle.tftp_server.specs.Store.{Stored, StoreMeaning}
+use Rattle.tftp_store.specs.Store.{Stored, StoreMeaning}
 
 -- what a store that is made to fail is
 pub record FaultStoreState (S : Type 0) : Type 0 where

@@ -2,7 +2,7 @@
 
 ghost use Rattle.std.specs.Prelude.{◌≡◌, ◌≢◌, Err, IfErr, IsErrOf};
 ghost use Rattle.tftp_file.specs.Sink.{Appends, Commits};
-ghost use Rattle.tftp_server.specs.Store.{StoreMeaning, Opens, Begins, holding_of, files_of, Puts};
+ghost use Rattle.tftp_store.specs.Store.{StoreMeaning, Opens, Begins, holding_of, files_of, Puts};
 
 use std::alloc::Global;
 use tftp_file::{Path, Source, StoreFault};

@@ -1,9 +1,9 @@
 -- A file is found among the files in path order as among those handed in.
 use Rattle.std.proofs.Common.{ap, ◌∙◌}
-use Rattle.tftp_server.specs.Store.{file_at}
-use Rattle.tftp_server.specs.Memory.{contents}
-use Rattle.tftp_server.proofs.MemoryLemmas.{in_path_order-lookup}
-use Rattle.tftp_server.proofs.memory.MemStore.new.Goals as goal
+use Rattle.tftp_store.specs.Store.{file_at}
+use Rattle.tftp_store.specs.Memory.{contents}
+use Rattle.tftp_store.proofs.MemoryLemmas.{in_path_order-lookup}
+use Rattle.tftp_store.proofs.memory.MemStore.new.Goals as goal
 
 pub returns-clause-found : goal.returns-clause-found
 returns-clause-found c =

@@ -3,7 +3,7 @@ use Rattle.std.specs.Prelude.{ℕ, ◌≡◌, Bool, true, false, not, ◌&&◌, 
 use Rattle.std.specs.declared.vec.Vec.{Vec}
 use Rattle.tftp_file.specs.declared.fault.StoreFault.{StoreFault}
 use Rattle.tftp_file.specs.declared.fault.StoreFault.TheVariants.{Missing, Exists, Full, Memory}
-use Rattle.tftp_server.specs.Store.{FileList, Stored, Drafted, StoreMeaning, file_at, is_taken, with_file}
+use Rattle.tftp_store.specs.Store.{FileList, Stored, Drafted, StoreMeaning, file_at, is_taken, with_file}
 
 -- the files of a list, each with its bytes
 abbrev pub contents : {A : Type 0} → List (List ℕ × Vec ℕ A) → FileList
