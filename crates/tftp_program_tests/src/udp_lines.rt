@@ -103,16 +103,18 @@ fn lines_are_rare(rt: HostRuntime) {
     }
 }
 
-/// The lines of a log.
+/// The peer that the lines of a log name.
+const PEER: Endpoint = Endpoint {
+    ip: [10, 0, 0, 2],
+    port: 1024,
+};
+
+/// The lines of a log of what came to the request port.
 #[test]
 fn log_lines(rt: HostRuntime) -> Result<(), Fail> {
-    let peer = Endpoint {
-        ip: [10, 0, 0, 2],
-        port: 1024,
-    };
     let opened = LogLine::Opened {
         port: 1025,
-        peer,
+        peer: PEER,
         request: "RRQ a octet",
         answer: "DATA 1 3",
     };
@@ -122,7 +124,7 @@ fn log_lines(rt: HostRuntime) -> Result<(), Fail> {
         "opened 1025 10.0.0.2:1024 RRQ a octet: DATA 1 3",
     )?;
     let refused = LogLine::Refused {
-        peer,
+        peer: PEER,
         request: "RRQ b octet",
         answer: "ERROR 1 (file not found)",
     };
@@ -132,13 +134,19 @@ fn log_lines(rt: HostRuntime) -> Result<(), Fail> {
         "refused 10.0.0.2:1024 RRQ b octet: ERROR 1 (file not found)",
     )?;
     let ignored = LogLine::Ignored {
-        peer,
+        peer: PEER,
         request: "ERROR 0 (stop)",
     };
     prints(&rt, &ignored, "ignored 10.0.0.2:1024 ERROR 0 (stop)")?;
+    Ok(())
+}
+
+/// The line of a log of a transfer that has closed.
+#[test]
+fn closing_log_line(rt: HostRuntime) -> Result<(), Fail> {
     let closed = LogLine::Closed {
         port: 1025,
-        peer,
+        peer: PEER,
         request: "RRQ a octet",
         answer: "DATA 1 3",
         bytes: 3,
