@@ -7,11 +7,11 @@ use Rattle.std.proofs.lemmas.Bool.{true≢false}
 use Rattle.tftp_negotiate.specs.declared.limits.TheConstants.{DEFAULT_BLOCK}
 use Rattle.tftp_wire.specs.declared.packet.Request.{Request as WireRequest}
 use Rattle.tftp_file.specs.Block.{block, block_count, Fits, IsBeginningOf}
-use Rattle.tftp_player.specs.Machine.{Endpoint, server_ip, client_ip, At_server, At_client, Elsewhere, host_of, request_port, Packet, Request, Data, Ack, Oack, Error, Message, Party}
-use Rattle.tftp_player.specs.Rules.{Rule, Asks, Opens_plainly, Opens_with, Takes_oack, Takes_ack, Takes_data, Appends, Sends_next, Completes, Fails, Fails_with, Says_error, Repeats, Strays, message, asking, opened, HasText}
-use Rattle.tftp_player.specs.Shows.{EndView, party_of, view_of, Matches, IsShown, ActInTurn, party_then, sent_by}
-use Rattle.tftp_player.proofs.Acting.{stays_open}
-use Rattle.tftp_player.proofs.Shown.{shown_acts, shown_opens, shown_speaks}
+use Rattle.tftp_machine.specs.Machine.{Endpoint, server_ip, client_ip, At_server, At_client, Elsewhere, host_of, request_port, Packet, Request, Data, Ack, Oack, Error, Message, Party}
+use Rattle.tftp_machine.specs.Rules.{Rule, Asks, Opens_plainly, Opens_with, Takes_oack, Takes_ack, Takes_data, Appends, Sends_next, Completes, Fails, Fails_with, Says_error, Repeats, Strays, message, asking, opened, HasText}
+use Rattle.tftp_machine.specs.Shows.{EndView, party_of, view_of, Matches, IsShown, ActInTurn, party_then, sent_by}
+use Rattle.tftp_machine.proofs.Acting.{stays_open}
+use Rattle.tftp_machine.proofs.Shown.{shown_acts, shown_opens, shown_speaks}
 
 pub host_server : (a : Endpoint) → a.ip ≡ server_ip → host_of a ≡ At_server
 unfolding host_of

@@ -19,7 +19,7 @@ use Rattle.tftp_store.specs.Store.{Stored}
 use Rattle.tftp_player.specs.Arriving.{StageAsks}
 use Rattle.tftp_player.specs.Clients.{server_at, left_in}
 use Rattle.tftp_player.specs.Effect.{said_by, report_by}
-use Rattle.tftp_player.specs.Machine.{Endpoint, request_port}
+use Rattle.tftp_machine.specs.Machine.{Endpoint, request_port}
 use Rattle.tftp_player.specs.Played.{PlayerKept, end_at, ends_from, records_from, served_as, served_end}
 use Rattle.tftp_player.specs.Requested.{IsRequested, OpensNone, IsAdmitted, new_served, requested_by}
 use Rattle.tftp_player.specs.Requests.{is_transfer, IsRepeated, open_transfers, served, service}
@@ -37,7 +37,7 @@ use Rattle.tftp_player.proofs.HeldLemmas.{AreBelow, AreBelow-with_new, AllKeys-w
 use Rattle.tftp_player.proofs.OpenedLemmas.{ends_push, records_push}
 use Rattle.tftp_player.proofs.OwnedLemmas.{AllOwned, pushed_owned}
 use Rattle.tftp_player.proofs.PlacedEnds.{told-same, kept-push, transfers-push}
-use Rattle.tftp_player.proofs.Places.{slice_get-push_new}
+use Rattle.tftp_machine.proofs.Places.{slice_get-push_new}
 use Rattle.tftp_player.proofs.PlayLemmas.{ends_length, to_kept, from_kept}
 use Rattle.tftp_player.proofs.PortLemmas.{OpensFor, PortOpened, PortRefused, PortSilent, opens_asks, port_opened, port_not_opened, service_opens}
 use Rattle.tftp_player.proofs.RepeatedLemmas.{repeated_is}

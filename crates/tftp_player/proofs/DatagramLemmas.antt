@@ -13,7 +13,7 @@ use Rattle.tftp_ends.specs.Step.{Turn}
 use Rattle.tftp_server.specs.Draft.{files_in}
 use Rattle.tftp_store.specs.Memory.{memory_meaning, with_told}
 use Rattle.tftp_server.specs.Steps.{StepIn}
-use Rattle.tftp_player.specs.Machine.{Endpoint}
+use Rattle.tftp_machine.specs.Machine.{Endpoint}
 use Rattle.tftp_player.specs.Clients.{ClientDatagramStep}
 use Rattle.tftp_player.specs.Effect.{no_effect}
 use Rattle.tftp_player.specs.PlayedClient.{PlayedClient}

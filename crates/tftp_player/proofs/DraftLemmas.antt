@@ -29,7 +29,7 @@ use Rattle.tftp_store.specs.Memory.{memory_meaning}
 use Rattle.tftp_server.specs.State.{draft_of}
 use Rattle.tftp_server.specs.Steps.{StepIn}
 use Rattle.tftp_store.specs.Store.{Stored, Drafted, FileList, with_file}
-use Rattle.tftp_player.specs.Machine.{Endpoint}
+use Rattle.tftp_machine.specs.Machine.{Endpoint}
 use Rattle.tftp_player.specs.Clients.{left_in}
 use Rattle.tftp_player.specs.Played.{served_as}
 use Rattle.tftp_player.specs.Serving.{CommitsLast}

@@ -24,10 +24,10 @@ use Rattle.tftp_ends.specs.declared.action.Response.TheVariants.{Ignore, Strange
 use Rattle.tftp_ends.specs.End.{is_sender, terms_of, is_complete, outcome_of}
 use Rattle.tftp_ends.specs.ErrorReply.{code_of, text_of, error_packet}
 use Rattle.tftp_ends.specs.Step.{Turn, Reply, response_turn, after, with_position}
-use Rattle.tftp_player.specs.Machine.{Endpoint, Error, Message}
-use Rattle.tftp_player.specs.Rules.{Says_error, Repeats, message}
+use Rattle.tftp_machine.specs.Machine.{Endpoint, Error, Message}
+use Rattle.tftp_machine.specs.Rules.{Says_error, Repeats, message}
 use Rattle.tftp_player.specs.Said.{said}
-use Rattle.tftp_player.specs.Shows.{EndView, IsShown}
+use Rattle.tftp_machine.specs.Shows.{EndView, IsShown}
 use Rattle.tftp_player.specs.World.{OpenEnd, files_of, holding_of, with_files, in_state, end_after, goes_on, text_of as text_of_end}
 use Rattle.tftp_player.specs.WorldKept.{EndKept, PhaseKept}
 use Rattle.tftp_player.proofs.Actions.{Stands, goes, closes, refuses}

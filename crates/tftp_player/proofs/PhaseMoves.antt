@@ -29,14 +29,14 @@ use Rattle.tftp_ends.specs.Action.{same_address, same_endpoint}
 use Rattle.tftp_ends.specs.Sender.{sender_action, acked_action, illegal_action}
 use Rattle.tftp_ends.specs.Step.{Turn, Acts, StoresIn}
 use Rattle.tftp_ends.specs.Text.{is_readable}
-use Rattle.tftp_player.specs.Machine.{Endpoint, Data as Says_data, Ack as Says_ack, Message}
-use Rattle.tftp_player.specs.Rules.{message}
+use Rattle.tftp_machine.specs.Machine.{Endpoint, Data as Says_data, Ack as Says_ack, Message}
+use Rattle.tftp_machine.specs.Rules.{message}
 use Rattle.tftp_player.specs.Said.{said}
-use Rattle.tftp_player.specs.Shows.{EndView, IsShown}
+use Rattle.tftp_machine.specs.Shows.{EndView, IsShown}
 use Rattle.tftp_player.specs.World.{OpenEnd, files_of, end_after, text_of as text_of_end}
 use Rattle.tftp_player.specs.WorldSteps.{world_sink}
 use Rattle.tftp_player.specs.WorldKept.{EndKept, sent_text}
-use Rattle.tftp_player.proofs.Endpoints.{endpoint_from}
+use Rattle.tftp_machine.proofs.Endpoints.{endpoint_from}
 use Rattle.tftp_player.proofs.Actions.{Stands, stores, refuses_next}
 use Rattle.tftp_player.proofs.SaidLemmas.{data_of}
 use Rattle.tftp_player.proofs.EndMoves.{Goes, IsThere, from_response, ignores, tells_stranger, answers_again, gives_up, refuses_now}

@@ -19,7 +19,7 @@ use Rattle.tftp_ends.specs.End.{EndState, is_complete, outcome_of}
 use Rattle.tftp_ends.specs.Step.{Turn, Reply, reply_bytes, timeout_turn, after_turn, with_position}
 use Rattle.tftp_server.specs.State.{at}
 use Rattle.tftp_server.specs.declared.config.Config.{Config}
-use Rattle.tftp_player.specs.Machine.{Endpoint}
+use Rattle.tftp_machine.specs.Machine.{Endpoint}
 use Rattle.tftp_player.specs.Clients.{server_at}
 use Rattle.tftp_player.specs.Effect.{effect_of, no_effect, said_by, place_behind, report_by}
 use Rattle.tftp_player.specs.Played.{served_end, end_at, ends_from, records_from, PlayerKept, IsServed, AllKept, PlayerTimeoutStep, has_ended, address_of, client_end}

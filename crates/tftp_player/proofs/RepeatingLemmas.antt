@@ -21,7 +21,7 @@ use Rattle.tftp_ends.specs.declared.error_reply.ErrorReply.TheVariants.{IllegalO
 use Rattle.tftp_ends.specs.Action.{Decodes}
 use Rattle.tftp_ends.specs.Step.{Turn, timeout_turn}
 use Rattle.tftp_server.specs.Port.{Service, Silent, Refused, Sends, Takes, Ignores, Refuses}
-use Rattle.tftp_player.specs.Machine.{Endpoint, request_port}
+use Rattle.tftp_machine.specs.Machine.{Endpoint, request_port}
 use Rattle.tftp_player.specs.Openings.{sending_end, receiving_end}
 use Rattle.tftp_player.specs.Repeating.{AsksForTransfer, RepeatsOpenNothing, IsNewRequest, OnlyNewRequestsOpen, RequestsLast}
 use Rattle.tftp_player.specs.Requests.{IsRepeated, WasAskedBy, Repeats, AnyRepeats, served, service}
@@ -31,7 +31,7 @@ use Rattle.tftp_player.specs.WorldSteps.{Serves, Arrives, At_request_port, At_op
 use Rattle.tftp_player.specs.declared.event.Event.{Event}
 use Rattle.tftp_player.specs.declared.event.Event.TheVariants.{Get, Put, Deliver, Timeout, RefuseStore, Stray}
 use Rattle.tftp_player.specs.declared.report.Report.{Report}
-use Rattle.tftp_player.proofs.Places.{slice_get-push_old, slice_get-set_cases}
+use Rattle.tftp_machine.proofs.Places.{slice_get-push_old, slice_get-set_cases}
 use Rattle.tftp_player.proofs.ServerLemmas.{says_one}
 use Rattle.tftp_player.proofs.TermsKept.{step_has, timeout_has}
 use Rattle.tftp_player.proofs.WorldTurns.{view_at}

@@ -38,7 +38,7 @@ use Rattle.tftp_server.specs.Request.{Came, Nothing, An_error, A_transfer, Goes,
 use Rattle.tftp_store.specs.Memory.{MayRefuseBegin, MayRefuseOpen, memory_meaning}
 use Rattle.tftp_store.specs.Store.{Stored, Drafted, Opens, Begins, is_taken, measured, new_draft}
 use Rattle.tftp_store.specs.declared.store.Opening.{Opening}
-use Rattle.tftp_player.specs.Machine.{Endpoint}
+use Rattle.tftp_machine.specs.Machine.{Endpoint}
 use Rattle.tftp_player.specs.World.{WorldState, StoredFile, OpenEnd, file_at, in_the_way}
 use Rattle.tftp_player.specs.Openings.{sending_end, receiving_end}
 use Rattle.tftp_server.specs.Port.{Ask, Ignores, Refuses, Reads, Writes, Service, Silent, Refused, Sends, Takes, accept_reply, asks, by_draft, by_file, by_length}

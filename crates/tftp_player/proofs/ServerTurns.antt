@@ -15,7 +15,7 @@ use Rattle.tftp_server.specs.Draft.{Drafting, files_in, MayRefuseAppend, MayRefu
 use Rattle.tftp_store.specs.Memory.{memory_meaning}
 use Rattle.tftp_server.specs.Steps.{StepIn}
 use Rattle.tftp_store.specs.Store.{Stored, Drafted, FileList, is_taken}
-use Rattle.tftp_player.specs.Machine.{Endpoint}
+use Rattle.tftp_machine.specs.Machine.{Endpoint}
 use Rattle.tftp_player.specs.World.{OpenEnd, StoredFile, file_at, in_the_way, in_state, files_of, holding_of, with_files, end_after}
 use Rattle.tftp_player.specs.WorldSteps.{EndStep, may_refuse_append, may_refuse_commit, FilesAfter, world_sink}
 use Rattle.tftp_player.proofs.FileLemmas.{not_taken, is_in_the_way}

@@ -19,7 +19,7 @@ use Rattle.tftp_store.specs.Memory.{memory_meaning, with_told}
 use Rattle.tftp_server.specs.State.{at, with_next, draft_of, is_closed}
 use Rattle.tftp_server.specs.Steps.{TimesOut, TakesDatagram, TakesRecorded, KeepsHeld, with_end}
 use Rattle.tftp_store.specs.Store.{Stored, Drafted, FileList, new_draft}
-use Rattle.tftp_player.specs.Machine.{Endpoint}
+use Rattle.tftp_machine.specs.Machine.{Endpoint}
 use Rattle.tftp_player.specs.Clients.{server_at}
 use Rattle.tftp_player.specs.Effect.{effect_of}
 use Rattle.tftp_player.specs.Serving.{PlayedServer, Transfer, ServedKept, ServedTurns, ServedTimeoutStep, ServedDatagramStep, Concludes, ClosesAs, concluded_served, concluded_held}

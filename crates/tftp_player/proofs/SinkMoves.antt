@@ -25,9 +25,9 @@ use Rattle.tftp_ends.specs.declared.phase.Terms.{Terms}
 use Rattle.tftp_ends.specs.End.{EndState, is_sender, is_complete, number_of}
 use Rattle.tftp_ends.specs.Step.{Done, Turn, Appended, Committed, GoesOn, Stores, StoresIn, sent_turn, refused_turn, committed_turn, commit_reply, holding, ack_bytes}
 use Rattle.tftp_ends.specs.Text.{Decoded, is_readable, begins_netascii, ends_in_cr}
-use Rattle.tftp_player.specs.Machine.{Endpoint, Ack as Says_ack, Error, Message}
-use Rattle.tftp_player.specs.Rules.{message}
-use Rattle.tftp_player.specs.Shows.{EndView, IsShown}
+use Rattle.tftp_machine.specs.Machine.{Endpoint, Ack as Says_ack, Error, Message}
+use Rattle.tftp_machine.specs.Rules.{message}
+use Rattle.tftp_machine.specs.Shows.{EndView, IsShown}
 use Rattle.tftp_player.specs.World.{OpenEnd, files_of, holding_of, end_after, goes_on, text_of as text_of_end}
 use Rattle.tftp_player.specs.WorldSteps.{may_refuse_append, world_sink}
 use Rattle.tftp_player.specs.WorldKept.{EndKept, HeldFits}

@@ -25,10 +25,10 @@ use Rattle.tftp_ends.specs.declared.phase.Terms.{Terms}
 use Rattle.tftp_ends.specs.declared.action.Response.TheVariants.{Complete}
 use Rattle.tftp_ends.specs.End.{EndState, is_sender}
 use Rattle.tftp_ends.specs.Step.{Turn, response_turn, after, Sends, SendsFrom, sent_turn, refused_turn, data_bytes, block_length, filled_turn, result_count_is, after_turn, with_position}
-use Rattle.tftp_player.specs.Machine.{Endpoint, Data as Says_data, Ack as Says_ack, Message}
-use Rattle.tftp_player.specs.Rules.{message}
+use Rattle.tftp_machine.specs.Machine.{Endpoint, Data as Says_data, Ack as Says_ack, Message}
+use Rattle.tftp_machine.specs.Rules.{message}
 use Rattle.tftp_player.specs.Said.{said}
-use Rattle.tftp_player.specs.Shows.{EndView, IsShown}
+use Rattle.tftp_machine.specs.Shows.{EndView, IsShown}
 use Rattle.tftp_player.specs.World.{OpenEnd, files_of, holding_of, in_state, end_after, text_of as text_of_end, received_text}
 use Rattle.tftp_player.specs.WorldSteps.{world_sink}
 use Rattle.tftp_player.specs.WorldKept.{EndKept, sent_text}

@@ -9,7 +9,7 @@ use Rattle.tftp_ends.specs.declared.phase.Phase.TheVariants.{Waiting, Sending, R
 use Rattle.tftp_ends.specs.End.{is_sender, is_client, terms_of, number_of, is_complete, outcome_of, size_of, record_of}
 use Rattle.tftp_ends.specs.Step.{with_position}
 use Rattle.tftp_player.specs.Requests.{is_transfer}
-use Rattle.tftp_player.specs.Shows.{EndView}
+use Rattle.tftp_machine.specs.Shows.{EndView}
 use Rattle.tftp_player.specs.World.{WorldState, OpenEnd, WorldEnd, Open_end, Closed_end, end_record, end_address, is_closed, datagram, in_state, closed_end, by_outcome, standing, text_of, peer_of, view_of_end, file_at}
 use Rattle.tftp_player.specs.WorldKept.{EndKept, IsKeptIn}
 

@@ -9,7 +9,7 @@ use Rattle.tftp_file.specs.Netascii.{wire_text}
 use Rattle.tftp_file.specs.Sink.{Holding}
 use Rattle.tftp_ends.specs.End.{is_client}
 use Rattle.tftp_ends.specs.Step.{Turn, timeout_turn}
-use Rattle.tftp_player.specs.Machine.{Endpoint, request_port}
+use Rattle.tftp_machine.specs.Machine.{Endpoint, request_port}
 use Rattle.tftp_player.specs.World.{WorldState, OpenEnd, ClosedEnd, WorldEnd, Open_end, Closed_end, end_address, StoredFile, file_at, in_the_way, files_of, end_after, has_committed, world_after, report_of, no_report, opened_in, sent_report}
 use Rattle.tftp_player.specs.WorldSteps.{EndStep, FilesAfter, Turns, At_open_end, At_closed_end, At_nobody, HasPort, IsAtPort, told_end, Arrives, WorldStep}
 use Rattle.tftp_player.specs.Openings.{reading_client, writing_client, MayGet, MayPut}

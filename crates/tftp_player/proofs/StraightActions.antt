@@ -25,8 +25,8 @@ use Rattle.tftp_ends.specs.Receiver.{next_action, data_action}
 use Rattle.tftp_ends.specs.Sender.{illegal_action, acked_action}
 use Rattle.tftp_ends.specs.Text.{is_readable, begins_netascii, ends_in_cr}
 use Rattle.tftp_ends.proofs.TextLemmas.{decoded_begins, decoded_ends}
-use Rattle.tftp_player.specs.Machine.{Endpoint}
-use Rattle.tftp_player.proofs.Blocks.{length-block}
+use Rattle.tftp_machine.specs.Machine.{Endpoint}
+use Rattle.tftp_machine.proofs.Blocks.{length-block}
 use Rattle.tftp_player.proofs.HostBytes.{wire_beginning, wire_text-append}
 
 -- ---- from whom it is

@@ -28,7 +28,7 @@ use Rattle.tftp_ends.specs.Receiver.{receiver_action}
 use Rattle.tftp_ends.specs.Step.{ack_bytes, data_bytes}
 use Rattle.tftp_ends.specs.Waiting.{default_terms, agreed_terms, no_answer, accept_action, begin_action, begin_with_action}
 use Rattle.tftp_server.specs.Port.{Service, Sends, Takes}
-use Rattle.tftp_player.specs.Machine.{Endpoint, request_port}
+use Rattle.tftp_machine.specs.Machine.{Endpoint, request_port}
 use Rattle.tftp_player.specs.Openings.{reading_client, writing_client, sending_end, receiving_end}
 use Rattle.tftp_player.specs.Straight.{IsAccepted, IsThrough, ReadsStraight, WritesStraight, ReadsComplete, WritesComplete, read_count, write_count}
 use Rattle.tftp_player.specs.World.{WorldState, OpenEnd, StoredFile, file_at, datagram, WorldEnd, Open_end}
@@ -38,7 +38,7 @@ use Rattle.tftp_player.specs.WorldSteps.{Serves, Opens}
 use Rattle.tftp_player.specs.declared.event.Event.TheVariants.{Get, Put}
 use Rattle.tftp_player.specs.declared.report.Report.{Report}
 use Rattle.tftp_player.proofs.OackLemmas.{valid_oack}
-use Rattle.tftp_player.proofs.Places.{slice_get-push_old, slice_get-push_new}
+use Rattle.tftp_machine.proofs.Places.{slice_get-push_old, slice_get-push_new}
 use Rattle.tftp_player.proofs.SaidLemmas.{spells_own, own_oack, taken_oack}
 use Rattle.tftp_player.proofs.StraightActions.{from_server, data_next, block_within}
 use Rattle.tftp_player.proofs.StraightPort.{HasAsked, has_asked, port_comes, has_opened, accepted_answers}

@@ -20,7 +20,7 @@ use Rattle.tftp_ends.specs.End.{is_sender, is_client, is_complete}
 use Rattle.tftp_ends.specs.Action.{datagram_action}
 use Rattle.tftp_ends.specs.Receiver.{next_action}
 use Rattle.tftp_ends.specs.Step.{ack_bytes, data_bytes}
-use Rattle.tftp_player.specs.Machine.{Endpoint}
+use Rattle.tftp_machine.specs.Machine.{Endpoint}
 use Rattle.tftp_player.specs.Straight.{TookAll, AllTaken}
 use Rattle.tftp_player.specs.World.{WorldState, OpenEnd, datagram, WorldEnd, Open_end}
 use Rattle.tftp_player.specs.WorldKept.{IsUnderWay, PhaseKept, HeldFits, IsOk, sent_text}
@@ -30,8 +30,8 @@ use Rattle.tftp_player.specs.WorldSteps.{WorldStep, Settles}
 use Rattle.tftp_player.specs.declared.datagram.Datagram.{Datagram}
 use Rattle.tftp_player.specs.declared.event.Event.TheVariants.{Deliver}
 use Rattle.tftp_player.specs.declared.report.Report.{Report}
-use Rattle.tftp_player.proofs.Blocks.{take-block}
-use Rattle.tftp_player.proofs.Places.{slice_get-set_same, slice_get-set_other, slice_get-push_new}
+use Rattle.tftp_machine.proofs.Blocks.{take-block}
+use Rattle.tftp_machine.proofs.Places.{slice_get-set_same, slice_get-set_other, slice_get-push_new}
 use Rattle.tftp_player.proofs.SaidLemmas.{spells_own}
 use Rattle.tftp_player.proofs.SourceMoves.{valid_data, number_fits}
 use Rattle.tftp_player.proofs.StraightActions.{from_peer, acked_more, acked_last, piece_readable, next_stores, data_next, block_full, block_last, block_within, never_long, last_rest}

@@ -17,7 +17,7 @@ use Rattle.tftp_ends.specs.declared.phase.Phase.TheVariants.{Waiting, Sending, R
 use Rattle.tftp_ends.specs.End.{is_client, terms_of, outcome_of, record_of, Position}
 use Rattle.tftp_ends.specs.Action.{same_address, same_endpoint, is_stranger, garbled_response, packet_action}
 use Rattle.tftp_ends.specs.Step.{Turn, Acts, with_position}
-use Rattle.tftp_player.specs.Machine.{Endpoint, At_server, Elsewhere, host_of, request_port}
+use Rattle.tftp_machine.specs.Machine.{Endpoint, At_server, Elsewhere, host_of, request_port}
 use Rattle.tftp_player.specs.Strangers.{HasNoStranger, IsRecordedSo, StraysChangeNoRecord, ClientsHaveServers}
 use Rattle.tftp_player.specs.World.{WorldState, OpenEnd, WorldEnd, Open_end, end_record, end_address, file_at, in_the_way, files_of, end_after, standing, peer_of, view_of_end}
 use Rattle.tftp_player.specs.WorldKept.{PhaseKept, IsOk}
@@ -25,7 +25,7 @@ use Rattle.tftp_player.specs.WorldSteps.{may_refuse_commit, Serves, Arrives, At_
 use Rattle.tftp_server.specs.Port.{Service, Silent, Refused, Sends, Takes}
 use Rattle.tftp_player.specs.declared.report.Report.{Report}
 use Rattle.tftp_player.proofs.PhaseMoves.{same_ips, same_endpoints}
-use Rattle.tftp_player.proofs.Places.{slice_get-set_same, slice_get-set_other, slice_get-push_old}
+use Rattle.tftp_machine.proofs.Places.{slice_get-set_same, slice_get-set_other, slice_get-push_old}
 use Rattle.tftp_player.proofs.WorldTurns.{view_at}
 use Rattle.tftp_player.proofs.Standing.{placed, standing_record}
 

@@ -27,7 +27,7 @@ use Rattle.tftp_ends.specs.Sender.{sender_action}
 use Rattle.tftp_ends.specs.Receiver.{receiver_action, next_action, dally_response}
 use Rattle.tftp_ends.specs.Text.{is_readable}
 use Rattle.tftp_ends.specs.Step.{Turn, DatagramStep, Acts, SendsFrom, StoresIn, GoesOn, Done, response_turn, filled_turn, committed_turn, result_count_is, block_length, timeout_turn, holding}
-use Rattle.tftp_player.specs.Machine.{Endpoint}
+use Rattle.tftp_machine.specs.Machine.{Endpoint}
 use Rattle.tftp_player.specs.WorldSteps.{world_sink}
 
 module _ (agreed : Terms) where

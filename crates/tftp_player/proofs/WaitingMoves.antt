@@ -41,10 +41,10 @@ use Rattle.tftp_ends.specs.Sender.{illegal_action}
 use Rattle.tftp_ends.specs.Step.{StoresIn, response_turn, after, with_position}
 use Rattle.tftp_ends.specs.Text.{is_readable}
 use Rattle.tftp_ends.specs.Waiting.{default_terms, agreed_terms, no_answer, refusal_action, accept_action, begin_action, begin_with_action, reader_action, writer_action}
-use Rattle.tftp_player.specs.Machine.{Endpoint, server_ip, Data as Says_data, Ack as Says_ack, Oack as Says_oack, Message}
-use Rattle.tftp_player.specs.Rules.{message}
+use Rattle.tftp_machine.specs.Machine.{Endpoint, server_ip, Data as Says_data, Ack as Says_ack, Oack as Says_oack, Message}
+use Rattle.tftp_machine.specs.Rules.{message}
 use Rattle.tftp_player.specs.Said.{said, oack_size}
-use Rattle.tftp_player.specs.Shows.{EndView, IsShown}
+use Rattle.tftp_machine.specs.Shows.{EndView, IsShown}
 use Rattle.tftp_player.specs.World.{OpenEnd, files_of, holding_of, in_state, received_text, text_of as text_of_end}
 use Rattle.tftp_player.specs.WorldSteps.{world_sink}
 use Rattle.tftp_player.specs.WorldKept.{EndKept, sent_text}

@@ -16,10 +16,10 @@ use Rattle.tftp_ends.specs.declared.phase.Phase.TheVariants.{Waiting, Sending, R
 use Rattle.tftp_ends.specs.End.{is_sender, is_client}
 use Rattle.tftp_ends.specs.Action.{Decodes, timeout_response}
 use Rattle.tftp_ends.specs.Step.{timeout_turn}
-use Rattle.tftp_player.specs.Machine.{Endpoint, Elsewhere, host_of, Message}
-use Rattle.tftp_player.specs.Rules.{message}
+use Rattle.tftp_machine.specs.Machine.{Endpoint, Elsewhere, host_of, Message}
+use Rattle.tftp_machine.specs.Rules.{message}
 use Rattle.tftp_player.specs.Said.{said}
-use Rattle.tftp_player.specs.Shows.{EndView, IsShown}
+use Rattle.tftp_machine.specs.Shows.{EndView, IsShown}
 use Rattle.tftp_player.specs.World.{WorldState, OpenEnd, WorldEnd, Open_end, Closed_end, StoredFile, file_at, in_the_way, datagram, files_of, new_world, view_of_end}
 use Rattle.tftp_player.specs.WorldSteps.{may_refuse_commit, OnDatagram, Arrives, At_request_port, At_open_end, At_closed_end, At_nobody, TimesOut, told_end}
 use Rattle.tftp_player.specs.WorldKept.{PhaseKept, IsKeptIn, IsOk}
@@ -29,11 +29,11 @@ use Rattle.tftp_player.specs.declared.datagram.Datagram.{Datagram}
 use Rattle.tftp_player.specs.declared.event.Event.{Event}
 use Rattle.tftp_player.specs.declared.event.Event.TheVariants.{Get, Put, Deliver, Timeout, RefuseStore, Stray}
 use Rattle.tftp_player.specs.declared.report.Report.{Report}
-use Rattle.tftp_player.proofs.Places.{slice_get-set_cases}
+use Rattle.tftp_machine.proofs.Places.{slice_get-set_cases}
 use Rattle.tftp_player.proofs.Standing.{open_view, open_is}
 use Rattle.tftp_player.proofs.Actions.{Stands, strays}
-use Rattle.tftp_player.proofs.Shown.{shown_start}
-use Rattle.tftp_player.proofs.ViewSafe.{shown_at_home}
+use Rattle.tftp_machine.proofs.Shown.{shown_start}
+use Rattle.tftp_machine.proofs.ViewSafe.{shown_at_home}
 use Rattle.tftp_player.proofs.EndMoves.{IsThere, from_response}
 use Rattle.tftp_player.proofs.EndTurns.{by_datagram, by_timeout}
 use Rattle.tftp_player.proofs.WorldTurns.{nothing_in, one_in, turn_keeps, view_at}

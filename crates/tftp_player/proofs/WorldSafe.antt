@@ -11,9 +11,9 @@ use Rattle.tftp_file.specs.Netascii.{wire_text}
 use Rattle.tftp_ends.specs.declared.phase.Phase.{Phase}
 use Rattle.tftp_ends.specs.declared.phase.Phase.TheVariants.{Waiting, Sending, Receiving, Dallying, Closed}
 use Rattle.tftp_ends.specs.End.{is_sender, is_complete}
-use Rattle.tftp_player.specs.Machine.{Endpoint}
-use Rattle.tftp_player.specs.Shows.{EndView}
-use Rattle.tftp_player.specs.ViewSafety.{IsAmong, IsSafeViews}
+use Rattle.tftp_machine.specs.Machine.{Endpoint}
+use Rattle.tftp_machine.specs.Shows.{EndView}
+use Rattle.tftp_machine.specs.ViewSafety.{IsAmong, IsSafeViews}
 use Rattle.tftp_player.specs.World.{WorldState, WorldEnd, Open_end, Closed_end, end_record, end_address, end_mode, end_file, end_stored, end_committed, end_text, new_world, goes_on, received_text, view_of_end}
 use Rattle.tftp_player.specs.WorldSafety.{IsIn, IsSafe}
 use Rattle.tftp_player.specs.WorldKept.{IsKeptIn, IsOk}
@@ -21,7 +21,7 @@ use Rattle.tftp_player.specs.WorldRuns.{WorldsAreSafe, PeersStayHome, KeptIsSafe
 use Rattle.tftp_player.proofs.HostBytes.{wire_beginning, wire_same}
 use Rattle.tftp_player.proofs.SourceMoves.{text_if}
 use Rattle.tftp_player.proofs.SinkMoves.{text_else}
-use Rattle.tftp_player.proofs.ViewSafe.{IsBeginningOf-trans, first_of_empty, shown_safe}
+use Rattle.tftp_machine.proofs.ViewSafe.{IsBeginningOf-trans, first_of_empty, shown_safe}
 use Rattle.tftp_player.proofs.WorldTurns.{view_at}
 use Rattle.tftp_player.proofs.WorldRuns.{run_keeps, new_ok, any_may, ok_at_home}
 

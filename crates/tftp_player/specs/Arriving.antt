@@ -1,8 +1,8 @@
 -- What a datagram does to the ends of a world and the server, whatever was sent before.
 use Rattle.std.specs.Prelude.{ℕ, ◌≡◌, ◌+◌, ◌<◌, ⊤, List, ◌++◌, length}
 use Rattle.tftp_player.specs.Effect.{said_by, report_by}
-use Rattle.tftp_player.specs.Machine.{Endpoint, host_of, request_port}
-use Rattle.tftp_player.specs.Machine.{Elsewhere as Far}
+use Rattle.tftp_machine.specs.Machine.{Endpoint, host_of, request_port}
+use Rattle.tftp_machine.specs.Machine.{Elsewhere as Far}
 use Rattle.tftp_player.specs.Serving.{PlayedServer}
 use Rattle.tftp_player.specs.Stage.{world_of}
 use Rattle.tftp_player.specs.World.{WorldState}

@@ -1,12 +1,4 @@
-pub mod Machine
-pub mod Rules
-pub mod MachineSafety
-pub mod Facts
-pub mod Recorded
 pub mod Said
-pub mod Shows
-pub mod Kept
-pub mod ViewSafety
 pub mod Fault
 pub mod World
 pub mod Openings

@@ -8,7 +8,7 @@ use Rattle.tftp_file.specs.Block.{block}
 use Rattle.tftp_file.specs.Netascii.{wire_text}
 use Rattle.tftp_ends.specs.End.{EndState}
 pub use Rattle.tftp_ends.specs.Opening.{request_of, getting, putting, serving_read, serving_write, MayGet, MayPut}
-use Rattle.tftp_player.specs.Machine.{Endpoint, request_port}
+use Rattle.tftp_machine.specs.Machine.{Endpoint, request_port}
 use Rattle.tftp_player.specs.World.{WorldState, OpenEnd, next_port, ip_of}
 
 -- an end as it opens at the next port, for what was requested so, of a file at a path, with this left of it

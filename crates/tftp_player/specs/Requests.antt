@@ -8,7 +8,7 @@ use Rattle.tftp_file.specs.declared.fault.StoreFault.TheVariants.{Missing, Exist
 use Rattle.tftp_ends.specs.End.{is_client}
 use Rattle.tftp_server.specs.Port.{Ask, Service, answered, asks}
 use Rattle.tftp_store.specs.Store.{measured}
-use Rattle.tftp_player.specs.Machine.{Endpoint}
+use Rattle.tftp_machine.specs.Machine.{Endpoint}
 use Rattle.tftp_player.specs.World.{WorldState, OpenEnd, WorldEnd, Open_end, Closed_end, file_at, in_the_way, peer_of}
 
 -- an open end of the server

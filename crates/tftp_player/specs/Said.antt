@@ -9,7 +9,7 @@ use Rattle.tftp_negotiate.specs.declared.name.Name.{Name}
 use Rattle.tftp_negotiate.specs.declared.name.Name.TheVariants.{Blksize, Timeout, Tsize}
 use Rattle.tftp_negotiate.specs.Options.{name_of, number_of}
 use Rattle.tftp_negotiate.specs.Agreed.{size}
-use Rattle.tftp_player.specs.Machine.{Packet, Request, Data, Ack, Oack, Error}
+use Rattle.tftp_machine.specs.Machine.{Packet, Request, Data, Ack, Oack, Error}
 
 -- the option of this name with this number
 abbrev pub known_as : Name → ℕ → Known

@@ -15,7 +15,7 @@ use Rattle.tftp_server.specs.State.{Held, ServerState, at, draft_of, with_next, 
 use Rattle.tftp_server.specs.State as server
 use Rattle.tftp_server.specs.Steps.{StepIn, with_end}
 use Rattle.tftp_store.specs.Store.{Stored, Drafted}
-use Rattle.tftp_player.specs.Machine.{Endpoint}
+use Rattle.tftp_machine.specs.Machine.{Endpoint}
 use Rattle.tftp_player.specs.Clients.{server_at}
 use Rattle.tftp_player.specs.Effect.{effect_of}
 use Rattle.tftp_player.specs.declared.effect.Effect.{Effect}

@@ -11,7 +11,7 @@ use Rattle.tftp_player.specs.Played.{client_end, ends_from, records_from, AllKep
 use Rattle.tftp_player.specs.PlayedClient.{PlayedClient}
 use Rattle.tftp_player.specs.Serving.{PlayedServer, Transfer}
 use Rattle.tftp_player.specs.Requests.{open_transfers}
-use Rattle.tftp_player.specs.Machine.{Endpoint}
+use Rattle.tftp_machine.specs.Machine.{Endpoint}
 use Rattle.tftp_player.specs.World.{WorldState, OpenEnd, ClosedEnd, WorldEnd, Open_end, Closed_end, end_record, end_address, end_stored, end_committed, StoredFile, file_at, in_the_way, files_of, end_after, has_committed, standing}
 use Rattle.tftp_player.specs.WorldSteps.{EndStep, FilesAfter}
 use Rattle.tftp_server.specs.declared.config.Config.{Config}

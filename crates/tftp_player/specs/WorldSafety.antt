@@ -2,7 +2,7 @@
 use Rattle.std.specs.Prelude.{◌≡◌, ◌≢◌, ℕ, true, false, [], slice_get, Some, None}
 use Rattle.tftp_file.specs.Block.{IsBeginningOf}
 use Rattle.tftp_ends.specs.End.{is_sender, is_client}
-use Rattle.tftp_player.specs.Machine.{Endpoint, Elsewhere, host_of}
+use Rattle.tftp_machine.specs.Machine.{Endpoint, Elsewhere, host_of}
 use Rattle.tftp_player.specs.World.{WorldState, WorldEnd, end_record, end_address, end_path, end_file, end_stored, end_committed, file_at}
 
 -- the end was opened in this world

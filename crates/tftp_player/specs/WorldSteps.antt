@@ -10,7 +10,7 @@ use Rattle.tftp_file.specs.Sink.{Holding, SinkMeaning}
 use Rattle.tftp_ends.specs.End.{EndState, is_sender, is_client}
 use Rattle.tftp_ends.specs.Action.{Decodes}
 use Rattle.tftp_ends.specs.Step.{Turn, DatagramStep, timeout_turn, error_bytes}
-use Rattle.tftp_player.specs.Machine.{Endpoint, Elsewhere, host_of, request_port}
+use Rattle.tftp_machine.specs.Machine.{Endpoint, Elsewhere, host_of, request_port}
 use Rattle.tftp_player.specs.World.{StoredFile, file_at, in_the_way, OpenEnd, ClosedEnd, WorldEnd, Open_end, Closed_end, end_address, WorldState, next_port, datagram, files_of, end_after, has_committed, world_after, report_of, no_report, opened_in, said_in, sent_report}
 use Rattle.tftp_player.specs.Openings.{reading_client, writing_client, MayGet, MayPut, sending_end, receiving_end}
 use Rattle.tftp_server.specs.Port.{Service, Silent, Refused, Sends, Takes}

@@ -5,7 +5,7 @@ ghost use Rattle.tftp_ends.specs.End.{record_of, outcome_of};
 ghost use Rattle.tftp_file.specs.Netascii.{wire_text};
 ghost use Rattle.tftp_ends.specs.Opening.{MayGet, MayPut, getting, putting};
 ghost use Rattle.tftp_ends.specs.Step.{timeout_turn};
-ghost use Rattle.tftp_player.specs.Machine.{request_port};
+ghost use Rattle.tftp_machine.specs.Machine.{request_port};
 ghost use Rattle.tftp_player.specs.Clients.{ClientTurns, ClientDatagramStep, asking_client, sending_client, stored_by, told_client, client_at, holding_in, asking_effect, sending_effect, open_fault, AskRefuses};
 
 use crate::effect::{Effect, effect_of};

@@ -1,7 +1,7 @@
 //! The two hosts of a world.
 
 ghost use Rattle.std.specs.Prelude.{◌≡◌, IsTrue, ◌↔◌};
-ghost use Rattle.tftp_player.specs.Machine.{host_of, Elsewhere};
+ghost use Rattle.tftp_machine.specs.Machine.{host_of, Elsewhere};
 ghost use Rattle.tftp_player.specs.Clients.{client_at, server_at};
 
 use tftp_ends::Endpoint;

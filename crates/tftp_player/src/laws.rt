@@ -1,65 +1,16 @@
-//! What every run of the guarded machine keeps, and what every run of a world keeps, over the
-//! definitions alone.
+//! What every run of a world keeps, over the definitions alone.
 
-ghost use Rattle.std.specs.Prelude.{List, [], ◌∷◌};
+ghost use Rattle.std.specs.Prelude.{[], ◌∷◌};
 ghost use Rattle.tftp_wire.specs.declared.mode.Mode.TheVariants.{Octet, Netascii};
 ghost use Rattle.tftp_negotiate.specs.declared.known.Known.TheVariants.{Blksize};
 ghost use Rattle.tftp_player.specs.Completing.{Transfers, nothing_asked, blocks_of_8};
 ghost use Rattle.tftp_player.specs.declared.event.Event.TheVariants.{Get, Put};
-ghost use Rattle.tftp_player.specs.Facts.{Holds};
-ghost use Rattle.tftp_player.specs.Kept.{EndsGoOn, EndsOpen, DatagramsAreAdded};
-ghost use Rattle.tftp_player.specs.Machine.{Endpoint, Message};
-ghost use Rattle.tftp_player.specs.MachineSafety.{IsSafeMachine, IsCompleted};
 ghost use Rattle.tftp_player.specs.OneAtMost.{EventsAddOneAtMost};
-ghost use Rattle.tftp_player.specs.Recorded.{AreRecorded};
 ghost use Rattle.tftp_player.specs.Repeating.{RepeatsOpenNothing, OnlyNewRequestsOpen, RequestsLast};
-ghost use Rattle.tftp_player.specs.Rules.{Rule, IsLegal, run, start};
-ghost use Rattle.tftp_player.specs.Shows.{EndView, IsShown};
 ghost use Rattle.tftp_player.specs.Straight.{ReadsComplete, WritesComplete};
 ghost use Rattle.tftp_player.specs.Straight.{SomeReadIsStraight, SomeWriteIsStraight};
 ghost use Rattle.tftp_player.specs.Strangers.{StraysChangeNoRecord, ClientsHaveServers};
-ghost use Rattle.tftp_player.specs.ViewSafety.{IsSafeViews, PeersAtHome};
 ghost use Rattle.tftp_player.specs.WorldRuns.{WorldsAreSafe, PeersStayHome, StepsKeep, KeptIsSafe};
-
-/// After every list of rules that their guards allow, the transfers are safe: the ends of an
-/// established transfer have one block size, what a receiver has is a beginning of its peer's text
-/// and the whole of it once it is done, and when a sender is done so is its peer.
-pub fn every_run_is_safe()
-    ensures safe { (rules : List Rule) → IsLegal rules start → IsSafeMachine (run rules start) }
-    ensures facts { (rules : List Rule) → IsLegal rules start → Holds (run rules start) }
-    ensures recorded { (rules : List Rule) → IsLegal rules start → AreRecorded (run rules start) }
-{}
-
-/// The rules do allow a transfer: a read with an option completes at both ends.
-pub fn some_run_completes()
-    ensures { (rules : List Rule) × (x : Endpoint) × (y : Endpoint) × IsLegal rules start
-        × IsCompleted (run rules start) x y }
-{}
-
-/// Ends and datagrams that a machine shows are safe, and where there are none a machine shows them.
-/// What is claimed of a peer at one of the two hosts is claimed of each peer, unless a stranger spoke.
-pub fn what_is_shown_is_safe()
-    ensures start { IsShown [] [] }
-    ensures safe { (views : List EndView)
-        (messages : List Message) → IsShown views messages → IsSafeViews views }
-    ensures home { (views : List EndView)
-        (messages : List Message) → IsShown views messages → PeersAtHome views messages }
-{}
-
-/// How one end handles a datagram or a timeout is shown again.
-pub fn an_end_goes_on()
-    ensures { EndsGoOn }
-{}
-
-/// An end that opens is shown.
-pub fn an_end_opens()
-    ensures { EndsOpen }
-{}
-
-/// A datagram that changes no end is shown: an ERROR, one that is sent again, one of a stranger.
-pub fn a_datagram_is_added()
-    ensures { DatagramsAreAdded }
-{}
 
 /// After every list of events, from a world in which nothing has happened: the ends of an established
 /// transfer have one block size, what a receiver stored is a beginning of its peer's file, a receiver

@@ -1,6 +1,6 @@
 -- An event that a script may hold is one that a world plays.
 use Rattle.std.proofs.Common.{◌≡◌, true, refl}
-use Rattle.tftp_player.specs.Machine.{Host, host_of, At_server, At_client, Elsewhere}
+use Rattle.tftp_machine.specs.Machine.{Host, host_of, At_server, At_client, Elsewhere}
 use Rattle.tftp_player.specs.Arriving.{IsPlayable}
 use Rattle.tftp_player.specs.declared.event.Event.{Event}
 use Rattle.tftp_player.specs.declared.event.Event.TheVariants.{Get, Put, Deliver, Timeout, RefuseStore, Stray}

@@ -1,6 +1,6 @@
 -- Which events a script may hold: a stray comes from an address of neither host.
 use Rattle.std.specs.Prelude.{Bool, true, false}
-use Rattle.tftp_player.specs.Machine.{Host, host_of, Elsewhere}
+use Rattle.tftp_machine.specs.Machine.{Host, host_of, Elsewhere}
 use Rattle.tftp_player.specs.declared.event.Event.{Event}
 use Rattle.tftp_player.specs.declared.event.Event.TheVariants.{Stray}
 

@@ -1,7 +1,7 @@
 //! What a datagram does where it comes to.
 
 ghost use Rattle.std.specs.Prelude.{◌≡◌, IfOk, IfErr, OnErr};
-ghost use Rattle.tftp_player.specs.Machine.{host_of, Elsewhere};
+ghost use Rattle.tftp_machine.specs.Machine.{host_of, Elsewhere};
 ghost use Rattle.tftp_player.specs.Arriving.{ArrivalRefuses};
 ghost use Rattle.tftp_player.specs.WorldSteps.{Arrives, WorldRefuses, WorldStep};
 ghost use Rattle.tftp_player.specs.declared.event.Event.TheVariants.{Deliver, Stray};

@@ -1,8 +1,8 @@
 -- What the two tests of an address tell.
 use Rattle.std.proofs.Common.{◌≡◌, Bool, ap, sym, ◌∙◌, subst}
 use Rattle.std.specs.Prelude.{IsTrue, ◌&&◌, ◌↔◌, not}
-use Rattle.tftp_player.specs.Machine.{Elsewhere, host_of, client_ip, is_same_ip}
-use Rattle.tftp_player.proofs.Endpoints.{foreign_by}
+use Rattle.tftp_machine.specs.Machine.{Elsewhere, host_of, client_ip, is_same_ip}
+use Rattle.tftp_player.proofs.HostLemmas.{foreign_by}
 use Rattle.tftp_player.proofs.hosts.is_foreign.Goals as goal
 
 pub returns-then-ne : goal.returns-then-ne

@@ -1,0 +1,14 @@
+pub mod Endpoints
+pub mod Grows
+pub mod Blocks
+pub mod Steps
+pub mod Telling
+pub mod Opening
+pub mod Moving
+pub mod Keeps
+pub mod Runs
+pub mod RecordedKept
+pub mod Places
+pub mod Acting
+pub mod Shown
+pub mod ViewSafe

@@ -1,0 +1,14 @@
+-- The lemmas that are the law.
+use Rattle.tftp_machine.specs.Rules.{start, run}
+use Rattle.tftp_machine.proofs.RecordedKept.{recorded_run, recorded_start}
+use Rattle.tftp_machine.proofs.Runs.{Holds-start, Holds-run, IsSafeMachine-holds}
+use Rattle.tftp_machine.proofs.laws.every_run_is_safe.Goals as goal
+
+pub returns-clause-safe : goal.returns-clause-safe
+returns-clause-safe c = λ rules legal. IsSafeMachine-holds (run rules start) (Holds-run rules start Holds-start legal)
+
+pub returns-clause-facts : goal.returns-clause-facts
+returns-clause-facts c = λ rules legal. Holds-run rules start Holds-start legal
+
+pub returns-clause-recorded : goal.returns-clause-recorded
+returns-clause-recorded c = λ rules legal. recorded_run rules start Holds-start recorded_start legal

@@ -1,0 +1,9 @@
+pub mod Machine
+pub mod Rules
+pub mod MachineSafety
+pub mod Facts
+pub mod Recorded
+pub mod Shows
+pub mod Kept
+pub mod ViewSafety
+pub mod Texts

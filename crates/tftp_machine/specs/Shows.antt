@@ -1,0 +1,116 @@
+-- What a world of ends and datagrams shows of the guarded machine.
+use Rattle.std.specs.Prelude.{◌≡◌, ℕ, ◌+◌, Bool, true, false, List, [], ◌∷◌, ◌++◌, slice_get, Option, Some}
+use Rattle.tftp_wire.specs.declared.mode.Mode.{Mode}
+use Rattle.tftp_file.specs.Block.{IsBeginningOf}
+use Rattle.tftp_machine.specs.Machine.{Endpoint, Message, Party, no_request, Machine}
+use Rattle.tftp_machine.specs.Rules.{Rule, Asks, Opens_plainly, Opens_with, Says_error, Repeats, Strays, actor, MayAct, packets, party_after}
+use Rattle.tftp_machine.specs.Facts.{Holds}
+use Rattle.tftp_machine.specs.Recorded.{AreRecorded}
+
+-- what is to be told of an end that was opened
+pub record EndView : Type 0 where
+  pub address : Endpoint
+  pub client : Bool
+  pub sender : Bool
+  pub mode : Mode
+  pub peer : Option Endpoint
+  pub size : ℕ
+  pub number : ℕ
+  -- it is complete
+  pub done : Bool
+  -- it is closed and not complete
+  pub failed : Bool
+  -- a sender's wire text; of a receiver what it stored, as it travels, and the text held back
+  pub text : List ℕ
+
+-- the party with all that is told of the end: not whether it was opened plainly, nor its request
+abbrev pub party_of : EndView → Party
+party_of e =
+    record {
+      is_open = true;
+      client = e.client;
+      sender = e.sender;
+      plain = false;
+      mode = e.mode;
+      request = no_request;
+      peer = e.peer;
+      size = e.size;
+      number = e.number;
+      done = e.done;
+      failed = e.failed;
+      text = e.text;
+    }
+
+-- what is to be told of the party x at this endpoint
+abbrev pub view_of : Endpoint → Party → EndView
+view_of a x =
+    record {
+      address = a;
+      client = x.client;
+      sender = x.sender;
+      mode = x.mode;
+      peer = x.peer;
+      size = x.size;
+      number = x.number;
+      done = x.done;
+      failed = x.failed;
+      text = x.text;
+    }
+
+-- the end tells of this party; of a receiver that failed only a beginning of its text
+pub record Matches (e : EndView) (x : Party) : Type 0 where
+  pub is_open : x.is_open ≡ true
+  pub client : x.client ≡ e.client
+  pub sender : x.sender ≡ e.sender
+  pub mode : x.mode ≡ e.mode
+  pub peer : x.peer ≡ e.peer
+  pub size : x.size ≡ e.size
+  pub number : x.number ≡ e.number
+  pub done : x.done ≡ e.done
+  pub failed : x.failed ≡ e.failed
+  pub beginning : IsBeginningOf e.text x.text
+  pub whole : e.done ≡ true → x.text ≡ e.text
+  pub live : e.done ≡ false → e.failed ≡ false → x.text ≡ e.text
+  pub sent : e.sender ≡ true → x.text ≡ e.text
+
+-- the ends by their places, of which place k has port 1024 + k, and all that was sent,
+-- are those of the machine
+pub record Shows (views : List EndView) (messages : List Message) (m : Machine) : Type 0 where
+  pub sent : m.sent ≡ messages
+  pub ends : (k : ℕ) (e : EndView) → slice_get views k ≡ Some e →
+      Matches e (m.party e.address) × (e.address.port ≡ 1024 + k)
+  pub only : (a : Endpoint) → (m.party a).is_open ≡ true →
+      (k : ℕ) × (e : EndView) × (slice_get views k ≡ Some e) × (e.address ≡ a)
+
+-- they are those of a machine that keeps its facts
+abbrev pub IsShown : List EndView → List Message → Type 0
+IsShown views messages = (m : Machine) × Holds m × AreRecorded m × Shows views messages m
+
+-- the rules may act one after another at this endpoint, where x is the end, by what was sent before
+abbrev pub ActInTurn : List Rule → Endpoint → List Message → Party → Type 0
+ActInTurn [] at sent x = Unit {0}
+ActInTurn (r ∷ rs) at sent x = (actor r ≡ at) × MayAct r sent x × ActInTurn rs at sent (party_after r x)
+
+-- what the end is then
+abbrev pub party_then : List Rule → Party → Party
+party_then [] x = x
+party_then (r ∷ rs) x = party_then rs (party_after r x)
+
+-- what they send
+abbrev pub sent_by : List Rule → Party → List Message
+sent_by [] x = []
+sent_by (r ∷ rs) x = packets r x ++ sent_by rs (party_after r x)
+
+-- the rule opens an end
+abbrev pub Opens : Rule → Type 0
+Opens (Asks at write request text) = Unit {0}
+Opens (Opens_plainly at peer write request text) = Unit {0}
+Opens (Opens_with at peer write request text size) = Unit {0}
+Opens _ = ⊥
+
+-- the rule changes no end
+abbrev pub Speaks : Rule → Type 0
+Speaks (Says_error at to) = Unit {0}
+Speaks (Repeats old) = Unit {0}
+Speaks (Strays stray) = Unit {0}
+Speaks _ = ⊥

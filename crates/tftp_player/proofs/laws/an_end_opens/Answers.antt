@@ -1,6 +1,0 @@
--- The lemma that is the law.
-use Rattle.tftp_player.proofs.Shown.{shown_opens}
-use Rattle.tftp_player.proofs.laws.an_end_opens.Goals as goal
-
-pub returns : goal.returns
-returns g = shown_opens
