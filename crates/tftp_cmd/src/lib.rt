@@ -1,5 +1,5 @@
-//! What the four TFTP programs do, under one name: those over text are `tftp_text`'s, the client over
-//! UDP is `tftp_client`'s and the server `tftp_daemon`'s.
+//! What the four TFTP programs do, under one name: `tftp-show` is `tftp_show`'s, `tftp-play` is
+//! `tftp_play`'s, the client over UDP is `tftp_client`'s and the server `tftp_daemon`'s.
 //!
 //! Begin with [`show_run`], [`play_run`], [`tftp_words`] and [`tftpd_words`].
 #![tactic(auto)]
@@ -10,6 +10,5 @@ pub use tftp_host::{
     ClientEnd, LONGEST_WAIT, LineClock, LogLine, Port, Printed, ProgressLine, Watch, deadline,
     fallback, is_due, place_of, wait_for,
 };
-pub use tftp_text::{
-    play_command, play_run, play_words, show_command, show_lines, show_run, show_words,
-};
+pub use tftp_play::{play_command, play_run, play_words};
+pub use tftp_show::{show_command, show_lines, show_run, show_words};

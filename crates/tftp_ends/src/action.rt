@@ -5,7 +5,7 @@ use crate::outcome::Outcome;
 use crate::phase::Terms;
 
 /// What is to be done at an event.
-#[derive(Clone, Copy, Debug, PartialEq, Eq)]
+#[derive(Clone, Copy)]
 pub enum Action {
     /// No file is touched.
     Respond(Response),
@@ -17,7 +17,7 @@ pub enum Action {
 }
 
 /// What is to be done where no file is touched.
-#[derive(Clone, Copy, Debug, PartialEq, Eq)]
+#[derive(Clone, Copy)]
 pub enum Response {
     /// No datagram and no change.
     Ignore,

@@ -10,7 +10,7 @@ use crate::record::Step;
 use tftp_negotiate::Asked;
 
 /// What the two ends of a transfer agreed on: at a client, once it has taken its peer.
-#[derive(Clone, Copy, Debug, PartialEq, Eq)]
+#[derive(Clone, Copy, Debug)]
 pub struct Terms {
     /// The other end. A datagram from any other is a stranger's.
     pub peer: Endpoint,
@@ -23,7 +23,7 @@ pub struct Terms {
 }
 
 /// Whether a dallying receiver has seen its first timeout (RFC 1350, section 6).
-#[derive(Clone, Copy, Debug, PartialEq, Eq)]
+#[derive(Clone, Copy, Debug)]
 pub enum Dally {
     /// No timeout yet.
     Fresh,
@@ -41,7 +41,7 @@ pub enum Dally {
 ///
 ///   any ──ERROR, silence, a fault──> Closed
 /// ```
-#[derive(Clone, Copy, Debug, PartialEq, Eq)]
+#[derive(Clone, Copy, Debug)]
 pub enum Phase {
     /// A client that waits for the first answer to its request.
     Waiting {

@@ -4,7 +4,7 @@ use crate::side::Side;
 use tftp_wire::Mode;
 
 /// What an end is: none of it changes after the opening.
-#[derive(Clone, Copy, Debug, PartialEq, Eq)]
+#[derive(Clone, Copy, Debug)]
 pub(crate) struct Role {
     /// Which end of which transfer.
     pub(crate) side: Side,

@@ -47,7 +47,7 @@ impl Name {
 }
 
 /// A set of known names.
-#[derive(Clone, Copy, Debug)]
+#[derive(Clone, Copy)]
 pub(crate) struct Names {
     blksize: bool,
     timeout: bool,

@@ -13,7 +13,7 @@ use crate::refusal::Refusal;
 use tftp_wire::{Mode, OptionRef};
 
 /// The rules of one side of a negotiation, with what they depend on.
-#[derive(Clone, Copy, Debug)]
+#[derive(Clone, Copy)]
 pub(crate) enum Policy {
     /// The server, which answers a request. `length` is that of the file to be read, in bytes
     /// of wire text.

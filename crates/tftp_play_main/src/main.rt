@@ -4,5 +4,5 @@
 use std::process::ExitCode;
 
 fn main(rt: HostRuntime) -> ExitCode {
-    ExitCode::from(tftp_text::play_command(&rt, rt.stderr()))
+    ExitCode::from(tftp_play::play_command(&rt, rt.stderr()))
 }

@@ -1,7 +1,8 @@
 //! Command lines of the programs, and their statuses.
 
 use crate::expect::{expect_bytes, expect_equal};
-use tftp_text::{play_words, show_words};
+use tftp_play::play_words;
+use tftp_show::show_words;
 
 /// A word behind the program's name, and the status: `tftp-show` takes no argument but these two.
 const SHOW: [(&str, u8); 4] = [

@@ -1,4 +1,5 @@
-//! The tests of the programs' functions, over the public calls of `tftp_text` and `tftp_host`.
+//! The tests of the programs' functions, over the public calls of `tftp_show`,
+//! `tftp_play` and `tftp_host`.
 #![tactic(auto)]
 
 #[cfg(test)]

@@ -5,7 +5,7 @@ use crate::expect::{expect, expect_bytes, expect_equal};
 use crate::faulty_streams::{Breaks, Full};
 use crate::playing::plays;
 use std::test::Fail;
-use tftp_text::play_run;
+use tftp_play::play_run;
 
 #[test]
 fn play_first(rt: HostRuntime) -> Result<(), Fail> {

@@ -4,7 +4,7 @@ use crate::expect::{expect, expect_equal, expect_text};
 use std::alloc::Global;
 use std::process::Abort;
 use std::test::Fail;
-use tftp_text::play_run;
+use tftp_play::play_run;
 
 /// The script prints this, with this status and no message.
 pub(crate) fn plays(

@@ -4,7 +4,7 @@ use crate::expect::expect;
 use std::alloc::Global;
 use std::process::Abort;
 use std::test::Fail;
-use tftp_text::play_run;
+use tftp_play::play_run;
 
 /// Reads and writes in both modes, with and without options, two writes of one name, and 10,000 events.
 const KEPT: &str = "\

@@ -4,7 +4,7 @@ use crate::expect::expect_equal;
 use std::alloc::Global;
 use std::process::Abort;
 use std::test::Fail;
-use tftp_text::play_run;
+use tftp_play::play_run;
 
 /// Scripts, and the number of their first faulty line.
 const FAULTS: [(&[u8], usize); 82] = [

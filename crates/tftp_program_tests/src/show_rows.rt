@@ -5,7 +5,7 @@ use crate::faulty_streams::{Breaks, Full};
 use std::alloc::Global;
 use std::process::Abort;
 use std::test::Fail;
-use tftp_text::{show_lines, show_run};
+use tftp_show::{show_lines, show_run};
 
 /// Datagrams as hexadecimal digits, and what is printed for them; written by hand from RFC 1350,
 /// section 5, and RFC 2347, "Packet Formats".

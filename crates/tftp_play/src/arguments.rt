@@ -1,0 +1,74 @@
+//! The command line of `tftp-play`.
+
+ghost use Rattle.std.specs.Prelude.{◌≤◌};
+
+use crate::play::{PlayFault, play_run};
+use clap::{Arg, Command};
+use std::alloc::{AllocError, Global};
+use std::convert::AsStr;
+use std::io::Write;
+use std::rt::Runtime;
+use std::{fs, io};
+use tftp_arguments::{own_words, print_usage};
+
+/// Runs `tftp-play` with the program's own command line, and returns its status. `errors` is
+/// standard error.
+///
+/// See [`play_words`].
+pub fn play_command<R: Runtime + AllocGlobal, E: Write + Drop>(rt: &R, errors: E) -> u8
+    ensures { result ≤ 2 }
+{
+    match own_words(rt) {
+        Ok(words) => play_words(rt, words.as_slice(), errors),
+        Err(_) => 2,
+    }
+}
+
+/// Runs `tftp-play` as a command line says, and returns its status. The first word is the program's
+/// name. The script is the file that the second names, or standard input; `errors` is standard
+/// error.
+///
+/// `--help` and `--version` print and return 0. A command line that is not understood and a script
+/// that cannot be opened or read are reported on standard error with status 2. Out of memory is
+/// status 2 too.
+pub fn play_words<R: Runtime + AllocGlobal, S: AsStr, E: Write + Drop>(
+    rt: &R,
+    words: &[S],
+    mut errors: E,
+) -> u8
+    ensures { result ≤ 2 }
+{
+    let Ok(command) = play_syntax(rt.alloc()) else {
+        return PlayFault::Memory.report(&mut errors);
+    };
+    match command.try_get_matches_from(words) {
+        Ok(matches) => play_script(rt, matches.get_str("SCRIPT"), errors),
+        Err(error) => print_usage(rt, &error),
+    }
+}
+
+/// The command line of `tftp-play`.
+fn play_syntax<'a>(alloc: Global) -> Result<Command<'a>, AllocError> {
+    let script = Arg::new(alloc, "SCRIPT").help("The script; standard input if there is none");
+    Command::new(alloc, "tftp-play")
+        .about("Plays a script of TFTP transfers over a lossy network in memory")
+        .version("0.1.0")
+        .arg(script)
+}
+
+/// Plays the script in the file at the path, or on standard input.
+fn play_script<R: Runtime + AllocGlobal, E: Write + Drop>(
+    rt: &R,
+    path: Option<&str>,
+    mut errors: E,
+) -> u8
+    ensures { result ≤ 2 }
+{
+    let Some(path) = path else {
+        return play_run(rt.alloc(), rt.reader(), io::writer(rt), errors);
+    };
+    match fs::open(rt, path) {
+        Ok(script) => play_run(rt.alloc(), script, io::writer(rt), errors),
+        Err(error) => PlayFault::of_reading(&error).report(&mut errors),
+    }
+}

@@ -1,0 +1,10 @@
+//! `tftp-play`: a script of TFTP transfers is played in a world of its own, and what happens is printed.
+//!
+//! Begin with [`play_run`]. It opens no socket; a program's `main` only hands in the system.
+#![tactic(auto)]
+
+mod arguments;
+mod play;
+
+pub use arguments::{play_command, play_words};
+pub use play::play_run;

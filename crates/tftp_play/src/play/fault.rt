@@ -1,0 +1,105 @@
+//! Why a script is not played to its end, and what is printed then.
+
+ghost use Rattle.std.specs.Prelude.{◌≡◌, ◌≢◌, ◌⊎◌, IsTrue, ◌↔◌};
+ghost use Rattle.std.specs.IoError.{error_kind};
+ghost use Rattle.std.specs.declared.io.ErrorKind.TheVariants as error_kinds;
+ghost use Rattle.tftp_play.specs.declared.play.fault.PlayFault.TheVariants.{Memory, Unreadable};
+ghost use Rattle.tftp_play.specs.declared.play.fault.PlayFault.TheVariants.{Unwritable};
+ghost use Rattle.tftp_play.specs.Play.{play_fault_of};
+
+use std::alloc::AllocError;
+use std::fmt;
+use std::io::{self, ErrorKind, Write};
+use tftp_script::ScriptFault;
+
+/// Why a script was not played to its end.
+#[derive(Clone, Copy)]
+pub(crate) enum PlayFault {
+    /// The script could not be opened or read.
+    Unreadable,
+    /// The first faulty line of the script, counted from 1.
+    Line(usize),
+    /// Writing failed.
+    Unwritable,
+    /// An allocation failed.
+    Memory,
+}
+
+impl PlayFault {
+    /// The fault where opening or reading a script gave this error.
+    pub(crate) fn of_reading(error: &io::Error) -> PlayFault
+        ensures memory { error_kind error.now ≡ ErrorKind.OutOfMemory → result ≡ Memory }
+        ensures unreadable { error_kind error.now ≢ ErrorKind.OutOfMemory → result ≡ Unreadable }
+        ensures either { (result ≡ Memory) ⊎ (result ≡ Unreadable) }
+    {
+        if is_out_of_memory(error) {
+            PlayFault::Memory
+        } else {
+            PlayFault::Unreadable
+        }
+    }
+
+    /// Writes the message of the fault, and returns the status of the program.
+    pub(crate) fn report<E: Write>(self, errors: &mut E) -> u8
+        ensures { result ≡ 2 }
+    {
+        let _ = writeln!(errors, "{self}");
+        2
+    }
+}
+
+impl fmt::Display for PlayFault {
+    ghost use Rattle.std.specs.Prelude.{Some};
+    ghost use Rattle.tftp_play.specs.Play.{fault_text};
+
+    ghost output = { λ fault. Some (fault_text fault) };
+
+    fn fmt<W: fmt::Write>(&self, f: &mut fmt::Formatter<W>) -> fmt::Result {
+        match self {
+            PlayFault::Unreadable => write!(f, "script: unreadable"),
+            PlayFault::Line(number) => write!(f, "line {number}: fault"),
+            PlayFault::Unwritable => write!(f, "output: unwritable"),
+            PlayFault::Memory => write!(f, "out of memory"),
+        }
+    }
+}
+
+impl From<ScriptFault> for PlayFault {
+    ghost from_gives = { λ script_fault fault. fault ≡ play_fault_of script_fault };
+
+    fn from(fault: ScriptFault) -> PlayFault {
+        match fault {
+            ScriptFault::Line(number) => PlayFault::Line(number),
+            ScriptFault::Memory => PlayFault::Memory,
+        }
+    }
+}
+
+impl From<AllocError> for PlayFault {
+    ghost from_gives = { λ _ fault. fault ≡ Memory };
+
+    fn from(_error: AllocError) -> PlayFault {
+        PlayFault::Memory
+    }
+}
+
+/// The fault where writing gave this error.
+impl From<io::Error> for PlayFault {
+    ghost from_gives = { λ error fault.
+        (error_kind error ≡ error_kinds.OutOfMemory → fault ≡ Memory)
+        × (error_kind error ≢ error_kinds.OutOfMemory → fault ≡ Unwritable) };
+
+    fn from(error: io::Error) -> PlayFault {
+        if is_out_of_memory(&error) {
+            PlayFault::Memory
+        } else {
+            PlayFault::Unwritable
+        }
+    }
+}
+
+fn is_out_of_memory(error: &io::Error) -> bool
+    ensures { IsTrue result ↔ (error_kind error.now ≡ ErrorKind.OutOfMemory) }
+{
+    error.kind() == ErrorKind::OutOfMemory
+}

@@ -1,0 +1,161 @@
+//! The run of a script: its statements are events of a world, and what they did is printed.
+
+ghost use Rattle.std.specs.Prelude.{◌≡◌, true};
+ghost use Rattle.tftp_player.specs.Arriving.{IsPlayable};
+ghost use Rattle.tftp_server.specs.Config.{IsConfig};
+ghost use Rattle.tftp_store.specs.Memory.{contents, has_distinct_paths};
+
+use crate::play::PlayFault;
+use crate::play::datagram_line::DatagramLine;
+use rand_core::SeedableRng;
+use rand_pcg::Pcg32;
+use std::alloc::{AllocError, Global};
+use std::io::{BufWriter, Write};
+use tftp_ends::{Record, Side};
+use tftp_file::Path;
+use tftp_player::{Event, Report, World, WorldFault, draw};
+use tftp_script::Statement;
+use tftp_server::Config;
+
+/// Most deliveries of one settling.
+const MAX_SETTLED: usize = 1_000_000;
+
+/// A script that runs: its world, and the output that says what happened in it.
+#[derive(Drop)]
+pub(crate) struct ScriptRun<W: Write + Drop> {
+    world: World,
+    line: DatagramLine,
+    output: BufWriter<W>,
+}
+
+impl<W: Write + Drop> ScriptRun<W> {
+    /// A world in which nothing has happened.
+    pub(crate) fn new(
+        alloc: Global,
+        files: Vec<(Path, Vec<u8>)>,
+        config: Config,
+        output: W,
+    ) -> Result<ScriptRun<W>, PlayFault>
+        requires distinct { has_distinct_paths (contents files.items) ≡ true }
+        requires valid { IsConfig config }
+    {
+        Ok(ScriptRun {
+            world: World::new(alloc, files, config).map_err(|_| AllocError)?,
+            line: DatagramLine::new(alloc),
+            output: BufWriter::new(alloc, output)?,
+        })
+    }
+
+    /// Executes a statement, and writes what it did.
+    pub(crate) fn execute(&mut self, statement: Statement) -> Result<(), PlayFault> {
+        match statement {
+            Statement::Event(playable) => self.play(playable.into_event()),
+            Statement::Settle(place) => self.settle(place),
+            Statement::Random { seed, count } => self.play_drawn(seed, count),
+        }
+    }
+
+    /// Plays an event, and writes what it did.
+    fn play(&mut self, event: Event) -> Result<(), PlayFault>
+        requires { IsPlayable event }
+    {
+        let effect = self.world.apply(event);
+        self.write_effect(effect)
+    }
+
+    /// Plays so many events that the generator of this seed draws, none while no end was opened.
+    fn play_drawn(&mut self, seed: u64, count: u64) -> Result<(), PlayFault> {
+        let mut rng = Pcg32::seed_from_u64(seed);
+        for _ in 0..count {
+            if let Some(event) = draw(&mut rng, &self.world) {
+                self.play(event)?;
+            }
+        }
+        Ok(())
+    }
+
+    /// Writes how far each end came, and answers whether every client is complete.
+    pub(crate) fn finish(mut self) -> Result<bool, PlayFault> {
+        for (port, record) in self.world.records() {
+            write_end(&mut self.output, *port, record)?;
+        }
+        self.output.flush()?;
+        Ok(self.is_complete())
+    }
+
+    fn is_complete(&self) -> bool {
+        self.world
+            .records()
+            .iter()
+            .all(|(_, record)| record.complete || !record.side.is_client())
+    }
+
+    /// Delivers the datagrams from this place on, until none is left or one is refused.
+    fn settle(&mut self, from: usize) -> Result<(), PlayFault> {
+        for place in from..from.saturating_add(MAX_SETTLED) {
+            match self.world.apply(Event::Deliver(place)) {
+                Ok(report) => self.write_report(&report)?,
+                Err(WorldFault::NoSuchDatagram) => return Ok(()),
+                Err(fault) => return self.write_effect(Err(fault)),
+            }
+        }
+        Ok(())
+    }
+
+    fn write_effect(&mut self, effect: Result<Report, WorldFault>) -> Result<(), PlayFault> {
+        match effect {
+            Ok(report) => self.write_report(&report),
+            Err(fault) => Ok(writeln!(self.output, "refused {fault:?}")?),
+        }
+    }
+
+    fn write_report(&mut self, report: &Report) -> Result<(), PlayFault> {
+        if let Some(place) = report.added {
+            self.write_datagram(place)?;
+        }
+        if let Some((port, outcome)) = report.closed {
+            writeln!(self.output, "closed {port} {outcome}")?;
+        }
+        if report.added.is_none() && report.closed.is_none() {
+            writeln!(self.output, "-")?;
+        }
+        Ok(())
+    }
+
+    fn write_datagram(&mut self, place: usize) -> Result<(), PlayFault> {
+        let Some(datagram) = self.world.sent().get(place) else {
+            return Ok(());
+        };
+        self.output.write_all(self.line.show(place, datagram)?)?;
+        Ok(())
+    }
+}
+
+/// Writes how far an end came.
+fn write_end<W: Write>(output: &mut W, port: u16, record: &Record) -> Result<(), PlayFault> {
+    let side = side_word(record.side);
+    write!(output, "end {port} {side} peer=")?;
+    match record.peer {
+        Some(peer) => write!(output, "{}", peer.port)?,
+        None => write!(output, "none")?,
+    }
+    let size = record.size;
+    let number = record.number;
+    let complete = if record.complete { "yes" } else { "no" };
+    write!(output, " size={size} number={number} complete={complete} ")?;
+    match record.outcome {
+        Some(outcome) => writeln!(output, "{outcome}")?,
+        None => writeln!(output, "open")?,
+    }
+    Ok(())
+}
+
+/// The word for a side.
+fn side_word(side: Side) -> &'static str {
+    match side {
+        Side::ClientRead => "client-read",
+        Side::ClientWrite => "client-write",
+        Side::ServerRead => "server-read",
+        Side::ServerWrite => "server-write",
+    }
+}

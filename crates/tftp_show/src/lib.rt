@@ -1,0 +1,11 @@
+//! `tftp-show`: TFTP datagrams as text, a line each, from lines of hexadecimal digits.
+//!
+//! Begin with [`show_run`]. It knows packets alone, opens no socket and no file; a program's `main` only
+//! hands in the system.
+#![tactic(auto)]
+
+mod arguments;
+mod show;
+
+pub use arguments::{show_command, show_words};
+pub use show::{show_lines, show_run};

@@ -1,0 +1,100 @@
+//! `tftp-show`: lines of hexadecimal digits in, a line for each datagram out.
+
+mod digits;
+
+ghost use Rattle.std.specs.Prelude.{◌≡◌, ◌≤◌, ◌++◌, ◌⊎◌, IfOk, IfSome, OnOk};
+ghost use Rattle.std.specs.Io.BufRead.{strip_last};
+ghost use Rattle.std.specs.Io.KnownBytes.{Appends};
+ghost use Rattle.std.specs.String.{string_bytes};
+ghost use Rattle.hex.specs.Hex.{decode_of};
+ghost use Rattle.tftp_show.specs.Show.{line_shown, spells_packet, are_packets, input_shown, status_of};
+
+use crate::show::digits::decode_digits;
+use std::alloc::{AllocError, Global};
+use std::io::{self, BufRead, BufReader, BufWriter, ErrorKind, Read, Write};
+use tftp_wire::show_datagram;
+
+/// Reads lines of hexadecimal digits, each a datagram, and writes for each its packet, or
+/// `fault KIND AT`, or `not hex`.
+///
+/// The status is 0 if all lines were packets, 1 if not, and 2 if reading or writing failed or the
+/// run was out of memory. Memory is bounded by the longest line.
+pub fn show_run<R: Read + Drop, W: Write + Drop>(alloc: Global, input: R, output: W) -> u8
+    ensures bound { result ≤ 2 }
+    ensures known { IfSome (R.remaining input) (λ all. (result ≡ status_of all) ⊎ (result ≡ 2)) }
+{
+    match show_buffered(alloc, input, output) {
+        Ok(true) => 0,
+        Ok(false) => 1,
+        Err(_) => 2,
+    }
+}
+
+fn show_buffered<R: Read + Drop, W: Write + Drop>(
+    alloc: Global,
+    input: R,
+    output: W,
+) -> io::Result<bool>
+    ensures { IfOk result (λ packets. IfSome (R.remaining input) (λ all.
+        packets ≡ are_packets all)) }
+{
+    let mut input = BufReader::new(alloc, input)?;
+    let mut output = BufWriter::new(alloc, output)?;
+    show_lines(alloc, &mut input, &mut output)
+}
+
+/// Writes a line for each line of the input, to its end, and answers whether all were packets.
+///
+/// It fails if reading or writing fails or when out of memory; whole lines may then be written.
+pub fn show_lines<R: BufRead, W: Write>(
+    alloc: Global,
+    input: &mut R,
+    output: &mut W,
+) -> io::Result<bool>
+    ensures written { OnOk result (IfSome (R.remaining input.old) (λ all.
+        Appends (W.contents output.old) (W.contents output.new) (input_shown all))) }
+    ensures packets { IfOk result (λ packets. IfSome (R.remaining input.old) (λ all.
+        packets ≡ are_packets all)) }
+{
+    let mut line = Vec::new(alloc);
+    let mut bytes = Vec::new(alloc);
+    let mut text = String::new(alloc);
+    let mut packets = true;
+    for _ in 0..u64::MAX {
+        line.clear();
+        if input.read_until(b'\n', &mut line)? == 0 {
+            output.flush()?;
+            return Ok(packets);
+        }
+        text.clear();
+        packets &= show_line(without_end(line.as_slice()), &mut bytes, &mut text)?;
+        text.push('\n')?;
+        output.write_all(text.as_bytes())?;
+    }
+    Err(io::Error::from(ErrorKind::Other))
+}
+
+/// The line without its line feed.
+fn without_end(line: &[u8]) -> &[u8]
+    ensures { result.now ≡ strip_last 10 line.now }
+{
+    match line {
+        [front @ .., b'\n'] => front,
+        _ => line,
+    }
+}
+
+/// Appends what a line of digits holds, and answers whether that is a packet. The bytes are room to
+/// work in.
+fn show_line(digits: &[u8], bytes: &mut Vec<u8>, text: &mut String) -> Result<bool, AllocError>
+    ensures is_packet { IfOk result (λ is_packet.
+        is_packet ≡ spells_packet (decode_of digits.now)) }
+    ensures appended { OnOk result
+        (string_bytes text.new ≡ string_bytes text.old ++ line_shown digits.now) }
+{
+    if !decode_digits(digits, bytes)? {
+        text.push_str("not hex")?;
+        return Ok(false);
+    }
+    show_datagram(bytes.as_slice(), text).map_err(|_| AllocError)
+}

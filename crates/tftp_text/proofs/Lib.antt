@@ -1,4 +1,0 @@
-pub mod ScriptLemmas
-pub mod ShowLemmas
-pub mod DigitsLemmas
-pub mod PlayableLemmas

@@ -1,6 +1,0 @@
--- The pairs before the place are decoded, as far as they are digits.
-use Rattle.tftp_text.proofs.DigitsLemmas.{PairsSoFar}
-use Rattle.tftp_text.proofs.show.digits.decode_pairs.Given as goal
-
-abbrev pub invariant-loop-i : goal.invariant-loop-i
-invariant-loop-i l = PairsSoFar l.digits l.bytes l.i l.largest
