@@ -267,7 +267,8 @@ fn stored<S, R: FileSystem + Drop>(files: &Files<S, LocalFile<R>>) -> Option<u64
     }
 }
 
-/// What a transfer that ended so comes to: the bytes of the file on this host, or why there are none.
+/// What a transfer that ended so comes to: the bytes of the file on this host, or why there are
+/// none.
 fn ended<R: FileSystem + Drop>(
     outcome: Outcome,
     files: Files<LocalSource<R::File>, LocalFile<R>>,

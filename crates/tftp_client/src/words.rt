@@ -23,7 +23,8 @@ Examples:
   tftp get 192.0.2.1:69 boot.img boot.img --blksize 1428 --tsize --progress
   tftp put 127.0.0.1:6969 notes.txt notes.txt --netascii";
 
-/// Runs `tftp` with the program's own command line, and returns its status. `errors` is standard error.
+/// Runs `tftp` with the program's own command line, and returns its status. `errors` is standard
+/// error.
 ///
 /// See [`tftp_words`].
 pub fn tftp_command<R: Runtime + AllocGlobal + Net, E: IsTerminal>(rt: &R, errors: &E) -> u8
@@ -35,12 +36,13 @@ pub fn tftp_command<R: Runtime + AllocGlobal + Net, E: IsTerminal>(rt: &R, error
     }
 }
 
-/// Runs `tftp` as a command line says, and returns its status. The first word is the program's name;
-/// `errors` is standard error, on which how far a transfer came is shown where it is a terminal.
+/// Runs `tftp` as a command line says, and returns its status. The first word is the program's
+/// name; `errors` is standard error, on which how far a transfer came is shown where it is a
+/// terminal.
 ///
-/// `--help` and `--version` print and return 0. The status is that of the [`ClientEnd`] whose line is
-/// printed, and 2 for a command line that is not understood, which is reported on standard error, when
-/// out of memory, and where an output cannot be written.
+/// `--help` and `--version` print and return 0. The status is that of the [`ClientEnd`] whose line
+/// is printed, and 2 for a command line that is not understood, which is reported on standard
+/// error, when out of memory, and where an output cannot be written.
 pub fn tftp_words<R: Runtime + AllocGlobal + Net, S: AsStr, E: IsTerminal>(
     rt: &R,
     words: &[S],

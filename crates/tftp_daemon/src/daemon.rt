@@ -202,7 +202,8 @@ impl<R: Files + Drop> Daemon<R> {
         Ok(())
     }
 
-    /// Waits once, and takes what came and what is due. `left` counts the transfers that are yet to close.
+    /// Waits once, and takes what came and what is due. `left` counts the transfers that are yet to
+    /// close.
     fn take_round<N: Udp + Clock + Print + Eprint>(
         &mut self,
         rt: &N,
@@ -251,8 +252,8 @@ impl<R: Files + Drop> Daemon<R> {
         }
     }
 
-    /// Takes a datagram that came to the request port. One that may open a transfer is lost where no port
-    /// can be bound for it.
+    /// Takes a datagram that came to the request port. One that may open a transfer is lost where
+    /// no port can be bound for it.
     fn take_request<N: Udp + Eprint>(&mut self, rt: &N, from: Endpoint, bytes: &[u8]) {
         if let Some(tid) = self.port_for(rt, from, bytes) {
             self.handle_request(rt, from, tid, bytes);
@@ -324,8 +325,8 @@ impl<R: Files + Drop> Daemon<R> {
         }
     }
 
-    /// Writes the line of a request that opened a transfer at the port, where there is a log; what its
-    /// close is to say of it.
+    /// Writes the line of a request that opened a transfer at the port, where there is a log; what
+    /// its close is to say of it.
     fn log_opened<E: Eprint>(
         &self,
         rt: &E,
@@ -343,7 +344,8 @@ impl<R: Files + Drop> Daemon<R> {
         Some(entry)
     }
 
-    /// Takes what came to the ports of transfers. `left` counts the transfers that are yet to close.
+    /// Takes what came to the ports of transfers. `left` counts the transfers that are yet to
+    /// close.
     fn take_transfers<P: Print + Eprint>(
         &mut self,
         rt: &P,
@@ -401,7 +403,8 @@ impl<R: Files + Drop> Daemon<R> {
         Ok(left)
     }
 
-    /// Takes a timeout at the port, if it is due and nothing came; answers whether its transfer closed.
+    /// Takes a timeout at the port, if it is due and nothing came; answers whether its transfer
+    /// closed.
     fn is_over(&mut self, place: usize, buffer: &mut [u8]) -> bool {
         let now = self.sockets.watch.now;
         let Some(port) = self.ports.get_mut(place) else {

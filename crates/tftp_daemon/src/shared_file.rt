@@ -46,7 +46,8 @@ pub(crate) enum PortFile<F: Read + Write + Drop> {
 }
 
 impl<F: Read + Write + Drop> PortFile<F> {
-    /// Has the file do its work behind a datagram: the next block is read, or what was taken is written.
+    /// Has the file do its work behind a datagram: the next block is read, or what was taken is
+    /// written.
     pub(crate) fn work(&self) {
         match self {
             PortFile::Read(ahead) => work_in(ahead),

@@ -35,11 +35,12 @@ pub fn tftpd_command<R: Runtime + AllocGlobal + Net>(rt: &R) -> u8
     }
 }
 
-/// Runs `tftpd` as a command line says, and returns its status. The first word is the program's name.
+/// Runs `tftpd` as a command line says, and returns its status. The first word is the program's
+/// name.
 ///
-/// `--help` and `--version` print and return 0. The status is 2 for a command line that is not understood, a
-/// root that is no folder, a port that cannot be bound and output that cannot be written, each reported
-/// on standard error, and when out of memory.
+/// `--help` and `--version` print and return 0. The status is 2 for a command line that is not
+/// understood, a root that is no folder, a port that cannot be bound and output that cannot be
+/// written, each reported on standard error, and when out of memory.
 pub fn tftpd_words<R: Runtime + AllocGlobal + Net, S: AsStr>(rt: &R, words: &[S]) -> u8
     ensures { result ≤ 2 }
 {

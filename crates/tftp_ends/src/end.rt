@@ -6,7 +6,8 @@ mod sending;
 mod serving;
 mod storing;
 
-ghost use Rattle.std.specs.Prelude.{◌≡◌, ◌↔◌, ◌+◌, ◌++◌, ◌≤◌, drop, length, option_map, Option, IfOk, OnErr, IsErrOf, IsSome, is_some, vec_len, vec_capacity};
+ghost use Rattle.std.specs.Prelude.{◌≡◌, ◌↔◌, ◌+◌, ◌++◌, ◌≤◌, drop, length, option_map, Option};
+ghost use Rattle.std.specs.Prelude.{IfOk, OnErr, IsErrOf, IsSome, is_some, vec_len, vec_capacity};
 ghost use Rattle.tftp_wire.specs.Borrowed.{owned};
 ghost use Rattle.tftp_wire.specs.declared.packet.Packet.{Packet};
 
@@ -79,10 +80,14 @@ impl Model for End {
 
 impl End {
     ghost use Rattle.tftp_ends.specs.End.{record_of, held_by, outcome_of, terms_of, interval_of};
-    ghost use Rattle.tftp_ends.specs.Action.{Decodes, datagram_action, packet_action, garbled_response, is_stranger, timeout_response, timeout_action};
-    ghost use Rattle.tftp_ends.specs.Sound.{IsSound, ActionFits, PieceFits, RefusalFits, ResponseFits, ResendsAck, longest_sent};
+    ghost use Rattle.tftp_ends.specs.Action.{Decodes, datagram_action, packet_action};
+    ghost use Rattle.tftp_ends.specs.Action.{garbled_response, is_stranger, timeout_response};
+    ghost use Rattle.tftp_ends.specs.Action.{timeout_action};
+    ghost use Rattle.tftp_ends.specs.Sound.{IsSound, ActionFits, PieceFits, RefusalFits};
+    ghost use Rattle.tftp_ends.specs.Sound.{ResponseFits, ResendsAck, longest_sent};
     ghost use Rattle.tftp_ends.specs.Files.{AreFilesOf, KeepsFiles, AreSame};
-    ghost use Rattle.tftp_ends.specs.Step.{Turn, DatagramStep, Carries, Lends, IsAnswered, UsesFile, told, timeout_turn, lent};
+    ghost use Rattle.tftp_ends.specs.Step.{Turn, DatagramStep, Carries, Lends, IsAnswered};
+    ghost use Rattle.tftp_ends.specs.Step.{UsesFile, told, timeout_turn, lent};
 
     /// How far the end came. What a repeated block is answered by is the ACK of the number.
     pub fn record(&self) -> Record

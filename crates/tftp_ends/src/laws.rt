@@ -4,7 +4,9 @@
 ghost use Rattle.std.specs.Prelude.{◌≡◌, ◌+◌, ◌*◌, ◌≤◌, ℕ, List, length, true};
 ghost use Rattle.tftp_ends.specs.End.{EndState, is_sender};
 ghost use Rattle.tftp_ends.specs.Laws.{DecodedBegins, DecodedEnds};
-ghost use Rattle.tftp_ends.specs.Run.{IsOpening, IsOpen, IsRun, AnswersByProgress, Taken, end_behind, progress_count, timeout_count, data_count, datagram_count, count_if, opened_by_data};
+ghost use Rattle.tftp_ends.specs.Run.{IsOpening, IsOpen, IsRun, AnswersByProgress, Taken};
+ghost use Rattle.tftp_ends.specs.Run.{end_behind, progress_count, timeout_count, data_count};
+ghost use Rattle.tftp_ends.specs.Run.{datagram_count, count_if, opened_by_data};
 
 use tftp_file::{Sink, Source};
 

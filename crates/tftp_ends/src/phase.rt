@@ -1,7 +1,8 @@
 //! Where an end stands between two events.
 
 ghost use Rattle.std.specs.Prelude.{◌≡◌, if◌then◌else◌};
-ghost use Rattle.tftp_ends.specs.End.{terms_of, number_of, is_complete, outcome_of, is_progress, step_of};
+ghost use Rattle.tftp_ends.specs.End.{terms_of, number_of, is_complete, outcome_of, is_progress};
+ghost use Rattle.tftp_ends.specs.End.{step_of};
 ghost use Rattle.tftp_ends.specs.Phase.{closed, refused, completed, waited};
 
 use crate::endpoint::Endpoint;

@@ -5,7 +5,8 @@ ghost use Rattle.tftp_wire.specs.Borrowed.{owned};
 ghost use Rattle.tftp_ends.specs.End.{is_client};
 ghost use Rattle.tftp_ends.specs.Sound.{FitsReceiver, IsReceivers};
 ghost use Rattle.tftp_ends.specs.Text.{is_readable};
-ghost use Rattle.tftp_ends.specs.Receiver.{next_action, data_action, receiver_action, dally_response};
+ghost use Rattle.tftp_ends.specs.Receiver.{next_action, data_action, receiver_action};
+ghost use Rattle.tftp_ends.specs.Receiver.{dally_response};
 
 use crate::action::{Action, Response};
 use crate::error_reply::ErrorReply;

@@ -1,6 +1,7 @@
 //! The requests of a client: which can be asked for, and their bytes.
 
-ghost use Rattle.std.specs.Prelude.{◌≡◌, ◌≤◌, ◌-◌, ◌^◌, ◌↔◌, length, min, IsTrue, IfOk, vec_capacity};
+ghost use Rattle.std.specs.Prelude.{◌≡◌, ◌≤◌, ◌-◌, ◌^◌, ◌↔◌, length, min, IsTrue, IfOk};
+ghost use Rattle.std.specs.Prelude.{vec_capacity};
 ghost use Rattle.std.specs.List.{AllByRecursion};
 ghost use Rattle.tftp_wire.specs.Options.{IsOption};
 ghost use Rattle.tftp_wire.specs.Spelling.{IsValid, canonical};

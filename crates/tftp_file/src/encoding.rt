@@ -1,6 +1,7 @@
 //! Encodes host bytes until so many wire bytes have come, wherever that cuts a pair.
 
-ghost use Rattle.std.specs.Prelude.{◌≡◌, ◌+◌, ◌≤◌, ◌++◌, ◌∷◌, length, drop, min, option_to_list, Some, vec_len, vec_capacity, IfNone, IfOk, OnErr, []};
+ghost use Rattle.std.specs.Prelude.{◌≡◌, ◌+◌, ◌≤◌, ◌++◌, ◌∷◌, length, drop, min, option_to_list};
+ghost use Rattle.std.specs.Prelude.{Some, vec_len, vec_capacity, IfNone, IfOk, OnErr, []};
 ghost use Rattle.tftp_file.specs.Netascii.{wire_byte};
 ghost use Rattle.tftp_file.specs.Encoding.{netascii_left, text_left};
 ghost use Rattle.tftp_file.specs.Source.{Moved};

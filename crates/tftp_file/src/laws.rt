@@ -1,13 +1,15 @@
 //! What holds of the definitions alone: text that is cut anywhere, blocks, beginnings and names.
 
-ghost use Rattle.std.specs.Prelude.{◌≡◌, ◌+◌, ◌*◌, ◌<◌, ◌≤◌, ◌↔◌, ◌⊎◌, ◌++◌, ℕ, List, [], Ok, length};
+ghost use Rattle.std.specs.Prelude.{◌≡◌, ◌+◌, ◌*◌, ◌<◌, ◌≤◌, ◌↔◌, ◌⊎◌, ◌++◌, ℕ, List, [], Ok};
+ghost use Rattle.std.specs.Prelude.{length};
 ghost use Rattle.std.specs.List.{concat};
 ghost use Rattle.tftp_wire.specs.declared.mode.Mode.{Mode};
 ghost use Rattle.tftp_file.specs.declared.netascii.NetFault.{NetFault};
 ghost use Rattle.tftp_file.specs.Netascii.{wire_text};
 ghost use Rattle.tftp_file.specs.Block.{block, block_count, first_blocks, IsBeginningOf};
 ghost use Rattle.tftp_file.specs.Path.{IsPath, path_of_name, without_slash};
-ghost use Rattle.tftp_file.specs.Decoding.{IsHeld, Decodes, BeginsWireText, FirstWrong, TakesAll, RefusesAt};
+ghost use Rattle.tftp_file.specs.Decoding.{IsHeld, Decodes, BeginsWireText, FirstWrong, TakesAll};
+ghost use Rattle.tftp_file.specs.Decoding.{RefusesAt};
 
 /// Netascii is decoded in the same way wherever it is cut (RFC 764).
 ///

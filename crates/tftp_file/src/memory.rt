@@ -150,7 +150,8 @@ impl MemSink {
 
 impl Sink for MemSink {
     ghost use Rattle.std.specs.Prelude.{Some};
-    ghost use Rattle.std.specs.Prelude.{◌≡◌, ◌≢◌, ◌≤◌, ◌<◌, ◌+◌, ◌++◌, true, false, length, take, Err, IfErr, IsErr, refl};
+    ghost use Rattle.std.specs.Prelude.{◌≡◌, ◌≢◌, ◌≤◌, ◌<◌, ◌+◌, ◌++◌, true, false, length, take};
+    ghost use Rattle.std.specs.Prelude.{Err, IfErr, IsErr, refl};
     ghost use Rattle.std.proofs.Common.{◌∙◌};
     ghost use Rattle.tftp_file.specs.Sink.{Appends, Commits};
     ghost use Rattle.tftp_file.specs.Memory.{IsFull, MayRefuseAppend, MayRefuseCommit, memory_sink};

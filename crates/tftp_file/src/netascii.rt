@@ -1,7 +1,10 @@
 //! Netascii on its way out and in: a line end as CR LF, a CR as CR NUL (RFC 764).
 
-ghost use Rattle.std.specs.Prelude.{◌≡◌, ◌≢◌, ◌≤◌, ◌+◌, ◌++◌, ◌↔◌, ◌∷◌, [], ℕ, List, length, option_to_list, vec_len, vec_capacity, IsOk, IfOk, IfErr, IsErrOf, OnErr, OnOk, MatchOption};
-ghost use Rattle.tftp_file.specs.Decoding.{net_fault_number, held_bytes, IsHeld, Decodes, Refuses, BeginsWireText, IsWrong};
+ghost use Rattle.std.specs.Prelude.{◌≡◌, ◌≢◌, ◌≤◌, ◌+◌, ◌++◌, ◌↔◌, ◌∷◌, [], ℕ, List, length};
+ghost use Rattle.std.specs.Prelude.{option_to_list, vec_len, vec_capacity, IsOk, IfOk, IfErr};
+ghost use Rattle.std.specs.Prelude.{IsErrOf, OnErr, OnOk, MatchOption};
+ghost use Rattle.tftp_file.specs.Decoding.{net_fault_number, held_bytes, IsHeld, Decodes, Refuses};
+ghost use Rattle.tftp_file.specs.Decoding.{BeginsWireText, IsWrong};
 ghost use Rattle.tftp_file.specs.Netascii.{netascii_text, wire_byte};
 ghost use Rattle.tftp_file.specs.Lines.{EndsAtLine};
 ghost use Rattle.tftp_file.specs.declared.netascii.NetFault.TheVariants.{LoneCr, EndsInCr, Memory};

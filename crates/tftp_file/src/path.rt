@@ -3,9 +3,11 @@
 ghost use Rattle.std.specs.Prelude.{◌≡◌, ◌==◌, ℕ, List, IfOk, IfErr, Some, count_by, refl, nat_eq};
 ghost use Rattle.std.specs.Ordering.{nat_cmp};
 ghost use Rattle.std.specs.Cmp.{partial_equiv_from_equiv};
-ghost use Rattle.std.specs.Cmp.Lexicographic.{pointwise, slice_cmp, nat_list_eq_equiv, nat_list_cmp_total, texts_ties, texts_po};
+ghost use Rattle.std.specs.Cmp.Lexicographic.{pointwise, slice_cmp, nat_list_eq_equiv};
+ghost use Rattle.std.specs.Cmp.Lexicographic.{nat_list_cmp_total, texts_ties, texts_po};
 ghost use Rattle.std.specs.List.{list_all, slice_split};
-ghost use Rattle.tftp_file.specs.Path.{path_fault_number, AnswersPath, path_of_name, checked_path, is_segment, is_name_byte, IsPath};
+ghost use Rattle.tftp_file.specs.Path.{path_fault_number, AnswersPath, path_of_name, checked_path};
+ghost use Rattle.tftp_file.specs.Path.{is_segment, is_name_byte, IsPath};
 
 use std::alloc::{AllocError, Global};
 use std::cmp::Ordering;

@@ -19,8 +19,8 @@ pub enum Kept {
 
 /// The bytes of a file that grows at its end. Contracts see them as a list.
 ///
-/// They are shared without a copy ([`FileBytes::share`]). What is appended to bytes that were shared
-/// is seen by this file alone: they are copied first.
+/// They are shared without a copy ([`FileBytes::share`]). What is appended to bytes that were
+/// shared is seen by this file alone: they are copied first.
 #[derive(Debug, Drop)]
 pub struct FileBytes {
     alloc: Global,

@@ -1,12 +1,14 @@
 //! A source over a reader and a sink over a writer: neither keeps the file.
 
-ghost use Rattle.std.specs.Prelude.{◌≡◌, ◌≤◌, ◌<◌, ◌+◌, ◌*◌, false, None, length, take, drop, vec_len, vec_capacity, option_map, Ok, IfOk, IfErr, OnErr};
+ghost use Rattle.std.specs.Prelude.{◌≡◌, ◌≤◌, ◌<◌, ◌+◌, ◌*◌, false, None, length, take, drop};
+ghost use Rattle.std.specs.Prelude.{vec_len, vec_capacity, option_map, Ok, IfOk, IfErr, OnErr};
 ghost use Rattle.std.specs.Io.{ReadsAtMost};
 ghost use Rattle.std.specs.Io.KnownBytes.{Consumes, IsAtEnd};
 ghost use Rattle.tftp_file.specs.Netascii.{wire_text};
 ghost use Rattle.tftp_file.specs.Encoding.{netascii_left, encoding_of};
 ghost use Rattle.tftp_file.specs.Source.{Fills};
-ghost use Rattle.tftp_file.specs.Stream.{source_reader, source_encoding, source_left, text_held, sink_writer, sink_committed, Gives, Writes};
+ghost use Rattle.tftp_file.specs.Stream.{source_reader, source_encoding, source_left, text_held};
+ghost use Rattle.tftp_file.specs.Stream.{sink_writer, sink_committed, Gives, Writes};
 
 use crate::encoding::{Encoded, Encoding, encode};
 use crate::{FileFault, Sink, Source, StoreFault};

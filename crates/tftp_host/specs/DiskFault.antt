@@ -3,7 +3,7 @@ use Rattle.std.specs.Prelude.{◌≡◌, Bool, false}
 use Rattle.tftp_file.specs.declared.fault.StoreFault.{StoreFault}
 use Rattle.tftp_file.specs.declared.fault.StoreFault.TheVariants.{Missing, Exists, Full, Io, Memory}
 
--- a file is not opened: it is not there, it is none that may be served, or memory ran out
+-- a file is not opened: it is not there, it is none that may be served, or out of memory
 abbrev pub MayNotOpen : StoreFault → Type 0
 MayNotOpen Missing = Unit {0}
 MayNotOpen Exists = ⊥

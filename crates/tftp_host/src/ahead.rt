@@ -12,8 +12,9 @@ use tftp_wire::HEADER;
 /// A source over another, whose next block is read before it is asked for: while the peer is busy
 /// with the datagram before it, and not while the peer waits.
 ///
-/// A read that fails ahead answers `Read` when its block is asked for. Out of memory the block stays, and the
-/// next fill has it. Each fill but the first asks for as much as the one before it. It tells no meaning.
+/// A read that fails ahead answers `Read` when its block is asked for. Out of memory the block
+/// stays, and the next fill has it. Each fill but the first asks for as much as the one before it.
+/// It tells no meaning.
 #[derive(Drop)]
 pub struct Ahead<S> {
     source: S,

@@ -1,5 +1,5 @@
-//! What `tftp` and `tftpd` have of their host beside sockets: files of a disk, addresses, the time, and
-//! the lines that they print.
+//! What `tftp` and `tftpd` have of their host beside sockets: files of a disk, addresses, the time,
+//! and the lines that they print.
 //!
 //! Begin with [`Watch`], a program's time, and [`Ahead`], a file that is read a block ahead.
 #![tactic(auto)]

@@ -28,8 +28,8 @@ pub fn endpoint_of(address: SocketAddr) -> Option<Endpoint>
     }
 }
 
-/// A reading of the monotonic clock in milliseconds, or the last one where it cannot be read. What a
-/// clock reads is told by no contract.
+/// A reading of the monotonic clock in milliseconds, or the last one where it cannot be read. What
+/// a clock reads is told by no contract.
 pub fn read_clock(clock: &impl Clock, last: u64) -> u64 {
     match clock.monotonic() {
         Ok(time) => {

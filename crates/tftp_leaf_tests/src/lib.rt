@@ -7,6 +7,8 @@
 #[cfg(test)]
 mod append_rows;
 #[cfg(test)]
+mod asked_rows;
+#[cfg(test)]
 mod calls;
 #[cfg(test)]
 mod cut_rows;

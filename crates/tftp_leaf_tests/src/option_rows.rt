@@ -9,7 +9,7 @@ use std::alloc::{AllocError, Global};
 use std::process::Abort;
 use tftp_negotiate::{
     Agreed, Asked, Kind, Known, Limits, Name, Refusal, accept, accept_ref, check_oack,
-    check_oack_ref, is_block_size, is_timeout,
+    check_oack_ref, is_block_size,
 };
 use tftp_wire::{Mode, OptionsRef, PacketRef, RawOption, decode_ref};
 
@@ -23,7 +23,7 @@ const TIGHT: Limits = Limits {
     max_file: 1000,
 };
 
-const NOTHING: Asked = Asked {
+pub(crate) const NOTHING: Asked = Asked {
     blksize: None,
     timeout: None,
     tsize: None,
@@ -57,13 +57,13 @@ const ALL: Asked = Asked {
     tsize: Some(41),
 };
 
-const READ: Kind = Kind::Read;
+pub(crate) const READ: Kind = Kind::Read;
 
-const WRITE: Kind = Kind::Write;
+pub(crate) const WRITE: Kind = Kind::Write;
 
-const OCTET: Mode = Mode::Octet;
+pub(crate) const OCTET: Mode = Mode::Octet;
 
-const NETASCII: Mode = Mode::Netascii;
+pub(crate) const NETASCII: Mode = Mode::Netascii;
 
 /// Each kind in each mode.
 const DIRECTIONS: [(Kind, Mode); 4] = [
@@ -382,89 +382,6 @@ fn oacks_hold_numbers(rt: HostRuntime) {
         refuses_no_numbers(&rt, rt.alloc(), READ, name);
         refuses_no_numbers(&rt, rt.alloc(), WRITE, name);
     }
-}
-
-/// Block sizes, and whether one may be asked (RFC 2348, "Blocksize Option Specification").
-const SIZES: [(u16, bool); 6] = [
-    (7, false),
-    (8, true),
-    (65_464, true),
-    (65_465, false),
-    (0, false),
-    (65_535, false),
-];
-
-/// Whether the size is for a read, may be asked at all, and is one.
-fn may_be_asked(rt: &impl Abort, size: u16, want: bool) {
-    let asked = Asked {
-        blksize: Some(size),
-        timeout: None,
-        tsize: None,
-    };
-    let is_for_read = asked.is_for(READ, OCTET, 0);
-    let is_size = is_block_size(u64::from(size));
-    let found = (size, is_for_read, asked.is_askable(), is_size);
-    expect_equal(rt, &found, &(size, want, want, want), "blksize");
-}
-
-#[test]
-fn asked_sizes(rt: HostRuntime) {
-    for &(size, want) in &SIZES {
-        may_be_asked(&rt, size, want);
-    }
-}
-
-/// Seconds, and whether they may be asked (RFC 2349, "Timeout Interval Option Specification").
-const SECONDS: [(u8, bool); 3] = [(0, false), (1, true), (255, true)];
-
-#[test]
-fn asked_seconds(rt: HostRuntime) {
-    for &(seconds, want) in &SECONDS {
-        let asked = Asked {
-            blksize: None,
-            timeout: Some(seconds),
-            tsize: None,
-        };
-        let is_for_write = asked.is_for(WRITE, NETASCII, 9);
-        let found = (seconds, is_for_write, is_timeout(u64::from(seconds)));
-        expect_equal(&rt, &found, &(seconds, want, want), "timeout");
-    }
-}
-
-/// Lengths, and whether one may be asked of a file of 9 bytes (RFC 2349, "Transfer Size Option
-/// Specification").
-const ASKED_LENGTHS: [(Kind, Mode, u64, bool); 6] = [
-    (READ, OCTET, 0, true),
-    (READ, OCTET, 9, false),
-    (WRITE, OCTET, 9, true),
-    (WRITE, OCTET, 0, false),
-    (READ, NETASCII, 5, true),
-    (WRITE, NETASCII, 5, true),
-];
-
-#[test]
-fn asked_lengths(rt: HostRuntime) {
-    for &(kind, mode, tsize, want) in &ASKED_LENGTHS {
-        let asked = Asked {
-            blksize: None,
-            timeout: None,
-            tsize: Some(tsize),
-        };
-        let may_ask = (kind, mode, tsize, asked.is_for(kind, mode, 9));
-        expect_equal(&rt, &may_ask, &(kind, mode, tsize, want), "tsize");
-    }
-}
-
-#[test]
-fn nothing_is_asked(rt: HostRuntime) {
-    let rt = &rt;
-    expect(
-        rt,
-        Asked::default().is_for(READ, OCTET, 9),
-        "nothing may be asked",
-    );
-    expect_equal(rt, &Asked::default(), &NOTHING, "the default");
-    expect_equal(rt, &NOTHING.tsize_in(OCTET), &None, "no length");
 }
 
 /// So many options are agreed, with this block size and timeout.

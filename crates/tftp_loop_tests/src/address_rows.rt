@@ -1,5 +1,5 @@
-//! From which address `tftpd` answers: from the one that it listens at, and with `0.0.0.0` from the one that the
-//! system's route to the client has, whichever was asked.
+//! From which address `tftpd` answers: from the one that it listens at, and with `0.0.0.0` from the
+//! one that the system's route to the client has, whichever was asked.
 
 use crate::expect::{expect_bytes, expect_equal};
 use crate::programs::serve;
@@ -23,7 +23,8 @@ fn at_port<R: AllocGlobal + Abort>(rt: &R, address: &str, port: u16) -> SocketAd
     text.as_str().parse::<SocketAddr>().expect(rt, address)
 }
 
-/// A request to the server, at this address, is answered from that one. Both go on at the transfer's port.
+/// A request to the server, at this address, is answered from that one. Both go on at the
+/// transfer's port.
 fn answers_from<R: Net + AllocGlobal + Abort>(rt: &R, port: u16, asked: &str, wanted: &str) {
     let socket = loopback_socket(rt);
     let mut buffer = [0; 600];

@@ -1,4 +1,5 @@
-//! Puts to a `tftpd` whose files may not grow: the client is told that the disk is full, and nothing is named.
+//! Puts to a `tftpd` whose files may not grow: the client is told that the disk is full, and
+//! nothing is named.
 
 use crate::expect::expect;
 use crate::loopback::make_file;

@@ -25,8 +25,9 @@ pub(crate) fn has_served<R: AllocGlobal + Abort, P: OpenProcess + Drop>(
     expect_equal(rt, &count, &wanted, "the complete transfers");
 }
 
-/// A name that is missing, a put of one that is there, a get, and a local file that is there. The lines are fixed: a client that fails
-/// tells its outcome on standard error, with status 1, and a fault of the local file with status 2.
+/// A name that is missing, a put of one that is there, a get, and a local file that is there. The
+/// lines are fixed: a client that fails tells its outcome on standard error, with status 1, and a
+/// fault of the local file with status 2.
 fn tells<R: Runtime + AllocGlobal + Processes + Abort>(rt: &R, folder: &str, address: &str) {
     let local = joined(rt, folder, "local");
     let file = joined(rt, folder, "a");

@@ -1,7 +1,7 @@
 //! The programs, started by a test.
 //!
-//! A test knows of no file but its own program. So that program plays the others: run with the name of one
-//! of the first two tests here and further words, it is `tftp` or `tftpd` with these words.
+//! A test knows of no file but its own program. So that program plays the others: run with the name
+//! of one of the first two tests here and further words, it is `tftp` or `tftpd` with these words.
 
 use crate::expect::expect;
 use std::env;
@@ -68,8 +68,8 @@ pub(crate) fn program<R: Runtime + AllocGlobal + Abort>(
     command
 }
 
-/// What a shell runs so that no file of a program grows beyond some kilobytes, and a longer one is an error
-/// and no signal.
+/// What a shell runs so that no file of a program grows beyond some kilobytes, and a longer one is
+/// an error and no signal.
 const LIMITED: &str = "trap '' XFSZ; ulimit -f 8; exec \"$@\"";
 
 /// A command that runs this program as the other, where files may not grow.

@@ -1,4 +1,5 @@
-//! Transfers over a network that loses, doubles and reorders: one that reports complete has the same bytes.
+//! Transfers over a network that loses, doubles and reorders: one that reports complete has the
+//! same bytes.
 
 use crate::expect::expect;
 use crate::loopback::{bytes_of, make_file};
@@ -57,8 +58,8 @@ fn gets_through<R: Runtime + AllocGlobal + Processes + Net + Abort>(
     is_whole(rt, folder, name.as_str());
 }
 
-/// A put through a proxy with this seed: the file is there whole or not at all, and whole where the client
-/// reports that it is complete. Whether it does.
+/// A put through a proxy with this seed: the file is there whole or not at all, and whole where the
+/// client reports that it is complete. Whether it does.
 fn puts_through<R: Runtime + AllocGlobal + Processes + Net + Abort>(
     rt: &R,
     folder: &str,

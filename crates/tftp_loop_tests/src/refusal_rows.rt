@@ -1,4 +1,5 @@
-//! What `tftpd` answers to requests that it refuses: at once, from its request port, and without a transfer.
+//! What `tftpd` answers to requests that it refuses: at once, from its request port, and without a
+//! transfer.
 
 use crate::expect::{expect, expect_bytes, expect_equal};
 use crate::loopback::has_served;
@@ -11,9 +12,9 @@ use std::net::{Net, SocketAddr};
 use std::process::{self, Abort, Processes};
 use std::rt::Runtime;
 
-/// Requests and the ERRORs that answer them (RFC 1350, appendix I): what is missing, a folder, a link out of
-/// the folder, a FIFO, a name that is none; then writes of a file that is there, of a link, through a link, and
-/// into a folder that is missing.
+/// Requests and the ERRORs that answer them (RFC 1350, appendix I): what is missing, a folder, a
+/// link out of the folder, a FIFO, a name that is none; then writes of a file that is there, of a
+/// link, through a link, and into a folder that is missing.
 const REFUSALS: [(&[u8], &[u8]); 10] = [
     (b"\0\x01none\0octet\0", b"\0\x05\0\x01file not found\0"),
     (b"\0\x01sub\0octet\0", b"\0\x05\0\x01file not found\0"),
@@ -71,7 +72,8 @@ fn requests_are_refused(rt: HostRuntime) {
     remove_folder(&rt, folder);
 }
 
-/// At `--cap` another client is told that the server is busy, and a repeated request is not answered a second time.
+/// At `--cap` another client is told that the server is busy, and a repeated request is not
+/// answered a second time.
 fn is_busy<R: Net + Abort>(rt: &R, server: SocketAddr) {
     let request = b"\0\x01a\0octet\0".as_slice();
     let first = loopback_socket(rt);

@@ -1,4 +1,5 @@
-//! Puts to `tftpd` that end badly or that replace a file: a file is seen whole under its name, or not at all.
+//! Puts to `tftpd` that end badly or that replace a file: a file is seen whole under its name, or
+//! not at all.
 
 use crate::expect::{expect, expect_bytes};
 use crate::programs::{prints, serve};

@@ -1,5 +1,5 @@
-//! Gets and puts in blocks of several sizes and in both modes, of lengths around the ends of blocks, many at
-//! once (RFC 1350, section 6; RFC 2348; RFC 764).
+//! Gets and puts in blocks of several sizes and in both modes, of lengths around the ends of
+//! blocks, many at once (RFC 1350, section 6; RFC 2348; RFC 764).
 
 use crate::loopback::{bytes_of, has_served, make_file};
 use crate::programs::{client, ends_with, serve};

@@ -1,4 +1,5 @@
-//! Servers of the tests' own: a few datagrams each, over one socket for requests and one for a transfer.
+//! Servers of the tests' own: a few datagrams each, over one socket for requests and one for a
+//! transfer.
 
 use std::net::{Ipv4Addr, Net, SocketAddr, UdpSocket};
 use std::process::Abort;

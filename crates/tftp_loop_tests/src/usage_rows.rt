@@ -1,4 +1,5 @@
-//! Help texts, and command lines that are not understood: each fault names the option and its range.
+//! Help texts, and command lines that are not understood: each fault names the option and its
+//! range.
 
 use crate::programs::prints;
 
@@ -6,7 +7,8 @@ const TFTP: &str = "programs::tftp";
 
 const TFTPD: &str = "programs::tftpd";
 
-/// Command lines, and what they print: a help text ends with examples, and a fault has the range of a value.
+/// Command lines, and what they print: a help text ends with examples, and a fault has the range of
+/// a value.
 const ROWS: [(&str, &[&str], &str); 14] = [
     (TFTPD, &["--help"], "Examples:\n  tftpd "),
     (TFTP, &["--help"], "Examples:\n  tftp get "),

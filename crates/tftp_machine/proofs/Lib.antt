@@ -12,3 +12,4 @@ pub mod Places
 pub mod Acting
 pub mod Shown
 pub mod ViewSafe
+pub mod HostLemmas

@@ -29,7 +29,8 @@ pub fn some_run_completes()
 {}
 
 /// Ends and datagrams that a machine shows are safe, and where there are none a machine shows them.
-/// What is claimed of a peer at one of the two hosts is claimed of each peer, unless a stranger spoke.
+/// What is claimed of a peer at one of the two hosts is claimed of each peer, unless a stranger
+/// spoke.
 pub fn what_is_shown_is_safe()
     ensures start { IsShown [] [] }
     ensures safe { (views : List EndView)

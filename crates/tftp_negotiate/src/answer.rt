@@ -3,7 +3,8 @@
 ghost use Rattle.std.specs.Prelude.{◌≡◌, IfOk};
 ghost use Rattle.tftp_wire.specs.Borrowed.{owned_option};
 ghost use Rattle.tftp_negotiate.specs.Agreed.{IsAgreement};
-ghost use Rattle.tftp_negotiate.specs.Answer.{answer, answered_option, answered_blksize, answered_timeout, answered_tsize};
+ghost use Rattle.tftp_negotiate.specs.Answer.{answer, answered_option, answered_blksize};
+ghost use Rattle.tftp_negotiate.specs.Answer.{answered_timeout, answered_tsize};
 ghost use Rattle.tftp_negotiate.specs.Ranges.{IsBlockSize};
 
 use crate::agreed::Agreed;

@@ -3,7 +3,8 @@
 ghost use Rattle.std.specs.Prelude.{◌≡◌, ◌↔◌, ◌++◌, ◌<◌, ◌+◌, IsTrue};
 ghost use Rattle.arrayvec.specs.ArrayVec.{array_vec_len};
 ghost use Rattle.tftp_negotiate.specs.Agreed.{agreed_options};
-ghost use Rattle.tftp_negotiate.specs.Asked.{IsAskable, IsFor, asked_tsize, asked_options, known_if};
+ghost use Rattle.tftp_negotiate.specs.Asked.{IsAskable, IsFor, asked_tsize, asked_options};
+ghost use Rattle.tftp_negotiate.specs.Asked.{known_if};
 
 use crate::known::{Kind, Known};
 use crate::limits::{is_block_size, is_timeout};

@@ -1,6 +1,10 @@
 //! Laws of negotiation: their contracts speak of the definitions alone, and their bodies are empty.
 
-ghost use Rattle.tftp_negotiate.specs.Laws.{NumbersArePrinted, EndsAgree, AnswersWithinRequest, TakesNothingUnasked, AnswersMayBeAgreed, TakenMayBeAgreed, AgreementsAreShort, AgreementsHaveBlockSizes, KnownAreOptions, AskedAreOptions};
+ghost use Rattle.tftp_negotiate.specs.Laws.{NumbersArePrinted, EndsAgree, AnswersWithinRequest};
+ghost use Rattle.tftp_negotiate.specs.Laws.{TakesNothingUnasked, AnswersMayBeAgreed};
+ghost use Rattle.tftp_negotiate.specs.Laws.{TakenMayBeAgreed, AgreementsAreShort};
+ghost use Rattle.tftp_negotiate.specs.Laws.{AgreementsHaveBlockSizes, KnownAreOptions};
+ghost use Rattle.tftp_negotiate.specs.Laws.{AskedAreOptions};
 
 /// A value is a number exactly if it is the number's decimal digits, without a leading zero.
 pub fn numbers_are_printed()

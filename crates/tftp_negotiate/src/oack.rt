@@ -3,7 +3,8 @@
 ghost use Rattle.std.specs.Prelude.{◌≡◌, IfOk};
 ghost use Rattle.tftp_wire.specs.Borrowed.{owned_option};
 ghost use Rattle.tftp_negotiate.specs.Agreed.{IsAgreement};
-ghost use Rattle.tftp_negotiate.specs.Agreement.{agreement, taken_option, taken_blksize, taken_timeout, taken_tsize};
+ghost use Rattle.tftp_negotiate.specs.Agreement.{agreement, taken_option, taken_blksize};
+ghost use Rattle.tftp_negotiate.specs.Agreement.{taken_timeout, taken_tsize};
 ghost use Rattle.tftp_negotiate.specs.Asked.{IsAskable};
 
 use crate::agreed::Agreed;

@@ -1,4 +1,5 @@
-//! `tftp-play`: a script of TFTP transfers is played in a world of its own, and what happens is printed.
+//! `tftp-play`: a script of TFTP transfers is played in a world of its own, and what happens is
+//! printed.
 //!
 //! Begin with [`play_run`]. It opens no socket; a program's `main` only hands in the system.
 #![tactic(auto)]

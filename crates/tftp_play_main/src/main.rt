@@ -1,4 +1,5 @@
-//! `tftp-play` plays a script of TFTP transfers: a script in, a line for each thing that happens out.
+//! `tftp-play` plays a script of TFTP transfers: a script in, a line for each thing that happens
+//! out.
 #![tactic(auto)]
 
 use std::process::ExitCode;

@@ -1,6 +1,5 @@
 pub mod Actions
 pub mod HostBytes
-pub mod HostLemmas
 pub mod StandardFacts
 pub mod SaidLemmas
 pub mod EndMoves

@@ -1,12 +1,16 @@
 //! A client of a world: its end, and the file that it sends or receives.
 
-ghost use Rattle.std.specs.Prelude.{◌≡◌, ◌++◌, [], false, length, is_some, option_map, IfOk, IfErr, OnOk, OnErr};
+ghost use Rattle.std.specs.Prelude.{◌≡◌, ◌++◌, [], false, length, is_some, option_map, IfOk, IfErr};
+ghost use Rattle.std.specs.Prelude.{OnOk, OnErr};
 ghost use Rattle.tftp_ends.specs.End.{record_of, outcome_of};
 ghost use Rattle.tftp_file.specs.Netascii.{wire_text};
 ghost use Rattle.tftp_ends.specs.Opening.{MayGet, MayPut, getting, putting};
 ghost use Rattle.tftp_ends.specs.Step.{timeout_turn};
 ghost use Rattle.tftp_machine.specs.Machine.{request_port};
-ghost use Rattle.tftp_player.specs.Clients.{ClientTurns, ClientDatagramStep, asking_client, sending_client, stored_by, told_client, client_at, holding_in, asking_effect, sending_effect, open_fault, AskRefuses};
+ghost use Rattle.tftp_player.specs.Clients.{ClientTurns, ClientDatagramStep, asking_client};
+ghost use Rattle.tftp_player.specs.Clients.{sending_client, stored_by, told_client, client_at};
+ghost use Rattle.tftp_player.specs.Clients.{holding_in, asking_effect, sending_effect, open_fault};
+ghost use Rattle.tftp_player.specs.Clients.{AskRefuses};
 
 use crate::effect::{Effect, effect_of};
 use crate::fault::WorldFault;

@@ -2,9 +2,11 @@
 
 mod arriving;
 
-ghost use Rattle.std.specs.Prelude.{◌≡◌, ◌<◌, ◌+◌, ◌++◌, ◌∷◌, [], true, length, slice_get, ◌≤◌, ◌⊎◌, IfSome, IfNone, IfOk, IfErr, OnOk, OnErr};
+ghost use Rattle.std.specs.Prelude.{◌≡◌, ◌<◌, ◌+◌, ◌++◌, ◌∷◌, [], true, length, slice_get, ◌≤◌};
+ghost use Rattle.std.specs.Prelude.{◌⊎◌, IfSome, IfNone, IfOk, IfErr, OnOk, OnErr};
 ghost use Rattle.tftp_ends.specs.End.{is_client};
-ghost use Rattle.tftp_player.specs.Stage.{HangTogether, AreAsBefore, StageTimeoutStep, ends_of, record_closed};
+ghost use Rattle.tftp_player.specs.Stage.{HangTogether, AreAsBefore, StageTimeoutStep, ends_of};
+ghost use Rattle.tftp_player.specs.Stage.{record_closed};
 ghost use Rattle.tftp_player.specs.declared.player.Player.TheVariants as players;
 
 use crate::client::Client;

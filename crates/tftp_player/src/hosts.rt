@@ -1,16 +1,10 @@
-//! The two hosts of a world.
+//! Where the ends of a world are.
 
-ghost use Rattle.std.specs.Prelude.{◌≡◌, IsTrue, ◌↔◌};
-ghost use Rattle.tftp_machine.specs.Machine.{host_of, Elsewhere};
+ghost use Rattle.std.specs.Prelude.{◌≡◌};
 ghost use Rattle.tftp_player.specs.Clients.{client_at, server_at};
 
 use tftp_ends::Endpoint;
-
-/// The server's address.
-pub(crate) const SERVER_IP: [u8; 4] = [10, 0, 0, 1];
-
-/// The address of every client.
-pub(crate) const CLIENT_IP: [u8; 4] = [10, 0, 0, 2];
+use tftp_machine::{CLIENT_IP, SERVER_IP};
 
 /// Where the server takes requests (RFC 1350, section 4).
 pub(crate) const REQUEST_PORT: Endpoint = Endpoint {
@@ -36,11 +30,4 @@ pub(crate) fn server_at(port: u16) -> Endpoint
         ip: SERVER_IP,
         port,
     }
-}
-
-/// Whether an endpoint is at neither host.
-pub(crate) fn is_foreign(endpoint: &Endpoint) -> bool
-    ensures { IsTrue result ↔ (host_of endpoint.now ≡ Elsewhere) }
-{
-    endpoint.ip != SERVER_IP && endpoint.ip != CLIENT_IP
 }

@@ -6,16 +6,18 @@ ghost use Rattle.tftp_negotiate.specs.declared.known.Known.TheVariants.{Blksize}
 ghost use Rattle.tftp_player.specs.Completing.{Transfers, nothing_asked, blocks_of_8};
 ghost use Rattle.tftp_player.specs.declared.event.Event.TheVariants.{Get, Put};
 ghost use Rattle.tftp_player.specs.OneAtMost.{EventsAddOneAtMost};
-ghost use Rattle.tftp_player.specs.Repeating.{RepeatsOpenNothing, OnlyNewRequestsOpen, RequestsLast};
+ghost use Rattle.tftp_player.specs.Repeating.{RepeatsOpenNothing, OnlyNewRequestsOpen};
+ghost use Rattle.tftp_player.specs.Repeating.{RequestsLast};
 ghost use Rattle.tftp_player.specs.Straight.{ReadsComplete, WritesComplete};
 ghost use Rattle.tftp_player.specs.Straight.{SomeReadIsStraight, SomeWriteIsStraight};
 ghost use Rattle.tftp_player.specs.Strangers.{StraysChangeNoRecord, ClientsHaveServers};
 ghost use Rattle.tftp_player.specs.WorldRuns.{WorldsAreSafe, PeersStayHome, StepsKeep, KeptIsSafe};
 
-/// After every list of events, from a world in which nothing has happened: the ends of an established
-/// transfer have one block size, what a receiver stored is a beginning of its peer's file, a receiver
-/// that is complete has stored and committed all of it, and when a sender is complete so is its peer.
-/// Of a peer at neither host nothing is claimed; without strangers every peer is at one of the two.
+/// After every list of events, from a world in which nothing has happened: the ends of an
+/// established transfer have one block size, what a receiver stored is a beginning of its peer's
+/// file, a receiver that is complete has stored and committed all of it, and when a sender is
+/// complete so is its peer. Of a peer at neither host nothing is claimed; without strangers every
+/// peer is at one of the two.
 pub fn every_world_is_safe()
     ensures safe { WorldsAreSafe }
     ensures home { PeersStayHome }
@@ -37,24 +39,25 @@ pub fn a_step_keeps_a_world()
     ensures safe { KeptIsSafe }
 {}
 
-/// Each event adds one datagram at most behind all that was sent, and takes none off; with that so does
-/// each call of `World::apply`.
+/// Each event adds one datagram at most behind all that was sent, and takes none off; with that so
+/// does each call of `World::apply`.
 pub fn an_event_sends_one_datagram_at_most()
     ensures events { EventsAddOneAtMost }
 {}
 
-/// A datagram of neither host changes no record, but of an end whose peer is a stranger: an end that
-/// a stranger's own request opened. A client's peer is at the server.
+/// A datagram of neither host changes no record, but of an end whose peer is a stranger: an end
+/// that a stranger's own request opened. A client's peer is at the server.
 pub fn a_stray_changes_no_record()
     ensures records { StraysChangeNoRecord }
     ensures clients { ClientsHaveServers }
 {}
 
 /// A run without loss, of a request that both ends accept, and of a write that the server's store
-/// takes, ends with both ends complete after exactly `1 + 2N` datagrams for a read that is answered by
-/// DATA 1, `3 + 2N` for one that is answered by an OACK, and `2 + 2N` for a write, where the text has
-/// `N` blocks of the agreed size (RFC 1350, section 2; RFC 2347, "Negotiation Protocol"). There are such
-/// runs: of a read and of a write without options, and of a read in blocks of 8 bytes.
+/// takes, ends with both ends complete after exactly `1 + 2N` datagrams for a read that is answered
+/// by DATA 1, `3 + 2N` for one that is answered by an OACK, and `2 + 2N` for a write, where the
+/// text has `N` blocks of the agreed size (RFC 1350, section 2; RFC 2347, "Negotiation Protocol").
+/// There are such runs: of a read and of a write without options, and of a read in blocks of 8
+/// bytes.
 pub fn a_straight_run_completes()
     ensures reads { ReadsComplete }
     ensures writes { WritesComplete }
@@ -63,9 +66,9 @@ pub fn a_straight_run_completes()
     ensures options { SomeReadIsStraight blocks_of_8 (Blksize 8 ∷ []) }
 {}
 
-/// At the request port a request that repeats that of an open transfer is ignored: nothing is sent, and
-/// no end opens or changes (RFC 1350, section 4). A datagram that opens an end repeats none before, and
-/// the same datagram again repeats it as long as that end is open.
+/// At the request port a request that repeats that of an open transfer is ignored: nothing is sent,
+/// and no end opens or changes (RFC 1350, section 4). A datagram that opens an end repeats none
+/// before, and the same datagram again repeats it as long as that end is open.
 pub fn a_repeat_opens_nothing()
     ensures ignored { RepeatsOpenNothing }
     ensures anew { OnlyNewRequestsOpen }

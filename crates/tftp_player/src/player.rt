@@ -1,7 +1,9 @@
 //! An end of a world, by whoever plays it.
 
 ghost use Rattle.std.specs.Prelude.{◌≡◌, false, option_map, IfOk, IfErr, OnErr};
-ghost use Rattle.tftp_player.specs.Played.{PlayerKept, PlayerTimeoutStep, PlayerDatagramStep, has_ended, address_of, told_player, stored_of, committed_of};
+ghost use Rattle.tftp_player.specs.Played.{PlayerKept, PlayerTimeoutStep, PlayerDatagramStep};
+ghost use Rattle.tftp_player.specs.Played.{has_ended, address_of, told_player, stored_of};
+ghost use Rattle.tftp_player.specs.Played.{committed_of};
 
 use crate::client::Client;
 use crate::effect::Effect;

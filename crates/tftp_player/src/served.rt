@@ -1,13 +1,16 @@
 //! What a world keeps of a server's end, beside the server that plays it.
 
-ghost use Rattle.std.specs.Prelude.{◌≡◌, false, Some, Ok, option_copied, option_map, IfOk, IfErr, OnErr};
+ghost use Rattle.std.specs.Prelude.{◌≡◌, false, Some, Ok, option_copied, option_map, IfOk, IfErr};
+ghost use Rattle.std.specs.Prelude.{OnErr};
 ghost use Rattle.tftp_wire.specs.Borrowed.{owned};
 ghost use Rattle.tftp_file.specs.Path.{path_of_name};
-ghost use Rattle.tftp_player.specs.Requested.{IsRequested, IsAdmitted, new_served, receiver_at, requested_by, sender_at};
+ghost use Rattle.tftp_player.specs.Requested.{IsRequested, IsAdmitted, new_served, receiver_at};
+ghost use Rattle.tftp_player.specs.Requested.{requested_by, sender_at};
 ghost use Rattle.tftp_ends.specs.Step.{timeout_turn};
 ghost use Rattle.tftp_server.specs.State.{at};
 ghost use Rattle.tftp_player.specs.Played.{IsServed, draft_or_new, served_draft, told_served_end};
-ghost use Rattle.tftp_player.specs.Serving.{ServedKept, ServedTimeoutStep, ServedDatagramStep, Concludes, ClosesAs};
+ghost use Rattle.tftp_player.specs.Serving.{ServedKept, ServedTimeoutStep, ServedDatagramStep};
+ghost use Rattle.tftp_player.specs.Serving.{Concludes, ClosesAs};
 
 use crate::effect::{Effect, effect_of};
 use crate::fault::WorldFault;

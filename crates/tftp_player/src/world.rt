@@ -1,6 +1,7 @@
 //! A world that is played by the real machines.
 
-ghost use Rattle.std.specs.Prelude.{◌≡◌, true, false, option_map, IfOk, IfErr, OnOk, OnErr, IsTrue, ◌↔◌};
+ghost use Rattle.std.specs.Prelude.{◌≡◌, true, false, option_map, IfOk, IfErr, OnOk, OnErr, IsTrue};
+ghost use Rattle.std.specs.Prelude.{◌↔◌};
 ghost use Rattle.tftp_server.specs.Config.{IsConfig};
 ghost use Rattle.tftp_store.specs.Memory.{contents, has_distinct_paths, in_path_order};
 ghost use Rattle.tftp_machine.specs.Machine.{host_of, Elsewhere};
@@ -16,13 +17,13 @@ ghost use Rattle.tftp_player.specs.WorldSafety.{IsSafe};
 use crate::datagram::Datagram;
 use crate::event::Event;
 use crate::fault::WorldFault;
-use crate::hosts::is_foreign;
 use crate::report::Report;
 use crate::stage::Stage;
 use std::alloc::Global;
 use std::marker::Model;
 use tftp_ends::{Endpoint, Record};
 use tftp_file::Path;
+use tftp_machine::is_foreign;
 use tftp_server::Config;
 
 /// One server, its clients, and a network that keeps all that was ever sent.
@@ -33,8 +34,8 @@ use tftp_server::Config;
 /// 1,024 on.
 ///
 /// It is safe at all times: the two ends of an established transfer have one block size, what a
-/// receiver stored is a beginning of its peer's file and all of it once it is complete, and a sender
-/// is complete only after its receiver.
+/// receiver stored is a beginning of its peer's file and all of it once it is complete, and a
+/// sender is complete only after its receiver.
 #[derive(Drop)]
 pub struct World {
     stage: Stage,
@@ -121,14 +122,14 @@ impl World {
 
     /// Plays an event. After a refusal nothing has changed.
     ///
-    /// `NoSuchDatagram` and `NoSuchEnd` where an event names what was never sent or opened; `NoPort`
-    /// where an end could open and no port is left; `BadRequest` where the client refuses to ask
-    /// this, as an option that its transfer has no use for, or a file too long for its blocks to be
-    /// numbered. The sender of a stray is foreign ([`World::is_foreign`]).
+    /// `NoSuchDatagram` and `NoSuchEnd` where an event names what was never sent or opened;
+    /// `NoPort` where an end could open and no port is left; `BadRequest` where the client refuses
+    /// to ask this, as an option that its transfer has no use for, or a file too long for its
+    /// blocks to be numbered. The sender of a stray is foreign ([`World::is_foreign`]).
     ///
-    /// It copies a datagram's bytes once, since an end keeps the last one that it sent; its look-ups
-    /// take a time that grows with the logarithm of the open transfers. A file is never copied: the
-    /// server and the ends that send it share its bytes.
+    /// It copies a datagram's bytes once, since an end keeps the last one that it sent; its
+    /// look-ups take a time that grows with the logarithm of the open transfers. A file is never
+    /// copied: the server and the ends that send it share its bytes.
     pub fn apply(&mut self, event: Event) -> Result<Report, WorldFault>
         requires { IsPlayable event }
         // the step of the event

@@ -1,5 +1,5 @@
-//! Whole runs of `tftp-play` over memory. What they print is written by hand from RFC 1350, sections 2,
-//! 4 and 6, and RFC 1123, section 4.2.3.1.
+//! Whole runs of `tftp-play` over memory. What they print is written by hand from RFC 1350,
+//! sections 2, 4 and 6, and RFC 1123, section 4.2.3.1.
 
 use crate::expect::{expect, expect_bytes, expect_equal};
 use crate::faulty_streams::{Breaks, Full};
@@ -117,7 +117,8 @@ fn read_rows(rt: HostRuntime) -> Result<(), Fail> {
     Ok(())
 }
 
-/// A request that comes twice opens one transfer, and another behind its close (RFC 1350, section 4).
+/// A request that comes twice opens one transfer, and another behind its close (RFC 1350, section
+/// 4).
 const REPEATS: [(&str, &str, u8); 1] = [(
     "file a 414243\nget a octet\ndeliver 0\ndeliver 0\ndeliver 1\ndeliver 2\n\
          deliver 0\ndeliver 3\ndeliver 4\n",

@@ -1,4 +1,5 @@
-//! Scripts of random events, with transfers of each kind: whatever is drawn, the script runs to its end.
+//! Scripts of random events, with transfers of each kind: whatever is drawn, the script runs to its
+//! end.
 
 use crate::expect::expect;
 use std::alloc::Global;
@@ -6,7 +7,8 @@ use std::process::Abort;
 use std::test::Fail;
 use tftp_play::play_run;
 
-/// Reads and writes in both modes, with and without options, two writes of one name, and 10,000 events.
+/// Reads and writes in both modes, with and without options, two writes of one name, and 10,000
+/// events.
 const KEPT: &str = "\
 file a 61*700
 file b 0D0A*300

@@ -65,8 +65,8 @@ fn vectors_show(rt: HostRuntime) -> Result<(), Fail> {
     Ok(())
 }
 
-/// Inputs, what is printed and the status: 0 if all lines were packets, else 1. A last line needs no
-/// line feed.
+/// Inputs, what is printed and the status: 0 if all lines were packets, else 1. A last line needs
+/// no line feed.
 const INPUTS: [(&[u8], &str, u8); 7] = [
     (b"", "", 0),
     (b"00040000", "ACK 0\n", 0),

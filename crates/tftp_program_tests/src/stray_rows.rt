@@ -1,5 +1,6 @@
-//! Datagrams of neither host, in scripts of `tftp-play`. A stranger to a transfer is told so by ERROR 5
-//! and changes nothing (RFC 1350, section 4); nobody answers an ERROR (RFC 1350, section 7).
+//! Datagrams of neither host, in scripts of `tftp-play`. A stranger to a transfer is told so by
+//! ERROR 5 and changes nothing (RFC 1350, section 4); nobody answers an ERROR (RFC 1350, section
+//! 7).
 
 use crate::playing::plays;
 use std::test::Fail;

@@ -1,5 +1,5 @@
-//! Whole reads in scripts of `tftp-play`: options and netascii. What they print is written by hand from
-//! RFC 1350, sections 2, 4 and 6, and from RFC 2347 to 2349.
+//! Whole reads in scripts of `tftp-play`: options and netascii. What they print is written by hand
+//! from RFC 1350, sections 2, 4 and 6, and from RFC 2347 to 2349.
 
 use crate::playing::plays;
 use std::test::Fail;
@@ -59,7 +59,8 @@ fn netascii_rows(rt: HostRuntime) -> Result<(), Fail> {
 }
 
 const OPTIONS: [Row; 2] = [
-    // a block size that is asked is answered by an OACK, and that by ACK 0 (RFC 2347, "Negotiation Protocol")
+    // a block size that is asked is answered by an OACK, and that by ACK 0 (RFC 2347, "Negotiation
+    // Protocol")
     (
         "file a 00*512\nget a octet blksize=512\nsettle 0\n",
         "\

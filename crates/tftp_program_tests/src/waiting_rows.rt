@@ -5,8 +5,8 @@ use tftp_ends::Outcome;
 use tftp_host::{Port, Watch, deadline, fallback, is_due, place_of, wait_for};
 use tftp_negotiate::Asked;
 
-/// Readings of a clock, from 5,000 on, and the time in milliseconds: a wait counts for a second at most,
-/// and a clock that goes back for nothing.
+/// Readings of a clock, from 5,000 on, and the time in milliseconds: a wait counts for a second at
+/// most, and a clock that goes back for nothing.
 const READINGS: [(u64, u64); 5] = [
     (5_200, 200),
     (5_200, 200),
@@ -28,8 +28,8 @@ fn a_watch_goes_on(rt: HostRuntime) {
     }
 }
 
-/// What is agreed in seconds, and when a transfer of the time 700 is due: after a second where nothing
-/// is agreed.
+/// What is agreed in seconds, and when a transfer of the time 700 is due: after a second where
+/// nothing is agreed.
 const DEADLINES: [(Option<u8>, u64); 3] = [(None, 1_700), (Some(1), 1_700), (Some(255), 255_700)];
 
 #[test]

@@ -1,5 +1,5 @@
-//! Whole writes in scripts of `tftp-play`. What they print is written by hand from RFC 1350, sections 2, 4
-//! to 7, and RFC 2347 to 2349.
+//! Whole writes in scripts of `tftp-play`. What they print is written by hand from RFC 1350,
+//! sections 2, 4 to 7, and RFC 2347 to 2349.
 
 use crate::playing::plays;
 use std::test::Fail;
@@ -73,7 +73,8 @@ end 1025 server-write peer=1024 size=8 number=3 complete=yes open
 ",
         0,
     ),
-    // two writes of one name: the first commit has it, and the other is refused (RFC 1350, appendix I)
+    // two writes of one name: the first commit has it, and the other is refused (RFC 1350, appendix
+    // I)
     (
         "put n octet 41\ndeliver 0\nput n octet 42\ndeliver 2\ndeliver 1\ndeliver 3\n\
          deliver 4\ndeliver 5\ndeliver 7\ndeliver 6\n",
@@ -106,7 +107,8 @@ fn write_rows(rt: HostRuntime) -> Result<(), Fail> {
     Ok(())
 }
 
-/// Writes that may replace a file: the last commit stands, and a read goes on with the file that it opened.
+/// Writes that may replace a file: the last commit stands, and a read goes on with the file that it
+/// opened.
 const OVERWRITES: [Row; 2] = [
     (
         "set overwrite yes\nput n octet 41\ndeliver 0\nput n octet 4242\ndeliver 2\ndeliver 1\n\
@@ -217,8 +219,8 @@ fn fault_rows(rt: HostRuntime) -> Result<(), Fail> {
     Ok(())
 }
 
-/// A request to write that comes again while its transfer is open, also in the dally, opens nothing; behind
-/// the close the name is there.
+/// A request to write that comes again while its transfer is open, also in the dally, opens
+/// nothing; behind the close the name is there.
 const REPEATED: [Row; 1] = [(
     "put n octet 41\ndeliver 0\ndeliver 0\ndeliver 1\ndeliver 2\ndeliver 0\n\
      timeout 1025\ntimeout 1025\ndeliver 0\ndeliver 4\ndeliver 3\n",
@@ -248,7 +250,8 @@ fn repeat_rows(rt: HostRuntime) -> Result<(), Fail> {
     Ok(())
 }
 
-/// Requests to write that open nothing (RFC 1350, appendix I; RFC 2349, "Transfer Size Option Specification").
+/// Requests to write that open nothing (RFC 1350, appendix I; RFC 2349, "Transfer Size Option
+/// Specification").
 const UNOPENED: [Row; 4] = [
     (
         "file n 41\nput n octet 42\nsettle 0\n",

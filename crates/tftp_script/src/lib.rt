@@ -1,8 +1,8 @@
 //! The script of `tftp-play`: its lines are read whole, before anything is played.
 //!
-//! Begin with [`Script::parse`]. It plays nothing and prints nothing.
+//! Begin with [`Script::parse`]. It knows no world, plays nothing and prints nothing.
 #![tactic(auto)]
 
 mod script;
 
-pub use script::{Playable, Script, ScriptFault, Statement};
+pub use script::{Script, ScriptFault, Statement, StrayDatagram};

@@ -10,7 +10,7 @@ mod statement;
 mod word;
 
 use line::LineFault;
-pub use statement::{Playable, Statement};
+pub use statement::{Statement, StrayDatagram};
 use std::alloc::Global;
 use tftp_file::Path;
 use tftp_server::Config;

@@ -2,7 +2,10 @@
 
 mod request;
 
-ghost use Rattle.std.specs.Prelude.{◌≡◌, ◌↔◌, ◌⊎◌, ◌++◌, ◌+◌, ◌≤◌, vec_capacity, List, ℕ, [], length, Bool, Option, None, Some, option_copied, option_map, is_some, IsSome, if◌then◌else◌, false, IfOk, IfErr, IsErrOf, OnOk, OnErr};
+ghost use Rattle.std.specs.Prelude.{◌≡◌, ◌↔◌, ◌⊎◌, ◌++◌, ◌+◌, ◌≤◌, vec_capacity, List, ℕ, []};
+ghost use Rattle.std.specs.Prelude.{length, Bool, Option, None, Some, option_copied, option_map};
+ghost use Rattle.std.specs.Prelude.{is_some, IsSome, if◌then◌else◌, false, IfOk, IfErr, IsErrOf};
+ghost use Rattle.std.specs.Prelude.{OnOk, OnErr};
 ghost use Rattle.std.specs.Map.{keys_of};
 ghost use Rattle.tftp_ends.specs.End.{record_of};
 ghost use Rattle.tftp_server.specs.Config.{IsConfig};
@@ -11,8 +14,11 @@ ghost use Rattle.tftp_ends.specs.Step.{error_bytes, lent};
 ghost use Rattle.tftp_wire.specs.declared.packet.Packet.{Packet};
 ghost use Rattle.tftp_ends.specs.Action.{Decodes};
 ghost use Rattle.tftp_server.specs.Port.{asks, asks_store};
-ghost use Rattle.tftp_server.specs.State.{IsRepeated, at, draft_at, is_open, open_records, taken_of, without};
-ghost use Rattle.tftp_server.specs.Steps.{TimesOut, TimesOutLent, TimeoutFault, TakesDatagram, TakesDatagramLent, TakesRecorded, DatagramFault, DatagramFaultLent, KeepsHeld};
+ghost use Rattle.tftp_server.specs.State.{IsRepeated, at, draft_at, is_open, open_records};
+ghost use Rattle.tftp_server.specs.State.{taken_of, without};
+ghost use Rattle.tftp_server.specs.Steps.{TimesOut, TimesOutLent, TimeoutFault, TakesDatagram};
+ghost use Rattle.tftp_server.specs.Steps.{TakesDatagramLent, TakesRecorded, DatagramFault};
+ghost use Rattle.tftp_server.specs.Steps.{DatagramFaultLent, KeepsHeld};
 ghost use Rattle.std.specs.Borrow.{Lends, sem};
 
 use crate::config::Config;

@@ -1,6 +1,7 @@
 //! The transfers of a server by their identifiers.
 
-ghost use Rattle.std.specs.Prelude.{◌≡◌, ◌↔◌, ◌++◌, [], map, length, option_copied, option_map, is_some, None, IsTrue, IfOk, IfErr, OnOk, OnErr, List, ℕ};
+ghost use Rattle.std.specs.Prelude.{◌≡◌, ◌↔◌, ◌++◌, [], map, length, option_copied, option_map};
+ghost use Rattle.std.specs.Prelude.{is_some, None, IsTrue, IfOk, IfErr, OnOk, OnErr, List, ℕ};
 ghost use Rattle.tftp_wire.specs.Borrowed.{owned};
 ghost use Rattle.tftp_server.specs.State.{IsRepeated, open_records};
 ghost use Rattle.std.specs.Map.{lookup, keys_of, remove_entry, set_value};

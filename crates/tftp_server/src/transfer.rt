@@ -1,13 +1,15 @@
 //! A transfer that a server holds: its end, its file, where that file is and what asked for it.
 
-ghost use Rattle.std.specs.Prelude.{◌≡◌, ◌↔◌, true, IsTrue, IfOk, OnErr, IsErrOf, Option, option_copied};
+ghost use Rattle.std.specs.Prelude.{◌≡◌, ◌↔◌, true, IsTrue, IfOk, OnErr, IsErrOf, Option};
+ghost use Rattle.std.specs.Prelude.{option_copied};
 ghost use Rattle.tftp_ends.specs.End.{record_of};
 ghost use Rattle.tftp_server.specs.State.{is_closed, draft_of, Repeats};
 ghost use Rattle.tftp_wire.specs.Borrowed.{owned};
 ghost use Rattle.tftp_ends.specs.Files.{AreFilesOf};
 ghost use Rattle.tftp_server.specs.Steps.{with_end, lends, TakesBy, TakesIn, StaysAs};
 ghost use Rattle.tftp_ends.specs.Action.{Decodes, datagram_action, timeout_action};
-ghost use Rattle.tftp_ends.specs.Step.{Carries, Lends, IsAnswered, UsesFile, lent, timeout_turn, told};
+ghost use Rattle.tftp_ends.specs.Step.{Carries, Lends, IsAnswered, UsesFile, lent, timeout_turn};
+ghost use Rattle.tftp_ends.specs.Step.{told};
 ghost use Rattle.tftp_wire.specs.declared.packet.Packet.{Packet};
 
 use crate::draft_sink::DraftSink;

@@ -7,7 +7,8 @@ ghost use Rattle.std.specs.Io.BufRead.{strip_last};
 ghost use Rattle.std.specs.Io.KnownBytes.{Appends};
 ghost use Rattle.std.specs.String.{string_bytes};
 ghost use Rattle.hex.specs.Hex.{decode_of};
-ghost use Rattle.tftp_show.specs.Show.{line_shown, spells_packet, are_packets, input_shown, status_of};
+ghost use Rattle.tftp_show.specs.Show.{line_shown, spells_packet, are_packets, input_shown};
+ghost use Rattle.tftp_show.specs.Show.{status_of};
 
 use crate::show::digits::decode_digits;
 use std::alloc::{AllocError, Global};

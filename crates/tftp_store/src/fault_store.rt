@@ -117,7 +117,8 @@ impl<S: Store> Store for FaultStore<S> {
     ghost use Rattle.std.specs.Prelude.{◌≡◌, ◌≢◌, Err, IfErr, IfOk, IsErrOf, true};
     ghost use Rattle.tftp_file.specs.Sink.{Appends, Commits};
     ghost use Rattle.tftp_store.specs.Store.{Opens, Begins, holding_of, files_of, Puts};
-    ghost use Rattle.tftp_store.specs.FaultStore.{Counts, MayAnswer, fault_meaning, is_due, never_told, opened_meaning};
+    ghost use Rattle.tftp_store.specs.FaultStore.{Counts, MayAnswer, fault_meaning, is_due};
+    ghost use Rattle.tftp_store.specs.FaultStore.{never_told, opened_meaning};
 
     type Source = OpenedSource<S::Source>;
 

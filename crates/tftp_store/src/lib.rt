@@ -1,6 +1,7 @@
 //! Where a server's files are: a store of files, that are read as sources and written as drafts.
 //!
-//! Begin with [`Store`]; [`MemStore`] holds its files in memory, and [`FaultStore`] makes another fail.
+//! Begin with [`Store`]; [`MemStore`] holds its files in memory, and [`FaultStore`] makes another
+//! fail.
 #![tactic(auto)]
 
 mod fault_store;

@@ -1,6 +1,7 @@
 //! A store that holds its files in memory.
 
-ghost use Rattle.std.specs.Prelude.{◌≡◌, IfOk, IfErr, option_copied, option_map, true, false, List, ℕ, OnOk, OnErr};
+ghost use Rattle.std.specs.Prelude.{◌≡◌, IfOk, IfErr, option_copied, option_map, true, false, List};
+ghost use Rattle.std.specs.Prelude.{ℕ, OnOk, OnErr};
 ghost use Rattle.tftp_store.specs.Store.{file_at, with_file};
 ghost use Rattle.tftp_store.specs.Memory.{contents, in_path_order, has_distinct_paths, with_told};
 

@@ -4,13 +4,15 @@
 //! the room that it needs was reserved before. A request or an OACK is begun by one call, and each
 //! of its options follows by another.
 
-ghost use Rattle.std.specs.Prelude.{◌≡◌, ◌≤◌, ◌+◌, ◌++◌, [], ◌∷◌, length, IsOk, OnOk, OnErr, vec_len, vec_capacity};
+ghost use Rattle.std.specs.Prelude.{◌≡◌, ◌≤◌, ◌+◌, ◌++◌, [], ◌∷◌, length, IsOk, OnOk, OnErr};
+ghost use Rattle.std.specs.Prelude.{vec_len, vec_capacity};
 ghost use Rattle.byteorder.specs.Endian.{big_bytes};
 ghost use Rattle.tftp_wire.specs.Modes.{mode_word};
 ghost use Rattle.tftp_wire.specs.Options.{option_bytes};
 ghost use Rattle.tftp_wire.specs.Spelling.{canonical, plain_request, request_bytes};
 ghost use Rattle.tftp_wire.specs.Texts.{zero_ended};
-ghost use Rattle.tftp_wire.specs.declared.packet.Packet.TheVariants.{Read, Write, Data, Ack, Error, Oack};
+ghost use Rattle.tftp_wire.specs.declared.packet.Packet.TheVariants.{Read, Write, Data, Ack, Error};
+ghost use Rattle.tftp_wire.specs.declared.packet.Packet.TheVariants.{Oack};
 
 use crate::limits::HEADER;
 use crate::mode::Mode;

@@ -1,6 +1,7 @@
 //! What holds of the definitions of the bytes of packets, whatever code reads or writes them.
 
-ghost use Rattle.tftp_wire.specs.Laws.{OneMeaning, FaultWhereNothing, SpelledHasNoFault, SpelledIsFound, CanonicalSpells, OptionsFollow};
+ghost use Rattle.tftp_wire.specs.Laws.{OneMeaning, FaultWhereNothing, SpelledHasNoFault};
+ghost use Rattle.tftp_wire.specs.Laws.{SpelledIsFound, CanonicalSpells, OptionsFollow};
 
 /// Bytes spell at most one packet.
 pub fn one_meaning()

@@ -2,13 +2,15 @@
 //!
 //! The room that a line needs at most is reserved first, and then nothing can fail.
 
-ghost use Rattle.std.specs.Prelude.{◌≡◌, ◌≤◌, ◌+◌, ◌-◌, ◌*◌, ◌^◌, ◌++◌, ◌∷◌, [], ◌<◌, length, min, OnOk, IfErr};
+ghost use Rattle.std.specs.Prelude.{◌≡◌, ◌≤◌, ◌+◌, ◌-◌, ◌*◌, ◌^◌, ◌++◌, ◌∷◌, [], ◌<◌, length, min};
+ghost use Rattle.std.specs.Prelude.{OnOk, IfErr};
 ghost use Rattle.std.specs.Fmt.{decimal};
 ghost use Rattle.std.specs.List.{flat_map};
 ghost use Rattle.std.specs.String.{string_bytes};
 ghost use Rattle.tftp_wire.specs.Borrowed.{owned, owned_option};
 ghost use Rattle.tftp_wire.specs.Faults.{out_of_memory};
-ghost use Rattle.tftp_wire.specs.Line.{line, option_words, shown, shown_byte, shown_message_byte, percent, hex_digit as hex};
+ghost use Rattle.tftp_wire.specs.Line.{line, option_words, shown, shown_byte, shown_message_byte};
+ghost use Rattle.tftp_wire.specs.Line.{percent, hex_digit as hex};
 ghost use Rattle.tftp_wire.specs.Modes.{mode_word};
 ghost use Rattle.tftp_wire.specs.Room.{HasRoom, Puts};
 ghost use Rattle.tftp_wire.specs.declared.packet.Packet.TheVariants.{Data, Ack, Error};

@@ -56,8 +56,8 @@ pub enum Packet {
         /// The bytes of the block; fewer than the block size in the last one.
         bytes: Bytes,
     },
-    /// ACK, opcode 4: a block was received, or, with 0, a write request or an OACK (RFC 1350, section
-    /// 5).
+    /// ACK, opcode 4: a block was received, or, with 0, a write request or an OACK (RFC 1350,
+    /// section 5).
     ///
     /// ```text
     ///  2 bytes 2 bytes

@@ -1,6 +1,7 @@
 //! Writes packets as bytes, each in its canonical spelling, and says which packets can be written.
 
-ghost use Rattle.std.specs.Prelude.{◌≡◌, ◌≤◌, ◌+◌, ◌-◌, ◌^◌, ◌++◌, ◌↔◌, ◌≢◌, List, [], length, min, OnOk, IfErr, IsTrue, vec_len, vec_capacity, ℕ};
+ghost use Rattle.std.specs.Prelude.{◌≡◌, ◌≤◌, ◌+◌, ◌-◌, ◌^◌, ◌++◌, ◌↔◌, ◌≢◌, List, [], length, min};
+ghost use Rattle.std.specs.Prelude.{OnOk, IfErr, IsTrue, vec_len, vec_capacity, ℕ};
 ghost use Rattle.std.specs.List.{AllByRecursion};
 ghost use Rattle.tftp_wire.specs.Borrowed.{owned, owned_request};
 ghost use Rattle.tftp_wire.specs.Faults.{out_of_memory};

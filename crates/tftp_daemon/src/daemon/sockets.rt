@@ -1,4 +1,5 @@
-//! The sockets of `tftpd` that no transfer has: the request port, and the port of the next transfer.
+//! The sockets of `tftpd` that no transfer has: the request port, and the port of the next
+//! transfer.
 
 ghost use Rattle.std.specs.Prelude.{◌≤◌, length, IfSome};
 

@@ -2,9 +2,12 @@
 
 ghost use Rattle.std.specs.Prelude.{◌≡◌, ◌≤◌, drop, length, OnErr, IfOk};
 ghost use Rattle.tftp_ends.specs.Files.{AreFilesOf, KeepsFiles, AreSame};
-ghost use Rattle.tftp_ends.specs.Step.{Turn, Acts, Lends, UsesFile, ack_bytes, having_sent, in_phase, response_turn, with_position, room_of, response_room, lent};
+ghost use Rattle.tftp_ends.specs.Step.{Turn, Acts, Lends, UsesFile, ack_bytes, having_sent};
+ghost use Rattle.tftp_ends.specs.Step.{in_phase, response_turn, with_position, room_of};
+ghost use Rattle.tftp_ends.specs.Step.{response_room, lent};
 ghost use Rattle.tftp_ends.specs.End.{number_of, terms_of};
-ghost use Rattle.tftp_ends.specs.Sound.{PhaseFits, ActionFits, PieceFits, RefusalFits, SentFits, ResponseFits, ResendsAck};
+ghost use Rattle.tftp_ends.specs.Sound.{PhaseFits, ActionFits, PieceFits, RefusalFits, SentFits};
+ghost use Rattle.tftp_ends.specs.Sound.{ResponseFits, ResendsAck};
 
 use crate::action::{Action, Response};
 use crate::end::End;

@@ -1,9 +1,11 @@
 //! How a client's end opens: by its request.
 
-ghost use Rattle.std.specs.Prelude.{ℕ, ◌≡◌, ◌↔◌, ◌++◌, ◌*◌, ◌≤◌, ◌⊎◌, IsTrue, IfOk, IfErr, OnOk, OnErr, IsErrOf, vec_capacity};
+ghost use Rattle.std.specs.Prelude.{ℕ, ◌≡◌, ◌↔◌, ◌++◌, ◌*◌, ◌≤◌, ◌⊎◌, IsTrue, IfOk, IfErr, OnOk};
+ghost use Rattle.std.specs.Prelude.{OnErr, IsErrOf, vec_capacity};
 ghost use Rattle.tftp_wire.specs.Spelling.{canonical};
 ghost use Rattle.tftp_wire.specs.declared.packet.Packet.TheVariants.{Read, Write};
-ghost use Rattle.tftp_ends.specs.Opening.{MayGet, MayPut, MayAskPut, getting, putting, opened, opening_step, request_of, asked_size};
+ghost use Rattle.tftp_ends.specs.Opening.{MayGet, MayPut, MayAskPut, getting, putting, opened};
+ghost use Rattle.tftp_ends.specs.Opening.{opening_step, request_of, asked_size};
 ghost use Rattle.tftp_ends.specs.End.{terms_of};
 ghost use Rattle.tftp_ends.specs.Sound.{PhaseFits, ResendsAck, SentFits};
 

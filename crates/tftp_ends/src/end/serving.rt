@@ -1,8 +1,10 @@
 //! How a server's end opens: by its first answer.
 
-ghost use Rattle.std.specs.Prelude.{◌≡◌, ◌++◌, ◌*◌, ◌≤◌, ◌<◌, ◌⊎◌, not, true, [], length, IfOk, IfErr, OnOk, OnErr, IsErrOf, vec_capacity};
+ghost use Rattle.std.specs.Prelude.{◌≡◌, ◌++◌, ◌*◌, ◌≤◌, ◌<◌, ◌⊎◌, not, true, [], length, IfOk};
+ghost use Rattle.std.specs.Prelude.{IfErr, OnOk, OnErr, IsErrOf, vec_capacity};
 ghost use Rattle.tftp_ends.specs.Files.{AreFilesOf, KeepsFiles, AreSame};
-ghost use Rattle.tftp_ends.specs.Opening.{ServesFiles, FilesCannotStart, serving_write, opened, opening_step, oack_bytes, role_of};
+ghost use Rattle.tftp_ends.specs.Opening.{ServesFiles, FilesCannotStart, serving_write, opened};
+ghost use Rattle.tftp_ends.specs.Opening.{opening_step, oack_bytes, role_of};
 ghost use Rattle.tftp_ends.specs.Step.{ack_bytes};
 ghost use Rattle.tftp_ends.specs.Waiting.{default_terms, agreed_terms};
 ghost use Rattle.tftp_negotiate.specs.Agreed.{size};

@@ -14,7 +14,7 @@ use std::io::{BufWriter, Write};
 use tftp_ends::{Record, Side};
 use tftp_file::Path;
 use tftp_player::{Event, Report, World, WorldFault, draw};
-use tftp_script::Statement;
+use tftp_script::{Statement, StrayDatagram};
 use tftp_server::Config;
 
 /// Most deliveries of one settling.
@@ -49,7 +49,24 @@ impl<W: Write + Drop> ScriptRun<W> {
     /// Executes a statement, and writes what it did.
     pub(crate) fn execute(&mut self, statement: Statement) -> Result<(), PlayFault> {
         match statement {
-            Statement::Event(playable) => self.play(playable.into_event()),
+            Statement::Get { name, mode, asked } => self.play(Event::Get { name, mode, asked }),
+            Statement::Put {
+                name,
+                mode,
+                asked,
+                bytes,
+            } => self.play(Event::Put {
+                name,
+                mode,
+                asked,
+                bytes,
+            }),
+            Statement::Deliver(place) => self.play(Event::Deliver(place)),
+            Statement::Timeout(port) => self.play(Event::Timeout(port)),
+            Statement::Refuse(port) => self.play(Event::RefuseStore(port)),
+            Statement::Stray(StrayDatagram { from, to, bytes }) => {
+                self.play(Event::Stray(from, to, bytes))
+            }
             Statement::Settle(place) => self.settle(place),
             Statement::Random { seed, count } => self.play_drawn(seed, count),
         }

@@ -1,7 +1,6 @@
 //! What one line of a script says.
 
-ghost use Rattle.std.specs.Prelude.{◌≡◌, ◌≢◌, is_some, true};
-ghost use Rattle.tftp_script.specs.Playable.{is_playable};
+ghost use Rattle.std.specs.Prelude.{◌≡◌, ◌≢◌, is_some};
 ghost use Rattle.tftp_script.specs.declared.script.line.LineFault.TheVariants.{Faulty, Memory};
 ghost use Rattle.tftp_file.specs.declared.path.PathFault.TheVariants as path_faults;
 ghost use Rattle.tftp_store.specs.Memory.{contents};
@@ -10,11 +9,10 @@ ghost use Rattle.tftp_store.specs.Store.{file_at};
 use crate::script::keyword::Keyword;
 use crate::script::statement::{get, put, random, stray};
 use crate::script::word::{content, number, text, yes};
-use crate::script::{Playable, Script, Statement};
+use crate::script::{Script, Statement};
 use std::alloc::{AllocError, AllocFailed, Global};
 use std::str::FromStr;
 use tftp_file::{Path, PathFault, path_of};
-use tftp_player::Event;
 
 /// Why a line is refused.
 #[derive(Clone, Copy)]
@@ -52,9 +50,9 @@ impl Script {
             Keyword::File => self.parse_file(alloc, arguments),
             Keyword::Get => self.push(get(alloc, arguments)?),
             Keyword::Put => self.push(put(alloc, arguments)?),
-            Keyword::Deliver => self.push_event(Event::Deliver(only_number(arguments)?)),
-            Keyword::Timeout => self.push_event(Event::Timeout(only_number(arguments)?)),
-            Keyword::Refuse => self.push_event(Event::RefuseStore(only_number(arguments)?)),
+            Keyword::Deliver => self.push(Statement::Deliver(only_number(arguments)?)),
+            Keyword::Timeout => self.push(Statement::Timeout(only_number(arguments)?)),
+            Keyword::Refuse => self.push(Statement::Refuse(only_number(arguments)?)),
             Keyword::Settle => self.push(Statement::Settle(only_number(arguments)?)),
             Keyword::Random => self.push(random(arguments)?),
             Keyword::Stray => self.push(stray(alloc, arguments)?),
@@ -97,12 +95,6 @@ impl Script {
         }
         self.files.push((path, bytes))?;
         Ok(())
-    }
-
-    fn push_event(&mut self, event: Event) -> Result<(), LineFault>
-        requires { is_playable event ≡ true }
-    {
-        self.push(Statement::Event(Playable { event }))
     }
 
     fn push(&mut self, statement: Statement) -> Result<(), LineFault> {

@@ -1,42 +1,66 @@
 //! The lines of a script on which something happens.
 
-ghost use Rattle.std.specs.Prelude.{◌≡◌, true};
-ghost use Rattle.tftp_player.specs.Arriving.{IsPlayable};
-ghost use Rattle.tftp_script.specs.Playable.{is_playable};
+ghost use Rattle.std.specs.Prelude.{◌≡◌};
+ghost use Rattle.tftp_machine.specs.Machine.{host_of, Elsewhere};
 
 use crate::script::line::LineFault;
 use crate::script::word::{asked, bytes, content, endpoint, mode, number};
 use std::alloc::Global;
-use tftp_player::{Event, World};
-use tftp_wire::Bytes;
+use tftp_ends::Endpoint;
+use tftp_machine::is_foreign;
+use tftp_negotiate::Asked;
+use tftp_wire::{Bytes, Mode};
 
 /// A line on which something happens.
 #[derive(Drop)]
 pub enum Statement {
-    /// An event of the world.
-    Event(Playable),
+    /// A client asks for the server's file of this name.
+    Get {
+        /// The name in the request.
+        name: Bytes,
+        /// The mode of the transfer.
+        mode: Mode,
+        /// The options of the request.
+        asked: Asked,
+    },
+    /// A client sends a file to the server, under this name.
+    Put {
+        /// The name in the request.
+        name: Bytes,
+        /// The mode of the transfer.
+        mode: Mode,
+        /// The options of the request.
+        asked: Asked,
+        /// The file, as the client's host keeps it.
+        bytes: Bytes,
+    },
+    /// The datagram at this place of all that was sent arrives, counted from 0.
+    Deliver(usize),
+    /// The end at this port has waited long enough.
+    Timeout(u16),
+    /// The next append or commit of the receiver at this port is refused for want of room.
+    Refuse(u16),
+    /// A datagram of neither host arrives.
+    Stray(StrayDatagram),
     /// The datagram at this place arrives, then the next, and so on, new ones too.
     Settle(usize),
     /// So many events are drawn, by the generator of this seed.
-    Random { seed: u64, count: u64 },
+    Random {
+        seed: u64,
+        count: u64,
+    },
 }
 
-/// An event that may be played: a stray comes from neither host.
+/// A datagram that comes from neither host.
 #[derive(Drop)]
-pub struct Playable {
-    pub event: Event,
-    ghost playable: { is_playable event ≡ true },
-}
-
-impl Playable {
-    /// The event itself, which a world plays.
-    #[tactic(auto, using(crate::proofs::PlayableLemmas::played))]
-    pub fn into_event(self) -> Event
-        ensures value { result ≡ self.event }
-        ensures playable { IsPlayable result }
-    {
-        self.event
-    }
+pub struct StrayDatagram {
+    /// Where it comes from.
+    pub from: Endpoint,
+    /// Where it arrives, if an end is there.
+    pub to: Endpoint,
+    /// Its bytes.
+    pub bytes: Bytes,
+    ghost foreign: { host_of from ≡ Elsewhere },
 }
 
 /// `get NAME MODE OPTIONS`: a client asks for a file.
@@ -47,8 +71,7 @@ pub(crate) fn get(alloc: Global, arguments: &[&[u8]]) -> Result<Statement, LineF
     let mode = mode(word)?;
     let asked = asked(options, 0)?;
     let name = Bytes::from_slice(alloc, name)?;
-    let event = Event::Get { name, mode, asked };
-    Ok(Statement::Event(Playable { event }))
+    Ok(Statement::Get { name, mode, asked })
 }
 
 /// `put NAME MODE CONTENT OPTIONS`: a client sends a file.
@@ -61,13 +84,12 @@ pub(crate) fn put(alloc: Global, arguments: &[&[u8]]) -> Result<Statement, LineF
     let asked = asked(options, file.len() as u64)?;
     let name = Bytes::from_slice(alloc, name)?;
     let bytes = Bytes::from(file);
-    let event = Event::Put {
+    Ok(Statement::Put {
         name,
         mode,
         asked,
         bytes,
-    };
-    Ok(Statement::Event(Playable { event }))
+    })
 }
 
 /// `stray FROM TO HEX`: a datagram of neither host arrives.
@@ -76,12 +98,12 @@ pub(crate) fn stray(alloc: Global, arguments: &[&[u8]]) -> Result<Statement, Lin
         return Err(LineFault::Faulty);
     };
     let from = endpoint(from)?;
-    if !World::is_foreign(&from) {
+    if !is_foreign(&from) {
         return Err(LineFault::Faulty);
     }
     let to = endpoint(to)?;
-    let event = Event::Stray(from, to, bytes(alloc, digits)?);
-    Ok(Statement::Event(Playable { event }))
+    let bytes = bytes(alloc, digits)?;
+    Ok(Statement::Stray(StrayDatagram { from, to, bytes }))
 }
 
 /// `random SEED COUNT`: so many events are drawn.

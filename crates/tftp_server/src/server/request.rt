@@ -1,6 +1,8 @@
 //! The request port: its tests, one after the other.
 
-ghost use Rattle.std.specs.Prelude.{Bool, ◌≡◌, ◌≢◌, ◌*◌, ◌+◌, ◌<◌, ◌≤◌, true, vec_capacity, IsErrOf, OnOk, ◌++◌, [], Ok, Option, length, option_map, IfOk, IfErr, OnErr};
+ghost use Rattle.std.specs.Prelude.{Bool, ◌≡◌, ◌≢◌, ◌*◌, ◌+◌, ◌<◌, ◌≤◌, true, vec_capacity};
+ghost use Rattle.std.specs.Prelude.{IsErrOf, OnOk, ◌++◌, [], Ok, Option, length, option_map, IfOk};
+ghost use Rattle.std.specs.Prelude.{IfErr, OnErr};
 ghost use Rattle.tftp_wire.specs.Borrowed.{owned};
 ghost use Rattle.tftp_wire.specs.declared.packet.Packet.{Packet};
 ghost use Rattle.tftp_negotiate.specs.Answer.{answer};
@@ -11,8 +13,10 @@ ghost use Rattle.tftp_ends.specs.Action.{Decodes};
 ghost use Rattle.tftp_ends.specs.End.{is_sender};
 ghost use Rattle.tftp_ends.specs.Opening.{ServesRead, CannotStart, serving_write};
 ghost use Rattle.tftp_server.specs.State.{IsRepeated, source_of};
-ghost use Rattle.tftp_server.specs.Port.{accept_reply, asks, begin_reply, by_file, by_kind, by_name, by_options, by_room, by_length};
-ghost use Rattle.tftp_server.specs.Request.{AsksToRead, AsksToWrite, IsRequest, Sent, ask_of, came_to, decided_bytes, kind_and_request};
+ghost use Rattle.tftp_server.specs.Port.{accept_reply, asks, begin_reply, by_file, by_kind};
+ghost use Rattle.tftp_server.specs.Port.{by_name, by_options, by_room, by_length};
+ghost use Rattle.tftp_server.specs.Request.{AsksToRead, AsksToWrite, IsRequest, Sent, ask_of};
+ghost use Rattle.tftp_server.specs.Request.{came_to, decided_bytes, kind_and_request};
 
 use crate::config::Config;
 use crate::fault::ServerFault;

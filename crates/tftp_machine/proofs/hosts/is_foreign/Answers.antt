@@ -2,8 +2,8 @@
 use Rattle.std.proofs.Common.{◌≡◌, Bool, ap, sym, ◌∙◌, subst}
 use Rattle.std.specs.Prelude.{IsTrue, ◌&&◌, ◌↔◌, not}
 use Rattle.tftp_machine.specs.Machine.{Elsewhere, host_of, client_ip, is_same_ip}
-use Rattle.tftp_player.proofs.HostLemmas.{foreign_by}
-use Rattle.tftp_player.proofs.hosts.is_foreign.Goals as goal
+use Rattle.tftp_machine.proofs.HostLemmas.{foreign_by}
+use Rattle.tftp_machine.proofs.hosts.is_foreign.Goals as goal
 
 pub returns-then-ne : goal.returns-then-ne
 returns-then-ne c =
