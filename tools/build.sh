@@ -1,7 +1,6 @@
 #!/bin/sh
 # Proves and builds programs and the crates below them. Usage: build.sh CRATE..
-# Each crate is built as soon as those that it uses are, beside others that are ready: crates.txt says which. The one with the
-# longest way to a program is the most urgent: the others get what it leaves of the processors.
+# Each crate is built as soon as those that it uses are, beside others that are ready: crates.txt says which.
 # Prints a line for each crate that it proves: its name, how many functions it has, and the seconds that this took.
 # The prover's own log of a crate is out/CRATE.log, and its end is printed where the crate fails.
 set -u
@@ -31,25 +30,7 @@ crates_below() {
     crates_of "$1" | grep -v "^$1\$"
 }
 
-# these crates and those below them, each with its urgency: how many have more lines on the way from them to a program
-urgencies_of() {
-    for crate in $(crates_of "$@"); do
-        echo "$crate $(find "crates/$crate/src" -name '*.rt' -exec cat {} + | wc -l) $(sed -n "s/^$crate://p" crates.txt)"
-    done | awk '
-        { name[NR] = $1; lines[$1] = $2; $1 = $2 = ""; uses[name[NR]] = $0 }
-        END {
-            for (place = NR; place > 0; place--) {
-                way[name[place]] += lines[name[place]]
-                count = split(uses[name[place]], deps, " ")
-                for (i = 1; i <= count; i++)
-                    if (way[deps[i]] < way[name[place]]) way[deps[i]] = way[name[place]]
-            }
-            for (place = 1; place <= NR; place++) print way[name[place]], name[place]
-        }
-    ' | sort -rn | awk '{ print $2, NR - 1 }'
-}
-
-# proves and builds one crate of the repository at this folder, with this urgency (0 is the most urgent)
+# proves and builds one crate of the repository at this folder
 build() {
     log=$PWD/out/$1.log
     # rt gives a second and a fourth processor to large crates alone
@@ -57,7 +38,7 @@ build() {
     # a program runs once it is built: it only prints its help
     test ! -f "crates/$1/src/main.rt" || verb="run -- --help"
     start=$(date +%s)
-    (cd "$2/crates/$1" && nice -n "$3" rt $verb) < /dev/null > "$log.new" 2>&1
+    (cd "$2/crates/$1" && rt $verb) < /dev/null > "$log.new" 2>&1
     status=$?
     # rt says little of a crate that it finds proved: the log of the proof stays
     functions=$(sed -n 's/^logic=proved functions=\([0-9]*\).*/\1/p' "$log.new" | tail -n 1)
@@ -92,7 +73,7 @@ build_apart() {
     for part in src specs proofs out; do
         test ! -d "crates/$1/$part" || cp -al "crates/$1/$part/." "$room/crates/$1/$part"
     done
-    build "$1" "$room" "$2"
+    build "$1" "$room"
     built=$?
     rm -rf "crates/$1/out"
     mv "$room/crates/$1/out" "crates/$1/out"
@@ -101,18 +82,17 @@ build_apart() {
 }
 
 if test "$1" = --one; then
-    build_apart "$2" "$3"
+    build_apart "$2"
     exit
 fi
 
-# a rule for each crate, so that make finds out which can be built side by side; it begins with those that are named first
-urgencies_of "$@" > out/urgencies
+# a rule for each crate, so that make finds out which can be built side by side
 {
     echo ".PHONY: all $(crates_of "$@" | tr '\n' ' ')"
-    echo "all: $(cut -d ' ' -f 1 out/urgencies | tr '\n' ' ')"
-    while read -r crate urgency; do
+    echo "all: $*"
+    for crate in $(crates_of "$@"); do
         echo "$crate: $(crates_below "$crate" | tr '\n' ' ')"
-        printf '\t@tools/build.sh --one %s %s\n' "$crate" "$urgency"
-    done < out/urgencies
+        printf '\t@tools/build.sh --one %s\n' "$crate"
+    done
 } > out/build.mk
 exec env -u MAKEFLAGS -u MAKELEVEL make -j 4 -f out/build.mk all
