@@ -1,6 +1,7 @@
 //! The script of `tftp-play`: the lines that it may have, and what they say.
 
-ghost use Rattle.std.specs.Prelude.{◌≡◌, true};
+ghost use Rattle.std.specs.Prelude.{◌≡◌, ◌≢◌, true, IfErr};
+ghost use Rattle.tftp_script.specs.declared.script.ScriptFault.TheVariants.{Line};
 ghost use Rattle.tftp_server.specs.Config.{IsConfig};
 ghost use Rattle.tftp_store.specs.Memory.{contents, has_distinct_paths};
 
@@ -42,7 +43,9 @@ impl Script {
     /// Empty lines and lines that begin with `#` say nothing.
     ///
     /// `Line` names the first line that is none of the language's, or that no LF ends.
-    pub fn parse(alloc: Global, text: &[u8]) -> Result<Script, ScriptFault> {
+    pub fn parse(alloc: Global, text: &[u8]) -> Result<Script, ScriptFault>
+        ensures counted { IfErr result (λ fault. fault ≢ Line 0) }
+    {
         let mut script = Script {
             config: Config::default(),
             files: Vec::new(alloc),
