@@ -1,4 +1,5 @@
 # make run: proves the programs, builds them into bin/ and runs the main job on a small sample
+# make tftp-show, tftp-play, tftp or tftpd: proves and builds that program alone, which takes less than all four
 # make test: the gate, every proof from nothing
 # make bench: the benchmarks of bench/, which are no tests
 # make bench-udp: tftpd and tftp beside the other servers and clients that are installed
@@ -6,7 +7,7 @@
 PROGRAMS := bin/tftp-show bin/tftp-play bin/tftp bin/tftpd
 SOURCES := $(shell find crates -path '*/out' -prune -o \( -name '*.rt' -o -name '*.antt' \) -print) crates.txt
 
-.PHONY: run test bench bench-udp clean
+.PHONY: run tftp-show tftp-play tftp tftpd test bench bench-udp clean
 # one after another: each crate is proved by as many processors as there are
 .NOTPARALLEL:
 
@@ -23,6 +24,11 @@ $(PROGRAMS) &: $(SOURCES) tools/build.sh
 	@cp crates/tftp_play_main/out/tftp_play_main bin/tftp-play
 	@cp crates/tftp_main/out/tftp_main bin/tftp
 	@cp crates/tftpd_main/out/tftpd_main bin/tftpd
+
+tftp-show tftp-play tftp tftpd:
+	@tools/build.sh $(subst -,_,$@)_main
+	@mkdir -p bin
+	@cp crates/$(subst -,_,$@)_main/out/$(subst -,_,$@)_main bin/$@
 
 test:
 	rt ci
