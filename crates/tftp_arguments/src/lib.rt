@@ -5,7 +5,5 @@
 #![tactic(auto)]
 
 mod arguments;
-mod endpoint;
 
 pub use arguments::{flag, number, own_words, print_usage, word};
-pub use endpoint::endpoint_in;

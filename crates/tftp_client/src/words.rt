@@ -13,8 +13,8 @@ use std::io::{self, IsTerminal};
 use std::net::Net;
 use std::rt::{Files, Runtime};
 use std::time::Clock;
-use tftp_arguments::{endpoint_in, flag, number, own_words, print_usage, word};
-use tftp_host::ClientEnd;
+use tftp_arguments::{flag, number, own_words, print_usage, word};
+use tftp_host::{ClientEnd, endpoint_in};
 use tftp_negotiate::{Asked, DEFAULT_BLOCK, Kind, MAX_BLOCK, MIN_BLOCK};
 use tftp_wire::Mode;
 

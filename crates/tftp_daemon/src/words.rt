@@ -14,7 +14,8 @@ use std::io;
 use std::net::Net;
 use std::rt::{Files, Runtime};
 use std::time::Clock;
-use tftp_arguments::{endpoint_in, flag, number, own_words, print_usage, word};
+use tftp_arguments::{flag, number, own_words, print_usage, word};
+use tftp_host::endpoint_in;
 use tftp_negotiate::{Limits, MAX_BLOCK, MIN_BLOCK};
 use tftp_server::Config;
 

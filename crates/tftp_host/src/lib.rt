@@ -24,6 +24,6 @@ pub use log_line::LogLine;
 pub use port::{Port, place_of, wait_for};
 pub use printed::Printed;
 pub use progress_line::{LineClock, ProgressLine};
-pub use udp::{DATAGRAM_BUFFER, address_of, endpoint_of, read_clock};
+pub use udp::{DATAGRAM_BUFFER, address_of, endpoint_in, endpoint_of, read_clock};
 pub use watch::{LONGEST_WAIT, Watch, deadline, is_due};
 pub use without_options::fallback;

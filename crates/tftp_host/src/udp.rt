@@ -1,6 +1,6 @@
 //! Addresses, the size of a datagram and the clock, as the programs over UDP use them.
 
-ghost use Rattle.tftp_host.specs.Address.{IsAddressOf, IsEndpointOf};
+ghost use Rattle.tftp_host.specs.Address.{IsAddressOf, IsEndpointOf, Names};
 
 use std::net::{SocketAddr, SocketAddrV4};
 use std::time::Clock;
@@ -25,6 +25,16 @@ pub fn endpoint_of(address: SocketAddr) -> Option<Endpoint>
     match address {
         SocketAddr::V4(address) => Some(Endpoint::from(address)),
         SocketAddr::V6(_) => None,
+    }
+}
+
+/// The endpoint that a word `ADDR:PORT` names, with a dotted IPv4 address.
+pub fn endpoint_in(word: &str) -> Option<Endpoint>
+    ensures { Names word.now result }
+{
+    match word.parse::<SocketAddrV4>() {
+        Ok(address) => Some(Endpoint::from(address)),
+        Err(_) => None,
     }
 }
 
