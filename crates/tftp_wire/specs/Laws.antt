@@ -5,7 +5,7 @@ use Rattle.tftp_wire.specs.declared.packet.Packet.{Packet}
 use Rattle.tftp_wire.specs.declared.packet.Packet.TheVariants.{Read, Write, Oack}
 use Rattle.tftp_wire.specs.declared.packet.Request.{Request}
 use Rattle.tftp_wire.specs.Options.{options_bytes}
-use Rattle.tftp_wire.specs.Spelling.{Spells, IsValid, canonical, plain_request}
+use Rattle.tftp_wire.specs.Spelling.{Spells, IsValid, canonical, default_request}
 use Rattle.tftp_wire.specs.Parts.{packet_in}
 use Rattle.tftp_wire.specs.Reading.{first_fault}
 
@@ -29,7 +29,7 @@ SpelledIsFound = (p : Packet) (bytes : List ℕ) → Spells p bytes → packet_i
 
 -- the request without its options
 abbrev pub beginning : Request → Request
-beginning r = plain_request r.name r.mode
+beginning r = default_request r.name r.mode
 
 -- the options of a packet stand behind the packet without them
 pub record OptionsFollow : Type 0 where

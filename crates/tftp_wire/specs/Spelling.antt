@@ -27,8 +27,8 @@ request_bytes opcode word r =
     big_bytes 2 opcode ++ (zero_ended r.name ++ (zero_ended word ++ options_bytes r.options))
 
 -- a request without options
-abbrev pub plain_request : List ℕ → Mode → Request
-plain_request name mode = record { name = name; mode = mode; options = [] }
+abbrev pub default_request : List ℕ → Mode → Request
+default_request name mode = record { name = name; mode = mode; options = [] }
 
 -- a packet by the word of its mode
 abbrev pub written : List ℕ → Packet → List ℕ

@@ -9,7 +9,7 @@ ghost use Rattle.std.specs.Prelude.{vec_len, vec_capacity};
 ghost use Rattle.byteorder.specs.Endian.{big_bytes};
 ghost use Rattle.tftp_wire.specs.Modes.{mode_word};
 ghost use Rattle.tftp_wire.specs.Options.{option_bytes};
-ghost use Rattle.tftp_wire.specs.Spelling.{canonical, plain_request, request_bytes};
+ghost use Rattle.tftp_wire.specs.Spelling.{canonical, default_request, request_bytes};
 ghost use Rattle.tftp_wire.specs.Texts.{zero_ended};
 ghost use Rattle.tftp_wire.specs.declared.packet.Packet.TheVariants.{Read, Write, Data, Ack, Error};
 ghost use Rattle.tftp_wire.specs.declared.packet.Packet.TheVariants.{Oack};
@@ -71,7 +71,7 @@ pub fn append_error(out: &mut Vec<u8>, code: u16, text: &[u8]) -> Result<(), All
 /// Appends a request to read, without options: they are to follow.
 pub fn append_read(out: &mut Vec<u8>, name: &[u8], mode: Mode) -> Result<(), AllocError>
     ensures ok { OnOk result
-        (out.new.items ≡ out.old.items ++ canonical (Read (plain_request name.now mode))) }
+        (out.new.items ≡ out.old.items ++ canonical (Read (default_request name.now mode))) }
     ensures err { OnErr result (out.new.items ≡ out.old.items) }
     ensures room { vec_len out.old + (length name.now + length (mode_word mode) + 4)
         ≤ vec_capacity out.old → IsOk result }
@@ -83,7 +83,7 @@ pub fn append_read(out: &mut Vec<u8>, name: &[u8], mode: Mode) -> Result<(), All
 /// Appends a request to write, without options: they are to follow.
 pub fn append_write(out: &mut Vec<u8>, name: &[u8], mode: Mode) -> Result<(), AllocError>
     ensures ok { OnOk result
-        (out.new.items ≡ out.old.items ++ canonical (Write (plain_request name.now mode))) }
+        (out.new.items ≡ out.old.items ++ canonical (Write (default_request name.now mode))) }
     ensures err { OnErr result (out.new.items ≡ out.old.items) }
     ensures room { vec_len out.old + (length name.now + length (mode_word mode) + 4)
         ≤ vec_capacity out.old → IsOk result }
@@ -94,7 +94,7 @@ pub fn append_write(out: &mut Vec<u8>, name: &[u8], mode: Mode) -> Result<(), Al
 
 fn append_request(out: &mut Vec<u8>, opcode: u16, name: &[u8], mode: Mode) -> Result<(), AllocError>
     ensures ok { OnOk result (out.new.items
-        ≡ out.old.items ++ request_bytes opcode (mode_word mode) (plain_request name.now mode)) }
+        ≡ out.old.items ++ request_bytes opcode (mode_word mode) (default_request name.now mode)) }
     ensures err { OnErr result (out.new.items ≡ out.old.items) }
     ensures room { vec_len out.old + (length name.now + length (mode_word mode) + 4)
         ≤ vec_capacity out.old → IsOk result }
