@@ -8,6 +8,10 @@ use Rattle.tftp_wire.specs.declared.mode.Mode.TheVariants.{Octet, Netascii}
 use Rattle.tftp_wire.specs.declared.options.RawOption.{RawOption}
 use Rattle.tftp_wire.specs.declared.packet.Packet.TheVariants.{Read, Write, Data, Ack, Error, Oack}
 use Rattle.tftp_wire.specs.declared.packet.Request.{Request}
+use Rattle.tftp_wire.specs.declared.fault.PacketFaultKind.{PacketFaultKind}
+use Rattle.tftp_wire.specs.declared.fault.PacketFaultKind.TheVariants as kinds
+use Rattle.tftp_wire.specs.Datagram.{fault_line}
+use Rattle.tftp_wire.specs.Faults.{kind_name}
 use Rattle.tftp_wire.specs.Line.{line, option_words, shown, shown_byte, shown_message_byte, is_plain}
 use Rattle.tftp_wire.specs.Modes.{mode_word}
 use Rattle.tftp_wire.specs.Options.{options_bytes}
@@ -64,3 +68,22 @@ error_fits code text b =
 -- an OACK
 pub oack_fits : (os : List RawOption) → length (line (Oack os)) ≤ 3 * length (canonical (Oack os)) + 40
 oack_fits os = simp length-append (omega (arith, options_fit os))
+
+name_fits : (kind : PacketFaultKind) → length (kind_name kind) ≤ 12
+name_fits kinds.Short = omega arith
+name_fits kinds.Opcode = omega arith
+name_fits kinds.Unterminated = omega arith
+name_fits kinds.EmptyName = omega arith
+name_fits kinds.Mode = omega arith
+name_fits kinds.NoValue = omega arith
+name_fits kinds.EmptyOption = omega arith
+name_fits kinds.Trailing = omega arith
+name_fits kinds.TooLong = omega arith
+name_fits kinds.BlockZero = omega arith
+name_fits kinds.EmptyOack = omega arith
+name_fits kinds.Memory = omega arith
+
+-- a fault
+pub fault_fits : (kind : PacketFaultKind) (at : ℕ) → at < 2 ^ 64 → length (fault_line kind at) ≤ 40
+fault_fits kind at b =
+    simp length-append (omega (arith, name_fits kind, length-decimal-le 20 at (omega arith) (omega arith) (omega arith)))

@@ -2,24 +2,29 @@
 
 ghost use Rattle.std.specs.Prelude.{◌≡◌, ◌++◌, IfErr, IfOk, OnOk, is_none};
 ghost use Rattle.std.specs.String.{string_bytes};
-ghost use Rattle.tftp_wire.specs.Datagram.{datagram_shown};
+ghost use Rattle.tftp_wire.specs.Datagram.{datagram_shown, fault_line};
 ghost use Rattle.tftp_wire.specs.Faults.{out_of_memory};
 ghost use Rattle.tftp_wire.specs.Reading.{first_fault};
+ghost use Rattle.tftp_wire.specs.Room.{HasRoom, Puts};
 
-use crate::fault::PacketFault;
+use crate::fault::{PacketFault, PacketFaultKind};
 use crate::laws;
-use crate::line::show_ref;
+use crate::line::{put_number, put_str, show_ref};
 use crate::reader::decode_ref;
+
+/// What the line of a fault has at most, in bytes.
+const FAULT_LINE: usize = 40;
 
 /// Appends the line of a datagram, without a line end, and returns whether it is a packet: the
 /// packet's line as [`show_ref`] writes it, or `fault KIND AT`.
 ///
-/// It fails only when out of memory; a beginning of the line may then stand in `out`.
+/// It fails only when out of memory, and `out` is then as before.
 pub fn show_datagram(bytes: &[u8], out: &mut String) -> Result<bool, PacketFault>
     ensures is_packet { IfOk result (λ is_packet. is_packet ≡ is_none (first_fault bytes.now)) }
     ensures appended { OnOk result (string_bytes out.new
         ≡ string_bytes out.old ++ datagram_shown bytes.now (first_fault bytes.now)) }
-    ensures memory { IfErr result (λ e. e ≡ out_of_memory) }
+    ensures err { IfErr result (λ e.
+        (e ≡ out_of_memory) × (string_bytes out.new ≡ string_bytes out.old)) }
 {
     match decode_ref(bytes) {
         Ok(packet) => {
@@ -30,10 +35,29 @@ pub fn show_datagram(bytes: &[u8], out: &mut String) -> Result<bool, PacketFault
             Ok(true)
         }
         Err(fault) => {
-            let kind = fault.kind.name();
-            let at = fault.at;
-            write!(out, "fault {kind} {at}")?;
+            show_fault(fault.kind, fault.at, out)?;
             Ok(false)
         }
     }
+}
+
+/// Appends the line of a fault.
+fn show_fault(kind: PacketFaultKind, at: usize, out: &mut String) -> Result<(), PacketFault>
+    ensures ok { OnOk result (string_bytes out.new ≡ string_bytes out.old ++ fault_line kind at) }
+    ensures err { IfErr result (λ e.
+        (e ≡ out_of_memory) × (string_bytes out.new ≡ string_bytes out.old)) }
+{
+    out.reserve(FAULT_LINE)?;
+    put_fault(out, kind, at);
+    Ok(())
+}
+
+fn put_fault(out: &mut String, kind: PacketFaultKind, at: usize)
+    requires { HasRoom (fault_line kind at) out.old }
+    ensures { Puts (fault_line kind at) out.old out.new }
+{
+    put_str(out, "fault ");
+    put_str(out, kind.name());
+    put_str(out, " ");
+    put_number(out, at);
 }

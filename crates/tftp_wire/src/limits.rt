@@ -14,3 +14,12 @@ pub const MAX_BLOCK: u16 = 65_464;
 
 /// No DATA, and so no packet, is longer, in bytes.
 pub const MAX_DATA: usize = HEADER + MAX_BLOCK as usize;
+
+// The numbers that the standards have.
+const _: () = prove!(HEADER == 4);
+
+const _: () = prove!(MAX_REQUEST == 512);
+
+const _: () = prove!(MAX_BLOCK == 65_464);
+
+const _: () = prove!(MAX_DATA == 65_468);

@@ -282,7 +282,7 @@ fn hex_digit(digit: u8) -> char
     }
 }
 
-fn put_number(out: &mut String, number: usize)
+pub(crate) fn put_number(out: &mut String, number: usize)
     requires { HasRoom (decimal number) out.old }
     ensures { Puts (decimal number) out.old out.new }
 {
@@ -298,7 +298,7 @@ fn put_char(out: &mut String, ch: char)
 }
 
 /// Appends text for which there is room.
-fn put_str(out: &mut String, text: &str)
+pub(crate) fn put_str(out: &mut String, text: &str)
     requires { HasRoom text.now out.old }
     ensures { Puts text.now out.old out.new }
 {

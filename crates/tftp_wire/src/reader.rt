@@ -1,7 +1,7 @@
 //! Reads a datagram, once for the owned and the borrowed packets, and finds its first fault.
 
 ghost use Rattle.std.specs.Prelude.{◌≡◌, ◌≤◌, ◌+◌, ◌-◌, ◌<◌, ◌^◌, ◌==◌, ◌∷◌, [], not, None, length};
-ghost use Rattle.std.specs.Prelude.{drop, IfOk, IfErr, MatchResult, IsOkAnd};
+ghost use Rattle.std.specs.Prelude.{drop, IfOk, IfErr, MatchResult, IsOkAnd, IsTrue, ◌↔◌};
 ghost use Rattle.byteorder.specs.Endian.{big_number};
 ghost use Rattle.tftp_wire.specs.Borrowed.{owned, owned_request};
 ghost use Rattle.tftp_wire.specs.Options.{options_in};
@@ -188,10 +188,17 @@ fn read_options(bytes: &[u8], at: usize) -> Result<OptionsRef<'_>, PacketFault>
     ensures { Reads (λ options. options) (options_in bytes.now) (bytes_fault at bytes.now) result }
 {
     let mut rest = bytes;
-    while !rest.is_empty() {
+    while has_more(rest) {
         rest = skip_option(rest, at + (bytes.len() - rest.len()))?;
     }
     Ok(OptionsRef::new(bytes))
+}
+
+/// Whether an option is left: no option is empty.
+fn has_more(rest: &[u8]) -> bool
+    ensures { IsTrue result ↔ (0 < length rest.now) }
+{
+    !rest.is_empty()
 }
 
 /// The bytes after the option that begins at `at` in the datagram.

@@ -1,9 +1,14 @@
 -- Bytes whose options have no fault are options.
-use Rattle.std.proofs.Common.{◌∙◌, sym}
-use Rattle.std.proofs.lemmas.Bool.{eqb-true}
+use Rattle.std.proofs.Common.{◌≡◌, ◌<◌, ℕ, Bool, true, false, zero, suc, refl, ◌∙◌, sym, arith}
+use Rattle.std.proofs.lemmas.Bool.{true≢false}
 use Rattle.tftp_wire.proofs.ReadingLemmas.{options_fine, nothing_left}
 use Rattle.tftp_wire.proofs.reader.read_options.Goals as goal
 
+-- a number that a test for more says is none
+none_more : (n : ℕ) (more : Bool) → (0 < n → more ≡ true) → more ≡ false → n ≡ 0
+none_more zero more h e = refl
+none_more (suc n) more h e = absurd (true≢false (sym (h (omega arith)) ∙ e))
+
 pub new-requires : goal.new-requires
 new-requires c =
-    options_fine _ _ (c.loop-rest.invariant.same ∙ nothing_left _ _ (eqb-true _ _ (sym c.loop-rest-test.ensures)))
+    options_fine _ _ (c.loop-rest.invariant.same ∙ nothing_left _ _ (none_more _ _ c.has_more.ensures.1 c.loop-rest-test.false))
