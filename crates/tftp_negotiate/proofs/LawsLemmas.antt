@@ -22,14 +22,14 @@ use Rattle.tftp_negotiate.specs.declared.refusal.Refusal.{Refusal}
 use Rattle.tftp_negotiate.specs.declared.refusal.Refusal.TheVariants.{Repeated}
 use Rattle.tftp_negotiate.specs.Options.{name_of, number_of, name_text}
 use Rattle.tftp_negotiate.specs.Ranges.{IsBlockSize, IsTimeout}
-use Rattle.tftp_negotiate.specs.Negotiation.{same_name, is_name, places_of, repeats, kept_before, each_judged, negotiated}
+use Rattle.tftp_negotiate.specs.Negotiation.{same_name, is_name, places_of, AreOnce, repeats, kept_before, each_judged, negotiated}
 use Rattle.tftp_negotiate.specs.Asked.{IsFor, asked_tsize, asked_value, request_tsize, option_of, option_if, asked_options}
 use Rattle.tftp_negotiate.specs.Agreed.{name_of_known, IsAgreeable, count_of, IsAgreement, size, known_option, agreed_options}
 use Rattle.tftp_negotiate.specs.Answer.{answered, answered_option, answered_blksize, answered_timeout, answered_tsize}
 use Rattle.tftp_negotiate.specs.Agreement.{taken, taken_option, taken_blksize, taken_timeout, taken_tsize}
 use Rattle.tftp_negotiate.specs.Laws.{NumbersArePrinted, EndsAgree, LengthsFit, Requests, IsWithinRequest, AnswersWithinRequest, WasAsked, IsWithinAsked, TakesNothingUnasked, AnswersMayBeAgreed, TakenMayBeAgreed, AgreementsAreShort, AgreementsHaveBlockSizes}
 use Rattle.tftp_negotiate.proofs.OptionsLemmas.{number_of-decimal, decimal-number_of, both_parts}
-use Rattle.tftp_negotiate.proofs.NegotiationLemmas.{AreOnce, Keeps, places_of-nil, places_of-cons, count_of-cons, repeats_none, IsAgreement-from_judged}
+use Rattle.tftp_negotiate.proofs.NegotiationLemmas.{Keeps, places_of-nil, places_of-cons, count_of-cons, repeats_none, IsAgreement-from_judged}
 use Rattle.tftp_negotiate.proofs.PolicyLemmas.{answered_option-Keeps, taken_option-Keeps, cond_ok, block_size_from_test}
 
 pub numbers_are_printed : NumbersArePrinted

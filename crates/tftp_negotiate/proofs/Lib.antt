@@ -3,3 +3,4 @@ pub mod NegotiationLemmas
 pub mod SpellingLemmas
 pub mod PolicyLemmas
 pub mod LawsLemmas
+pub mod KeptLemmas

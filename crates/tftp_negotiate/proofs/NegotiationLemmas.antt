@@ -14,7 +14,7 @@ use Rattle.tftp_negotiate.specs.declared.refusal.Refusal.{Refusal}
 use Rattle.tftp_negotiate.specs.declared.refusal.Refusal.TheVariants.{Repeated}
 use Rattle.tftp_negotiate.specs.Options.{name_of}
 use Rattle.tftp_negotiate.specs.Names.{has, has_name, with_name}
-use Rattle.tftp_negotiate.specs.Negotiation.{same_name, is_name, places_of, repeats, kept_before, kept_after, each_judged, negotiated}
+use Rattle.tftp_negotiate.specs.Negotiation.{same_name, is_name, places_of, AreOnce, repeats, kept_before, kept_after, each_judged, negotiated}
 use Rattle.tftp_negotiate.specs.Agreed.{name_of_known, IsAgreeable, IsAgreement, count_of}
 
 -- whether the option has the name: 1 or 0
@@ -63,10 +63,6 @@ each_judged-push judgement (x ∷ xs) o =
 pub record Keeps (judgement : RawOption → Result (Option Known) Refusal) : Type 0 where
   pub names : (o : RawOption) (k : Known) → judgement o ≡ Ok (Some k) → name_of o.name ≡ Some (name_of_known k)
   pub values : (o : RawOption) (k : Known) → judgement o ≡ Ok (Some k) → IsAgreeable k
-
--- no name stands twice
-abbrev pub AreOnce : List RawOption → Type 0
-AreOnce os = (name : Name) → places_of name os ≤ 1
 
 none_twice : (a b c : ℕ) → a ≤ 1 → b ≤ 1 → c ≤ 1 → (nat_lt 1 a || (nat_lt 1 b || nat_lt 1 c)) ≡ false
 none_twice a b c p q r = grind (arith, nat_tests)

@@ -1,5 +1,5 @@
 -- What a client takes of an OACK (RFC 2347, "Negotiation Protocol"; RFC 2348; RFC 2349).
-use Rattle.std.specs.Prelude.{ℕ, List, Option, Some, None, Result, Ok, Err, ◌==◌, nat_le, if◌then◌else◌}
+use Rattle.std.specs.Prelude.{ℕ, List, [], ◌∷◌, Option, Some, None, Result, Ok, Err, ◌==◌, nat_le, if◌then◌else◌}
 use Rattle.tftp_wire.specs.declared.options.RawOption.{RawOption}
 use Rattle.tftp_wire.specs.declared.mode.Mode.{Mode}
 use Rattle.tftp_negotiate.specs.declared.known.Kind.{Kind}
@@ -14,7 +14,7 @@ use Rattle.tftp_negotiate.specs.declared.refusal.Refusal.TheVariants.{TooLarge, 
 use Rattle.tftp_negotiate.specs.Options.{name_of, number_of}
 use Rattle.tftp_negotiate.specs.Ranges.{is_in, block_sizes_to}
 use Rattle.tftp_negotiate.specs.Asked.{asked_tsize}
-use Rattle.tftp_negotiate.specs.Negotiation.{negotiated}
+use Rattle.tftp_negotiate.specs.Negotiation.{is_name, negotiated}
 
 -- a block size of 8 up to what was asked
 abbrev pub taken_blksize : Option ℕ → Option ℕ → Result (Option Known) Refusal
@@ -50,3 +50,8 @@ taken_option asked kind mode limit o = taken asked kind mode limit (name_of o.na
 -- what a client agrees to of an OACK's options: all of them, or why not
 abbrev pub agreement : Asked → Kind → Mode → List RawOption → ℕ → Result (List Known) Refusal
 agreement asked kind mode options limit = negotiated (taken_option asked kind mode limit) options
+
+-- the length of the file that options state, in bytes of wire text: that of the first `tsize`
+abbrev pub stated_tsize : List RawOption → Option ℕ
+stated_tsize [] = None
+stated_tsize (o ∷ os) = if is_name name.Tsize (name_of o.name) then number_of o.value else stated_tsize os

@@ -1,8 +1,10 @@
 -- What holds of every negotiation, whatever the program does.
-use Rattle.std.specs.Prelude.{ℕ, ◌≡◌, ◌↔◌, ◌*◌, ◌^◌, ◌<◌, ◌≤◌, List, Some, Option, Ok, Contains, IsSome, decimal, length}
+use Rattle.std.specs.Prelude.{ℕ, ◌≡◌, ◌↔◌, ◌⊎◌, ◌*◌, ◌^◌, ◌<◌, ◌≤◌, List, Some, Option, Ok, Err, Contains, IsSome, decimal, length, min}
 use Rattle.std.specs.List.{AllByRecursion}
+use Rattle.std.specs.Str.{str_to_ascii_lowercase}
 use Rattle.tftp_wire.specs.declared.options.RawOption.{RawOption}
 use Rattle.tftp_wire.specs.declared.mode.Mode.{Mode}
+use Rattle.tftp_wire.specs.declared.mode.Mode.TheVariants.{Octet}
 use Rattle.tftp_wire.specs.Options.{IsOption, options_bytes}
 use Rattle.tftp_negotiate.specs.declared.asked.Asked.{Asked}
 use Rattle.tftp_negotiate.specs.declared.known.Kind.{Kind}
@@ -13,8 +15,10 @@ use Rattle.tftp_negotiate.specs.declared.limits.Limits.{Limits}
 use Rattle.tftp_negotiate.specs.declared.limits.TheConstants.{MIN_BLOCK}
 use Rattle.tftp_negotiate.specs.declared.name.Name.{Name}
 use Rattle.tftp_negotiate.specs.declared.name.Name.TheVariants as name
-use Rattle.tftp_negotiate.specs.Options.{name_of, number_of}
-use Rattle.tftp_negotiate.specs.Ranges.{IsBlockSize}
+use Rattle.tftp_negotiate.specs.Options.{name_of, name_text, number_of}
+use Rattle.tftp_negotiate.specs.declared.refusal.Refusal.TheVariants.{TooLarge}
+use Rattle.tftp_negotiate.specs.Ranges.{IsBlockSize, IsTimeout}
+use Rattle.tftp_negotiate.specs.Negotiation.{AreOnce}
 use Rattle.tftp_negotiate.specs.Asked.{IsAskable, IsFor, asked_value, asked_options}
 use Rattle.tftp_negotiate.specs.Agreed.{IsAgreement, size, value_of_known, agreed_options}
 use Rattle.tftp_negotiate.specs.Answer.{answer}
@@ -85,6 +89,62 @@ TakesNothingUnasked = (asked : Asked) (kind : Kind) (mode : Mode) (options : Lis
     (limit : ℕ) (known : List Known)
     → agreement asked kind mode options limit ≡ Ok known
     → AllByRecursion (WasAsked asked mode) options × AllByRecursion (IsWithinAsked asked kind mode limit) known
+
+-- an option has this name, whatever the case of its letters, and the digits of this number
+pub record Says (o : RawOption) (one : Name) (n : ℕ) : Type 0 where
+  pub name : str_to_ascii_lowercase o.name ≡ name_text one
+  pub value : o.value ≡ decimal n
+  pub fits : n < 2 ^ 64
+
+-- some option of the list says so
+abbrev pub HasOption : List RawOption → Name → ℕ → Type 0
+HasOption options one n = (o : RawOption) × Contains options o × Says o one n
+
+-- a request may ask this value under this name: in netascii no length, and of a read the length 0
+abbrev pub MayRequest : Kind → Mode → Name → ℕ → Type 0
+MayRequest kind mode name.Blksize n = IsBlockSize n
+MayRequest kind mode name.Timeout n = IsTimeout n
+MayRequest kind mode name.Tsize n = (mode ≡ Octet) × (kind ≡ Read → n ≡ 0)
+
+-- what is granted where a request asks this value under this name
+abbrev pub granted : Kind → ℕ → ℕ → Name → ℕ → Known
+granted kind length max_block name.Blksize n = Blksize (min n max_block)
+granted kind length max_block name.Timeout n = Timeout n
+granted Read length max_block name.Tsize n = Tsize length
+granted Write length max_block name.Tsize n = Tsize n
+
+-- a known option that stands once and has a value in its range is answered, unless the whole is too large
+abbrev pub AnswersWhatIsKnown : Type 0
+AnswersWhatIsKnown = (options : List RawOption) (kind : Kind) (mode : Mode) (length : ℕ)
+    (limits : Limits) → AreOnce options
+    → (answer options kind mode length limits ≡ Err TooLarge)
+    ⊎ ((known : List Known) × (answer options kind mode length limits ≡ Ok known)
+    × ((one : Name) (n : ℕ) → HasOption options one n → MayRequest kind mode one n
+    → Contains known (granted kind length limits.max_block one n)))
+
+-- a request is too large only where it is one to write, and asks a length above the limit
+abbrev pub TooLargeForWrites : Type 0
+TooLargeForWrites = (options : List RawOption) (kind : Kind) (mode : Mode) (length : ℕ)
+    (limits : Limits) → answer options kind mode length limits ≡ Err TooLarge
+    → (kind ≡ Write) × (mode ≡ Octet) × (n : ℕ) × Requests options name.Tsize n × (limits.max_file < n)
+
+-- a known option with its value
+abbrev pub known_of : Name → ℕ → Known
+known_of name.Blksize n = Blksize n
+known_of name.Timeout n = Timeout n
+known_of name.Tsize n = Tsize n
+
+-- the option of an OACK answers one that was asked, within what was asked
+abbrev pub AnswersAsked : Asked → Kind → Mode → ℕ → RawOption → Type 0
+AnswersAsked asked kind mode limit o =
+    (one : Name) × (n : ℕ) × Says o one n × IsWithinAsked asked kind mode limit (known_of one n)
+
+-- an OACK of nothing but such answers, none of them twice, is taken, with each of them
+abbrev pub TakesWhatWasAsked : Type 0
+TakesWhatWasAsked = (asked : Asked) (kind : Kind) (mode : Mode) (options : List RawOption)
+    (limit : ℕ) → AreOnce options → AllByRecursion (AnswersAsked asked kind mode limit) options
+    → (known : List Known) × (agreement asked kind mode options limit ≡ Ok known)
+    × ((one : Name) (n : ℕ) → HasOption options one n → Contains known (known_of one n))
 
 -- what a server answers may be agreed
 abbrev pub AnswersMayBeAgreed : Type 0

@@ -1,5 +1,5 @@
 -- A list of options, judged one by one (RFC 2347, "Negotiation Protocol").
-use Rattle.std.specs.Prelude.{ℕ, Bool, false, true, ◌||◌, List, [], ◌∷◌, ◌++◌, Option, Some, None, Result, Ok, Err, count_by, nat_lt, if◌then◌else◌}
+use Rattle.std.specs.Prelude.{ℕ, ◌≤◌, Bool, false, true, ◌||◌, List, [], ◌∷◌, ◌++◌, Option, Some, None, Result, Ok, Err, count_by, nat_lt, if◌then◌else◌}
 use Rattle.tftp_wire.specs.declared.options.RawOption.{RawOption}
 use Rattle.tftp_negotiate.specs.declared.name.Name.{Name}
 use Rattle.tftp_negotiate.specs.declared.name.Name.TheVariants.{Blksize, Timeout, Tsize}
@@ -35,6 +35,10 @@ places_of name options = places (λ o. name_of o.name) name options
 -- a known name stands twice in a request or an OACK, whatever its values
 abbrev pub repeats : List RawOption → Bool
 repeats options = stands_twice (λ name. places_of name options)
+
+-- no known name stands in two places
+abbrev pub AreOnce : List RawOption → Type 0
+AreOnce options = (name : Name) → places_of name options ≤ 1
 
 -- what is kept of one option stands before what is kept of the others, and its refusal comes first
 abbrev pub kept_before : Result (Option Known) Refusal → Result (List Known) Refusal → Result (List Known) Refusal

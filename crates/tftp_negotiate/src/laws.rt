@@ -4,7 +4,8 @@ ghost use Rattle.tftp_negotiate.specs.Laws.{NumbersArePrinted, EndsAgree, Answer
 ghost use Rattle.tftp_negotiate.specs.Laws.{TakesNothingUnasked, AnswersMayBeAgreed};
 ghost use Rattle.tftp_negotiate.specs.Laws.{TakenMayBeAgreed, AgreementsAreShort};
 ghost use Rattle.tftp_negotiate.specs.Laws.{AgreementsHaveBlockSizes, KnownAreOptions};
-ghost use Rattle.tftp_negotiate.specs.Laws.{AskedAreOptions};
+ghost use Rattle.tftp_negotiate.specs.Laws.{AskedAreOptions, AnswersWhatIsKnown};
+ghost use Rattle.tftp_negotiate.specs.Laws.{TooLargeForWrites, TakesWhatWasAsked};
 
 /// A value is a number exactly if it is the number's decimal digits, without a leading zero.
 pub fn numbers_are_printed()
@@ -25,6 +26,15 @@ pub fn answers_within_request()
 /// An OACK that is taken holds no option that was not asked, and no value beyond what was asked.
 pub fn takes_nothing_unasked()
     ensures { TakesNothingUnasked }
+{}
+
+/// A server answers each known option of a request that stands once and has a value in its range,
+/// unless it refuses a write as too large; and a client takes an OACK of nothing but answers to
+/// what it asked, option by option. So neither end drops an option.
+pub fn drops_nothing()
+    ensures answered { AnswersWhatIsKnown }
+    ensures too_large { TooLargeForWrites }
+    ensures taken { TakesWhatWasAsked }
 {}
 
 /// What a server answers, and what a client takes of an OACK, is an agreement: its values are in

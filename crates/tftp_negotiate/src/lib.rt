@@ -29,6 +29,6 @@ pub use limits::{
     DEFAULT_BLOCK, Limits, MAX_TIMEOUT, MIN_BLOCK, MIN_TIMEOUT, is_block_size, is_timeout,
 };
 pub use name::Name;
-pub use oack::{check_oack, check_oack_ref};
+pub use oack::{check_oack, check_oack_ref, stated_tsize};
 pub use refusal::Refusal;
 pub use tftp_wire::MAX_BLOCK;

@@ -17,6 +17,17 @@ pub const MIN_TIMEOUT: u8 = 1;
 /// The greatest timeout, in seconds (RFC 2349, "Timeout Interval Option Specification").
 pub const MAX_TIMEOUT: u8 = 255;
 
+// The numbers that the standards have.
+const _: () = prove!(MIN_BLOCK == 8);
+
+const _: () = prove!(MAX_BLOCK == 65_464);
+
+const _: () = prove!(DEFAULT_BLOCK == 512);
+
+const _: () = prove!(MIN_TIMEOUT == 1);
+
+const _: () = prove!(MAX_TIMEOUT == 255);
+
 /// Whether so many data bytes are a block size: `MIN_BLOCK` to `MAX_BLOCK`
 /// (RFC 2348, "Blocksize Option Specification").
 pub fn is_block_size(bytes: u64) -> bool

@@ -1,6 +1,7 @@
 //! Which number an option's value is.
 
-ghost use Rattle.std.specs.Prelude.{◌≡◌};
+ghost use Rattle.std.specs.Prelude.{◌≡◌, ◌↔◌, IsTrue};
+ghost use Rattle.std.specs.Fmt.{decimal};
 ghost use Rattle.tftp_negotiate.specs.Options.{number_of};
 
 use itoa::Buffer;
@@ -11,10 +12,16 @@ pub(crate) fn number_of(text: &[u8]) -> Option<u64>
     ensures { result ≡ number_of text.now }
 {
     let number = str::from_utf8(text).ok()?.parse::<u64>().ok()?;
-    let mut buffer = Buffer::new();
-    if buffer.format(number).as_bytes() == text {
+    if is_digits_of(text, number) {
         Some(number)
     } else {
         None
     }
+}
+
+/// Whether the text is the number's decimal digits.
+fn is_digits_of(text: &[u8], number: u64) -> bool
+    ensures { IsTrue result ↔ (text.now ≡ decimal number) }
+{
+    Buffer::new().format(number).as_bytes() == text
 }

@@ -4,8 +4,10 @@ ghost use Rattle.std.specs.Prelude.{◌≡◌, IfOk};
 ghost use Rattle.tftp_wire.specs.Borrowed.{owned_option};
 ghost use Rattle.tftp_negotiate.specs.Agreed.{IsAgreement};
 ghost use Rattle.tftp_negotiate.specs.Agreement.{agreement, taken_option, taken_blksize};
-ghost use Rattle.tftp_negotiate.specs.Agreement.{taken_timeout, taken_tsize};
+ghost use Rattle.tftp_negotiate.specs.Agreement.{taken_timeout, taken_tsize, stated_tsize};
 ghost use Rattle.tftp_negotiate.specs.Asked.{IsAskable};
+ghost use Rattle.tftp_negotiate.specs.Negotiation.{is_name};
+ghost use Rattle.tftp_negotiate.specs.declared.name.Name.TheVariants as name;
 
 use crate::agreed::Agreed;
 use crate::asked::Asked;
@@ -68,6 +70,32 @@ pub fn check_oack_ref(
             limit,
         },
     )
+}
+
+/// The length of the file that an OACK states, in bytes of wire text, if it states one
+/// (RFC 2349, "Transfer Size Option Specification"). It judges nothing: whether the OACK is taken
+/// is what [`check_oack_ref`] answers.
+pub fn stated_tsize(options: &OptionsRef<'_>) -> Option<u64>
+    ensures { result ≡ stated_tsize options.now }
+{
+    for option in options {
+        if is_tsize(Name::of(option.name)) {
+            return number_of(option.value);
+        }
+    }
+    None
+}
+
+/// Whether a name is there, and is `tsize`.
+fn is_tsize(known: Option<Name>) -> bool
+    ensures { result ≡ is_name name.Tsize known }
+{
+    match known {
+        None => false,
+        Some(Name::Blksize) => false,
+        Some(Name::Timeout) => false,
+        Some(Name::Tsize) => true,
+    }
 }
 
 /// What is taken of an option, or why it is wrong.

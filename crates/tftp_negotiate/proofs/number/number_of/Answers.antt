@@ -4,7 +4,6 @@ use Rattle.std.specs.Result.{result_ok}
 use Rattle.std.specs.Str.{IsUtf8}
 use Rattle.std.proofs.lemmas.Fmt.{parse-decimal}
 use Rattle.std.proofs.lemmas.Option.{none-some}
-use Rattle.std.proofs.lemmas.Slice.Eq.{bytes_eq-Decides}
 use Rattle.tftp_negotiate.specs.Options.{number_of}
 use Rattle.tftp_negotiate.proofs.OptionsLemmas.{number_of_none, number_of-decimal, IsUtf8-from_decimal, why_none, what_some, parsed_small}
 use Rattle.tftp_negotiate.proofs.number.number_of.Goals as goal
@@ -32,16 +31,15 @@ returns-in_err-number c =
     let none = sym c.ok-2.ensures.value ∙ c.in_err-number.was in
     none-some n (sym none ∙ ap result_ok parsed))
 
-pub returns-then-eq : goal.returns-then-eq
-returns-then-eq c =
-    let same = (bytes_eq-Decides c.as_bytes.result.now c.args.text.now).0 (sym c.eq.ensures ∙ c.if-eq.true) in
+pub returns-then-is_digits_of : goal.returns-then-is_digits_of
+returns-then-is_digits_of c =
     let small = parsed_small c.in_ok-ok.field-0.now c.parse.result c.in_ok-number.number c.parse.ensures.value.0 c.in_ok-number.ensures.value in
-    sym (ap number_of (sym same ∙ (c.as_bytes.ensures.value ∙ c.format.ensures.text)) ∙ number_of-decimal c.in_ok-number.number small)
+    sym (ap number_of (c.is_digits_of.ensures.0 c.if-is_digits_of.true) ∙ number_of-decimal c.in_ok-number.number small)
 
-pub returns-else-eq : goal.returns-else-eq
-returns-else-eq c =
+pub returns-else-is_digits_of : goal.returns-else-is_digits_of
+returns-else-is_digits_of c =
     number_of_none c.args.text.now (λ n small e.
-    let parsed = parses (goal.at.returns-else-eq c).After-parse n small e in
+    let parsed = parses (goal.at.returns-else-is_digits_of c).After-parse n small e in
     let one : c.in_ok-number.number ≡ n = cc (c.in_ok-number.ensures.value, ap result_ok parsed) in
-    let same = c.as_bytes.ensures.value ∙ (c.format.ensures.text ∙ (ap decimal one ∙ sym e)) in
-    cc ((bytes_eq-Decides c.as_bytes.result.now c.args.text.now).1 same, c.eq.ensures, c.if-eq.false))
+    let same = c.is_digits_of.ensures.1 (e ∙ sym (ap decimal one)) in
+    cc (same, c.if-is_digits_of.false))
