@@ -1,5 +1,6 @@
 -- A sender's step, from what its source offered.
 use Rattle.std.proofs.Common.{◌≡◌, ℕ, Bool, true, false, List, Some, refl, sym, ap, subst, ◌∙◌}
+use Rattle.tftp_negotiate.specs.declared.limits.TheConstants.{DEFAULT_BLOCK}
 use Rattle.tftp_file.specs.Source.{SourceMeaning}
 use Rattle.tftp_ends.specs.declared.endpoint.Endpoint.{Endpoint}
 use Rattle.tftp_ends.specs.declared.error_reply.ErrorReply.TheVariants.{FileChanged}
@@ -9,8 +10,19 @@ use Rattle.tftp_ends.specs.declared.outgoing.Outgoing.TheVariants.{LastSent, Err
 use Rattle.tftp_ends.specs.declared.phase.Phase.TheVariants.{Sending}
 use Rattle.tftp_ends.specs.declared.phase.Terms.{Terms}
 use Rattle.tftp_ends.specs.End.{EndState}
+use Rattle.tftp_ends.specs.Opening.{FailsToStart}
 use Rattle.tftp_ends.specs.Phase.{refused}
 use Rattle.tftp_ends.specs.Step.{Turn, Sends, Lends, ReadsData, in_phase, having_sent, with_position, data_bytes, sent_turn, refused_turn, filled_turn, block_length}
+
+-- a read that did not give DATA 1 cannot be served, and its source has left what the fill left
+pub fails_to_start : {S : Type 0} (sources : SourceMeaning S) (length : ℕ) (source source' : S) (buffer : List ℕ) →
+    ReadsData (sources.left source) (sources.left source') (sources.may_fail source (block_length length DEFAULT_BLOCK 1)) 1 (block_length length DEFAULT_BLOCK 1) buffer false →
+    FailsToStart sources length source source'
+fails_to_start sources length source source' buffer o =
+    record {
+      cannot = record { after = sources.left source'; answer = o.answer; piece = o.piece; reads = o.reads; short = sym o.whole };
+      left = refl;
+    }
 
 module _ {S : Type 0} (sources : SourceMeaning S) (terms : Terms) (number : ℕ) (from : Endpoint) (e : EndState) (source source' : S) (buffer : List ℕ) where
   -- what was offered for the next block

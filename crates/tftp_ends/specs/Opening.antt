@@ -114,12 +114,17 @@ module _ {S : Type 0} (sources : SourceMeaning S) where
     pub reads : AsksFor sources (block_length length DEFAULT_BLOCK 1) source after piece answer
     pub short : result_count_is (block_length length DEFAULT_BLOCK 1) answer ≡ false
 
+  -- such a source after it was asked for DATA 1: what that fill left is left
+  pub record FailsToStart (length : ℕ) (source source' : S) : Type 0 where
+    pub cannot : CannotStart length source
+    pub left : sources.left source' ≡ cannot.after
+
   -- the same, of an end's files
   abbrev pub ServesFiles : {K : Type 0} → List Known → Endpoint → Mode → ℕ → ℕ → Files S K → Files S K → EndState → Type 0
   ServesFiles agreed peer mode length retries (Source source) (Source source') e =
       ServesRead agreed peer mode length retries source source' e
   ServesFiles agreed peer mode length retries _ _ e = ⊥
 
-  abbrev pub FilesCannotStart : {K : Type 0} → ℕ → Files S K → Type 0
-  FilesCannotStart length (Source source) = CannotStart length source
-  FilesCannotStart length (Sink sink) = ⊥
+  abbrev pub FilesFailToStart : {K : Type 0} → ℕ → Files S K → Files S K → Type 0
+  FilesFailToStart length (Source source) (Source source') = FailsToStart length source source'
+  FilesFailToStart length _ _ = ⊥

@@ -3,7 +3,7 @@
 ghost use Rattle.std.specs.Prelude.{◌≡◌, ◌++◌, ◌*◌, ◌≤◌, ◌<◌, ◌⊎◌, not, true, [], length, IfOk};
 ghost use Rattle.std.specs.Prelude.{IfErr, OnOk, OnErr, IsErrOf, vec_capacity};
 ghost use Rattle.tftp_ends.specs.Files.{AreFilesOf, KeepsFiles, AreSame};
-ghost use Rattle.tftp_ends.specs.Opening.{ServesFiles, FilesCannotStart, serving_write, opened};
+ghost use Rattle.tftp_ends.specs.Opening.{ServesFiles, FilesFailToStart, serving_write, opened};
 ghost use Rattle.tftp_ends.specs.Opening.{opening_step, oack_bytes, role_of};
 ghost use Rattle.tftp_ends.specs.Step.{ack_bytes};
 ghost use Rattle.tftp_ends.specs.Waiting.{default_terms, agreed_terms};
@@ -55,8 +55,8 @@ impl End {
     /// What is appended to `out`, for `peer`, is the OACK of the options that are agreed (RFC 2347,
     /// "Negotiation Protocol"), or DATA 1 where none is (RFC 1350, section 4). `TooLarge` comes
     /// where the file's blocks cannot be numbered, `SourceFault` where DATA 1 cannot be read to the
-    /// measured length, `BadRequest` never. After an error `out` is unchanged; after `Memory` the
-    /// source is, too.
+    /// measured length, `BadRequest` never. After an error `out` is unchanged; after `TooLarge` and
+    /// `Memory` the source is, too, and after `SourceFault` it has left what the fill left.
     pub fn serve_read<S: Source, K: Sink>(
         alloc: Global,
         files: &mut Files<S, K>,
@@ -74,9 +74,10 @@ impl End {
         ensures step { IfOk result (λ opened. opened.1 ≡ opening_step peer) }
         ensures ok { OnOk result (length < 65535 * size agreed.now) }
         ensures bad_request { IsErrOf result OpenFault.BadRequest → ⊥ }
-        ensures too_large { IsErrOf result OpenFault.TooLarge → 65535 * size agreed.now ≤ length }
+        ensures too_large { IsErrOf result OpenFault.TooLarge
+            → (65535 * size agreed.now ≤ length) × (files.new ≡ files.old) }
         ensures source { IsErrOf result OpenFault.SourceFault → (length < 65535 * size agreed.now)
-            × FilesCannotStart S.meaning length files.old }
+            × FilesFailToStart S.meaning length files.old files.new }
         ensures plain { IsErrOf result OpenFault.SourceFault → agreed.now ≡ [] }
         ensures memory { IsErrOf result OpenFault.Memory → (length < 65535 * size agreed.now)
             × KeepsFiles S.meaning K.meaning files.old files.new }
@@ -110,7 +111,7 @@ impl End {
             × (out.new.items ≡ out.old.items ++ opened.0.position.last_sent)) }
         ensures step { IfOk result (λ opened. opened.1 ≡ opening_step peer) }
         ensures source { IsErrOf result OpenFault.SourceFault
-            → FilesCannotStart S.meaning length files.old }
+            → FilesFailToStart S.meaning length files.old files.new }
         ensures memory { IsErrOf result OpenFault.Memory
             → KeepsFiles S.meaning K.meaning files.old files.new }
         ensures err { IfErr result (λ fault.
