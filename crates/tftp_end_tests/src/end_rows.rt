@@ -7,7 +7,7 @@ use crate::open_end::{
 };
 use std::alloc::Global;
 use std::process::Abort;
-use tftp_ends::{ErrorReply, Outcome, Record, Side};
+use tftp_ends::{EndFault, ErrorReply, OpenFault, Outcome, Record, Side};
 use tftp_file::MemSource;
 use tftp_negotiate::{Asked, Refusal};
 use tftp_wire::Mode;
@@ -180,6 +180,19 @@ fn outcomes(rt: HostRuntime) {
     for &(outcome, number, text) in &OUTCOMES {
         is_outcome(&rt, rt.alloc(), outcome, number, text);
     }
+}
+
+#[test]
+fn faults_are_numbered(rt: HostRuntime) {
+    let opening = (
+        OpenFault::BadRequest.number(),
+        OpenFault::TooLarge.number(),
+        OpenFault::SourceFault.number(),
+        OpenFault::Memory.number(),
+    );
+    expect_equal(&rt, &opening, &(1, 2, 3, 4), "why an end was not opened");
+    let event = (EndFault::Closed.number(), EndFault::Memory.number());
+    expect_equal(&rt, &event, &(1, 2), "why an event was not taken");
 }
 
 /// Sides, and whether each sends DATA, and whether it is a client's.

@@ -1,5 +1,6 @@
 pub mod Outcome
 pub mod ErrorReply
+pub mod Fault
 pub mod End
 pub mod Phase
 pub mod Text

@@ -1,6 +1,7 @@
 //! Why a call at an end was refused.
 
 ghost use Rattle.std.specs.Prelude.{◌≡◌};
+ghost use Rattle.tftp_ends.specs.Fault.{open_fault_number, end_fault_number};
 ghost use Rattle.tftp_ends.specs.declared.fault.EndFault.TheVariants.{Memory};
 ghost use Rattle.tftp_ends.specs.declared.fault.OpenFault.TheVariants as opening;
 
@@ -25,6 +26,15 @@ pub enum OpenFault {
     Memory = 4,
 }
 
+impl OpenFault {
+    /// The number of the fault, 1 to 4.
+    pub fn number(self) -> u8
+        ensures { result ≡ open_fault_number self }
+    {
+        self as u8
+    }
+}
+
 /// Why an event was not taken. Nothing has changed.
 #[derive(Clone, Copy, Debug, PartialEq, Eq, Error)]
 pub enum EndFault {
@@ -34,6 +44,15 @@ pub enum EndFault {
     /// Out of memory for the answer.
     #[error("out of memory")]
     Memory = 2,
+}
+
+impl EndFault {
+    /// The number of the fault, 1 or 2.
+    pub fn number(self) -> u8
+        ensures { result ≡ end_fault_number self }
+    {
+        self as u8
+    }
 }
 
 impl From<AllocError> for EndFault {
