@@ -10,7 +10,7 @@ fills_behind (Some left) after want k old new f = (take k left, f.given, record 
 fills_behind None after want k old new f = (f.piece, f.given, record { piece = f.piece; given = refl; count = f.count; bound = f.bound })
 
 -- less than a block came
-pub reads_short : (before after : Option (List ℕ)) (may_fail : Type 0) (number want k : ℕ) (mid buffer : List ℕ) → k ≢ want → Fills before after want mid buffer (Ok k) → ReadsData before after may_fail number want buffer false
-reads_short before after may_fail number want k mid buffer ne f =
-    let p = fills_behind before after want k mid buffer f in
-    record { answer = Ok k; piece = p.0; reads = record { fills = p.2; read = λ h. absurd cc; memory = λ h. cc }; whole = sym (ne_eqb k want ne); holds = tt }
+pub reads_short : (before after : Option (List ℕ)) (may_fail : Type 0) (number want k : ℕ) (mid filled buffer : List ℕ) → k ≢ want → Fills before after want mid filled (Ok k) → buffer ≡ [] → ReadsData before after may_fail number want buffer false
+reads_short before after may_fail number want k mid filled buffer ne f empty =
+    let p = fills_behind before after want k mid filled f in
+    record { answer = Ok k; piece = p.0; reads = record { fills = p.2; read = λ h. absurd cc; memory = λ h. cc }; whole = sym (ne_eqb k want ne); holds = empty }

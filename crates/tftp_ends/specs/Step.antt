@@ -296,10 +296,10 @@ pub record Carries (before : EndState) (turn : Turn) (e : EndState) (to : Option
   pub goes : to ≡ option_map (λ (r : Reply). r.to) turn.reply
   pub appended : new ≡ old ++ reply_bytes turn.reply
 
--- a buffer holds the DATA of a block that came
+-- a buffer holds the DATA of a block that came, and nothing where none came
 abbrev pub HoldsData : ℕ → ℕ → List ℕ → List ℕ → Bool → Type 0
 HoldsData number want piece buffer true = (buffer ≡ data_bytes number piece) × (length buffer ≤ 4 + want)
-HoldsData number want piece buffer false = Unit {0}
+HoldsData number want piece buffer false = buffer ≡ []
 
 -- a source was asked for a block, and the buffer holds it as DATA if all of it came
 pub record ReadsData (before after : Option (List ℕ)) (may_fail : Type 0) (number want : ℕ) (buffer : List ℕ) (is_whole : Bool) : Type 0 where

@@ -49,7 +49,7 @@ pub struct End {
 }
 
 impl Model for End {
-    ghost use Rattle.std.specs.Prelude.{◌≤◌, vec_capacity};
+    ghost use Rattle.std.specs.Prelude.{◌≡◌, ◌≤◌, [], vec_capacity};
     ghost use Rattle.tftp_ends.specs.End.{EndState};
     ghost use Rattle.tftp_ends.specs.Sound.{IsSound};
 
@@ -75,7 +75,7 @@ impl Model for End {
         held = e.decoder;
         phase = e.phase;
       };
-    }) × (4 ≤ vec_capacity e.last_sent) };
+    }) × (4 ≤ vec_capacity e.last_sent) × (e.spare.items ≡ []) };
 }
 
 impl End {
@@ -113,15 +113,16 @@ impl End {
         self.phase.outcome()
     }
 
-    /// How many bytes the end keeps between two events: of the datagram at most a header and a
-    /// block of the agreed size, or 512 for a request or an OACK, and of text one at most.
+    /// How many bytes the end keeps between two events: of datagrams, in both of its buffers
+    /// together, at most a header and a block of the agreed size, or 512 for a request or an OACK,
+    /// and of text one at most.
     pub fn held(&self) -> Held
         ensures held { result ≡ held_by self.now }
         ensures datagram { result.datagram ≤ longest_sent (terms_of self.now.position.phase) }
         ensures text { result.text ≤ 1 }
     {
         Held {
-            datagram: self.last_sent.len(),
+            datagram: self.last_sent.len() + self.spare.len(),
             text: self.decoder.held(),
         }
     }

@@ -1,7 +1,7 @@
 //! The one block that a source gives: DATA is built in the spare buffer, which then changes places
 //! with the last datagram sent.
 
-ghost use Rattle.std.specs.Prelude.{◌≡◌, ◌≤◌, ◌+◌, length, OnOk, OnErr, IfOk, Some, vec_capacity};
+ghost use Rattle.std.specs.Prelude.{◌≡◌, ◌≤◌, ◌+◌, [], length, OnOk, OnErr, IfOk, Some, vec_capacity};
 ghost use Rattle.tftp_ends.specs.BlockRead.{is_whole};
 ghost use Rattle.tftp_ends.specs.Step.{Turn, Lends, Sends, ReadsData, block_length, room_of, lent};
 ghost use Rattle.tftp_ends.specs.Sound.{IsSending, SentFits};
@@ -35,7 +35,8 @@ pub(crate) enum BlockRead {
     Changed,
 }
 
-/// Makes DATA of that number the buffer's bytes, if the source gives the block.
+/// Makes DATA of that number the buffer's bytes, if the source gives the block. If it does not, the
+/// buffer is empty.
 pub(crate) fn read_data<S: Source>(
     source: &mut S,
     number: u16,
@@ -47,7 +48,8 @@ pub(crate) fn read_data<S: Source>(
         (S.meaning.left source.new) (S.meaning.may_fail source.old want) number want
         buffer.new.items (is_whole read)) }
     ensures room { OnOk result (4 ≤ vec_capacity buffer.new) }
-    ensures err { OnErr result (S.meaning.left source.new ≡ S.meaning.left source.old) }
+    ensures err { OnErr result ((S.meaning.left source.new ≡ S.meaning.left source.old)
+        × (buffer.new.items ≡ [])) }
     ensures same { S.is_same source.old source.new }
 {
     buffer.clear();
@@ -60,10 +62,17 @@ pub(crate) fn read_data<S: Source>(
             if count == want {
                 return Ok(BlockRead::Whole);
             }
+            buffer.clear();
             Ok(BlockRead::Changed)
         }
-        Err(FileFault::Read) => Ok(BlockRead::Changed),
-        Err(FileFault::Memory) => Err(AllocError),
+        Err(FileFault::Read) => {
+            buffer.clear();
+            Ok(BlockRead::Changed)
+        }
+        Err(FileFault::Memory) => {
+            buffer.clear();
+            Err(AllocError)
+        }
     }
 }
 
@@ -91,6 +100,7 @@ impl End {
         match read_data(source, number, want, &mut self.spare)? {
             BlockRead::Whole => {
                 mem::swap(&mut self.last_sent, &mut self.spare);
+                self.spare.clear();
                 self.last_sent_to = from;
                 let phase = Phase::Sending { terms, number };
                 self.retries_left = self

@@ -1,6 +1,7 @@
 //! The one block that a sink takes, and what is answered to it.
 
-ghost use Rattle.std.specs.Prelude.{◌≡◌, ◌≤◌, ◌++◌, true, false, nat_lt, length, OnErr, IfOk, Some};
+ghost use Rattle.std.specs.Prelude.{◌≡◌, ◌≤◌, ◌++◌, [], true, false, nat_lt, length, OnErr};
+ghost use Rattle.std.specs.Prelude.{IfOk, Some};
 ghost use Rattle.tftp_file.specs.Decoding.{Decodes};
 ghost use Rattle.tftp_ends.specs.BlockStored.{StoresBlock, StoresPiece, StoresLast, KeepsSink};
 ghost use Rattle.tftp_ends.specs.Text.{begins_netascii, is_readable};
@@ -112,8 +113,9 @@ fn decode_into(
     }
 }
 
-/// Hands the host's bytes of a piece to the sink, and gives the decoder behind it.
-fn store_piece<K: Sink>(
+/// Hands the host's bytes of a piece to the sink, and gives the decoder behind it. The buffer is for
+/// the decoded bytes.
+fn store_through<K: Sink>(
     sink: &mut K,
     mode: Mode,
     decoder: NetDecoder,
@@ -138,6 +140,28 @@ fn store_piece<K: Sink>(
             Ok((stored, behind))
         }
     }
+}
+
+/// Hands the host's bytes of a piece to the sink, gives the decoder behind it, and leaves the buffer
+/// empty.
+fn store_piece<K: Sink>(
+    sink: &mut K,
+    mode: Mode,
+    decoder: NetDecoder,
+    piece: &[u8],
+    is_last: bool,
+    buffer: &mut Vec<u8>,
+) -> Result<(BlockStored, NetDecoder), AllocError>
+    requires { is_readable mode decoder piece.now is_last ≡ true }
+    ensures takes { IfOk result (λ stored.
+        StoresPiece K.meaning mode decoder piece.now is_last sink.old sink.new stored.0 stored.1) }
+    ensures err { OnErr result (KeepsSink K.meaning sink.old sink.new) }
+    ensures empty { buffer.new.items ≡ [] }
+    ensures same { K.is_same sink.old sink.new }
+{
+    let stored = store_through(sink, mode, decoder, piece, is_last, buffer);
+    buffer.clear();
+    stored
 }
 
 impl End {

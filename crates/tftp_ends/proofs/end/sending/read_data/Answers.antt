@@ -1,7 +1,8 @@
 -- Less than was asked of the source is no whole block.
+use Rattle.std.proofs.Common.{rules}
 use Rattle.tftp_ends.proofs.ReadingBlocks.{reads_short}
 use Rattle.tftp_ends.proofs.end.sending.read_data.Goals as goal
 
 pub returns-else-count-want-clause-reads : goal.returns-else-count-want-clause-reads
 returns-else-count-want-clause-reads g c =
-    reads_short _ _ _ _ _ c.in-Ok-fill.count _ c.fill.new.out.items c.if-count-want.false c.in-Ok-fill.ensures.fills
+    reads_short _ _ _ _ _ c.in-Ok-fill.count _ c.fill.new.out.items _ c.if-count-want.false c.in-Ok-fill.ensures.fills (search rules)

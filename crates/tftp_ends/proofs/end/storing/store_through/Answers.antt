@@ -1,6 +1,6 @@
 -- What is readable begins a wire text.
 use Rattle.tftp_ends.proofs.TextLemmas.{readable_begins}
-use Rattle.tftp_ends.proofs.end.storing.store_piece.Goals as goal
+use Rattle.tftp_ends.proofs.end.storing.store_through.Goals as goal
 
 pub decode_into-requires : goal.decode_into-requires
 decode_into-requires g c = readable_begins c.args.decoder c.args.piece.now c.args.is_last (rw c.in-Netascii.is at c.requires)
