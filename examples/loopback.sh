@@ -3,15 +3,31 @@
 set -eu
 here=$(dirname "$0")
 room=$(mktemp -d)
-trap 'rm -rf "$room"' EXIT
+server=
+clear_up() {
+    test -z "$server" || kill "$server" 2> /dev/null || true
+    rm -rf "$room"
+}
+trap clear_up EXIT
+trap 'exit 130' HUP INT TERM
 mkdir "$room/served"
 cp "$here/packets.hex" "$room/served"
 "$1" "$room/served" --listen 127.0.0.1:0 --transfers 2 > "$room/lines" &
-until grep -q listening "$room/lines"; do sleep 0.1; done
+server=$!
+waits=0
+until grep -q listening "$room/lines"; do
+    waits=$((waits + 1))
+    if test "$waits" -gt 100; then
+        echo "loopback.sh: $1 does not listen ten seconds after its start" >&2
+        exit 1
+    fi
+    sleep 0.1
+done
 address=$(sed -n 's/^listening //p' "$room/lines")
 "$2" get "$address" packets.hex "$room/packets.hex"
 "$2" put "$address" "$room/packets.hex" copy.hex --blksize 1428 --tsize
-wait $!
+wait "$server"
+server=
 tail -n 2 "$room/lines"
 cmp "$here/packets.hex" "$room/packets.hex"
 cmp "$here/packets.hex" "$room/served/copy.hex"
