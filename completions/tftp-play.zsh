@@ -1,0 +1,8 @@
+#compdef tftp-play
+# zsh completion of tftp-play
+
+_arguments \
+  '--svg=[draw the run into a file]:picture:_files' \
+  '(-h --help)'{-h,--help}'[print help]' \
+  '(-V --version)'{-V,--version}'[print version]' \
+  '1:script:_files'

@@ -1,0 +1,18 @@
+#compdef tftpd
+# zsh completion of tftpd
+
+_arguments \
+  '--listen=[address and port of the requests]:ADDR\:PORT:' \
+  '--max-block=[largest block size that is agreed]:bytes, 8 to 65464:' \
+  '--max-file=[longest file that is taken]:bytes:' \
+  '--retries=[how often a datagram is sent again without progress]:times, 0 to 10:' \
+  '--cap=[transfers that are open at once]:transfers, 1 to 64:' \
+  '(--read-only)--overwrite[a write replaces a file that is there]' \
+  '(--overwrite)--read-only[refuse every write]' \
+  '(--forever)--transfers=[end after so many closed transfers]:transfers:' \
+  '(--forever)--rounds=[end after so many waits]:waits:' \
+  '(--transfers --rounds)--forever[end by no count of transfers or waits]' \
+  '--log[write a line for each request and each close]' \
+  '(-h --help)'{-h,--help}'[print help]' \
+  '(-V --version)'{-V,--version}'[print version]' \
+  '1:folder whose files are served:_files -/'
