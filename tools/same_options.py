@@ -1,0 +1,254 @@
+#!/usr/bin/env python3
+"""The options of the four programs are the same wherever they are named.
+
+What `--help` prints is compared with the program's manual in man/ and its completions for bash, zsh and fish, and for
+tftpd with docs/OPERATING.md. What examples and the unit give to a program is among its options, `--version` prints the
+version of the Makefile, and mandoc and systemd-analyze find nothing, where they are installed.
+
+Reads the programs that `rt ci` left in crates/*_main/out, or else those of bin/. A line for each difference, and the
+status 1 where there is one; 2 where a program is missing.
+"""
+import os
+import re
+import shutil
+import subprocess
+import sys
+import tempfile
+from pathlib import Path
+
+TOP = Path(__file__).resolve().parent.parent
+OPERATING = "docs/OPERATING.md"
+UNIT = "packaging/tftpd.service"
+MANUALS = {"tftp-show": "man/tftp-show.1", "tftp-play": "man/tftp-play.1", "tftp": "man/tftp.1", "tftpd": "man/tftpd.8"}
+# the subcommands of each program, each of which has a help text of its own; "" is the program itself
+VERBS = {"tftp-show": [""], "tftp-play": [""], "tftp": ["", "get", "put"], "tftpd": [""]}
+OPTION = re.compile(r"(?<![\w-])--?[A-Za-z][\w-]*")
+
+
+def program_at(name):
+    """The path of a program, as the gate built it, or `make`."""
+    crate = name.replace("-", "_") + "_main"
+    paths = [f"crates/{crate}/out/{crate}", f"bin/{name}"]
+    for path in paths:
+        if (TOP / path).is_file():
+            return TOP / path
+    print(f"{name}: there is neither {' nor '.join(paths)}: run `rt ci` or `make` first", file=sys.stderr)
+    sys.exit(2)
+
+
+def printed(path, *words):
+    """What a program prints on standard output."""
+    done = subprocess.run([path, *words], stdin=subprocess.DEVNULL, capture_output=True, text=True, timeout=60)
+    return done.stdout
+
+
+def long_ones(options):
+    return {option for option in options if option.startswith("--")}
+
+
+def help_options(text):
+    """The options that a help text lists."""
+    listed = re.search(r"^Options:\n((?:.+\n)+)", text, re.M)
+    found = set()
+    for line in listed[1].splitlines() if listed else []:
+        names = re.match(r"\s+((?:-\w, )?--[\w-]+|-\w)", line)
+        if names:
+            found.update(OPTION.findall(names[1]))
+    return found
+
+
+def flags_of(line):
+    """The options of a line of mdoc: the words behind each `Fl`, up to the next macro. `Fl -log` and `Fl Fl log` are
+    one option, as are `Fl h` and `-h`."""
+    found, is_flag, dashes = set(), False, ""
+    for word in line.replace("\\-", "-").split():
+        if word == "Fl":
+            dashes = dashes + "-" if is_flag else "-"
+            is_flag = True
+        elif is_flag and re.fullmatch(r"-*[A-Za-z][\w-]*", word) and not re.fullmatch(r"[A-Z][a-z]", word):
+            found.add(dashes + word)
+            dashes = ""
+        elif word not in (",", "|"):
+            is_flag, dashes = False, ""
+    return found
+
+
+def bash_options(text, verb, has_verbs):
+    """The words of the line that sets `options`, for a subcommand."""
+    label = re.escape(f"{verb or '*'})") if has_verbs else ""
+    line = re.search(rf"^\s*{label}\s*options='([^']*)'", text, re.M)
+    return set(line[1].split()) if line else set()
+
+
+def zsh_options(text, verb, has_verbs):
+    """The specifications that `_arguments` is given, for a subcommand."""
+    given = text
+    if has_verbs:
+        branch = re.search(rf"^{re.escape(verb or '*')}\)\n(.*?)^  ;;", text, re.M | re.S)
+        given = branch[1] if branch else ""
+        for shared in re.findall(r"\$(\w+)", given):
+            given += "".join(re.findall(rf"^{shared}=\((.*?)^\)", text, re.M | re.S))
+    found = set()
+    for line in given.splitlines():
+        # behind the options that it excludes, a list in braces, or one option up to its value or its text
+        spec = re.match(r"\s*'(?:\([^)]*\)'?)?(\{[^}]*\}|--?[\w-]+(?=[=\[]))", line)
+        if spec:
+            found.update(OPTION.findall(spec[1]))
+    return found
+
+
+def fish_options(text, verb, has_verbs):
+    """The options of the lines whose condition is that of a subcommand."""
+    found = set()
+    for line in text.splitlines():
+        line = re.sub(r" -d '[^']*'", "", line)
+        if not line.startswith("complete "):
+            continue
+        seen = re.search(r" -n '__fish_seen_subcommand_from ([^']*)'", line)
+        verbs = seen[1].split() if seen else [""]
+        if not has_verbs or verb in verbs:
+            found.update("--" + it for it in re.findall(r" -l ([\w-]+)", line))
+            found.update("-" + it for it in re.findall(r" -s (\w)\b", line))
+    return found
+
+
+def code_of(text):
+    """The pieces of code in a page: the lines of its blocks, and its spans. Where the head of a table's first column is a
+    program that is none of ours, that column is left out."""
+    parts = re.split(r"^```.*$", text, flags=re.M)
+    pieces = [line for block in parts[1::2] for line in block.splitlines()]
+    prose, is_foreign, is_table = [], False, False
+    for line in "\n".join(parts[::2]).splitlines():
+        if line.startswith("|") and not is_table:
+            head = re.match(r"\| `([\w.-]+)` \|", line)
+            is_foreign = head is not None and head[1] not in VERBS
+        is_table = line.startswith("|")
+        prose.append("|".join(line.split("|")[2:]) if is_table and is_foreign else line)
+    return pieces + [it.replace("\n", " ") for it in re.findall(r"`([^`]+)`", "\n".join(prose))]
+
+
+class Comparison:
+    """The options of each help text, and what differs from them."""
+
+    def __init__(self, paths):
+        self.differences = []
+        self.paths = paths
+        self.options = {
+            (name, verb): help_options(printed(paths[name], *verb.split(), "--help"))
+            for name, verbs in VERBS.items()
+            for verb in verbs
+        }
+        # those of a program with its subcommands
+        self.known = {name: set().union(*(self.options[name, it] for it in verbs)) for name, verbs in VERBS.items()}
+
+    def differ(self, place, wanted, found):
+        """These options are wanted at a place, and those are there."""
+        self.differences += [f"{place}: {option} is missing" for option in sorted(wanted - found)]
+        self.differences += [f"{place}: {option} is not in the help" for option in sorted(found - wanted)]
+
+    def name_no_other(self, place, known, found):
+        """No option is named at a place but these."""
+        self.differ(place, set(), found - known)
+
+    def check_program(self, name, version):
+        """A program's help and its version."""
+        for verb in VERBS[name]:
+            if not {"-h", "--help"} <= self.options[name, verb]:
+                self.differences.append(f"{name} {verb}: the help lists no options")
+        if not re.match(rf"{name} {re.escape(version)}(?![\w.])", printed(self.paths[name], "--version")):
+            self.differences.append(f"{name} --version: is not {version}, as in the Makefile")
+
+    def check_manual(self, name):
+        """The manual has an item for each option, and names no other anywhere."""
+        place, known = MANUALS[name], self.known[name]
+        lines = [line[1:] for line in (TOP / place).read_text().splitlines() if re.match(r"\.[A-Z]", line)]
+        self.differ(place, known, {it for line in lines if line.startswith("It Fl") for it in flags_of(line)})
+        self.name_no_other(place, known, {it for line in lines if line[:5] != "It Fl" for it in flags_of(line)})
+        self.check_commands(place, [line[3:].replace("\\&", "") for line in lines if line.startswith("Dl ")])
+
+    def check_completions(self, name):
+        """The completions of each shell have the options of each subcommand."""
+        for shell, read in {"bash": bash_options, "zsh": zsh_options, "fish": fish_options}.items():
+            place = f"completions/{name}.{shell}"
+            text = (TOP / place).read_text()
+            for verb in VERBS[name]:
+                found = read(text, verb, len(VERBS[name]) > 1)
+                self.differ(f"{place} {verb}".rstrip(), self.options[name, verb], found)
+            self.name_no_other(place, self.known[name], long_ones(OPTION.findall(text)))
+
+    def check_commands(self, place, commands):
+        """A command that runs a program of ours gives it options of its own. Returns those that are given to tftpd."""
+        given = set()
+        for command in commands:
+            words = re.sub(r"^#?\w+=|^[$#] ", "", command.strip()).split()
+            name = os.path.basename(words[0]) if words else ""
+            if name in VERBS:
+                found = long_ones(OPTION.findall(" ".join(words[1:])))
+                self.name_no_other(f"{place}: `{command.strip()}`", self.known[name], found)
+                given |= found if name == "tftpd" else set()
+        return given
+
+    def check_operating(self):
+        """The page for operators names each long option of tftpd, and none that no program of ours has."""
+        pieces = code_of((TOP / OPERATING).read_text())
+        alone = {it for piece in pieces if piece.startswith("--") for it in long_ones(OPTION.findall(piece))}
+        self.name_no_other(OPERATING, set().union(*self.known.values()), alone)
+        named = alone | self.check_commands(OPERATING, pieces)
+        self.differ(OPERATING, long_ones(self.known["tftpd"]), named & self.known["tftpd"])
+
+    def check_unit(self):
+        """The unit starts tftpd with options that it has, and systemd finds nothing in it."""
+        text = (TOP / UNIT).read_text()
+        if not self.check_commands(UNIT, [line for line in text.splitlines() if "ExecStart=" in line]):
+            self.differences.append(f"{UNIT}: starts no tftpd")
+        if not shutil.which("systemd-analyze"):
+            print("systemd-analyze is not installed: the unit is not looked at")
+            return
+        with tempfile.TemporaryDirectory() as room:
+            unit = Path(room) / Path(UNIT).name
+            # tftpd need not be installed
+            unit.write_text(re.sub(r"(?m)^(ExecStart=)\S+", r"\1/bin/sh", text))
+            words = ["systemd-analyze", "verify", "--man=no", unit]
+            done = subprocess.run(words, stdin=subprocess.DEVNULL, capture_output=True, text=True)
+        # some of what it finds leaves the status at 0
+        found = [line for line in done.stderr.splitlines() if unit.name in line]
+        self.differences += [f"{UNIT}: {line}" for line in found]
+        if done.returncode and not found:
+            self.differences.append(f"{UNIT}: systemd-analyze verify ends with {done.returncode}: {done.stderr.strip()}")
+
+    def check_form(self):
+        """mandoc finds nothing in the manuals."""
+        if not shutil.which("mandoc"):
+            print("mandoc is not installed: the form of the manuals is not looked at")
+            return
+        manuals = sorted(str(it.relative_to(TOP)) for it in (TOP / "man").glob("*.[1-8]"))
+        with tempfile.TemporaryDirectory() as room:
+            # as they are installed, so that each finds those that it refers to
+            for manual in manuals:
+                section = Path(room) / f"man{manual[-1]}"
+                section.mkdir(exist_ok=True)
+                shutil.copy(TOP / manual, section)
+            words = ["mandoc", "-Tlint", "-Wstyle", *manuals]
+            done = subprocess.run(words, cwd=TOP, env={**os.environ, "MANPATH": room}, capture_output=True, text=True)
+        self.differences += done.stdout.splitlines()
+
+
+def main():
+    it = Comparison({name: program_at(name) for name in VERBS})
+    version = re.search(r"^VERSION := (\S+)$", (TOP / "Makefile").read_text(), re.M)[1]
+    for name in VERBS:
+        it.check_program(name, version)
+        it.check_manual(name)
+        it.check_completions(name)
+    it.check_operating()
+    it.check_unit()
+    it.check_form()
+    for line in it.differences:
+        print(line)
+    count = sum(map(len, it.options.values()))
+    print(f"{count} options of {len(it.options)} help texts, {len(it.differences)} differences")
+    return 1 if it.differences else 0
+
+
+if __name__ == "__main__":
+    sys.exit(main())
