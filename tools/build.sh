@@ -1,8 +1,8 @@
 #!/bin/sh
 # Proves and builds programs and the crates below them. Usage: build.sh CRATE..
 # Each crate is built as soon as those that it uses are, beside others that are ready: crates.txt says which.
-# Prints a line for each crate that it proves: its name, how many functions it has, and the seconds that this took.
-# The prover's own log of a crate is out/CRATE.log, and its end is printed where the crate fails.
+# Prints a line for each crate: how many of how many are done, its name, its functions and the seconds that it took, and
+# the minutes since the start. The prover's own log of a crate is out/CRATE.log, and its end is printed where it fails.
 set -u
 cd "$(dirname "$0")/.." || exit 2
 mkdir -p out
@@ -30,15 +30,27 @@ crates_below() {
     crates_of "$1" | grep -v "^$1\$"
 }
 
+# one more crate is done: says the rest of its line
+say() {
+    (
+        flock 9
+        echo "$1" >> out/build.done
+        minutes=$((($(date +%s) - BUILD_BEGAN) / 60))
+        echo "$(wc -l < out/build.done) of $BUILD_COUNT $1: $2, $minutes min gone"
+    ) 9> out/build.lock
+}
+
 # proves and builds one crate of the repository at this folder
 build() {
     log=$PWD/out/$1.log
-    # rt gives a second and a fourth processor to large crates alone
-    verb="lib --jobs $(nproc)"
-    # a program runs once it is built: it only prints its help
-    test ! -f "crates/$1/src/main.rt" || verb="run -- --help"
     start=$(date +%s)
-    (cd "$2/crates/$1" && rt $verb) < /dev/null > "$log.new" 2>&1
+    (
+        cd "$2/crates/$1" || exit 2
+        # a program runs once it is built: it only prints its help
+        if test -f src/main.rt; then exec rt run -- --help; fi
+        # rt gives a second and a fourth processor to large crates alone
+        exec rt lib --jobs "$(nproc)"
+    ) < /dev/null > "$log.new" 2>&1
     status=$?
     # rt says little of a crate that it finds proved: the log of the proof stays
     functions=$(sed -n 's/^logic=proved functions=\([0-9]*\).*/\1/p' "$log.new" | tail -n 1)
@@ -52,7 +64,11 @@ build() {
         echo "$1: failed; the whole log is out/$1.log" >&2
         return 1
     fi
-    test -z "$functions" || echo "$1: $functions functions, $(($(date +%s) - start)) s"
+    if test -n "$functions"; then
+        say "$1" "$functions functions, $(($(date +%s) - start)) s"
+    else
+        say "$1" "proved before"
+    fi
 }
 
 # proves and builds a crate beside others: rt lets in one run at a time to a crate and those below it, so this run has
@@ -86,11 +102,18 @@ if test "$1" = --one; then
     exit
 fi
 
+crates=$(crates_of "$@")
+BUILD_COUNT=$(echo "$crates" | wc -l)
+BUILD_BEGAN=$(date +%s)
+export BUILD_COUNT BUILD_BEGAN
+: > out/build.done
+echo "proving $BUILD_COUNT crates; what the prover says is in out/CRATE.log"
+
 # a rule for each crate, so that make finds out which can be built side by side
 {
-    echo ".PHONY: all $(crates_of "$@" | tr '\n' ' ')"
+    echo ".PHONY: all $(echo "$crates" | tr '\n' ' ')"
     echo "all: $*"
-    for crate in $(crates_of "$@"); do
+    for crate in $crates; do
         echo "$crate: $(crates_below "$crate" | tr '\n' ' ')"
         printf '\t@tools/build.sh --one %s\n' "$crate"
     done
