@@ -1,20 +1,28 @@
-# make run: proves the programs, builds them into bin/ and runs the main job on a small sample
+# make, make build: proves the four programs and builds them into bin/
+# make run: the four programs on a small sample, out of bin/, or from source by `rt try` where bin/ is not up to date
 # make tftp-show, tftp-play, tftp or tftpd: proves and builds that program alone, which takes less than all four
-# make test: the gate, every proof from nothing
+# make test: the gate, every proof from nothing, and then what is tried of the programs that it built
+# make install, make uninstall: programs, manuals, completions and unit at DESTDIR and PREFIX
+# make dist: an archive of what is installed, for hosts without the kit
 # make bench: the benchmarks of bench/, which are no tests
 # make bench-udp: tftpd and tftp beside the other servers and clients that are installed
+
+# as --version prints it, which tools/same_options.py looks at
+VERSION := 0.1.0
+PREFIX := /usr/local
+DESTDIR :=
 
 PROGRAMS := bin/tftp-show bin/tftp-play bin/tftp bin/tftpd
 SOURCES := $(shell find crates -path '*/out' -prune -o \( -name '*.rt' -o -name '*.antt' \) -print) crates.txt
 
-.PHONY: run tftp-show tftp-play tftp tftpd test bench bench-udp clean
+# what is run behind `rt ci`, over the programs in crates/*/out: the first that fails ends the gate
+CHECKS := tools/same_options.py
+
+.PHONY: build run sample tftp-show tftp-play tftp tftpd test install uninstall dist bench bench-udp clean
 # one after another: each crate is proved by as many processors as there are
 .NOTPARALLEL:
 
-run: $(PROGRAMS)
-	bin/tftp-show < examples/packets.hex; test $$? -le 1 # 1: some lines of the sample are faults
-	bin/tftp-play examples/lossy.script
-	examples/loopback.sh bin/tftpd bin/tftp
+build: $(PROGRAMS)
 
 # one run builds all four
 $(PROGRAMS) &: $(SOURCES) tools/build.sh
@@ -30,8 +38,26 @@ tftp-show tftp-play tftp tftpd:
 	@mkdir -p bin
 	@cp crates/$(subst -,_,$@)_main/out/$(subst -,_,$@)_main bin/$@
 
+run:
+	@if $(MAKE) -q --no-print-directory build; then exec $(MAKE) --no-print-directory sample; else exec tools/try.sh; fi
+
+sample:
+	bin/tftp-show < examples/packets.hex; test $$? -le 1 # 1: some lines of the sample are faults
+	bin/tftp-play examples/lossy.script
+	examples/loopback.sh bin/tftpd bin/tftp
+
 test:
 	rt ci
+	@set -e; for check in $(CHECKS); do echo "$$check"; $$check; done
+
+install: $(PROGRAMS)
+	@tools/install.sh install '$(PREFIX)' '$(DESTDIR)'
+
+uninstall:
+	@tools/install.sh uninstall '$(PREFIX)' '$(DESTDIR)'
+
+dist: $(PROGRAMS)
+	@tools/install.sh dist '$(PREFIX)' '$(VERSION)'
 
 bench: $(PROGRAMS)
 	bench/show/run.sh bin/tftp-show
