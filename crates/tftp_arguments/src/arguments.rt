@@ -9,6 +9,10 @@ use std::alloc::Global;
 use std::env;
 use std::rt::Runtime;
 
+/// What `--version` prints behind a program's name: the version, and the toolchain that proves and
+/// builds it, as `rt version` prints it.
+pub const VERSION: &str = "0.1.0 (rattle-kit-13f logic dac8208d650f15bf)";
+
 /// The words of the program's own command line.
 pub fn own_words<R: Runtime + AllocGlobal>(rt: &R) -> Result<Vec<String>> {
     let mut words = Vec::new(rt.alloc());

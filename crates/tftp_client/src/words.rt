@@ -13,7 +13,7 @@ use std::io::{self, IsTerminal};
 use std::net::Net;
 use std::rt::{Files, Runtime};
 use std::time::Clock;
-use tftp_arguments::{flag, number, own_words, print_usage, word};
+use tftp_arguments::{VERSION, flag, number, own_words, print_usage, word};
 use tftp_host::{ClientEnd, endpoint_in};
 use tftp_negotiate::{Asked, DEFAULT_BLOCK, Kind, MAX_BLOCK, MIN_BLOCK};
 use tftp_wire::Mode;
@@ -252,7 +252,7 @@ fn command<'a>(alloc: Global, texts: &'a BlockTexts) -> anyhow::Result<Command<'
     let command = Command::new(alloc, "tftp")
         .bin_name("tftp")?
         .about("Transfers a file by TFTP (RFC 1350, RFC 2347 to 2349)")
-        .version("0.1.0")
+        .version(VERSION)
         .after_help(EXAMPLES)
         .subcommand_required(true)
         .arg_required_else_help(true);

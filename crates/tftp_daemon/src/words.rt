@@ -14,7 +14,7 @@ use std::io;
 use std::net::Net;
 use std::rt::{Files, Runtime};
 use std::time::Clock;
-use tftp_arguments::{flag, number, own_words, print_usage, word};
+use tftp_arguments::{VERSION, flag, number, own_words, print_usage, word};
 use tftp_host::endpoint_in;
 use tftp_negotiate::{Limits, MAX_BLOCK, MIN_BLOCK};
 use tftp_server::Config;
@@ -231,7 +231,7 @@ fn command<'a>(alloc: Global, texts: &'a Texts) -> Result<Command<'a>> {
     let command = Command::new(alloc, "tftpd")
         .bin_name("tftpd")?
         .about("Serves the files of a folder by TFTP (RFC 1350, RFC 2347 to 2349)")
-        .version("0.1.0")
+        .version(VERSION)
         .after_help(EXAMPLES);
     let command = with_places(alloc, command)?;
     let command = with_limits(alloc, command, texts)?;

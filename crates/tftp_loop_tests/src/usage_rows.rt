@@ -9,7 +9,9 @@ const TFTPD: &str = "programs::tftpd";
 
 /// Command lines, and what they print: a help text ends with examples, and a fault has the range of
 /// a value.
-const ROWS: [(&str, &[&str], &str); 14] = [
+const ROWS: [(&str, &[&str], &str); 16] = [
+    (TFTPD, &["--version"], "tftpd 0.1.0 (rattle-kit-"),
+    (TFTP, &["--version"], "tftp 0.1.0 (rattle-kit-"),
     (TFTPD, &["--help"], "Examples:\n  tftpd "),
     (TFTP, &["--help"], "Examples:\n  tftp get "),
     (TFTP, &["get", "--help"], "--blksize <8..65464>"),

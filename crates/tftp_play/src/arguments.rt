@@ -9,7 +9,7 @@ use std::convert::AsStr;
 use std::io::Write;
 use std::rt::Runtime;
 use std::{fs, io};
-use tftp_arguments::{own_words, print_usage};
+use tftp_arguments::{VERSION, own_words, print_usage};
 
 /// Runs `tftp-play` with the program's own command line, and returns its status. `errors` is
 /// standard error.
@@ -52,7 +52,7 @@ fn play_syntax<'a>(alloc: Global) -> Result<Command<'a>, AllocError> {
     let script = Arg::new(alloc, "SCRIPT").help("The script; standard input if there is none");
     Command::new(alloc, "tftp-play")
         .about("Plays a script of TFTP transfers over a lossy network in memory")
-        .version("0.1.0")
+        .version(VERSION)
         .arg(script)
 }
 

@@ -7,7 +7,7 @@ use clap::Command;
 use std::convert::AsStr;
 use std::io;
 use std::rt::Runtime;
-use tftp_arguments::{own_words, print_usage};
+use tftp_arguments::{VERSION, own_words, print_usage};
 
 /// Runs `tftp-show` with the program's own command line, and returns its status.
 ///
@@ -31,7 +31,7 @@ pub fn show_words<R: Runtime + AllocGlobal, S: AsStr>(rt: &R, words: &[S]) -> u8
 {
     let command = Command::new(rt.alloc(), "tftp-show")
         .about("Prints TFTP datagrams, given as lines of hexadecimal digits on standard input")
-        .version("0.1.0");
+        .version(VERSION);
     match command.try_get_matches_from(words) {
         Ok(_) => show_run(rt.alloc(), rt.reader(), io::writer(rt)),
         Err(error) => print_usage(rt, &error),
