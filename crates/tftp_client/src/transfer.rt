@@ -1,5 +1,6 @@
 //! `tftp`: one transfer over UDP, and a second one without options where these are refused.
 
+mod completed;
 mod conversation;
 mod failure;
 mod socket;
@@ -9,6 +10,7 @@ ghost use Rattle.tftp_ends.specs.Files.{AreFilesOf};
 ghost use Rattle.tftp_ends.specs.End.{is_sender};
 
 use crate::local::{LocalFile, LocalSource, Outbound, read_error};
+pub(crate) use crate::transfer::completed::Completed;
 use crate::transfer::conversation::Conversation;
 pub(crate) use crate::transfer::failure::Failure;
 use crate::transfer::failure::Reason;
@@ -60,12 +62,12 @@ impl Job<'_> {
     }
 }
 
-/// Transfers a file, and returns its bytes on this host.
+/// Transfers a file.
 pub(crate) fn transfer<R: FileSystem + Clone + Drop + Udp + Clock + Eprint>(
     rt: &R,
     alloc: Global,
     job: &Job<'_>,
-) -> Result<u64, Failure> {
+) -> Result<Completed<R>, Failure> {
     let failure = match transfer_once(rt, alloc, job) {
         Ok(count) => return Ok(count),
         Err(failure) => failure,
@@ -87,7 +89,7 @@ fn transfer_once<R: FileSystem + Clone + Drop + Udp + Clock + Eprint>(
     rt: &R,
     alloc: Global,
     job: &Job<'_>,
-) -> Result<u64, Failure> {
+) -> Result<Completed<R>, Failure> {
     match job.kind {
         Kind::Read => get(rt, alloc, job),
         Kind::Write => put(rt, alloc, job),
@@ -99,7 +101,7 @@ fn get<R: FileSystem + Clone + Drop + Udp + Clock + Eprint>(
     rt: &R,
     alloc: Global,
     job: &Job<'_>,
-) -> Result<u64, Failure> {
+) -> Result<Completed<R>, Failure> {
     match create_local(rt, alloc, job.local) {
         Ok(local) => get_into(rt, alloc, job, local),
         Err(failure) => Err(failure),
@@ -127,7 +129,7 @@ fn get_into<N: Udp + Clock + Eprint, R: FileSystem + Drop>(
     alloc: Global,
     job: &Job<'_>,
     local: LocalFile<R>,
-) -> Result<u64, Failure> {
+) -> Result<Completed<R>, Failure> {
     match ask_to_get(rt, alloc, job) {
         Ok(conversation) => converse(rt, conversation, Files::Sink(local), 0),
         Err(failure) => Err(failure),
@@ -188,7 +190,7 @@ fn put<R: FileSystem + Clone + Drop + Udp + Clock + Eprint>(
     rt: &R,
     alloc: Global,
     job: &Job<'_>,
-) -> Result<u64, Failure> {
+) -> Result<Completed<R>, Failure> {
     match Outbound::open(rt, alloc, job.local, job.mode) {
         Ok(outbound) => put_from(rt, alloc, job, outbound),
         Err(error) => Err(Failure::of_file(error)),
@@ -201,7 +203,7 @@ fn put_from<R: FileSystem + Drop + Udp + Clock + Eprint>(
     alloc: Global,
     job: &Job<'_>,
     outbound: Outbound<R::File>,
-) -> Result<u64, Failure> {
+) -> Result<Completed<R>, Failure> {
     match ask_to_put(rt, alloc, job, outbound.wire_bytes) {
         Ok(conversation) => {
             let files: Files<LocalSource<R::File>, LocalFile<R>> = Files::Source(outbound.source);
@@ -251,12 +253,20 @@ fn converse<C: Clock + Eprint, R: FileSystem + Drop>(
     mut conversation: Conversation,
     mut files: Files<LocalSource<R::File>, LocalFile<R>>,
     sent: u64,
-) -> Result<u64, Failure>
+) -> Result<Completed<R>, Failure>
     requires { AreFilesOf conversation.end.role.side files }
 {
-    let outcome = conversation.run(rt, &mut files);
-    conversation.finish(rt, stored(&files));
-    ended(outcome, files, sent, conversation.into_peer_reason())
+    let ended = conversation.run(rt, &mut files);
+    let stored = stored(&files);
+    conversation.finish(rt, stored);
+    match ended {
+        Ok(()) => Ok(Completed {
+            conversation,
+            files,
+            count: stored.unwrap_or(sent),
+        }),
+        Err(outcome) => Err(failed(outcome, files, conversation.into_peer_reason())),
+    }
 }
 
 /// The bytes that were stored, where the file is received.
@@ -267,27 +277,21 @@ fn stored<S, R: FileSystem + Drop>(files: &Files<S, LocalFile<R>>) -> Option<u64
     }
 }
 
-/// What a transfer that ended so comes to: the bytes of the file on this host, or why there are
-/// none.
-fn ended<R: FileSystem + Drop>(
+/// A transfer that closed so, and why where that is known.
+fn failed<R: FileSystem + Drop>(
     outcome: Outcome,
     files: Files<LocalSource<R::File>, LocalFile<R>>,
-    sent: u64,
     peer: Reason,
-) -> Result<u64, Failure> {
-    let (count, error) = match files {
-        Files::Sink(local) => (local.count(), local.into_error()),
-        Files::Source(source) => (sent, read_error(source)),
+) -> Failure {
+    let error = match files {
+        Files::Sink(local) => local.into_error(),
+        Files::Source(source) => read_error(source),
     };
-    if outcome == Outcome::Complete {
-        return Ok(count);
-    }
-    let reason = match error {
-        Some(error) => Reason::System(error),
-        None => peer,
-    };
-    Err(Failure {
+    Failure {
         end: ClientEnd::Failed(outcome),
-        reason,
-    })
+        reason: match error {
+            Some(error) => Reason::System(error),
+            None => peer,
+        },
+    }
 }

@@ -3,7 +3,7 @@
 ghost use Rattle.std.specs.Prelude.{◌≡◌, ◌≤◌, IfOk, IfErr};
 ghost use Rattle.tftp_host.specs.ClientEnd.{status_of};
 
-use crate::transfer::{Failure, Job, transfer};
+use crate::transfer::{Completed, Failure, Job, transfer};
 use crate::udp::Udp;
 use clap::error::ErrorKind;
 use clap::{Arg, ArgMatches, Command, value_parser};
@@ -22,6 +22,11 @@ const EXAMPLES: &str = "\
 Examples:
   tftp get 192.0.2.1:69 boot.img boot.img --blksize 1428 --tsize --progress
   tftp put 127.0.0.1:6969 notes.txt notes.txt --netascii";
+
+const LINGERING: &str = "\
+Once LOCAL has its name, `complete N` is printed. The client then stays for two timeouts to
+acknowledge the last block again where it comes again (RFC 1350, section 6): 2 seconds by default,
+twice the agreed timeout else.";
 
 /// Runs `tftp` with the program's own command line, and returns its status. `errors` is standard
 /// error.
@@ -100,6 +105,8 @@ fn run_ordered<R: Files + Clone + Drop + Udp + Clock + Print + Eprint>(
 #[derive(Clone, Copy)]
 struct Order<'a> {
     job: Job<'a>,
+    /// A client that received stays for its last acknowledgement.
+    lingers: bool,
     /// The reason of a failure is told.
     is_verbose: bool,
 }
@@ -153,6 +160,7 @@ fn read_matches<'a, P: Print + Eprint>(
     match job_of(kind_of(word), matches, has_terminal) {
         Some(job) => Ok(Ok(Order {
             job,
+            lingers: !matches.get_flag("no-linger"),
             is_verbose: matches.get_flag("verbose"),
         })),
         None => Ok(Err(report_address(rt, command)?)),
@@ -186,9 +194,25 @@ fn run_order<R: Files + Clone + Drop + Udp + Clock + Print + Eprint>(
     ensures { IfOk result (λ status. status ≤ 2) }
 {
     match transfer(rt, alloc, &order.job) {
-        Ok(count) => print_end(rt, ClientEnd::Complete(count)),
+        Ok(completed) => conclude(rt, completed, order.lingers),
         Err(failure) => report(rt, &failure, order.is_verbose),
     }
+}
+
+/// Prints that a transfer is complete, and returns the status; a client that lingers stays for its
+/// last acknowledgement behind that line.
+fn conclude<N: Clock + Print + Eprint, R: Files + Drop>(
+    rt: &N,
+    completed: Completed<R>,
+    lingers: bool,
+) -> io::Result<u8>
+    ensures { IfOk result (λ status. status ≡ 0) }
+{
+    let printed = print_end(rt, completed.client_end());
+    if lingers {
+        completed.linger(rt);
+    }
+    printed
 }
 
 /// Prints how a transfer ended, and returns the status.
@@ -270,7 +294,13 @@ fn get_command<'a>(alloc: Global, texts: &'a BlockTexts) -> anyhow::Result<Comma
     let command = Command::new(alloc, "get").about("Fetches a file");
     let command = command.arg(server(alloc))?;
     let command = command.arg(name(alloc))?;
-    with_options(alloc, command.arg(local)?, texts)
+    let command = with_options(alloc, command.arg(local)?, texts)?;
+    let no_linger = flag(
+        alloc,
+        "no-linger",
+        "Ends once LOCAL has its name; a lost last ACK is then not sent again",
+    );
+    Ok(command.arg(no_linger)?.after_help(LINGERING))
 }
 
 /// What `tftp put` understands.

@@ -1,6 +1,7 @@
 //! A client's end from its opening to its close, over its socket.
 
-ghost use Rattle.std.specs.Prelude.{◌≡◌, ◌≤◌, length, IfOk};
+ghost use Rattle.std.specs.Prelude.{◌≡◌, ◌≤◌, true, length, IfOk, OnOk};
+ghost use Rattle.tftp_ends.specs.End.{is_complete};
 ghost use Rattle.tftp_ends.specs.Files.{AreFilesOf};
 
 use crate::transfer::failure::Reason;
@@ -77,30 +78,54 @@ impl Conversation {
         })
     }
 
-    /// Takes the end to its close. A transfer that takes too many waits has timed out.
+    /// Takes the transfer to its end, and fails with how it closed where it is not complete. One
+    /// that takes too many waits has timed out.
     pub(crate) fn run<C: Clock + Eprint, S: Source + FileWork, K: Sink + FileWork>(
         &mut self,
         rt: &C,
         files: &mut Files<S, K>,
-    ) -> Outcome
+    ) -> Result<(), Outcome>
         requires { AreFilesOf self.old.end.role.side files.old }
+        ensures complete { OnOk result (is_complete self.new.end.position.phase ≡ true) }
+        ensures files { AreFilesOf self.new.end.role.side files.new }
     {
         for _ in 0..MAX_WAITS {
-            if let Some(outcome) = self.turn(rt, files) {
-                return outcome;
+            self.turn(rt, files);
+            let record = self.end.record();
+            if record.complete {
+                return Ok(());
+            }
+            if let Some(outcome) = record.outcome {
+                return Err(outcome);
             }
             self.show(rt);
         }
-        Outcome::TimedOut
+        Err(Outcome::TimedOut)
     }
 
-    /// Waits once, and takes what came or the timeout that is due; returns how the end closed, if
-    /// it did.
+    /// Takes the end of a complete transfer to its close: one that received acknowledges its last
+    /// block again whenever it comes again, for two timeouts (RFC 1350, section 6).
+    pub(crate) fn linger<C: Clock, S: Source + FileWork, K: Sink + FileWork>(
+        &mut self,
+        clock: &C,
+        files: &mut Files<S, K>,
+    )
+        requires { AreFilesOf self.old.end.role.side files.old }
+    {
+        for _ in 0..MAX_WAITS {
+            if self.end.outcome().is_some() {
+                return;
+            }
+            self.turn(clock, files);
+        }
+    }
+
+    /// Waits once, and takes what came or the timeout that is due.
     fn turn<C: Clock, S: Source + FileWork, K: Sink + FileWork>(
         &mut self,
         clock: &C,
         files: &mut Files<S, K>,
-    ) -> Option<Outcome>
+    )
         requires { AreFilesOf self.old.end.role.side files.old }
         ensures { AreFilesOf self.new.end.role.side files.new }
     {
@@ -113,19 +138,16 @@ impl Conversation {
             None => NO_STEP,
         };
         if step.closed.is_some() {
-            return step.closed;
+            return;
         }
         if step.progress {
             self.due = deadline(now, Some(self.end.interval()));
             self.advanced_at = now;
             self.work(files);
-            return None;
+        } else if is_due(now, self.due) {
+            self.due = deadline(now, Some(self.end.interval()));
+            self.take_timeout();
         }
-        if !is_due(now, self.due) {
-            return None;
-        }
-        self.due = deadline(now, Some(self.end.interval()));
-        self.take_timeout().closed
     }
 
     /// Takes the datagram in the buffer, and sends what goes out. One for whose handling there is
@@ -166,15 +188,11 @@ impl Conversation {
     }
 
     /// Takes a timeout, and sends what goes out.
-    fn take_timeout(&mut self) -> Step
+    fn take_timeout(&mut self)
         ensures { self.new.end.role.side ≡ self.old.end.role.side }
     {
-        match self.end.handle_timeout() {
-            Ok((step, outgoing)) => {
-                self.socket.send(&step, self.end.bytes_of(outgoing));
-                step
-            }
-            Err(_) => NO_STEP,
+        if let Ok((step, outgoing)) = self.end.handle_timeout() {
+            self.socket.send(&step, self.end.bytes_of(outgoing));
         }
     }
 

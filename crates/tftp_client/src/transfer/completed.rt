@@ -1,0 +1,44 @@
+//! A transfer that is complete.
+
+ghost use Rattle.std.specs.Prelude.{◌≡◌, true};
+ghost use Rattle.tftp_ends.specs.End.{is_complete};
+ghost use Rattle.tftp_ends.specs.Files.{AreFilesOf};
+ghost use Rattle.tftp_host.specs.declared.client_end.ClientEnd.TheVariants as ends;
+
+use crate::local::{LocalFile, LocalSource};
+use crate::transfer::conversation::Conversation;
+use std::rt::Files as FileSystem;
+use std::time::Clock;
+use tftp_file::Files;
+use tftp_host::ClientEnd;
+
+/// A transfer that is complete: all was sent and acknowledged, or stored, named and acknowledged.
+/// Its end may have to send its last acknowledgement again.
+#[derive(Drop)]
+pub(crate) struct Completed<R: FileSystem + Drop> {
+    pub(crate) conversation: Conversation,
+    pub(crate) files: Files<LocalSource<R::File>, LocalFile<R>>,
+    /// The bytes of the file on this host.
+    pub(crate) count: u64,
+    ghost complete: { is_complete conversation.end.position.phase ≡ true },
+    ghost files_fit: { ∥ AreFilesOf conversation.end.role.side files ∥₁ },
+}
+
+impl<R: FileSystem + Drop> Completed<R> {
+    /// How the program ends.
+    pub(crate) fn client_end(&self) -> ClientEnd
+        ensures { result ≡ ends.Complete self.now.count }
+    {
+        ClientEnd::Complete(self.count)
+    }
+
+    /// Stays until its end is closed: a receiver's two timeouts later, a sender's is at once.
+    pub(crate) fn linger<C: Clock>(self, clock: &C) {
+        let Completed {
+            mut conversation,
+            mut files,
+            ..
+        } = self;
+        conversation.linger(clock, &mut files);
+    }
+}
