@@ -5,8 +5,9 @@ ghost use Rattle.std.specs.Prelude.{◌≢◌};
 ghost use Rattle.tftp_file.specs.declared.fault.StoreFault.TheVariants.{Memory};
 
 use std::alloc::Global;
-use std::fs;
+use std::fs::{self, OpenFile, OpenOptions};
 use std::io::{self, BufReader, BufWriter, ErrorKind, Read, Seek, Write};
+use std::os::unix::fs::MetadataExt;
 use std::rt::Files;
 use tftp_file::{ReadSource, Sink, StoreFault};
 use tftp_host::{Ahead, FileWork, WRITE_BUFFER, length_on_wire, name_fault};
@@ -50,21 +51,20 @@ pub(crate) struct Outbound<F: Read + Drop> {
     pub(crate) wire_bytes: u64,
 }
 
-impl<F: Read + Seek + Drop> Outbound<F> {
+impl<F: Read + Seek + OpenFile + Drop> Outbound<F> {
     /// Opens a regular file to be sent. What is no regular file is refused before it is opened,
-    /// since opening a FIFO would wait.
+    /// since opening a FIFO would wait. The length is that of the open file.
     pub(crate) fn open<R: Files<File = F>>(
         files: &R,
         alloc: Global,
         local: &str,
         mode: Mode,
     ) -> io::Result<Outbound<F>> {
-        let found = fs::metadata(files, local)?;
-        if !found.is_file() {
+        if !fs::metadata(files, local)?.is_file() {
             return Err(io::Error::from(ErrorKind::InvalidInput));
         }
         let mut file = fs::open(files, local)?;
-        let host_bytes = found.len();
+        let host_bytes = file.metadata()?.len();
         let Ok(wire_bytes) = length_on_wire(&mut file, mode, host_bytes) else {
             return Err(io::Error::from(ErrorKind::InvalidData));
         };
@@ -99,13 +99,18 @@ pub(crate) struct LocalFile<R: Files + Drop> {
 }
 
 impl<R: Files + Drop> LocalFile<R> {
-    /// A new file, in the place of an old `LOCAL.part`. `AlreadyExists` if there is a `LOCAL`.
+    /// A new file, in the place of an old `LOCAL.part`, or of a link there, which is not followed.
+    /// `AlreadyExists` if there is a `LOCAL`.
     pub(crate) fn create(files: R, alloc: Global, local: &str) -> io::Result<LocalFile<R>> {
         if fs::symlink_metadata(&files, local).is_ok() {
             return Err(io::Error::from(ErrorKind::AlreadyExists));
         }
         let part = format!(in alloc; "{local}.part")?;
-        let file = fs::create(&files, part.as_str())?;
+        let _ = fs::remove_file(&files, part.as_str());
+        let file = OpenOptions::new()
+            .write(true)
+            .create_new(true)
+            .open(&files, part.as_str())?;
         Ok(LocalFile {
             files,
             writer: BufWriter::with_capacity(alloc, WRITE_BUFFER, file)?,
@@ -135,9 +140,21 @@ impl<R: Files + Drop> LocalFile<R> {
         fault
     }
 
+    /// Fails where another file than the open one stands under `LOCAL.part`.
+    fn check_part(&self) -> io::Result<()> {
+        let opened = self.writer.get_ref().metadata()?;
+        let found = fs::symlink_metadata(&self.files, self.part.as_str())?;
+        if opened.dev() == found.dev() && opened.ino() == found.ino() {
+            Ok(())
+        } else {
+            Err(io::Error::other("another file has the name LOCAL.part"))
+        }
+    }
+
     /// Names the file, if no file has the name. A hard link never takes the place of one; where the
     /// system makes none, the file is renamed.
     fn name(&self) -> io::Result<()> {
+        self.check_part()?;
         let (part, local) = (self.part.as_str(), self.local.as_str());
         match fs::hard_link(&self.files, part, local) {
             Ok(()) => {
