@@ -34,12 +34,30 @@ pub(crate) struct Service<'a> {
     pub(crate) listen: Endpoint,
     /// What transfers are allowed.
     pub(crate) config: Config,
-    /// After how many closed transfers it ends.
-    pub(crate) transfers: u32,
-    /// After how many waits it ends.
-    pub(crate) rounds: u32,
+    /// When it ends.
+    pub(crate) ending: Ending,
+    /// Every write is refused.
+    pub(crate) read_only: bool,
     /// Each request and each close is a line on standard error.
     pub(crate) logs: bool,
+}
+
+/// When `tftpd` ends: by the first of two counts that is reached.
+#[derive(Clone, Copy)]
+pub(crate) struct Ending {
+    /// After how many closed transfers.
+    pub(crate) transfers: u64,
+    /// After how many waits.
+    pub(crate) rounds: u64,
+}
+
+impl Ending {
+    /// By no count: so many waits take longer than any machine lives, thousands of years even where
+    /// each is over at once.
+    pub(crate) const NEVER: Ending = Ending {
+        transfers: u64::MAX,
+        rounds: u64::MAX,
+    };
 }
 
 /// Why `tftpd` did not serve, or stopped.
@@ -106,9 +124,12 @@ fn open_server<R: Files + Clone + Drop>(
     let Ok(files) = rt.clone() else {
         return Err(ServiceFault::Memory);
     };
-    let Ok(store) = FolderStore::new(files, alloc, service.root) else {
+    let Ok(mut store) = FolderStore::new(files, alloc, service.root) else {
         return Err(ServiceFault::File);
     };
+    if service.read_only {
+        store.refuse_writes();
+    }
     match Server::new(alloc, service.config, store) {
         Ok(server) => Ok(server),
         Err(_) => Err(ServiceFault::Memory),
@@ -192,8 +213,8 @@ impl<R: Files + Drop> Daemon<R> {
         events: &mut Events,
         buffer: &mut [u8],
     ) -> Result<(), ServiceFault> {
-        let mut left = service.transfers;
-        for _ in 0..service.rounds {
+        let mut left = service.ending.transfers;
+        for _ in 0..service.ending.rounds {
             left = self.take_round(rt, left, events, buffer)?;
             if left == 0 {
                 return Ok(());
@@ -207,10 +228,10 @@ impl<R: Files + Drop> Daemon<R> {
     fn take_round<N: Udp + Clock + Print + Eprint>(
         &mut self,
         rt: &N,
-        left: u32,
+        left: u64,
         events: &mut Events,
         buffer: &mut [u8],
-    ) -> Result<u32, ServiceFault> {
+    ) -> Result<u64, ServiceFault> {
         self.wait(rt, events);
         self.take_requests(rt, buffer);
         let left = self.take_transfers(rt, left, buffer)?;
@@ -349,9 +370,9 @@ impl<R: Files + Drop> Daemon<R> {
     fn take_transfers<P: Print + Eprint>(
         &mut self,
         rt: &P,
-        left: u32,
+        left: u64,
         buffer: &mut [u8],
-    ) -> Result<u32, ServiceFault> {
+    ) -> Result<u64, ServiceFault> {
         let mut left = left;
         // From the end, since a port that closes gives its place to the last.
         for place in (0..self.ports.len()).rev() {
@@ -376,9 +397,9 @@ impl<R: Files + Drop> Daemon<R> {
     fn take_timeouts<P: Print + Eprint>(
         &mut self,
         rt: &P,
-        left: u32,
+        left: u64,
         buffer: &mut [u8],
-    ) -> Result<u32, ServiceFault> {
+    ) -> Result<u64, ServiceFault> {
         let now = self.sockets.watch.now;
         if wait_for(now, self.ports.as_slice()) > 0 {
             return Ok(left);

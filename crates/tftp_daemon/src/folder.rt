@@ -1,6 +1,6 @@
 //! A store over a folder: a server's files are those in it and below it.
 
-ghost use Rattle.std.specs.Prelude.{IfErr};
+ghost use Rattle.std.specs.Prelude.{◌≡◌, IfErr, true};
 ghost use Rattle.tftp_host.specs.DiskFault.{MayNotOpen, MayNotStore};
 
 use crate::shared_file::{FolderSource, PortFile, share_source, share_writer};
@@ -31,6 +31,8 @@ pub struct FolderStore<R: Files + Drop> {
     files: R,
     /// Without links, and without a slash at its end.
     root: String,
+    /// No write is taken.
+    is_read_only: bool,
     port: u16,
     /// The file that was opened or begun last, until its port takes it.
     opened: RefCell<Option<PortFile<R::File>>>,
@@ -68,9 +70,17 @@ impl<R: Files + Drop> FolderStore<R> {
         Ok(FolderStore {
             files,
             root,
+            is_read_only: false,
             port: 0,
             opened: RefCell::new(None),
         })
+    }
+
+    /// Refuses every write from now on: each is an access violation to its client.
+    pub fn refuse_writes(&mut self)
+        ensures { self.new ≡ record self.old { is_read_only = true } }
+    {
+        self.is_read_only = true;
     }
 
     /// Tells the port of the next transfer, for which its draft is named.
@@ -204,7 +214,7 @@ impl<R: Files + Drop> FolderStore<R> {
 }
 
 impl<R: Files + Drop> Store for FolderStore<R> {
-    ghost use Rattle.std.specs.Prelude.{None};
+    ghost use Rattle.std.specs.Prelude.{◌≡◌, None, true, Err, IfErr, IsErrOf};
     ghost use Rattle.tftp_host.specs.DiskFault.{MayNotOpen, MayNotStore, MayNotBegin, MayNotName};
 
     type Source = FolderSource<R::File>;
@@ -241,13 +251,21 @@ impl<R: Files + Drop> Store for FolderStore<R> {
         Ok(Opening { source, length })
     }
 
-    /// It follows no link, and makes no folder. What is no regular file is never replaced.
+    /// It follows no link, and makes no folder. What is no regular file is never replaced. A store
+    /// that refuses every write answers `Io`, and looks at no file for it.
     fn begin(
         &mut self,
         alloc: Global,
         path: &Path,
         replace: bool,
-    ) -> Result<FolderDraft<R::File>, StoreFault> {
+    ) -> Result<FolderDraft<R::File>, StoreFault>
+        ensures refused { IfErr result (MayNotBegin replace) }
+        ensures memory { IsErrOf result StoreFault.Memory → self.new ≡ self.old }
+        ensures read_only { self.old.is_read_only ≡ true → result ≡ Err StoreFault.Io }
+    {
+        if self.is_read_only {
+            return Err(StoreFault::Io);
+        }
         let place = match self.walk(alloc, path) {
             Ok(place) => place,
             Err(StoreFault::Memory) => return Err(StoreFault::Memory),

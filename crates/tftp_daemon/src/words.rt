@@ -3,7 +3,7 @@
 ghost use Rattle.std.specs.Prelude.{◌≤◌, IfOk, IfErr, IfSome};
 ghost use Rattle.tftp_server.specs.Config.{IsConfig};
 
-use crate::daemon::{Service, ServiceFault, serve};
+use crate::daemon::{Ending, Service, ServiceFault, serve};
 use crate::udp::Udp;
 use anyhow::Result;
 use clap::error::ErrorKind;
@@ -21,8 +21,15 @@ use tftp_server::Config;
 
 const EXAMPLES: &str = "\
 Examples:
-  tftpd /srv/tftp --listen 192.0.2.1:6969 --transfers 1000
+  tftpd /srv/tftp --listen 192.0.2.1:6969 --forever --read-only
   tftpd . --listen 127.0.0.1:0 --max-block 8192 --cap 64";
+
+/// Arguments that say when the server ends.
+const TRANSFERS: &str = "transfers";
+
+const ROUNDS: &str = "rounds";
+
+const FOREVER: &str = "forever";
 
 /// Runs `tftpd` with the program's own command line, and returns its status.
 ///
@@ -166,16 +173,25 @@ fn service<'a>(matches: &ArgMatches<'a>) -> Option<Service<'a>>
 {
     let root = matches.get_str("ROOT")?;
     let listen = endpoint_in(matches.get_str("listen")?)?;
-    let transfers = matches.get_one::<u32>("transfers")?;
-    let rounds = matches.get_one::<u32>("rounds")?;
     let config = config(matches)?;
     Some(Service {
         root,
         listen,
         config,
-        transfers,
-        rounds,
+        ending: ending(matches)?,
+        read_only: matches.get_flag("read-only"),
         logs: matches.get_flag("log"),
+    })
+}
+
+/// When the server ends.
+fn ending(matches: &ArgMatches<'_>) -> Option<Ending> {
+    if matches.get_flag(FOREVER) {
+        return Some(Ending::NEVER);
+    }
+    Some(Ending {
+        transfers: u64::from(matches.get_one::<u32>(TRANSFERS)?),
+        rounds: u64::from(matches.get_one::<u32>(ROUNDS)?),
     })
 }
 
@@ -235,7 +251,9 @@ fn command<'a>(alloc: Global, texts: &'a Texts) -> Result<Command<'a>> {
         .after_help(EXAMPLES);
     let command = with_places(alloc, command)?;
     let command = with_limits(alloc, command, texts)?;
-    with_ending(alloc, command)
+    let command = with_writes(alloc, command)?;
+    let command = with_ending(alloc, command)?;
+    with_log(alloc, command)
 }
 
 /// The folder, and where requests come to.
@@ -282,15 +300,25 @@ fn with_limits<'a>(alloc: Global, command: Command<'a>, texts: &'a Texts) -> Res
         value_parser!(u8).range(1..=64),
         "Transfers that are open at once, 1 to 64",
     );
-    let command = command.arg(cap.default_value(texts.cap.as_str()))?;
-    Ok(command.arg(flag(alloc, "overwrite", "A write replaces a file that is there"))?)
+    Ok(command.arg(cap.default_value(texts.cap.as_str()))?)
 }
 
-/// When the server ends, and what it tells.
+/// Which writes are taken.
+fn with_writes<'a>(alloc: Global, command: Command<'a>) -> Result<Command<'a>> {
+    let overwrite = flag(alloc, "overwrite", "A write replaces a file that is there");
+    let read_only = flag(
+        alloc,
+        "read-only",
+        "Refuses every write as an access violation (ERROR 2), and touches no file for it",
+    );
+    Ok(command.arg(overwrite)?.arg(read_only)?)
+}
+
+/// When the server ends.
 fn with_ending<'a>(alloc: Global, command: Command<'a>) -> Result<Command<'a>> {
     let transfers = number(
         alloc,
-        "transfers",
+        TRANSFERS,
         "1..4294967295",
         value_parser!(u32).range(1..=4_294_967_295),
         "Ends after so many closed transfers, 1 to 4294967295",
@@ -298,12 +326,23 @@ fn with_ending<'a>(alloc: Global, command: Command<'a>) -> Result<Command<'a>> {
     let command = command.arg(transfers.default_value("1"))?;
     let rounds = number(
         alloc,
-        "rounds",
+        ROUNDS,
         "1..4294967295",
         value_parser!(u32).range(1..=4_294_967_295),
         "Ends after so many waits, each of a second at most, 1 to 4294967295",
     );
     let command = command.arg(rounds.default_value("1000000"))?;
+    let forever = flag(
+        alloc,
+        FOREVER,
+        "Ends by no count of transfers or waits; not beside --transfers or --rounds",
+    );
+    let forever = forever.conflicts_with(TRANSFERS)?.conflicts_with(ROUNDS)?;
+    Ok(command.arg(forever)?)
+}
+
+/// What the server reports of each request.
+fn with_log<'a>(alloc: Global, command: Command<'a>) -> Result<Command<'a>> {
     let log = flag(
         alloc,
         "log",

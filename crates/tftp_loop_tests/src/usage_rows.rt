@@ -9,7 +9,7 @@ const TFTPD: &str = "programs::tftpd";
 
 /// Command lines, and what they print: a help text ends with examples, and a fault has the range of
 /// a value.
-const ROWS: [(&str, &[&str], &str); 16] = [
+const ROWS: [(&str, &[&str], &str); 18] = [
     (TFTPD, &["--version"], "tftpd 0.1.0 (rattle-kit-"),
     (TFTP, &["--version"], "tftp 0.1.0 (rattle-kit-"),
     (TFTPD, &["--help"], "Examples:\n  tftpd "),
@@ -33,6 +33,16 @@ const ROWS: [(&str, &[&str], &str); 16] = [
         "'--transfers <1..4294967295>'",
     ),
     (TFTPD, &[".", "--rounds", "0"], "'--rounds <1..4294967295>'"),
+    (
+        TFTPD,
+        &[".", "--forever", "--transfers", "2"],
+        "'--forever' cannot be used with '--transfers <1..4294967295>'",
+    ),
+    (
+        TFTPD,
+        &[".", "--rounds", "2", "--forever"],
+        "cannot be used with '--forever'",
+    ),
     (
         TFTPD,
         &[".", "--listen", "localhost:69"],
