@@ -9,7 +9,7 @@ ghost use Rattle.tftp_server.specs.Config.{IsConfig};
 use crate::daemon::report::{close_port, log_unopened};
 use crate::daemon::sockets::{REQUESTS, Sockets, Spare};
 use crate::daemon::transfer_port::{
-    LogEntry, MOST_AT_ONCE, TransferSocket, Turn, data_length, take_datagrams, take_timeout,
+    LogEntry, MOST_AT_ONCE, TransferSocket, Turn, data_length, take_datagrams, take_silence,
     timeout_of,
 };
 use crate::folder::FolderStore;
@@ -20,10 +20,13 @@ use std::rt::Files;
 use std::time::Clock;
 use tftp_ends::Endpoint;
 use tftp_host::{DATAGRAM_BUFFER, Port, Printed, deadline, is_due, place_of, wait_for};
-use tftp_server::{Config, Server, Store};
+use tftp_server::{Config, Server, ServerFault, Store};
 
 /// The most events that one wait reports.
 const MOST_EVENTS: usize = 128;
+
+/// The identifier with which the server handles a datagram that opens no transfer.
+const NO_PORT: u16 = 0;
 
 /// What `tftpd` is told to do.
 #[derive(Clone, Copy)]
@@ -94,6 +97,25 @@ struct Daemon<R: Files + Drop> {
     tids: Vec<u16>,
     logs: bool,
     alloc: Global,
+}
+
+/// Room for what comes: what a wait reports, a datagram of the request port, and one of a transfer.
+#[derive(Drop)]
+struct Room {
+    events: Events,
+    request: Vec<u8>,
+    datagram: Vec<u8>,
+}
+
+impl Room {
+    /// Room for the longest datagrams.
+    fn new(alloc: Global) -> Result<Room, AllocError> {
+        Ok(Room {
+            events: Events::with_capacity(alloc, MOST_EVENTS)?,
+            request: Vec::from_elem(alloc, 0u8, DATAGRAM_BUFFER)?,
+            datagram: Vec::from_elem(alloc, 0u8, DATAGRAM_BUFFER)?,
+        })
+    }
 }
 
 /// The port of a transfer.
@@ -186,21 +208,8 @@ impl<R: Files + Drop> Daemon<R> {
         rt: &N,
         service: &Service<'_>,
     ) -> Result<(), ServiceFault> {
-        match Events::with_capacity(self.alloc, MOST_EVENTS) {
-            Ok(mut events) => self.take_events(rt, service, &mut events),
-            Err(_) => Err(ServiceFault::Memory),
-        }
-    }
-
-    /// Takes what comes, with room for the events of a wait.
-    fn take_events<N: Udp + Clock + Print + Eprint>(
-        &mut self,
-        rt: &N,
-        service: &Service<'_>,
-        events: &mut Events,
-    ) -> Result<(), ServiceFault> {
-        match Vec::from_elem(self.alloc, 0u8, DATAGRAM_BUFFER) {
-            Ok(mut buffer) => self.take_rounds(rt, service, events, buffer.as_mut_slice()),
+        match Room::new(self.alloc) {
+            Ok(mut room) => self.take_rounds(rt, service.ending, &mut room),
             Err(_) => Err(ServiceFault::Memory),
         }
     }
@@ -209,13 +218,12 @@ impl<R: Files + Drop> Daemon<R> {
     fn take_rounds<N: Udp + Clock + Print + Eprint>(
         &mut self,
         rt: &N,
-        service: &Service<'_>,
-        events: &mut Events,
-        buffer: &mut [u8],
+        ending: Ending,
+        room: &mut Room,
     ) -> Result<(), ServiceFault> {
-        let mut left = service.ending.transfers;
-        for _ in 0..service.ending.rounds {
-            left = self.take_round(rt, left, events, buffer)?;
+        let mut left = ending.transfers;
+        for _ in 0..ending.rounds {
+            left = self.take_round(rt, left, room)?;
             if left == 0 {
                 return Ok(());
             }
@@ -223,19 +231,25 @@ impl<R: Files + Drop> Daemon<R> {
         Ok(())
     }
 
-    /// Waits once, and takes what came and what is due. `left` counts the transfers that are yet to
-    /// close.
+    /// Waits once, and takes what came and what is due: of transfers before requests, since an
+    /// acknowledgement may free the place that its client's next request needs. `left` counts the
+    /// transfers that are yet to close.
     fn take_round<N: Udp + Clock + Print + Eprint>(
         &mut self,
         rt: &N,
         left: u64,
-        events: &mut Events,
-        buffer: &mut [u8],
+        room: &mut Room,
     ) -> Result<u64, ServiceFault> {
-        self.wait(rt, events);
-        self.take_requests(rt, buffer);
-        let left = self.take_transfers(rt, left, buffer)?;
-        self.take_timeouts(rt, left, buffer)
+        self.wait(rt, &mut room.events);
+        let left = self.take_transfers(rt, left, room.datagram.as_mut_slice())?;
+        let left = self.take_requests(
+            rt,
+            left,
+            room.request.as_mut_slice(),
+            &mut room.events,
+            room.datagram.as_mut_slice(),
+        )?;
+        self.take_timeouts(rt, left, room.datagram.as_mut_slice())
     }
 
     /// Waits until a datagram is there or a transfer is due, and a second at most.
@@ -245,6 +259,11 @@ impl<R: Files + Drop> Daemon<R> {
         } else {
             millis_to_wait(self.sockets.watch.now, self.ports.as_slice())
         };
+        self.look(clock, events, millis);
+    }
+
+    /// Waits until a datagram is there, for so many milliseconds at most, and notes which are.
+    fn look<C: Clock>(&mut self, clock: &C, events: &mut Events, millis: u64) {
         self.sockets.wait(clock, events, millis);
         for event in events.iter() {
             self.note(event.token());
@@ -260,34 +279,68 @@ impl<R: Files + Drop> Daemon<R> {
         }
     }
 
-    /// Takes requests that are there, as many as a wake-up takes.
-    fn take_requests<N: Udp + Eprint>(&mut self, rt: &N, buffer: &mut [u8]) {
+    /// Takes requests that are there, as many as a wake-up takes. `left` counts the transfers that
+    /// are yet to close.
+    fn take_requests<N: Udp + Clock + Print + Eprint>(
+        &mut self,
+        rt: &N,
+        left: u64,
+        request: &mut [u8],
+        events: &mut Events,
+        datagram: &mut [u8],
+    ) -> Result<u64, ServiceFault> {
+        let mut left = left;
         for _ in 0..MOST_AT_ONCE {
-            if !self.sockets.is_ready || self.ports.try_reserve(1).is_err() {
-                return;
+            if left == 0 || self.ports.try_reserve(1).is_err() {
+                return Ok(left);
             }
-            let Some((from, count)) = self.sockets.receive_request(buffer) else {
-                return;
+            let Some((from, count)) = self.sockets.receive_request(request) else {
+                return Ok(left);
             };
-            self.take_request(rt, from, &buffer[..count]);
+            let bytes = &request[..count];
+            left = self.take_request(rt, left, from, bytes, events, datagram)?;
         }
+        Ok(left)
     }
 
-    /// Takes a datagram that came to the request port. One that may open a transfer is lost where
-    /// no port can be bound for it.
-    fn take_request<N: Udp + Eprint>(&mut self, rt: &N, from: Endpoint, bytes: &[u8]) {
-        if let Some(tid) = self.port_for(rt, from, bytes) {
-            self.handle_request(rt, from, tid, bytes);
+    /// Takes a datagram that came to the request port. Where it would open no transfer as the server
+    /// stands, what came to transfers is taken before it: its client may have sent the
+    /// acknowledgement that frees a place just ahead of it.
+    fn take_request<N: Udp + Clock + Print + Eprint>(
+        &mut self,
+        rt: &N,
+        left: u64,
+        from: Endpoint,
+        bytes: &[u8],
+        events: &mut Events,
+        datagram: &mut [u8],
+    ) -> Result<u64, ServiceFault> {
+        let may_open = self.server.may_open(from, bytes);
+        if !matches!(may_open, Ok(false)) {
+            self.answer_request(rt, from, bytes, may_open);
+            return Ok(left);
         }
+        self.look(rt, events, 0);
+        let left = self.take_transfers(rt, left, datagram)?;
+        if left > 0 {
+            let may_open = self.server.may_open(from, bytes);
+            self.answer_request(rt, from, bytes, may_open);
+        }
+        Ok(left)
     }
 
-    /// The port of the transfer that a datagram may open, and 0 where it opens none.
-    fn port_for<N: Udp>(&mut self, net: &N, from: Endpoint, bytes: &[u8]) -> Option<u16> {
-        // A port is bound only where the server may open a transfer; else no identifier is used.
-        if let Ok(true) = self.server.may_open(from, bytes) {
-            return self.sockets.spare_port(net);
+    /// Answers a datagram that came to the request port. It is lost where it may open a transfer and
+    /// no port can be bound for it, and when out of memory.
+    fn answer_request<N: Udp + Eprint>(
+        &mut self,
+        rt: &N,
+        from: Endpoint,
+        bytes: &[u8],
+        may_open: Result<bool, ServerFault>,
+    ) {
+        if let Ok(port) = self.sockets.port_for(rt, may_open) {
+            self.handle_request(rt, from, port.unwrap_or(NO_PORT), bytes);
         }
-        Some(0)
     }
 
     /// Takes a datagram that came to the request port, for which this port is there.
@@ -333,12 +386,15 @@ impl<R: Files + Drop> Daemon<R> {
     /// The port of a transfer that opened, with its file.
     fn port_of(&self, spare: Spare, log_entry: Option<LogEntry>) -> TransferPort<R> {
         let agreed = timeout_of(&self.server, spare.tid);
+        let due = deadline(self.sockets.watch.now, agreed);
         Port {
             tid: spare.tid,
-            due: deadline(self.sockets.watch.now, agreed),
+            due,
             is_ready: false,
             socket: TransferSocket {
                 udp: spare.socket,
+                agreed,
+                times_out_at: due,
                 file: self.server.store().take_opened(),
                 bytes: data_length(self.out.as_slice()),
                 log_entry,
@@ -424,8 +480,8 @@ impl<R: Files + Drop> Daemon<R> {
         Ok(left)
     }
 
-    /// Takes a timeout at the port, if it is due and nothing came; answers whether its transfer
-    /// closed.
+    /// Takes what is left at a port that is due, and else its timeout if that has come; answers
+    /// whether its transfer closed.
     fn is_over(&mut self, place: usize, buffer: &mut [u8]) -> bool {
         let now = self.sockets.watch.now;
         let Some(port) = self.ports.get_mut(place) else {
@@ -434,10 +490,12 @@ impl<R: Files + Drop> Daemon<R> {
         if !is_due(now, port.due) {
             return false;
         }
-        match take_datagrams(&mut self.server, port, now, buffer) {
+        let turn = take_datagrams(&mut self.server, port, now, buffer);
+        port.is_ready = turn == Turn::Unfinished;
+        match turn {
             Turn::Closed => true,
             Turn::Onward => false,
-            Turn::Empty | Turn::Unfinished => { take_timeout(&mut self.server, port, now) }
+            Turn::Empty | Turn::Unfinished => take_silence(&mut self.server, port, now),
         }
     }
 

@@ -19,6 +19,8 @@ mod log_rows;
 #[cfg(test)]
 mod loopback;
 #[cfg(test)]
+mod order_rows;
+#[cfg(test)]
 mod programs;
 #[cfg(test)]
 mod proxy;

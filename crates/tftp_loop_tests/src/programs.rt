@@ -232,6 +232,15 @@ impl<P: OpenProcess + Drop> Served<P> {
         String::from_str(rt.alloc(), log).expect(rt, "memory")
     }
 
+    /// Sends it a signal, by its name.
+    pub(crate) fn signal<R: AllocGlobal + Processes + Abort>(&self, rt: &R, name: &str) {
+        let id = self.process.id();
+        let id = format!(in rt.alloc(); "{id}").expect(rt, "memory");
+        let mut command = Command::new(rt.alloc(), "kill").expect(rt, "memory");
+        append_words(rt, &mut command, &["-s", name, id.as_str()]);
+        command.status(rt).expect(rt, "a signal is sent");
+    }
+
     /// Ends it, whatever it does.
     pub(crate) fn kill(mut self, rt: &impl Abort) {
         self.process.kill().expect(rt, "a server is killed");

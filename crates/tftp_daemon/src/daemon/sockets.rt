@@ -1,7 +1,8 @@
 //! The sockets of `tftpd` that no transfer has: the request port, and the port of the next
 //! transfer.
 
-ghost use Rattle.std.specs.Prelude.{◌≤◌, length, IfSome};
+ghost use Rattle.std.specs.Prelude.{◌≡◌, ◌≤◌, ◌↔◌, length, false, None, Ok, Err, IfSome, IsErr};
+ghost use Rattle.tftp_daemon.specs.declared.daemon.sockets.Lost.TheVariants as Lost;
 
 use crate::udp::{Udp, receive, send};
 use mio::net::UdpSocket;
@@ -10,9 +11,19 @@ use std::io;
 use std::time::{Clock, Duration};
 use tftp_ends::Endpoint;
 use tftp_host::{Watch, address_of, read_clock};
+use tftp_server::ServerFault;
 
 /// The token of the request port; a transfer's is its port, which is never 0.
 pub(crate) const REQUESTS: Token = Token(0);
+
+/// For want of what a request is lost.
+#[derive(Clone, Copy, Debug, PartialEq, Eq)]
+pub(crate) enum Lost {
+    /// No port can be bound.
+    Port,
+    /// Out of memory.
+    Memory,
+}
 
 /// A port that waits for a transfer.
 #[derive(Drop)]
@@ -78,8 +89,27 @@ impl Sockets {
         send(&self.requests, to, bytes);
     }
 
+    /// The port for a datagram that may open a transfer, and none for one that opens none.
+    pub(crate) fn port_for<N: Udp>(
+        &mut self,
+        net: &N,
+        may_open: Result<bool, ServerFault>,
+    ) -> Result<Option<u16>, Lost>
+        ensures none { result ≡ Ok None ↔ may_open ≡ Ok false }
+        ensures memory { result ≡ Err Lost.Memory ↔ IsErr may_open }
+    {
+        match may_open {
+            Ok(true) => match self.spare_port(net) {
+                Some(port) => Ok(Some(port)),
+                None => Err(Lost::Port),
+            },
+            Ok(false) => Ok(None),
+            Err(_) => Err(Lost::Memory),
+        }
+    }
+
     /// The port that waits for the next transfer, which is bound if none is.
-    pub(crate) fn spare_port<N: Udp>(&mut self, net: &N) -> Option<u16> {
+    fn spare_port<N: Udp>(&mut self, net: &N) -> Option<u16> {
         if self.spare.is_none() {
             self.spare = bind_spare(net, self.listening.ip);
         }

@@ -6,7 +6,7 @@ use mio::net::UdpSocket;
 use std::alloc::Global;
 use std::io::{Read, Write};
 use tftp_ends::{Endpoint, Outcome};
-use tftp_host::{LogLine, Port, deadline};
+use tftp_host::{LogLine, Port, deadline, is_due};
 use tftp_server::{Server, Store};
 use tftp_wire::{PacketRef, decode_ref, show_datagram};
 
@@ -14,13 +14,17 @@ use tftp_wire::{PacketRef, decode_ref, show_datagram};
 /// starve the others.
 pub(crate) const MOST_AT_ONCE: usize = 32;
 
+/// How long after the newest datagram that took a transfer onward its port is looked at again where
+/// no other is noted, in milliseconds: a second datagram that came with it shows by no readiness.
+const LOOK_AFTER: u64 = 500;
+
 /// What came of the datagrams at a transfer's port.
 #[derive(Clone, Copy, PartialEq, Eq)]
 pub(crate) enum Turn {
     /// Nothing more is there.
     Empty,
-    /// The transfer went on. What may be left is received at the next readiness, or before a
-    /// timeout.
+    /// The transfer went on. What may be left is received at the next readiness, or when its port
+    /// is due.
     Onward,
     /// More may be there.
     Unfinished,
@@ -32,6 +36,10 @@ pub(crate) enum Turn {
 #[derive(Drop)]
 pub(crate) struct TransferSocket<F: Read + Write + Drop> {
     pub(crate) udp: UdpSocket,
+    /// The agreed timeout, in seconds.
+    pub(crate) agreed: Option<u8>,
+    /// When the transfer times out. Its port may be due before, to be looked at.
+    pub(crate) times_out_at: u64,
     /// The file of the transfer.
     pub(crate) file: Option<PortFile<F>>,
     /// The bytes of DATA that were sent or taken, each once.
@@ -155,20 +163,33 @@ fn take_datagram<S: Store, F: Read + Write + Drop>(
     if !step.progress {
         return Turn::Unfinished;
     }
-    port.due = deadline(now, timeout_of(server, port.tid));
+    port.socket.times_out_at = deadline(now, port.socket.agreed);
+    port.due = port.socket.times_out_at.min(now.saturating_add(LOOK_AFTER));
     if let Some(file) = &port.socket.file {
         file.work();
     }
     Turn::Onward
 }
 
-/// Tells a transfer that it waited long enough, and answers whether that closed it.
-pub(crate) fn take_timeout<S: Store, F: Read + Write + Drop>(
+/// Nothing took a transfer onward whose port is due: it times out where that is due too. Answers
+/// whether that closed it.
+pub(crate) fn take_silence<S: Store, F: Read + Write + Drop>(
     server: &mut Server<S>,
     port: &mut Port<TransferSocket<F>>,
     now: u64,
 ) -> bool {
-    port.due = deadline(now, timeout_of(server, port.tid));
+    port.due = port.socket.times_out_at;
+    is_due(now, port.due) && take_timeout(server, port, now)
+}
+
+/// Tells a transfer that it waited long enough, and answers whether that closed it.
+fn take_timeout<S: Store, F: Read + Write + Drop>(
+    server: &mut Server<S>,
+    port: &mut Port<TransferSocket<F>>,
+    now: u64,
+) -> bool {
+    port.due = deadline(now, port.socket.agreed);
+    port.socket.times_out_at = port.due;
     let Ok((step, outgoing)) = server.handle_timeout(port.tid) else {
         return false;
     };
