@@ -2,11 +2,11 @@
 
 ghost use Rattle.std.specs.Prelude.{◌≤◌};
 
-use crate::play::{PlayFault, play_run};
+use crate::play::{PlayFault, play_drawn, play_run};
 use clap::{Arg, Command};
 use std::alloc::{AllocError, Global};
 use std::convert::AsStr;
-use std::io::Write;
+use std::io::{Read, Write};
 use std::rt::Runtime;
 use std::{fs, io};
 use tftp_arguments::{VERSION, own_words, print_usage};
@@ -42,7 +42,12 @@ pub fn play_words<R: Runtime + AllocGlobal, S: AsStr, E: Write + Drop>(
         return PlayFault::Memory.report(&mut errors);
     };
     match command.try_get_matches_from(words) {
-        Ok(matches) => play_script(rt, matches.get_str("SCRIPT"), errors),
+        Ok(matches) => play_script(
+            rt,
+            matches.get_str("SCRIPT"),
+            matches.get_str("svg"),
+            errors,
+        ),
         Err(error) => print_usage(rt, &error),
     }
 }
@@ -50,25 +55,47 @@ pub fn play_words<R: Runtime + AllocGlobal, S: AsStr, E: Write + Drop>(
 /// The command line of `tftp-play`.
 fn play_syntax<'a>(alloc: Global) -> Result<Command<'a>, AllocError> {
     let script = Arg::new(alloc, "SCRIPT").help("The script; standard input if there is none");
+    let svg = Arg::new(alloc, "svg")
+        .long("svg")
+        .value_name("FILE")
+        .help("Draws the run as a sequence diagram into this file");
     Command::new(alloc, "tftp-play")
         .about("Plays a script of TFTP transfers over a lossy network in memory")
         .version(VERSION)
-        .arg(script)
+        .arg(script)?
+        .arg(svg)
 }
 
 /// Plays the script in the file at the path, or on standard input.
 fn play_script<R: Runtime + AllocGlobal, E: Write + Drop>(
     rt: &R,
     path: Option<&str>,
+    svg: Option<&str>,
     mut errors: E,
 ) -> u8
     ensures { result ≤ 2 }
 {
     let Some(path) = path else {
-        return play_run(rt.alloc(), rt.reader(), io::writer(rt), errors);
+        return play_source(rt, rt.reader(), svg, errors);
     };
     match fs::open(rt, path) {
-        Ok(script) => play_run(rt.alloc(), script, io::writer(rt), errors),
+        Ok(script) => play_source(rt, script, svg, errors),
         Err(error) => PlayFault::of_reading(&error).report(&mut errors),
+    }
+}
+
+/// Plays a script on standard output, and draws the run into the file at the path, if there is one.
+fn play_source<R: Runtime + AllocGlobal, S: Read + Drop, E: Write + Drop>(
+    rt: &R,
+    script: S,
+    svg: Option<&str>,
+    errors: E,
+) -> u8
+    ensures { result ≤ 2 }
+{
+    let output = io::writer(rt);
+    match svg {
+        None => play_run(rt.alloc(), script, output, errors),
+        Some(path) => play_drawn(rt.alloc(), script, output, || fs::create(rt, path), errors),
     }
 }

@@ -5,7 +5,8 @@
 #![tactic(auto)]
 
 mod arguments;
+mod diagram;
 mod play;
 
 pub use arguments::{play_command, play_words};
-pub use play::play_run;
+pub use play::{play_drawn, play_run};

@@ -1,16 +1,18 @@
 //! `tftp-play`: a script in, a line for each thing that happens out.
 
-ghost use Rattle.std.specs.Prelude.{◌≡◌, ◌≤◌, ◌⊎◌, IfErr, IfOk, IfSome};
-ghost use Rattle.tftp_play.specs.declared.play.fault.PlayFault.TheVariants.{Memory, Unreadable};
+ghost use Rattle.std.specs.Prelude.{◌≡◌, ◌≤◌, ◌⊎◌, false, IfErr, IfOk, IfSome, OnOk};
+ghost use Rattle.tftp_play.specs.declared.play.fault.PlayFault.TheVariants.{Memory, Undrawn};
+ghost use Rattle.tftp_play.specs.declared.play.fault.PlayFault.TheVariants.{Unreadable};
 
 mod datagram_line;
 mod fault;
 mod script_run;
 
+use crate::diagram::{Recording, svg_text};
 pub(crate) use fault::PlayFault;
 use script_run::ScriptRun;
 use std::alloc::Global;
-use std::io::{Read, Write};
+use std::io::{self, Read, Write};
 use tftp_script::Script;
 
 /// Plays a script in a world of its own, and writes what each event did, and at the end how far
@@ -27,26 +29,103 @@ pub fn play_run<R: Read + Drop, W: Write + Drop, E: Write + Drop>(
 ) -> u8
     ensures { result ≤ 2 }
 {
-    match play(alloc, script, output) {
+    match play(alloc, script, output, None) {
+        Ok((true, _)) => 0,
+        Ok((false, _)) => 1,
+        Err(fault) => fault.report(&mut errors),
+    }
+}
+
+/// As [`play_run`], and draws the run: a sequence diagram as SVG, on what `picture` opens once the
+/// run is over.
+///
+/// What is written on `output` is the same. The status is 2, with a message on `errors`, also if
+/// the picture cannot be opened or written, or an allocation for it fails.
+pub fn play_drawn<R, W, E, P, F>(
+    alloc: Global,
+    script: R,
+    output: W,
+    picture: F,
+    mut errors: E,
+) -> u8
+where
+    R: Read + Drop,
+    W: Write + Drop,
+    E: Write + Drop,
+    P: Write + Drop,
+    F: FnOnce() -> io::Result<P> + Drop,
+    requires { F.IsAlwaysCallable picture }
+    ensures { result ≤ 2 }
+{
+    match draw(alloc, script, output, picture) {
         Ok(true) => 0,
         Ok(false) => 1,
         Err(fault) => fault.report(&mut errors),
     }
 }
 
-/// Plays a script, and answers whether every client is complete.
+/// Plays a script and draws the run, and answers whether every client is complete.
+fn draw<R, W, P, F>(alloc: Global, script: R, output: W, picture: F) -> Result<bool, PlayFault>
+where
+    R: Read + Drop,
+    W: Write + Drop,
+    P: Write + Drop,
+    F: FnOnce() -> io::Result<P> + Drop,
+    requires { F.IsAlwaysCallable picture }
+{
+    let (is_complete, recording) = play(alloc, script, output, Some(Recording::new(alloc)))?;
+    if let Some(recording) = &recording {
+        let svg = picture_of(alloc, recording)?;
+        match picture() {
+            Ok(file) => write_picture(file, svg.as_str())?,
+            Err(error) => return Err(PlayFault::of_drawing(&error)),
+        }
+    }
+    Ok(is_complete)
+}
+
+/// The text of a picture.
+fn picture_of(alloc: Global, recording: &Recording) -> Result<String, PlayFault>
+    ensures memory { IfErr result (λ fault. fault ≡ Memory) }
+    ensures broken { OnOk result (recording.now.is_broken ≡ false) }
+{
+    if recording.is_broken {
+        return Err(PlayFault::Memory);
+    }
+    match svg_text(alloc, recording) {
+        Ok(svg) => Ok(svg),
+        Err(_) => Err(PlayFault::Memory),
+    }
+}
+
+/// Writes a picture.
+fn write_picture<P: Write + Drop>(mut file: P, svg: &str) -> Result<(), PlayFault>
+    ensures { IfErr result (λ fault. (fault ≡ Memory) ⊎ (fault ≡ Undrawn)) }
+{
+    match file.write_all(svg.as_bytes()) {
+        Ok(()) => {}
+        Err(error) => return Err(PlayFault::of_drawing(&error)),
+    }
+    match file.flush() {
+        Ok(()) => Ok(()),
+        Err(error) => Err(PlayFault::of_drawing(&error)),
+    }
+}
+
+/// Plays a script, and answers whether every client is complete, and what was recorded.
 fn play<R: Read + Drop, W: Write + Drop>(
     alloc: Global,
     script: R,
     output: W,
-) -> Result<bool, PlayFault> {
+    recording: Option<Recording>,
+) -> Result<(bool, Option<Recording>), PlayFault> {
     let text = read_script(alloc, script)?;
     let Script {
         config,
         files,
         statements,
     } = Script::parse(alloc, text.as_slice())?;
-    let mut run = ScriptRun::new(alloc, files, config, output)?;
+    let mut run = ScriptRun::new(alloc, files, config, output, recording)?;
     for statement in statements {
         run.execute(statement)?;
     }

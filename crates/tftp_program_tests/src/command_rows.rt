@@ -21,9 +21,12 @@ fn show_command_lines(rt: HostRuntime) {
 }
 
 /// Command lines of `tftp-play`, and the status.
-const PLAY: [(&[&str], u8); 5] = [
+const PLAY: [(&[&str], u8); 8] = [
     (&["tftp-play", "--help"], 0),
     (&["tftp-play", "--version"], 0),
+    (&["tftp-play", "/dev/null", "--svg", "/dev/null"], 0),
+    (&["tftp-play", "/dev/null", "--svg", "/missing/a.svg"], 2),
+    (&["tftp-play", "--svg"], 2),
     (&["tftp-play", "--verbose"], 2),
     (&["tftp-play", "a.script", "b.script"], 2),
     (&["tftp-play", "/missing/a.script"], 2),

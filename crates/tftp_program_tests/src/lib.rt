@@ -21,6 +21,8 @@ mod show_rows;
 #[cfg(test)]
 mod stray_rows;
 #[cfg(test)]
+mod svg_rows;
+#[cfg(test)]
 mod transfer_rows;
 #[cfg(test)]
 mod udp_lines;

@@ -4,7 +4,7 @@ ghost use Rattle.std.specs.Prelude.{◌≡◌, ◌≢◌, ◌⊎◌, IsTrue, ◌
 ghost use Rattle.std.specs.IoError.{error_kind};
 ghost use Rattle.std.specs.declared.io.ErrorKind.TheVariants as error_kinds;
 ghost use Rattle.tftp_play.specs.declared.play.fault.PlayFault.TheVariants.{Memory, Unreadable};
-ghost use Rattle.tftp_play.specs.declared.play.fault.PlayFault.TheVariants.{Unwritable};
+ghost use Rattle.tftp_play.specs.declared.play.fault.PlayFault.TheVariants.{Unwritable, Undrawn};
 ghost use Rattle.tftp_play.specs.Play.{play_fault_of};
 
 use std::alloc::AllocError;
@@ -21,6 +21,8 @@ pub(crate) enum PlayFault {
     Line(usize),
     /// Writing failed.
     Unwritable,
+    /// The picture could not be opened or written.
+    Undrawn,
     /// An allocation failed.
     Memory,
 }
@@ -36,6 +38,19 @@ impl PlayFault {
             PlayFault::Memory
         } else {
             PlayFault::Unreadable
+        }
+    }
+
+    /// The fault where opening or writing a picture gave this error.
+    pub(crate) fn of_drawing(error: &io::Error) -> PlayFault
+        ensures memory { error_kind error.now ≡ ErrorKind.OutOfMemory → result ≡ Memory }
+        ensures undrawn { error_kind error.now ≢ ErrorKind.OutOfMemory → result ≡ Undrawn }
+        ensures either { (result ≡ Memory) ⊎ (result ≡ Undrawn) }
+    {
+        if is_out_of_memory(error) {
+            PlayFault::Memory
+        } else {
+            PlayFault::Undrawn
         }
     }
 
@@ -59,6 +74,7 @@ impl fmt::Display for PlayFault {
             PlayFault::Unreadable => write!(f, "script: unreadable"),
             PlayFault::Line(number) => write!(f, "line {number}: fault"),
             PlayFault::Unwritable => write!(f, "output: unwritable"),
+            PlayFault::Undrawn => write!(f, "svg: unwritable"),
             PlayFault::Memory => write!(f, "out of memory"),
         }
     }

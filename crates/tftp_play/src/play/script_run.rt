@@ -5,6 +5,7 @@ ghost use Rattle.tftp_player.specs.Arriving.{IsPlayable};
 ghost use Rattle.tftp_server.specs.Config.{IsConfig};
 ghost use Rattle.tftp_store.specs.Memory.{contents, has_distinct_paths};
 
+use crate::diagram::Recording;
 use crate::play::PlayFault;
 use crate::play::datagram_line::DatagramLine;
 use rand_core::SeedableRng;
@@ -26,6 +27,8 @@ pub(crate) struct ScriptRun<W: Write + Drop> {
     world: World,
     line: DatagramLine,
     output: BufWriter<W>,
+    /// What is recorded for a picture, if there is to be one.
+    recording: Option<Recording>,
 }
 
 impl<W: Write + Drop> ScriptRun<W> {
@@ -35,6 +38,7 @@ impl<W: Write + Drop> ScriptRun<W> {
         files: Vec<(Path, Vec<u8>)>,
         config: Config,
         output: W,
+        recording: Option<Recording>,
     ) -> Result<ScriptRun<W>, PlayFault>
         requires distinct { has_distinct_paths (contents files.items) ≡ true }
         requires valid { IsConfig config }
@@ -43,6 +47,7 @@ impl<W: Write + Drop> ScriptRun<W> {
             world: World::new(alloc, files, config).map_err(|_| AllocError)?,
             line: DatagramLine::new(alloc),
             output: BufWriter::new(alloc, output)?,
+            recording,
         })
     }
 
@@ -76,8 +81,23 @@ impl<W: Write + Drop> ScriptRun<W> {
     fn play(&mut self, event: Event) -> Result<(), PlayFault>
         requires { IsPlayable event }
     {
-        let effect = self.world.apply(event);
+        let effect = self.apply(event);
         self.write_effect(effect)
+    }
+
+    /// Plays an event, and records what it did if there is to be a picture.
+    fn apply(&mut self, event: Event) -> Result<Report, WorldFault>
+        requires { IsPlayable event }
+    {
+        let Some(recording) = &mut self.recording else {
+            return self.world.apply(event);
+        };
+        let cause = recording.cause_of(&event);
+        let effect = self.world.apply(event);
+        if let Ok(report) = &effect {
+            recording.add(cause, report, &self.world);
+        }
+        effect
     }
 
     /// Plays so many events that the generator of this seed draws, none while no end was opened.
@@ -91,13 +111,17 @@ impl<W: Write + Drop> ScriptRun<W> {
         Ok(())
     }
 
-    /// Writes how far each end came, and answers whether every client is complete.
-    pub(crate) fn finish(mut self) -> Result<bool, PlayFault> {
+    /// Writes how far each end came, and answers whether every client is complete, and what was
+    /// recorded.
+    pub(crate) fn finish(mut self) -> Result<(bool, Option<Recording>), PlayFault> {
         for (port, record) in self.world.records() {
             write_end(&mut self.output, *port, record)?;
         }
         self.output.flush()?;
-        Ok(self.is_complete())
+        if let Some(recording) = &mut self.recording {
+            recording.name_sides(self.world.records());
+        }
+        Ok((self.is_complete(), self.recording))
     }
 
     fn is_complete(&self) -> bool {
@@ -110,7 +134,7 @@ impl<W: Write + Drop> ScriptRun<W> {
     /// Delivers the datagrams from this place on, until none is left or one is refused.
     fn settle(&mut self, from: usize) -> Result<(), PlayFault> {
         for place in from..from.saturating_add(MAX_SETTLED) {
-            match self.world.apply(Event::Deliver(place)) {
+            match self.apply(Event::Deliver(place)) {
                 Ok(report) => self.write_report(&report)?,
                 Err(WorldFault::NoSuchDatagram) => return Ok(()),
                 Err(fault) => return self.write_effect(Err(fault)),

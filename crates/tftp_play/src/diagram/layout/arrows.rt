@@ -1,0 +1,137 @@
+//! The datagrams: an arrow from where each was sent to where it arrived, with its line.
+
+use crate::diagram::ink::Ink;
+use crate::diagram::layout::columns::Columns;
+use crate::diagram::layout::{
+    ANSWER, LaneSide, Layout, Line, Point, Sign, SignKind, Stroke, arrival_of, foot_of, sending_of,
+};
+use crate::diagram::recording::{Flight, Recording};
+use std::alloc::AllocError;
+
+/// How far before its lane a lost datagram ends.
+const SHORT: u32 = 40;
+/// How far below the start of its line.
+const FALL: u32 = 10;
+/// From the middle of a label to where the line below it begins.
+const ABOVE: u32 = 8;
+
+impl Layout {
+    /// Adds the arrows of all datagrams.
+    pub(crate) fn add_arrows(
+        &mut self,
+        recording: &Recording,
+        columns: &Columns,
+    ) -> Result<(), AllocError> {
+        for flight in &recording.flights {
+            self.add_handover(flight, columns)?;
+            self.add_deliveries(flight, columns)?;
+            if flight.arrives_later {
+                let end = Point {
+                    x: columns.x_of(flight.to),
+                    y: foot_of(recording),
+                };
+                self.add_line(flight, columns, end, Stroke::Stub)?;
+            } else if flight.is_lost() {
+                self.add_loss(flight, columns)?;
+            }
+        }
+        Ok(())
+    }
+
+    /// Adds the labels of all datagrams, each where its arrow begins.
+    pub(crate) fn add_labels(
+        &mut self,
+        recording: &Recording,
+        columns: &Columns,
+    ) -> Result<(), AllocError> {
+        for flight in &recording.flights {
+            let side = if columns.is_left_of(flight.to, flight.from) {
+                LaneSide::Left
+            } else {
+                LaneSide::Right
+            };
+            let middle = sending_of(flight.sent).saturating_sub(ABOVE);
+            let ink = Ink::of_host(flight.from);
+            let label = flight.label.clone()?;
+            self.add_beside(columns.x_of(flight.from), middle, side, ink, label)?;
+        }
+        Ok(())
+    }
+
+    /// The first arrival, and each later one.
+    fn add_deliveries(&mut self, flight: &Flight, columns: &Columns) -> Result<(), AllocError> {
+        for (count, row) in flight.arrivals.iter().enumerate() {
+            let end = Point {
+                x: columns.x_of(flight.to),
+                y: arrival_of(*row),
+            };
+            let stroke = if count == 0 {
+                Stroke::Arrow
+            } else {
+                Stroke::Repeat
+            };
+            self.add_line(flight, columns, end, stroke)?;
+        }
+        Ok(())
+    }
+
+    /// A datagram that is lost: its line ends before the lane, in a cross.
+    fn add_loss(&mut self, flight: &Flight, columns: &Columns) -> Result<(), AllocError> {
+        let lane = columns.x_of(flight.to);
+        let x = if columns.is_left_of(flight.to, flight.from) {
+            lane.saturating_add(SHORT)
+        } else {
+            lane.saturating_sub(SHORT)
+        };
+        let y = sending_of(flight.sent).saturating_add(FALL);
+        let at = Point { x, y };
+        self.add_line(flight, columns, at, Stroke::Stub)?;
+        self.signs.push(Sign {
+            at,
+            ink: Ink::Lost,
+            kind: SignKind::Cross,
+        })?;
+        Ok(())
+    }
+
+    /// From the request port to the end that it opened.
+    fn add_handover(&mut self, flight: &Flight, columns: &Columns) -> Result<(), AllocError> {
+        let Some(port) = flight.opened_at else {
+            return Ok(());
+        };
+        let y = sending_of(flight.sent).saturating_sub(ANSWER);
+        self.lines.push(Line {
+            from: Point {
+                x: columns.x_of(port),
+                y,
+            },
+            to: Point {
+                x: columns.x_of(flight.from),
+                y,
+            },
+            ink: Ink::of_host(port),
+            stroke: Stroke::Handover,
+        })?;
+        Ok(())
+    }
+
+    /// A line from where a datagram was sent.
+    fn add_line(
+        &mut self,
+        flight: &Flight,
+        columns: &Columns,
+        to: Point,
+        stroke: Stroke,
+    ) -> Result<(), AllocError> {
+        self.lines.push(Line {
+            from: Point {
+                x: columns.x_of(flight.from),
+                y: sending_of(flight.sent),
+            },
+            to,
+            ink: Ink::of_host(flight.from),
+            stroke,
+        })?;
+        Ok(())
+    }
+}
