@@ -1,5 +1,6 @@
 #!/bin/sh
 # Serves a folder to one client over the loopback address, a get and then a put: loopback.sh TFTPD TFTP
+# The server ends within a minute, and with this script, however that ends.
 set -eu
 here=$(dirname "$0")
 room=$(mktemp -d)
@@ -12,7 +13,7 @@ trap clear_up EXIT
 trap 'exit 130' HUP INT TERM
 mkdir "$room/served"
 cp "$here/packets.hex" "$room/served"
-"$1" "$room/served" --listen 127.0.0.1:0 --transfers 2 > "$room/lines" &
+"$1" "$room/served" --listen 127.0.0.1:0 --transfers 2 --rounds 50 > "$room/lines" &
 server=$!
 waits=0
 until grep -q listening "$room/lines"; do

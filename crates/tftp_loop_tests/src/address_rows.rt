@@ -46,7 +46,7 @@ fn serves_at<R: Runtime + AllocGlobal + Processes + Net + Abort>(
     wanted: &str,
 ) {
     let listen = format!(in rt.alloc(); "{listen}:0").expect(rt, "memory");
-    let server = serve(rt, &[folder, "--listen", listen.as_str()]);
+    let server = serve(rt, &[folder, "--listen", listen.as_str(), "--rounds", "50"]);
     let port = server.socket_address(rt).port();
     answers_from(rt, port, asked, wanted);
     server.finish(rt);

@@ -3,14 +3,21 @@
 use crate::expect::expect_bytes;
 use crate::programs::{client, ends_with};
 use crate::scratch::{joined, remove_folder, scratch_folder};
-use crate::test_server::{address_of, loopback_socket, receive, send};
+use crate::test_server::{address_of, loopback_socket, receive_behind, send};
 use std::net::{Net, UdpSocket};
 use std::process::{self, Abort};
 
-/// A request comes, and is answered from a port of the transfer's own.
-fn answers<R: Net + Abort>(rt: &R, requests: &UdpSocket, wanted: &[u8], answer: &[u8]) {
+/// A request comes that is another than the last, and is answered from a port of the transfer's
+/// own.
+fn answers<R: Net + Abort>(
+    rt: &R,
+    requests: &UdpSocket,
+    last: &[u8],
+    wanted: &[u8],
+    answer: &[u8],
+) {
     let mut buffer = [0; 600];
-    let (request, client) = receive(rt, requests, &mut buffer);
+    let (request, client) = receive_behind(rt, requests, last, &mut buffer);
     expect_bytes(rt, request, wanted, "the request");
     let transfer = loopback_socket(rt);
     send(rt, &transfer, answer, client);
@@ -36,9 +43,10 @@ fn falls_back(rt: HostRuntime) {
     let client = client(&rt, &words);
     let asking = b"\0\x01a\0octet\0blksize\x001428\0".as_slice();
     let refusal = b"\0\x05\0\x08no options\0".as_slice();
-    answers(&rt, &requests, asking, refusal);
+    answers(&rt, &requests, b"", asking, refusal);
     let plain = b"\0\x01a\0octet\0".as_slice();
-    answers(&rt, &requests, plain, b"\0\x03\0\x01ABC".as_slice());
+    let block = b"\0\x03\0\x01ABC".as_slice();
+    answers(&rt, &requests, asking, plain, block);
     ends_with(&rt, client, "complete 3\nstatus 0\n");
     remove_folder(&rt, folder.as_str());
 }

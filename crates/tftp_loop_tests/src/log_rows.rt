@@ -1,7 +1,7 @@
 //! What `tftpd --log` writes on standard error.
 
 use crate::expect::expect;
-use crate::programs::{program, start, told};
+use crate::programs::{prints, program, start};
 use crate::scratch::{joined, remove_folder, scratch_folder, write_file};
 use std::process::{self, Stdio};
 
@@ -13,7 +13,14 @@ const LINES: [&str; 4] = [
     " ms, Complete\n",
 ];
 
-/// A name that is missing, and a get: a line for each request, and one for the close.
+const TFTP: &str = "programs::tftp";
+
+/// What the two clients print: the one whose name is none, and the one that gets its file.
+const REFUSED: &str = "status 1\n\ntest result: ok\ntftp: PeerError(2)\n";
+
+const COMPLETE: &str = "complete 3\nstatus 0\n";
+
+/// A name that is none, and a get: a line for each request, and one for the close.
 #[test]
 fn log_lines(rt: HostRuntime) {
     let folder = scratch_folder(&rt, process::id(rt.process()), "log");
@@ -21,12 +28,12 @@ fn log_lines(rt: HostRuntime) {
     let local = joined(&rt, folder, "local");
     let local = local.as_str();
     write_file(&rt, folder, "a", b"ABC");
-    let serving = [folder, "--listen", "127.0.0.1:0", "--log"];
+    let serving = [folder, "--listen", "127.0.0.1:0", "--log", "--rounds", "50"];
     let mut command = program(&rt, "programs::tftpd", &serving);
     let server = start(&rt, command.stderr(Stdio::piped()));
     let address = server.address.as_str();
-    told(&rt, "programs::tftp", &["get", address, "b c", local]);
-    told(&rt, "programs::tftp", &["get", address, "a", local]);
+    prints(&rt, TFTP, &["get", address, "b c", local], REFUSED);
+    prints(&rt, TFTP, &["get", address, "a", local], COMPLETE);
     let log = server.log(&rt);
     for &wanted in &LINES {
         expect(&rt, log.as_str().contains(wanted), log.as_str());

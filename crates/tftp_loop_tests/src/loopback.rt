@@ -46,10 +46,7 @@ fn loopback(rt: HostRuntime) {
     let folder = scratch_folder(&rt, process::id(rt.process()), "loopback");
     let folder = folder.as_str();
     write_file(&rt, folder, "a", b"ABC");
-    let server = serve(
-        &rt,
-        &[folder, "--listen", "127.0.0.1:0", "--rounds", "1000"],
-    );
+    let server = serve(&rt, &[folder, "--listen", "127.0.0.1:0", "--rounds", "50"]);
     tells(&rt, folder, server.address.as_str());
     has_bytes(&rt, folder, "local", b"ABC");
     has_served(&rt, server, 1);

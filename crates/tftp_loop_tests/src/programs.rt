@@ -168,7 +168,28 @@ pub(crate) fn serve<R: Runtime + AllocGlobal + Processes + Abort>(
     start(rt, &mut command)
 }
 
-/// Starts a server by this command.
+/// What a shell runs that ends a server after a minute, or once the test has ended, however it did.
+const BOUNDED: &str = "\
+left=60
+while [ $left -gt 0 ] && kill -0 \"$1\" && kill -0 $PPID; do
+    sleep 1
+    left=$((left - 1))
+done
+kill -9 \"$1\"";
+
+/// Has a shell run this beside the test, with a word.
+pub(crate) fn run_beside<R: AllocGlobal + Processes + Abort>(rt: &R, script: &str, word: &str) {
+    let mut command = Command::new(rt.alloc(), "sh").expect(rt, "memory");
+    append_words(rt, &mut command, &["-c", script, "sh", word]);
+    command
+        .stdin(Stdio::null())
+        .stdout(Stdio::null())
+        .stderr(Stdio::null())
+        .spawn(rt)
+        .expect(rt, "a shell starts");
+}
+
+/// Starts a server by this command. It ends within a minute, and with the test.
 pub(crate) fn start<R: AllocGlobal + Processes + Abort>(
     rt: &R,
     command: &mut Command,
@@ -177,6 +198,8 @@ pub(crate) fn start<R: AllocGlobal + Processes + Abort>(
         .stdout(Stdio::piped())
         .spawn(rt)
         .expect(rt, "a server starts");
+    let id = format!(in rt.alloc(); "{}", process.id()).expect(rt, "memory");
+    run_beside(rt, BOUNDED, id.as_str());
     let printed = process.stdout.take().expect(rt, "the server prints");
     let mut printed = BufReader::new(rt.alloc(), printed).expect(rt, "memory");
     let address = address_in(rt, &mut printed);

@@ -8,7 +8,7 @@ use crate::scratch::{
     joined, make_fifo, make_folder, make_link, remove_folder, scratch_folder, write_file,
 };
 use crate::test_server::{loopback_socket, receive, send};
-use std::net::{Net, SocketAddr};
+use std::net::{Net, SocketAddr, UdpSocket};
 use std::process::{self, Abort, Processes};
 use std::rt::Runtime;
 
@@ -63,7 +63,10 @@ fn requests_are_refused(rt: HostRuntime) {
     let folder = folder.as_str();
     fill_folder(&rt, folder);
     let served = joined(&rt, folder, "served");
-    let server = serve(&rt, &[served.as_str(), "--listen", "127.0.0.1:0"]);
+    let server = serve(
+        &rt,
+        &[served.as_str(), "--listen", "127.0.0.1:0", "--rounds", "50"],
+    );
     let address = server.socket_address(&rt);
     for &(request, wanted) in &REFUSALS {
         answers(&rt, address, request, wanted);
@@ -72,22 +75,35 @@ fn requests_are_refused(rt: HostRuntime) {
     remove_folder(&rt, folder);
 }
 
+/// Whatever has come since is this datagram again, from there: no second answer.
+fn has_only<N: Net + Abort>(net: &N, socket: &UdpSocket, datagram: &[u8], from: SocketAddr) {
+    let mut buffer = [0; 600];
+    socket
+        .set_nonblocking(true)
+        .expect(net, "a socket that does not wait");
+    for _ in 0..100 {
+        let Ok((count, origin)) = socket.recv_from(&mut buffer) else {
+            return;
+        };
+        let found = (&buffer[..count], origin);
+        expect_equal(net, &found, &(datagram, from), "a second answer");
+    }
+}
+
 /// At `--cap` another client is told that the server is busy, and a repeated request is not
 /// answered a second time.
 fn is_busy<R: Net + Abort>(rt: &R, server: SocketAddr) {
     let request = b"\0\x01a\0octet\0".as_slice();
+    let block = b"\0\x03\0\x01ABC".as_slice();
     let first = loopback_socket(rt);
     let mut buffer = [0; 600];
     send(rt, &first, request, server);
     send(rt, &first, request, server);
     answers(rt, server, request, b"\0\x05\0\0server busy\0".as_slice());
     let (answer, transfer) = receive(rt, &first, &mut buffer);
-    expect_bytes(rt, answer, b"\0\x03\0\x01ABC".as_slice(), "DATA 1");
+    expect_bytes(rt, answer, block, "DATA 1");
     send(rt, &first, &[0, 4, 0, 1], transfer);
-    first
-        .set_nonblocking(true)
-        .expect(rt, "a socket that does not wait");
-    expect(rt, first.recv_from(&mut buffer).is_err(), "a second answer");
+    has_only(rt, &first, block, transfer);
 }
 
 #[test]
@@ -95,7 +111,18 @@ fn a_server_is_busy(rt: HostRuntime) {
     let folder = scratch_folder(&rt, process::id(rt.process()), "busy");
     let folder = folder.as_str();
     write_file(&rt, folder, "a", b"ABC");
-    let server = serve(&rt, &[folder, "--listen", "127.0.0.1:0", "--cap", "1"]);
+    let server = serve(
+        &rt,
+        &[
+            folder,
+            "--listen",
+            "127.0.0.1:0",
+            "--cap",
+            "1",
+            "--rounds",
+            "50",
+        ],
+    );
     is_busy(&rt, server.socket_address(&rt));
     has_served(&rt, server, 1);
     remove_folder(&rt, folder);

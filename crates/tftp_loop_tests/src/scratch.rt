@@ -1,13 +1,17 @@
 //! A folder for one test, and the files in it.
 
 use crate::expect::expect;
+use crate::programs::run_beside;
 use std::os::unix::fs::symlink;
 use std::process::{Abort, Command, Processes};
 use std::rt::Runtime;
 use std::{env, fs};
 
-/// A new folder among the system's temporary ones.
-pub(crate) fn scratch_folder<R: Runtime + AllocGlobal + Abort>(
+/// What a shell runs that removes a folder once the test has ended, however it did.
+const REMOVED: &str = "while kill -0 $PPID; do sleep 1; done; rm -rf \"$1\"";
+
+/// A new folder among the system's temporary ones. It does not outlive the test.
+pub(crate) fn scratch_folder<R: Runtime + AllocGlobal + Processes + Abort>(
     rt: &R,
     id: u32,
     name: &str,
@@ -16,6 +20,7 @@ pub(crate) fn scratch_folder<R: Runtime + AllocGlobal + Abort>(
     let temp = temp.as_path().as_str();
     let folder = format!(in rt.alloc(); "{temp}/tftp-{name}-{id}").expect(rt, "memory");
     fs::create_dir_all(rt, folder.as_str()).expect(rt, name);
+    run_beside(rt, REMOVED, folder.as_str());
     folder
 }
 

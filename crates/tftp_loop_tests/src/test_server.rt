@@ -38,6 +38,22 @@ pub(crate) fn receive<'a>(
     (&buffer[..count], from)
 }
 
+/// The next datagram that is another than the last, which may be repeated where the test was slow.
+pub(crate) fn receive_behind<'a>(
+    rt: &impl Abort,
+    socket: &UdpSocket,
+    last: &[u8],
+    buffer: &'a mut [u8],
+) -> (&'a [u8], SocketAddr) {
+    for _ in 0..100 {
+        let (count, from) = socket.recv_from(buffer).expect(rt, "a datagram comes");
+        if &buffer[..count] != last {
+            return (&buffer[..count], from);
+        }
+    }
+    panic!(rt; "the same datagram again and again");
+}
+
 /// The number of a DATA, and its bytes.
 fn data_of(datagram: &[u8]) -> Option<(u16, &[u8])> {
     match datagram {
