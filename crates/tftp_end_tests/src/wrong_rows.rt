@@ -39,18 +39,45 @@ fn opened(rt: &impl Abort, alloc: Global, side: Side) -> OpenEnd<MemSource> {
     }
 }
 
+/// What a datagram that is no packet means to an end.
+#[derive(Clone, Copy, Debug, PartialEq, Eq)]
+enum Means {
+    /// The end closes, and answers where it may.
+    Refusal,
+    /// The end dallies, and ignores it.
+    Nothing,
+}
+
+/// A state by what led to it: which end, and up to two datagrams; and what comes of no packet.
+type State = (Side, &'static [u8], &'static [u8], Means);
+
 /// States by what led to them: a waiting reader and writer; a sender behind its OACK, its first
 /// block and its last; a receiver with no block, with one block of eight bytes, and one that
 /// dallies.
-const STATES: [(Side, &[u8], &[u8]); 8] = [
-    (Side::ClientRead, b"", b""),
-    (Side::ClientWrite, b"", b""),
-    (Side::ServerRead, b"", b""),
-    (Side::ClientWrite, OACK_8, b""),
-    (Side::ClientWrite, OACK_8, b"\x00\x04\x00\x01"),
-    (Side::ServerWrite, b"", b""),
-    (Side::ClientRead, OACK_8, b"\x00\x03\x00\x01ABCDEFGH"),
-    (Side::ClientRead, OACK_8, b"\x00\x03\x00\x01ABC"),
+const STATES: [State; 8] = [
+    (Side::ClientRead, b"", b"", Means::Refusal),
+    (Side::ClientWrite, b"", b"", Means::Refusal),
+    (Side::ServerRead, b"", b"", Means::Refusal),
+    (Side::ClientWrite, OACK_8, b"", Means::Refusal),
+    (
+        Side::ClientWrite,
+        OACK_8,
+        b"\x00\x04\x00\x01",
+        Means::Refusal,
+    ),
+    (Side::ServerWrite, b"", b"", Means::Refusal),
+    (
+        Side::ClientRead,
+        OACK_8,
+        b"\x00\x03\x00\x01ABCDEFGH",
+        Means::Refusal,
+    ),
+    (
+        Side::ClientRead,
+        OACK_8,
+        b"\x00\x03\x00\x01ABC",
+        Means::Nothing,
+    ),
 ];
 
 /// What begins no packet, ends too early or too late, or has a wrong number, name or mode.
@@ -71,11 +98,7 @@ const MALFORMED: [&[u8]; 13] = [
 ];
 
 /// An end that is led into a state by up to two datagrams; those that are empty do not come.
-fn led(
-    rt: &impl Abort,
-    alloc: Global,
-    (side, first, second): (Side, &[u8], &[u8]),
-) -> OpenEnd<MemSource> {
+fn led(rt: &impl Abort, alloc: Global, (side, first, second, _): State) -> OpenEnd<MemSource> {
     let mut end = opened(rt, alloc, side);
     if !first.is_empty() {
         end.takes(rt, SERVER_END, first);
@@ -88,9 +111,9 @@ fn led(
 
 /// The end gets the datagram: ERROR 4 or, where it begins as an ERROR, silence; it closes, but for
 /// one that dallies, which ignores it.
-fn is_refused(rt: &impl Abort, alloc: Global, state: (Side, &[u8], &[u8]), bytes: &[u8]) {
+fn is_refused(rt: &impl Abort, alloc: Global, state: State, bytes: &[u8]) {
     let mut end = led(rt, alloc, state);
-    let dallies = end.record().complete;
+    let dallies = state.3 == Means::Nothing;
     let from = if state.0.is_client() {
         SERVER_END
     } else {

@@ -145,10 +145,10 @@ fn long_line(rt: &impl Abort, alloc: Global) -> Vec<u8> {
     host
 }
 
-/// The wire text of such a line.
-fn long_wire_text(rt: &impl Abort, alloc: Global, host: &[u8]) -> Vec<u8> {
-    let mut wire = Vec::new(alloc);
-    NetEncoder::new().push(host, &mut wire).expect(rt, "memory");
+/// The wire text of such a line: the letters, CR and LF.
+fn long_wire_text(rt: &impl Abort, alloc: Global) -> Vec<u8> {
+    let mut wire = vec![in alloc; b'A'; 511].expect(rt, "memory");
+    wire.extend_from_slice(b"\r\n").expect(rt, "memory");
     wire
 }
 
@@ -164,8 +164,9 @@ fn is_stored_at_every_cut(rt: &impl Abort, alloc: Global, wire: &[u8], host: &[u
 fn every_cut(rt: HostRuntime) {
     let rt = &rt;
     let host = long_line(rt, rt.alloc());
-    let wire = long_wire_text(rt, rt.alloc(), host.as_slice());
-    is_stored_at_every_cut(rt, rt.alloc(), wire.as_slice(), host.as_slice());
+    let wire = long_wire_text(rt, rt.alloc());
+    is_sent_as(rt, rt.alloc(), &host, &wire);
+    is_stored_at_every_cut(rt, rt.alloc(), &wire, &host);
 }
 
 fn has_length(rt: &impl Abort, host: &[u8], mode: Mode, want: usize) {

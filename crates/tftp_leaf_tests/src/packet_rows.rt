@@ -152,11 +152,20 @@ fn endless_request(rt: &impl Abort, alloc: Global, len: usize) -> Vec<u8> {
     request
 }
 
+/// Both readers find this fault.
+fn is_refused(rt: &impl Abort, alloc: Global, bytes: &[u8], fault: PacketFault) {
+    has_fault(rt, bytes, fault);
+    match decode(alloc, bytes) {
+        Ok(_) => panic!(rt; "a packet"),
+        Err(found) => expect_equal(rt, &found, &fault, "the fault"),
+    }
+}
+
 #[test]
 fn requests_have_512_bytes_at_most(rt: HostRuntime) {
     for &(len, kind, at) in &LENGTHS {
         let request = endless_request(&rt, rt.alloc(), len);
-        has_fault(&rt, request.as_slice(), PacketFault { kind, at });
+        is_refused(&rt, rt.alloc(), &request, PacketFault { kind, at });
     }
 }
 
