@@ -7,7 +7,7 @@ use std::test::Fail;
 use tftp_play::play_run;
 
 /// Scripts, and the number of their first faulty line.
-const FAULTS: [(&[u8], usize); 82] = [
+const FAULTS: [(&[u8], usize); 83] = [
     // lines and words
     (b"#", 1),
     (b"\n# no end", 2),
@@ -65,6 +65,7 @@ const FAULTS: [(&[u8], usize); 82] = [
     // reads
     (b"get a\n", 1),
     (b"get a mail\n", 1),
+    (b"file a 414243\nget a oct\n", 2),
     (b"get a OCTET\n", 1),
     (b"get a octet blksize=7\n", 1),
     (b"get a octet blksize=512 blksize=512\n", 1),

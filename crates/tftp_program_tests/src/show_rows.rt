@@ -88,6 +88,54 @@ fn ends_of_input(rt: HostRuntime) {
     }
 }
 
+/// Datagrams, and their lines: names and modes in either case, and first faults from the left.
+const PACKETS: [(&[u8], &str, u8); 6] = [
+    (
+        b"0001626f6f742e696d67004f4354455400",
+        "RRQ boot.img octet\n",
+        0,
+    ),
+    (
+        b"0001626f6f742e696d67006f63746574",
+        "fault Unterminated 11\n",
+        1,
+    ),
+    (
+        b"000161006f63746574007473697a6500",
+        "fault NoValue 16\n",
+        1,
+    ),
+    (b"00030000", "fault BlockZero 2\n", 1),
+    (b"00040000", "ACK 0\n", 0),
+    (b"000500016e6f0021", "fault Trailing 7\n", 1),
+];
+
+#[test]
+fn packet_rows(rt: HostRuntime) {
+    for &(input, want, status) in &PACKETS {
+        runs(&rt, rt.alloc(), input, want, status);
+    }
+}
+
+/// How many letters follow the opcode of a read request that no zero byte ends, and its line: a
+/// request has 512 bytes at most (RFC 2347, "Packet Formats").
+const LONG: [(usize, &str); 2] = [
+    (510, "fault Unterminated 2\n"),
+    (511, "fault TooLong 512\n"),
+];
+
+#[test]
+fn a_request_has_512_bytes_at_most(rt: HostRuntime) -> Result<(), Fail> {
+    for &(letters, want) in &LONG {
+        let mut input = Vec::from_slice(rt.alloc(), b"0001")?;
+        for _ in 0..letters {
+            input.extend_from_slice(b"61")?;
+        }
+        runs(&rt, rt.alloc(), input.as_slice(), want, 1);
+    }
+    Ok(())
+}
+
 /// What is read before a reader fails.
 const BROKEN: [&[u8]; 3] = [b"", b"00040000\n", b"00040000\n0004"];
 

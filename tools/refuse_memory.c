@@ -1,0 +1,54 @@
+/* Preloaded before a program: counts its requests for memory, and refuses the one that REFUSED names,
+   counted from 1; 0 refuses none. A request counts while a call is made: from a line of standard
+   output that ends in a colon to the next output. At the end it writes how many counted, and how many
+   of them were refused. */
+
+#include <errno.h>
+#include <stddef.h>
+#include <stdio.h>
+#include <stdlib.h>
+#include <sys/syscall.h>
+#include <unistd.h>
+
+extern void *__libc_malloc(size_t size);
+extern void *__libc_realloc(void *old, size_t size);
+
+static int counts;
+static long counted, refused, wanted;
+
+__attribute__((constructor)) static void begin(void) {
+    const char *text = getenv("REFUSED");
+    wanted = text ? atol(text) : 0;
+}
+
+__attribute__((destructor)) static void end(void) {
+    dprintf(2, "counted %ld refused %ld\n", counted, refused);
+}
+
+/* Whether this request is to be refused. */
+static int is_refused(void) {
+    if (!counts || ++counted != wanted)
+        return 0;
+    refused++;
+    errno = ENOMEM;
+    return 1;
+}
+
+void *malloc(size_t size) {
+    return is_refused() ? NULL : __libc_malloc(size);
+}
+
+void *realloc(void *old, size_t size) {
+    return is_refused() ? NULL : __libc_realloc(old, size);
+}
+
+ssize_t write(int file, const void *bytes, size_t count) {
+    const char *text = bytes;
+    if (file == 1)
+        counts = count > 1 && text[count - 2] == ':' && text[count - 1] == '\n';
+    return syscall(SYS_write, file, bytes, count);
+}
+
+ssize_t __write(int file, const void *bytes, size_t count) {
+    return write(file, bytes, count);
+}

@@ -1,0 +1,284 @@
+#!/usr/bin/env python3
+"""Runs the four programs and compares their statuses and messages: statuses.py SHOW PLAY TFTP TFTPD
+
+A run has 20 seconds, a server ends after 50 waits at most. Everything goes over 127.0.0.1 and through one temporary
+folder. The last line is a count; the status is 1 where something was not as wanted, or fewer runs than known were made.
+"""
+import os
+import resource
+import socket
+import subprocess
+import sys
+import tempfile
+import threading
+from contextlib import contextmanager
+from pathlib import Path
+
+PATIENCE = 20
+RUNS_AT_LEAST = 100
+# What a program writes of a command line that it does not understand
+USAGE = "error: "
+
+
+class Check:
+    """The runs, and what was wrong in them."""
+
+    def __init__(self, programs, folder):
+        self.programs, self.folder = programs, folder
+        self.runs, self.wrong = 0, []
+
+    def ends(self, program, words, status, errors="", output=None, at_start=False, **how):
+        """The program ends with this status, and writes that: all of it, or what it begins with. Returns its output."""
+        self.runs += 1
+        how = {"stdin": subprocess.DEVNULL, "stdout": subprocess.PIPE, "cwd": self.folder, **how}
+        if "input" in how:
+            del how["stdin"]
+        try:
+            done = subprocess.run([self.programs[program], *words], stderr=subprocess.PIPE, timeout=PATIENCE, **how)
+        except subprocess.TimeoutExpired:
+            self.wrong.append(f"{program} {words}: has not ended after {PATIENCE} seconds")
+            return ""
+        told = done.stderr.decode(errors="replace")
+        wrote = (done.stdout or b"").decode(errors="replace")
+        is_told = told.startswith(errors) if at_start else told == errors
+        is_written = output is None or (wrote.startswith(output) if at_start else wrote == output)
+        if done.returncode != status or not is_told or not is_written:
+            wanted = f"status {status}, {output!r}, {errors!r}"
+            self.wrong.append(f"{program} {words}: status {done.returncode}, {wrote!r}, {told!r}; wanted {wanted}")
+        return wrote
+
+    def is_usage_fault(self, program, *words, **how):
+        self.ends(program, words, 2, USAGE, "", at_start=True, **how)
+
+    def has_help(self, program, *words):
+        """Help and version end with 0, and write on standard output alone."""
+        if "Usage:" not in self.ends(program, [*words, "--help"], 0):
+            self.wrong.append(f"{program} {words} --help: no usage")
+        if not words:
+            self.ends(program, ["--version"], 0, "", program + " ", at_start=True)
+
+
+@contextmanager
+def serving(check, *words):
+    """A tftpd of the folder `served`, and its address; it is killed at the end, whatever happened."""
+    words = [check.programs["tftpd"], "served", "--listen", "127.0.0.1:0", "--rounds", "50", *words]
+    pipe = subprocess.PIPE
+    server = subprocess.Popen(words, cwd=check.folder, stdin=subprocess.DEVNULL, stdout=pipe, stderr=pipe)
+    try:
+        yield server, server.stdout.readline().decode().removeprefix("listening ").strip()
+    finally:
+        server.kill()
+        server.communicate()
+
+
+def has_ended(check, server, status, lines):
+    """A server has ended by itself with this status, and its last words on each line are these."""
+    check.runs += 1
+    wrote, told = server.communicate(timeout=PATIENCE)
+    ends = [line.split()[-1] for line in wrote.decode().splitlines()]
+    if server.returncode != status or ends != lines or told:
+        check.wrong.append(f"tftpd: status {server.returncode}, {wrote!r}, {told!r}; wanted {status}, {lines}")
+
+
+def few_files(count):
+    """Has the program start with room for so many open files."""
+    return lambda: resource.setrlimit(resource.RLIMIT_NOFILE, (count, count))
+
+
+@contextmanager
+def answering(answer, first=lambda: None):
+    """A port whose first datagram is answered by this, from another port, or by nothing, once `first` is done."""
+    with socket.socket(socket.AF_INET, socket.SOCK_DGRAM) as port, \
+            socket.socket(socket.AF_INET, socket.SOCK_DGRAM) as transfer:
+        port.bind(("127.0.0.1", 0))
+        transfer.bind(("127.0.0.1", 0))
+        port.settimeout(PATIENCE)
+
+        def answer_once():
+            try:
+                _, client = port.recvfrom(600)
+            except OSError:
+                return
+            first()
+            if answer:
+                transfer.sendto(answer, client)
+
+        thread = threading.Thread(target=answer_once)
+        thread.start()
+        try:
+            yield "127.0.0.1:%d" % port.getsockname()[1]
+        finally:
+            # (a client that sent nothing leaves the thread waiting)
+            transfer.sendto(b"", port.getsockname())
+            thread.join()
+
+
+def test_show(check):
+    check.has_help("tftp-show")
+    check.is_usage_fault("tftp-show", "--verbose")
+    check.is_usage_fault("tftp-show", "packets.hex")
+    check.ends("tftp-show", [], 0, "", "ACK 0\n", input=b"00040000")
+    check.ends("tftp-show", [], 1, "", "ACK 0\nnot hex\nfault EmptyOack 2\n", input=b"00040000\n0\n0006")
+    with open("/dev/full", "wb") as full:
+        check.ends("tftp-show", [], 2, input=b"00040000\n", stdout=full)
+    folder = os.open(check.folder, os.O_RDONLY)
+    check.ends("tftp-show", [], 2, output="", stdin=folder)
+    os.close(folder)
+
+
+def test_play(check):
+    (check.folder / "read.script").write_text("file a 414243\nget a octet\nsettle 0\n")
+    check.has_help("tftp-play")
+    check.is_usage_fault("tftp-play", "--verbose")
+    check.is_usage_fault("tftp-play", "read.script", "read.script")
+    check.ends("tftp-play", [], 0, "", "", input=b"")
+    check.ends("tftp-play", [], 0, "", "#0 10.0.0.2:1024 > 10.0.0.1:69 RRQ a octet\n", at_start=True,
+               input=(check.folder / "read.script").read_bytes())
+    check.ends("tftp-play", ["read.script"], 0, "", "#0 10.0.0.2:1024 > 10.0.0.1:69 RRQ a octet\n", at_start=True)
+    check.ends("tftp-play", [], 1, "", "#0 10.0.0.2:1024 > 10.0.0.1:69 RRQ a octet\n", at_start=True,
+               input=b"get a octet\n")
+    check.ends("tftp-play", [], 2, "line 2: fault\n", "", input=b"file a 414243\nget a oct\n")
+    check.ends("tftp-play", ["missing.script"], 2, "script: unreadable\n", "")
+    check.ends("tftp-play", ["."], 2, "script: unreadable\n", "")
+    with open("/dev/full", "wb") as full:
+        check.ends("tftp-play", ["read.script"], 2, "output: unwritable\n", stdout=full)
+
+
+# Datagrams of a server, and how a client ends that is answered by them: what is no packet, an ACK to a read, an ERROR, an
+# OACK that was not asked, a CR at the end of a netascii text
+READ_ANSWERS = [
+    (b"\0\7", [], "Illegal"),
+    (b"\0\4\0\0", [], "Illegal"),
+    (b"\0\5\0\2no\0", [], "PeerError(2)"),
+    (b"\0\6timeout\x003\0", [], "Refused(NotAsked)"),
+    (b"\0\6blksize\x009\0", ["--blksize", "8"], "Refused(BadValue)"),
+    (b"\0\6blksize\x008\0blksize\x008\0", ["--blksize", "8"], "Refused(Repeated)"),
+    (b"\0\3\0\1A\r", ["--netascii"], "NotNetascii"),
+]
+
+
+def test_transfers(check):
+    """Statuses 0 and 1: a transfer that completes, and each way in which a client may end."""
+    (check.folder / "abc").write_bytes(b"ABC")
+    with serving(check, "--transfers", "3") as (server, address):
+        check.ends("tftp", ["get", address, "a", "copy"], 0, "", "complete 3\n")
+        check.ends("tftp", ["put", address, "abc", "new"], 0, "", "complete 3\n")
+        check.ends("tftp", ["get", address, "missing", "none"], 1, "tftp: PeerError(1)\n", "")
+        check.ends("tftp", ["put", address, "abc", "a"], 1, "tftp: PeerError(6)\n", "")
+        with answering(None) as silent:
+            check.ends("tftp", ["get", silent, "a", "silence", "--retries", "0"], 1, "tftp: TimedOut\n", "")
+        check.ends("tftp", ["get", address, "a", "again", "--blksize", "8"], 0, "", "complete 3\n")
+        has_ended(check, server, 0, ["Complete"] * 3)
+    for place, (answer, options, outcome) in enumerate(READ_ANSWERS):
+        with answering(answer) as address:
+            words = ["get", address, "a", f"answer{place}", *options]
+            check.ends("tftp", words, 1, f"tftp: {outcome}\n", "")
+    # LOCAL is there by the time that it would get its name
+    with answering(b"\0\3\0\1ABC", (check.folder / "soon").touch) as address:
+        check.ends("tftp", ["get", address, "a", "soon"], 1, "tftp: StoreFault\n", "")
+    # as many blocks of 1428 bytes have numbers, and not of 512
+    (check.folder / "longer").touch()
+    os.truncate(check.folder / "longer", 65_535 * 512)
+    with answering(b"\0\4\0\0") as address:
+        words = ["put", address, "longer", "n", "--blksize", "1428"]
+        check.ends("tftp", words, 1, "tftp: TooLarge\n", "")
+
+
+def test_client_faults(check):
+    """Status 2, in the order command line, LOCAL, socket, opening: each fault also where the later ones hold, too."""
+    nowhere, long = "127.0.0.1:9", "a" * 513
+    (check.folder / "long").touch()
+    os.truncate(check.folder / "long", 65_535 * 8)
+    # LOCAL: one that is there, one in a folder that is missing, one that is missing, and a folder
+    for words in [
+        ["get", nowhere, "a", "abc"],
+        ["get", nowhere, "a", "missing/local"],
+        ["put", nowhere, "missing", "a"],
+        ["put", nowhere, ".", "a"],
+    ]:
+        check.ends("tftp", words, 2, "tftp: file fault\n", "")
+        check.ends("tftp", [long if it == "a" else it for it in words], 2, "tftp: file fault\n", "")
+        check.ends("tftp", words, 2, "tftp: file fault\n", "", preexec_fn=few_files(4))
+        check.is_usage_fault("tftp", *words, "--blksize", "7")
+    # no socket: standard input, output and error and LOCAL are all that may be open
+    for words in [["get", nowhere, "a", "fresh"], ["put", nowhere, "abc", "a"]]:
+        check.ends("tftp", words, 2, "tftp: socket fault\n", "", preexec_fn=few_files(4))
+        words = [long if it == "a" else it for it in words]
+        check.ends("tftp", words, 2, "tftp: socket fault\n", "", preexec_fn=few_files(4))
+        check.is_usage_fault("tftp", *words, "--retries", "11", preexec_fn=few_files(4))
+    # opening: no name, one that no request has room for, a file of more blocks than have numbers
+    check.ends("tftp", ["get", nowhere, "", "fresh"], 2, "tftp: BadRequest\n", "")
+    check.ends("tftp", ["get", nowhere, long, "fresh"], 2, "tftp: BadRequest\n", "")
+    check.ends("tftp", ["put", nowhere, "abc", long], 2, "tftp: BadRequest\n", "")
+    check.ends("tftp", ["put", nowhere, "long", "n", "--blksize", "8"], 2, "tftp: TooLarge\n", "")
+
+
+def test_server_faults(check):
+    """Status 2, in the order command line, ROOT, port: each fault also where the later ones hold, too."""
+    with socket.socket(socket.AF_INET, socket.SOCK_DGRAM) as used:
+        used.bind(("127.0.0.1", 0))
+        taken = ["--listen", "127.0.0.1:%d" % used.getsockname()[1]]
+        for root in ["missing", "abc"]:
+            check.ends("tftpd", [root, "--listen", "127.0.0.1:0"], 2, "tftpd: file fault\n", "")
+            check.ends("tftpd", [root, *taken], 2, "tftpd: file fault\n", "")
+            check.is_usage_fault("tftpd", root, *taken, "--cap", "0")
+        check.ends("tftpd", ["served", *taken], 2, "tftpd: socket fault\n", "")
+        check.is_usage_fault("tftpd", "served", *taken, "--rounds", "0")
+    # an address that is of no interface here (RFC 5737)
+    check.ends("tftpd", ["served", "--listen", "192.0.2.1:0"], 2, "tftpd: socket fault\n", "")
+    words = ["served", "--listen", "127.0.0.1:0", "--rounds", "1"]
+    check.ends("tftpd", words, 2, "tftpd: socket fault\n", "", preexec_fn=few_files(4))
+    # a server that nobody asks ends after its waits
+    check.ends("tftpd", words, 0, "", "listening 127.0.0.1:", at_start=True)
+
+
+# Numbers below and above the range of each option
+RANGES = {
+    "tftp": [("--blksize", "7", "65465"), ("--timeout", "0", "256"), ("--retries", "-1", "11")],
+    "tftpd": [
+        ("--max-block", "7", "65465"), ("--max-file", "-1", "18446744073709551616"), ("--retries", "-1", "11"),
+        ("--cap", "0", "65"), ("--transfers", "0", "4294967296"), ("--rounds", "0", "4294967296"),
+    ],
+}
+
+
+def test_usage(check):
+    check.has_help("tftp")
+    check.has_help("tftp", "get")
+    check.has_help("tftp", "put")
+    check.has_help("tftpd")
+    get = ["get", "127.0.0.1:9", "a", "fresh"]
+    for option, *values in RANGES["tftp"]:
+        for value in [*values, "08", "x", ""]:
+            check.is_usage_fault("tftp", *get, f"{option}={value}")
+    for option, *values in RANGES["tftpd"]:
+        for value in [*values, "08", "x", ""]:
+            check.is_usage_fault("tftpd", "served", f"{option}={value}")
+    for words in [["take", *get[1:]], get[:3], [*get, "more"], [*get, "--fast"], ["get", "localhost:9", "a", "fresh"],
+                  ["get", "127.0.0.1", "a", "fresh"], ["get", "127.0.0.1:65536", "a", "fresh"]]:
+        check.is_usage_fault("tftp", *words)
+    for words in [["served", "more"], ["served", "--fast"], ["served", "--listen", "127.0.0.1"]]:
+        check.is_usage_fault("tftpd", *words)
+
+
+def main():
+    if len(sys.argv) != 5:
+        sys.exit(__doc__)
+    names = ["tftp-show", "tftp-play", "tftp", "tftpd"]
+    programs = dict(zip(names, map(os.path.abspath, sys.argv[1:])))
+    with tempfile.TemporaryDirectory(prefix="tftp-statuses-") as folder:
+        check = Check(programs, Path(folder))
+        (check.folder / "served").mkdir()
+        (check.folder / "served" / "a").write_bytes(b"ABC")
+        for test in [test_show, test_play, test_transfers, test_client_faults, test_server_faults, test_usage]:
+            test(check)
+    for line in check.wrong:
+        print(line)
+    if check.runs < RUNS_AT_LEAST:
+        check.wrong.append(f"only {check.runs} runs")
+    print(f"statuses: {check.runs} runs, {len(check.wrong)} not as wanted")
+    sys.exit(1 if check.wrong else 0)
+
+
+if __name__ == "__main__":
+    main()
