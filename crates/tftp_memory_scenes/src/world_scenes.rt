@@ -1,0 +1,234 @@
+//! Scenes of a world: an ACK that comes three times, two writes that race for one name, and a read
+//! that finds the server busy.
+
+use crate::printed::{announce, append_bytes, has_returned, was_refused};
+use anyhow::Result;
+use std::alloc::{AllocError, Global};
+use tftp_ends::Record;
+use tftp_file::{Path, path_of};
+use tftp_negotiate::Asked;
+use tftp_player::{Event, Report, World, WorldFault};
+use tftp_server::Config;
+use tftp_wire::{Bytes, Mode};
+
+/// What a scene does next.
+#[derive(Clone, Copy)]
+enum Move {
+    /// A client asks for the file `a`.
+    Get,
+    /// A client asks to write this byte under the name `n`.
+    Put(u8),
+    /// The datagram of this place is delivered.
+    Deliver(usize),
+    /// The scene shows its file as it is.
+    Look,
+}
+
+impl Move {
+    /// The event, and the words that announce it.
+    fn event(self, alloc: Global) -> Result<Option<(Event, String)>, AllocError> {
+        let asked = Asked::default();
+        let mode = Mode::Octet;
+        Ok(Some(match self {
+            Move::Get => {
+                let name = Bytes::from_slice(alloc, b"a")?;
+                let event = Event::Get { name, mode, asked };
+                (event, String::from_str(alloc, "get a")?)
+            }
+            Move::Put(byte) => {
+                let event = Event::Put {
+                    name: Bytes::from_slice(alloc, b"n")?,
+                    mode,
+                    asked,
+                    bytes: Bytes::from_slice(alloc, &[byte])?,
+                };
+                (event, format!(in alloc; "put n {byte:02x}")?)
+            }
+            Move::Deliver(place) => {
+                let words = format!(in alloc; "deliver {place}")?;
+                (Event::Deliver(place), words)
+            }
+            Move::Look => return Ok(None),
+        }))
+    }
+}
+
+/// RRQ, DATA 1, ACK 1, DATA 2; the ACK comes twice more, and brings nothing (RFC 1123, section
+/// 4.2.3.1).
+static REPEATED_ACK: [Move; 6] = [
+    Move::Get,
+    Move::Deliver(0),
+    Move::Deliver(1),
+    Move::Deliver(2),
+    Move::Deliver(2),
+    Move::Deliver(2),
+];
+
+/// Two writes of one name: the first commit has it, and the other is refused (RFC 1350, appendix
+/// I).
+static RACE: [Move; 13] = [
+    Move::Put(0x41),
+    Move::Deliver(0),
+    Move::Put(0x42),
+    Move::Deliver(2),
+    Move::Deliver(1),
+    Move::Deliver(3),
+    Move::Look,
+    Move::Deliver(4),
+    Move::Look,
+    Move::Deliver(5),
+    Move::Deliver(7),
+    Move::Deliver(6),
+    Move::Look,
+];
+
+/// Two clients ask a server of one transfer. The second finds it busy, and gives up.
+static BUSY: [Move; 5] = [
+    Move::Get,
+    Move::Get,
+    Move::Deliver(0),
+    Move::Deliver(1),
+    Move::Deliver(3),
+];
+
+/// A world, and the name and path of the file that is looked at.
+#[derive(Drop)]
+struct Played {
+    alloc: Global,
+    world: World,
+    name: &'static str,
+    path: Path,
+}
+
+/// A get of 1,024 bytes, of which DATA 1 is acknowledged three times.
+pub(crate) fn play_repeated_ack(rt: &HostRuntime) -> Result<()> {
+    println!(rt; "a repeated ACK")?;
+    let mut bytes = Vec::from_elem(rt.alloc(), 0x61, 512)?;
+    bytes.extend_from_slice(&[0x62; 512])?;
+    play(rt, 16, bytes, "a", &REPEATED_ACK)
+}
+
+/// Two puts of one name.
+pub(crate) fn play_race(rt: &HostRuntime) -> Result<()> {
+    println!(rt; "a race for a name")?;
+    let bytes = Vec::from_slice(rt.alloc(), b"ABC")?;
+    play(rt, 16, bytes, "n", &RACE)
+}
+
+/// Two gets at a server that holds one transfer.
+pub(crate) fn play_busy(rt: &HostRuntime) -> Result<()> {
+    println!(rt; "a busy server")?;
+    let bytes = Vec::from_slice(rt.alloc(), b"ABC")?;
+    play(rt, 1, bytes, "a", &BUSY)
+}
+
+/// Plays a scene of a world whose file `a` has these bytes, and prints all that then stands.
+fn play(
+    rt: &HostRuntime,
+    cap: u8,
+    bytes: Vec<u8>,
+    name: &'static str,
+    moves: &[Move],
+) -> Result<()> {
+    let alloc = rt.alloc();
+    let mut config = Config::default();
+    config.cap = cap;
+    if !config.is_valid() {
+        return Ok(());
+    }
+    let files = vec![in alloc; (path_of(alloc, b"a")?, bytes)]?;
+    let mut played = Played {
+        alloc,
+        world: World::new(alloc, files, config)?,
+        name,
+        path: path_of(alloc, name.as_bytes())?,
+    };
+    for &next in moves {
+        played.does(rt, next)?;
+    }
+    print!(rt; "{}", played.seen()?)?;
+    Ok(())
+}
+
+impl Played {
+    /// What the scene does next is done, and again where it found no memory.
+    fn does(&mut self, rt: &HostRuntime, next: Move) -> Result<()> {
+        let Some((event, words)) = next.event(self.alloc)? else {
+            let file = self.file()?;
+            println!(rt; "{file}")?;
+            return Ok(());
+        };
+        let before = self.seen()?;
+        announce(rt, &words)?;
+        let answer = self.world.apply(event);
+        has_returned(rt)?;
+        match answer {
+            Err(WorldFault::Memory) => {
+                was_refused(rt, &before, &self.seen()?)?;
+                self.does_again(rt, next)
+            }
+            answer => tells(rt, answer?),
+        }
+    }
+
+    /// The same once more.
+    fn does_again(&mut self, rt: &HostRuntime, next: Move) -> Result<()> {
+        match next.event(self.alloc)? {
+            Some((event, _)) => tells(rt, self.world.apply(event)?),
+            None => Ok(()),
+        }
+    }
+
+    /// The file as it is.
+    fn file(&self) -> Result<String> {
+        let mut text = format!(in self.alloc; "{} ", self.name)?;
+        match self.world.file(&self.path) {
+            Some(bytes) => append_bytes(&mut text, bytes)?,
+            None => text.push_str("is not there")?,
+        }
+        Ok(text)
+    }
+
+    /// All that the world shows: what was sent, each end and what it stored, the file.
+    fn seen(&self) -> Result<String> {
+        let mut text = String::new(self.alloc);
+        for (place, sent) in self.world.sent().iter().enumerate() {
+            write!(text, "#{place} {} > {} ", sent.from, sent.to)?;
+            append_bytes(&mut text, sent.bytes.as_slice())?;
+            text.push('\n')?;
+        }
+        for (port, record) in self.world.records() {
+            self.append_end(&mut text, *port, record)?;
+        }
+        text.push_str(&self.file()?)?;
+        text.push('\n')?;
+        Ok(text)
+    }
+
+    /// Appends an end, and what it stored.
+    fn append_end(&self, text: &mut String, port: u16, record: &Record) -> Result<()> {
+        write!(text, "{port} {record:?}")?;
+        if let Some(stored) = self.world.stored(port) {
+            text.push_str(" stored ")?;
+            append_bytes(text, stored)?;
+        }
+        if self.world.committed(port) {
+            text.push_str(" committed")?;
+        }
+        text.push('\n')?;
+        Ok(())
+    }
+}
+
+/// Prints what an event did.
+fn tells(rt: &HostRuntime, report: Report) -> Result<()> {
+    match (report.added, report.closed) {
+        (Some(place), Some((port, outcome))) => {
+            println!(rt; "#{place}, closed {port} {outcome}")?;
+        }
+        (Some(place), None) => println!(rt; "#{place}")?,
+        (None, Some((port, outcome))) => println!(rt; "closed {port} {outcome}")?,
+        (None, None) => println!(rt; "nothing")?,
+    }
+    Ok(())
+}
