@@ -8,7 +8,7 @@ use crate::served::Served;
 use crate::stores::{has_file, lacks_file, path, store_of, write};
 use std::alloc::Global;
 use std::process::Abort;
-use tftp_ends::Endpoint;
+use tftp_ends::{Endpoint, Outcome};
 use tftp_file::StoreFault;
 use tftp_server::{Config, FaultStore, MemStore, Opened};
 
@@ -55,6 +55,20 @@ fn a_file_that_cannot_be_read(rt: HostRuntime) {
     let store = files(&rt, rt.alloc());
     let store = FaultStore::new(store, 0, StoreFault::Io, false, true);
     is_refused(&rt, rt.alloc(), store, changed);
+}
+
+/// No call of a read is refused: the first block answers, and a transfer opens.
+#[test]
+fn a_read_passes_through(rt: HostRuntime) {
+    let store = files(&rt, rt.alloc());
+    let store = FaultStore::new(store, 0, StoreFault::Io, false, false);
+    let mut served = Served::new(&rt, rt.alloc(), Config::default(), store);
+    let read = b"\x00\x01a\x00octet\x00";
+    let block = b"\x00\x03\x00\x01ABC";
+    let opened = served.answers_request(&rt, CLIENT, 1025, read, block);
+    expect_equal(&rt, &opened.tid, &Some(1025), "a transfer opens");
+    let closed = served.answers(&rt, CLIENT, 1025, b"\x00\x04\x00\x01", b"");
+    expect_equal(&rt, &closed, &Some(Outcome::Complete), "it completes");
 }
 
 /// The file `n` of the bytes `XY` is written, with this outcome.

@@ -8,8 +8,6 @@ mod expect;
 #[cfg(test)]
 mod fault_rows;
 #[cfg(test)]
-mod memory_turn_rows;
-#[cfg(test)]
 mod port_rows;
 #[cfg(test)]
 mod random_rows;

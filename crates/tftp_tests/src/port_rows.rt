@@ -155,6 +155,27 @@ fn a_file_in_a_folder_is_read(rt: HostRuntime) {
     opens(&rt, rt.alloc(), b"a/b", b"XY", request, data, Some(1025));
 }
 
+/// Reads of `boot.img` with two options, and the OACKs: the options in the order of the request,
+/// their names in lower case (RFC 2347, "Negotiation Protocol").
+const TWO_OPTIONS: [(&[u8], &[u8]); 2] = [
+    (
+        b"\x00\x01boot.img\x00octet\x00BLKSIZE\x001428\x00timeout\x003\x00",
+        b"\x00\x06blksize\x001428\x00timeout\x003\x00",
+    ),
+    (
+        b"\x00\x01boot.img\x00octet\x00timeout\x003\x00BLKSIZE\x001428\x00",
+        b"\x00\x06timeout\x003\x00blksize\x001428\x00",
+    ),
+];
+
+#[test]
+fn two_options_are_answered_in_their_order(rt: HostRuntime) {
+    let (alloc, name) = (rt.alloc(), b"boot.img");
+    for &(request, answer) in &TWO_OPTIONS {
+        opens(&rt, alloc, name, b"ABC", request, answer, Some(1025));
+    }
+}
+
 /// 65,535 blocks of 8 bytes are the most, and the last of them is short (RFC 1350, section 6): a
 /// file of one byte more than they carry, and no answer but the ERROR.
 #[test]

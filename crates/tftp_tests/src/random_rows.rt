@@ -1,16 +1,20 @@
 //! Random runs of a world, and after each event what makes it safe, by what the world tells.
+//!
+//! Two clients read and two write, with block sizes of their own or without options, one of them in
+//! netascii. No byte of a file is that of another file, or of its next block, at the same place.
 
 use crate::expect::{expect, expect_equal};
 use crate::stores::path;
-use crate::worlds::{Move, happens};
 use rand_core::SeedableRng;
 use rand_pcg::Pcg32;
 use std::alloc::Global;
 use std::process::Abort;
-use tftp_ends::{Endpoint, Record};
+use tftp_ends::{Endpoint, Record, Side};
 use tftp_file::path_of;
-use tftp_player::{World, draw};
+use tftp_negotiate::Asked;
+use tftp_player::{Event, World, draw};
 use tftp_server::Config;
+use tftp_wire::{Bytes, Mode};
 
 /// Runs, each of a seed of its own.
 const RUNS: u64 = 100;
@@ -18,54 +22,120 @@ const RUNS: u64 = 100;
 /// Events of a run.
 const EVENTS: usize = 2_000;
 
-/// The server's file `a`: one block and a piece of the next (RFC 1350, section 6).
-const FILE_A: &[u8] = &[b'r'; 700];
+/// The files of a run.
+#[derive(Drop)]
+struct Files {
+    /// The server's `a`: three blocks of 100 bytes, the last of them short.
+    a: Vec<u8>,
+    /// The server's `b`, with line feeds and CRs: two blocks of 512 bytes of wire text, of which
+    /// the last is short.
+    b: Vec<u8>,
+    /// What a client writes under the name `n`: three blocks of 200 bytes and an empty one (RFC
+    /// 1350, section 6).
+    long: Vec<u8>,
+    /// What another writes under that name: one short block.
+    short: Vec<u8>,
+}
 
-/// The server's file `b`: whole blocks.
-const FILE_B: &[u8] = &[b's'; 1_024];
+impl Files {
+    fn new(rt: &impl Abort, alloc: Global) -> Files {
+        Files {
+            a: bytes_from(rt, alloc, 0, 250),
+            b: bytes_from(rt, alloc, 60, 520),
+            long: bytes_from(rt, alloc, 120, 600),
+            short: bytes_from(rt, alloc, 180, 3),
+        }
+    }
 
-/// What two clients send, both under the name `n`.
-const LONG: &[u8] = &[b'v'; 600];
+    /// The file of the client at this port.
+    fn of(&self, port: u16) -> &[u8] {
+        match port {
+            1024 => &self.a,
+            1025 => &self.b,
+            1026 => &self.long,
+            _ => &self.short,
+        }
+    }
 
-const SHORT: &[u8] = &[b'w'; 3];
-
-/// The four requests.
-const REQUESTS: [Move; 4] = [
-    Move::Get(b"a"),
-    Move::Get(b"b"),
-    Move::Put(LONG),
-    Move::Put(SHORT),
-];
-
-/// The file of the client at this port: two clients read, two write.
-fn file_of(port: u16) -> &'static [u8] {
-    match port {
-        1024 => FILE_A,
-        1025 => FILE_B,
-        1026 => LONG,
-        _ => SHORT,
+    /// The file that a sender sends: its own if it is a client, else that of the client that asked.
+    fn sent_by(&self, port: u16, record: &Record) -> &[u8] {
+        match record.peer {
+            Some(peer) if !record.side.is_client() => self.of(peer.port),
+            _ => self.of(port),
+        }
     }
 }
 
+/// So many bytes, each one more than that before it, from this one on; 0 follows 250.
+fn bytes_from(rt: &impl Abort, alloc: Global, first: u64, length: u64) -> Vec<u8> {
+    let mut bytes = Vec::new(alloc);
+    for at in 0..length {
+        let byte = first.wrapping_add(at) % 251;
+        bytes.push(byte as u8).expect(rt, "memory");
+    }
+    bytes
+}
+
+/// A copy of a file.
+fn copy_of(rt: &impl Abort, alloc: Global, bytes: &[u8]) -> Vec<u8> {
+    Vec::from_slice(alloc, bytes).expect(rt, "memory")
+}
+
 /// A world whose server has the two files.
-fn world_of_two_files(rt: &impl Abort, alloc: Global) -> World {
+fn world_of_two_files(rt: &impl Abort, alloc: Global, files: &Files) -> World {
     let mut config = Config::default();
     config.retries = 10;
     expect(rt, config.is_valid(), "the settings of a server");
     let a = path_of(alloc, b"a").expect(rt, "a path");
     let b = path_of(alloc, b"b").expect(rt, "a path");
-    let of_a = Vec::from_slice(alloc, FILE_A).expect(rt, "memory");
-    let of_b = Vec::from_slice(alloc, FILE_B).expect(rt, "memory");
+    let of_a = copy_of(rt, alloc, &files.a);
+    let of_b = copy_of(rt, alloc, &files.b);
     let files = vec![in alloc; (a, of_a), (b, of_b)].expect(rt, "memory");
     World::new(alloc, files, config).expect(rt, "memory")
 }
 
-/// A world in which the four have asked.
-fn asked_world(rt: &impl Abort, alloc: Global) -> World {
-    let mut world = world_of_two_files(rt, alloc);
-    for &request in &REQUESTS {
-        happens(&mut world, alloc, request).expect(rt, "the request is sent");
+/// What a client asks that wants blocks of this size, or has no wish.
+fn asked_for(blksize: Option<u16>) -> Asked {
+    Asked {
+        blksize,
+        timeout: None,
+        tsize: None,
     }
+}
+
+/// A client asks for the server's file of this name.
+fn gets(
+    rt: &impl Abort,
+    alloc: Global,
+    world: &mut World,
+    name: &[u8],
+    mode: Mode,
+    blksize: Option<u16>,
+) {
+    let name = Bytes::from_slice(alloc, name).expect(rt, "memory");
+    let asked = asked_for(blksize);
+    let report = world.apply(Event::Get { name, mode, asked });
+    report.expect(rt, "the request is sent");
+}
+
+/// A client asks to write this file under the name `n`.
+fn puts(rt: &impl Abort, alloc: Global, world: &mut World, file: &[u8], blksize: Option<u16>) {
+    let report = world.apply(Event::Put {
+        name: Bytes::from_slice(alloc, b"n").expect(rt, "memory"),
+        mode: Mode::Octet,
+        asked: asked_for(blksize),
+        bytes: Bytes::from_slice(alloc, file).expect(rt, "memory"),
+    });
+    report.expect(rt, "the request is sent");
+}
+
+/// A world in which the four have asked, from the ports 1024 to 1027.
+fn asked_world(rt: &impl Abort, alloc: Global, files: &Files) -> World {
+    let mut world = world_of_two_files(rt, alloc, files);
+    gets(rt, alloc, &mut world, b"a", Mode::Octet, Some(100));
+    gets(rt, alloc, &mut world, b"b", Mode::Netascii, None);
+    puts(rt, alloc, &mut world, &files.long, Some(200));
+    puts(rt, alloc, &mut world, &files.short, None);
     world
 }
 
@@ -82,14 +152,6 @@ fn address(port: u16, record: &Record) -> Endpoint {
     Endpoint {
         ip: [10, 0, 0, host],
         port,
-    }
-}
-
-/// The file that a sender sends: its own if it is a client, else that of the client that asked.
-fn sent_file(port: u16, record: &Record) -> &'static [u8] {
-    match record.peer {
-        Some(peer) if !record.side.is_client() => file_of(peer.port),
-        _ => file_of(port),
     }
 }
 
@@ -141,13 +203,13 @@ fn is_empty(rt: &impl Abort, world: &World, port: u16) {
 }
 
 /// An end is safe.
-fn is_safe(rt: &impl Abort, alloc: Global, world: &World, port: u16, end: &Record) {
+fn is_safe(rt: &impl Abort, alloc: Global, files: &Files, world: &World, port: u16, end: &Record) {
     match end.peer {
         Some(address) => {
             let peer = record_at(world, address.port).expect(rt, "a peer");
             agree(rt, port, end, peer);
             if !end.side.is_sender() {
-                let file = sent_file(address.port, peer);
+                let file = files.sent_by(address.port, peer);
                 stores(rt, alloc, world, port, end, file);
             }
         }
@@ -156,29 +218,80 @@ fn is_safe(rt: &impl Abort, alloc: Global, world: &World, port: u16, end: &Recor
 }
 
 /// An event is drawn and happens, and then all ends are safe.
-fn steps_safely(rt: &impl Abort, alloc: Global, world: &mut World, rng: &mut Pcg32) {
+fn steps_safely(rt: &impl Abort, alloc: Global, files: &Files, world: &mut World, rng: &mut Pcg32) {
     let event = draw(rng, world).expect(rt, "an event");
     world.apply(event).expect(rt, "what is drawn can happen");
     for (port, end) in world.records() {
-        is_safe(rt, alloc, world, *port, end);
+        is_safe(rt, alloc, files, world, *port, end);
     }
 }
 
-/// A run of one seed: whether an end is complete at its end.
-fn runs_safely(rt: &impl Abort, alloc: Global, seed: u64) -> bool {
-    let mut world = asked_world(rt, alloc);
+/// What came about in all runs, so that there was something to be safe.
+#[derive(Clone, Copy, Debug, Default)]
+struct Counts {
+    /// Clients that have their whole file.
+    reads: u64,
+    /// Those of them that read in netascii.
+    texts: u64,
+    /// Senders whose last block was acknowledged.
+    senders: u64,
+    /// Files that the server committed.
+    writes: u64,
+    /// Ends that agreed on another block size than 512.
+    sizes: u64,
+}
+
+impl Counts {
+    /// Counts an end of a run.
+    fn count(&mut self, port: u16, end: &Record) {
+        add(
+            &mut self.reads,
+            end.complete && end.side == Side::ClientRead,
+        );
+        add(&mut self.texts, end.complete && port == 1025);
+        add(&mut self.senders, end.complete && end.side.is_sender());
+        add(
+            &mut self.writes,
+            end.complete && end.side == Side::ServerWrite,
+        );
+        add(&mut self.sizes, end.size != 512);
+    }
+
+    /// Each came about in half of the runs at least.
+    fn are_many(&self, rt: &impl Abort) {
+        expect(rt, self.reads >= RUNS / 2, "whole files of clients");
+        expect(rt, self.texts >= RUNS / 2, "whole files by netascii");
+        expect(rt, self.senders >= RUNS / 2, "complete senders");
+        expect(rt, self.writes >= RUNS / 2, "files that were committed");
+        expect(rt, self.sizes >= RUNS / 2, "block sizes that were agreed");
+    }
+}
+
+/// Counts one more where it holds.
+fn add(count: &mut u64, holds: bool) {
+    if holds {
+        *count = count.saturating_add(1);
+    }
+}
+
+/// A run of one seed, whose ends are counted at its end.
+fn runs_safely(rt: &impl Abort, alloc: Global, files: &Files, seed: u64, counts: &mut Counts) {
+    let mut world = asked_world(rt, alloc, files);
     let mut rng = Pcg32::seed_from_u64(seed);
     for _ in 0..EVENTS {
-        steps_safely(rt, alloc, &mut world, &mut rng);
+        steps_safely(rt, alloc, files, &mut world, &mut rng);
     }
-    world.records().iter().any(|(_, record)| record.complete)
+    for (port, record) in world.records() {
+        counts.count(*port, record);
+    }
 }
 
 #[test]
 fn random_safe(rt: HostRuntime) {
-    let mut some_complete = false;
+    let files = Files::new(&rt, rt.alloc());
+    let mut counts = Counts::default();
     for seed in 0..RUNS {
-        some_complete |= runs_safely(&rt, rt.alloc(), seed);
+        runs_safely(&rt, rt.alloc(), &files, seed, &mut counts);
     }
-    expect(&rt, some_complete, "no end completes in any run");
+    counts.are_many(&rt);
 }

@@ -7,8 +7,10 @@ use crate::worlds::{Move, Row, get, happens, runs, world_with};
 use std::alloc::Global;
 use std::process::Abort;
 use tftp_ends::{Endpoint, Outcome, Side};
-use tftp_player::{World, WorldFault};
+use tftp_negotiate::Asked;
+use tftp_player::{Event, World, WorldFault};
 use tftp_server::Config;
+use tftp_wire::{Bytes, Mode};
 
 /// The datagram at this place has these bytes.
 fn has_sent(rt: &impl Abort, world: &World, place: usize, bytes: &[u8]) {
@@ -29,6 +31,17 @@ fn has_end(rt: &impl Abort, world: &World, place: usize, end: (u16, Side, bool, 
             expect_equal(rt, &(place, found), &(place, end), "an end");
         }
         None => expect_equal(rt, &(place, false), &(place, true), "an end is there"),
+    }
+}
+
+/// The datagram at this place went from the one endpoint to the other.
+fn has_gone(rt: &impl Abort, world: &World, place: usize, from: Endpoint, to: Endpoint) {
+    match world.sent().get(place) {
+        Some(datagram) => {
+            let found = (place, datagram.from, datagram.to);
+            expect_equal(rt, &found, &(place, from, to), "from where to where");
+        }
+        None => expect_equal(rt, &(place, false), &(place, true), "a datagram is there"),
     }
 }
 
@@ -98,11 +111,11 @@ fn a_full_block_is_followed_by_an_empty_one(rt: HostRuntime) {
     has_sent(&rt, &world, 3, b"\x00\x03\x00\x02");
 }
 
-/// The file stays at the server.
+/// The server's file has these bytes.
 fn keeps_file(rt: &impl Abort, alloc: Global, world: &World, bytes: &[u8]) {
     let path = path(rt, alloc, b"a");
     let file = world.file(&path).expect(rt, "the file");
-    expect_bytes(rt, file, bytes, "it stays at the server");
+    expect_bytes(rt, file, bytes, "the server's file");
 }
 
 #[test]
@@ -208,6 +221,132 @@ fn a_busy_server_refuses(rt: HostRuntime) {
     let mut world = world_with(&rt, rt.alloc(), b"ABC", config);
     runs(&rt, rt.alloc(), &mut world, &BUSY);
     has_sent(&rt, &world, 3, b"\x00\x05\x00\x00server busy\x00");
+    has_gone(&rt, &world, 2, at_server(1026), at_client(1024));
+    has_gone(&rt, &world, 3, at_server(69), at_client(1025));
+}
+
+/// A port of the server.
+fn at_server(port: u16) -> Endpoint {
+    Endpoint {
+        ip: [10, 0, 0, 1],
+        port,
+    }
+}
+
+/// A port of the clients' host.
+fn at_client(port: u16) -> Endpoint {
+    Endpoint {
+        ip: [10, 0, 0, 2],
+        port,
+    }
+}
+
+/// A client asks for the file in blocks of 8 bytes (RFC 2348).
+fn get_in_eights(rt: &impl Abort, alloc: Global, world: &mut World) {
+    let event = Event::Get {
+        name: Bytes::from_slice(alloc, b"a").expect(rt, "memory"),
+        mode: Mode::Octet,
+        asked: Asked {
+            blksize: Some(8),
+            timeout: None,
+            tsize: None,
+        },
+    };
+    world.apply(event).expect(rt, "the request is sent");
+}
+
+/// So many bytes, of which those of each block are others than those of the next.
+fn many(rt: &impl Abort, alloc: Global, length: usize) -> Vec<u8> {
+    let mut bytes = Vec::new(alloc);
+    for at in 0..length {
+        bytes.push((at % 251) as u8).expect(rt, "memory");
+    }
+    bytes
+}
+
+/// How far the end of this place came, in blocks of which size, and whether it is complete.
+fn has_come(rt: &impl Abort, world: &World, place: usize, wanted: (u16, u16, bool)) {
+    let (_, record) = world.records().get(place).expect(rt, "an end");
+    let found = (record.number, record.size, record.complete);
+    expect_equal(rt, &(place, found), &(place, wanted), "how far it came");
+}
+
+/// 65,534 blocks of 8 bytes and a last one of 7 are as many as have numbers: a request, its OACK
+/// and the ACK of that, DATA and ACK of each block.
+#[test]
+fn a_world_plays_65535_blocks(rt: HostRuntime) {
+    let file = many(&rt, rt.alloc(), 524_279);
+    let mut world = world_with(&rt, rt.alloc(), &file, Config::default());
+    get_in_eights(&rt, rt.alloc(), &mut world);
+    let delivered = world.settle(0, 1_000_000).expect(&rt, "all that is sent");
+    let found = (delivered, world.sent().len());
+    expect_equal(&rt, &found, &(131_073, 131_073), "datagrams");
+    has_come(&rt, &world, 0, (65_535, 8, true));
+    has_come(&rt, &world, 1, (65_535, 8, true));
+    let stored = world.stored(1024).expect(&rt, "a receiver");
+    expect(&rt, stored == file.as_slice(), "the file, whole");
+}
+
+/// One byte more is too much for 65,535 blocks, and is refused from the request port.
+#[test]
+fn a_world_refuses_more_blocks(rt: HostRuntime) {
+    let file = many(&rt, rt.alloc(), 524_280);
+    let mut world = world_with(&rt, rt.alloc(), &file, Config::default());
+    get_in_eights(&rt, rt.alloc(), &mut world);
+    let delivered = world.settle(0, 1_000).expect(&rt, "all that is sent");
+    expect_equal(&rt, &delivered, &2, "a request and its ERROR");
+    has_sent(&rt, &world, 1, b"\x00\x05\x00\x00file too large\x00");
+    has_gone(&rt, &world, 1, at_server(69), at_client(1024));
+}
+
+/// A client reads the file, and its first block is on the way.
+static READS: [Row; 2] = [
+    (Move::Get(b"a"), Some(0), None),
+    (Move::Deliver(0), Some(1), None),
+];
+
+/// Another has asked to write it: ACK 0, DATA 1, and ACK 1 behind the commit.
+static REPLACES: [Row; 3] = [
+    (Move::Deliver(2), Some(3), None),
+    (Move::Deliver(3), Some(4), None),
+    (Move::Deliver(4), Some(5), None),
+];
+
+/// The read goes on: DATA 1, ACK 1, DATA 2, ACK 2.
+static GOES_ON: [Row; 3] = [
+    (Move::Deliver(1), Some(6), None),
+    (Move::Deliver(6), Some(7), None),
+    (Move::Deliver(7), Some(8), None),
+];
+
+/// A world in which files may be replaced, whose server has 600 bytes `a` in its file.
+fn overwriting_world(rt: &impl Abort, alloc: Global) -> World {
+    let mut config = Config::default();
+    config.overwrite = true;
+    world_with(rt, alloc, &[b'a'; 600], config)
+}
+
+/// A client asks to write the byte `B` under the name of the file.
+fn put_over(rt: &impl Abort, alloc: Global, world: &mut World) {
+    let event = Event::Put {
+        name: Bytes::from_slice(alloc, b"a").expect(rt, "memory"),
+        mode: Mode::Octet,
+        asked: Asked::default(),
+        bytes: Bytes::from_slice(alloc, b"B").expect(rt, "memory"),
+    };
+    world.apply(event).expect(rt, "the request is sent");
+}
+
+/// A read goes on with the file that it opened, though another took its place.
+#[test]
+fn overwrite_rows(rt: HostRuntime) {
+    let mut world = overwriting_world(&rt, rt.alloc());
+    runs(&rt, rt.alloc(), &mut world, &READS);
+    put_over(&rt, rt.alloc(), &mut world);
+    runs(&rt, rt.alloc(), &mut world, &REPLACES);
+    keeps_file(&rt, rt.alloc(), &world, b"B");
+    runs(&rt, rt.alloc(), &mut world, &GOES_ON);
+    has_stored(&rt, &world, &[b'a'; 600]);
 }
 
 /// Events of a world in which nothing was sent and no end was opened, and the fault.
