@@ -100,11 +100,7 @@ const PACKETS: [(&[u8], &str, u8); 6] = [
         "fault Unterminated 11\n",
         1,
     ),
-    (
-        b"000161006f63746574007473697a6500",
-        "fault NoValue 16\n",
-        1,
-    ),
+    (b"000161006f63746574007473697a6500", "fault NoValue 16\n", 1),
     (b"00030000", "fault BlockZero 2\n", 1),
     (b"00040000", "ACK 0\n", 0),
     (b"000500016e6f0021", "fault Trailing 7\n", 1),
