@@ -228,7 +228,8 @@ fn print_end<R: Print + Eprint>(rt: &R, end: ClientEnd) -> io::Result<u8>
 
 /// Prints how a transfer failed, and why where that is told too, and returns the status.
 fn report<R: Print + Eprint>(rt: &R, failure: &Failure, is_verbose: bool) -> io::Result<u8>
-    ensures { IfOk result (λ status. status ≡ status_of failure.now.end) }
+    ensures status { IfOk result (λ status. status ≡ status_of failure.now.end) }
+    ensures fails { IfOk result (λ status. 1 ≤ status) }
 {
     let status = print_end(rt, failure.end)?;
     if is_verbose {

@@ -1,6 +1,7 @@
 //! Why a client's transfer failed, and what is known of the reason.
 
-ghost use Rattle.std.specs.Prelude.{◌≡◌};
+ghost use Rattle.std.specs.Prelude.{◌≡◌, ◌≤◌};
+ghost use Rattle.tftp_host.specs.ClientEnd.{status_of};
 ghost use Rattle.tftp_host.specs.declared.client_end.ClientEnd.TheVariants as ends;
 
 use std::alloc::AllocError;
@@ -33,13 +34,14 @@ impl fmt::Display for Reason {
     }
 }
 
-/// A transfer that failed, or was not opened.
+/// A transfer that failed, or was not opened: its status is not that of a complete one.
 #[derive(Drop)]
 pub(crate) struct Failure {
     /// How the program ends.
     pub(crate) end: ClientEnd,
     /// What is known of the reason.
     pub(crate) reason: Reason,
+    ghost fails: { 1 ≤ status_of end },
 }
 
 impl Failure {
