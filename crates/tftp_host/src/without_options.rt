@@ -3,17 +3,14 @@
 ghost use Rattle.std.specs.Prelude.{◌≡◌, ◌↔◌, IsTrue};
 ghost use Rattle.tftp_host.specs.Fallback.{FallsBack};
 
-use tftp_ends::Outcome;
+use tftp_ends::{ErrorReply, Outcome};
 use tftp_negotiate::Asked;
 
-/// The code of an ERROR to a request whose options are refused (RFC 2347).
-const OPTIONS_REFUSED: u16 = 8;
-
-/// Whether a transfer that ended so is followed by one without options: the peer refused options,
-/// and some were asked.
+/// Whether a transfer that ended so is followed by one without options: the peer refused options by
+/// the ERROR that is for that (RFC 2347), and some were asked.
 pub fn fallback(outcome: Outcome, asked: &Asked) -> bool
     ensures { IsTrue result ↔ FallsBack outcome asked.now }
 {
-    outcome == Outcome::PeerError(OPTIONS_REFUSED)
+    outcome == Outcome::PeerError(ErrorReply::OptionRefused.code())
         && (asked.blksize.is_some() || asked.timeout.is_some() || asked.tsize.is_some())
 }

@@ -60,12 +60,13 @@ impl Conversation {
         ensures { IfOk result (λ conversation. conversation.end.role.side ≡ end.role.side) }
     {
         let watch = Watch::new(read_clock(clock, 0));
+        let due = deadline(watch.now, Some(end.interval()));
         Ok(Conversation {
             alloc,
             socket,
             end,
             watch,
-            due: deadline(watch.now, None),
+            due,
             advanced_at: watch.now,
             buffer: Vec::from_elem(alloc, 0u8, DATAGRAM_BUFFER)?,
             lines: if shows_progress {
