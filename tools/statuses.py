@@ -249,10 +249,10 @@ def test_usage(check):
     check.has_help("tftpd")
     get = ["get", "127.0.0.1:9", "a", "fresh"]
     for option, *values in RANGES["tftp"]:
-        for value in [*values, "08", "x", ""]:
+        for value in [*values, "x", ""]:
             check.is_usage_fault("tftp", *get, f"{option}={value}")
     for option, *values in RANGES["tftpd"]:
-        for value in [*values, "08", "x", ""]:
+        for value in [*values, "x", ""]:
             check.is_usage_fault("tftpd", "served", f"{option}={value}")
     for words in [["take", *get[1:]], get[:3], [*get, "more"], [*get, "--fast"], ["get", "localhost:9", "a", "fresh"],
                   ["get", "127.0.0.1", "a", "fresh"], ["get", "127.0.0.1:65536", "a", "fresh"]]:
