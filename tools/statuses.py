@@ -15,7 +15,7 @@ from contextlib import contextmanager
 from pathlib import Path
 
 PATIENCE = 20
-RUNS_AT_LEAST = 100
+RUNS_AT_LEAST = 120
 # What a program writes of a command line that it does not understand
 USAGE = "error: "
 
