@@ -56,18 +56,19 @@ impl FaultSource {
 }
 
 impl Source for FaultSource {
-    ghost use Rattle.std.specs.Prelude.{◌≡◌, ◌≤◌, Some, Err, ⊤, vec_capacity};
+    ghost use Rattle.std.specs.Prelude.{◌≡◌, ◌≤◌, Some, Err, refl, vec_capacity};
+    ghost use Rattle.std.proofs.Common.{◌∙◌};
     ghost use Rattle.tftp_file.specs.Source.{Fills};
     ghost use Rattle.tftp_file.specs.FaultSource.{FailsAt};
 
     ghost meaning = { record { left = λ s. Some s.left; may_fail = FailsAt } };
 
-    /// It holds no borrow: this says nothing.
-    ghost is_same = { λ _ _. ⊤ };
+    /// It holds no borrow: it stays made to fail, or made not to.
+    ghost is_same = { λ s t. t.fails ≡ s.fails };
 
-    ghost stays = { λ _. tt };
+    ghost stays = { λ _. refl };
 
-    ghost joins = { λ _ _ _ _ _. tt };
+    ghost joins = { λ _ _ _ p q. q ∙ p };
 
     /// A fill that requests more than is left of a source that was made to fail answers `Read`, and
     /// takes no memory.
@@ -76,7 +77,7 @@ impl Source for FaultSource {
             out.old.items out.new.items result }
         ensures read { result ≡ Err FileFault.Read → FailsAt self.old want }
         ensures capacity { vec_capacity out.old ≤ vec_capacity out.new }
-        ensures same { ⊤ }
+        ensures same { self.new.fails ≡ self.old.fails }
         ensures fails { FailsAt self.old want → result ≡ Err FileFault.Read }
     {
         let count = want.min(self.left as usize);
