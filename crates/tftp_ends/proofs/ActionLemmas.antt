@@ -1,6 +1,7 @@
 -- What is known of the action that an end finds at a packet.
-use Rattle.std.proofs.Common.{◌≡◌, ℕ, Bool, true, false, List, [], length, drop, Option, Some, None, Result, Ok, Err, refl, sym, ap, subst, ◌≤◌, arith}
-use Rattle.std.specs.Prelude.{◌==◌, ◌&&◌, ◌+◌, ◌*◌, ◌/◌, nat_lt, nat_le, if◌then◌else◌}
+use Rattle.std.proofs.Common.{◌≡◌, ◌<◌, ◌∙◌, ℕ, Bool, true, false, List, [], length, drop, Option, Some, None, Result, Ok, Err, refl, sym, ap, subst, ◌≤◌, arith}
+use Rattle.std.proofs.lemmas.Bool.{lt-ltb, eqb-true}
+use Rattle.std.specs.Prelude.{◌==◌, ◌&&◌, ◌+◌, ◌*◌, ◌/◌, ◌||◌, not, nat_lt, nat_le, if◌then◌else◌}
 use Rattle.tftp_wire.specs.declared.packet.Packet.{Packet}
 use Rattle.tftp_wire.specs.declared.packet.Packet.TheVariants.{Read, Write, Data, Ack, Error, Oack}
 use Rattle.tftp_wire.specs.Spelling.{Spells}
@@ -23,10 +24,11 @@ use Rattle.tftp_ends.specs.declared.phase.Phase.{Phase}
 use Rattle.tftp_ends.specs.declared.phase.Phase.TheVariants.{Waiting, Sending, Receiving, Dallying, Closed}
 use Rattle.tftp_ends.specs.declared.phase.Terms.{Terms}
 use Rattle.tftp_ends.specs.Action.{Decodes, packet_action}
-use Rattle.tftp_ends.specs.End.{EndState, is_sender, is_client, terms_of}
+use Rattle.tftp_ends.specs.End.{EndState, is_sender, is_client, terms_of, number_of}
 use Rattle.tftp_ends.specs.Receiver.{receiver_action, data_action, next_action, dally_response}
 use Rattle.tftp_ends.specs.Sender.{sender_action, acked_action, illegal_action}
-use Rattle.tftp_ends.specs.Sound.{IsSound, PhaseFits, PieceFits, SentFits}
+use Rattle.tftp_ends.specs.Sound.{IsSound, PhaseFits, BytesFit, SentFits, ResendsAck, HasAcknowledged}
+use Rattle.tftp_ends.specs.Step.{ack_bytes}
 use Rattle.tftp_ends.specs.Text.{is_readable}
 use Rattle.tftp_ends.specs.Waiting.{reader_action, writer_action, accept_action, begin_action, begin_with_action, refusal_action, default_terms, agreed_terms, no_answer}
 
@@ -39,15 +41,36 @@ if_either P false r s f g = g refl
 data_behind : (number : ℕ) (piece bytes : List ℕ) → Spells (Data number piece) bytes → piece ≡ drop 4 bytes
 data_behind number piece bytes s = sym (ap (drop 4) s.whole)
 
+-- DATA has a number from 1 on
+positive : {number : ℕ} {piece bytes : List ℕ} → Spells (Data number piece) bytes → 0 < number
+positive d = let n = d.valid.0 in omega (arith, n)
+
+-- one of three
+last_true : (a b c : Bool) → c ≡ true → (a || (b || c)) ≡ true
+last_true true b c h = refl
+last_true false true c h = refl
+last_true false false c h = h
+
+first_true : (a b c : Bool) → a ≡ true → (a || (b || c)) ≡ true
+first_true a b c h = ap (λ (x : Bool). x || (b || c)) h
+
+both_first : (a b : Bool) → (a && b) ≡ true → a ≡ true
+both_first true b h = refl
+both_first false b h = h
+
 -- terms of an end that had none allow its request
 pub sent_any : (e : EndState) (terms : Option Terms) → length e.position.last_sent ≤ MAX_REQUEST → SentFits e terms
 sent_any e None w = w
 sent_any e (Some terms) w = omega (arith, w)
 
 module _ (e : EndState) (from : Endpoint) (bytes : List ℕ) where
-  -- what an action asks of the end and of the piece behind the header
+  -- what an action asks of the end and of the datagram
   abbrev Fits : Action → Type 0
-  Fits action = PieceFits e (drop 4 bytes) action
+  Fits action = BytesFit e bytes action
+
+  -- what was sent last is the ACK of the number
+  abbrev HasAcked : Type 0
+  HasAcked = e.position.last_sent ≡ ack_bytes (number_of e.position.phase)
 
   acked_fits : (terms : Terms) (number acked : ℕ) → SentFits e (Some terms) → Fits (acked_action e.role.length terms number acked)
   acked_fits terms number acked s =
@@ -67,8 +90,9 @@ module _ (e : EndState) (from : Endpoint) (bytes : List ℕ) where
   sender_fits client terms number (Some (Oack options)) s =
       if_either Fits (client && terms.by_oack) (Respond Ignore) (illegal_action terms) (λ _. tt) (λ _. s)
 
-  next_fits : (held : List ℕ) (terms : Terms) (number : ℕ) (piece : List ℕ) → SentFits e (Some terms) → e.position.held ≡ held → piece ≡ drop 4 bytes → Fits (next_action e.role.mode held terms number piece)
-  next_fits held terms number piece s h p =
+  next_fits : (held : List ℕ) (terms : Terms) (number : ℕ) (piece : List ℕ) → SentFits e (Some terms) → e.position.held ≡ held → Spells (Data number piece) bytes → Fits (next_action e.role.mode held terms number piece)
+  next_fits held terms number piece s h d =
+      let p = data_behind number piece bytes d in
       let last = nat_lt (length piece) terms.size in
       let store = if is_readable e.role.mode held piece last then Store terms number else Respond (Refuse (Some terms) NotNetascii outcomes.NotNetascii) in
       let fitting = if number == 65535 && (length piece == terms.size) then Respond (Refuse (Some terms) FileTooLarge outcomes.TooLarge) else store in
@@ -77,31 +101,37 @@ module _ (e : EndState) (from : Endpoint) (bytes : List ℕ) where
       (λ _. if_either Fits (is_readable e.role.mode held piece last) (Store terms number) (Respond (Refuse (Some terms) NotNetascii outcomes.NotNetascii))
       (λ readable. (
         s,
-        subst (λ (t : List ℕ). is_readable e.role.mode t (drop 4 bytes) (nat_lt (length (drop 4 bytes)) terms.size) ≡ true) (sym h)
-            (subst (λ (t : List ℕ). is_readable e.role.mode held t (nat_lt (length t) terms.size) ≡ true) p readable),
+        record {
+          spelled = subst (λ (t : List ℕ). Spells (Data number t) bytes) p d;
+          readable = subst (λ (t : List ℕ). is_readable e.role.mode t (drop 4 bytes) (nat_lt (length (drop 4 bytes)) terms.size) ≡ true) (sym h)
+              (subst (λ (t : List ℕ). is_readable e.role.mode held t (nat_lt (length t) terms.size) ≡ true) p readable);
+        },
       ))
       (λ _. s)))
 
-  data_fits : (held : List ℕ) (terms : Terms) (stored number : ℕ) (piece : List ℕ) → SentFits e (Some terms) → e.position.held ≡ held → piece ≡ drop 4 bytes → Fits (data_action e.role.mode held terms stored number piece)
-  data_fits held terms stored number piece s h p =
+  data_fits : (held : List ℕ) (terms : Terms) (stored number : ℕ) (piece : List ℕ) → SentFits e (Some terms) → e.position.held ≡ held → (0 < stored → HasAcked) → Spells (Data number piece) bytes → Fits (data_action e.role.mode held terms stored number piece)
+  data_fits held terms stored number piece s h acked d =
       let next = if number == stored + 1 then next_action e.role.mode held terms number piece else illegal_action terms in
       let other = if nat_lt number stored then Respond Ignore else next in
-      if_either Fits (number == stored) (Respond ResendReply) other (λ _. tt)
+      if_either Fits (number == stored) (Respond ResendReply) other (λ same. acked (subst (λ (k : ℕ). 0 < k) (eqb-true number stored same) (positive d)))
       (λ _. if_either Fits (nat_lt number stored) (Respond Ignore) next (λ _. tt)
       (λ _. if_either Fits (number == stored + 1) (next_action e.role.mode held terms number piece) (illegal_action terms)
-      (λ _. next_fits held terms number piece s h p) (λ _. s)))
+      (λ _. next_fits held terms number piece s h d) (λ _. s)))
 
-  receiver_fits : (client : Bool) (held : List ℕ) (terms : Terms) (stored : ℕ) (decoded : Option Packet) → SentFits e (Some terms) → e.position.held ≡ held → Decodes bytes decoded → Fits (receiver_action client e.role.mode held terms stored decoded)
-  receiver_fits client held terms stored None s h d = s
-  receiver_fits client held terms stored (Some (Read r)) s h d = s
-  receiver_fits client held terms stored (Some (Write r)) s h d = s
-  receiver_fits client held terms stored (Some (Data number piece)) s h d = data_fits held terms stored number piece s h (data_behind number piece bytes d)
-  receiver_fits client held terms stored (Some (Ack acked)) s h d = s
-  receiver_fits client held terms stored (Some (Error code text)) s h d = tt
-  receiver_fits client held terms stored (Some (Oack options)) s h d =
+  receiver_fits : (client : Bool) (held : List ℕ) (terms : Terms) (stored : ℕ) (decoded : Option Packet) → SentFits e (Some terms) → e.position.held ≡ held →
+      ((client || (not terms.by_oack || nat_lt 0 stored)) ≡ true → HasAcked) → Decodes bytes decoded → Fits (receiver_action client e.role.mode held terms stored decoded)
+  receiver_fits client held terms stored None s h acked d = s
+  receiver_fits client held terms stored (Some (Read r)) s h acked d = s
+  receiver_fits client held terms stored (Some (Write r)) s h acked d = s
+  receiver_fits client held terms stored (Some (Data number piece)) s h acked d =
+      data_fits held terms stored number piece s h (λ l. acked (last_true client (not terms.by_oack) (nat_lt 0 stored) (lt-ltb 0 stored l))) d
+  receiver_fits client held terms stored (Some (Ack acked_now)) s h acked d = s
+  receiver_fits client held terms stored (Some (Error code text)) s h acked d = tt
+  receiver_fits client held terms stored (Some (Oack options)) s h acked d =
       let again = if stored == 0 then Respond ResendReply else Respond Ignore in
       if_either Fits (client && terms.by_oack) again (illegal_action terms)
-      (λ _. if_either Fits (stored == 0) (Respond ResendReply) (Respond Ignore) (λ _. tt) (λ _. tt)) (λ _. s)
+      (λ both. if_either Fits (stored == 0) (Respond ResendReply) (Respond Ignore)
+      (λ _. acked (first_true client (not terms.by_oack) (nat_lt 0 stored) (both_first client terms.by_oack both))) (λ _. tt)) (λ _. s)
 
   refusal_fits : (refusal : Refusal) → length e.position.last_sent ≤ MAX_REQUEST → Fits (refusal_action refusal)
   refusal_fits refusals.Repeated w = w
@@ -128,7 +158,7 @@ module _ (e : EndState) (from : Endpoint) (bytes : List ℕ) where
   reader_fits asked limit (Some (Data number piece)) w h d =
       let first = receiver_action true e.role.mode [] (default_terms from) 0 (Some (Data number piece)) in
       if_either Fits (number == 1 && nat_le (length piece) DEFAULT_BLOCK) first no_answer
-      (λ _. receiver_fits true [] (default_terms from) 0 (Some (Data number piece)) (sent_any e (Some (default_terms from)) w) h d) (λ _. w)
+      (λ _. data_fits [] (default_terms from) 0 number piece (sent_any e (Some (default_terms from)) w) h (λ l. absurd (let no : ⊥ = omega (arith, l) in no)) d) (λ _. w)
   reader_fits asked limit (Some (Ack acked)) w h d = w
   reader_fits asked limit (Some (Error code text)) w h d = tt
   reader_fits asked limit (Some (Oack options)) w h d = accept_fits (agreement asked kinds.Read e.role.mode options limit) w
@@ -143,23 +173,33 @@ module _ (e : EndState) (from : Endpoint) (bytes : List ℕ) where
   writer_fits asked limit (Some (Error code text)) w = tt
   writer_fits asked limit (Some (Oack options)) w = begin_with_fits e.role.length (agreement asked kinds.Write e.role.mode options limit) w
 
-  phase_fits : (decoded : Option Packet) (phase : Phase) → PhaseFits e phase → SentFits e (terms_of phase) → Decodes bytes decoded → Fits (packet_action e from decoded phase)
-  phase_fits decoded (Waiting asked limit) fits s d =
+  -- what an end sent last, where it has acknowledged what it stored
+  has_acked : (terms : Terms) (number : ℕ) → number_of e.position.phase ≡ number → HasAcknowledged e terms number → (is_client e.role.side || (not terms.by_oack || nat_lt 0 number)) ≡ true → HasAcked
+  has_acked terms number same acknowledged may = acknowledged may ∙ ap ack_bytes (sym same)
+
+  dally_fits : (terms : Terms) (number : ℕ) (decoded : Option Packet) → number_of e.position.phase ≡ number → HasAcknowledged e terms number → Decodes bytes decoded → Fits (Respond (dally_response number decoded))
+  dally_fits terms number None same acknowledged d = tt
+  dally_fits terms number (Some (Read r)) same acknowledged d = tt
+  dally_fits terms number (Some (Write r)) same acknowledged d = tt
+  dally_fits terms number (Some (Data n piece)) same acknowledged d =
+      if_either (λ (r : Response). Fits (Respond r)) (n == number) ResendReply Ignore
+      (λ is. has_acked terms number same acknowledged
+      (last_true (is_client e.role.side) (not terms.by_oack) (nat_lt 0 number) (lt-ltb 0 number (subst (λ (k : ℕ). 0 < k) (eqb-true n number is) (positive d)))))
+      (λ _. tt)
+  dally_fits terms number (Some (Ack acked)) same acknowledged d = tt
+  dally_fits terms number (Some (Error code text)) same acknowledged d = tt
+  dally_fits terms number (Some (Oack options)) same acknowledged d = tt
+
+  phase_fits : (decoded : Option Packet) (phase : Phase) → number_of e.position.phase ≡ number_of phase → PhaseFits e phase → ResendsAck e phase → SentFits e (terms_of phase) → Decodes bytes decoded → Fits (packet_action e from decoded phase)
+  phase_fits decoded (Waiting asked limit) same fits resends s d =
       if_either Fits (is_sender e.role.side) (writer_action e.role.mode asked limit e.role.length from decoded) (reader_action e.role.mode asked limit from decoded)
       (λ _. writer_fits asked limit decoded s) (λ _. reader_fits asked limit decoded s fits.2 d)
-  phase_fits decoded (Sending terms number) fits s d = sender_fits (is_client e.role.side) terms number decoded s
-  phase_fits decoded (Receiving terms number) fits s d = receiver_fits (is_client e.role.side) e.position.held terms number decoded s refl d
-  phase_fits decoded (Dallying terms number dally) fits s d = dally_fits decoded where
-    dally_fits : (decoded : Option Packet) → Fits (Respond (dally_response number decoded))
-    dally_fits None = tt
-    dally_fits (Some (Read r)) = tt
-    dally_fits (Some (Write r)) = tt
-    dally_fits (Some (Data n piece)) = if_either (λ (r : Response). Fits (Respond r)) (n == number) ResendReply Ignore (λ _. tt) (λ _. tt)
-    dally_fits (Some (Ack acked)) = tt
-    dally_fits (Some (Error code text)) = tt
-    dally_fits (Some (Oack options)) = tt
-  phase_fits decoded (Closed terms number complete outcome) fits s d = tt
+  phase_fits decoded (Sending terms number) same fits resends s d = sender_fits (is_client e.role.side) terms number decoded s
+  phase_fits decoded (Receiving terms number) same fits resends s d =
+      receiver_fits (is_client e.role.side) e.position.held terms number decoded s refl (has_acked terms number same resends) d
+  phase_fits decoded (Dallying terms number dally) same fits resends s d = dally_fits terms number decoded same resends d
+  phase_fits decoded (Closed terms number complete outcome) same fits resends s d = tt
 
   -- whatever an end finds at a packet
   pub packet_fits : (decoded : Option Packet) → IsSound e → Decodes bytes decoded → Fits (packet_action e from decoded e.position.phase)
-  packet_fits decoded sound d = phase_fits decoded e.position.phase sound.phase sound.sent d
+  packet_fits decoded sound d = phase_fits decoded e.position.phase refl sound.phase sound.resends sound.sent d

@@ -1,5 +1,5 @@
 -- What one step of an end leaves of it.
-use Rattle.std.proofs.Common.{◌≡◌, ℕ, ◌+◌, ◌*◌, ◌/◌, ◌<◌, ◌≤◌, Bool, true, false, List, [], length, drop, Option, Some, None, Result, Ok, Err, refl, sym, ap, ◌∙◌, subst, arith}
+use Rattle.std.proofs.Common.{◌≡◌, ℕ, ◌+◌, ◌*◌, ◌/◌, ◌<◌, ◌≤◌, Bool, true, false, List, [], length, Option, Some, None, Result, Ok, Err, refl, sym, ap, ◌∙◌, subst, arith}
 use Rattle.std.specs.Prelude.{◌==◌, ◌&&◌, nat_lt, nat_le, if◌then◌else◌, is_some, is_none}
 use Rattle.std.proofs.lemmas.Bool.{true≢false, ltb-true, lt-ltb, le-ltb, eqb-true}
 use Rattle.std.proofs.Math.Nat.{div-lt_iff_lt-mul}
@@ -239,10 +239,10 @@ module _ {S K : Type 0} (sources : SourceMeaning S) (sinks : SinkMeaning K)
 
   stores : (terms : Terms) (number : ℕ) → is_sender e.role.side ≡ false → number ≤ 65535 → rank e.position.phase ≤ number → waits e.position.phase ≡ 0 → Moving (Store terms number)
   stores terms number r n l w turn (Sink sink) (Sink sink') h =
-      stored terms number (nat_lt (length (drop 4 bytes)) terms.size) h.after h.mid sink' h.answer turn r n l w h.rest
-  stores terms number r n l w turn (Sink sink) (Source source') h = absurd h
-  stores terms number r n l w turn (Source source) (Sink sink') h = absurd h
-  stores terms number r n l w turn (Source source) (Source source') h = absurd h
+      stored terms number (nat_lt (length h.0) terms.size) h.2.after h.2.mid sink' h.2.answer turn r n l w h.2.rest
+  stores terms number r n l w turn (Sink sink) (Source source') h = absurd h.2
+  stores terms number r n l w turn (Source source) (Sink sink') h = absurd h.2
+  stores terms number r n l w turn (Source source) (Source source') h = absurd h.2
 
 -- ---- an end by its phase
 module _ {S K : Type 0} (sources : SourceMeaning S) (sinks : SinkMeaning K)

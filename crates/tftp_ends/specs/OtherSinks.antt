@@ -81,7 +81,7 @@ module _ {S T K L : Type 0} (sources : SourceMeaning S) (sinks : SinkMeaning K) 
         DatagramStep sources sinks from bytes e (Source s) turn (Source s') →
         DatagramStep sources' sinks' from bytes e (Source (source_as s)) turn (Source (source_as s'))
     source_step_as from bytes e s turn s' h =
-        record { decoded = h.decoded; says = h.says; acts = source_acts_as _ from bytes e s turn s' h.acts }
+        record { decoded = h.decoded; says = h.says; acts = source_acts_as _ from bytes e s turn s' h.acts; again = h.again }
 
     -- a source that tells the same as before is seen as one that does
     pub source_keeps_as : (s s' : S) → KeepsFiles sources sinks (Source s) (Source s') →
@@ -144,14 +144,14 @@ module _ {S T K L : Type 0} (sources : SourceMeaning S) (sinks : SinkMeaning K) 
         Acts sources' sinks' action from bytes e (Sink (sink_as k)) turn (Sink (sink_as k'))
     sink_acts_as (Respond response) from bytes e k turn k' p h = (h.0, ap (λ (f : Files S K). Sink (sink_as (sink_or k f))) h.1)
     sink_acts_as (Send terms number) from bytes e k turn k' p h = h
-    sink_acts_as (Store terms number) from bytes e k turn k' p h = stores_as terms number from _ e k turn k' p h
+    sink_acts_as (Store terms number) from bytes e k turn k' p h = (h.0, h.1, stores_as terms number from h.0 e k turn k' p h.2)
 
     -- a step with the one sink is a step with the other
     pub sink_step_as : (from : Endpoint) (bytes : List ℕ) (e : EndState) (k : K) (turn : Turn) (k' : K) → holds k →
         DatagramStep sources sinks from bytes e (Sink k) turn (Sink k') →
         DatagramStep sources' sinks' from bytes e (Sink (sink_as k)) turn (Sink (sink_as k'))
     sink_step_as from bytes e k turn k' p h =
-        record { decoded = h.decoded; says = h.says; acts = sink_acts_as _ from bytes e k turn k' p h.acts }
+        record { decoded = h.decoded; says = h.says; acts = sink_acts_as _ from bytes e k turn k' p h.acts; again = h.again }
 
     -- a sink that tells the same as before is seen as one that does
     pub sink_keeps_as : (k k' : K) → holds k → KeepsFiles sources sinks (Sink k) (Sink k') →
@@ -184,4 +184,4 @@ module _ {S T K L : Type 0} (sources : SourceMeaning S) (sinks : SinkMeaning K) 
         DatagramStep sources sinks from bytes e files turn files' →
         DatagramStep sources' sinks' from bytes e (seen_as source_as sink_as files) turn (seen_as source_as sink_as files')
     step_as from bytes e files turn files' p h =
-        record { decoded = h.decoded; says = h.says; acts = acts_as _ from bytes e files turn files' p h.acts }
+        record { decoded = h.decoded; says = h.says; acts = acts_as _ from bytes e files turn files' p h.acts; again = h.again }

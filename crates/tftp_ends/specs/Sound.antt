@@ -1,8 +1,10 @@
 -- What holds of every end between two events, and of every action that it finds.
-use Rattle.std.specs.Prelude.{ℕ, ◌≡◌, ◌+◌, ◌*◌, ◌<◌, ◌≤◌, max, ◌||◌, nat_lt, not, true, false, List, [], length, Option, Some, None}
+use Rattle.std.specs.Prelude.{ℕ, ◌≡◌, ◌+◌, ◌*◌, ◌<◌, ◌≤◌, max, ◌||◌, nat_lt, not, true, false, List, [], length, drop, Option, Some, None}
 use Rattle.tftp_wire.specs.declared.limits.TheConstants.{HEADER, MAX_REQUEST}
+use Rattle.tftp_wire.specs.Spelling.{Spells}
 use Rattle.tftp_wire.specs.declared.mode.Mode.{Mode}
 use Rattle.tftp_wire.specs.declared.mode.Mode.TheVariants.{Octet, Netascii}
+use Rattle.tftp_wire.specs.declared.packet.Packet.TheVariants.{Data}
 use Rattle.tftp_file.specs.Decoding.{IsHeld}
 use Rattle.tftp_negotiate.specs.Asked.{IsAskable}
 use Rattle.tftp_ends.specs.declared.phase.Phase.{Phase}
@@ -10,9 +12,9 @@ use Rattle.tftp_ends.specs.declared.phase.Phase.TheVariants.{Waiting, Sending, R
 use Rattle.tftp_ends.specs.declared.action.Action.{Action}
 use Rattle.tftp_ends.specs.declared.action.Action.TheVariants.{Respond, Send, Store}
 use Rattle.tftp_ends.specs.declared.action.Response.{Response}
-use Rattle.tftp_ends.specs.declared.action.Response.TheVariants.{Retransmit, Refuse, Accept}
+use Rattle.tftp_ends.specs.declared.action.Response.TheVariants.{ResendReply, Retransmit, Refuse, Accept}
 use Rattle.tftp_ends.specs.declared.phase.Terms.{Terms}
-use Rattle.tftp_ends.specs.End.{EndState, is_sender, is_client, terms_of}
+use Rattle.tftp_ends.specs.End.{EndState, is_sender, is_client, terms_of, number_of}
 use Rattle.tftp_ends.specs.Step.{ack_bytes}
 use Rattle.tftp_ends.specs.Text.{is_readable}
 
@@ -75,17 +77,22 @@ ActionFits e (Store terms number) = is_sender e.role.side ≡ false
 abbrev pub SentFits : EndState → Option Terms → Type 0
 SentFits e terms = length e.position.last_sent ≤ longest_sent terms
 
--- the same, of what an end does where no file is touched
-abbrev pub RefusalFits : EndState → Response → Type 0
-RefusalFits e (Refuse terms reply outcome) = SentFits e terms
-RefusalFits e _ = Unit {0}
+-- the same, of what an end does where no file is touched; the reply that it resends is the ACK of its number
+abbrev pub ReplyFits : EndState → Response → Type 0
+ReplyFits e (Refuse terms reply outcome) = SentFits e terms
+ReplyFits e ResendReply = e.position.last_sent ≡ ack_bytes (number_of e.position.phase)
+ReplyFits e _ = Unit {0}
 
--- a piece that is to be stored goes on with the text, and terms are those that the end had
-abbrev pub PieceFits : EndState → List ℕ → Action → Type 0
-PieceFits e piece (Respond response) = RefusalFits e response
-PieceFits e piece (Send terms number) = SentFits e (Some terms)
-PieceFits e piece (Store terms number) =
-    SentFits e (Some terms) × (is_readable e.role.mode e.position.held piece (nat_lt (length piece) terms.size) ≡ true)
+-- the bytes of the DATA that is to be stored go on with the text
+pub record BlockFits (e : EndState) (bytes : List ℕ) (terms : Terms) (number : ℕ) : Type 0 where
+  pub spelled : Spells (Data number (drop 4 bytes)) bytes
+  pub readable : is_readable e.role.mode e.position.held (drop 4 bytes) (nat_lt (length (drop 4 bytes)) terms.size) ≡ true
+
+-- the same, of any action at a datagram of these bytes
+abbrev pub BytesFit : EndState → List ℕ → Action → Type 0
+BytesFit e bytes (Respond response) = ReplyFits e response
+BytesFit e bytes (Send terms number) = SentFits e (Some terms)
+BytesFit e bytes (Store terms number) = SentFits e (Some terms) × BlockFits e bytes terms number
 
 -- what a sender does at a packet where no file is touched
 abbrev pub IsSenders : Response → Type 0

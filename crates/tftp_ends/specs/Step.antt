@@ -1,8 +1,8 @@
 -- What an end is after an event, and what it answers.
-use Rattle.std.specs.Prelude.{ℕ, ◌≡◌, ◌≢◌, ◌≤◌, ◌+◌, ◌-◌, ◌*◌, min, nat_lt, ◌==◌, Bool, true, false, if◌then◌else◌, List, [], ◌∷◌, ◌++◌, length, drop, Option, Some, None, Result, Ok, Err, IfErr, is_ok, option_map}
+use Rattle.std.specs.Prelude.{ℕ, ◌≡◌, ◌≢◌, ◌≤◌, ◌+◌, ◌-◌, ◌*◌, min, nat_lt, ◌==◌, Bool, true, false, if◌then◌else◌, List, [], ◌∷◌, ◌++◌, length, Option, Some, None, Result, Ok, Err, IfErr, is_ok, option_map}
 use Rattle.tftp_wire.specs.declared.packet.Packet.{Packet}
 use Rattle.tftp_wire.specs.declared.packet.Packet.TheVariants.{Data, Ack}
-use Rattle.tftp_wire.specs.Spelling.{canonical}
+use Rattle.tftp_wire.specs.Spelling.{Spells, canonical}
 use Rattle.tftp_file.specs.declared.fault.FileFault.{FileFault}
 use Rattle.tftp_file.specs.declared.fault.FileFault.TheVariants as file_faults
 use Rattle.tftp_file.specs.declared.fault.StoreFault.{StoreFault}
@@ -23,7 +23,7 @@ use Rattle.tftp_ends.specs.declared.action.Response.{Response}
 use Rattle.tftp_ends.specs.declared.action.Response.TheVariants.{Ignore, Stranger, ResendReply, Retransmit, Wait, Close, Refuse, Accept, Complete}
 use Rattle.tftp_ends.specs.declared.outgoing.Outgoing.{Outgoing}
 use Rattle.tftp_ends.specs.declared.outgoing.Outgoing.TheVariants.{Nothing, LastSent, Error}
-use Rattle.tftp_ends.specs.End.{Position, EndState, is_progress, step_of}
+use Rattle.tftp_ends.specs.End.{Position, EndState, number_of, is_progress, step_of}
 use Rattle.tftp_ends.specs.ErrorReply.{error_packet}
 use Rattle.tftp_ends.specs.Phase.{closed, refused, completed, waited}
 use Rattle.tftp_ends.specs.Action.{Decodes, datagram_action, timeout_response}
@@ -100,6 +100,25 @@ pub record Turn : Type 0 where
 -- the end after a turn
 abbrev pub after_turn : EndState → Turn → EndState
 after_turn e turn = with_position turn.position e
+
+-- an answer is the ACK of this number
+abbrev pub IsAck : ℕ → Option Reply → Type 0
+IsAck number None = ⊥
+IsAck number (Some reply) = reply.bytes ≡ ack_bytes number
+
+-- what answers a datagram that came again is the ACK of the number
+abbrev pub AcksAgain : EndState → Turn → Action → Type 0
+AcksAgain e turn (Respond ResendReply) = IsAck (number_of e.position.phase) turn.reply
+AcksAgain e turn (Respond Ignore) = Unit {0}
+AcksAgain e turn (Respond Stranger) = Unit {0}
+AcksAgain e turn (Respond Retransmit) = Unit {0}
+AcksAgain e turn (Respond Wait) = Unit {0}
+AcksAgain e turn (Respond (Close outcome)) = Unit {0}
+AcksAgain e turn (Respond (Refuse terms reply outcome)) = Unit {0}
+AcksAgain e turn (Respond (Accept terms)) = Unit {0}
+AcksAgain e turn (Respond Complete) = Unit {0}
+AcksAgain e turn (Send terms number) = Unit {0}
+AcksAgain e turn (Store terms number) = Unit {0}
 
 -- the turn of what touches no file
 abbrev pub response_turn : Response → Endpoint → EndState → Turn
@@ -211,17 +230,20 @@ module _ {S K : Type 0} (sources : SourceMeaning S) (sinks : SinkMeaning K) wher
   StoresIn terms number from piece e (Sink sink) turn (Sink sink') = Stores sinks terms number from piece e sink turn sink'
   StoresIn terms number from piece e _ turn _ = ⊥
 
-  -- what an end does at an action, where a datagram of these bytes came from there
+  -- what an end does at an action, where a datagram of these bytes came from there; what it stores is the data of the
+  -- DATA that they spell
   abbrev pub Acts : Action → Endpoint → List ℕ → EndState → Files S K → Turn → Files S K → Type 0
   Acts (Respond response) from bytes e files turn files' = (turn ≡ response_turn response from e) × (files' ≡ files)
   Acts (Send terms number) from bytes e files turn files' = SendsFrom terms number from e files turn files'
-  Acts (Store terms number) from bytes e files turn files' = StoresIn terms number from (drop 4 bytes) e files turn files'
+  Acts (Store terms number) from bytes e files turn files' =
+      (piece : List ℕ) × Spells (Data number piece) bytes × StoresIn terms number from piece e files turn files'
 
   -- what an open end does at a datagram
   pub record DatagramStep (from : Endpoint) (bytes : List ℕ) (e : EndState) (files : Files S K) (turn : Turn) (files' : Files S K) : Type 0 where
     pub decoded : Option Packet
     pub says : Decodes bytes decoded
     pub acts : Acts (datagram_action e from bytes decoded) from bytes e files turn files'
+    pub again : AcksAgain e turn (datagram_action e from bytes decoded)
 
 -- what an open end does at a timeout
 abbrev pub timeout_turn : EndState → Turn

@@ -6,7 +6,7 @@ mod sending;
 mod serving;
 mod storing;
 
-ghost use Rattle.std.specs.Prelude.{◌≡◌, ◌↔◌, ◌+◌, ◌++◌, ◌≤◌, drop, length, option_map, Option};
+ghost use Rattle.std.specs.Prelude.{◌≡◌, ◌↔◌, ◌+◌, ◌++◌, ◌≤◌, length, option_map, Option};
 ghost use Rattle.std.specs.Prelude.{IfOk, OnErr, IsErrOf, IsSome, is_some, vec_len, vec_capacity};
 ghost use Rattle.tftp_wire.specs.Borrowed.{owned};
 ghost use Rattle.tftp_wire.specs.declared.packet.Packet.{Packet};
@@ -83,7 +83,7 @@ impl End {
     ghost use Rattle.tftp_ends.specs.Action.{Decodes, datagram_action, packet_action};
     ghost use Rattle.tftp_ends.specs.Action.{garbled_response, is_stranger, timeout_response};
     ghost use Rattle.tftp_ends.specs.Action.{timeout_action};
-    ghost use Rattle.tftp_ends.specs.Sound.{IsSound, ActionFits, PieceFits, RefusalFits};
+    ghost use Rattle.tftp_ends.specs.Sound.{IsSound, ActionFits, BytesFit, ReplyFits};
     ghost use Rattle.tftp_ends.specs.Sound.{ResponseFits, ResendsAck, longest_sent};
     ghost use Rattle.tftp_ends.specs.Files.{AreFilesOf, KeepsFiles, AreSame};
     ghost use Rattle.tftp_ends.specs.Step.{Turn, DatagramStep, Carries, Lends, IsAnswered};
@@ -198,7 +198,7 @@ impl End {
         ensures action { (decoded : Option Packet) × Decodes bytes.now decoded
             × (result ≡ datagram_action self.now from bytes.now decoded) }
         ensures fits { ActionFits self.now result }
-        ensures piece { PieceFits self.now (drop 4 bytes.now) result }
+        ensures bytes { BytesFit self.now bytes.now result }
     {
         let decoded = decode_packet(bytes);
         let is_error = has_error_opcode(bytes);
@@ -220,7 +220,7 @@ impl End {
         ensures response { result ≡ timeout_response self.now.position.retries_left
             self.now.position.phase }
         ensures fits { ResponseFits self.now result }
-        ensures refusal { RefusalFits self.now result }
+        ensures reply { ReplyFits self.now result }
     {
         match self.phase {
             Phase::Dallying {

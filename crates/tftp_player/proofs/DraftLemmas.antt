@@ -1,5 +1,5 @@
 -- What a turn of a server's end makes of its draft and of the server's files.
-use Rattle.std.proofs.Common.{◌≡◌, ℕ, Bool, true, false, List, [], ◌∷◌, Option, Some, None, Result, Ok, Err, refl, sym, ap, ◌∙◌, subst}
+use Rattle.std.proofs.Common.{length, ◌≡◌, ℕ, Bool, true, false, List, [], ◌∷◌, Option, Some, None, Result, Ok, Err, refl, sym, ap, ◌∙◌, subst}
 use Rattle.std.specs.Prelude.{◌&&◌, ◌==◌, not, if◌then◌else◌, is_none, is_ok, nat_lt, ⊤}
 use Rattle.std.proofs.lemmas.Bool.{true≢false}
 use Rattle.std.proofs.lemmas.Option.{same_Some}
@@ -209,7 +209,7 @@ module _ (from : Endpoint) (bytes : List ℕ) (e : EndState) (turn : Turn) (d d'
   acts_leaves : (action : Action) → d.draft.committed ≡ false → ActsSo action → Leaves turn d d'
   acts_leaves (Respond response) un h = leaves_same turn d d' (ap sink_in h.1) (λ incomplete. un)
   acts_leaves (Send terms number) un h = absurd h
-  acts_leaves (Store terms number) un h = goes_leaves terms number (nat_lt _ terms.size) h.after h.mid h.answer un (appended_un h.bytes h.mid h.answer un h.appended) h.rest
+  acts_leaves (Store terms number) un h = goes_leaves terms number (nat_lt (length h.0) terms.size) h.2.after h.2.mid h.2.answer un (appended_un h.2.bytes h.2.mid h.2.answer un h.2.appended) h.2.rest
 
   rests_leaves : (action : Action) → Rests action from e → (is_complete e.position.phase ≡ false → d.draft.committed ≡ false) → ActsSo action → Leaves turn d d'
   rests_leaves action r commits h =

@@ -87,21 +87,26 @@ stores = takes w2 1 0 d1 client turn3 (Sink held3) files refl refl refl
     (record {
       decoded = Some (packet_in d1.bytes);
       says = fault_where_nothing d1.bytes (bytes_below d1.bytes refl) refl;
-      acts = record {
-        bytes = file;
-        after = [];
-        mid = record { bytes = file; committed = false; refuses = false };
-        answer = Ok done;
-        decoded = (inl refl, refl);
-        appended = (refl, tt, tt);
-        memory = λ e. absurd (cc);
-        rest = record { answer = Ok done; commits = refl; refused = tt; leaves = tt; answers = refl };
-      };
+      acts = (
+        file,
+        fault_where_nothing d1.bytes (bytes_below d1.bytes refl) refl,
+        record {
+          bytes = file;
+          after = [];
+          mid = record { bytes = file; committed = false; refuses = false };
+          answer = Ok done;
+          decoded = (inl refl, refl);
+          appended = (refl, tt, tt);
+          memory = λ e. absurd (cc);
+          rest = record { answer = Ok done; commits = refl; refused = tt; leaves = tt; answers = refl };
+        },
+      );
+      again = tt;
     }) refl
 
 completes : WorldStep w3 (Deliver 2) (report_of w3 server turn4) w4
 completes = takes w3 2 1 d2 server turn4 (Source []) files refl refl refl
-    (record { decoded = Some (packet_in d2.bytes); says = fault_where_nothing d2.bytes (bytes_below d2.bytes refl) refl; acts = (refl, refl) }) refl
+    (record { decoded = Some (packet_in d2.bytes); says = fault_where_nothing d2.bytes (bytes_below d2.bytes refl) refl; acts = (refl, refl); again = tt }) refl
 
 pub netascii_transfers : Transfers (Get name Netascii nothing_asked) file
 netascii_transfers = (

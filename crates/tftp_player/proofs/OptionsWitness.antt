@@ -144,7 +144,7 @@ oack_spelled = fault_where_nothing d1.bytes (bytes_below d1.bytes (rw eight refl
 accepts : WorldStep w2 (Deliver 1) (report_of w2 client turn3) w3
 unfolding places_of name_of taken_option
 accepts = takes w2 1 0 d1 client turn3 (Sink empty) files refl refl refl
-    (record { decoded = Some (packet_in d1.bytes); says = oack_spelled; acts = rw (eight, read_8) (refl, refl) }) refl
+    (record { decoded = Some (packet_in d1.bytes); says = oack_spelled; acts = rw (eight, read_8) (refl, refl); again = rw (eight, read_8) tt }) refl
 
 sends : WorldStep w3 (Deliver 2) (report_of w3 server turn4) w4
 sends = takes w3 2 1 d2 server turn4 (Source []) files refl refl refl
@@ -157,6 +157,7 @@ sends = takes w3 2 1 d2 server turn4 (Source []) files refl refl refl
         reads = record { fills = record { count = refl; given = refl; rest = refl }; read = λ e. absurd (cc); memory = λ e. absurd (cc) };
         answers = refl;
       };
+      again = tt;
     }) refl
 
 stores : WorldStep w4 (Deliver 3) (report_of w4 receiving turn5) w5
@@ -164,21 +165,26 @@ stores = takes w4 3 0 d3 receiving turn5 (Sink stored) files refl refl refl
     (record {
       decoded = Some (packet_in d3.bytes);
       says = fault_where_nothing d3.bytes (bytes_below d3.bytes refl) refl;
-      acts = record {
-        bytes = file;
-        after = [];
-        mid = record { bytes = file; committed = false; refuses = false };
-        answer = Ok done;
-        decoded = (refl, refl);
-        appended = (refl, tt, tt);
-        memory = λ e. absurd (cc);
-        rest = record { answer = Ok done; commits = refl; refused = tt; leaves = tt; answers = refl };
-      };
+      acts = (
+        file,
+        fault_where_nothing d3.bytes (bytes_below d3.bytes refl) refl,
+        record {
+          bytes = file;
+          after = [];
+          mid = record { bytes = file; committed = false; refuses = false };
+          answer = Ok done;
+          decoded = (refl, refl);
+          appended = (refl, tt, tt);
+          memory = λ e. absurd (cc);
+          rest = record { answer = Ok done; commits = refl; refused = tt; leaves = tt; answers = refl };
+        },
+      );
+      again = tt;
     }) refl
 
 completes : WorldStep w5 (Deliver 4) (report_of w5 sending turn6) w6
 completes = takes w5 4 1 d4 sending turn6 (Source []) files refl refl refl
-    (record { decoded = Some (packet_in d4.bytes); says = fault_where_nothing d4.bytes (bytes_below d4.bytes refl) refl; acts = (refl, refl) }) refl
+    (record { decoded = Some (packet_in d4.bytes); says = fault_where_nothing d4.bytes (bytes_below d4.bytes refl) refl; acts = (refl, refl); again = tt }) refl
 
 pub options_transfer : Transfers (Get name Octet blocks_of_8) file
 options_transfer = (

@@ -178,7 +178,7 @@ module _ (views : List EndView) (messages : List Message) (k : ℕ) (x0 : OpenEn
       (λ f. refuse_receiver replies.FileTooLarge outcomes.TooLarge)
       (λ f. if_acts P (is_readable x0.state.role.mode x0.state.position.held piece last) (Store terms number) (Respond (Refuse (Some terms) replies.NotNetascii outcomes.NotNetascii))
       (λ readable turn held h. block_goes views messages k receiver terms number from piece kept got readable refuses_commit turn held
-      (subst (λ (bs : List ℕ). StoresIn memory_source (world_sink refuses_commit) terms number from bs receiver.state (files_of receiver) turn held) (data_of number piece bytes spelled) h))
+      (subst (λ (bs : List ℕ). StoresIn memory_source (world_sink refuses_commit) terms number from bs receiver.state (files_of receiver) turn held) (sym (data_of number h.0 bytes h.1) ∙ data_of number piece bytes spelled) h.2))
       (λ g. refuse_receiver replies.NotNetascii outcomes.NotNetascii)))
 
   data_acts : (number : ℕ) (piece : List ℕ) → Spells (Data number piece) bytes → Contains messages (message from x0.address (Says_data number piece)) →

@@ -251,7 +251,7 @@ module _ (w v : WorldState) (k : ℕ) (x : OpenEnd) (from : Endpoint) (bytes : L
       (sink : Holding) × (h.held ≡ Sink sink) × Stores (world_sink refuses_commit) terms number from piece x.state (holding_of x) h.turn sink
   stores_here terms number piece spelled is receiver =
       let a = acts_as (Data number piece) (Store terms number) spelled is in
-      let s = subst (λ (bs : List ℕ). StoresIn memory_source (world_sink refuses_commit) terms number from bs x.state (files_of x) h.turn h.held) (data_of number piece bytes spelled) a in
+      let s = subst (λ (bs : List ℕ). StoresIn memory_source (world_sink refuses_commit) terms number from bs x.state (files_of x) h.turn h.held) (sym (data_of number a.0 bytes a.1) ∙ data_of number piece bytes spelled) a.2 in
       stores_in (is_sender x.state.role.side) receiver refuses_commit terms number from piece x.state x.left (holding_of x) h.turn h.held s
 
   -- a client that was not told to refuse takes the block, and is not told to then

@@ -175,7 +175,7 @@ module _ (agreed : Terms) where
         Acts memory_source (world_sink refuses_commit) action from bytes e files turn files' → Has turn.position
     acts_has (Respond response) files files' turn s h a = kept turn _ a.0 (response_has response from e s h)
     acts_has (Send terms number) files files' turn s h a = sends_has terms number files files' turn s a
-    acts_has (Store terms number) files files' turn s h a = stores_has terms number _ files files' turn s a
+    acts_has (Store terms number) files files' turn s h a = stores_has terms number a.0 files files' turn s a.2
 
     pub step_has : (files files' : Files (List ℕ) Holding) (turn : Turn) → Has e.position →
         DatagramStep memory_source (world_sink refuses_commit) from bytes e files turn files' → Has turn.position

@@ -143,7 +143,7 @@ module _ (views : List EndView) (messages : List Message) (k : ℕ) (x0 : OpenEn
       (λ e. if_acts Answers (is_readable x0.state.role.mode [] piece last) (Store terms 1) (Respond (Refuse (Some terms) replies.NotNetascii outcomes.NotNetascii))
       (λ readable turn held h. block_goes views messages k waiter terms 1 from piece kept got
       (subst (λ (hs : List ℕ). is_readable x0.state.role.mode hs piece last ≡ true) (sym none) readable) refuses_commit turn held
-      (subst (λ (bs : List ℕ). StoresIn memory_source (world_sink refuses_commit) terms 1 from bs waiter.state (files_of waiter) turn held) (data_of 1 piece bytes spelled) h))
+      (subst (λ (bs : List ℕ). StoresIn memory_source (world_sink refuses_commit) terms 1 from bs waiter.state (files_of waiter) turn held) (sym (data_of 1 h.0 bytes h.1) ∙ data_of 1 piece bytes spelled) h.2))
       (λ g. refuse replies.NotNetascii outcomes.NotNetascii))
 
   first_cases : is_sender x0.state.role.side ≡ false → (number : ℕ) (piece : List ℕ) → number ≡ 1 → length piece ≤ DEFAULT_BLOCK → Spells (Data number piece) bytes → Contains messages (message from x0.address (Says_data number piece)) →

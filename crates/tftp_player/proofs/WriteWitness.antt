@@ -108,6 +108,7 @@ sends = takes w2 1 0 d1 client turn3 (Source []) [] refl refl refl
         reads = record { fills = record { count = refl; given = refl; rest = refl }; read = λ e. absurd (cc); memory = λ e. absurd (cc) };
         answers = refl;
       };
+      again = tt;
     }) refl
 
 -- no other path has got a file
@@ -120,22 +121,27 @@ stores = takes w3 2 1 d2 server turn4 (Sink stored) ((name, file) ∷ []) refl r
     (record {
       decoded = Some (packet_in d2.bytes);
       says = fault_where_nothing d2.bytes (bytes_below d2.bytes refl) refl;
-      acts = record {
-        bytes = file;
-        after = [];
-        mid = record { bytes = file; committed = false; refuses = false };
-        answer = Ok done;
-        decoded = (refl, refl);
-        appended = (refl, tt, tt);
-        memory = λ e. absurd (cc);
-        rest = record { answer = Ok done; commits = refl; refused = tt; leaves = tt; answers = refl };
-      };
+      acts = (
+        file,
+        fault_where_nothing d2.bytes (bytes_below d2.bytes refl) refl,
+        record {
+          bytes = file;
+          after = [];
+          mid = record { bytes = file; committed = false; refuses = false };
+          answer = Ok done;
+          decoded = (refl, refl);
+          appended = (refl, tt, tt);
+          memory = λ e. absurd (cc);
+          rest = record { answer = Ok done; commits = refl; refused = tt; leaves = tt; answers = refl };
+        },
+      );
+      again = tt;
     })
     (record { free = refl; here = refl; others = λ q n. no_file (is_at (path_cmp q) name) q refl n })
 
 completes : WorldStep w4 (Deliver 3) (report_of w4 sending turn5) w5
 completes = takes w4 3 0 d3 sending turn5 (Source []) ((name, file) ∷ []) refl refl refl
-    (record { decoded = Some (packet_in d3.bytes); says = fault_where_nothing d3.bytes (bytes_below d3.bytes refl) refl; acts = (refl, refl) }) refl
+    (record { decoded = Some (packet_in d3.bytes); says = fault_where_nothing d3.bytes (bytes_below d3.bytes refl) refl; acts = (refl, refl); again = tt }) refl
 
 pub write_transfers : Transfers (Put name Octet nothing_asked file) file
 write_transfers = (

@@ -2,11 +2,11 @@
 
 ghost use Rattle.std.specs.Prelude.{◌≡◌, ◌≤◌, drop, length, OnErr, IfOk};
 ghost use Rattle.tftp_ends.specs.Files.{AreFilesOf, KeepsFiles, AreSame};
-ghost use Rattle.tftp_ends.specs.Step.{Turn, Acts, Lends, UsesFile, ack_bytes, having_sent};
-ghost use Rattle.tftp_ends.specs.Step.{in_phase, response_turn, with_position, room_of};
-ghost use Rattle.tftp_ends.specs.Step.{response_room, lent};
+ghost use Rattle.tftp_ends.specs.Step.{Turn, Acts, AcksAgain, Lends, UsesFile, ack_bytes};
+ghost use Rattle.tftp_ends.specs.Step.{having_sent, in_phase, response_turn, with_position};
+ghost use Rattle.tftp_ends.specs.Step.{room_of, response_room, lent};
 ghost use Rattle.tftp_ends.specs.End.{number_of, terms_of};
-ghost use Rattle.tftp_ends.specs.Sound.{PhaseFits, ActionFits, PieceFits, RefusalFits, SentFits};
+ghost use Rattle.tftp_ends.specs.Sound.{PhaseFits, ActionFits, BytesFit, ReplyFits, SentFits};
 ghost use Rattle.tftp_ends.specs.Sound.{ResponseFits, ResendsAck};
 
 use crate::action::{Action, Response};
@@ -96,7 +96,7 @@ impl End {
         from: Endpoint,
     ) -> (Option<Endpoint>, Outgoing)
         requires fits { ResponseFits self.old response }
-        requires refusal { RefusalFits self.old response }
+        requires reply { ReplyFits self.old response }
         ensures lends { Lends self.old (response_turn response from self.old) self.new
             result.0 result.1 }
         ensures room { length (lent result.1 self.new) ≤ response_room self.old response }
@@ -146,10 +146,11 @@ impl End {
         bytes: &[u8],
     ) -> Result<(Option<Endpoint>, Outgoing), AllocError>
         requires action { ActionFits self.old action }
-        requires piece { PieceFits self.old (drop 4 bytes.now) action }
+        requires fits { BytesFit self.old bytes.now action }
         requires files { AreFilesOf self.old.role.side files.old }
         ensures acts { IfOk result (λ answer. (turn : Turn)
             × Acts S.meaning K.meaning action from bytes.now self.old files.old turn files.new
+            × AcksAgain self.old turn action
             × Lends self.old turn self.new answer.0 answer.1) }
         ensures room { IfOk result (λ answer.
             length (lent answer.1 self.new) ≤ room_of self.old action) }
