@@ -54,11 +54,11 @@ def compiled(folder):
     source, library = Path(__file__).with_name("refuse_memory.c"), Path(folder, "refuse_memory.so")
     kit = shutil.which("rt")
     beside = Path(kit).resolve().parent.parent / "toolchain" / "bin" / "clang" if kit else "clang"
+    words = ["-O1", "-shared", "-fPIC", "-nostdlib", "-o", library, source]
     for compiler in ["cc", "clang", str(beside)]:
-        if shutil.which(compiler):
-            subprocess.run([compiler, "-O1", "-shared", "-fPIC", "-o", library, source], check=True)
+        if shutil.which(compiler) and subprocess.run([compiler, *words]).returncode == 0:
             return library
-    sys.exit("memory: no C compiler is here, neither cc nor clang, so no request was refused")
+    sys.exit("memory: no C compiler serves here, neither cc nor clang, so no request was refused")
 
 
 def played(program, counter, refused):

@@ -1,17 +1,20 @@
 /* Preloaded before a program: counts its requests for memory, and refuses the one that REFUSED names,
    counted from 1; 0 refuses none. A request counts while a call is made: from a line of standard
    output that ends in a colon to the next output. At the end it writes how many counted, and how many
-   of them were refused. */
+   of them were refused. It is for Linux on x86-64, and needs no headers. */
 
-#include <errno.h>
-#include <stddef.h>
-#include <stdio.h>
-#include <stdlib.h>
-#include <sys/syscall.h>
-#include <unistd.h>
+#define ENOMEM 12
+#define SYS_WRITE 1
+
+typedef unsigned long size_t;
 
 extern void *__libc_malloc(size_t size);
 extern void *__libc_realloc(void *old, size_t size);
+extern int *__errno_location(void);
+extern long syscall(long number, ...);
+extern char *getenv(const char *name);
+extern long atol(const char *text);
+extern int dprintf(int file, const char *format, ...);
 
 static int counts;
 static long counted, refused, wanted;
@@ -30,25 +33,25 @@ static int is_refused(void) {
     if (!counts || ++counted != wanted)
         return 0;
     refused++;
-    errno = ENOMEM;
+    *__errno_location() = ENOMEM;
     return 1;
 }
 
 void *malloc(size_t size) {
-    return is_refused() ? NULL : __libc_malloc(size);
+    return is_refused() ? 0 : __libc_malloc(size);
 }
 
 void *realloc(void *old, size_t size) {
-    return is_refused() ? NULL : __libc_realloc(old, size);
+    return is_refused() ? 0 : __libc_realloc(old, size);
 }
 
-ssize_t write(int file, const void *bytes, size_t count) {
+long write(int file, const void *bytes, size_t count) {
     const char *text = bytes;
     if (file == 1)
         counts = count > 1 && text[count - 2] == ':' && text[count - 1] == '\n';
-    return syscall(SYS_write, file, bytes, count);
+    return syscall(SYS_WRITE, file, bytes, count);
 }
 
-ssize_t __write(int file, const void *bytes, size_t count) {
+long __write(int file, const void *bytes, size_t count) {
     return write(file, bytes, count);
 }
