@@ -51,3 +51,6 @@ mod StraightSteps
 mod StraightRuns
 mod StraightPort
 mod StraightOpenings
+pub mod BlocksWitness
+pub mod OackWitness
+pub mod SettledLemmas

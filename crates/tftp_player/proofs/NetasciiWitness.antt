@@ -13,11 +13,13 @@ use Rattle.tftp_ends.specs.Waiting.{default_terms}
 use Rattle.tftp_server.specs.declared.config.Config.{Config}
 use Rattle.tftp_player.specs.Completing.{Transfers, nothing_asked}
 use Rattle.tftp_player.specs.Openings.{reading_client, sending_end}
+use Rattle.tftp_player.specs.Straight.{SomeReadIsStraight}
 use Rattle.tftp_player.specs.World.{WorldState, OpenEnd, StoredFile, new_world, end_after, replied, report_of, opened_in, sent_report, standing}
 use Rattle.tftp_player.specs.WorldSteps.{At_request_port, WorldStep}
 use Rattle.tftp_player.specs.declared.datagram.Datagram.{Datagram}
 use Rattle.tftp_player.specs.declared.event.Event.TheVariants.{Get, Deliver}
 use Rattle.tftp_player.proofs.StepLemmas.{get_step}
+use Rattle.tftp_player.proofs.WorldRuns.{new_ok}
 use Rattle.tftp_player.proofs.Witness.{bytes_below, first_request, takes}
 
 -- ---- a read of one line end, without options
@@ -129,4 +131,37 @@ netascii_transfers = (
     file = refl;
     stored = refl;
   },
+)
+
+-- and without loss
+pub read_is_straight : SomeReadIsStraight Netascii nothing_asked file []
+unfolding places_of
+read_is_straight = (
+  w0,
+  w4,
+  name,
+  new_ok false files config (omega arith, omega arith),
+  record {
+    run = record {
+      report = sent_report w0;
+      asked = w1;
+      asks = asks;
+      reports = sent_report w1 ∷ report_of w2 client turn3 ∷ report_of w3 server turn4 ∷ [];
+      settles = (w2, opens, (w3, stores, (w4, completes, refl)));
+    };
+    accepts = record {
+      path = name;
+      length = 2;
+      there = refl;
+      accepted = record {
+        decoded = Some (packet_in d0.bytes);
+        says = fault_where_nothing d0.bytes (bytes_below d0.bytes refl) refl;
+        repeated = false;
+        repeats = first_request client.address (packet_in d0.bytes) client refl;
+        is = refl;
+      };
+      answered = tt;
+    };
+  },
+  refl,
 )

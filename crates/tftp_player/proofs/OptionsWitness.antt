@@ -22,15 +22,11 @@ use Rattle.tftp_server.specs.declared.config.Config.{Config}
 use Rattle.tftp_player.specs.Completing.{Transfers, blocks_of_8}
 use Rattle.tftp_player.specs.Openings.{reading_client, sending_end}
 use Rattle.tftp_player.specs.Requests.{service}
-use Rattle.tftp_server.specs.Port.{Sends}
-use Rattle.tftp_negotiate.specs.declared.known.Kind.TheVariants as kinds
-use Rattle.tftp_player.specs.Straight.{IsAccepted, SomeReadIsStraight, TakesAnswer}
 use Rattle.tftp_player.specs.World.{WorldState, OpenEnd, StoredFile, new_world, end_after, replied, report_of, opened_in, sent_report, standing}
 use Rattle.tftp_player.specs.WorldSteps.{Serves, At_request_port, WorldStep}
 use Rattle.tftp_player.specs.declared.datagram.Datagram.{Datagram}
 use Rattle.tftp_player.specs.declared.event.Event.TheVariants.{Get, Deliver}
 use Rattle.tftp_player.proofs.StepLemmas.{get_step}
-use Rattle.tftp_player.proofs.WorldRuns.{new_ok}
 use Rattle.tftp_player.proofs.Witness.{bytes_below, first_request, takes}
 
 -- ---- a read of one byte in octet, in blocks of 8 bytes
@@ -119,10 +115,10 @@ abbrev w6 : WorldState
 w6 = record w5 { ends = slice_set w5.ends 1 (standing (end_after sending turn6 (Source []))) }
 
 -- how 8 is written, and read
-eight : decimal 8 ≡ 56 ∷ []
+pub eight : decimal 8 ≡ 56 ∷ []
 eight = decimal_digit 8 (omega arith)
 
-read_8 : number_of (56 ∷ []) ≡ Some 8
+pub read_8 : number_of (56 ∷ []) ≡ Some 8
 read_8 = subst (λ (text : List ℕ). number_of text ≡ Some 8) eight ((numbers_are_printed (decimal 8) 8).1 (refl, omega arith))
 
 asks : WorldStep w0 (Get name Octet blocks_of_8) (sent_report w0) w1
@@ -206,45 +202,5 @@ options_transfer = (
     receiver_done = refl;
     file = refl;
     stored = refl;
-  },
-)
-
--- and without loss
-accepted : IsAccepted w1 client (Sends name Octet 1 agreed)
-unfolding places_of name_of answered_option
-accepted = record {
-  decoded = Some (packet_in d0.bytes);
-  says = request_spelled;
-  repeated = false;
-  repeats = first_request client.address (packet_in d0.bytes) client refl;
-  is = rw (eight, read_8) refl;
-}
-
-answered : TakesAnswer blocks_of_8 kinds.Read Octet w0.limits.max_file agreed
-unfolding places_of name_of taken_option
-answered = (agreed, rw (eight, read_8) refl)
-
-pub read_is_straight : SomeReadIsStraight blocks_of_8 (Blksize 8 ∷ [])
-read_is_straight = (
-  w0,
-  w6,
-  name,
-  Octet,
-  file,
-  new_ok false files config (omega arith, omega arith),
-  record {
-    run = record {
-      report = sent_report w0;
-      asked = w1;
-      asks = asks;
-      reports = sent_report w1 ∷ report_of w2 client turn3 ∷ report_of w3 server turn4 ∷ report_of w4 receiving turn5 ∷ report_of w5 sending turn6 ∷ [];
-      settles = (w2, opens, (w3, accepts, (w4, sends, (w5, stores, (w6, completes, refl)))));
-      all = omega arith;
-    };
-    path = name;
-    length = 1;
-    there = refl;
-    accepted = accepted;
-    answered = answered;
   },
 )

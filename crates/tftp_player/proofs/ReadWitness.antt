@@ -134,14 +134,12 @@ read_transfers = (
 )
 
 -- and without loss
-pub read_is_straight : SomeReadIsStraight nothing_asked []
+pub read_is_straight : SomeReadIsStraight Octet nothing_asked file []
 unfolding places_of
 read_is_straight = (
   w0,
   w4,
   name,
-  Octet,
-  file,
   new_ok false files config (omega arith, omega arith),
   record {
     run = record {
@@ -150,18 +148,20 @@ read_is_straight = (
       asks = asks;
       reports = sent_report w1 ∷ report_of w2 client turn3 ∷ report_of w3 server turn4 ∷ [];
       settles = (w2, opens, (w3, stores, (w4, completes, refl)));
-      all = omega arith;
     };
-    path = name;
-    length = 1;
-    there = refl;
-    accepted = record {
-      decoded = Some (packet_in d0.bytes);
-      says = fault_where_nothing d0.bytes (bytes_below d0.bytes refl) refl;
-      repeated = false;
-      repeats = first_request client.address (packet_in d0.bytes) client refl;
-      is = refl;
+    accepts = record {
+      path = name;
+      length = 1;
+      there = refl;
+      accepted = record {
+        decoded = Some (packet_in d0.bytes);
+        says = fault_where_nothing d0.bytes (bytes_below d0.bytes refl) refl;
+        repeated = false;
+        repeats = first_request client.address (packet_in d0.bytes) client refl;
+        is = refl;
+      };
+      answered = tt;
     };
-    answered = tt;
   },
+  refl,
 )

@@ -22,7 +22,7 @@ use Rattle.tftp_store.specs.Store.{Stored, Drafted, FileList, new_draft}
 use Rattle.tftp_machine.specs.Machine.{Endpoint}
 use Rattle.tftp_player.specs.Clients.{server_at}
 use Rattle.tftp_player.specs.Effect.{effect_of}
-use Rattle.tftp_player.specs.Serving.{PlayedServer, Transfer, ServedKept, ServedTurns, ServedTimeoutStep, ServedDatagramStep, Concludes, ClosesAs, concluded_served, concluded_held}
+use Rattle.tftp_player.specs.Serving.{server_told, PlayedServer, Transfer, ServedKept, ServedTurns, ServedTimeoutStep, ServedDatagramStep, Concludes, ClosesAs, concluded_served, concluded_held}
 use Rattle.tftp_player.specs.declared.effect.Effect.{Effect}
 use Rattle.tftp_player.specs.declared.served.Served.{Served}
 use Rattle.tftp_player.proofs.HeldLemmas.{at-with_next}
@@ -88,10 +88,6 @@ served_times_out port old new before mid after step start out effect r none t re
     )
 
 -- ---- a datagram: the server was told what the end is told, and afterwards nothing
--- the server, with its store told so
-abbrev pub server_told : PlayedServer → Bool → PlayedServer
-server_told server told = record server { store = with_told server.store told }
-
 module _ (port : ℕ) (from : Endpoint) (bytes : List ℕ) (was old new : Served) (before mid quieted after : PlayedServer) (step : Step) (start out : List ℕ) (effect : Effect) (r : Record) where
   steps_so : start ≡ [] → (t : TakesDatagram memory_meaning memory_source port from bytes (server_told before was.refuses) mid step start out) → r ≡ record_of t.next.end →
       mid ≡ record before { store = mid.store; held = mid.held } → old ≡ record was { refuses = mid.store.refuses } → quieted ≡ server_told mid false →

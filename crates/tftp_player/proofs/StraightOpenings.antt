@@ -30,7 +30,7 @@ use Rattle.tftp_ends.specs.Waiting.{default_terms, agreed_terms, no_answer, acce
 use Rattle.tftp_server.specs.Port.{Service, Sends, Takes}
 use Rattle.tftp_machine.specs.Machine.{Endpoint, request_port}
 use Rattle.tftp_player.specs.Openings.{reading_client, writing_client, sending_end, receiving_end}
-use Rattle.tftp_player.specs.Straight.{IsAccepted, IsThrough, ReadsStraight, WritesStraight, ReadsComplete, WritesComplete, read_count, write_count}
+use Rattle.tftp_player.specs.Straight.{IsAccepted, IsThrough, Ends, ReadsStraight, WritesStraight, ReadsComplete, WritesComplete, read_count, write_count}
 use Rattle.tftp_player.specs.World.{WorldState, OpenEnd, StoredFile, file_at, datagram, WorldEnd, Open_end}
 use Rattle.tftp_player.specs.WorldKept.{HeldFits, IsOk}
 use Rattle.tftp_player.specs.WorldRuns.{MayHappen}
@@ -42,7 +42,7 @@ use Rattle.tftp_machine.proofs.Places.{slice_get-push_old, slice_get-push_new}
 use Rattle.tftp_player.proofs.SaidLemmas.{spells_own, own_oack, taken_oack}
 use Rattle.tftp_player.proofs.StraightActions.{from_server, data_next, block_within}
 use Rattle.tftp_player.proofs.StraightPort.{HasAsked, has_asked, port_comes, has_opened, accepted_answers}
-use Rattle.tftp_player.proofs.StraightRuns.{IsLeft, goes_on, IsReady, ready_next, IsOver, stays_at, set_at, SendsAt, AwaitsAt, fit_of, next_is_stored, awaits_now, ack_ready, ack_sender, ack_receiver, from_data}
+use Rattle.tftp_player.proofs.StraightRuns.{IsLeft, Reaches, walks, IsReady, ready_next, IsOver, stays_at, set_at, SendsAt, AwaitsAt, fit_of, next_is_stored, awaits_now, ack_ready, ack_sender, ack_receiver, from_data}
 use Rattle.tftp_player.proofs.StraightSteps.{ports_of, delivered, handles_send, handles_oack}
 use Rattle.tftp_player.proofs.WaitingMoves.{agreed_size}
 use Rattle.tftp_player.proofs.WorldKeeps.{answered_values}
@@ -55,24 +55,25 @@ pub record HasBegun (reads strangers : Bool) (old new : WorldState) (c x : OpenE
   pub server_at : slice_get w.ends (length old.ends + 1) ≡ Some (Open_end x)
   pub left : IsLeft reads w (length old.sent + 1) new
 
-begins : (reads strangers : Bool) (old new w : WorldState) (c x : OpenEnd) (accepts : Service) → HasAsked strangers old w c → c.state.position.last_sent_to ≡ request_port → IsLeft reads w (length old.sent) new → IsAccepted w c accepts →
-    ((report : Report) (mid : WorldState) → Serves accepts w c.address c.state.position.last_sent report mid → Opens w x report mid) → HasBegun reads strangers old new c x
-begins reads strangers old new w c x accepts has to left accepted opens =
+begins : (reads strangers : Bool) (old new w : WorldState) (c x : OpenEnd) (accepts : Service) (one other rest : ℕ) → HasAsked strangers old w c → c.state.position.last_sent_to ≡ request_port → (l : IsLeft reads w (length old.sent) new) → IsAccepted w c accepts →
+    ((report : Report) (mid : WorldState) → Serves accepts w c.address c.state.position.last_sent report mid → Opens w x report mid) →
+    ((b : HasBegun reads strangers old new c x) → Reaches new one other (length old.sent + 1) (length b.left.reports) rest) → Reaches new one other (length old.sent) (length l.reports) (rest + 1)
+begins reads strangers old new w c x accepts one other rest has to left accepted opens then_on =
     let i = length old.sent in
     let k = length old.ends in
     let d0 = datagram c.address c.state.position.last_sent_to c.state.position.last_sent in
     let d1 = datagram x.address x.state.position.last_sent_to x.state.position.last_sent in
-    let g = goes_on reads w new i has.count left in
+    walks reads w new one other i rest has.count left (λ g.
     let p = port_comes w g.mid i c g.report accepts (ports_of strangers w has.ok) accepted (has.newest ∙ ap (λ (a : Endpoint). Some (datagram c.address a c.state.position.last_sent)) to) g.step in
     let o = has_opened w g.mid x g.report (opens g.report g.mid p) in
     let first : IsReady strangers w i d0 = record { ok = has.ok; newest = has.newest; count = has.count } in
-    record {
+    then_on (record {
       w = g.mid;
       ready = ready_next strangers w g.mid i d0 d1 g.report first g.step o.sent;
       client_at = ap (λ (xs : List WorldEnd). slice_get xs k) o.ends ∙ slice_get-push_old w.ends k (Open_end x) (Open_end c) has.there;
       server_at = ap (λ (xs : List WorldEnd). slice_get xs (k + 1)) o.ends ∙ (ap (slice_get (w.ends ++ Open_end x ∷ [])) (sym has.ends) ∙ slice_get-push_new w.ends (Open_end x));
       left = g.left;
-    }
+    }))
 
 -- ---- a receiver that has nothing
 nothing_yet : (mode : Mode) (size : ℕ) (text : List ℕ) → wire_text mode [] ++ [] ≡ take (0 * size) text
@@ -98,11 +99,17 @@ behind_last : (k : ℕ) → k + 1 ≢ k
 behind_last k e = omega (arith, e)
 
 -- ---- the end
-reader_through : (old new : WorldState) (n count : ℕ) → IsOver new (length old.ends + 1) (length old.ends) n → n ≡ length old.sent + count → IsThrough old new count
-reader_through old new n count o e = record { client = o.y; server = o.x; client_at = o.y_at; server_at = o.x_at; client_done = o.y_done; server_done = o.x_done; counted = o.counted ∙ e }
+reader_through : (old new : WorldState) (count : ℕ) → IsOver new (length old.ends + 1) (length old.ends) (length old.sent + count) → IsThrough old new count
+reader_through old new count o = record { client = o.y; server = o.x; client_at = o.y_at; server_at = o.x_at; client_done = o.y_done; server_done = o.x_done; counted = o.counted }
 
-writer_through : (old new : WorldState) (n count : ℕ) → IsOver new (length old.ends) (length old.ends + 1) n → n ≡ length old.sent + count → IsThrough old new count
-writer_through old new n count o e = record { client = o.x; server = o.y; client_at = o.x_at; server_at = o.y_at; client_done = o.x_done; server_done = o.y_done; counted = o.counted ∙ e }
+writer_through : (old new : WorldState) (count : ℕ) → IsOver new (length old.ends) (length old.ends + 1) (length old.sent + count) → IsThrough old new count
+writer_through old new count o = record { client = o.x; server = o.y; client_at = o.x_at; server_at = o.y_at; client_done = o.x_done; server_done = o.y_done; counted = o.counted }
+
+reader_ends : (old new : WorldState) (made n count : ℕ) → n ≡ count → Reaches new (length old.ends + 1) (length old.ends) (length old.sent) made n → Ends old new made count
+reader_ends old new made n count is r = subst (λ (c : ℕ). Ends old new made c) is (record { few = r.few; goes_on = r.goes_on; through = λ e. reader_through old new n (r.over e) })
+
+writer_ends : (old new : WorldState) (made n count : ℕ) → n ≡ count → Reaches new (length old.ends) (length old.ends + 1) (length old.sent) made n → Ends old new made count
+writer_ends old new made n count is r = subst (λ (c : ℕ). Ends old new made c) is (record { few = r.few; goes_on = r.goes_on; through = λ e. writer_through old new n (r.over e) })
 
 get_may : (strangers : Bool) (name : List ℕ) (mode : Mode) (asked : Asked) → MayHappen strangers (Get name mode asked)
 get_may true name mode asked = tt
@@ -127,20 +134,24 @@ module _ (strangers : Bool) (old new : WorldState) (name : List ℕ) (mode : Mod
 
   -- the server's end
   abbrev server_of : (agreed : List Known) → ReadsStraight old new name mode asked file agreed → OpenEnd
-  server_of agreed h = sending_end h.run.asked reader.address reader.state.position.last_sent mode h.path file agreed
+  server_of agreed h = sending_end h.run.asked reader.address reader.state.position.last_sent mode h.accepts.path file agreed
 
-  read_begins : (agreed : List Known) → IsOk strangers old → (h : ReadsStraight old new name mode asked file agreed) → HasBegun true strangers old new reader (server_of agreed h)
-  read_begins agreed ok h =
+  abbrev read_left : (agreed : List Known) → (h : ReadsStraight old new name mode asked file agreed) → IsLeft true h.run.asked (length old.sent) new
+  read_left agreed h = record { reports = h.run.reports; settles = h.run.settles; taken = tt }
+
+  read_begins : (agreed : List Known) (one other rest : ℕ) → IsOk strangers old → (h : ReadsStraight old new name mode asked file agreed) →
+      ((b : HasBegun true strangers old new reader (server_of agreed h)) → Reaches new one other (length old.sent + 1) (length b.left.reports) rest) →
+      Reaches new one other (length old.sent) (length h.run.reports) (rest + 1)
+  read_begins agreed one other rest ok h then_on =
       let has = reader_asks agreed ok h in
-      let left : IsLeft true h.run.asked (length old.sent) new = record { reports = h.run.reports; settles = h.run.settles; all = h.run.all; taken = tt } in
-      begins true strangers old new h.run.asked reader (server_of agreed h) (Sends h.path mode h.length agreed) has refl left h.accepted
+      begins true strangers old new h.run.asked reader (server_of agreed h) (Sends h.accepts.path mode h.accepts.length agreed) one other rest has refl (read_left agreed h) h.accepts.accepted
       (λ report mid s.
-      let same : s.0 ≡ file = same_Some s.0 file (sym s.1 ∙ (ap (λ (files : List StoredFile). file_at files h.path) has.files ∙ h.there)) in
-      subst (λ (f : List ℕ). Opens h.run.asked (sending_end h.run.asked reader.address reader.state.position.last_sent mode h.path f agreed) report mid) same s.2)
+      let same : s.0 ≡ file = same_Some s.0 file (sym s.1 ∙ (ap (λ (files : List StoredFile). file_at files h.accepts.path) has.files ∙ h.accepts.there)) in
+      subst (λ (f : List ℕ). Opens h.run.asked (sending_end h.run.asked reader.address reader.state.position.last_sent mode h.accepts.path f agreed) report mid) same s.2)
+      then_on
 
-  read_plainly : IsOk strangers old → ReadsStraight old new name mode asked file [] → IsThrough old new (read_count [] (block_count text DEFAULT_BLOCK))
+  read_plainly : IsOk strangers old → (h : ReadsStraight old new name mode asked file []) → Ends old new (length h.run.reports) (read_count [] (block_count text DEFAULT_BLOCK))
   read_plainly ok h =
-      let b = read_begins [] ok h in
       let x = server_of [] h in
       let k = length old.ends in
       let sa = x.address in
@@ -148,6 +159,9 @@ module _ (strangers : Bool) (old new : WorldState) (name : List ℕ) (mode : Mod
       let st = default_terms ra in
       let rt = default_terms sa in
       let m = length text / DEFAULT_BLOCK in
+      let counted : 2 + 2 * m + 1 ≡ read_count [] (block_count text DEFAULT_BLOCK) = omega arith in
+      reader_ends old new (length h.run.reports) (2 + 2 * m + 1) (read_count [] (block_count text DEFAULT_BLOCK)) counted
+      (read_begins [] (k + 1) k (2 + 2 * m) ok h (λ b.
       let sender : SendsAt strangers (k + 1) k (before_next k) sa ra st rt mode file refl refl refl b.w (0 + 1) =
       record { x = x; there = b.server_at; address = refl; phase = refl; file_is = refl; mode_is = refl } in
       let fit = fit_of strangers (k + 1) k (before_next k) sa ra st rt mode file refl refl refl b.w (0 + 1) b.ready.ok sender in
@@ -169,19 +183,19 @@ module _ (strangers : Bool) (old new : WorldState) (name : List ℕ) (mode : Mod
             ∙ next_is_stored strangers (k + 1) k (before_next k) sa ra st rt mode file refl refl refl reader 0 fit first refl (nothing_yet mode DEFAULT_BLOCK text)));
       } in
       let rest : 0 + 1 + m ≡ block_count text DEFAULT_BLOCK = omega arith in
-      let over = from_data strangers (k + 1) k (before_next k) sa ra st rt mode file refl refl refl true m (length old.sent + 1) 0 b.w new rest b.ready sender receiver b.left in
-      reader_through old new (length old.sent + 1 + 2 + 2 * m) (read_count [] (block_count text DEFAULT_BLOCK)) over (omega arith)
+      from_data strangers (k + 1) k (before_next k) sa ra st rt mode file refl refl refl true m (length old.sent + 1) 0 b.w new rest b.ready sender receiver b.left))
 
   -- from the server's OACK on, which the client accepts
-  read_on : (x : OpenEnd) (st rt : Terms) (packet : Packet) → HasBegun true strangers old new reader x → x.state.position.last_sent_to ≡ reader.address → x.state.position.phase ≡ Sending st 0 → x.file ≡ file → x.state.role.mode ≡ mode →
+  read_on : (x : OpenEnd) (st rt : Terms) (packet : Packet) → (b : HasBegun true strangers old new reader x) → x.state.position.last_sent_to ≡ reader.address → x.state.position.phase ≡ Sending st 0 → x.file ≡ file → x.state.role.mode ≡ mode →
       Spells packet x.state.position.last_sent → datagram_action reader.state x.address x.state.position.last_sent (Some packet) ≡ Respond (Accept rt) → st.peer ≡ reader.address → rt.peer ≡ x.address → rt.size ≡ st.size →
-      IsThrough old new (3 + 2 * block_count text st.size)
+      Reaches new (length old.ends + 1) (length old.ends) (length old.sent + 1) (length b.left.reports) (2 + 2 * (length text / st.size) + 1 + 1)
   read_on x st rt packet b to phase file_is mode_is spelled accepts sp rp same =
       let i = length old.sent in
       let k = length old.ends in
       let sa = x.address in
       let ra = reader.address in
-      let g = goes_on true b.w new (i + 1) b.ready.count b.left in
+      let m = length text / st.size in
+      walks true b.w new (k + 1) k (i + 1) (2 + 2 * m + 1) b.ready.count b.left (λ g.
       let handled = delivered b.w g.mid (i + 1) k reader sa x.state.position.last_sent g.report (ports_of strangers b.w b.ready.ok)
       (b.ready.newest ∙ ap (λ (a : Endpoint). Some (datagram sa a x.state.position.last_sent)) to) b.client_at g.step in
       let y = handles_oack b.w g.mid k reader sa x.state.position.last_sent g.report handled packet rt spelled accepts in
@@ -191,41 +205,42 @@ module _ (strangers : Bool) (old new : WorldState) (name : List ℕ) (mode : Mod
       let sender : SendsAt strangers (k + 1) k (before_next k) sa ra st rt mode file sp rp same g.mid 0 =
       record { x = x; there = stays_at b.w g.mid k (k + 1) (Open_end x) (Open_end y.0) y.4.ends (behind_last k) b.server_at; address = refl; phase = phase; file_is = file_is; mode_is = mode_is } in
       let fit = fit_of strangers (k + 1) k (before_next k) sa ra st rt mode file sp rp same g.mid 0 ready.ok sender in
-      let m = length text / st.size in
       let blocks = block_count text st.size in
       let rest : 0 + 1 + m ≡ blocks = omega arith in
       let first : 0 + 1 ≤ blocks = omega (arith, rest) in
       let receiver = awaits_now strangers (k + 1) k (before_next k) sa ra st rt mode file sp rp same true g.mid y.0 0 fit first
       (set_at b.w g.mid k (Open_end reader) (Open_end y.0) y.4.ends b.client_at) y.4.address y.1 (ap is_sender y.4.side) (ap is_client y.4.side, y.5) y.4.mode
       (new_text mode y.0.state.role.mode y.0.stored y.0.state.position.held st.size text y.4.mode y.2 y.3) (new_held mode y.0.state.role.mode y.0.state.position.held y.4.mode y.3) in
-      let n = goes_on true g.mid new (i + 1 + 1) ready.count g.left in
+      walks true g.mid new (k + 1) k (i + 1 + 1) (2 + 2 * m) ready.count g.left (λ n.
       let ready_then = ack_ready strangers (k + 1) k (before_next k) sa ra st rt mode file sp rp same g.mid n.mid (i + 1 + 1) 0 n.report ready sender (omega arith) n.step first in
       let sender_then = ack_sender strangers (k + 1) k (before_next k) sa ra st rt mode file sp rp same g.mid n.mid (i + 1 + 1) 0 n.report ready sender (omega arith) n.step first in
       let receiver_then = ack_receiver strangers (k + 1) k (before_next k) sa ra st rt mode file sp rp same g.mid n.mid (i + 1 + 1) 0 n.report ready sender (omega arith) n.step first true receiver in
-      let over = from_data strangers (k + 1) k (before_next k) sa ra st rt mode file sp rp same true m (i + 1 + 1 + 1) 0 n.mid new rest ready_then sender_then receiver_then n.left in
-      reader_through old new (i + 1 + 1 + 1 + 2 + 2 * m) (3 + 2 * blocks) over (omega (arith, rest))
+      from_data strangers (k + 1) k (before_next k) sa ra st rt mode file sp rp same true m (i + 1 + 1 + 1) 0 n.mid new rest ready_then sender_then receiver_then n.left))
 
   -- by an OACK
-  read_by_oack : (known : Known) (agreed : List Known) → IsOk strangers old → ReadsStraight old new name mode asked file (known ∷ agreed) →
-      IsThrough old new (read_count (known ∷ agreed) (block_count text (size (known ∷ agreed))))
+  read_by_oack : (known : Known) (agreed : List Known) → IsOk strangers old → (h : ReadsStraight old new name mode asked file (known ∷ agreed)) →
+      Ends old new (length h.run.reports) (read_count (known ∷ agreed) (block_count text (size (known ∷ agreed))))
   read_by_oack known others ok h =
       let agreed = known ∷ others in
       let has = reader_asks agreed ok h in
       let x = server_of agreed h in
       let limits = h.run.asked.limits in
-      let answers = accepted_answers h.run.asked reader (Sends h.path mode h.length agreed) h.accepted in
-      let agreeable = answered_values kinds.Read mode h.length limits answers.0 agreed has.ok.max_block answers.1 in
+      let answers = accepted_answers h.run.asked reader (Sends h.accepts.path mode h.accepts.length agreed) h.accepts.accepted in
+      let agreeable = answered_values kinds.Read mode h.accepts.length limits answers.0 agreed has.ok.max_block answers.1 in
       let sizes = agreed_size agreed agreeable in
-      let counted : h.length < 2 ^ 64 = let few = answers.2 in let small = sizes.1 in omega (arith, few, small) in
+      let counted : h.accepts.length < 2 ^ 64 = let few = answers.2 in let small = sizes.1 in omega (arith, few, small) in
       let packet = Oack (agreed_options agreed) in
-      let spelled : Spells packet (oack_bytes agreed) = spells_own packet (valid_oack kinds.Read mode h.length limits answers.0 agreed counted has.ok.max_block answers.1 (λ e. cc)) in
-      let taken = h.answered.0 in
+      let spelled : Spells packet (oack_bytes agreed) = spells_own packet (valid_oack kinds.Read mode h.accepts.length limits answers.0 agreed counted has.ok.max_block answers.1 (λ e. cc)) in
+      let taken = h.accepts.answered.0 in
       let st = agreed_terms reader.address agreed in
       let rt = agreed_terms x.address taken in
-      let same : rt.size ≡ st.size = sym (taken_oack asked kinds.Read mode (agreed_options agreed) old.limits.max_file taken h.answered.1) ∙ own_oack agreed agreeable in
+      let same : rt.size ≡ st.size = sym (taken_oack asked kinds.Read mode (agreed_options agreed) old.limits.max_file taken h.accepts.answered.1) ∙ own_oack agreed agreeable in
       let accepts : datagram_action reader.state x.address (oack_bytes agreed) (Some packet) ≡ Respond (Accept rt) =
-      from_server reader.state (Waiting asked old.limits.max_file) x.address (oack_bytes agreed) packet refl refl refl ∙ ap (accept_action x.address) h.answered.1 in
-      read_on x st rt packet (read_begins agreed ok h) refl refl refl refl spelled accepts refl refl same
+      from_server reader.state (Waiting asked old.limits.max_file) x.address (oack_bytes agreed) packet refl refl refl ∙ ap (accept_action x.address) h.accepts.answered.1 in
+      let m = length text / size agreed in
+      let count : 2 + 2 * m + 1 + 1 + 1 ≡ read_count agreed (block_count text (size agreed)) = omega arith in
+      reader_ends old new (length h.run.reports) (2 + 2 * m + 1 + 1 + 1) (read_count agreed (block_count text (size agreed))) count
+      (read_begins agreed (length old.ends + 1) (length old.ends) (2 + 2 * m + 1 + 1) ok h (λ b. read_on x st rt packet b refl refl refl refl spelled accepts refl refl same))
 
 pub reads_complete : ReadsComplete
 reads_complete strangers old new name mode asked file [] ok h = read_plainly strangers old new name mode asked file ok h
@@ -246,25 +261,29 @@ module _ (strangers : Bool) (old new : WorldState) (name : List ℕ) (mode : Mod
 
   -- the server's end
   abbrev taker_of : (agreed : List Known) → WritesStraight old new name mode asked file agreed → OpenEnd
-  taker_of agreed h = receiving_end h.run.asked writer.address writer.state.position.last_sent mode h.path agreed
+  taker_of agreed h = receiving_end h.run.asked writer.address writer.state.position.last_sent mode h.accepts.path agreed
 
-  write_begins : (agreed : List Known) → IsOk strangers old → (h : WritesStraight old new name mode asked file agreed) → HasBegun false strangers old new writer (taker_of agreed h)
-  write_begins agreed ok h =
-      let has = writer_asks agreed ok h in
-      let left : IsLeft false h.run.asked (length old.sent) new = record { reports = h.run.reports; settles = h.run.settles; all = h.run.all; taken = h.taken } in
-      begins false strangers old new h.run.asked writer (taker_of agreed h) (Takes h.path mode agreed) has refl left h.accepted (λ report mid s. s)
+  abbrev write_left : (agreed : List Known) → (h : WritesStraight old new name mode asked file agreed) → IsLeft false h.run.asked (length old.sent) new
+  write_left agreed h = record { reports = h.run.reports; settles = h.run.settles; taken = h.taken }
+
+  write_begins : (agreed : List Known) (one other rest : ℕ) → IsOk strangers old → (h : WritesStraight old new name mode asked file agreed) →
+      ((b : HasBegun false strangers old new writer (taker_of agreed h)) → Reaches new one other (length old.sent + 1) (length b.left.reports) rest) →
+      Reaches new one other (length old.sent) (length h.run.reports) (rest + 1)
+  write_begins agreed one other rest ok h then_on =
+      begins false strangers old new h.run.asked writer (taker_of agreed h) (Takes h.accepts.path mode agreed) one other rest (writer_asks agreed ok h) refl (write_left agreed h) h.accepts.accepted (λ report mid s. s) then_on
 
   -- from the server's answer on, which has the client send DATA 1
-  write_on : (x : OpenEnd) (st rt : Terms) (packet : Packet) → HasBegun false strangers old new writer x → x.state.position.last_sent_to ≡ writer.address → x.state.position.phase ≡ Receiving rt 0 →
+  write_on : (x : OpenEnd) (st rt : Terms) (packet : Packet) → (b : HasBegun false strangers old new writer x) → x.state.position.last_sent_to ≡ writer.address → x.state.position.phase ≡ Receiving rt 0 →
       is_sender x.state.role.side ≡ false → x.state.role.mode ≡ mode → x.stored ≡ [] → x.state.position.held ≡ [] → Spells packet x.state.position.last_sent →
       datagram_action writer.state x.address x.state.position.last_sent (Some packet) ≡ Send st 1 → st.peer ≡ x.address → rt.peer ≡ writer.address → rt.size ≡ st.size →
-      IsThrough old new (write_count (block_count written st.size))
+      Reaches new (length old.ends) (length old.ends + 1) (length old.sent + 1) (length b.left.reports) (2 + 2 * (length written / st.size) + 1)
   write_on x st rt packet b to phase receives mode_is stored held spelled sends sp rp same =
       let i = length old.sent in
       let k = length old.ends in
       let sa = writer.address in
       let ra = x.address in
-      let g = goes_on false b.w new (i + 1) b.ready.count b.left in
+      let m = length written / st.size in
+      walks false b.w new k (k + 1) (i + 1) (2 + 2 * m) b.ready.count b.left (λ g.
       let handled = delivered b.w g.mid (i + 1) k writer ra x.state.position.last_sent g.report (ports_of strangers b.w b.ready.ok)
       (b.ready.newest ∙ ap (λ (a : Endpoint). Some (datagram ra a x.state.position.last_sent)) to) b.client_at g.step in
       let behind : written ≡ drop (0 * st.size) written = ap (λ (n : ℕ). drop n written) (let z : 0 ≡ 0 * st.size = omega arith in z) in
@@ -275,48 +294,53 @@ module _ (strangers : Bool) (old new : WorldState) (name : List ℕ) (mode : Mod
       let sender : SendsAt strangers k (k + 1) (behind_last k) sa ra st rt mode file sp rp same g.mid (0 + 1) =
       record { x = y.0; there = set_at b.w g.mid k (Open_end writer) (Open_end y.0) y.2.ends b.client_at; address = y.2.address; phase = y.1; file_is = y.2.file; mode_is = y.2.mode } in
       let fit = fit_of strangers k (k + 1) (behind_last k) sa ra st rt mode file sp rp same g.mid (0 + 1) ready.ok sender in
-      let m = length written / st.size in
       let blocks = block_count written st.size in
       let rest : 0 + 1 + m ≡ blocks = omega arith in
       let first : 0 + 1 ≤ blocks = omega (arith, rest) in
       let receiver = awaits_now strangers k (k + 1) (behind_last k) sa ra st rt mode file sp rp same false g.mid x 0 fit first
       (stays_at b.w g.mid k (k + 1) (Open_end x) (Open_end y.0) y.2.ends (behind_last k) b.server_at) refl phase receives tt mode_is
       (new_text mode x.state.role.mode x.stored x.state.position.held st.size written mode_is stored held) (new_held mode x.state.role.mode x.state.position.held mode_is held) in
-      let over = from_data strangers k (k + 1) (behind_last k) sa ra st rt mode file sp rp same false m (i + 1 + 1) 0 g.mid new rest ready sender receiver g.left in
-      writer_through old new (i + 1 + 1 + 2 + 2 * m) (write_count blocks) over (omega (arith, rest))
+      from_data strangers k (k + 1) (behind_last k) sa ra st rt mode file sp rp same false m (i + 1 + 1) 0 g.mid new rest ready sender receiver g.left)
 
   begins_now : (n : ℕ) (terms : Terms) → n < 65535 * terms.size → begin_action n terms ≡ Send terms 1
   begins_now n terms few = ap (λ (c : Bool). if c then Send terms 1 else Respond (Refuse None FileTooLarge outcomes.TooLarge)) (lt-ltb n (65535 * terms.size) few)
 
-  write_plainly : IsOk strangers old → WritesStraight old new name mode asked file [] → IsThrough old new (write_count (block_count written DEFAULT_BLOCK))
+  write_plainly : IsOk strangers old → (h : WritesStraight old new name mode asked file []) → Ends old new (length h.run.reports) (write_count (block_count written DEFAULT_BLOCK))
   write_plainly ok h =
       let x = taker_of [] h in
       let st = default_terms x.address in
-      write_on x st (default_terms writer.address) (Ack 0) (write_begins [] ok h) refl refl refl refl refl refl (spells_own (Ack 0) (omega arith))
-      (from_server writer.state (Waiting asked old.limits.max_file) x.address (ack_bytes 0) (Ack 0) refl refl refl ∙ begins_now (length written) st h.fits) refl refl refl
+      let m = length written / DEFAULT_BLOCK in
+      let count : 2 + 2 * m + 1 + 1 ≡ write_count (block_count written DEFAULT_BLOCK) = omega arith in
+      writer_ends old new (length h.run.reports) (2 + 2 * m + 1 + 1) (write_count (block_count written DEFAULT_BLOCK)) count
+      (write_begins [] (length old.ends) (length old.ends + 1) (2 + 2 * m + 1) ok h (λ b.
+      write_on x st (default_terms writer.address) (Ack 0) b refl refl refl refl refl refl (spells_own (Ack 0) (omega arith))
+      (from_server writer.state (Waiting asked old.limits.max_file) x.address (ack_bytes 0) (Ack 0) refl refl refl ∙ begins_now (length written) st h.accepts.fits) refl refl refl))
 
   -- by an OACK
-  write_by_oack : (known : Known) (agreed : List Known) → IsOk strangers old → WritesStraight old new name mode asked file (known ∷ agreed) →
-      IsThrough old new (write_count (block_count written (size (known ∷ agreed))))
+  write_by_oack : (known : Known) (agreed : List Known) → IsOk strangers old → (h : WritesStraight old new name mode asked file (known ∷ agreed)) →
+      Ends old new (length h.run.reports) (write_count (block_count written (size (known ∷ agreed))))
   write_by_oack known others ok h =
       let agreed = known ∷ others in
       let has = writer_asks agreed ok h in
       let x = taker_of agreed h in
       let limits = h.run.asked.limits in
-      let answers = accepted_answers h.run.asked writer (Takes h.path mode agreed) h.accepted in
+      let answers = accepted_answers h.run.asked writer (Takes h.accepts.path mode agreed) h.accepts.accepted in
       let agreeable = answered_values kinds.Write mode 0 limits answers.0 agreed has.ok.max_block answers.1 in
       let packet = Oack (agreed_options agreed) in
       let spelled : Spells packet (oack_bytes agreed) = spells_own packet (valid_oack kinds.Write mode 0 limits answers.0 agreed (omega arith) has.ok.max_block answers.1 (λ e. cc)) in
-      let taken = h.answered.0 in
+      let taken = h.accepts.answered.0 in
       let st = agreed_terms x.address taken in
       let rt = agreed_terms writer.address agreed in
-      let same : rt.size ≡ st.size = sym (own_oack agreed agreeable) ∙ taken_oack asked kinds.Write mode (agreed_options agreed) old.limits.max_file taken h.answered.1 in
-      let few : length written < 65535 * st.size = subst (λ (n : ℕ). length written < 65535 * n) same h.fits in
+      let same : rt.size ≡ st.size = sym (own_oack agreed agreeable) ∙ taken_oack asked kinds.Write mode (agreed_options agreed) old.limits.max_file taken h.accepts.answered.1 in
+      let few : length written < 65535 * st.size = subst (λ (n : ℕ). length written < 65535 * n) same h.accepts.fits in
       let sends : datagram_action writer.state x.address (oack_bytes agreed) (Some packet) ≡ Send st 1 =
       from_server writer.state (Waiting asked old.limits.max_file) x.address (oack_bytes agreed) packet refl refl refl
-      ∙ (ap (begin_with_action x.address (length written)) h.answered.1 ∙ begins_now (length written) st few) in
-      let through = write_on x st rt packet (write_begins agreed ok h) refl refl refl refl refl refl spelled sends refl refl same in
-      subst (λ (n : ℕ). IsThrough old new (write_count (block_count written n))) (sym same) through
+      ∙ (ap (begin_with_action x.address (length written)) h.accepts.answered.1 ∙ begins_now (length written) st few) in
+      let m = length written / st.size in
+      let count : 2 + 2 * m + 1 + 1 ≡ write_count (block_count written st.size) = omega arith in
+      subst (λ (n : ℕ). Ends old new (length h.run.reports) (write_count (block_count written n))) (sym same)
+      (writer_ends old new (length h.run.reports) (2 + 2 * m + 1 + 1) (write_count (block_count written st.size)) count
+      (write_begins agreed (length old.ends) (length old.ends + 1) (2 + 2 * m + 1) ok h (λ b. write_on x st rt packet b refl refl refl refl refl refl spelled sends refl refl same)))
 
 pub writes_complete : WritesComplete
 writes_complete strangers old new name mode asked file [] ok h = write_plainly strangers old new name mode asked file ok h

@@ -64,7 +64,6 @@ IsWilling false x = ⊤
 pub record IsLeft (reads : Bool) (w : WorldState) (i : ℕ) (v : WorldState) : Type 0 where
   pub reports : List Report
   pub settles : Settles w i reports v
-  pub all : length v.sent ≤ i + length reports
   pub taken : UnlessReads reads (AllTaken reports)
 
 -- a datagram that is on its way is delivered next
@@ -75,29 +74,67 @@ pub record GoesOn (reads : Bool) (w : WorldState) (i : ℕ) (v : WorldState) : T
   pub taken : UnlessReads reads (TookAll report.closed)
   pub left : IsLeft reads mid (i + 1) v
 
-pub goes_on : (reads : Bool) (w v : WorldState) (i : ℕ) → length w.sent ≡ i + 1 → IsLeft reads w i v → GoesOn reads w i v
-goes_on reads w v i more l = by l.reports l.settles l.all l.taken where
-  by : (reports : List Report) → Settles w i reports v → length v.sent ≤ i + length reports → UnlessReads reads (AllTaken reports) → GoesOn reads w i v
-  by [] s all taken = absurd (let e = ap (λ (u : WorldState). length u.sent) s in omega (arith, e, more, all))
-  by (report ∷ reports) s all taken = record {
-    mid = s.0;
-    report = report;
-    step = s.1;
-    taken = said_first reads (TookAll report.closed) (AllTaken reports) taken;
-    left = record {
-      reports = reports;
-      settles = s.2;
-      all = omega (arith, all);
-      taken = said_then reads (TookAll report.closed) (AllTaken reports) taken;
-    };
+-- both ends are complete at these places, and so many datagrams were sent
+pub record IsOver (v : WorldState) (one other count : ℕ) : Type 0 where
+  pub x : WorldEnd
+  pub y : WorldEnd
+  pub x_at : slice_get v.ends one ≡ Some x
+  pub y_at : slice_get v.ends other ≡ Some y
+  pub x_done : IsComplete x
+  pub y_done : IsComplete y
+  pub counted : length v.sent ≡ count
+
+-- where so many deliveries, the datagrams from place i on, complete both ends at these places, and so many of them were made
+pub record Reaches (v : WorldState) (one other i made rest : ℕ) : Type 0 where
+  pub few : made ≤ rest
+  pub goes_on : made < rest → length v.sent ≡ i + made + 1
+  pub over : made ≡ rest → IsOver v one other (i + rest)
+
+more_few : (made rest : ℕ) → made ≤ rest → suc made ≤ rest + 1
+more_few made rest h = omega (arith, h)
+
+-- the run stops before a datagram that is on its way, or that is delivered
+pub walks : (reads : Bool) (w v : WorldState) (one other i rest : ℕ) → length w.sent ≡ i + 1 → (l : IsLeft reads w i v) →
+    ((g : GoesOn reads w i v) → Reaches v one other (i + 1) (length g.left.reports) rest) → Reaches v one other i (length l.reports) (rest + 1)
+walks reads w v one other i rest more l then_on = by l.reports l.settles l.taken where
+  by : (reports : List Report) → Settles w i reports v → UnlessReads reads (AllTaken reports) → Reaches v one other i (length reports) (rest + 1)
+  by [] s taken = record {
+    few = omega arith;
+    goes_on = λ _. let e = ap (λ (u : WorldState). length u.sent) s in omega (arith, e, more);
+    over = λ m. absurd (let e : 0 ≡ rest + 1 = m in omega (arith, e));
   }
+  by (report ∷ reports) s taken =
+      let g : GoesOn reads w i v = record {
+        mid = s.0;
+        report = report;
+        step = s.1;
+        taken = said_first reads (TookAll report.closed) (AllTaken reports) taken;
+        left = record {
+          reports = reports;
+          settles = s.2;
+          taken = said_then reads (TookAll report.closed) (AllTaken reports) taken;
+        };
+      } in
+      let r = then_on g in
+      record {
+        few = more_few (length reports) rest r.few;
+        goes_on = λ m. let e = r.goes_on (let n : length reports < rest = omega (arith, m) in n) in omega (arith, e);
+        over = λ m.
+            let n : length reports ≡ rest = omega (arith, m) in
+            let e : i + 1 + rest ≡ i + (rest + 1) = omega arith in
+            subst (λ (c : ℕ). IsOver v one other c) e (r.over n);
+      }
 
 -- where none is on its way the run is at its end
-ends_here : (reads : Bool) (w v : WorldState) (i : ℕ) → length w.sent ≡ i → IsLeft reads w i v → v ≡ w
-ends_here reads w v i none l = by l.reports l.settles where
-  by : (reports : List Report) → Settles w i reports v → v ≡ w
-  by [] s = s
-  by (report ∷ reports) s = absurd (let within = slice_get_within w.sent i s.1.0 s.1.1 in omega (arith, within, none))
+pub ends_here : (reads : Bool) (w v : WorldState) (one other i : ℕ) → IsOver w one other i → (l : IsLeft reads w i v) → Reaches v one other i (length l.reports) 0
+ends_here reads w v one other i over l = by l.reports l.settles where
+  by : (reports : List Report) → Settles w i reports v → Reaches v one other i (length reports) 0
+  by [] s = record {
+    few = omega arith;
+    goes_on = λ m. absurd (let n : 0 < 0 = m in omega (arith, n));
+    over = λ _. let e : i ≡ i + 0 = omega arith in subst (λ (c : ℕ). IsOver v one other c) e (subst (λ (u : WorldState). IsOver u one other i) (sym s) over);
+  }
+  by (report ∷ reports) s = absurd (let within = slice_get_within w.sent i s.1.0 s.1.1 in let none = over.counted in omega (arith, within, none))
 
 -- ---- a world in which this datagram is the only one on its way
 pub record IsReady (strangers : Bool) (w : WorldState) (i : ℕ) (d : Datagram) : Type 0 where
@@ -112,16 +149,6 @@ ready_next strangers w v i d next report r s sent = record {
   newest = ap (λ (ds : List Datagram). slice_get ds (i + 1)) sent ∙ (ap (slice_get (w.sent ++ next ∷ [])) (sym r.count) ∙ slice_get-push_new w.sent next);
   count = let e = ap length sent in let f = length-append w.sent (next ∷ []) in let c = r.count in omega (arith, e, f, c);
 }
-
--- both ends are complete at these places, and so many datagrams were sent
-pub record IsOver (v : WorldState) (one other count : ℕ) : Type 0 where
-  pub x : WorldEnd
-  pub y : WorldEnd
-  pub x_at : slice_get v.ends one ≡ Some x
-  pub y_at : slice_get v.ends other ≡ Some y
-  pub x_done : IsComplete x
-  pub y_done : IsComplete y
-  pub counted : length v.sent ≡ count
 
 -- an end that is elsewhere stays
 pub stays_at : (w v : WorldState) (k j : ℕ) (x y : WorldEnd) → v.ends ≡ slice_set w.ends k y → j ≢ k → slice_get w.ends j ≡ Some x → slice_get v.ends j ≡ Some x
@@ -388,31 +415,31 @@ module _ (strangers : Bool) (ks kr : ℕ) (apart : kr ≢ ks) (sa ra : Endpoint)
       }
 
   -- ---- the rest of the run, from DATA n + 1 on its way, behind which so many blocks are left
-  pub from_data : (reads : Bool) (m w_i n : ℕ) (w v : WorldState) → n + 1 + m ≡ blocks → IsReady strangers w w_i (data_at n) → SendsAt w (n + 1) → AwaitsAt reads w n → IsLeft reads w w_i v → IsOver v ks kr (w_i + 2 + 2 * m)
+  pub from_data : (reads : Bool) (m i n : ℕ) (w v : WorldState) → n + 1 + m ≡ blocks → IsReady strangers w i (data_at n) → SendsAt w (n + 1) → AwaitsAt reads w n → (l : IsLeft reads w i v) →
+      Reaches v ks kr i (length l.reports) (2 + 2 * m)
   from_data reads zero i n w v is ready s r left =
       let within : n + 1 ≤ blocks = omega (arith, is) in
       let last : n + 1 ≡ blocks = omega (arith, is) in
-      let g = goes_on reads w v i ready.count left in
+      let count : 0 + 1 + 1 ≡ 2 + 2 * 0 = omega arith in
+      subst (λ (c : ℕ). Reaches v ks kr i (length left.reports) c) count
+      (walks reads w v ks kr i (0 + 1) ready.count left (λ g.
       let next = data_ready reads w g.mid i n g.report ready s r within g.step g.taken in
       let sender = data_sender reads w g.mid i n g.report ready s r within g.step g.taken in
       let all = data_all reads w g.mid i n g.report ready s r within g.step g.taken last in
-      let h = goes_on reads g.mid v (i + 1) next.count g.left in
-      let over = ack_over g.mid h.mid (i + 1) (n + 1) h.report next sender within h.step last all in
-      let final = ends_here reads h.mid v (i + 1 + 1) over.counted h.left in
-      let count : i + 1 + 1 ≡ i + 2 + 2 * 0 = omega arith in
-      subst (λ (c : ℕ). IsOver v ks kr c) count (subst (λ (u : WorldState). IsOver u ks kr (i + 1 + 1)) (sym final) over)
+      walks reads g.mid v ks kr (i + 1) 0 next.count g.left (λ h.
+      ends_here reads h.mid v ks kr (i + 1 + 1) (ack_over g.mid h.mid (i + 1) (n + 1) h.report next sender within h.step last all) h.left)))
   from_data reads (suc m) i n w v is ready s r left =
       let within : n + 1 ≤ blocks = omega (arith, is) in
       let more : n + 1 < blocks = omega (arith, is) in
-      let g = goes_on reads w v i ready.count left in
+      let rest : n + 1 + 1 + m ≡ blocks = omega (arith, is) in
+      let count : 2 + 2 * m + 1 + 1 ≡ 2 + 2 * suc m = omega arith in
+      subst (λ (c : ℕ). Reaches v ks kr i (length left.reports) c) count
+      (walks reads w v ks kr i (2 + 2 * m + 1) ready.count left (λ g.
       let next = data_ready reads w g.mid i n g.report ready s r within g.step g.taken in
       let sender = data_sender reads w g.mid i n g.report ready s r within g.step g.taken in
       let receiver = data_receiver reads w g.mid i n g.report ready s r within g.step g.taken more in
-      let h = goes_on reads g.mid v (i + 1) next.count g.left in
+      walks reads g.mid v ks kr (i + 1) (2 + 2 * m) next.count g.left (λ h.
       let again = ack_ready g.mid h.mid (i + 1) (n + 1) h.report next sender within h.step more in
       let sender_then = ack_sender g.mid h.mid (i + 1) (n + 1) h.report next sender within h.step more in
       let receiver_then = ack_receiver g.mid h.mid (i + 1) (n + 1) h.report next sender within h.step more reads receiver in
-      let rest : n + 1 + 1 + m ≡ blocks = omega (arith, is) in
-      let over = from_data reads m (i + 1 + 1) (n + 1) h.mid v rest again sender_then receiver_then h.left in
-      let count : i + 1 + 1 + 2 + 2 * m ≡ i + 2 + 2 * suc m = omega arith in
-      subst (λ (c : ℕ). IsOver v ks kr c) count over
+      from_data reads m (i + 1 + 1) (n + 1) h.mid v rest again sender_then receiver_then h.left)))

@@ -1,6 +1,7 @@
 -- A world that is kept is safe.
 use Rattle.std.proofs.Common.{◌≡◌, ℕ, Bool, true, false, List, [], ◌++◌, map, Option, Some, None, sym, refl, ap, ◌∙◌, subst, arith}
 use Rattle.std.specs.Prelude.{if◌then◌else◌, slice_get, option_map}
+use Rattle.std.specs.Cmp.Lexicographic.{same_text}
 use Rattle.std.proofs.lemmas.Bool.{true≢false}
 use Rattle.std.proofs.lemmas.List.{append-nil}
 use Rattle.std.proofs.lemmas.Option.{same_Some, slice_get-map}
@@ -10,17 +11,19 @@ use Rattle.tftp_file.specs.Block.{IsBeginningOf}
 use Rattle.tftp_file.specs.Netascii.{wire_text}
 use Rattle.tftp_ends.specs.declared.phase.Phase.{Phase}
 use Rattle.tftp_ends.specs.declared.phase.Phase.TheVariants.{Waiting, Sending, Receiving, Dallying, Closed}
-use Rattle.tftp_ends.specs.End.{is_sender, is_complete}
-use Rattle.tftp_machine.specs.Machine.{Endpoint}
-use Rattle.tftp_machine.specs.Shows.{EndView}
+use Rattle.tftp_ends.specs.End.{is_sender, is_client, is_complete}
+use Rattle.tftp_machine.specs.Facts.{home, IsSound}
+use Rattle.tftp_machine.specs.Machine.{Endpoint, At_server, At_client, Elsewhere, host_of, is_same_ip, server_ip, client_ip}
+use Rattle.tftp_machine.specs.Shows.{EndView, Matches}
 use Rattle.tftp_machine.specs.ViewSafety.{IsAmong, IsSafeViews}
 use Rattle.tftp_player.specs.World.{WorldState, WorldEnd, Open_end, Closed_end, end_record, end_address, end_mode, end_file, end_stored, end_committed, end_text, new_world, goes_on, received_text, view_of_end}
-use Rattle.tftp_player.specs.WorldSafety.{IsIn, IsSafe}
+use Rattle.tftp_player.specs.WorldSafety.{IsIn, place_of_end, IsSafe}
 use Rattle.tftp_player.specs.WorldKept.{IsKeptIn, IsOk}
 use Rattle.tftp_player.specs.WorldRuns.{WorldsAreSafe, PeersStayHome, KeptIsSafe}
 use Rattle.tftp_player.proofs.HostBytes.{wire_beginning, wire_same}
 use Rattle.tftp_player.proofs.SourceMoves.{text_if}
 use Rattle.tftp_player.proofs.SinkMoves.{text_else}
+use Rattle.tftp_machine.proofs.Endpoints.{endpoint_from}
 use Rattle.tftp_machine.proofs.ViewSafe.{IsBeginningOf-trans, first_of_empty, shown_safe}
 use Rattle.tftp_player.proofs.WorldTurns.{view_at}
 use Rattle.tftp_player.proofs.WorldRuns.{run_keeps, new_ok, any_may, ok_at_home}
@@ -48,6 +51,20 @@ complete_stops (Sending terms number) e = absurd (true≢false (sym e))
 complete_stops (Receiving terms number) e = absurd (true≢false (sym e))
 complete_stops (Dallying terms number dally) e = refl
 complete_stops (Closed terms number complete outcome) e = refl
+
+-- an endpoint at one of the two hosts has its address
+home_ip : (client s c : Bool) (ip : List ℕ) → is_same_ip ip server_ip ≡ s → is_same_ip ip client_ip ≡ c → (if s then At_server else if c then At_client else Elsewhere) ≡ home client →
+    ip ≡ (if client then client_ip else server_ip)
+home_ip true true c ip p q h = cc
+home_ip true false true ip p q h = same_text ip client_ip (sym q)
+home_ip true false false ip p q h = cc
+home_ip false true c ip p q h = same_text ip server_ip (sym p)
+home_ip false false true ip p q h = cc
+home_ip false false false ip p q h = cc
+
+ip_at_home : (a : Endpoint) (client : Bool) → host_of a ≡ home client → a.ip ≡ (if client then client_ip else server_ip)
+unfolding host_of
+ip_at_home a client h = home_ip client (is_same_ip a.ip server_ip) (is_same_ip a.ip client_ip) a.ip refl refl h
 
 nothing_travels : (mode : Mode) → wire_text mode [] ≡ []
 nothing_travels Octet = refl
@@ -79,8 +96,20 @@ module _ (strangers : Bool) (w : WorldState) (ok : IsOk strangers w) where
   committed (Open_end x) h r d = h.stands.kept.committed r ∙ d
   committed (Closed_end x) h r d = h.stands r ∙ d
 
+  matched : (k : ℕ) (x : WorldEnd) → slice_get w.ends k ≡ Some x → Matches (view_of_end x) (ok.shown.0.party (end_address x))
+  matched k x i = (ok.shown.3.ends k (view_of_end x) (view_at w.ends k x i)).0
+
+  sound : (k : ℕ) (x : WorldEnd) → slice_get w.ends k ≡ Some x → IsSound ok.shown.0.party (end_address x) (ok.shown.0.party (end_address x))
+  sound k x i = ok.shown.1.ends (end_address x) (matched k x i).is_open
+
   pub ok_safe : IsSafe w
   ok_safe = record {
+    at_place = λ k x i.
+        let client = is_client (end_record x).side in
+        endpoint_from (end_address x) (place_of_end (end_record x).side k)
+        (ip_at_home (end_address x) client ((sound k x i).at_home ∙ ap home (matched k x i).client))
+        (ok.shown.3.ends k (view_of_end x) (view_at w.ends k x i)).1;
+    at_server = λ x p i client peer. ((sound i.0 x i.1).serving ((matched i.0 x i.1).client ∙ client) p ((matched i.0 x i.1).peer ∙ peer)).0;
     unique = λ x y i j e.
         let p = (ok.shown.3.ends i.0 (view_of_end x) (view_at w.ends i.0 x i.1)).1 in
         let q = (ok.shown.3.ends j.0 (view_of_end y) (view_at w.ends j.0 y j.1)).1 in

@@ -112,9 +112,9 @@ sends = takes w2 1 0 d1 client turn3 (Source []) [] refl refl refl
     }) refl
 
 -- no other path has got a file
-no_file : (b : Bool) (q : List ℕ) → is_at (path_cmp q) name ≡ b → q ≢ name → cond b (Some file) None ≡ None
-no_file true q e n = absurd (n (same_text q name (sym e ∙ is_eq-slice_cmp q name)))
-no_file false q e n = refl
+pub no_file : (content : List ℕ) (b : Bool) (q : List ℕ) → is_at (path_cmp q) name ≡ b → q ≢ name → cond b (Some content) None ≡ None
+no_file content true q e n = absurd (n (same_text q name (sym e ∙ is_eq-slice_cmp q name)))
+no_file content false q e n = refl
 
 stores : WorldStep w3 (Deliver 2) (report_of w3 server turn4) w4
 stores = takes w3 2 1 d2 server turn4 (Sink stored) ((name, file) ∷ []) refl refl refl
@@ -137,7 +137,7 @@ stores = takes w3 2 1 d2 server turn4 (Sink stored) ((name, file) ∷ []) refl r
       );
       again = tt;
     })
-    (record { free = refl; here = refl; others = λ q n. no_file (is_at (path_cmp q) name) q refl n })
+    (record { free = refl; here = refl; others = λ q n. no_file file (is_at (path_cmp q) name) q refl n })
 
 completes : WorldStep w4 (Deliver 3) (report_of w4 sending turn5) w5
 completes = takes w4 3 0 d3 sending turn5 (Source []) ((name, file) ∷ []) refl refl refl
@@ -167,14 +167,12 @@ write_transfers = (
 )
 
 -- and without loss
-pub write_is_straight : SomeWriteIsStraight nothing_asked []
+pub write_is_straight : SomeWriteIsStraight Octet nothing_asked file []
 unfolding places_of
 write_is_straight = (
   w0,
   w5,
   name,
-  Octet,
-  file,
   new_ok false [] config (omega arith, omega arith),
   record {
     run = record {
@@ -183,18 +181,20 @@ write_is_straight = (
       asks = asks;
       reports = sent_report w1 ∷ report_of w2 client turn3 ∷ report_of w3 server turn4 ∷ report_of w4 sending turn5 ∷ [];
       settles = (w2, opens, (w3, sends, (w4, stores, (w5, completes, refl))));
-      all = omega arith;
     };
-    path = name;
-    accepted = record {
-      decoded = Some (packet_in d0.bytes);
-      says = fault_where_nothing d0.bytes (bytes_below d0.bytes refl) refl;
-      repeated = false;
-      repeats = first_request client.address (packet_in d0.bytes) client refl;
-      is = refl;
+    accepts = record {
+      path = name;
+      accepted = record {
+        decoded = Some (packet_in d0.bytes);
+        says = fault_where_nothing d0.bytes (bytes_below d0.bytes refl) refl;
+        repeated = false;
+        repeats = first_request client.address (packet_in d0.bytes) client refl;
+        is = refl;
+      };
+      answered = tt;
+      fits = omega arith;
     };
-    answered = tt;
-    fits = omega arith;
     taken = (tt, (tt, (tt, ((λ e. cc), tt))));
   },
+  refl,
 )

@@ -1,5 +1,5 @@
 -- The definitions are not empty: some events transfer a file in a world.
-use Rattle.std.specs.Prelude.{◌≡◌, ℕ, true, List, ◌∷◌, Some, None}
+use Rattle.std.specs.Prelude.{◌≡◌, ℕ, true, List, [], ◌∷◌, Some, None}
 use Rattle.tftp_negotiate.specs.declared.asked.Asked.{Asked}
 use Rattle.tftp_ends.specs.End.{is_sender}
 use Rattle.tftp_server.specs.declared.config.Config.{Config}
@@ -15,6 +15,13 @@ nothing_asked = record { blksize = None; timeout = None; tsize = None }
 -- blocks of 8 bytes are asked
 abbrev pub blocks_of_8 : Asked
 blocks_of_8 = record { blksize = Some 8; timeout = None; tsize = None }
+
+-- files of two and of three such blocks, the last of which has one byte
+abbrev pub two_blocks : List ℕ
+two_blocks = 65 ∷ 66 ∷ 67 ∷ 68 ∷ 69 ∷ 70 ∷ 71 ∷ 72 ∷ 73 ∷ []
+
+abbrev pub three_blocks : List ℕ
+three_blocks = 65 ∷ 66 ∷ 67 ∷ 68 ∷ 69 ∷ 70 ∷ 71 ∷ 72 ∷ 73 ∷ 74 ∷ 75 ∷ 76 ∷ 77 ∷ 78 ∷ 79 ∷ 80 ∷ 81 ∷ []
 
 -- two ends are each other's peers and complete, and the receiver has stored the sender's file, which is this
 pub record IsTransferred (w : WorldState) (bytes : List ℕ) : Type 0 where

@@ -54,7 +54,7 @@ served_as port s state left draft request =
       request = request;
     }
 
--- a record of an end that nobody holds
+-- a record of an end that nobody holds: of no end of a world, since the server holds each open end of its own (`HangTogether`)
 abbrev pub unheld : Record
 unheld = record { side = ServerRead; peer = None; size = DEFAULT_BLOCK; timeout = None; number = 0; complete = false; outcome = Some TimedOut }
 

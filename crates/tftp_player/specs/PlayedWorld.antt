@@ -1,6 +1,7 @@
 -- What the struct that plays a world keeps.
 use Rattle.std.specs.Prelude.{◌≡◌, ◌≤◌, length, Bool, true, false, ◌||◌}
 use Rattle.tftp_player.specs.World.{WorldState}
+use Rattle.tftp_player.specs.WorldKept.{IsOk}
 use Rattle.tftp_player.specs.WorldSafety.{HasPeersAtHome}
 use Rattle.tftp_player.specs.declared.event.Event.{Event}
 use Rattle.tftp_player.specs.declared.event.Event.TheVariants.{Stray}
@@ -27,3 +28,7 @@ strayed_after strayed event = strayed || is_stray event
 -- claimed of every peer
 abbrev pub IsHome : PlayedWorld → Type 0
 IsHome w = w.strayed ≡ false → HasPeersAtHome w.state
+
+-- a world that was played: what the laws on worlds ask of one
+abbrev pub WasPlayed : PlayedWorld → Type 0
+WasPlayed w = IsOk w.strayed w.state

@@ -28,6 +28,10 @@ PlayedServer = ServerState Stored (List ℕ) Drafted
 abbrev pub Transfer : Type 0
 Transfer = Held (List ℕ) Drafted
 
+-- the server, with its store told to refuse or not
+abbrev pub server_told : PlayedServer → Bool → PlayedServer
+server_told server told = record server { store = with_told server.store told }
+
 -- a draft is not committed while its end is not complete
 abbrev pub CommitsLast : Files (List ℕ) Drafted → Phase → Type 0
 CommitsLast (Source left) phase = Unit {0}

@@ -1,5 +1,5 @@
 -- A run without loss: a client opens, and each datagram from its request on is delivered once, in the order sent.
-use Rattle.std.specs.Prelude.{ℕ, ◌≡◌, ◌≢◌, ◌+◌, ◌*◌, ◌≤◌, false, Bool, ⊤, List, [], ◌∷◌, length, slice_get, Option, Some, None, Ok}
+use Rattle.std.specs.Prelude.{ℕ, ◌≡◌, ◌≢◌, ◌+◌, ◌*◌, ◌<◌, ◌≤◌, false, Bool, ⊤, List, [], ◌∷◌, length, slice_get, Option, Some, None, Ok}
 use Rattle.tftp_wire.specs.declared.mode.Mode.{Mode}
 use Rattle.tftp_wire.specs.declared.packet.Packet.{Packet}
 use Rattle.tftp_negotiate.specs.Agreed.{size, agreed_options}
@@ -16,7 +16,8 @@ use Rattle.tftp_ends.specs.Action.{Decodes}
 use Rattle.tftp_server.specs.Port.{Service, Sends, Takes}
 use Rattle.tftp_player.specs.Openings.{reading_client, writing_client}
 use Rattle.tftp_player.specs.Requests.{IsRepeated, service}
-use Rattle.tftp_player.specs.World.{WorldState, OpenEnd, WorldEnd, file_at}
+use Rattle.tftp_player.specs.Settling.{Settled}
+use Rattle.tftp_player.specs.World.{WorldState, OpenEnd, WorldEnd, end_record, file_at}
 use Rattle.tftp_player.specs.WorldKept.{IsOk}
 use Rattle.tftp_player.specs.WorldSafety.{IsComplete}
 use Rattle.tftp_player.specs.WorldSteps.{WorldStep, Settles}
@@ -33,8 +34,6 @@ pub record RunsStraight (old : WorldState) (opening : Event) (new : WorldState) 
   -- the deliveries from the request on
   pub reports : List Report
   pub settles : Settles asked (length old.sent) reports new
-  -- none is left
-  pub all : length new.sent ≤ length old.sent + length reports
 
 -- no end closed because of its store
 abbrev pub TookAll : Option (ℕ × Outcome) → Type 0
@@ -80,45 +79,87 @@ pub record IsThrough (old new : WorldState) (count : ℕ) : Type 0 where
   pub server_done : IsComplete server
   pub counted : length new.sent ≡ length old.sent + count
 
--- a straight run of an accepted read; its client stores all, since nothing told it to refuse
-pub record ReadsStraight (old new : WorldState) (name : List ℕ) (mode : Mode) (asked : Asked) (file : List ℕ) (agreed : List Known) : Type 0 where
-  pub run : RunsStraight old (Get name mode asked) new
+-- a run of so many deliveries ends after this count of them: no run has more, before the last one a datagram is on its way,
+-- and behind it both ends are complete and none is on its way
+pub record Ends (old new : WorldState) (made count : ℕ) : Type 0 where
+  pub few : made ≤ count
+  pub goes_on : made < count → length new.sent ≡ length old.sent + made + 1
+  pub through : made ≡ count → IsThrough old new count
+
+-- the server accepts a read of a client that has asked, and the client accepts the answer
+pub record AcceptsRead (old begun : WorldState) (name : List ℕ) (mode : Mode) (asked : Asked) (file : List ℕ) (agreed : List Known) : Type 0 where
   pub path : List ℕ
   pub length : ℕ
   pub there : file_at old.files path ≡ Some file
-  pub accepted : IsAccepted run.asked (reading_client old name mode asked) (Sends path mode length agreed)
+  pub accepted : IsAccepted begun (reading_client old name mode asked) (Sends path mode length agreed)
   pub answered : TakesAnswer asked Read mode old.limits.max_file agreed
+
+-- the same of a write, whose file has no more blocks than can be numbered
+pub record AcceptsWrite (old begun : WorldState) (name : List ℕ) (mode : Mode) (asked : Asked) (file : List ℕ) (agreed : List Known) : Type 0 where
+  pub path : List ℕ
+  pub accepted : IsAccepted begun (writing_client old name mode asked file) (Takes path mode agreed)
+  pub answered : TakesAnswer asked Write mode old.limits.max_file agreed
+  pub fits : Fits (wire_text mode file) (size agreed)
+
+-- a straight run of an accepted read; its client stores all, since nothing told it to refuse
+pub record ReadsStraight (old new : WorldState) (name : List ℕ) (mode : Mode) (asked : Asked) (file : List ℕ) (agreed : List Known) : Type 0 where
+  pub run : RunsStraight old (Get name mode asked) new
+  pub accepts : AcceptsRead old run.asked name mode asked file agreed
 
 -- a straight run of an accepted write
 pub record WritesStraight (old new : WorldState) (name : List ℕ) (mode : Mode) (asked : Asked) (file : List ℕ) (agreed : List Known) : Type 0 where
   pub run : RunsStraight old (Put name mode asked file) new
-  pub path : List ℕ
-  pub accepted : IsAccepted run.asked (writing_client old name mode asked file) (Takes path mode agreed)
-  pub answered : TakesAnswer asked Write mode old.limits.max_file agreed
-  pub fits : Fits (wire_text mode file) (size agreed)
+  pub accepts : AcceptsWrite old run.asked name mode asked file agreed
   pub taken : AllTaken run.reports
 
--- a read completes at both ends, after just so many datagrams
+-- how many datagrams are added by a read of this file, and by a write of it
+abbrev pub read_adds : Mode → List ℕ → List Known → ℕ
+read_adds mode file agreed = read_count agreed (block_count (wire_text mode file) (size agreed))
+
+abbrev pub write_adds : Mode → List ℕ → List Known → ℕ
+write_adds mode file agreed = write_count (block_count (wire_text mode file) (size agreed))
+
+-- a read ends, with both ends complete, after just so many datagrams
 abbrev pub ReadsComplete : Type 0
 ReadsComplete =
     (strangers : Bool) (old new : WorldState) (name : List ℕ) (mode : Mode) (asked : Asked) (file : List ℕ) (agreed : List Known) →
-    IsOk strangers old → ReadsStraight old new name mode asked file agreed →
-    IsThrough old new (read_count agreed (block_count (wire_text mode file) (size agreed)))
+    IsOk strangers old → (read : ReadsStraight old new name mode asked file agreed) →
+    Ends old new (length read.run.reports) (read_adds mode file agreed)
 
 -- so does a write
 abbrev pub WritesComplete : Type 0
 WritesComplete =
     (strangers : Bool) (old new : WorldState) (name : List ℕ) (mode : Mode) (asked : Asked) (file : List ℕ) (agreed : List Known) →
-    IsOk strangers old → WritesStraight old new name mode asked file agreed →
-    IsThrough old new (write_count (block_count (wire_text mode file) (size agreed)))
+    IsOk strangers old → (write : WritesStraight old new name mode asked file agreed) →
+    Ends old new (length write.run.reports) (write_adds mode file agreed)
 
--- some read is straight, and some write, where this was asked and agreed
-abbrev pub SomeReadIsStraight : Asked → List Known → Type 0
-SomeReadIsStraight asked agreed =
-    (old : WorldState) × (new : WorldState) × (name : List ℕ) × (mode : Mode) × (file : List ℕ)
-    × IsOk false old × ReadsStraight old new name mode asked file agreed
+-- deliveries that are wanted, at least as many as a read needs, are just as many as it needs, and complete it
+abbrev pub ReadsSettle : Type 0
+ReadsSettle =
+    (strangers : Bool) (old begun new : WorldState) (report : Report) (name : List ℕ) (mode : Mode) (asked : Asked) (file : List ℕ) (agreed : List Known) (most made : ℕ) →
+    IsOk strangers old → WorldStep old (Get name mode asked) report begun → AcceptsRead old begun name mode asked file agreed →
+    Settled begun (length old.sent) most made new → read_adds mode file agreed ≤ most →
+    (made ≡ read_adds mode file agreed) × IsThrough old new (read_adds mode file agreed)
 
-abbrev pub SomeWriteIsStraight : Asked → List Known → Type 0
-SomeWriteIsStraight asked agreed =
-    (old : WorldState) × (new : WorldState) × (name : List ℕ) × (mode : Mode) × (file : List ℕ)
-    × IsOk false old × WritesStraight old new name mode asked file agreed
+-- no end has closed because of its store, as is recorded of it
+abbrev pub HaveTaken : WorldState → Type 0
+HaveTaken w = (k : ℕ) (x : WorldEnd) → slice_get w.ends k ≡ Some x → (end_record x).outcome ≢ Some StoreFault
+
+-- so it is with a write that the server's store takes
+abbrev pub WritesSettle : Type 0
+WritesSettle =
+    (strangers : Bool) (old begun new : WorldState) (report : Report) (name : List ℕ) (mode : Mode) (asked : Asked) (file : List ℕ) (agreed : List Known) (most made : ℕ) →
+    IsOk strangers old → WorldStep old (Put name mode asked file) report begun → AcceptsWrite old begun name mode asked file agreed →
+    Settled begun (length old.sent) most made new → HaveTaken new → write_adds mode file agreed ≤ most →
+    (made ≡ write_adds mode file agreed) × IsThrough old new (write_adds mode file agreed)
+
+-- some read of this file runs straight to its end, and some write, where this was asked and agreed
+abbrev pub SomeReadIsStraight : Mode → Asked → List ℕ → List Known → Type 0
+SomeReadIsStraight mode asked file agreed =
+    (old : WorldState) × (new : WorldState) × (name : List ℕ) × IsOk false old
+    × (read : ReadsStraight old new name mode asked file agreed) × (length read.run.reports ≡ read_adds mode file agreed)
+
+abbrev pub SomeWriteIsStraight : Mode → Asked → List ℕ → List Known → Type 0
+SomeWriteIsStraight mode asked file agreed =
+    (old : WorldState) × (new : WorldState) × (name : List ℕ) × IsOk false old
+    × (write : WritesStraight old new name mode asked file agreed) × (length write.run.reports ≡ write_adds mode file agreed)

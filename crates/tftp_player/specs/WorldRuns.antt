@@ -37,6 +37,12 @@ PeersStayHome =
     (files : List StoredFile) (config : Config) (events : List Event) (w : WorldState) →
     IsBlockSize config.limits.max_block → MayAllHappen false events → Runs (new_world files config) events w → HasPeersAtHome w
 
+-- what every world keeps holds of one in which nothing has happened
+abbrev pub NewWorldsBegin : Type 0
+NewWorldsBegin =
+    (strangers : Bool) (files : List StoredFile) (config : Config) →
+    IsBlockSize config.limits.max_block → IsOk strangers (new_world files config)
+
 -- a step keeps what every world keeps
 abbrev pub StepsKeep : Type 0
 StepsKeep =

@@ -1,9 +1,10 @@
 -- When a world is safe, in the bytes of its hosts.
-use Rattle.std.specs.Prelude.{◌≡◌, ◌≢◌, ℕ, true, false, [], slice_get, Some, None}
+use Rattle.std.specs.Prelude.{◌≡◌, ◌≢◌, ℕ, ◌+◌, true, false, [], slice_get, Some, None}
 use Rattle.tftp_file.specs.Block.{IsBeginningOf}
 use Rattle.tftp_ends.specs.End.{is_sender, is_client}
-use Rattle.tftp_machine.specs.Machine.{Endpoint, Elsewhere, host_of}
-use Rattle.tftp_player.specs.World.{WorldState, WorldEnd, end_record, end_address, end_path, end_file, end_stored, end_committed, file_at}
+use Rattle.tftp_ends.specs.declared.side.Side.{Side}
+use Rattle.tftp_machine.specs.Machine.{Endpoint, At_server, Elsewhere, host_of}
+use Rattle.tftp_player.specs.World.{WorldState, WorldEnd, ip_of, end_record, end_address, end_path, end_file, end_stored, end_committed, file_at}
 
 -- the end was opened in this world
 abbrev pub IsIn : WorldState → WorldEnd → Type 0
@@ -29,8 +30,16 @@ IsEndAt w p y = IsIn w y × (end_address y ≡ p)
 abbrev pub IsSenderAt : WorldState → Endpoint → WorldEnd → Type 0
 IsSenderAt w p y = IsEndAt w p y × (is_sender (end_record y).side ≡ true)
 
+-- where an end of this side stands that was opened in this place
+abbrev pub place_of_end : Side → ℕ → Endpoint
+place_of_end side k = record { ip = ip_of side; port = 1024 + k }
+
 -- what holds of every world, whatever its network did; of a peer at neither host nothing is claimed
 pub record IsSafe (w : WorldState) : Type 0 where
+  -- the end at place k is at its host's address, and at port 1024 + k
+  pub at_place : (k : ℕ) (x : WorldEnd) → slice_get w.ends k ≡ Some x → end_address x ≡ place_of_end (end_record x).side k
+  -- a client's peer is at the server: only the peer of an end of the server may be at neither host
+  pub at_server : (x : WorldEnd) (p : Endpoint) → IsIn w x → is_client (end_record x).side ≡ true → HasPeer x p → host_of p ≡ At_server
   -- no two ends share an endpoint
   pub unique : (x y : WorldEnd) → IsIn w x → IsIn w y → end_address x ≡ end_address y → x ≡ y
   -- an established transfer has one block size

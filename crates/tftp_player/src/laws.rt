@@ -1,17 +1,22 @@
 //! What every run of a world keeps, over the definitions alone.
+//!
+//! Where a law asks that a world is kept (`IsOk`), the clauses `played` of `World`'s calls say it.
 
 ghost use Rattle.std.specs.Prelude.{[], ◌∷◌};
 ghost use Rattle.tftp_wire.specs.declared.mode.Mode.TheVariants.{Octet, Netascii};
 ghost use Rattle.tftp_negotiate.specs.declared.known.Known.TheVariants.{Blksize};
 ghost use Rattle.tftp_player.specs.Completing.{Transfers, nothing_asked, blocks_of_8};
+ghost use Rattle.tftp_player.specs.Completing.{two_blocks, three_blocks};
 ghost use Rattle.tftp_player.specs.declared.event.Event.TheVariants.{Get, Put};
 ghost use Rattle.tftp_player.specs.OneAtMost.{EventsAddOneAtMost};
 ghost use Rattle.tftp_player.specs.Repeating.{RepeatsOpenNothing, OnlyNewRequestsOpen};
 ghost use Rattle.tftp_player.specs.Repeating.{RequestsLast};
-ghost use Rattle.tftp_player.specs.Straight.{ReadsComplete, WritesComplete};
+ghost use Rattle.tftp_player.specs.Straight.{ReadsComplete, WritesComplete, ReadsSettle};
+ghost use Rattle.tftp_player.specs.Straight.{WritesSettle};
 ghost use Rattle.tftp_player.specs.Straight.{SomeReadIsStraight, SomeWriteIsStraight};
 ghost use Rattle.tftp_player.specs.Strangers.{StraysChangeNoRecord, ClientsHaveServers};
 ghost use Rattle.tftp_player.specs.WorldRuns.{WorldsAreSafe, PeersStayHome, StepsKeep, KeptIsSafe};
+ghost use Rattle.tftp_player.specs.WorldRuns.{NewWorldsBegin};
 
 /// After every list of events, from a world in which nothing has happened: the ends of an
 /// established transfer have one block size, what a receiver stored is a beginning of its peer's
@@ -33,8 +38,10 @@ pub fn some_worlds_transfer()
     ensures options { Transfers (Get (97 ∷ []) Octet blocks_of_8) (65 ∷ []) }
 {}
 
-/// What makes a world safe is kept by each event, in both modes, for reads and for writes.
+/// What makes a world safe holds of a new one, and is kept by each event, in both modes, for reads
+/// and for writes.
 pub fn a_step_keeps_a_world()
+    ensures begins { NewWorldsBegin }
     ensures kept { StepsKeep }
     ensures safe { KeptIsSafe }
 {}
@@ -53,17 +60,25 @@ pub fn a_stray_changes_no_record()
 {}
 
 /// A run without loss, of a request that both ends accept, and of a write that the server's store
-/// takes, ends with both ends complete after exactly `1 + 2N` datagrams for a read that is answered
-/// by DATA 1, `3 + 2N` for one that is answered by an OACK, and `2 + 2N` for a write, where the
-/// text has `N` blocks of the agreed size (RFC 1350, section 2; RFC 2347, "Negotiation Protocol").
-/// There are such runs: of a read and of a write without options, and of a read in blocks of 8
-/// bytes.
+/// takes, ends: it has no more than `1 + 2N` deliveries for a read that is answered by DATA 1,
+/// `3 + 2N` for one that is answered by an OACK, and `2 + 2N` for a write, where the text has `N`
+/// blocks of the agreed size (RFC 1350, section 2; RFC 2347, "Negotiation Protocol"). Before the
+/// last of them a datagram is on its way; behind it both ends are complete, and none is. A
+/// `World::settle` that wants more delivers just so many.
+///
+/// There are such runs: of a read and of a write without options, of a read in netascii, of a read
+/// of three blocks and of a write of two in blocks of 8 bytes.
 pub fn a_straight_run_completes()
     ensures reads { ReadsComplete }
     ensures writes { WritesComplete }
-    ensures read { SomeReadIsStraight nothing_asked [] }
-    ensures write { SomeWriteIsStraight nothing_asked [] }
-    ensures options { SomeReadIsStraight blocks_of_8 (Blksize 8 ∷ []) }
+    ensures reads_settle { ReadsSettle }
+    ensures writes_settle { WritesSettle }
+    // and there are some
+    ensures read { SomeReadIsStraight Octet nothing_asked (65 ∷ []) [] }
+    ensures write { SomeWriteIsStraight Octet nothing_asked (65 ∷ []) [] }
+    ensures netascii { SomeReadIsStraight Netascii nothing_asked (10 ∷ []) [] }
+    ensures blocks { SomeReadIsStraight Octet blocks_of_8 three_blocks (Blksize 8 ∷ []) }
+    ensures oack { SomeWriteIsStraight Octet blocks_of_8 two_blocks (Blksize 8 ∷ []) }
 {}
 
 /// At the request port a request that repeats that of an open transfer is ignored: nothing is sent,

@@ -10,7 +10,7 @@ ghost use Rattle.tftp_ends.specs.Step.{timeout_turn};
 ghost use Rattle.tftp_server.specs.State.{at};
 ghost use Rattle.tftp_player.specs.Played.{IsServed, draft_or_new, served_draft, told_served_end};
 ghost use Rattle.tftp_player.specs.Serving.{ServedKept, ServedTimeoutStep, ServedDatagramStep};
-ghost use Rattle.tftp_player.specs.Serving.{Concludes, ClosesAs};
+ghost use Rattle.tftp_player.specs.Serving.{Concludes, ClosesAs, server_told};
 
 use crate::effect::{Effect, effect_of};
 use crate::fault::WorldFault;
@@ -96,10 +96,10 @@ impl Served {
         ensures err { OnErr result ((self.new ≡ self.old) × (server.new ≡ server.old)) }
     {
         let mut out = Vec::new(alloc);
-        server.store_mut().refuse_next(self.refuses);
+        tell_store(server, self.refuses);
         let answer = server.on_datagram_recorded(port, from, bytes, &mut out);
         let refuses = server.store().refuses();
-        server.store_mut().refuse_next(false);
+        tell_store(server, false);
         match answer {
             Ok((step, record)) => {
                 self.refuses = refuses;
@@ -169,6 +169,13 @@ impl Served {
         self.draft = draft;
         self.ended = Some(record);
     }
+}
+
+/// Tells the server's store to refuse its next append or commit, or takes that back.
+fn tell_store(server: &mut Server<MemStore>, told: bool)
+    ensures { server.new ≡ server_told server.old told }
+{
+    server.store_mut().refuse_next(told);
 }
 
 /// What a datagram to the request port asks for, where the port's tests that ask no store let it

@@ -6,7 +6,7 @@ ghost use Rattle.tftp_server.specs.Config.{IsConfig};
 ghost use Rattle.tftp_store.specs.Memory.{contents, has_distinct_paths, in_path_order};
 ghost use Rattle.tftp_machine.specs.Machine.{host_of, Elsewhere};
 ghost use Rattle.tftp_player.specs.Played.{records_from};
-ghost use Rattle.tftp_player.specs.PlayedWorld.{strayed_after, HasSentEach, IsHome};
+ghost use Rattle.tftp_player.specs.PlayedWorld.{strayed_after, HasSentEach, IsHome, WasPlayed};
 ghost use Rattle.tftp_player.specs.Stage.{stored_at, committed_at};
 ghost use Rattle.tftp_player.specs.Arriving.{IsPlayable};
 ghost use Rattle.tftp_player.specs.WorldSteps.{WorldStep, WorldRefuses};
@@ -35,7 +35,8 @@ use tftp_server::Config;
 ///
 /// It is safe at all times: the two ends of an established transfer have one block size, what a
 /// receiver stored is a beginning of its peer's file and all of it once it is complete, and a
-/// sender is complete only after its receiver.
+/// sender is complete only after its receiver. What `laws` say of a world that was played they say
+/// of any `World` (`WasPlayed`).
 #[derive(Drop)]
 pub struct World {
     stage: Stage,
@@ -69,6 +70,7 @@ impl World {
         ensures strayed { IfOk result (λ world. world.strayed ≡ false) }
         ensures memory { IfErr result (λ fault. fault ≡ WorldFault.Memory) }
         ensures safe { IfOk result (λ world. IsSafe world.state) }
+        ensures played { IfOk result WasPlayed }
     {
         let stage = Stage::new(alloc, files, config)?;
         Ok(World {
@@ -92,9 +94,12 @@ impl World {
         self.stage.sent()
     }
 
-    /// Every end that was ever opened, by its port, and how far it came; in order of opening.
+    /// Every end that was ever opened, by its port, and how far it came; in order of opening. The
+    /// world is safe, and the laws on worlds speak of it.
     pub fn records(&self) -> &[(u16, Record)]
-        ensures { result.now ≡ records_from 1024 self.now.state.ends }
+        ensures records { result.now ≡ records_from 1024 self.now.state.ends }
+        ensures safe { IsSafe self.now.state }
+        ensures played { WasPlayed self.now }
     {
         self.stage.records()
     }
@@ -141,6 +146,7 @@ impl World {
         // what it leaves is safe, and without strays every peer is at one of the two hosts
         ensures safe { IsSafe self.new.state }
         ensures home { IsHome self.new }
+        ensures played { WasPlayed self.new }
     {
         let strayed = event.strayed_after(self.strayed);
         match self.stage.step(event) {
@@ -167,6 +173,7 @@ impl World {
         // what they leave is safe, and without strays every peer is at one of the two hosts
         ensures safe { IsSafe self.new.state }
         ensures home { IsHome self.new }
+        ensures played { WasPlayed self.new }
     {
         let _ = &self.stage;
         let mut count = 0;

@@ -1,7 +1,10 @@
 -- The lemmas that are the law.
-use Rattle.tftp_player.proofs.OptionsWitness.{read_is_straight as read_with_options}
+use Rattle.tftp_player.proofs.BlocksWitness.{read_is_straight as read_of_blocks}
+use Rattle.tftp_player.proofs.NetasciiWitness.{read_is_straight as read_in_netascii}
+use Rattle.tftp_player.proofs.OackWitness.{write_is_straight as write_with_options}
 use Rattle.tftp_player.proofs.ReadWitness.{read_is_straight}
 use Rattle.tftp_player.proofs.WriteWitness.{write_is_straight}
+use Rattle.tftp_player.proofs.SettledLemmas.{reads_settle, writes_settle}
 use Rattle.tftp_player.proofs.StraightOpenings.{reads_complete, writes_complete}
 use Rattle.tftp_player.proofs.laws.a_straight_run_completes.Goals as goal
 
@@ -11,11 +14,23 @@ returns-clause-reads g = reads_complete
 pub returns-clause-writes : goal.returns-clause-writes
 returns-clause-writes g = writes_complete
 
+pub returns-clause-reads_settle : goal.returns-clause-reads_settle
+returns-clause-reads_settle g = reads_settle
+
+pub returns-clause-writes_settle : goal.returns-clause-writes_settle
+returns-clause-writes_settle g = writes_settle
+
 pub returns-clause-read : goal.returns-clause-read
 returns-clause-read g = read_is_straight
 
 pub returns-clause-write : goal.returns-clause-write
 returns-clause-write g = write_is_straight
 
-pub returns-clause-options : goal.returns-clause-options
-returns-clause-options g = read_with_options
+pub returns-clause-netascii : goal.returns-clause-netascii
+returns-clause-netascii g = read_in_netascii
+
+pub returns-clause-blocks : goal.returns-clause-blocks
+returns-clause-blocks g = read_of_blocks
+
+pub returns-clause-oack : goal.returns-clause-oack
+returns-clause-oack g = write_with_options

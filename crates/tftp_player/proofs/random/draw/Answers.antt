@@ -10,12 +10,12 @@ use Rattle.tftp_player.proofs.random.draw.Goals as goal
 pub returns-then-is_empty-clause-event : goal.returns-then-is_empty-clause-event
 returns-then-is_empty-clause-event c =
     let none : length c.records-records.result.now ≡ 0 = search rules in
-    draws_none c.args.world.now.state _ _ c.records-records.result.now c.records-records.ensures none
+    draws_none c.args.world.now.state _ _ c.records-records.result.now c.records-records.ensures.records none
 
 pub returns-then-is_empty-clause-words : goal.returns-then-is_empty-clause-words
 returns-then-is_empty-clause-words c =
     let none : length c.records-records.result.now ≡ 0 = search rules in
-    no_words c.args.world.now.state c.args.rng.now c.records-records.result.now c.records-records.ensures none
+    no_words c.args.world.now.state c.args.rng.now c.records-records.result.now c.records-records.ensures.records none
 
 pub returns-clause-event : goal.returns-clause-event
 returns-clause-event c =
@@ -26,5 +26,5 @@ returns-clause-event c =
     let kind : c.next_word-kind.result ≡ (pcg32 g).0 = ap (λ (p : ℕ × Lcg). p.0) c.next_word-kind.ensures in
     let place : c.next_word-place.result ≡ (pcg32 (pcg32 g).1).0 =
     ap (λ (p : ℕ × Lcg). p.0) c.next_word-place.ensures ∙ ap (λ (p : ℕ × Lcg). (pcg32 p.1).0) c.next_word-kind.ensures in
-    draws_timeout w c.next_word-kind.result c.next_word-place.result c.records-records.result.now _ c.records-records.ensures some high
+    draws_timeout w c.next_word-kind.result c.next_word-place.result c.records-records.result.now _ c.records-records.ensures.records some high
     ∙ (ap (λ (n : ℕ). drawn w n c.next_word-place.result) kind ∙ ap (λ (n : ℕ). drawn w (pcg32 g).0 n) place)

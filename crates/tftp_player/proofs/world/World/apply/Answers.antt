@@ -27,3 +27,9 @@ returns-in-Err-clause-safe c =
 pub returns-in-Err-clause-home : goal.returns-in-Err-clause-home
 returns-in-Err-clause-home c =
     home_of c.self.inside.strayed c.step.new.self (subst (λ (w : WorldState). IsOk c.self.inside.strayed w) (sym c.in-Err.ensures.err) c.self.invariant.0)
+
+pub returns-in-Ok-clause-played : goal.returns-in-Ok-clause-played
+returns-in-Ok-clause-played c = (invariant_of-self c).0
+
+pub returns-in-Err-clause-played : goal.returns-in-Err-clause-played
+returns-in-Err-clause-played c = subst (λ (w : WorldState). IsOk c.self.inside.strayed w) (sym c.in-Err.ensures.err) c.self.invariant.0

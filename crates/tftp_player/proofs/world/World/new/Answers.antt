@@ -17,3 +17,6 @@ invariant_of-result c = (
 
 pub returns-clause-safe : goal.returns-clause-safe
 returns-clause-safe c = kept_is_safe false c.in_ok-stage.stage (invariant_of-result c).0
+
+pub returns-clause-played : goal.returns-clause-played
+returns-clause-played c = (invariant_of-result c).0

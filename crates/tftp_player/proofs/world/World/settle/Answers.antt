@@ -1,7 +1,7 @@
 -- A settling is one delivery after another, each of which leaves the world safe.
 use Rattle.std.proofs.Common.{◌∙◌, refl, rules, subst}
 use Rattle.std.proofs.Math.Bool.{or-false}
-use Rattle.tftp_player.specs.PlayedWorld.{PlayedWorld, IsHome}
+use Rattle.tftp_player.specs.PlayedWorld.{PlayedWorld, IsHome, WasPlayed}
 use Rattle.tftp_player.specs.WorldSafety.{IsSafe}
 use Rattle.tftp_player.proofs.PlayedKeeps.{delivers_on, home_of}
 use Rattle.tftp_player.proofs.WorldSafe.{kept_is_safe}
@@ -14,6 +14,7 @@ loop-count-init c = record {
   strayed = refl;
   safe = subst (λ (w : PlayedWorld). IsSafe w.state) c.self.view_is (kept_is_safe c.self.inside.strayed c.self.inside.stage c.self.invariant.0);
   home = subst IsHome c.self.view_is (home_of c.self.inside.strayed c.self.inside.stage c.self.invariant.0);
+  played = subst WasPlayed c.self.view_is c.self.invariant.0;
 }
 
 pub loop-count-preserved : goal.loop-count-preserved
@@ -23,4 +24,5 @@ loop-count-preserved c = record {
   strayed = c.in-Ok.ensures.strayed ∙ (or-false c.loop-count.self.strayed ∙ c.loop-count.invariant.strayed);
   safe = c.apply.ensures.safe;
   home = c.apply.ensures.home;
+  played = c.apply.ensures.played;
 }

@@ -1,6 +1,6 @@
 -- So many deliveries were made, and the world is safe behind each.
 use Rattle.std.proofs.Common.{◌≡◌, ◌-◌, ◌≤◌, List, length}
-use Rattle.tftp_player.specs.PlayedWorld.{IsHome}
+use Rattle.tftp_player.specs.PlayedWorld.{IsHome, WasPlayed}
 use Rattle.tftp_player.specs.WorldSafety.{IsSafe}
 use Rattle.tftp_player.specs.WorldSteps.{Settles}
 use Rattle.tftp_player.specs.declared.report.Report.{Report}
@@ -13,6 +13,7 @@ invariant-loop-count l = record {
   strayed : l.self.strayed ≡ l.fn.self.strayed;
   safe : IsSafe l.self.state;
   home : IsHome l.self;
+  played : WasPlayed l.self;
 }
 
 abbrev pub decreases-loop-count : goal.decreases-loop-count
