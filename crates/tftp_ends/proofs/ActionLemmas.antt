@@ -27,7 +27,8 @@ use Rattle.tftp_ends.specs.Action.{Decodes, packet_action}
 use Rattle.tftp_ends.specs.End.{EndState, is_sender, is_client, terms_of, number_of}
 use Rattle.tftp_ends.specs.Receiver.{receiver_action, data_action, next_action, dally_response}
 use Rattle.tftp_ends.specs.Sender.{sender_action, acked_action, illegal_action}
-use Rattle.tftp_ends.specs.Sound.{IsSound, PhaseFits, BytesFit, SentFits, ResendsAck, HasAcknowledged}
+use Rattle.tftp_ends.specs.Sound.{IsSound, PhaseFits, ResendsAck, HasAcknowledged}
+use Rattle.tftp_ends.specs.Fits.{BytesFit, SentFits}
 use Rattle.tftp_ends.specs.Step.{ack_bytes}
 use Rattle.tftp_ends.specs.Text.{is_readable}
 use Rattle.tftp_ends.specs.Waiting.{reader_action, writer_action, accept_action, begin_action, begin_with_action, refusal_action, default_terms, agreed_terms, no_answer}
@@ -38,7 +39,7 @@ if_either P true r s f g = f refl
 if_either P false r s f g = g refl
 
 -- the bytes of a DATA
-data_behind : (number : ℕ) (piece bytes : List ℕ) → Spells (Data number piece) bytes → piece ≡ drop 4 bytes
+pub data_behind : (number : ℕ) (piece bytes : List ℕ) → Spells (Data number piece) bytes → piece ≡ drop 4 bytes
 data_behind number piece bytes s = sym (ap (drop 4) s.whole)
 
 -- DATA has a number from 1 on

@@ -2,6 +2,10 @@ pub mod ActionLemmas
 pub mod Lending
 pub mod OackLemmas
 pub mod ReadingBlocks
+pub mod RowLemmas
+pub mod SenderRowLemmas
+pub mod ReceiverRowLemmas
+pub mod WaitingRowLemmas
 pub mod RunLemmas
 pub mod RunSteps
 pub mod Sending

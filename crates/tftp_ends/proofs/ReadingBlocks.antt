@@ -2,7 +2,7 @@
 use Rattle.std.proofs.Common.{◌≡◌, ◌≢◌, ℕ, false, List, [], ◌++◌, take, Option, Some, None, Ok, refl, sym}
 use Rattle.std.proofs.lemmas.Bool.{ne_eqb}
 use Rattle.tftp_file.specs.Source.{Fills}
-use Rattle.tftp_ends.specs.Step.{ReadsData}
+use Rattle.tftp_ends.specs.Room.{ReadsData}
 
 -- the bytes that a fill put behind others
 pub fills_behind : (before after : Option (List ℕ)) (want k : ℕ) (old new : List ℕ) → Fills before after want old new (Ok k) → (piece : List ℕ) × (new ≡ old ++ piece) × Fills before after want [] piece (Ok k)

@@ -12,7 +12,8 @@ use Rattle.tftp_ends.specs.declared.phase.Terms.{Terms}
 use Rattle.tftp_ends.specs.End.{EndState}
 use Rattle.tftp_ends.specs.Opening.{FailsToStart}
 use Rattle.tftp_ends.specs.Phase.{refused}
-use Rattle.tftp_ends.specs.Step.{Turn, Sends, Lends, ReadsData, in_phase, having_sent, with_position, data_bytes, sent_turn, refused_turn, filled_turn, block_length}
+use Rattle.tftp_ends.specs.Room.{ReadsData}
+use Rattle.tftp_ends.specs.Step.{Turn, Sends, Lends, in_phase, having_sent, with_position, data_bytes, sent_turn, refused_turn, filled_turn, block_length}
 
 -- a read that did not give DATA 1 cannot be served, and its source has left what the fill left
 pub fails_to_start : {S : Type 0} (sources : SourceMeaning S) (length : ℕ) (source source' : S) (buffer : List ℕ) →

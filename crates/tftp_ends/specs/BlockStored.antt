@@ -1,23 +1,13 @@
--- What a sink made of a block.
-use Rattle.std.specs.Prelude.{◌≡◌, ◌≢◌, Bool, true, false, List, ℕ, Option, Some, None, Result, Ok, Err, IfErr, is_ok}
+-- Bookkeeping of the code: what a sink did with a block, as its functions report it to each other.
+use Rattle.std.specs.Prelude.{◌≡◌, ◌≢◌, Bool, true, false, List, ℕ, Result, Ok, Err, IfErr, is_ok}
 use Rattle.tftp_wire.specs.declared.mode.Mode.{Mode}
-use Rattle.tftp_file.specs.Sink.{Holding, SinkMeaning, Commits}
+use Rattle.tftp_file.specs.Sink.{SinkMeaning, Commits}
 use Rattle.tftp_file.specs.declared.fault.StoreFault.{StoreFault}
 use Rattle.tftp_file.specs.declared.fault.StoreFault.TheVariants.{Memory}
 use Rattle.tftp_ends.specs.declared.end.storing.BlockStored.{BlockStored}
 use Rattle.tftp_ends.specs.declared.end.storing.BlockStored.TheVariants.{More, All, Refused, Uncommitted}
 use Rattle.tftp_ends.specs.Step.{Done, Appended, commit_reply}
 use Rattle.tftp_ends.specs.Text.{Decoded}
-
--- a sink that tells what it holds holds the same
-abbrev pub KeepsHolding : Option Holding → Option Holding → Type 0
-KeepsHolding None after = Unit {0}
-KeepsHolding (Some before) after = after ≡ Some before
-
--- a sink tells the same as before, and has left all else as where nothing was committed
-pub record KeepsSink {K : Type 0} (sinks : SinkMeaning K) (before after : K) : Type 0 where
-  pub holding : KeepsHolding (sinks.held before) (sinks.held after)
-  pub leaves : sinks.becomes before after false
 
 module _ {K : Type 0} (sinks : SinkMeaning K) where
   -- what a commit came to

@@ -1,12 +1,21 @@
 -- The files of an end, seen by what they tell.
-use Rattle.std.specs.Prelude.{◌≡◌, true, false}
+use Rattle.std.specs.Prelude.{◌≡◌, true, false, Option, Some, None}
 use Rattle.tftp_file.specs.Source.{SourceMeaning}
-use Rattle.tftp_file.specs.Sink.{SinkMeaning}
+use Rattle.tftp_file.specs.Sink.{Holding, SinkMeaning}
 use Rattle.tftp_file.specs.declared.files.Files.{Files}
 use Rattle.tftp_file.specs.declared.files.Files.TheVariants.{Source, Sink}
 use Rattle.tftp_ends.specs.declared.side.Side.{Side}
 use Rattle.tftp_ends.specs.End.{is_sender}
-use Rattle.tftp_ends.specs.BlockStored.{KeepsSink}
+
+-- a sink that tells what it holds holds the same
+abbrev pub KeepsHolding : Option Holding → Option Holding → Type 0
+KeepsHolding None after = Unit {0}
+KeepsHolding (Some before) after = after ≡ Some before
+
+-- a sink tells the same as before, and has left all else as where nothing was committed
+pub record KeepsSink {K : Type 0} (sinks : SinkMeaning K) (before after : K) : Type 0 where
+  pub holding : KeepsHolding (sinks.held before) (sinks.held after)
+  pub leaves : sinks.becomes before after false
 
 module _ {S K : Type 0} where
   -- a source for a sender, a sink for a receiver

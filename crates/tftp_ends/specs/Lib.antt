@@ -11,10 +11,16 @@ pub mod Receiver
 pub mod Action
 pub mod Step
 pub mod Sound
+pub mod Fits
+pub mod Room
 pub mod BlockRead
 pub mod BlockStored
 pub mod Files
 pub mod OtherSinks
 pub mod Opening
 pub mod Run
+pub mod Rows
+pub mod SenderRows
+pub mod ReceiverRows
+pub mod WaitingRows
 pub mod Endpoint

@@ -1,4 +1,5 @@
--- How a receiver handles a packet from its peer (RFC 1350, sections 2 and 6).
+-- How a receiver decides what it does at a packet from its peer, test by test as the code does. Its table, a sentence
+-- for each row, is in ReceiverRows.
 use Rattle.std.specs.Prelude.{ℕ, ◌+◌, nat_lt, ◌==◌, ◌&&◌, Bool, if◌then◌else◌, List, length, Option, Some, None}
 use Rattle.tftp_wire.specs.declared.mode.Mode.{Mode}
 use Rattle.tftp_wire.specs.declared.packet.Packet.{Packet}

@@ -1,4 +1,5 @@
--- How a sender handles a packet from its peer (RFC 1350, sections 2 and 6; RFC 1123, section 4.2.3.1).
+-- How a sender decides what it does at a packet from its peer, test by test as the code does. Its table, a sentence for
+-- each row, is in SenderRows.
 use Rattle.std.specs.Prelude.{ℕ, ◌+◌, ◌/◌, nat_lt, ◌==◌, ◌&&◌, Bool, if◌then◌else◌, Option, Some, None}
 use Rattle.tftp_wire.specs.declared.packet.Packet.{Packet}
 use Rattle.tftp_wire.specs.declared.packet.Packet.TheVariants.{Ack, Error, Oack}

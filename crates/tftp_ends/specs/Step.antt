@@ -1,5 +1,5 @@
 -- What an end is after an event, and what it answers.
-use Rattle.std.specs.Prelude.{ℕ, ◌≡◌, ◌≢◌, ◌≤◌, ◌+◌, ◌-◌, ◌*◌, min, nat_lt, ◌==◌, Bool, true, false, if◌then◌else◌, List, [], ◌∷◌, ◌++◌, length, Option, Some, None, Result, Ok, Err, IfErr, is_ok, option_map}
+use Rattle.std.specs.Prelude.{ℕ, ◌≡◌, ◌≢◌, ◌+◌, ◌-◌, ◌*◌, min, nat_lt, ◌==◌, Bool, true, false, if◌then◌else◌, List, [], ◌∷◌, ◌++◌, length, Option, Some, None, Result, Ok, Err, IfErr, is_ok, option_map}
 use Rattle.tftp_wire.specs.declared.packet.Packet.{Packet}
 use Rattle.tftp_wire.specs.declared.packet.Packet.TheVariants.{Data, Ack}
 use Rattle.tftp_wire.specs.Spelling.{Spells, canonical}
@@ -288,24 +288,6 @@ lent Nothing e = []
 lent LastSent e = e.position.last_sent
 lent (Error reply) e = error_bytes reply
 
--- the most bytes that go out where no file is touched
-abbrev pub response_room : EndState → Response → ℕ
-response_room e Ignore = 0
-response_room e Stranger = 24
-response_room e ResendReply = length e.position.last_sent
-response_room e Retransmit = length e.position.last_sent
-response_room e Wait = 0
-response_room e (Close outcome) = 0
-response_room e (Refuse terms reply outcome) = 24
-response_room e (Accept terms) = 24
-response_room e Complete = 0
-
--- the most bytes that go out at an action
-abbrev pub room_of : EndState → Action → ℕ
-room_of e (Respond response) = response_room e response
-room_of e (Send terms number) = 24 + block_length e.role.length terms.size number
-room_of e (Store terms number) = 24
-
 -- a call of an end has led to this turn: what it is then, where the answer goes, and what it lends of that
 pub record Lends (before : EndState) (turn : Turn) (e : EndState) (to : Option Endpoint) (outgoing : Outgoing) : Type 0 where
   pub state : e ≡ after_turn before turn
@@ -317,16 +299,3 @@ pub record Carries (before : EndState) (turn : Turn) (e : EndState) (to : Option
   pub state : e ≡ after_turn before turn
   pub goes : to ≡ option_map (λ (r : Reply). r.to) turn.reply
   pub appended : new ≡ old ++ reply_bytes turn.reply
-
--- a buffer holds the DATA of a block that came, and nothing where none came
-abbrev pub HoldsData : ℕ → ℕ → List ℕ → List ℕ → Bool → Type 0
-HoldsData number want piece buffer true = (buffer ≡ data_bytes number piece) × (length buffer ≤ 4 + want)
-HoldsData number want piece buffer false = buffer ≡ []
-
--- a source was asked for a block, and the buffer holds it as DATA if all of it came
-pub record ReadsData (before after : Option (List ℕ)) (may_fail : Type 0) (number want : ℕ) (buffer : List ℕ) (is_whole : Bool) : Type 0 where
-  pub answer : Result ℕ FileFault
-  pub piece : List ℕ
-  pub reads : ReadsBlock before after may_fail want piece answer
-  pub whole : is_whole ≡ result_count_is want answer
-  pub holds : HoldsData number want piece buffer is_whole

@@ -1,4 +1,5 @@
--- How a client handles the first answer to its request (RFC 1350, section 4; RFC 2347, "Negotiation Protocol").
+-- How a client decides what it does at the first answer to its request, test by test as the code does. Its table, a
+-- sentence for each row, is in WaitingRows.
 use Rattle.std.specs.Prelude.{ℕ, ◌*◌, nat_lt, nat_le, ◌==◌, ◌&&◌, true, false, if◌then◌else◌, List, [], length, Option, Some, None, Result, Ok, Err}
 use Rattle.tftp_wire.specs.declared.mode.Mode.{Mode}
 use Rattle.tftp_wire.specs.declared.packet.Packet.{Packet}

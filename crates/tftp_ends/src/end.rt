@@ -83,8 +83,8 @@ impl End {
     ghost use Rattle.tftp_ends.specs.Action.{Decodes, datagram_action, packet_action};
     ghost use Rattle.tftp_ends.specs.Action.{garbled_response, is_stranger, timeout_response};
     ghost use Rattle.tftp_ends.specs.Action.{timeout_action};
-    ghost use Rattle.tftp_ends.specs.Sound.{IsSound, ActionFits, BytesFit, ReplyFits};
-    ghost use Rattle.tftp_ends.specs.Sound.{ResponseFits, ResendsAck, longest_sent};
+    ghost use Rattle.tftp_ends.specs.Fits.{ActionFits, BytesFit, ReplyFits, ResponseFits};
+    ghost use Rattle.tftp_ends.specs.Sound.{IsSound, ResendsAck, longest_sent};
     ghost use Rattle.tftp_ends.specs.Files.{AreFilesOf, KeepsFiles, AreSame};
     ghost use Rattle.tftp_ends.specs.Step.{Turn, DatagramStep, Carries, Lends, IsAnswered};
     ghost use Rattle.tftp_ends.specs.Step.{UsesFile, told, timeout_turn, lent};

@@ -7,6 +7,21 @@ ghost use Rattle.tftp_ends.specs.Laws.{DecodedBegins, DecodedEnds};
 ghost use Rattle.tftp_ends.specs.Run.{IsOpening, IsOpen, IsRun, AnswersByProgress, Taken};
 ghost use Rattle.tftp_ends.specs.Run.{end_behind, progress_count, timeout_count, data_count};
 ghost use Rattle.tftp_ends.specs.Run.{datagram_count, count_if, opened_by_data};
+ghost use Rattle.tftp_ends.specs.SenderRows.{NewestAckSends, LastAckCompletes, OldAckIsNothing};
+ghost use Rattle.tftp_ends.specs.SenderRows.{EarlyAckIsIllegal, ErrorClosesSender};
+ghost use Rattle.tftp_ends.specs.SenderRows.{OackAgainIsNothing, SenderRefusesOthers};
+ghost use Rattle.tftp_ends.specs.SenderRows.{SenderRefusesMalformed};
+ghost use Rattle.tftp_ends.specs.ReceiverRows.{LastDataIsAckedAgain, DallyIgnoresOthers};
+ghost use Rattle.tftp_ends.specs.ReceiverRows.{DallyIgnoresMalformed, NewestDataIsAckedAgain};
+ghost use Rattle.tftp_ends.specs.ReceiverRows.{OldDataIsNothing, EarlyDataIsIllegal};
+ghost use Rattle.tftp_ends.specs.ReceiverRows.{LongDataIsIllegal, BlocksRunOut, NextDataIsStored};
+ghost use Rattle.tftp_ends.specs.ReceiverRows.{ErrorClosesReceiver, OackIsAckedAgain};
+ghost use Rattle.tftp_ends.specs.ReceiverRows.{LateOackIsNothing, ReceiverRefusesOthers};
+ghost use Rattle.tftp_ends.specs.ReceiverRows.{ReceiverRefusesMalformed};
+ghost use Rattle.tftp_ends.specs.WaitingRows.{FirstDataIsStored, OackOpensReader};
+ghost use Rattle.tftp_ends.specs.WaitingRows.{ReaderTakesNoOther, FirstAckBegins, OackOpensWriter};
+ghost use Rattle.tftp_ends.specs.WaitingRows.{WriterTakesNoOther, ErrorClosesWaiting};
+ghost use Rattle.tftp_ends.specs.WaitingRows.{MalformedClosesWaiting};
 
 use tftp_file::{Sink, Source};
 
@@ -44,4 +59,48 @@ pub fn run_bounds<S: Source, K: Sink>()
 pub fn decoded_text()
     ensures begins { DecodedBegins }
     ensures ends { DecodedEnds }
+{}
+
+/// The sender's table: what it does at each packet from its peer (RFC 1350, sections 2 and 6; RFC
+/// 1123, section 4.2.3.1).
+pub fn sender_rows<S: Source, K: Sink>()
+    ensures newest_ack { NewestAckSends S.meaning K.meaning }
+    ensures last_ack { LastAckCompletes S.meaning K.meaning }
+    ensures old_ack { OldAckIsNothing S.meaning K.meaning }
+    ensures early_ack { EarlyAckIsIllegal S.meaning K.meaning }
+    ensures error { ErrorClosesSender S.meaning K.meaning }
+    ensures oack { OackAgainIsNothing S.meaning K.meaning }
+    ensures others { SenderRefusesOthers S.meaning K.meaning }
+    ensures malformed { SenderRefusesMalformed S.meaning K.meaning }
+{}
+
+/// The receiver's table: what it does at each packet from its peer (RFC 1350, sections 2 and 6).
+pub fn receiver_rows<S: Source, K: Sink>()
+    ensures dally_last { LastDataIsAckedAgain S.meaning K.meaning }
+    ensures dally_others { DallyIgnoresOthers S.meaning K.meaning }
+    ensures dally_malformed { DallyIgnoresMalformed S.meaning K.meaning }
+    ensures newest_data { NewestDataIsAckedAgain S.meaning K.meaning }
+    ensures old_data { OldDataIsNothing S.meaning K.meaning }
+    ensures early_data { EarlyDataIsIllegal S.meaning K.meaning }
+    ensures long_data { LongDataIsIllegal S.meaning K.meaning }
+    ensures last_number { BlocksRunOut S.meaning K.meaning }
+    ensures next_data { NextDataIsStored S.meaning K.meaning }
+    ensures error { ErrorClosesReceiver S.meaning K.meaning }
+    ensures oack { OackIsAckedAgain S.meaning K.meaning }
+    ensures late_oack { LateOackIsNothing S.meaning K.meaning }
+    ensures others { ReceiverRefusesOthers S.meaning K.meaning }
+    ensures malformed { ReceiverRefusesMalformed S.meaning K.meaning }
+{}
+
+/// The table of a client that waits for its first answer: what it does at each packet from the
+/// server's address (RFC 1350, section 4; RFC 2347, "Negotiation Protocol").
+pub fn waiting_rows<S: Source, K: Sink>()
+    ensures first_data { FirstDataIsStored S.meaning K.meaning }
+    ensures reader_oack { OackOpensReader S.meaning K.meaning }
+    ensures reader_others { ReaderTakesNoOther S.meaning K.meaning }
+    ensures first_ack { FirstAckBegins S.meaning K.meaning }
+    ensures writer_oack { OackOpensWriter S.meaning K.meaning }
+    ensures writer_others { WriterTakesNoOther S.meaning K.meaning }
+    ensures error { ErrorClosesWaiting S.meaning K.meaning }
+    ensures malformed { MalformedClosesWaiting S.meaning K.meaning }
 {}

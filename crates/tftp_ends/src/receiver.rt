@@ -3,7 +3,7 @@
 ghost use Rattle.std.specs.Prelude.{◌≡◌, nat_lt, length, option_map};
 ghost use Rattle.tftp_wire.specs.Borrowed.{owned};
 ghost use Rattle.tftp_ends.specs.End.{is_client};
-ghost use Rattle.tftp_ends.specs.Sound.{FitsReceiver, IsReceivers};
+ghost use Rattle.tftp_ends.specs.Fits.{FitsReceiver, IsReceivers};
 ghost use Rattle.tftp_ends.specs.Text.{is_readable};
 ghost use Rattle.tftp_ends.specs.Receiver.{next_action, data_action, receiver_action};
 ghost use Rattle.tftp_ends.specs.Receiver.{dally_response};

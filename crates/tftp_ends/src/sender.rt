@@ -3,7 +3,7 @@
 ghost use Rattle.std.specs.Prelude.{◌≡◌, ◌*◌, ◌<◌, option_map};
 ghost use Rattle.tftp_wire.specs.Borrowed.{owned};
 ghost use Rattle.tftp_ends.specs.End.{is_client};
-ghost use Rattle.tftp_ends.specs.Sound.{FitsSender};
+ghost use Rattle.tftp_ends.specs.Fits.{FitsSender};
 ghost use Rattle.tftp_ends.specs.Sender.{illegal_action, peer_error, acked_action, sender_action};
 
 use crate::action::{Action, Response};

@@ -3,7 +3,7 @@
 ghost use Rattle.std.specs.Prelude.{◌≡◌, ◌<◌, ◌*◌, ◌↔◌, ℕ, IsTrue, option_map};
 ghost use Rattle.tftp_wire.specs.Borrowed.{owned};
 ghost use Rattle.tftp_negotiate.specs.Asked.{IsAskable};
-ghost use Rattle.tftp_ends.specs.Sound.{FitsSender, FitsReceiver};
+ghost use Rattle.tftp_ends.specs.Fits.{FitsSender, FitsReceiver};
 ghost use Rattle.tftp_ends.specs.Waiting.{default_terms, agreed_terms, no_answer, refusal_action};
 ghost use Rattle.tftp_ends.specs.Waiting.{accept_action, begin_action, begin_with_action};
 ghost use Rattle.tftp_ends.specs.Waiting.{reader_action, writer_action};

@@ -8,9 +8,8 @@ use Rattle.tftp_file.specs.declared.files.Files.TheVariants.{Source, Sink}
 use Rattle.tftp_ends.specs.declared.endpoint.Endpoint.{Endpoint}
 use Rattle.tftp_ends.specs.declared.fault.EndFault.{EndFault}
 use Rattle.tftp_ends.specs.declared.record.Step.{Step}
-use Rattle.tftp_ends.specs.BlockStored.{KeepsSink}
 use Rattle.tftp_ends.specs.End.{EndState}
-use Rattle.tftp_ends.specs.Files.{AreSame, KeepsFiles}
+use Rattle.tftp_ends.specs.Files.{AreSame, KeepsFiles, KeepsSink}
 use Rattle.tftp_ends.specs.OtherSinks.{source_step_as, sink_step_as}
 use Rattle.tftp_ends.specs.Step.{Turn, DatagramStep, told}
 use Rattle.tftp_server.specs.Steps.{Gives, MakesStep}

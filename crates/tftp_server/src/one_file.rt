@@ -2,7 +2,7 @@
 
 ghost use Rattle.std.specs.Prelude.{◌≡◌, ◌↔◌, true, false, IfOk, OnErr, IsErrOf, IsSome, Option};
 ghost use Rattle.tftp_ends.specs.Action.{Decodes, datagram_action};
-ghost use Rattle.tftp_ends.specs.BlockStored.{KeepsSink};
+ghost use Rattle.tftp_ends.specs.Files.{KeepsSink};
 ghost use Rattle.tftp_ends.specs.End.{is_sender, outcome_of};
 ghost use Rattle.tftp_ends.specs.Step.{IsAnswered, UsesFile};
 ghost use Rattle.tftp_wire.specs.declared.packet.Packet.{Packet};

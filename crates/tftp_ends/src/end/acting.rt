@@ -4,10 +4,11 @@ ghost use Rattle.std.specs.Prelude.{◌≡◌, ◌≤◌, drop, length, OnErr, I
 ghost use Rattle.tftp_ends.specs.Files.{AreFilesOf, KeepsFiles, AreSame};
 ghost use Rattle.tftp_ends.specs.Step.{Turn, Acts, AcksAgain, Lends, UsesFile, ack_bytes};
 ghost use Rattle.tftp_ends.specs.Step.{having_sent, in_phase, response_turn, with_position};
-ghost use Rattle.tftp_ends.specs.Step.{room_of, response_room, lent};
+ghost use Rattle.tftp_ends.specs.Step.{lent};
+ghost use Rattle.tftp_ends.specs.Room.{room_of, response_room};
 ghost use Rattle.tftp_ends.specs.End.{number_of, terms_of};
-ghost use Rattle.tftp_ends.specs.Sound.{PhaseFits, ActionFits, BytesFit, ReplyFits, SentFits};
-ghost use Rattle.tftp_ends.specs.Sound.{ResponseFits, ResendsAck};
+ghost use Rattle.tftp_ends.specs.Fits.{ActionFits, BytesFit, ReplyFits, ResponseFits, SentFits};
+ghost use Rattle.tftp_ends.specs.Sound.{PhaseFits, ResendsAck};
 
 use crate::action::{Action, Response};
 use crate::end::End;

@@ -7,7 +7,8 @@ ghost use Rattle.tftp_wire.specs.declared.packet.Packet.TheVariants.{Read, Write
 ghost use Rattle.tftp_ends.specs.Opening.{MayGet, MayPut, MayAskPut, getting, putting, opened};
 ghost use Rattle.tftp_ends.specs.Opening.{opening_step, request_of, asked_size};
 ghost use Rattle.tftp_ends.specs.End.{terms_of};
-ghost use Rattle.tftp_ends.specs.Sound.{PhaseFits, ResendsAck, SentFits};
+ghost use Rattle.tftp_ends.specs.Sound.{PhaseFits, ResendsAck};
+ghost use Rattle.tftp_ends.specs.Fits.{SentFits};
 
 use crate::config::EndConfig;
 use crate::end::End;

@@ -3,8 +3,10 @@
 
 ghost use Rattle.std.specs.Prelude.{◌≡◌, ◌≤◌, ◌+◌, [], length, OnOk, OnErr, IfOk, Some, vec_capacity};
 ghost use Rattle.tftp_ends.specs.BlockRead.{is_whole};
-ghost use Rattle.tftp_ends.specs.Step.{Turn, Lends, Sends, ReadsData, block_length, room_of, lent};
-ghost use Rattle.tftp_ends.specs.Sound.{IsSending, SentFits};
+ghost use Rattle.tftp_ends.specs.Step.{Turn, Lends, Sends, block_length, lent};
+ghost use Rattle.tftp_ends.specs.Room.{ReadsData, room_of};
+ghost use Rattle.tftp_ends.specs.Sound.{IsSending};
+ghost use Rattle.tftp_ends.specs.Fits.{SentFits};
 
 use crate::action::Action;
 use crate::end::End;

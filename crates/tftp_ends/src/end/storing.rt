@@ -3,11 +3,12 @@
 ghost use Rattle.std.specs.Prelude.{◌≡◌, ◌≤◌, ◌++◌, [], true, false, nat_lt, length, OnErr};
 ghost use Rattle.std.specs.Prelude.{IfOk, Some};
 ghost use Rattle.tftp_file.specs.Decoding.{Decodes};
-ghost use Rattle.tftp_ends.specs.BlockStored.{StoresBlock, StoresPiece, StoresLast, KeepsSink};
+ghost use Rattle.tftp_ends.specs.BlockStored.{StoresBlock, StoresPiece, StoresLast};
+ghost use Rattle.tftp_ends.specs.Files.{KeepsSink};
 ghost use Rattle.tftp_ends.specs.Text.{begins_netascii, is_readable};
 ghost use Rattle.tftp_ends.specs.Step.{Turn, Lends, Stores, Appended, commit_reply, lent};
 ghost use Rattle.tftp_ends.specs.End.{is_sender};
-ghost use Rattle.tftp_ends.specs.Sound.{SentFits};
+ghost use Rattle.tftp_ends.specs.Fits.{SentFits};
 
 use crate::end::End;
 use crate::endpoint::Endpoint;

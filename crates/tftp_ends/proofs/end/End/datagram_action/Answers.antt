@@ -1,7 +1,7 @@
 -- An action fits the end and the datagram for which it was found.
 use Rattle.std.proofs.Common.{sym, subst}
 use Rattle.tftp_ends.specs.declared.action.Action.{Action}
-use Rattle.tftp_ends.specs.Sound.{BytesFit}
+use Rattle.tftp_ends.specs.Fits.{BytesFit}
 use Rattle.tftp_ends.proofs.ActionLemmas.{packet_fits}
 use Rattle.tftp_ends.proofs.end.End.datagram_action.Goals as goal
 

@@ -1,0 +1,40 @@
+-- Bookkeeping of the code: the room that it makes for what goes out, and what its buffers hold.
+use Rattle.std.specs.Prelude.{ℕ, ◌≡◌, ◌≤◌, ◌+◌, Bool, true, false, List, [], length, Option, Result}
+use Rattle.tftp_file.specs.declared.fault.FileFault.{FileFault}
+use Rattle.tftp_ends.specs.declared.action.Action.{Action}
+use Rattle.tftp_ends.specs.declared.action.Action.TheVariants.{Respond, Send, Store}
+use Rattle.tftp_ends.specs.declared.action.Response.{Response}
+use Rattle.tftp_ends.specs.declared.action.Response.TheVariants.{Ignore, Stranger, ResendReply, Retransmit, Wait, Close, Refuse, Accept, Complete}
+use Rattle.tftp_ends.specs.End.{EndState}
+use Rattle.tftp_ends.specs.Step.{ReadsBlock, block_length, data_bytes, result_count_is}
+
+-- the most bytes that go out where no file is touched
+abbrev pub response_room : EndState → Response → ℕ
+response_room e Ignore = 0
+response_room e Stranger = 24
+response_room e ResendReply = length e.position.last_sent
+response_room e Retransmit = length e.position.last_sent
+response_room e Wait = 0
+response_room e (Close outcome) = 0
+response_room e (Refuse terms reply outcome) = 24
+response_room e (Accept terms) = 24
+response_room e Complete = 0
+
+-- the most bytes that go out at an action
+abbrev pub room_of : EndState → Action → ℕ
+room_of e (Respond response) = response_room e response
+room_of e (Send terms number) = 24 + block_length e.role.length terms.size number
+room_of e (Store terms number) = 24
+
+-- a buffer holds the DATA of a block that came, and nothing where none came
+abbrev pub HoldsData : ℕ → ℕ → List ℕ → List ℕ → Bool → Type 0
+HoldsData number want piece buffer true = (buffer ≡ data_bytes number piece) × (length buffer ≤ 4 + want)
+HoldsData number want piece buffer false = buffer ≡ []
+
+-- a source was asked for a block, and the buffer holds it as DATA if all of it came
+pub record ReadsData (before after : Option (List ℕ)) (may_fail : Type 0) (number want : ℕ) (buffer : List ℕ) (is_whole : Bool) : Type 0 where
+  pub answer : Result ℕ FileFault
+  pub piece : List ℕ
+  pub reads : ReadsBlock before after may_fail want piece answer
+  pub whole : is_whole ≡ result_count_is want answer
+  pub holds : HoldsData number want piece buffer is_whole
