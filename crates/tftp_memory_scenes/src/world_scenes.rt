@@ -1,6 +1,9 @@
 //! Scenes of a world: an ACK that comes three times, two writes that race for one name, and a read
 //! that finds the server busy.
 
+ghost use Rattle.std.specs.Prelude.{IfOk, IfSome};
+ghost use Rattle.tftp_player.specs.Arriving.{IsPlayable};
+
 use crate::printed::{announce, append_bytes, has_returned, was_refused};
 use anyhow::Result;
 use std::alloc::{AllocError, Global};
@@ -25,31 +28,35 @@ enum Move {
 }
 
 impl Move {
-    /// The event, and the words that announce it.
-    fn event(self, alloc: Global) -> Result<Option<(Event, String)>, AllocError> {
-        let asked = Asked::default();
-        let mode = Mode::Octet;
-        Ok(Some(match self {
-            Move::Get => {
-                let name = Bytes::from_slice(alloc, b"a")?;
-                let event = Event::Get { name, mode, asked };
-                (event, String::from_str(alloc, "get a")?)
-            }
-            Move::Put(byte) => {
-                let event = Event::Put {
-                    name: Bytes::from_slice(alloc, b"n")?,
-                    mode,
-                    asked,
-                    bytes: Bytes::from_slice(alloc, &[byte])?,
-                };
-                (event, format!(in alloc; "put n {byte:02x}")?)
-            }
-            Move::Deliver(place) => {
-                let words = format!(in alloc; "deliver {place}")?;
-                (Event::Deliver(place), words)
-            }
-            Move::Look => return Ok(None),
-        }))
+    /// The words that announce it.
+    fn words(self, alloc: Global) -> Result<String, AllocError> {
+        match self {
+            Move::Get => String::from_str(alloc, "get a"),
+            Move::Put(byte) => format!(in alloc; "put n {byte:02x}"),
+            Move::Deliver(place) => format!(in alloc; "deliver {place}"),
+            Move::Look => String::from_str(alloc, "look"),
+        }
+    }
+
+    /// The event that happens, if one does.
+    fn event(self, alloc: Global) -> Result<Option<Event>, AllocError>
+        ensures playable { IfOk result (λ found. IfSome found (λ event. IsPlayable event)) }
+    {
+        match self {
+            Move::Get => Ok(Some(Event::Get {
+                name: Bytes::from_slice(alloc, b"a")?,
+                mode: Mode::Octet,
+                asked: Asked::default(),
+            })),
+            Move::Put(byte) => Ok(Some(Event::Put {
+                name: Bytes::from_slice(alloc, b"n")?,
+                mode: Mode::Octet,
+                asked: Asked::default(),
+                bytes: Bytes::from_slice(alloc, &[byte])?,
+            })),
+            Move::Deliver(place) => Ok(Some(Event::Deliver(place))),
+            Move::Look => Ok(None),
+        }
     }
 }
 
@@ -153,13 +160,13 @@ fn play(
 impl Played {
     /// What the scene does next is done, and again where it found no memory.
     fn does(&mut self, rt: &HostRuntime, next: Move) -> Result<()> {
-        let Some((event, words)) = next.event(self.alloc)? else {
+        let Some(event) = next.event(self.alloc)? else {
             let file = self.file()?;
             println!(rt; "{file}")?;
             return Ok(());
         };
         let before = self.seen()?;
-        announce(rt, &words)?;
+        announce(rt, &next.words(self.alloc)?)?;
         let answer = self.world.apply(event);
         has_returned(rt)?;
         match answer {
@@ -174,7 +181,7 @@ impl Played {
     /// The same once more.
     fn does_again(&mut self, rt: &HostRuntime, next: Move) -> Result<()> {
         match next.event(self.alloc)? {
-            Some((event, _)) => tells(rt, self.world.apply(event)?),
+            Some(event) => tells(rt, self.world.apply(event)?),
             None => Ok(()),
         }
     }
