@@ -11,15 +11,23 @@ mod expect;
 #[cfg(test)]
 mod fallback_rows;
 #[cfg(test)]
+mod fault_rows;
+#[cfg(test)]
 mod folder_rows;
 #[cfg(test)]
 mod full_rows;
+#[cfg(test)]
+mod linger_rows;
 #[cfg(test)]
 mod log_rows;
 #[cfg(test)]
 mod loopback;
 #[cfg(test)]
 mod order_rows;
+#[cfg(test)]
+mod part_rows;
+#[cfg(test)]
+mod patient_get;
 #[cfg(test)]
 mod programs;
 #[cfg(test)]

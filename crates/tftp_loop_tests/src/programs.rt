@@ -78,9 +78,19 @@ pub(crate) fn limited_program<R: Runtime + AllocGlobal + Abort>(
     name: &str,
     words: &[&str],
 ) -> Command {
+    shell_program(rt, LIMITED, name, words)
+}
+
+/// A command by which a shell runs this program as the other: `script` has it as `"$@"`.
+pub(crate) fn shell_program<R: Runtime + AllocGlobal + Abort>(
+    rt: &R,
+    script: &str,
+    name: &str,
+    words: &[&str],
+) -> Command {
     let own = own_name(rt);
     let mut command = Command::new(rt.alloc(), "sh").expect(rt, "memory");
-    append_words(rt, &mut command, &["-c", LIMITED, "sh", own.as_str(), name]);
+    append_words(rt, &mut command, &["-c", script, "sh", own.as_str(), name]);
     append_words(rt, &mut command, words);
     command
 }
@@ -96,7 +106,12 @@ pub(crate) fn told<R: Runtime + AllocGlobal + Processes + Abort>(
     name: &str,
     words: &[&str],
 ) -> String {
-    let output = program(rt, name, words).output(rt).expect(rt, name);
+    told_by(rt, program(rt, name, words))
+}
+
+/// All that a command prints, its standard output before its standard error.
+pub(crate) fn told_by<R: AllocGlobal + Processes + Abort>(rt: &R, mut command: Command) -> String {
+    let output = command.output(rt).expect(rt, "a program runs");
     let mut told = String::new(rt.alloc());
     for stream in [&output.stdout, &output.stderr] {
         let text = text_in(rt, stream.as_slice());

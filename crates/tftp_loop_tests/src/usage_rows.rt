@@ -15,6 +15,12 @@ const ROWS: [(&str, &[&str], &str); 18] = [
     (TFTPD, &["--help"], "Examples:\n  tftpd "),
     (TFTP, &["--help"], "Examples:\n  tftp get "),
     (TFTP, &["get", "--help"], "--blksize <8..65464>"),
+    (TFTP, &["get", "--help"], "--no-linger "),
+    (
+        TFTP,
+        &["put", "127.0.0.1:69", "a", "b", "--no-linger"],
+        "'--no-linger'",
+    ),
     (
         TFTPD,
         &[".", "--max-block", "7"],
