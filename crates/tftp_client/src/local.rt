@@ -74,7 +74,7 @@ impl<F: Read + Seek + OpenFile + Drop> Outbound<F> {
         };
         let reader = BufReader::with_capacity(alloc, READ_BUFFER, reader)?;
         Ok(Outbound {
-            source: Ahead::new(alloc, ReadSource::new(reader, mode), wire_bytes),
+            source: Ahead::new(alloc, ReadSource::new(reader, mode)),
             host_bytes,
             wire_bytes,
         })

@@ -245,7 +245,7 @@ impl<R: Files + Drop> Store for FolderStore<R> {
         let Ok(reader) = BufReader::with_capacity(alloc, room, file) else {
             return Err(StoreFault::Memory);
         };
-        let ahead = Ahead::new(alloc, ReadSource::new(reader, mode), length);
+        let ahead = Ahead::new(alloc, ReadSource::new(reader, mode));
         let (source, port) = share_source(alloc, ahead)?;
         let _ = self.opened.try_replace(Some(port));
         Ok(Opening { source, length })

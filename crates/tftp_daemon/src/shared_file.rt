@@ -20,7 +20,7 @@ pub struct FolderSource<F: Read + Drop> {
 impl<F: Read + Drop> Source for FolderSource<F> {
     ghost use Rattle.std.specs.Prelude.{None, ⊤};
 
-    ghost meaning = { record { left = λ _. None; may_fail = λ _ _. ⊤ } };
+    ghost meaning = { record { left = λ _. None; may_fail = λ _ _. ⊤; fails = λ _ _. ⊥ } };
 
     ghost is_same = { λ _ _. ⊤ };
 

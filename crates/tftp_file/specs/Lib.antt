@@ -1,3 +1,4 @@
+pub mod Ahead
 pub mod Netascii
 pub mod Block
 pub mod Fault

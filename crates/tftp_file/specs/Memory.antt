@@ -51,4 +51,4 @@ memory_sink =
 
 -- the meaning of a source in memory: its wire text is known, and it never fails to read
 abbrev pub memory_source : SourceMeaning (List ℕ)
-memory_source = record { left = λ text. Some text; may_fail = λ text want. ⊥ }
+memory_source = record { left = λ text. Some text; may_fail = λ text want. ⊥; fails = λ text want. ⊥ }

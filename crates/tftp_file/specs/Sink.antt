@@ -5,6 +5,7 @@ use Rattle.std.specs.Borrow.{MutBor}
 use Rattle.tftp_file.specs.declared.fault.StoreFault.{StoreFault}
 use Rattle.tftp_file.specs.declared.fault.StoreFault.TheVariants.{Full, Memory}
 use Rattle.tftp_file.specs.Block.{IsBeginningOf}
+use Rattle.tftp_file.specs.Source.{StaysKnown}
 
 -- what a sink holds: its bytes, whether they are committed, and whether it was told to refuse
 -- its next call
@@ -94,3 +95,9 @@ abbrev pub Commits : {A : Type 0} → Option Holding → Option Holding → Resu
 Commits None after result = ⊤
 Commits (Some before) after result =
     UnlessTold before.refuses before after result (CommitsFreely before after result)
+
+-- what is held stays, and no more calls may be refused
+pub record WritesBehind {K : Type 0} (sinks : SinkMeaning K) (before after : K) : Type 0 where
+  pub held : StaysKnown (sinks.held before) (sinks.held after)
+  pub may_refuse_append : (bytes : List ℕ) (fault : StoreFault) → sinks.may_refuse_append after bytes fault → sinks.may_refuse_append before bytes fault
+  pub may_refuse_commit : (fault : StoreFault) → sinks.may_refuse_commit after fault → sinks.may_refuse_commit before fault

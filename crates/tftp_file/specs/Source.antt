@@ -1,5 +1,5 @@
 -- What a source means to its caller, and what a fill moves from it to a buffer.
-use Rattle.std.specs.Prelude.{ℕ, ◌≡◌, ◌≤◌, List, ◌++◌, length, take, drop, min, Option, Some, None, Result, Ok, Err}
+use Rattle.std.specs.Prelude.{ℕ, ◌≡◌, ◌≤◌, ◌⊎◌, List, ◌++◌, length, take, drop, min, Option, Some, None, Result, Ok, Err, ⊤}
 use Rattle.std.specs.Borrow.{MutBor}
 use Rattle.tftp_file.specs.declared.fault.FileFault.{FileFault}
 use Rattle.tftp_file.specs.declared.fault.FileFault.TheVariants.{Memory, Read}
@@ -10,6 +10,8 @@ pub record SourceMeaning (S : Type 0) : Type 1 where
   pub left : S → Option (List ℕ)
   -- a fill of so many bytes may answer Read
   pub may_fail : S → ℕ → Type 0
+  -- a fill of so many bytes answers Read
+  pub fails : S → ℕ → Type 0
 
 -- the meaning of what stands for a source
 abbrev pub source_through : {S T : Type 0} → SourceMeaning T → (S → T) → SourceMeaning S
@@ -17,6 +19,7 @@ source_through meaning seen =
     record {
       left = λ s. meaning.left (seen s);
       may_fail = λ s want. meaning.may_fail (seen s) want;
+      fails = λ s want. meaning.fails (seen s) want;
     }
 
 -- the meaning of a borrow of a source
@@ -47,3 +50,15 @@ Fills (Some left) after want old new (Ok k) = Moved left after want old new k
 Fills None after want old new (Ok k) = MovedUnknown want old new k
 Fills before after want old new (Err Read) = new ≡ old
 Fills before after want old new (Err Memory) = Unmoved before after old new
+
+-- what is known of something stays as it is
+abbrev pub StaysKnown : {A : Type 0} → Option A → Option A → Type 0
+StaysKnown None after = ⊤
+StaysKnown (Some known) after = after ≡ Some known
+
+-- what is left stays, or a read has failed, and each fill fails from now on; no more fills may fail; and where each fill
+-- fails, each fill fails
+pub record ReadsAhead {S : Type 0} (sources : SourceMeaning S) (before after : S) : Type 0 where
+  pub left : StaysKnown (sources.left before) (sources.left after) ⊎ ((want : ℕ) → sources.fails after want)
+  pub may_fail : (want : ℕ) → sources.may_fail after want → sources.may_fail before want
+  pub fails : ((want : ℕ) → sources.fails before want) → (want : ℕ) → sources.fails after want

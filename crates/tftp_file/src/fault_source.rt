@@ -61,7 +61,11 @@ impl Source for FaultSource {
     ghost use Rattle.tftp_file.specs.Source.{Fills};
     ghost use Rattle.tftp_file.specs.FaultSource.{FailsAt};
 
-    ghost meaning = { record { left = λ s. Some s.left; may_fail = FailsAt } };
+    ghost meaning = { record {
+      left = λ s. Some s.left;
+      may_fail = FailsAt;
+      fails = FailsAt;
+    } };
 
     /// It holds no borrow: it stays made to fail, or made not to.
     ghost is_same = { λ s t. t.fails ≡ s.fails };

@@ -8,6 +8,7 @@
 //! [`path_of`]. What a sink holds after a transfer stands for just the bytes that its source gave.
 #![tactic(auto)]
 
+mod ahead;
 mod encoding;
 mod fault;
 mod fault_source;
@@ -23,6 +24,7 @@ mod sink;
 mod source;
 mod stream;
 
+pub use ahead::Ahead;
 pub use bytes::Bytes as SharedBytes;
 pub use fault::{FileFault, StoreFault};
 pub use fault_source::FaultSource;

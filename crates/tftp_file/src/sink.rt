@@ -1,7 +1,7 @@
 //! What a receiver writes to: a file that is appended to, and then committed.
 
 ghost use Rattle.std.specs.Prelude.{◌≡◌, ◌≢◌, Err, IfErr, is_ok, false};
-ghost use Rattle.tftp_file.specs.Sink.{Appends, Commits, SinkMeaning};
+ghost use Rattle.tftp_file.specs.Sink.{Appends, Commits, WritesBehind, SinkMeaning};
 
 use crate::StoreFault;
 
@@ -41,6 +41,16 @@ pub trait Sink {
         ensures not_memory { result ≢ Err StoreFault.Memory }
         ensures same { is_same self.old self.new };
 
+    /// Writes what it holds back, while its caller has nothing else to do. Most sinks do nothing.
+    ///
+    /// What is held stays as it is, and no more calls may be refused than before: where it fails to
+    /// write, a later append or commit is refused.
+    fn write_behind(&mut self)
+        ensures behind { WritesBehind meaning self.old self.new }
+        ensures leaves { meaning.becomes self.old self.new false }
+        ensures same { is_same self.old self.new }
+    {}
+
     /// Each sink is the same as itself.
     ghost stays: { (a : Self) → is_same a a };
 
@@ -72,5 +82,9 @@ impl<K: Sink> Sink for &mut K {
 
     fn commit(&mut self) -> Result<(), StoreFault> {
         Sink::commit(&mut **self)
+    }
+
+    fn write_behind(&mut self) {
+        Sink::write_behind(&mut **self);
     }
 }

@@ -1,7 +1,7 @@
 //! What a sender reads from: wire text that is given in pieces.
 
 ghost use Rattle.std.specs.Prelude.{◌≡◌, ◌≤◌, Err, vec_capacity};
-ghost use Rattle.tftp_file.specs.Source.{Fills, SourceMeaning};
+ghost use Rattle.tftp_file.specs.Source.{Fills, ReadsAhead, SourceMeaning};
 
 use crate::FileFault;
 
@@ -10,8 +10,8 @@ use crate::FileFault;
 /// Of a source over memory a contract knows what is left; of one over a file it does not, and then
 /// `fill` promises only which answers it gives.
 pub trait Source {
-    /// What is left of it, where that is known (`left`), and which fills may answer `Read`
-    /// (`may_fail`).
+    /// What is left of it, where that is known (`left`), which fills may answer `Read`
+    /// (`may_fail`), and which do (`fails`).
     ghost meaning: { SourceMeaning Self };
 
     /// The second is the first at a later time: it holds the same borrows. Of a source that holds
@@ -28,8 +28,19 @@ pub trait Source {
         ensures fills { Fills (meaning.left self.old) (meaning.left self.new) want
             out.old.items out.new.items result }
         ensures read { result ≡ Err FileFault.Read → meaning.may_fail self.old want }
+        ensures fails { meaning.fails self.old want → result ≡ Err FileFault.Read }
         ensures capacity { vec_capacity out.old ≤ vec_capacity out.new }
         ensures same { is_same self.old self.new };
+
+    /// Reads ahead what the next fill may request, while its caller has nothing else to do. Most
+    /// sources do nothing.
+    ///
+    /// What is left stays as it is, and no more fills may fail than before. Where it fails to read,
+    /// each fill from then on answers `Read`.
+    fn read_ahead(&mut self)
+        ensures ahead { ReadsAhead meaning self.old self.new }
+        ensures same { is_same self.old self.new }
+    {}
 
     /// Each source is the same as itself.
     ghost stays: { (a : Self) → is_same a a };
@@ -53,5 +64,9 @@ impl<S: Source> Source for &mut S {
 
     fn fill(&mut self, want: usize, out: &mut Vec<u8>) -> Result<usize, FileFault> {
         Source::fill(&mut **self, want, out)
+    }
+
+    fn read_ahead(&mut self) {
+        Source::read_ahead(&mut **self);
     }
 }

@@ -74,7 +74,11 @@ impl<R: Read> Source for ReadSource<R> {
     ghost use Rattle.std.specs.Prelude.{⊤};
     ghost use Rattle.tftp_file.specs.Stream.{source_left};
 
-    ghost meaning = { record { left = source_left R.remaining; may_fail = λ _ _. ⊤ } };
+    ghost meaning = { record {
+      left = source_left R.remaining;
+      may_fail = λ _ _. ⊤;
+      fails = λ _ _. ⊥;
+    } };
 
     /// It says nothing of the reader.
     ghost is_same = { λ _ _. ⊤ };

@@ -4,6 +4,7 @@
 //! took.
 
 use std::io::{BufWriter, Write};
+use tftp_file::{Ahead, Source};
 use tftp_wire::MAX_BLOCK;
 
 /// The most bytes of a file that are held back until they are written: two of the longest blocks.
@@ -22,5 +23,12 @@ impl<W: Write + Drop> FileWork for BufWriter<W> {
         if self.buffer().len() > self.capacity() / 2 {
             let _ = self.flush();
         }
+    }
+}
+
+impl<S: Source> FileWork for Ahead<S> {
+    /// Reads the next block ahead.
+    fn work(&mut self) {
+        self.read_ahead();
     }
 }

@@ -4,7 +4,6 @@
 //! Begin with [`Watch`], a program's time, and [`Ahead`], a file that is read a block ahead.
 #![tactic(auto)]
 
-mod ahead;
 mod client_end;
 mod disk;
 mod file_work;
@@ -16,7 +15,6 @@ mod udp;
 mod watch;
 mod without_options;
 
-pub use ahead::Ahead;
 pub use client_end::ClientEnd;
 pub use disk::{length_on_wire, name_fault, open_fault, write_fault};
 pub use file_work::{FileWork, WRITE_BUFFER};
@@ -24,6 +22,7 @@ pub use log_line::LogLine;
 pub use port::{Port, place_of, wait_for};
 pub use printed::Printed;
 pub use progress_line::{LineClock, ProgressLine};
+pub use tftp_file::Ahead;
 pub use udp::{DATAGRAM_BUFFER, address_of, endpoint_in, endpoint_of, read_clock};
 pub use watch::{LONGEST_WAIT, Watch, deadline, is_due};
 pub use without_options::fallback;

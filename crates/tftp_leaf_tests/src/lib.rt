@@ -5,6 +5,8 @@
 #![tactic(auto)]
 
 #[cfg(test)]
+mod ahead_rows;
+#[cfg(test)]
 mod append_rows;
 #[cfg(test)]
 mod asked_rows;

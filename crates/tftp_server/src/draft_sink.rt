@@ -52,4 +52,8 @@ impl<'s, 'd, 'p, S: Store> Sink for DraftSink<'s, 'd, 'p, S> {
     fn commit(&mut self) -> Result<(), StoreFault> {
         self.store.commit(self.path, self.draft, self.replace)
     }
+
+    fn write_behind(&mut self) {
+        self.store.write_behind(self.draft);
+    }
 }

@@ -79,4 +79,5 @@ opened_meaning inner =
     record {
       left = λ s. inner.left s.source;
       may_fail = λ s want. (s.fails ≡ true) ⊎ inner.may_fail s.source want;
+      fails = λ s want. (s.fails ≡ true) ⊎ inner.fails s.source want;
     }

@@ -109,3 +109,15 @@ Puts before after draft path replace (Ok done) = ⊤
 Puts (Some before) after draft path replace (Err Exists) =
     (files_of after ≡ Some before.files) × (is_taken replace path before.files ≡ true)
 Puts before after draft path replace (Err _) = files_of after ≡ files_of before
+
+-- what the store and its draft tell stays, and no more calls may be refused
+pub record WritesBehind {S D : Type 0} (stores : StoreMeaning S D) (before after : S) (draft draft' : D) : Type 0 where
+  pub stored : stores.stored after ≡ stores.stored before
+  pub drafted : stores.drafted draft' ≡ stores.drafted draft
+  pub may_refuse_open : (path : List ℕ) (fault : StoreFault) → stores.may_refuse_open after path fault → stores.may_refuse_open before path fault
+  pub may_refuse_begin : (path : List ℕ) (replace : Bool) (fault : StoreFault)
+      → stores.may_refuse_begin after path replace fault → stores.may_refuse_begin before path replace fault
+  pub may_refuse_append : (bytes : List ℕ) (fault : StoreFault)
+      → stores.may_refuse_append after draft' bytes fault → stores.may_refuse_append before draft bytes fault
+  pub may_refuse_commit : (path : List ℕ) (replace : Bool) (fault : StoreFault)
+      → stores.may_refuse_commit after path draft' replace fault → stores.may_refuse_commit before path draft replace fault

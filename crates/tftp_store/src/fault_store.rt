@@ -114,7 +114,7 @@ fn after_call<A>(calls_left: Option<u64>, answer: &Result<A, StoreFault>) -> Opt
 }
 
 impl<S: Store> Store for FaultStore<S> {
-    ghost use Rattle.std.specs.Prelude.{◌≡◌, ◌≢◌, Err, IfErr, IfOk, IsErrOf, true};
+    ghost use Rattle.std.specs.Prelude.{◌≡◌, ◌≢◌, Err, IfErr, IfOk, IsErrOf, true, false};
     ghost use Rattle.tftp_file.specs.Sink.{Appends, Commits};
     ghost use Rattle.tftp_store.specs.Store.{Opens, Begins, holding_of, files_of, Puts};
     ghost use Rattle.tftp_store.specs.FaultStore.{Counts, MayAnswer, fault_meaning, is_due};
@@ -160,6 +160,9 @@ impl<S: Store> Store for FaultStore<S> {
             fault)) }
         ensures memory { IsErrOf result StoreFault.Memory → self.new ≡ self.old }
         ensures counts { Counts self.old self.new result }
+        ensures passed { is_due self.old.calls_left ≡ false → Begins S.meaning.drafted
+            (S.meaning.stored self.old.inner) (S.meaning.stored self.new.inner) path.now replace
+            result }
     {
         if is_due(self.calls_left) {
             return self.refuse();
@@ -185,6 +188,10 @@ impl<S: Store> Store for FaultStore<S> {
             × (draft.new ≡ draft.old) }
         ensures counts { Counts self.old self.new result }
         ensures draft { is_due self.old.calls_left ≡ true → draft.new ≡ draft.old }
+        ensures passed { is_due self.old.calls_left ≡ false → Appends
+            (holding_of (S.meaning.stored self.old.inner) (S.meaning.drafted draft.old))
+            (holding_of (S.meaning.stored self.new.inner) (S.meaning.drafted draft.new))
+            bytes.now result }
     {
         if is_due(self.calls_left) {
             return self.refuse();
@@ -210,6 +217,9 @@ impl<S: Store> Store for FaultStore<S> {
         ensures not_memory { result ≢ Err StoreFault.Memory }
         ensures counts { Counts self.old self.new result }
         ensures draft { is_due self.old.calls_left ≡ true → draft.new ≡ draft.old }
+        ensures passed { is_due self.old.calls_left ≡ false → Commits
+            (holding_of (S.meaning.stored self.old.inner) (S.meaning.drafted draft.old))
+            (holding_of (S.meaning.stored self.new.inner) (S.meaning.drafted draft.new)) result }
     {
         if is_due(self.calls_left) {
             return self.refuse();
@@ -217,6 +227,10 @@ impl<S: Store> Store for FaultStore<S> {
         let answer = self.inner.commit(path, draft, replace);
         self.calls_left = after_call(self.calls_left, &answer);
         answer
+    }
+
+    fn write_behind(&mut self, draft: &mut S::Draft) {
+        self.inner.write_behind(draft);
     }
 }
 
@@ -237,18 +251,19 @@ impl<F> Model for OpenedSource<F> {
 }
 
 impl<F: Source> Source for OpenedSource<F> {
-    ghost use Rattle.std.specs.Prelude.{◌≡◌, ◌≤◌, ◌⊎◌, true, Err, vec_capacity};
+    ghost use Rattle.std.specs.Prelude.{◌≡◌, ◌≤◌, ◌⊎◌, true, Err, refl, vec_capacity};
+    ghost use Rattle.std.proofs.Common.{◌∙◌};
     ghost use Rattle.tftp_file.specs.Source.{Fills};
     ghost use Rattle.tftp_store.specs.FaultStore.{opened_meaning};
 
     ghost meaning = { opened_meaning F.meaning };
 
-    /// The inner store's source is the same.
-    ghost is_same = { λ s t. F.is_same s.source t.source };
+    /// It stays made to fail, or made not to, and the inner store's source is the same.
+    ghost is_same = { λ s t. (t.fails ≡ s.fails) × F.is_same s.source t.source };
 
-    ghost stays = { λ a. F.stays a.source };
+    ghost stays = { λ a. (refl, F.stays a.source) };
 
-    ghost joins = { λ a b c p q. F.joins a.source b.source c.source p q };
+    ghost joins = { λ a b c p q. (q.0 ∙ p.0, F.joins a.source b.source c.source p.1 q.1) };
 
     fn fill(&mut self, want: usize, out: &mut Vec<u8>) -> Result<usize, FileFault>
         ensures fills { Fills (F.meaning.left self.old.source) (F.meaning.left self.new.source) want
@@ -256,13 +271,18 @@ impl<F: Source> Source for OpenedSource<F> {
         ensures read { result ≡ Err FileFault.Read → (self.old.fails ≡ true)
             ⊎ F.meaning.may_fail self.old.source want }
         ensures capacity { vec_capacity out.old ≤ vec_capacity out.new }
-        ensures same { F.is_same self.old.source self.new.source }
-        ensures made { self.new.fails ≡ self.old.fails }
-        ensures fails { self.old.fails ≡ true → result ≡ Err FileFault.Read }
+        ensures same { (self.new.fails ≡ self.old.fails)
+            × F.is_same self.old.source self.new.source }
+        ensures fails { ((self.old.fails ≡ true) ⊎ F.meaning.fails self.old.source want)
+            → result ≡ Err FileFault.Read }
     {
         if self.fails {
             return Err(FileFault::Read);
         }
         self.source.fill(want, out)
+    }
+
+    fn read_ahead(&mut self) {
+        self.source.read_ahead();
     }
 }

@@ -3,6 +3,7 @@
 ghost use Rattle.std.specs.Prelude.{◌≡◌, ◌≢◌, Err, IfErr, IsErrOf};
 ghost use Rattle.tftp_file.specs.Sink.{Appends, Commits};
 ghost use Rattle.tftp_store.specs.Store.{StoreMeaning, Opens, Begins, holding_of, files_of, Puts};
+ghost use Rattle.tftp_store.specs.Store.{WritesBehind};
 
 use std::alloc::Global;
 use tftp_file::{Path, Source, StoreFault};
@@ -96,4 +97,13 @@ pub trait Store {
         ensures refused { IfErr result
             (meaning.may_refuse_commit self.old path.now draft.old replace) }
         ensures not_memory { result ≢ Err StoreFault.Memory };
+
+    /// Writes what the draft holds back, while its caller has nothing else to do. Most stores do
+    /// nothing.
+    ///
+    /// Neither the files nor the draft change, and no more calls may be refused than before: where
+    /// it fails to write, a later append or commit of the draft is refused.
+    fn write_behind(&mut self, draft: &mut Self::Draft)
+        ensures { WritesBehind meaning self.old self.new draft.old draft.new }
+    {}
 }

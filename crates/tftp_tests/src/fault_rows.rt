@@ -10,7 +10,7 @@ use std::alloc::Global;
 use std::process::Abort;
 use tftp_ends::{Endpoint, Outcome};
 use tftp_file::StoreFault;
-use tftp_server::{Config, FaultStore, MemStore, Opened};
+use tftp_server::{Config, FaultStore, MemStore, Opened, Store};
 
 const CLIENT: Endpoint = Endpoint {
     ip: [10, 0, 0, 2],
@@ -127,4 +127,22 @@ fn the_inner_store_refuses_as_told(rt: HostRuntime) {
     let full = Err(StoreFault::Full);
     writes(&rt, rt.alloc(), &mut store, "the append", full);
     expect(&rt, !store.get_ref().refuses(), "it is told no more");
+}
+
+/// A commit that was told to be refused below it is refused, too, and stores nothing; the next one
+/// stores the draft.
+#[test]
+fn the_inner_store_refuses_a_commit_as_told(rt: HostRuntime) {
+    let mut inner = files(&rt, rt.alloc());
+    inner.refuse_next(true);
+    let mut store = FaultStore::new(inner, 9, StoreFault::Io, false, false);
+    let path = path(&rt, rt.alloc(), b"n");
+    let begun = store.begin(rt.alloc(), &path, false);
+    let mut draft = begun.expect(&rt, "a draft");
+    let told = store.commit(&path, &mut draft, false);
+    expect_equal(&rt, &told, &Err(StoreFault::Full), "as it was told");
+    lacks_file(&rt, rt.alloc(), store.get_ref(), b"n");
+    let next = store.commit(&path, &mut draft, false);
+    expect_equal(&rt, &next, &Ok(()), "it is told no more");
+    has_file(&rt, rt.alloc(), store.get_ref(), b"n", b"");
 }

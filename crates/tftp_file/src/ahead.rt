@@ -1,0 +1,247 @@
+//! A source that is read ahead of its fills.
+
+ghost use Rattle.std.specs.Prelude.{◌≡◌, ◌≤◌, ◌<◌, ◌+◌, ◌++◌, ◌⊎◌, [], length, drop, take, true, false};
+ghost use Rattle.std.specs.Prelude.{Ok, Err, IfOk, IfErr, OnOk, OnErr, vec_len, vec_capacity};
+ghost use Rattle.std.specs.Io.KnownBytes.{prepend_known};
+ghost use Rattle.tftp_file.specs.Source.{Fills, StaysKnown};
+ghost use Rattle.tftp_file.specs.Ahead.{new_ahead};
+ghost use Rattle.std.specs.Prelude.{ℕ};
+
+use crate::{FileFault, Source};
+use std::alloc::Global;
+use std::marker::Model;
+use std::mem;
+use tftp_wire::HEADER;
+
+/// A source over another, which can be read ahead: while the peer is busy with a block the next
+/// one is read, and not while the peer waits for it.
+///
+/// What is left is what was read ahead, and then what the source below has left. It reads as many
+/// bytes ahead as the last fill requested. After a read ahead that failed each fill answers `Read`.
+/// Where a fill requests just what was read ahead, and its buffer holds the head of a datagram, two
+/// buffers are exchanged, and no byte of the block is copied.
+///
+/// Contracts see the source below, what was read ahead, and whether a read ahead failed.
+#[derive(Drop)]
+pub struct Ahead<S> {
+    source: S,
+    /// Room for the head of a datagram, and then what was read ahead.
+    buffer: Vec<u8>,
+    /// Where in the buffer that begins which was not given yet.
+    at: usize,
+    /// The bytes that the last fill requested.
+    size: usize,
+    failed: bool,
+}
+
+impl<S> Model for Ahead<S> {
+    ghost use Rattle.std.specs.Prelude.{drop, vec_len, ◌≤◌};
+    ghost use Rattle.tftp_file.specs.Ahead.{AheadState};
+
+    ghost Value = { AheadState S };
+
+    ghost view = { λ a. record {
+      source = a.source;
+      held = drop a.at a.buffer.items;
+      failed = a.failed;
+    } };
+
+    ghost invariant = { λ a. a.at ≤ vec_len a.buffer };
+}
+
+impl<S> Ahead<S> {
+    /// A source over another, of which nothing was read ahead. It takes no memory.
+    pub fn new(alloc: Global, source: S) -> Ahead<S>
+        ensures { result ≡ new_ahead source }
+    {
+        Ahead {
+            source,
+            buffer: Vec::new(alloc),
+            at: 0,
+            size: 0,
+            failed: false,
+        }
+    }
+
+    /// The source below. What was read ahead is lost.
+    pub fn into_inner(self) -> S
+        ensures { result ≡ self.source }
+    {
+        self.source
+    }
+}
+
+impl<S: Source> Source for Ahead<S> {
+    ghost use Rattle.tftp_file.specs.Ahead.{ahead_meaning};
+
+    ghost meaning = { ahead_meaning S.meaning S.is_same };
+
+    /// The source below is the same.
+    ghost is_same = { λ a b. S.is_same a.source b.source };
+
+    ghost stays = { λ a. S.stays a.source };
+
+    ghost joins = { λ a b c p q. S.joins a.source b.source c.source p q };
+
+    fn fill(&mut self, want: usize, out: &mut Vec<u8>) -> Result<usize, FileFault> {
+        if self.failed {
+            return Err(FileFault::Read);
+        }
+        self.size = want;
+        fill_ahead(&mut self.source, &mut self.buffer, &mut self.at, want, out)
+    }
+
+    fn read_ahead(&mut self) {
+        if self.failed || self.size == 0 || self.at < self.buffer.len() {
+            return;
+        }
+        self.failed = read_block(&mut self.source, &mut self.buffer, &mut self.at, self.size);
+    }
+}
+
+/// Fills from what the buffer holds behind the place, and then from the source.
+fn fill_ahead<S: Source>(
+    source: &mut S,
+    buffer: &mut Vec<u8>,
+    at: &mut usize,
+    want: usize,
+    out: &mut Vec<u8>,
+) -> Result<usize, FileFault>
+    requires { at.old ≤ vec_len buffer.old }
+    ensures within { at.new ≤ vec_len buffer.new }
+    ensures fills { Fills
+        (prepend_known (drop at.old buffer.old.items) (S.meaning.left source.old))
+        (prepend_known (drop at.new buffer.new.items) (S.meaning.left source.new)) want
+        out.old.items out.new.items result }
+    ensures read { result ≡ Err FileFault.Read → (n : ℕ) × S.meaning.may_fail source.old n }
+    ensures fails { drop at.old buffer.old.items ≡ [] → S.meaning.fails source.old want
+        → result ≡ Err FileFault.Read }
+    ensures capacity { vec_capacity out.old ≤ vec_capacity out.new }
+    ensures same { S.is_same source.old source.new }
+{
+    let held = buffer.len() - *at;
+    if held == 0 {
+        return source.fill(want, out);
+    }
+    if want <= held {
+        return take_held(buffer, at, want, out);
+    }
+    match fill_behind(&buffer[*at..], source, want, out) {
+        Ok(count) => {
+            buffer.clear();
+            *at = 0;
+            Ok(count)
+        }
+        Err(fault) => Err(fault),
+    }
+}
+
+/// Moves the next bytes that the buffer holds behind the place, of which there are enough, to the
+/// end of `out`.
+fn take_held(
+    buffer: &mut Vec<u8>,
+    at: &mut usize,
+    want: usize,
+    out: &mut Vec<u8>,
+) -> Result<usize, FileFault>
+    requires { at.old + want ≤ vec_len buffer.old }
+    ensures within { at.new ≤ vec_len buffer.new }
+    ensures count { IfOk result (λ count. count ≡ want) }
+    ensures given { OnOk result (out.new.items
+        ≡ out.old.items ++ take want (drop at.old buffer.old.items)) }
+    ensures rest { OnOk result (drop at.new buffer.new.items
+        ≡ drop want (drop at.old buffer.old.items)) }
+    ensures err { OnErr result (out.new.items ≡ out.old.items) }
+    ensures kept { OnErr result (drop at.new buffer.new.items ≡ drop at.old buffer.old.items) }
+    ensures fault { IfErr result (λ fault. fault ≡ FileFault.Memory) }
+    ensures capacity { vec_capacity out.old ≤ vec_capacity out.new }
+{
+    if *at == HEADER && out.len() == HEADER && out.capacity() <= buffer.capacity() {
+        if buffer.len() - *at == want {
+            exchange(buffer, out);
+            return Ok(want);
+        }
+    }
+    let Ok(()) = out.extend_from_slice(&buffer[*at..*at + want]) else {
+        return Err(FileFault::Memory);
+    };
+    *at += want;
+    Ok(want)
+}
+
+/// Puts what `out` holds in front of what the buffer holds behind as many bytes, and exchanges the
+/// two.
+fn exchange(buffer: &mut Vec<u8>, out: &mut Vec<u8>)
+    requires { length out.old.items ≤ length buffer.old.items }
+    ensures items { out.new.items
+        ≡ out.old.items ++ drop (length out.old.items) buffer.old.items }
+    ensures head { buffer.new.items ≡ out.old.items }
+    ensures capacity { vec_capacity out.new ≡ vec_capacity buffer.old }
+{
+    put_head(out.as_slice(), buffer.as_mut_slice());
+    mem::swap(buffer, out);
+}
+
+/// Writes the head over the front of the buffer.
+fn put_head(head: &[u8], buffer: &mut [u8])
+    requires { length head.now ≤ length buffer.old }
+    ensures { buffer.new ≡ head.now ++ drop (length head.now) buffer.old }
+{
+    buffer[..head.len()].copy_from_slice(head);
+}
+
+/// Fills with all that is held, which is less than is wanted, and then from the source.
+fn fill_behind<S: Source>(
+    held: &[u8],
+    source: &mut S,
+    want: usize,
+    out: &mut Vec<u8>,
+) -> Result<usize, FileFault>
+    requires { length held.now ≤ want }
+    ensures ok { IfOk result (λ count. Fills
+        (prepend_known held.now (S.meaning.left source.old)) (S.meaning.left source.new) want
+        out.old.items out.new.items (Ok count)) }
+    ensures err { IfErr result (λ fault. Fills
+        (prepend_known held.now (S.meaning.left source.old))
+        (prepend_known held.now (S.meaning.left source.new)) want
+        out.old.items out.new.items (Err fault)) }
+    ensures read { result ≡ Err FileFault.Read → (n : ℕ) × S.meaning.may_fail source.old n }
+    ensures capacity { vec_capacity out.old ≤ vec_capacity out.new }
+    ensures same { S.is_same source.old source.new }
+{
+    let start = out.len();
+    let Ok(()) = out.extend_from_slice(held) else {
+        return Err(FileFault::Memory);
+    };
+    match source.fill(want - held.len(), out) {
+        Ok(count) => Ok(held.len() + count),
+        Err(fault) => {
+            out.truncate(start);
+            Err(fault)
+        }
+    }
+}
+
+/// Reads the next bytes, as many as the size, behind room for the head of a datagram, and returns
+/// whether the read failed. Out of memory nothing is read.
+fn read_block<S: Source>(source: &mut S, buffer: &mut Vec<u8>, at: &mut usize, size: usize) -> bool
+    ensures within { at.new ≤ vec_len buffer.new }
+    ensures left { result ≡ false → StaysKnown (S.meaning.left source.old)
+        (prepend_known (drop at.new buffer.new.items) (S.meaning.left source.new)) }
+    ensures read { result ≡ true → S.meaning.may_fail source.old size }
+    ensures fails { S.meaning.fails source.old size → (result ≡ true)
+        ⊎ ((source.new ≡ source.old) × (drop at.new buffer.new.items ≡ [])) }
+    ensures same { S.is_same source.old source.new }
+{
+    buffer.clear();
+    *at = 0;
+    if buffer.resize(HEADER, 0).is_err() {
+        return false;
+    }
+    *at = HEADER;
+    match source.fill(size, buffer) {
+        Ok(_) => false,
+        Err(FileFault::Read) => true,
+        Err(FileFault::Memory) => false,
+    }
+}

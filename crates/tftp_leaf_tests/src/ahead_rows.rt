@@ -1,0 +1,79 @@
+//! A source that is read ahead: what it gives is what the source below it has, in fills of any size.
+
+use crate::calls::{fails, gives_each};
+use crate::expect::expect_equal;
+use std::alloc::Global;
+use std::process::Abort;
+use tftp_file::{Ahead, FaultSource, FileFault, MemSource, Source};
+use tftp_wire::Mode;
+
+/// A source of the letters `A` to `H` that ends behind the first `give` of them, or fails there.
+fn letters(rt: &impl Abort, alloc: Global, give: u64, fail: bool) -> Ahead<FaultSource> {
+    let source = FaultSource::new(alloc, b"ABCDEFGH", Mode::Octet, give, fail);
+    Ahead::new(alloc, source.expect(rt, "memory"))
+}
+
+/// A block is read ahead, and then a fill requests less, more, as much, and more than is left.
+#[test]
+fn any_fill_goes_on_from_the_one_before(rt: HostRuntime) {
+    let mut source = letters(&rt, rt.alloc(), 8, false);
+    gives_each(&rt, rt.alloc(), &mut source, 2, &[b"AB"]);
+    source.read_ahead();
+    source.read_ahead();
+    gives_each(&rt, rt.alloc(), &mut source, 1, &[b"C"]);
+    gives_each(&rt, rt.alloc(), &mut source, 3, &[b"DEF"]);
+    source.read_ahead();
+    gives_each(&rt, rt.alloc(), &mut source, 3, &[b"GH", b""]);
+    drop(source);
+}
+
+/// What was read ahead of a source that then fails is given first. A read ahead that fails is told
+/// by each fill behind it.
+#[test]
+fn a_read_ahead_that_fails_is_told(rt: HostRuntime) {
+    let mut source = letters(&rt, rt.alloc(), 5, true);
+    gives_each(&rt, rt.alloc(), &mut source, 2, &[b"AB"]);
+    source.read_ahead();
+    gives_each(&rt, rt.alloc(), &mut source, 2, &[b"CD"]);
+    source.read_ahead();
+    let fault = FileFault::Read;
+    fails(
+        &rt,
+        rt.alloc(),
+        &mut source,
+        2,
+        b"CD",
+        fault,
+        "one byte is left",
+    );
+    fails(
+        &rt,
+        rt.alloc(),
+        &mut source,
+        1,
+        b"CD",
+        fault,
+        "it has failed",
+    );
+    drop(source);
+}
+
+/// The next fill, behind the head of a datagram, gives this block behind it.
+fn gives_behind(rt: &impl Abort, source: &mut Ahead<MemSource>, out: &mut Vec<u8>, wanted: &[u8]) {
+    out.truncate(4);
+    let filled = source.fill(3, out);
+    expect_equal(rt, &(filled, out.as_slice()), &(Ok(3), wanted), "a block");
+    source.read_ahead();
+}
+
+/// A block goes behind the head of a datagram, of four bytes (RFC 1350, section 5).
+#[test]
+fn a_block_goes_behind_a_head(rt: HostRuntime) {
+    let source = MemSource::new(rt.alloc(), b"ABCDEFGHI", Mode::Octet);
+    let mut source = Ahead::new(rt.alloc(), source.expect(&rt, "memory"));
+    let mut out = Vec::from_slice(rt.alloc(), b"\x00\x03\x00\x01").expect(&rt, "memory");
+    gives_behind(&rt, &mut source, &mut out, b"\x00\x03\x00\x01ABC");
+    gives_behind(&rt, &mut source, &mut out, b"\x00\x03\x00\x01DEF");
+    gives_behind(&rt, &mut source, &mut out, b"\x00\x03\x00\x01GHI");
+    drop(source);
+}
