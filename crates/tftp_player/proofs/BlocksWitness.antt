@@ -220,7 +220,7 @@ oack_spelled = fault_where_nothing d1.bytes (bytes_below d1.bytes (rw eight refl
 accepts : WorldStep w2 (Deliver 1) (report_of w2 client turn_2) w3
 unfolding places_of name_of taken_option
 accepts = takes w2 1 0 d1 client turn_2 (Sink empty) files refl refl refl
-    (record { decoded = Some (packet_in d1.bytes); says = oack_spelled; acts = rw (eight, read_8) (refl, refl) }) refl
+    (record { decoded = Some (packet_in d1.bytes); says = oack_spelled; acts = rw (eight, read_8) (refl, refl); again = rw (eight, read_8) tt }) refl
 
 sends_1 : WorldStep w3 (Deliver 2) (report_of w3 server turn_3) w4
 sends_1 = takes w3 2 1 d2 server turn_3 (Source left_1) files refl refl refl
@@ -233,6 +233,7 @@ sends_1 = takes w3 2 1 d2 server turn_3 (Source left_1) files refl refl refl
         reads = record { fills = record { count = refl; given = refl; rest = refl }; read = λ e. absurd (cc); memory = λ e. absurd (cc) };
         answers = refl;
       };
+      again = tt;
     }) refl
 
 stores_1 : WorldStep w4 (Deliver 3) (report_of w4 client_0 turn_4) w5
@@ -240,16 +241,21 @@ stores_1 = takes w4 3 0 d3 client_0 turn_4 (Sink held_1) files refl refl refl
     (record {
       decoded = Some (packet_in d3.bytes);
       says = fault_where_nothing d3.bytes (bytes_below d3.bytes refl) refl;
-      acts = record {
-        bytes = piece_1;
-        after = [];
-        mid = record { bytes = got_1; committed = false; refuses = false };
-        answer = Ok done;
-        decoded = (refl, refl);
-        appended = (refl, tt, tt);
-        memory = λ e. absurd (cc);
-        rest = (refl, refl);
-      };
+      acts = (
+        piece_1,
+        fault_where_nothing d3.bytes (bytes_below d3.bytes refl) refl,
+        record {
+          bytes = piece_1;
+          after = [];
+          mid = record { bytes = got_1; committed = false; refuses = false };
+          answer = Ok done;
+          decoded = (refl, refl);
+          appended = (refl, tt, tt);
+          memory = λ e. absurd (cc);
+          rest = (refl, refl);
+        },
+      );
+      again = tt;
     }) refl
 
 sends_2 : WorldStep w5 (Deliver 4) (report_of w5 server_1 turn_5) w6
@@ -263,6 +269,7 @@ sends_2 = takes w5 4 1 d4 server_1 turn_5 (Source left_2) files refl refl refl
         reads = record { fills = record { count = refl; given = refl; rest = refl }; read = λ e. absurd (cc); memory = λ e. absurd (cc) };
         answers = refl;
       };
+      again = tt;
     }) refl
 
 stores_2 : WorldStep w6 (Deliver 5) (report_of w6 client_1 turn_6) w7
@@ -270,16 +277,21 @@ stores_2 = takes w6 5 0 d5 client_1 turn_6 (Sink held_2) files refl refl refl
     (record {
       decoded = Some (packet_in d5.bytes);
       says = fault_where_nothing d5.bytes (bytes_below d5.bytes refl) refl;
-      acts = record {
-        bytes = piece_2;
-        after = [];
-        mid = record { bytes = got_2; committed = false; refuses = false };
-        answer = Ok done;
-        decoded = (refl, refl);
-        appended = (refl, tt, tt);
-        memory = λ e. absurd (cc);
-        rest = (refl, refl);
-      };
+      acts = (
+        piece_2,
+        fault_where_nothing d5.bytes (bytes_below d5.bytes refl) refl,
+        record {
+          bytes = piece_2;
+          after = [];
+          mid = record { bytes = got_2; committed = false; refuses = false };
+          answer = Ok done;
+          decoded = (refl, refl);
+          appended = (refl, tt, tt);
+          memory = λ e. absurd (cc);
+          rest = (refl, refl);
+        },
+      );
+      again = tt;
     }) refl
 
 sends_3 : WorldStep w7 (Deliver 6) (report_of w7 server_2 turn_7) w8
@@ -293,6 +305,7 @@ sends_3 = takes w7 6 1 d6 server_2 turn_7 (Source []) files refl refl refl
         reads = record { fills = record { count = refl; given = refl; rest = refl }; read = λ e. absurd (cc); memory = λ e. absurd (cc) };
         answers = refl;
       };
+      again = tt;
     }) refl
 
 stores_3 : WorldStep w8 (Deliver 7) (report_of w8 client_2 turn_8) w9
@@ -300,21 +313,26 @@ stores_3 = takes w8 7 0 d7 client_2 turn_8 (Sink held_3) files refl refl refl
     (record {
       decoded = Some (packet_in d7.bytes);
       says = fault_where_nothing d7.bytes (bytes_below d7.bytes refl) refl;
-      acts = record {
-        bytes = piece_3;
-        after = [];
-        mid = record { bytes = three_blocks; committed = false; refuses = false };
-        answer = Ok done;
-        decoded = (refl, refl);
-        appended = (refl, tt, tt);
-        memory = λ e. absurd (cc);
-        rest = record { answer = Ok done; commits = refl; refused = tt; leaves = tt; answers = refl };
-      };
+      acts = (
+        piece_3,
+        fault_where_nothing d7.bytes (bytes_below d7.bytes refl) refl,
+        record {
+          bytes = piece_3;
+          after = [];
+          mid = record { bytes = three_blocks; committed = false; refuses = false };
+          answer = Ok done;
+          decoded = (refl, refl);
+          appended = (refl, tt, tt);
+          memory = λ e. absurd (cc);
+          rest = record { answer = Ok done; commits = refl; refused = tt; leaves = tt; answers = refl };
+        },
+      );
+      again = tt;
     }) refl
 
 completes : WorldStep w9 (Deliver 8) (report_of w9 server_3 turn_9) w10
 completes = takes w9 8 1 d8 server_3 turn_9 (Source []) files refl refl refl
-    (record { decoded = Some (packet_in d8.bytes); says = fault_where_nothing d8.bytes (bytes_below d8.bytes refl) refl; acts = (refl, refl) }) refl
+    (record { decoded = Some (packet_in d8.bytes); says = fault_where_nothing d8.bytes (bytes_below d8.bytes refl) refl; acts = (refl, refl); again = tt }) refl
 
 accepted : IsAccepted w1 client (Sends name Octet 17 agreed)
 unfolding places_of name_of answered_option

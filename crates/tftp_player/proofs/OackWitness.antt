@@ -178,6 +178,7 @@ sends_1 = takes w2 1 0 d1 client turn_2 (Source left_1) [] refl refl refl
         reads = record { fills = record { count = refl; given = refl; rest = refl }; read = λ e. absurd (cc); memory = λ e. absurd (cc) };
         answers = refl;
       });
+      again = rw (eight, read_8) tt;
     }) refl
 
 stores_1 : WorldStep w3 (Deliver 2) (report_of w3 server turn_3) w4
@@ -185,16 +186,21 @@ stores_1 = takes w3 2 1 d2 server turn_3 (Sink held_1) [] refl refl refl
     (record {
       decoded = Some (packet_in d2.bytes);
       says = fault_where_nothing d2.bytes (bytes_below d2.bytes refl) refl;
-      acts = record {
-        bytes = piece_1;
-        after = [];
-        mid = record { bytes = got_1; committed = false; refuses = false };
-        answer = Ok done;
-        decoded = (refl, refl);
-        appended = (refl, tt, tt);
-        memory = λ e. absurd (cc);
-        rest = (refl, refl);
-      };
+      acts = (
+        piece_1,
+        fault_where_nothing d2.bytes (bytes_below d2.bytes refl) refl,
+        record {
+          bytes = piece_1;
+          after = [];
+          mid = record { bytes = got_1; committed = false; refuses = false };
+          answer = Ok done;
+          decoded = (refl, refl);
+          appended = (refl, tt, tt);
+          memory = λ e. absurd (cc);
+          rest = (refl, refl);
+        },
+      );
+      again = tt;
     }) refl
 
 sends_2 : WorldStep w4 (Deliver 3) (report_of w4 client_1 turn_4) w5
@@ -208,6 +214,7 @@ sends_2 = takes w4 3 0 d3 client_1 turn_4 (Source []) [] refl refl refl
         reads = record { fills = record { count = refl; given = refl; rest = refl }; read = λ e. absurd (cc); memory = λ e. absurd (cc) };
         answers = refl;
       };
+      again = tt;
     }) refl
 
 stores_2 : WorldStep w5 (Deliver 4) (report_of w5 server_1 turn_5) w6
@@ -215,22 +222,27 @@ stores_2 = takes w5 4 1 d4 server_1 turn_5 (Sink held_2) ((name, two_blocks) ∷
     (record {
       decoded = Some (packet_in d4.bytes);
       says = fault_where_nothing d4.bytes (bytes_below d4.bytes refl) refl;
-      acts = record {
-        bytes = piece_2;
-        after = [];
-        mid = record { bytes = two_blocks; committed = false; refuses = false };
-        answer = Ok done;
-        decoded = (refl, refl);
-        appended = (refl, tt, tt);
-        memory = λ e. absurd (cc);
-        rest = record { answer = Ok done; commits = refl; refused = tt; leaves = tt; answers = refl };
-      };
+      acts = (
+        piece_2,
+        fault_where_nothing d4.bytes (bytes_below d4.bytes refl) refl,
+        record {
+          bytes = piece_2;
+          after = [];
+          mid = record { bytes = two_blocks; committed = false; refuses = false };
+          answer = Ok done;
+          decoded = (refl, refl);
+          appended = (refl, tt, tt);
+          memory = λ e. absurd (cc);
+          rest = record { answer = Ok done; commits = refl; refused = tt; leaves = tt; answers = refl };
+        },
+      );
+      again = tt;
     })
     (record { free = refl; here = refl; others = λ q n. no_file two_blocks (is_at (path_cmp q) name) q refl n })
 
 completes : WorldStep w6 (Deliver 5) (report_of w6 client_2 turn_6) w7
 completes = takes w6 5 0 d5 client_2 turn_6 (Source []) ((name, two_blocks) ∷ []) refl refl refl
-    (record { decoded = Some (packet_in d5.bytes); says = fault_where_nothing d5.bytes (bytes_below d5.bytes refl) refl; acts = (refl, refl) }) refl
+    (record { decoded = Some (packet_in d5.bytes); says = fault_where_nothing d5.bytes (bytes_below d5.bytes refl) refl; acts = (refl, refl); again = tt }) refl
 
 accepted : IsAccepted w1 client (Takes name Octet agreed)
 unfolding places_of name_of answered_option
