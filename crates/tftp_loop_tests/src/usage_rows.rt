@@ -9,7 +9,7 @@ const TFTPD: &str = "programs::tftpd";
 
 /// Command lines, and what they print: a help text ends with examples, and a fault has the range of
 /// a value.
-const ROWS: [(&str, &[&str], &str); 18] = [
+const ROWS: [(&str, &[&str], &str); 20] = [
     (TFTPD, &["--version"], "tftpd 0.1.0 (rattle-kit-"),
     (TFTP, &["--version"], "tftp 0.1.0 (rattle-kit-"),
     (TFTPD, &["--help"], "Examples:\n  tftpd "),
