@@ -90,7 +90,7 @@ stores = takes w2 1 0 d1 client turn3 (Sink held3) files refl refl refl
       decoded = Some (packet_in d1.bytes);
       says = fault_where_nothing d1.bytes (bytes_below d1.bytes refl) refl;
       acts = (
-        file,
+        13 ∷ 10 ∷ [],
         fault_where_nothing d1.bytes (bytes_below d1.bytes refl) refl,
         record {
           bytes = file;
