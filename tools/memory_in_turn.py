@@ -1,10 +1,11 @@
 #!/usr/bin/env python3
-"""Refuses each request for memory of the scenes in turn: memory_in_turn.py PROGRAM EXPECTED
+"""Refuses each request for memory of the scenes in turn: memory_in_turn.py [PROGRAM EXPECTED]
 
-PROGRAM is tftp_memory_scenes, EXPECTED what it prints with ample memory. It announces each call by a line that ends in
-a colon, and says behind it that the call has returned; a request in between counts. With one of them refused the
-program has to print the same, and behind the call a line that it was out of memory and left all as before; or, where it
-was a commit's, that the disk was full. The counter is refuse_memory.c, compiled into a temporary folder.
+PROGRAM is tftp_memory_scenes, EXPECTED what it prints with ample memory; without words, those that `rt ci` built and
+compared. The program announces each call by a line that ends in a colon, and says behind it that the call has returned;
+a request in between counts. With one of them refused it has to print the same, and behind the call a line that it was
+out of memory and left all as before; or, where the request was a commit's, that the disk was full. The counter is
+refuse_memory.c, compiled into a temporary folder.
 """
 import os
 import re
@@ -14,6 +15,7 @@ import sys
 import tempfile
 from pathlib import Path
 
+SCENES = Path(__file__).resolve().parent.parent / "crates" / "tftp_memory_scenes"
 PATIENCE = 20
 AS_BEFORE = "= out of memory, all as before"
 # Where a commit is refused its memory: no file, ERROR 3 `disk full`, and the name is free for the other write.
@@ -90,9 +92,10 @@ def call_of(lines, expected):
 
 
 def main():
-    if len(sys.argv) != 3:
+    if len(sys.argv) not in (1, 3):
         sys.exit(__doc__)
-    program, expected = os.path.abspath(sys.argv[1]), Path(sys.argv[2]).read_text().splitlines()
+    program, printed = sys.argv[1:] or [SCENES / "out" / SCENES.name, SCENES / "stdout"]
+    program, expected = os.path.abspath(program), Path(printed).read_text().splitlines()
     full, calls, commits, wrong = with_full_disk(expected), {}, 0, 0
     with tempfile.TemporaryDirectory(prefix="tftp-memory-") as folder:
         counter = compiled(folder)

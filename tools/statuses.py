@@ -1,8 +1,9 @@
 #!/usr/bin/env python3
-"""Runs the four programs and compares their statuses and messages: statuses.py SHOW PLAY TFTP TFTPD
+"""Runs the four programs and compares their statuses and messages: statuses.py [SHOW PLAY TFTP TFTPD]
 
-A run has 20 seconds, a server ends after 50 waits at most. Everything goes over 127.0.0.1 and through one temporary
-folder. The last line is a count; the status is 1 where something was not as wanted, or fewer runs than known were made.
+Without words it takes the programs that `rt ci` built. A run has 20 seconds, a server ends after 50 waits at most.
+Everything goes over 127.0.0.1 and through one temporary folder. The last line is a count; the status is 1 where
+something was not as wanted, or fewer runs than known were made.
 """
 import os
 import resource
@@ -14,6 +15,7 @@ import threading
 from contextlib import contextmanager
 from pathlib import Path
 
+CRATES = Path(__file__).resolve().parent.parent / "crates"
 PATIENCE = 20
 RUNS_AT_LEAST = 120
 # What a program writes of a command line that it does not understand
@@ -144,8 +146,8 @@ def test_play(check):
         check.ends("tftp-play", ["read.script"], 2, "output: unwritable\n", stdout=full)
 
 
-# Datagrams of a server, and how a client ends that is answered by them: what is no packet, an ACK to a read, an ERROR, an
-# OACK that was not asked, a CR at the end of a netascii text
+# Datagrams of a server, and how a client ends that is answered by them: what is no packet, an ACK to a read, an ERROR,
+# OACKs of what was not asked, of a larger block and of one option twice, a CR at the end of a netascii text
 READ_ANSWERS = [
     (b"\0\7", [], "Illegal"),
     (b"\0\4\0\0", [], "Illegal"),
@@ -262,10 +264,12 @@ def test_usage(check):
 
 
 def main():
-    if len(sys.argv) != 5:
+    if len(sys.argv) not in (1, 5):
         sys.exit(__doc__)
     names = ["tftp-show", "tftp-play", "tftp", "tftpd"]
-    programs = dict(zip(names, map(os.path.abspath, sys.argv[1:])))
+    mains = [f"{name.replace('-', '_')}_main" for name in names]
+    built = [CRATES / main / "out" / main for main in mains]
+    programs = dict(zip(names, map(os.path.abspath, sys.argv[1:] or built)))
     with tempfile.TemporaryDirectory(prefix="tftp-statuses-") as folder:
         check = Check(programs, Path(folder))
         (check.folder / "served").mkdir()
