@@ -95,6 +95,8 @@ def main():
     if len(sys.argv) not in (1, 3):
         sys.exit(__doc__)
     program, printed = sys.argv[1:] or [SCENES / "out" / SCENES.name, SCENES / "stdout"]
+    if not os.path.exists(program):
+        sys.exit(f"memory: {program} is not there; `rt ci` builds it")
     program, expected = os.path.abspath(program), Path(printed).read_text().splitlines()
     full, calls, commits, wrong = with_full_disk(expected), {}, 0, 0
     with tempfile.TemporaryDirectory(prefix="tftp-memory-") as folder:

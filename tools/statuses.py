@@ -270,6 +270,9 @@ def main():
     mains = [f"{name.replace('-', '_')}_main" for name in names]
     built = [CRATES / main / "out" / main for main in mains]
     programs = dict(zip(names, map(os.path.abspath, sys.argv[1:] or built)))
+    for program in programs.values():
+        if not os.path.exists(program):
+            sys.exit(f"statuses: {program} is not there; `rt ci` builds it")
     with tempfile.TemporaryDirectory(prefix="tftp-statuses-") as folder:
         check = Check(programs, Path(folder))
         (check.folder / "served").mkdir()
