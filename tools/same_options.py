@@ -3,7 +3,7 @@
 
 What `--help` prints is compared with the program's manual in man/ and its completions for bash, zsh and fish, and for
 tftpd with docs/OPERATING.md. What examples and the unit give to a program is among its options, `--version` prints the
-version of the Makefile, and mandoc and systemd-analyze find nothing, where they are installed.
+version of the Makefile and the line of `rt version`, and mandoc and systemd-analyze find nothing, where they are installed.
 
 Reads the programs that `rt ci` left in crates/*_main/out, or else those of bin/. A line for each difference, and the
 status 1 where there is one; 2 where a program is missing.
@@ -133,6 +133,7 @@ class Comparison:
     def __init__(self, paths):
         self.differences = []
         self.paths = paths
+        self.toolchain = printed("rt", "version").strip() if shutil.which("rt") else ""
         self.options = {
             (name, verb): help_options(printed(paths[name], *verb.split(), "--help"))
             for name, verbs in VERBS.items()
@@ -155,8 +156,9 @@ class Comparison:
         for verb in VERBS[name]:
             if not {"-h", "--help"} <= self.options[name, verb]:
                 self.differences.append(f"{name} {verb}: the help lists no options")
-        if not re.match(rf"{name} {re.escape(version)}(?![\w.])", printed(self.paths[name], "--version")):
-            self.differences.append(f"{name} --version: is not {version}, as in the Makefile")
+        wanted = f"{name} {version} ({self.toolchain})" if self.toolchain else f"{name} {version} "
+        if not printed(self.paths[name], "--version").startswith(wanted):
+            self.differences.append(f"{name} --version: is not `{wanted}`, as by the Makefile and `rt version`")
 
     def check_manual(self, name):
         """The manual has an item for each option, and names no other anywhere."""
