@@ -11,8 +11,6 @@ mod expect;
 #[cfg(test)]
 mod fallback_rows;
 #[cfg(test)]
-mod fault_rows;
-#[cfg(test)]
 mod folder_rows;
 #[cfg(test)]
 mod full_rows;
