@@ -25,6 +25,7 @@ use Rattle.tftp_server.specs.Draft.{Drafting, drafting_sink}
 use Rattle.tftp_server.specs.Fault.{of_end}
 use Rattle.tftp_server.specs.State.{Held, ServerState, is_closed, at, with_next}
 use Rattle.tftp_server.specs.Steps.{Gives, MakesStep, StepIn, TakesBy, TakesDatagramBy, TimesOutBy, StaysAs, KeepsHeld, TimeoutFault, DatagramFaultBy, with_end}
+use Rattle.tftp_server.specs.Work.{Works, WorksAt}
 use Rattle.tftp_store.specs.Store.{StoreMeaning}
 
 -- a draft sink by its values
@@ -166,3 +167,7 @@ module _ {S F D : Type 0} (meaning : StoreMeaning S D) (sources : SourceMeaning 
   pub keeps_held : StaysAs meaning sources old.config.overwrite old.store new.store transfer next → KeepsHeld meaning sources tid (at tid old.held) old new
   keeps_held h =
       subst (λ (t : Option (Held F D)). KeepsHeld meaning sources tid t old new) (sym (found_now tid table old.held transfer same found)) (next, h, written ∙ ap (with_next tid next) same)
+
+  pub works_at : Works meaning sources old.store new.store transfer next → WorksAt meaning sources tid (at tid old.held) old new
+  works_at h =
+      subst (λ (t : Option (Held F D)). WorksAt meaning sources tid t old new) (sym (found_now tid table old.held transfer same found)) (next, h, written ∙ ap (with_next tid next) same)

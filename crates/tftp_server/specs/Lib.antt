@@ -4,5 +4,6 @@ pub mod Draft
 pub mod State
 pub mod Table
 pub mod Steps
+pub mod Work
 pub mod Port
 pub mod Request

@@ -19,6 +19,7 @@ ghost use Rattle.tftp_server.specs.State.{taken_of, without};
 ghost use Rattle.tftp_server.specs.Steps.{TimesOut, TimesOutLent, TimeoutFault, TakesDatagram};
 ghost use Rattle.tftp_server.specs.Steps.{TakesDatagramLent, TakesRecorded, DatagramFault};
 ghost use Rattle.tftp_server.specs.Steps.{DatagramFaultLent, KeepsHeld};
+ghost use Rattle.tftp_server.specs.Work.{WorksAt};
 ghost use Rattle.std.specs.Borrow.{Lends, sem};
 
 use crate::config::Config;
@@ -239,6 +240,19 @@ impl<S: Store> Server<S> {
         match self.table.get(tid) {
             Some(transfer) => Some(transfer.bytes_of(outgoing)),
             None => None,
+        }
+    }
+
+    /// Has the file of the transfer at the identifier work while the transfer's peer is busy: a
+    /// source reads ahead, and a draft is written back. Nothing happens where no transfer has the
+    /// identifier.
+    pub fn work(&mut self, tid: u16)
+        ensures works { WorksAt S.meaning S.Source.meaning tid (at tid self.old.held) self.old
+            self.new }
+        ensures rest { self.new ≡ record self.old { store = self.new.store; held = self.new.held } }
+    {
+        if let Some(transfer) = self.table.get_mut(tid) {
+            transfer.work(&mut self.store);
         }
     }
 

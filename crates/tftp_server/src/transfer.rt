@@ -10,6 +10,7 @@ ghost use Rattle.tftp_server.specs.Steps.{with_end, lends, TakesBy, TakesIn, Sta
 ghost use Rattle.tftp_ends.specs.Action.{Decodes, datagram_action, timeout_action};
 ghost use Rattle.tftp_ends.specs.Step.{Carries, Lends, IsAnswered, UsesFile, lent, timeout_turn};
 ghost use Rattle.tftp_ends.specs.Step.{told};
+ghost use Rattle.tftp_server.specs.Work.{Works};
 ghost use Rattle.tftp_wire.specs.declared.packet.Packet.{Packet};
 
 use crate::draft_sink::DraftSink;
@@ -221,6 +222,18 @@ impl<F: Source, D> Transfer<F, D> {
                     bytes,
                 )
             }
+        }
+    }
+}
+
+impl<F: Source, D> Transfer<F, D> {
+    /// Its file works while its peer is busy: a source reads ahead, and a draft is written back.
+    pub(crate) fn work<S: Store<Source = F, Draft = D>>(&mut self, store: &mut S)
+        ensures { Works S.meaning F.meaning store.old store.new self.old self.new }
+    {
+        match &mut self.files {
+            Files::Source(source) => source.read_ahead(),
+            Files::Sink(draft) => store.write_behind(draft),
         }
     }
 }
