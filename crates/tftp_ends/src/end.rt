@@ -283,6 +283,7 @@ impl End {
             × Lends self.old turn self.new answer.0.to answer.1 × (answer.0 ≡ told self.old turn)) }
         ensures closed { IsErrOf result EndFault.Closed
             ↔ IsSome (outcome_of self.old.position.phase) }
+        ensures unmoved { IsErrOf result EndFault.Closed → files.new ≡ files.old }
         ensures memory { IsErrOf result EndFault.Memory → (decoded : Option Packet)
             × Decodes bytes.now decoded
             × UsesFile (datagram_action self.old from bytes.now decoded) }
@@ -349,6 +350,7 @@ impl End {
             × (step ≡ told self.old turn)) }
         ensures closed { IsErrOf result EndFault.Closed
             ↔ IsSome (outcome_of self.old.position.phase) }
+        ensures unmoved { IsErrOf result EndFault.Closed → files.new ≡ files.old }
         ensures memory { IsErrOf result EndFault.Memory → (decoded : Option Packet)
             × Decodes bytes.now decoded
             × IsAnswered (datagram_action self.old from bytes.now decoded) }
