@@ -21,6 +21,8 @@ use Rattle.tftp_ends.specs.Step.{IsAnswered, told, timeout_turn}
 use Rattle.tftp_wire.specs.declared.packet.Packet.{Packet}
 use Rattle.tftp_server.specs.declared.draft_sink.DraftSink.{DraftSink}
 use Rattle.tftp_server.specs.declared.fault.ServerFault.{ServerFault}
+use Rattle.tftp_server.specs.declared.fault.ServerFault.TheVariants as faults
+use Rattle.tftp_server.specs.declared.config.Config.{Config}
 use Rattle.tftp_server.specs.Draft.{Drafting, drafting_sink}
 use Rattle.tftp_server.specs.Fault.{of_end}
 use Rattle.tftp_server.specs.State.{Held, ServerState, is_closed, at, with_next}
@@ -147,6 +149,20 @@ module _ {F D : Type 0} where
   -- a transfer that is written back as it was changes nothing
   pub nothing_written : (tid : ℕ) (table : List (ℕ × Held F D)) (transfer next : Held F D) → Some transfer ≡ at tid table → next ≡ transfer → with_next tid next table ≡ table
   nothing_written tid table transfer next found same = ap (λ (t : Held F D). with_next tid t table) same ∙ set_value_same (is_at (nat_cmp tid)) table transfer (sym found)
+
+of_closed : (fault : EndFault) → of_end fault ≡ faults.NoSuchTid → fault ≡ ends.Closed
+of_closed ends.Closed e = refl
+of_closed ends.Memory e = absurd (cc)
+
+-- a datagram that comes to a closed transfer changes nothing of the server
+pub leaves_unmoved : {S F D R Q : Type 0} (config : Config) (store store' : S) (tid : ℕ) (table : List (ℕ × Held F D)) (transfer next : Held F D) (fault : EndFault) (server : ServerFault) → Some transfer ≡ at tid table → server ≡ of_end fault →
+    (IsErrOf {T = R} (Err fault) ends.Closed → (next ≡ transfer) × (store' ≡ store)) → IsErrOf {T = Q} (Err server) faults.NoSuchTid →
+    ◌≡◌ {A = ServerState S F D} (record { config = config; store = store'; held = with_next tid next table }) (record { config = config; store = store; held = table })
+leaves_unmoved {S = S} {F = F} {D = D} config store store' tid table transfer next fault server found same kept is =
+    let closed : server ≡ faults.NoSuchTid = cc in
+    let k = kept (ap Err (of_closed fault (sym same ∙ closed))) in
+    let step-1 : ◌≡◌ {A = ServerState S F D} (record { config = config; store = store'; held = with_next tid next table }) (record { config = config; store = store; held = with_next tid next table }) = ap (λ (s : S). record { config = config; store = s; held = with_next tid next table }) k.1 in
+    step-1 ∙ ap (λ (held : List (ℕ × Held F D)). record { config = config; store = store; held = held }) (nothing_written tid table transfer next found k.0)
 
 module _ {S F D : Type 0} (meaning : StoreMeaning S D) (sources : SourceMeaning F) (tid : ℕ) (old new : ServerState S F D) (table : List (ℕ × Held F D)) (transfer next : Held F D) (same : table ≡ old.held) (found : Some transfer ≡ at tid table) (written : new.held ≡ with_next tid next table) where
   pub takes_datagram : (gives : Gives) (from : Endpoint) (bytes : List ℕ) (step : Step) → TakesBy meaning sources gives old.config.overwrite from bytes old.store new.store transfer next step → TakesDatagramBy meaning sources gives tid from bytes old new step

@@ -24,6 +24,7 @@ pub(crate) fn on_datagram_of_source<S: Source, K: Sink>(
         (appends out.old.items out.new.items) from bytes.now end.old end.new
         (Files.Source source.old) (Files.Source source.new)) }
     ensures closed { IsErrOf result EndFault.Closed ↔ IsSome (outcome_of end.old.position.phase) }
+    ensures unmoved { IsErrOf result EndFault.Closed → source.new ≡ source.old }
     ensures memory { IsErrOf result EndFault.Memory → (decoded : Option Packet)
         × Decodes bytes.now decoded × IsAnswered (datagram_action end.old from bytes.now decoded) }
     ensures err { OnErr result ((end.new ≡ end.old) × (out.new.items ≡ out.old.items)
@@ -51,6 +52,7 @@ pub(crate) fn on_datagram_of_sink<S: Source, K: Sink>(
         (appends out.old.items out.new.items) from bytes.now end.old end.new
         (Files.Sink sink.old) (Files.Sink sink.new)) }
     ensures closed { IsErrOf result EndFault.Closed ↔ IsSome (outcome_of end.old.position.phase) }
+    ensures unmoved { IsErrOf result EndFault.Closed → sink.new ≡ sink.old }
     ensures memory { IsErrOf result EndFault.Memory → (decoded : Option Packet)
         × Decodes bytes.now decoded × IsAnswered (datagram_action end.old from bytes.now decoded) }
     ensures err { OnErr result ((end.new ≡ end.old) × (out.new.items ≡ out.old.items)
@@ -78,6 +80,7 @@ pub(crate) fn handle_datagram_of_source<S: Source, K: Sink>(
         (lends answer.1) from bytes.now end.old end.new
         (Files.Source source.old) (Files.Source source.new) answer.0) }
     ensures closed { IsErrOf result EndFault.Closed ↔ IsSome (outcome_of end.old.position.phase) }
+    ensures unmoved { IsErrOf result EndFault.Closed → source.new ≡ source.old }
     ensures memory { IsErrOf result EndFault.Memory → (decoded : Option Packet)
         × Decodes bytes.now decoded × UsesFile (datagram_action end.old from bytes.now decoded) }
     ensures err { OnErr result ((end.new ≡ end.old)
@@ -104,6 +107,7 @@ pub(crate) fn handle_datagram_of_sink<S: Source, K: Sink>(
         (lends answer.1) from bytes.now end.old end.new
         (Files.Sink sink.old) (Files.Sink sink.new) answer.0) }
     ensures closed { IsErrOf result EndFault.Closed ↔ IsSome (outcome_of end.old.position.phase) }
+    ensures unmoved { IsErrOf result EndFault.Closed → sink.new ≡ sink.old }
     ensures memory { IsErrOf result EndFault.Memory → (decoded : Option Packet)
         × Decodes bytes.now decoded × UsesFile (datagram_action end.old from bytes.now decoded) }
     ensures err { OnErr result ((end.new ≡ end.old)

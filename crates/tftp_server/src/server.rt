@@ -139,6 +139,7 @@ impl<S: Store> Server<S> {
         ensures rest { self.new ≡ record self.old { store = self.new.store; held = self.new.held } }
         ensures no_such_tid { IsErrOf result ServerFault.NoSuchTid
             ↔ (is_open (at tid self.old.held) ≡ false) }
+        ensures unmoved { IsErrOf result ServerFault.NoSuchTid → self.new ≡ self.old }
         ensures fault { IfErr result (DatagramFault from bytes.now (at tid self.old.held)) }
         ensures err { OnErr result (KeepsHeld S.meaning S.Source.meaning
             tid (at tid self.old.held) self.old self.new × (out.new.items ≡ out.old.items)) }
@@ -162,6 +163,7 @@ impl<S: Store> Server<S> {
         ensures rest { self.new ≡ record self.old { store = self.new.store; held = self.new.held } }
         ensures no_such_tid { IsErrOf result ServerFault.NoSuchTid
             ↔ (is_open (at tid self.old.held) ≡ false) }
+        ensures unmoved { IsErrOf result ServerFault.NoSuchTid → self.new ≡ self.old }
         ensures fault { IfErr result (DatagramFault from bytes.now (at tid self.old.held)) }
         ensures err { OnErr result (KeepsHeld S.meaning S.Source.meaning
             tid (at tid self.old.held) self.old self.new × (out.new.items ≡ out.old.items)) }
@@ -218,6 +220,7 @@ impl<S: Store> Server<S> {
         ensures rest { self.new ≡ record self.old { store = self.new.store; held = self.new.held } }
         ensures no_such_tid { IsErrOf result ServerFault.NoSuchTid
             ↔ (is_open (at tid self.old.held) ≡ false) }
+        ensures unmoved { IsErrOf result ServerFault.NoSuchTid → self.new ≡ self.old }
         ensures fault { IfErr result (DatagramFaultLent from bytes.now (at tid self.old.held)) }
         ensures err { OnErr result (KeepsHeld S.meaning S.Source.meaning
             tid (at tid self.old.held) self.old self.new) }

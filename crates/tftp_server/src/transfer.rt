@@ -155,6 +155,8 @@ impl<F: Source, D> Transfer<F, D> {
             replace from bytes.now store.old store.new self.old
             self.new step out.old.items out.new.items) }
         ensures closed { IsErrOf result EndFault.Closed ↔ (is_closed self.old ≡ true) }
+        ensures unmoved { IsErrOf result EndFault.Closed
+            → (self.new ≡ self.old) × (store.new ≡ store.old) }
         ensures memory { IsErrOf result EndFault.Memory → (decoded : Option Packet)
             × Decodes bytes.now decoded × IsAnswered (datagram_action self.old.end from bytes.now
             decoded) }
@@ -197,6 +199,8 @@ impl<F: Source, D> Transfer<F, D> {
             (lends answer.1) replace from bytes.now store.old store.new self.old self.new
             answer.0) }
         ensures closed { IsErrOf result EndFault.Closed ↔ (is_closed self.old ≡ true) }
+        ensures unmoved { IsErrOf result EndFault.Closed
+            → (self.new ≡ self.old) × (store.new ≡ store.old) }
         ensures memory { IsErrOf result EndFault.Memory → (decoded : Option Packet)
             × Decodes bytes.now decoded × UsesFile (datagram_action self.old.end from bytes.now
             decoded) }

@@ -1,11 +1,11 @@
 -- A fault comes from the transfer at the identifier, or from there being none.
-use Rattle.std.proofs.Common.{◌≡◌, refl, ap}
+use Rattle.std.proofs.Common.{◌≡◌, ◌∙◌, refl, ap}
 use Rattle.tftp_server.specs.State.{ServerState, at, with_next}
 use Rattle.tftp_ends.specs.Step.{UsesFile}
 use Rattle.tftp_ends.specs.declared.outgoing.Outgoing.{Outgoing}
 use Rattle.tftp_ends.specs.declared.record.Step.{Step}
 use Rattle.tftp_server.specs.Steps.{lends}
-use Rattle.tftp_server.proofs.StepsLemmas.{found_now, datagram_fault, takes_datagram, keeps_held}
+use Rattle.tftp_server.proofs.StepsLemmas.{found_now, datagram_fault, takes_datagram, keeps_held, leaves_unmoved}
 use Rattle.tftp_server.proofs.server.Server.handle_datagram.Goals as goal
 use Rattle.tftp_server.proofs.server.Server.handle_datagram.Goals.{in-Ok, in-Err}
 
@@ -38,4 +38,15 @@ returns-clause-err g c =
     elim c.match-handle_datagram.branch [
       | in-Ok w ↦ rw w.result-is tt
       | in-Err w ↦ rw (w.result-is, ← c.self.view_is) (keeps_held g.S.Store.meaning g.S.Source.Source.meaning c.args.tid old new c.self.inside.table c.in-Some.transfer.now c.handle_datagram.new.self refl c.in-Some.ensures.value refl w.in-Err.ensures.err)
+    ]
+
+pub returns-clause-unmoved : goal.returns-clause-unmoved
+returns-clause-unmoved g c =
+    elim c.match-handle_datagram.branch [
+      | in-Ok w ↦ rw w.result-is (λ e. absurd (cc))
+      | in-Err w ↦
+          rw w.result-is
+          (λ e. leaves_unmoved {R = Step × Outgoing} {Q = Step × Outgoing} c.self.inside.config c.self.inside.store c.handle_datagram.new.store c.args.tid c.self.inside.table
+              c.in-Some.transfer.now c.handle_datagram.new.self w.in-Err.fault w.from.result c.in-Some.ensures.value w.from.ensures w.in-Err.ensures.unmoved e
+              ∙ c.self.view_is)
     ]
