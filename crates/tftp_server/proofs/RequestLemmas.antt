@@ -1,17 +1,21 @@
 -- What the request port decides, from the calls that it makes.
-use Rattle.std.proofs.Common.{◌≡◌, ◌≢◌, ℕ, Bool, false, List, [], ◌++◌, Option, Some, None, Result, Ok, Err, IfOk, IsErrOf, OnOk, OnErr, length, take, refl, sym, ap, subst, ◌∙◌}
-use Rattle.std.specs.Prelude.{if◌then◌else◌}
+use Rattle.std.proofs.Common.{◌≡◌, ◌≢◌, ℕ, Bool, true, false, List, [], ◌++◌, Option, Some, None, Result, Ok, Err, IfOk, IsErrOf, OnOk, OnErr, length, take, refl, sym, ap, subst, ◌∙◌}
+use Rattle.std.specs.Prelude.{if◌then◌else◌, nat_le}
 use Rattle.tftp_wire.specs.declared.mode.Mode.{Mode}
 use Rattle.tftp_wire.specs.declared.options.RawOption.{RawOption}
 use Rattle.tftp_wire.specs.declared.packet.Packet.{Packet}
 use Rattle.tftp_wire.specs.declared.packet.Packet.TheVariants.{Read, Write, Data, Ack, Error, Oack}
 use Rattle.tftp_wire.specs.declared.packet.Request.{Request}
+use Rattle.tftp_negotiate.specs.Answer.{answer}
 use Rattle.tftp_negotiate.specs.declared.known.Kind.{Kind}
+use Rattle.tftp_negotiate.specs.declared.known.Kind.TheVariants as kinds
+use Rattle.tftp_negotiate.specs.declared.refusal.Refusal.{Refusal}
 use Rattle.tftp_negotiate.specs.declared.limits.Limits.{Limits}
 use Rattle.tftp_negotiate.specs.declared.known.Known.{Known}
 use Rattle.tftp_file.specs.Path.{path_of_name}
 use Rattle.tftp_file.specs.Source.{SourceMeaning}
 use Rattle.tftp_file.specs.declared.fault.StoreFault.{StoreFault}
+use Rattle.tftp_file.specs.declared.path.PathFault.{PathFault}
 use Rattle.tftp_file.specs.declared.fault.StoreFault.TheVariants.{Memory}
 use Rattle.tftp_file.specs.declared.files.Files.TheVariants.{Sink}
 use Rattle.tftp_ends.specs.End.{EndState}
@@ -21,7 +25,7 @@ use Rattle.tftp_wire.specs.Reading.{has_error_opcode}
 use Rattle.tftp_ends.specs.Step.{error_bytes}
 use Rattle.tftp_ends.specs.declared.endpoint.Endpoint.{Endpoint}
 use Rattle.tftp_ends.specs.declared.error_reply.ErrorReply.{ErrorReply}
-use Rattle.tftp_ends.specs.declared.error_reply.ErrorReply.TheVariants.{IllegalOperation}
+use Rattle.tftp_ends.specs.declared.error_reply.ErrorReply.TheVariants.{IllegalOperation, ServerBusy}
 use Rattle.std.proofs.Math.Seq.{take-append_seam}
 use Rattle.std.proofs.lemmas.List.{append-nil}
 use Rattle.tftp_server.specs.declared.config.Config.{Config}
@@ -31,8 +35,8 @@ use Rattle.tftp_server.specs.declared.server.request.Asked.{Asked}
 use Rattle.tftp_server.specs.declared.server.request.Decision.{Decision}
 use Rattle.tftp_server.specs.declared.server.request.Decision.TheVariants.{Refuse, Open}
 use Rattle.tftp_store.specs.declared.store.Opening.{Opening}
-use Rattle.tftp_server.specs.Port.{Ask, Ignores, Refuses, asks, by_packet, by_repeat, by_name, by_kind, by_file, begin_reply}
-use Rattle.tftp_server.specs.Request.{Came, Nothing, An_error, A_transfer, IsRequest, AsksToRead, AsksToWrite, Goes, RequestStep, Sent, Left, ask_of, came_to, decided_bytes, left_by}
+use Rattle.tftp_server.specs.Port.{Ask, Ignores, Refuses, asks, by_packet, by_repeat, by_name, by_options, by_kind, by_file, begin_reply}
+use Rattle.tftp_server.specs.Request.{Acts, Admits, CarriesOut, Came, Nothing, An_error, A_transfer, IsRequest, AsksToRead, AsksToWrite, Goes, RequestStep, Sent, Left, ask_of, came_to, decided_bytes, left_by}
 use Rattle.tftp_server.specs.State.{Held, ServerState, IsRepeated, with_new}
 use Rattle.tftp_store.specs.Store.{StoreMeaning, Opens, Begins}
 
@@ -81,14 +85,58 @@ module _ (cap count : ℕ) (limits : Limits) where
   asks_named bytes asked decoded repeated test is =
       sym (packet_named decoded repeated asked is) ∙ ap (λ (b : Bool). if b then Ignores else by_packet cap count repeated limits decoded) (sym test)
 
+-- ---- what is asked of a name is never nothing
+either_acts : (b : Bool) (x y : Ask) → x ≢ Ignores → y ≢ Ignores → (if b then x else y) ≢ Ignores
+either_acts true x y h k = h
+either_acts false x y h k = k
+
+options_act : (path : List ℕ) (mode : Mode) (r : Result (List Known) Refusal) → by_options path mode r ≢ Ignores
+options_act path mode (Err refusal) e = cc
+options_act path mode (Ok agreed) e = cc
+
+kind_acts : (kind : Kind) (mode : Mode) (options : List RawOption) (limits : Limits) (path : List ℕ) → by_kind kind mode options limits path ≢ Ignores
+kind_acts kinds.Read mode options limits path e = cc
+kind_acts kinds.Write mode options limits path e = options_act path mode (answer options kinds.Write mode 0 limits) e
+
+name_acts : (cap count : ℕ) (next : List ℕ → Ask) → ((path : List ℕ) → next path ≢ Ignores) → (r : Result (List ℕ) PathFault) → by_name cap count next r ≢ Ignores
+name_acts cap count next h (Err fault) e = cc
+name_acts cap count next h (Ok path) e = either_acts (nat_le cap count) (Refuses ServerBusy) (next path) (λ e. cc) (h path) e
+
+module _ {S F D : Type 0} (old : ServerState S F D) (from : Endpoint) (bytes : List ℕ) where
+  -- what is asked of the name in a request, as the server stands
+  abbrev pub named_now : Kind → Request → Ask
+  named_now kind request = named old.config.cap (length old.held) old.config.limits kind request
+
   -- the tests of a name are those of the datagram
-  pub asked_by_name : {E : Type 0} {F D : Type 0} (from : Endpoint) (held : List (ℕ × Held F D)) (bytes : List ℕ) (kind : Kind) (request : Request) (decoded : Option Packet) (repeated : Bool) (r : Result Asked E) → has_error_opcode bytes ≡ false → Decodes bytes decoded → IsRequest decoded (Some (kind, request)) →
-      IsRepeated repeated from decoded held → repeated ≡ false →
-      IfOk r (λ asked. ask_of asked ≡ named kind request) →
-      IfOk r (λ asked. (decoded : Option Packet) × (repeated : Bool) × Decodes bytes decoded × IsRepeated repeated from decoded held × (ask_of asked ≡ asks cap count repeated limits bytes decoded))
-  asked_by_name from held bytes kind request decoded repeated (Ok asked) test says is repeats new h =
-      (decoded, repeated, says, repeats, h ∙ (ap (λ (b : Bool). by_repeat b (named kind request)) (sym new) ∙ asks_named bytes (Some (kind, request)) decoded repeated test is))
-  asked_by_name from held bytes kind request decoded repeated (Err fault) test says is repeats new h = tt
+  admits_named : (kind : Kind) (request : Request) (decoded : Option Packet) (repeated : Bool) (ask : Ask) → has_error_opcode bytes ≡ false → Decodes bytes decoded → IsRequest decoded (Some (kind, request)) →
+      IsRepeated repeated from decoded old.held → repeated ≡ false → ask ≡ named_now kind request → Admits old from bytes ask
+  admits_named kind request decoded repeated ask test says is repeats new h =
+      record {
+        decoded = decoded;
+        says = says;
+        repeated = repeated;
+        repeats = repeats;
+        asks_for =
+            h ∙ (ap (λ (b : Bool). by_repeat b (named_now kind request)) (sym new)
+            ∙ asks_named old.config.cap (length old.held) old.config.limits bytes (Some (kind, request)) decoded repeated test is);
+      }
+
+  pub asked_by_name : {E : Type 0} (kind : Kind) (request : Request) (decoded : Option Packet) (repeated : Bool) (r : Result Asked E) → has_error_opcode bytes ≡ false → Decodes bytes decoded → IsRequest decoded (Some (kind, request)) →
+      IsRepeated repeated from decoded old.held → repeated ≡ false →
+      IfOk r (λ asked. ask_of asked ≡ named_now kind request) → IfOk r (λ asked. Admits old from bytes (ask_of asked))
+  asked_by_name kind request decoded repeated (Ok asked) test says is repeats new h = admits_named kind request decoded repeated (ask_of asked) test says is repeats new h
+  asked_by_name kind request decoded repeated (Err fault) test says is repeats new h = tt
+
+  -- and where there is no memory for them, the datagram is not one to be ignored
+  pub acts_by_name : {T E : Type 0} (kind : Kind) (request : Request) (decoded : Option Packet) (repeated : Bool) (r : Result T E) → has_error_opcode bytes ≡ false → Decodes bytes decoded → IsRequest decoded (Some (kind, request)) →
+      IsRepeated repeated from decoded old.held → repeated ≡ false → OnErr r (Acts old from bytes)
+  acts_by_name kind request decoded repeated (Ok done) test says is repeats new = tt
+  acts_by_name kind request decoded repeated (Err fault) test says is repeats new = (
+    named_now kind request,
+    admits_named kind request decoded repeated (named_now kind request) test says is repeats new refl,
+    name_acts old.config.cap (length old.held) (by_kind kind request.mode request.options old.config.limits)
+        (kind_acts kind request.mode request.options old.config.limits) (path_of_name request.name),
+  )
 
 module _ {S F D : Type 0} (meaning : StoreMeaning S D) (sources : SourceMeaning F) (old : ServerState S F D) (from : Endpoint) (bytes : List ℕ) where
   -- the file was opened, and this was decided of it
@@ -123,49 +171,55 @@ module _ {S F D : Type 0} (meaning : StoreMeaning S D) (sources : SourceMeaning 
   nothing_begun store fault was cut (Ok d) same why back = tt
   nothing_begun store fault was cut (Err e) same why back = (ap (λ (s : S). record old { store = s }) (same (ap Err why)), back)
 
-  -- the port has asked for this
-  abbrev pub IsAsked : Ask → Type 0
-  IsAsked ask =
-      (decoded : Option Packet) × (repeated : Bool) × Decodes bytes decoded × IsRepeated repeated from decoded old.held
-      × (ask ≡ asks old.config.cap (length old.held) repeated old.config.limits bytes decoded)
-
-  pub asked_as : (a b : Asked) → a ≡ b → IsAsked (ask_of a) → IsAsked (ask_of b)
-  asked_as a b e h = subst (λ (x : Asked). IsAsked (ask_of x)) e h
-
-  -- what the port asks, and what came of it, is its step
-  request_step : (tid : ℕ) (ask : Ask) (came : Came S F D) (result : Left S F D) →
-      IsAsked ask →
-      Goes meaning sources old from bytes ask came → result ≡ left_by came old from tid → RequestStep meaning sources old from bytes tid result
-  request_step tid ask came result asked goes left =
-      record { decoded = asked.0; says = asked.2; repeated = asked.1; repeats = asked.3; came = came; goes = subst (λ (a : Ask). Goes meaning sources old from bytes a came) asked.4 goes; left = left }
+  -- what was decided is done, and this came of it
+  carries : (tid : ℕ) (ask done : Ask) (came : Came S F D) (result : Left S F D) → ask ≡ done →
+      Goes meaning sources old from bytes done came → result ≡ left_by came old from tid → CarriesOut meaning sources old from bytes ask tid result
+  carries tid ask done came result is goes left =
+      record { came = came; goes = subst (λ (a : Ask). Goes meaning sources old from bytes a came) (sym is) goes; left = left }
 
   -- nothing comes of it
-  pub stays_silent : (tid : ℕ) (out : List ℕ) →
-      IsAsked Ignores →
-      (sent : List ℕ) × (out ≡ out ++ sent) × RequestStep meaning sources old from bytes tid (record { new = old; opened = record { tid = None; to = None }; sent = sent })
-  stays_silent tid out asked = ([], sym (append-nil out), request_step tid Ignores Nothing _ asked refl refl)
+  pub stays_silent : (tid : ℕ) (ask : Ask) (out : List ℕ) → ask ≡ Ignores →
+      (sent : List ℕ) × (out ≡ out ++ sent) × CarriesOut meaning sources old from bytes ask tid (record { new = old; opened = record { tid = None; to = None }; sent = sent })
+  stays_silent tid ask out is = ([], sym (append-nil out), carries tid ask Ignores Nothing _ is refl refl)
 
   -- an ERROR went out
-  pub refuses : (tid : ℕ) (reply : ErrorReply) (before after : List ℕ) (r : Result Opened ServerFault) →
-      IsAsked (Refuses reply) →
+  pub refuses : (tid : ℕ) (ask : Ask) (reply : ErrorReply) (before after : List ℕ) (r : Result Opened ServerFault) → ask ≡ Refuses reply →
       IfOk r (λ opened. opened ≡ record { tid = None; to = Some from }) → OnOk r (after ≡ before ++ error_bytes reply) →
-      IfOk r (λ opened. (sent : List ℕ) × (after ≡ before ++ sent) × RequestStep meaning sources old from bytes tid (record { new = old; opened = opened; sent = sent }))
-  refuses tid reply before after (Ok opened) asked tells ok = (
+      IfOk r (λ opened. (sent : List ℕ) × (after ≡ before ++ sent) × CarriesOut meaning sources old from bytes ask tid (record { new = old; opened = opened; sent = sent }))
+  refuses tid ask reply before after (Ok opened) is tells ok = (
     error_bytes reply,
     ok,
-    request_step tid (Refuses reply) (An_error reply old.store) _ asked refl
+    carries tid ask (Refuses reply) (An_error reply old.store) _ is refl
         (ap (λ (o : Opened). record { new = old; opened = o; sent = error_bytes reply }) tells),
   )
-  refuses tid reply before after (Err fault) asked tells ok = tt
+  refuses tid ask reply before after (Err fault) is tells ok = tt
 
   -- the store was asked for a file or a draft
-  pub goes_on : (tid : ℕ) (ask : Ask) (before after : List ℕ) (new : ServerState S F D) (r : Result Opened ServerFault) →
-      IsAsked ask →
-      IfOk r (λ opened. (came : Came S F D) × (sent : List ℕ) × Goes meaning sources old from bytes ask came
+  pub goes_on : (tid : ℕ) (ask done : Ask) (before after : List ℕ) (new : ServerState S F D) (r : Result Opened ServerFault) → ask ≡ done →
+      IfOk r (λ opened. (came : Came S F D) × (sent : List ℕ) × Goes meaning sources old from bytes done came
       × (after ≡ before ++ sent) × (record { new = new; opened = opened; sent = sent } ≡ left_by came old from tid)) →
+      IfOk r (λ opened. (sent : List ℕ) × (after ≡ before ++ sent) × CarriesOut meaning sources old from bytes ask tid (record { new = new; opened = opened; sent = sent }))
+  goes_on tid ask done before after new (Ok opened) is h = (h.1, h.3, carries tid ask done h.0 _ is h.2 h.4)
+  goes_on tid ask done before after new (Err fault) is h = tt
+
+  -- what the port has decided, and what it leaves that does that, is its step
+  pub requested : (tid : ℕ) (ask : Ask) (before after : List ℕ) (new : ServerState S F D) (r : Result Opened ServerFault) → Admits old from bytes ask →
+      IfOk r (λ opened. (sent : List ℕ) × (after ≡ before ++ sent) × CarriesOut meaning sources old from bytes ask tid (record { new = new; opened = opened; sent = sent })) →
       IfOk r (λ opened. (sent : List ℕ) × (after ≡ before ++ sent) × RequestStep meaning sources old from bytes tid (record { new = new; opened = opened; sent = sent }))
-  goes_on tid ask before after new (Ok opened) asked h = (h.1, h.3, request_step tid ask h.0 _ asked h.2 h.4)
-  goes_on tid ask before after new (Err fault) asked h = tt
+  requested tid ask before after new (Ok opened) admits h = (
+    h.0,
+    h.1,
+    record {
+      decoded = admits.decoded;
+      says = admits.says;
+      repeated = admits.repeated;
+      repeats = admits.repeats;
+      came = h.2.came;
+      goes = subst (λ (a : Ask). Goes meaning sources old from bytes a h.2.came) admits.asks_for h.2.goes;
+      left = h.2.left;
+    },
+  )
+  requested tid ask before after new (Err fault) admits h = tt
 
 -- ---- a write, whose table has made room first
 module _ {S F D : Type 0} (meaning : StoreMeaning S D) (sources : SourceMeaning F) (config : Config) (store : S) (held none : List (ℕ × Held F D)) (from : Endpoint) (bytes : List ℕ) (path : List ℕ) (mode : Mode) (agreed : List Known) (after : ServerState S F D)

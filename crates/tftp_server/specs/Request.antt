@@ -45,6 +45,12 @@ pub data Came (S F D : Type 0) : Type 0 where
   -- a transfer opens; the store has become this
   A_transfer : Held F D → S → Came S F D
 
+-- a datagram that came to the request port, and what that has decided of it
+pub record AdmissionState : Type 0 where
+  pub from : Endpoint
+  pub bytes : List ℕ
+  pub ask : Ask
+
 -- what the request port left: the server, what it tells, and what it sent
 pub record Left (S F D : Type 0) : Type 0 where
   pub new : ServerState S F D
@@ -67,6 +73,20 @@ module _ {S F D : Type 0} where
         opened = record { tid = Some tid; to = Some from };
         sent = held.end.position.last_sent;
       }
+
+module _ {S F D : Type 0} (old : ServerState S F D) (from : Endpoint) (bytes : List ℕ) where
+  -- what the request port has decided of a datagram before it asks its store
+  pub record Admits (ask : Ask) : Type 0 where
+    pub decoded : Option Packet
+    pub says : Decodes bytes decoded
+    pub repeated : Bool
+    pub repeats : IsRepeated repeated from decoded old.held
+    pub asks_for : ask ≡
+        asks old.config.cap (length old.held) repeated old.config.limits bytes decoded
+
+  -- the port answers the datagram or asks its store: the datagram is not ignored
+  abbrev pub Acts : Type 0
+  Acts = (ask : Ask) × Admits ask × (ask ≢ Ignores)
 
 module _ {S F D : Type 0} (meaning : StoreMeaning S D) (sources : SourceMeaning F) (old : ServerState S F D) (from : Endpoint) (bytes : List ℕ) where
   -- the end of a read opens with DATA 1 or the OACK
@@ -118,6 +138,12 @@ module _ {S F D : Type 0} (meaning : StoreMeaning S D) (sources : SourceMeaning 
   Goes (Refuses reply) came = came ≡ An_error reply old.store
   Goes (Reads path mode options) came = AsksToRead path mode options came
   Goes (Writes path mode agreed) came = AsksToWrite path mode agreed came
+
+  -- what the request port leaves that does what it has decided
+  pub record CarriesOut (ask : Ask) (tid : ℕ) (result : Left S F D) : Type 0 where
+    pub came : Came S F D
+    pub goes : Goes ask came
+    pub left : result ≡ left_by came old from tid
 
   -- how the request port handles a datagram
   pub record RequestStep (tid : ℕ) (result : Left S F D) : Type 0 where

@@ -21,5 +21,5 @@ pub use config::Config;
 pub use fault::ServerFault;
 pub use open_transfers::OpenTransfers;
 pub use opened::Opened;
-pub use server::Server;
+pub use server::{Admission, Server};
 pub use tftp_store::{FaultStore, MemDraft, MemStore, OpenedSource, Opening, Store};

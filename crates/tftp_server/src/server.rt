@@ -1,19 +1,21 @@
 //! A server: its store and its transfers.
 
+mod admission;
 mod request;
 
-ghost use Rattle.std.specs.Prelude.{◌≡◌, ◌↔◌, ◌⊎◌, ◌++◌, ◌+◌, ◌≤◌, vec_capacity, List, ℕ, []};
+ghost use Rattle.std.specs.Prelude.{◌≡◌, ◌≢◌, ◌↔◌, ◌⊎◌, ◌++◌, ◌+◌, ◌≤◌, vec_capacity, List, ℕ, []};
 ghost use Rattle.std.specs.Prelude.{length, Bool, Option, None, Some, option_copied, option_map};
 ghost use Rattle.std.specs.Prelude.{is_some, IsSome, if◌then◌else◌, false, IfOk, IfErr, IsErrOf};
 ghost use Rattle.std.specs.Prelude.{OnOk, OnErr};
 ghost use Rattle.std.specs.Map.{keys_of};
 ghost use Rattle.tftp_ends.specs.End.{record_of};
 ghost use Rattle.tftp_server.specs.Config.{IsConfig};
-ghost use Rattle.tftp_server.specs.Request.{AsksToRead, AsksToWrite, Came, RequestStep, left_by};
+ghost use Rattle.tftp_server.specs.Request.{Acts, Admits, AsksToRead, AsksToWrite, Came};
+ghost use Rattle.tftp_server.specs.Request.{CarriesOut, RequestStep, left_by};
 ghost use Rattle.tftp_ends.specs.Step.{error_bytes, lent};
 ghost use Rattle.tftp_wire.specs.declared.packet.Packet.{Packet};
 ghost use Rattle.tftp_ends.specs.Action.{Decodes};
-ghost use Rattle.tftp_server.specs.Port.{asks, asks_store};
+ghost use Rattle.tftp_server.specs.Port.{Ignores, asks, asks_store};
 ghost use Rattle.tftp_server.specs.State.{IsRepeated, at, draft_at, is_open, open_records};
 ghost use Rattle.tftp_server.specs.State.{taken_of, without};
 ghost use Rattle.tftp_server.specs.Steps.{TimesOut, TimesOutLent, TimeoutFault, TakesDatagram};
@@ -26,6 +28,7 @@ use crate::config::Config;
 use crate::fault::ServerFault;
 use crate::open_transfers::OpenTransfers;
 use crate::opened::Opened;
+pub use crate::server::admission::Admission;
 use crate::server::request::{Asked, Decision};
 use crate::table::Table;
 use crate::transfer::Transfer;
@@ -259,32 +262,106 @@ impl<S: Store> Server<S> {
         }
     }
 
+    /// What the port of requests decides of a datagram that came from there, by the tests that ask
+    /// no store. Whoever has the port of the transfer to bind does that only where
+    /// [`Admission::may_open`], and then [`Server::open`] carries the admission out. It fails only
+    /// when out of memory, and never for a datagram that is ignored.
+    pub fn admit<'a>(&self, from: Endpoint, bytes: &'a [u8]) -> Result<Admission<'a>, ServerFault>
+        ensures admits { IfOk result (λ admission. Admits self.now from bytes.now admission.ask) }
+        ensures from { IfOk result (λ admission. admission.from ≡ from) }
+        ensures bytes { IfOk result (λ admission. admission.bytes ≡ bytes.now) }
+        ensures memory { IfErr result (λ fault. fault ≡ ServerFault.Memory) }
+        ensures acts { OnErr result (Acts self.now from bytes.now) }
+    {
+        match self.asked(from, bytes) {
+            Ok(asked) => Ok(Admission { from, bytes, asked }),
+            Err(_) => Err(ServerFault::Memory),
+        }
+    }
+
     /// Whether a datagram from there to the port of requests could open a transfer, by the tests
-    /// that ask no store, so that no socket has to be made where it could not:
-    /// [`Server::on_request`] then opens none, whatever the identifier. It fails only when out of
-    /// memory.
+    /// that ask no store: where it could not, [`Server::on_request`] opens none, whatever the
+    /// identifier. It fails as [`Server::admit`] does.
     pub fn may_open(&self, from: Endpoint, bytes: &[u8]) -> Result<bool, ServerFault>
         ensures asks { IfOk result (λ may. (decoded : Option Packet) × (repeated : Bool)
             × Decodes bytes.now decoded × IsRepeated repeated from decoded self.now.held
             × (may ≡ asks_store (asks self.now.config.cap (length self.now.held) repeated
             self.now.config.limits bytes.now decoded))) }
         ensures memory { IfErr result (λ fault. fault ≡ ServerFault.Memory) }
+        ensures acts { OnErr result (Acts self.now from bytes.now) }
     {
-        match self.asked(from, bytes) {
-            Ok(Asked::Nothing) => Ok(false),
-            Ok(Asked::Refuse(_)) => Ok(false),
-            Ok(Asked::Read(..)) => Ok(true),
-            Ok(Asked::Write(..)) => Ok(true),
+        match self.admit(from, bytes) {
+            Ok(admission) => Ok(admission.may_open()),
             Err(_) => Err(ServerFault::Memory),
         }
     }
 
-    /// A datagram came from there to the port of requests. Where it opens a transfer, that gets the
-    /// identifier `tid`, the port from which its datagrams go out (RFC 1350, section 4). At most
-    /// one datagram is appended to `out`, for where [`Opened::to`] says.
+    /// Carries an admission out. Where a transfer opens, that gets the identifier `tid`, the port
+    /// from which its datagrams go out (RFC 1350, section 4). At most one datagram is appended to
+    /// `out`, for where [`Opened::to`] says.
     ///
     /// A request to read has the store open the file; one to write has it begin a draft. `TidInUse`
-    /// where a transfer has the identifier; `Memory`. After a fault nothing has changed.
+    /// where a transfer has the identifier; `Memory`, but never for a datagram that is ignored.
+    /// After a fault nothing has changed.
+    pub fn open(
+        &mut self,
+        admission: Admission<'_>,
+        tid: u16,
+        out: &mut Vec<u8>,
+    ) -> Result<Opened, ServerFault>
+        ensures carries_out { IfOk result (λ opened. (sent : List ℕ)
+            × (out.new.items ≡ out.old.items ++ sent)
+            × CarriesOut S.meaning S.Source.meaning self.old admission.entry.from
+            admission.entry.bytes admission.entry.ask tid
+            (record { new = self.new; opened = opened; sent = sent })) }
+        ensures in_use { IsErrOf result ServerFault.TidInUse ↔ IsSome (at tid self.old.held) }
+        ensures fault { IfErr result (λ fault. (fault ≡ ServerFault.TidInUse) ⊎
+            (fault ≡ ServerFault.Memory)) }
+        ensures acts { IsErrOf result ServerFault.Memory → admission.entry.ask ≢ Ignores }
+        ensures err { OnErr result ((self.new ≡ self.old) × (out.new.items ≡ out.old.items)) }
+    {
+        if self.table.contains(tid) {
+            return Err(ServerFault::TidInUse);
+        }
+        self.open_anew(admission, tid, out)
+    }
+
+    /// The same, for an identifier that no transfer has.
+    fn open_anew(
+        &mut self,
+        admission: Admission<'_>,
+        tid: u16,
+        out: &mut Vec<u8>,
+    ) -> Result<Opened, ServerFault>
+        requires { at tid self.old.held ≡ None }
+        ensures carries_out { IfOk result (λ opened. (sent : List ℕ)
+            × (out.new.items ≡ out.old.items ++ sent)
+            × CarriesOut S.meaning S.Source.meaning self.old admission.entry.from
+            admission.entry.bytes admission.entry.ask tid
+            (record { new = self.new; opened = opened; sent = sent })) }
+        ensures memory { IfErr result (λ fault. fault ≡ ServerFault.Memory) }
+        ensures acts { OnErr result (admission.entry.ask ≢ Ignores) }
+        ensures err { OnErr result ((self.new ≡ self.old) × (out.new.items ≡ out.old.items)) }
+    {
+        let Admission { from, bytes, asked } = admission;
+        match asked {
+            Asked::Nothing => Ok(Opened {
+                tid: None,
+                to: None,
+            }),
+            Asked::Refuse(reply) => refuse(reply, from, out),
+            Asked::Read(path, request) => self.read_from(from, tid, path, bytes, &request, out),
+            Asked::Write(path, mode, agreed) => {
+                self.write_from(from, tid, path, mode, &agreed, bytes, out)
+            }
+        }
+    }
+
+    /// A datagram came from there to the port of requests: [`Server::admit`] and [`Server::open`],
+    /// one after the other.
+    ///
+    /// `TidInUse` where a transfer has the identifier; `Memory`, but never for a datagram that is
+    /// ignored. After a fault nothing has changed.
     pub fn on_request(
         &mut self,
         from: Endpoint,
@@ -299,23 +376,14 @@ impl<S: Store> Server<S> {
         ensures in_use { IsErrOf result ServerFault.TidInUse ↔ IsSome (at tid self.old.held) }
         ensures fault { IfErr result (λ fault. (fault ≡ ServerFault.TidInUse) ⊎
             (fault ≡ ServerFault.Memory)) }
+        ensures acts { IsErrOf result ServerFault.Memory → Acts self.old from bytes.now }
         ensures err { OnErr result ((self.new ≡ self.old) × (out.new.items ≡ out.old.items)) }
     {
         if self.table.contains(tid) {
             return Err(ServerFault::TidInUse);
         }
-        match self.asked(from, bytes) {
-            Ok(Asked::Nothing) => Ok(Opened {
-                tid: None,
-                to: None,
-            }),
-            Ok(Asked::Refuse(reply)) => refuse(reply, from, out),
-            Ok(Asked::Read(path, request)) => {
-                self.read_from(from, tid, path, bytes, &request, out)
-            }
-            Ok(Asked::Write(path, mode, agreed)) => {
-                self.write_from(from, tid, path, mode, &agreed, bytes, out)
-            }
+        match self.admit(from, bytes) {
+            Ok(admission) => self.open_anew(admission, tid, out),
             Err(_) => Err(ServerFault::Memory),
         }
     }

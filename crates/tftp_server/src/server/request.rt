@@ -15,7 +15,8 @@ ghost use Rattle.tftp_ends.specs.Opening.{ServesRead, CannotStart, serving_write
 ghost use Rattle.tftp_server.specs.State.{IsRepeated, source_of};
 ghost use Rattle.tftp_server.specs.Port.{accept_reply, asks, begin_reply, by_file, by_kind};
 ghost use Rattle.tftp_server.specs.Port.{by_name, by_options, by_room, by_length};
-ghost use Rattle.tftp_server.specs.Request.{AsksToRead, AsksToWrite, IsRequest, Sent, ask_of};
+ghost use Rattle.tftp_server.specs.Request.{Acts, Admits, AsksToRead, AsksToWrite, IsRequest};
+ghost use Rattle.tftp_server.specs.Request.{Sent, ask_of};
 ghost use Rattle.tftp_server.specs.Request.{came_to, decided_bytes, kind_and_request};
 
 use crate::config::Config;
@@ -223,11 +224,9 @@ impl<S: Store> Server<S> {
         from: Endpoint,
         bytes: &'a [u8],
     ) -> Result<Asked<'a>, ServerFault>
-        ensures asks { IfOk result (λ asked. (decoded : Option Packet) × (repeated : Bool)
-            × Decodes bytes.now decoded × IsRepeated repeated from decoded self.now.held
-            × (ask_of asked ≡ asks self.now.config.cap (length self.now.held) repeated
-            self.now.config.limits bytes.now decoded)) }
+        ensures asks { IfOk result (λ asked. Admits self.now from bytes.now (ask_of asked)) }
         ensures memory { IfErr result (λ fault. fault ≡ ServerFault.Memory) }
+        ensures acts { OnErr result (Acts self.now from bytes.now) }
     {
         let decoded = decode_packet(bytes);
         let is_repeated = self.table.is_repeated(from, &decoded);

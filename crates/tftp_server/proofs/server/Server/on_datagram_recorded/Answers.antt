@@ -47,6 +47,6 @@ returns-clause-unmoved g c =
       | in-Err w ↦
           rw w.result-is
           (λ e. leaves_unmoved {R = Step} {Q = Step × Record} c.self.inside.config c.self.inside.store c.on_datagram-answer.new.store c.args.tid c.self.inside.table
-              c.in-Some.transfer.now c.on_datagram-answer.new.self w.in-Err.fault w.from.result c.in-Some.ensures.value w.from.ensures w.in-Err.ensures.unmoved e
-              ∙ c.self.view_is)
+          c.in-Some.transfer.now c.on_datagram-answer.new.self w.in-Err.fault w.from.result c.in-Some.ensures.value w.from.ensures w.in-Err.ensures.unmoved e
+          ∙ c.self.view_is)
     ]
