@@ -323,26 +323,6 @@ impl<S: Store> Server<S> {
         if self.table.contains(tid) {
             return Err(ServerFault::TidInUse);
         }
-        self.open_anew(admission, tid, out)
-    }
-
-    /// The same, for an identifier that no transfer has.
-    fn open_anew(
-        &mut self,
-        admission: Admission<'_>,
-        tid: u16,
-        out: &mut Vec<u8>,
-    ) -> Result<Opened, ServerFault>
-        requires { at tid self.old.held ≡ None }
-        ensures carries_out { IfOk result (λ opened. (sent : List ℕ)
-            × (out.new.items ≡ out.old.items ++ sent)
-            × CarriesOut S.meaning S.Source.meaning self.old admission.entry.from
-            admission.entry.bytes admission.entry.ask tid
-            (record { new = self.new; opened = opened; sent = sent })) }
-        ensures memory { IfErr result (λ fault. fault ≡ ServerFault.Memory) }
-        ensures acts { OnErr result (admission.entry.ask ≢ Ignores) }
-        ensures err { OnErr result ((self.new ≡ self.old) × (out.new.items ≡ out.old.items)) }
-    {
         let Admission { from, bytes, asked } = admission;
         match asked {
             Asked::Nothing => Ok(Opened {
@@ -379,11 +359,9 @@ impl<S: Store> Server<S> {
         ensures acts { IsErrOf result ServerFault.Memory → Acts self.old from bytes.now }
         ensures err { OnErr result ((self.new ≡ self.old) × (out.new.items ≡ out.old.items)) }
     {
-        if self.table.contains(tid) {
-            return Err(ServerFault::TidInUse);
-        }
         match self.admit(from, bytes) {
-            Ok(admission) => self.open_anew(admission, tid, out),
+            Ok(admission) => self.open(admission, tid, out),
+            Err(_) if self.table.contains(tid) => Err(ServerFault::TidInUse),
             Err(_) => Err(ServerFault::Memory),
         }
     }

@@ -1,8 +1,8 @@
 -- An ERROR is sent where that was decided.
-use Rattle.std.proofs.Common.{◌≡◌, ap}
+use Rattle.std.proofs.Common.{ap}
 use Rattle.tftp_server.specs.Request.{ask_of}
 use Rattle.tftp_server.proofs.RequestLemmas.{refuses}
-use Rattle.tftp_server.proofs.server.Server.open_anew.Goals as goal
+use Rattle.tftp_server.proofs.server.Server.open.Goals as goal
 
 pub returns-in-Refuse-clause-carries_out : goal.returns-in-Refuse-clause-carries_out
 returns-in-Refuse-clause-carries_out g c =
