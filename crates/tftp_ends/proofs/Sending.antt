@@ -17,7 +17,7 @@ use Rattle.tftp_ends.specs.Step.{Turn, Sends, Lends, in_phase, having_sent, with
 
 -- a read that did not give DATA 1 cannot be served, and its source has left what the fill left
 pub fails_to_start : {S : Type 0} (sources : SourceMeaning S) (length : ℕ) (source source' : S) (buffer : List ℕ) →
-    ReadsData (sources.left source) (sources.left source') (sources.may_fail source (block_length length DEFAULT_BLOCK 1)) 1 (block_length length DEFAULT_BLOCK 1) buffer false →
+    ReadsData (sources.left source) (sources.left source') (sources.may_fail source (block_length length DEFAULT_BLOCK 1)) (sources.fails source (block_length length DEFAULT_BLOCK 1)) 1 (block_length length DEFAULT_BLOCK 1) buffer false →
     FailsToStart sources length source source'
 fails_to_start sources length source source' buffer o =
     record {
@@ -29,7 +29,7 @@ module _ {S : Type 0} (sources : SourceMeaning S) (terms : Terms) (number : ℕ)
   -- what was offered for the next block
   abbrev pub ReadsNext : Bool → Type 0
   ReadsNext is_whole =
-      ReadsData (sources.left source) (sources.left source') (sources.may_fail source (block_length e.role.length terms.size number)) number (block_length e.role.length terms.size number) buffer is_whole
+      ReadsData (sources.left source) (sources.left source') (sources.may_fail source (block_length e.role.length terms.size number)) (sources.fails source (block_length e.role.length terms.size number)) number (block_length e.role.length terms.size number) buffer is_whole
 
   -- what a sender does at an action that sends, and what its call lends
   abbrev pub IsSent : EndState → Outgoing → Type 0

@@ -18,6 +18,7 @@ use Rattle.tftp_ends.specs.Step.{Done, Turn, Sends, Appended, Committed, GoesOn,
 pub record SourcesTell {S T : Type 0} (seen : S → T) (sources : SourceMeaning S) (sources' : SourceMeaning T) : Type 0 where
   pub tells : (source : S) → sources'.left (seen source) ≡ sources.left source
   pub fails : (source : S) (want : ℕ) → sources.may_fail source want → sources'.may_fail (seen source) want
+  pub must : (source : S) (want : ℕ) → sources'.fails (seen source) want → sources.fails source want
 
 -- sinks of one kind, of which something holds that an append keeps, tell as much as what they are seen as
 pub record SinksTell {K L : Type 0} (seen : K → L) (holds : K → Type 0) (sinks : SinkMeaning K) (sinks' : SinkMeaning L) : Type 0 where
@@ -64,6 +65,7 @@ module _ {S T K L : Type 0} (sources : SourceMeaning S) (sinks : SinkMeaning K) 
               record {
                 fills = rw (source_tells.tells s, source_tells.tells s') h.reads.fills;
                 read = λ q. source_tells.fails s _ (h.reads.read q);
+                fails = λ f. h.reads.fails (source_tells.must s _ f);
                 memory = h.reads.memory;
               };
           answers = h.answers;

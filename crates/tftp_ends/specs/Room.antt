@@ -32,9 +32,10 @@ HoldsData number want piece buffer true = (buffer ≡ data_bytes number piece) �
 HoldsData number want piece buffer false = buffer ≡ []
 
 -- a source was asked for a block, and the buffer holds it as DATA if all of it came
-pub record ReadsData (before after : Option (List ℕ)) (may_fail : Type 0) (number want : ℕ) (buffer : List ℕ) (is_whole : Bool) : Type 0 where
+pub record ReadsData (before after : Option (List ℕ)) (may_fail must_fail : Type 0)
+    (number want : ℕ) (buffer : List ℕ) (is_whole : Bool) : Type 0 where
   pub answer : Result ℕ FileFault
   pub piece : List ℕ
-  pub reads : ReadsBlock before after may_fail want piece answer
+  pub reads : ReadsBlock before after may_fail must_fail want piece answer
   pub whole : is_whole ≡ result_count_is want answer
   pub holds : HoldsData number want piece buffer is_whole

@@ -166,16 +166,21 @@ committed_turn terms number from e (Err fault) = refused_turn terms (commit_repl
 abbrev pub holding : List ℕ → EndState → EndState
 holding held e = with_position (record e.position { held = held }) e
 
--- a source was asked for so many bytes, and this came of it; one that may not fail to read hasn't
-pub record ReadsBlock (before after : Option (List ℕ)) (may_fail : Type 0) (want : ℕ) (piece : List ℕ) (answer : Result ℕ FileFault) : Type 0 where
+-- a source was asked for so many bytes, and this was its answer: it failed to read only where it may fail, and did where
+-- it must
+pub record ReadsBlock (before after : Option (List ℕ)) (may_fail must_fail : Type 0) (want : ℕ)
+    (piece : List ℕ) (answer : Result ℕ FileFault) : Type 0 where
   pub fills : Fills before after want [] piece answer
   pub read : answer ≡ Err file_faults.Read → may_fail
+  pub fails : must_fail → answer ≡ Err file_faults.Read
   pub memory : answer ≢ Err file_faults.Memory
 
 module _ {S : Type 0} (sources : SourceMeaning S) where
   -- so many bytes were asked for, of a source as it was before and as it is after
   abbrev pub AsksFor : ℕ → S → Option (List ℕ) → List ℕ → Result ℕ FileFault → Type 0
-  AsksFor want source after piece answer = ReadsBlock (sources.left source) after (sources.may_fail source want) want piece answer
+  AsksFor want source after piece answer =
+      ReadsBlock (sources.left source) after (sources.may_fail source want) (sources.fails source want)
+      want piece answer
 
   -- a source was asked for the next block, and DATA went out or the file had changed
   pub record Sends (terms : Terms) (number : ℕ) (from : Endpoint) (e : EndState) (source : S) (turn : Turn) (source' : S) : Type 0 where

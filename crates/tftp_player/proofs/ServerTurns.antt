@@ -83,7 +83,7 @@ module _ (replace : Bool) (path : List ℕ) (files : FileList) where
   sinks = record { tells = λ d. refl; keeps = still_for; appends = may_append; commits = may_commit; leaves = λ d d' committed p h. tt }
 
 sources : SourcesTell (λ (s : List ℕ). s) memory_source memory_source
-sources = record { tells = λ s. refl; fails = λ s want h. h }
+sources = record { tells = λ s. refl; fails = λ s want h. h; must = λ s want h. h }
 
 -- a step of the transfer is a step of the end
 module _ (from : Endpoint) (bytes : List ℕ) (e : EndState) (store store' : Stored) (path path' : List ℕ) (replace : Bool) (turn : Turn) where

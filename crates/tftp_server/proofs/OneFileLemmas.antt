@@ -51,7 +51,7 @@ module _ {S K R : Type 0} (sources : SourceMeaning S) (sinks : SinkMeaning K) (s
       let steps = subst (λ (f : Files (MutBor S) K). DatagramStep (borrowed_source sources) sinks from bytes e (Source first) h.0 f) is h.1 in
       let now : DatagramStep sources sinks from bytes e (Source first.now) h.0 (Source second.now) =
       source_step_as (borrowed_source sources) sinks sources sinks
-      (λ s. s.now) (record { tells = λ s. refl; fails = λ s want f. f }) from bytes e first h.0 second steps in
+      (λ s. s.now) (record { tells = λ s. refl; fails = λ s want f. f; must = λ s want f. f }) from bytes e first h.0 second steps in
       record {
         turn = h.0;
         steps = subst (λ (s : S). DatagramStep sources sinks from bytes e (Source first.now) h.0 (Source s)) (sym same) now;

@@ -47,8 +47,8 @@ pub(crate) fn read_data<S: Source>(
 ) -> Result<BlockRead, AllocError>
     requires { want ≤ 65535 }
     ensures reads { IfOk result (λ read. ReadsData (S.meaning.left source.old)
-        (S.meaning.left source.new) (S.meaning.may_fail source.old want) number want
-        buffer.new.items (is_whole read)) }
+        (S.meaning.left source.new) (S.meaning.may_fail source.old want)
+        (S.meaning.fails source.old want) number want buffer.new.items (is_whole read)) }
     ensures room { OnOk result (4 ≤ vec_capacity buffer.new) }
     ensures err { OnErr result ((S.meaning.left source.new ≡ S.meaning.left source.old)
         × (buffer.new.items ≡ [])) }
