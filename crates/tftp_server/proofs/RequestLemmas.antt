@@ -149,21 +149,23 @@ module _ {S F D : Type 0} (meaning : StoreMeaning S D) (sources : SourceMeaning 
 
   -- a draft was begun
   pub asks_to_write : (path : List ℕ) (mode : Mode) (agreed : List Known) (store : S) (draft : D) (end : EndState) (request : List ℕ) (held : Held F D) → Begins meaning.drafted (meaning.stored old.store) (meaning.stored store) path old.config.overwrite (Ok draft) →
+      meaning.begun old.store store None →
       end ≡ serving_write agreed from mode old.config.retries → request ≡ bytes →
       held ≡ record { end = end; files = Sink draft; path = path; request = request } →
       AsksToWrite meaning sources old from bytes path mode agreed (A_transfer held store)
-  asks_to_write path mode agreed store draft end request held begins opens copies is =
+  asks_to_write path mode agreed store draft end request held begins begun opens copies is =
       let held-is : held ≡ record { end = serving_write agreed from mode old.config.retries; files = Sink draft; path = path; request = bytes } = rw (← opens, ← copies) is in
-      record { store = store; draft = Ok draft; begins = begins; refused = tt; memory = λ e. cc; goes_on = ap (λ (h : Held F D). A_transfer h store) held-is }
+      record { store = store; draft = Ok draft; begins = begins; refused = tt; begun = begun; memory = λ e. cc; goes_on = ap (λ (h : Held F D). A_transfer h store) held-is }
 
   -- or none was, which is answered by an ERROR
   pub refused_to_write : {E : Type 0} (path : List ℕ) (mode : Mode) (agreed : List Known) (store : S) (fault : StoreFault) (r : Result (Decision F D) E) → Begins {K = D} meaning.drafted (meaning.stored old.store) (meaning.stored store) path old.config.overwrite (Err fault) →
       meaning.may_refuse_begin old.store path old.config.overwrite fault →
+      meaning.begun old.store store (Some fault) →
       IfOk r (λ d. (d ≡ Refuse (begin_reply fault)) × (fault ≢ Memory)) →
       IfOk r (λ d. AsksToWrite meaning sources old from bytes path mode agreed (came_to d store))
-  refused_to_write path mode agreed store fault (Err e) begins may h = tt
-  refused_to_write path mode agreed store fault (Ok d) begins may h =
-      record { store = store; draft = Err fault; begins = begins; refused = may; memory = λ e. h.1 (cc); goes_on = ap (λ (d : Decision F D). came_to d store) h.0 }
+  refused_to_write path mode agreed store fault (Err e) begins may begun h = tt
+  refused_to_write path mode agreed store fault (Ok d) begins may begun h =
+      record { store = store; draft = Err fault; begins = begins; refused = may; begun = begun; memory = λ e. h.1 (cc); goes_on = ap (λ (d : Decision F D). came_to d store) h.0 }
 
   -- where no draft was begun for want of memory, nothing has changed
   pub nothing_begun : {T E : Type 0} (store : S) (fault : StoreFault) (was cut : List ℕ) (r : Result T E) → (IsErrOf {T = D} (Err fault) Memory → store ≡ old.store) → OnErr r (fault ≡ Memory) → OnErr r (cut ≡ was) →
@@ -239,7 +241,7 @@ module _ {S F D : Type 0} (meaning : StoreMeaning S D) (sources : SourceMeaning 
 
     -- what the store was asked has nothing to do with the other transfers
     asked_apart : (came : Came S F D) → AsksToWrite meaning sources (before_write none) from bytes path mode agreed came → AsksToWrite meaning sources (before_write held) from bytes path mode agreed came
-    asked_apart came h = record { store = h.store; draft = h.draft; begins = h.begins; refused = h.refused; memory = h.memory; goes_on = h.goes_on }
+    asked_apart came h = record { store = h.store; draft = h.draft; begins = h.begins; refused = h.refused; begun = h.begun; memory = h.memory; goes_on = h.goes_on }
 
     abbrev Written : ℕ → List ℕ → List ℕ → Opened → Type 0
     Written tid was out opened =

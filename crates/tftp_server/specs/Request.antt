@@ -29,7 +29,7 @@ use Rattle.tftp_server.specs.declared.server.request.Decision.TheVariants.{Refus
 use Rattle.tftp_store.specs.declared.store.Opening.{Opening}
 use Rattle.tftp_server.specs.State.{Held, ServerState, IsRepeated, with_new}
 use Rattle.tftp_server.specs.Port.{Ask, Ignores, Refuses, Reads, Writes, Service, Refused, Sends, Takes, asks, by_file, by_draft}
-use Rattle.tftp_store.specs.Store.{StoreMeaning, Opens, Begins}
+use Rattle.tftp_store.specs.Store.{StoreMeaning, Opens, Begins, fault_in}
 
 -- the length of a file that was opened
 abbrev pub opened_length : {F : Type 0} → Result (Opening F) StoreFault → Result ℕ StoreFault
@@ -129,6 +129,7 @@ module _ {S F D : Type 0} (meaning : StoreMeaning S D) (sources : SourceMeaning 
     pub draft : Result D StoreFault
     pub begins : Begins meaning.drafted (meaning.stored old.store) (meaning.stored store) path old.config.overwrite draft
     pub refused : IfErr draft (meaning.may_refuse_begin old.store path old.config.overwrite)
+    pub begun : meaning.begun old.store store (fault_in draft)
     pub memory : draft ≢ Err Memory
     pub goes_on : Taken (by_draft path mode agreed draft) draft store came
 

@@ -3,7 +3,7 @@ use Rattle.std.specs.Prelude.{ℕ, ◌≡◌, Bool, true, false, ◌-◌, ◌==�
 use Rattle.tftp_file.specs.declared.fault.StoreFault.{StoreFault}
 use Rattle.tftp_file.specs.declared.fault.StoreFault.TheVariants.{Full, Io, Memory}
 use Rattle.tftp_file.specs.Source.{SourceMeaning}
-use Rattle.tftp_store.specs.Store.{Stored, StoreMeaning}
+use Rattle.tftp_store.specs.Store.{Stored, StoreMeaning, fault_in}
 
 -- what a store that is made to fail is
 pub record FaultStoreState (S : Type 0) : Type 0 where
@@ -37,10 +37,14 @@ abbrev pub one_less : Option ℕ → Option ℕ
 one_less None = None
 one_less (Some calls) = if calls == 0 then None else Some (calls - 1)
 
--- the count after a call that answered this: one that found no memory is not counted
+-- the count after a call that was refused with this fault, or that was not: one that found no memory is not counted
+abbrev pub after_fault : Option ℕ → Option StoreFault → Option ℕ
+after_fault calls_left (Some Memory) = calls_left
+after_fault calls_left _ = one_less calls_left
+
+-- the count after a call that answered this
 abbrev pub after_call : {A : Type 0} → Option ℕ → Result A StoreFault → Option ℕ
-after_call calls_left (Err Memory) = calls_left
-after_call calls_left _ = one_less calls_left
+after_call calls_left result = after_fault calls_left (fault_in result)
 
 -- a call changes the inner store and the count alone; where it is the one that is refused, it
 -- answers the fault, and the count alone has changed
@@ -52,6 +56,22 @@ pub record Counts {S A : Type 0} (before after : FaultStoreState S) (result : Re
 abbrev pub MayAnswer : Bool → StoreFault → StoreFault → Type 0 → Type 0
 MayAnswer true own fault inner = fault ≡ own
 MayAnswer false own fault inner = inner
+
+-- what the beginning of a draft leaves of the store below: where it is the call that is refused, it is
+-- refused, and the store below is as it was
+abbrev pub BegunBelow : {S : Type 0} → Bool → StoreFault → S → S → Option StoreFault → Type 0 → Type 0
+BegunBelow true own before after fault inner = (fault ≡ Some own) × (after ≡ before)
+BegunBelow false own before after fault inner = inner
+
+-- what the beginning of a draft leaves of the store: one call fewer is left, and the store below is as that says
+pub record Begun {S D : Type 0} (inner : StoreMeaning S D) (before after : FaultStoreState S)
+    (fault : Option StoreFault) : Type 0 where
+  pub counted : after ≡ record before {
+    inner = after.inner;
+    calls_left = after_fault before.calls_left fault;
+  }
+  pub below : BegunBelow (is_due before.calls_left) before.fault before.inner after.inner fault
+      (inner.begun before.inner after.inner fault)
 
 -- what a store tells of the one below it: its files, and never that a call was told to be refused
 abbrev pub never_told : Option Stored → Option Stored
@@ -67,6 +87,7 @@ fault_meaning inner =
       may_refuse_open = λ s path fault. MayAnswer s.refuses_open s.fault fault (inner.may_refuse_open s.inner path fault);
       may_refuse_begin = λ s path replace fault.
           MayAnswer (is_due s.calls_left) s.fault fault (inner.may_refuse_begin s.inner path replace fault);
+      begun = Begun inner;
       may_refuse_append = λ s draft bytes fault.
           MayAnswer (is_due s.calls_left) s.fault fault (inner.may_refuse_append s.inner draft bytes fault);
       may_refuse_commit = λ s path draft replace fault.

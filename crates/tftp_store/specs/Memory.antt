@@ -58,6 +58,7 @@ memory_meaning =
       drafted = λ draft. Some draft;
       may_refuse_open = MayRefuseOpen;
       may_refuse_begin = MayRefuseBegin;
+      begun = λ before after fault. after ≡ before;
       may_refuse_append = MayRefuseAppend;
       may_refuse_commit = MayRefuseCommit;
     }

@@ -38,10 +38,17 @@ pub record StoreMeaning (S D : Type 0) : Type 1 where
   pub may_refuse_open : S → List ℕ → StoreFault → Type 0
   -- a draft of the path, to replace a file or not, may be refused with this fault
   pub may_refuse_begin : S → List ℕ → Bool → StoreFault → Type 0
+  -- what the beginning of a draft leaves of the store: of one that was refused with this fault, or of one that was not
+  pub begun : S → S → Option StoreFault → Type 0
   -- an append of these bytes may answer this fault
   pub may_refuse_append : S → D → List ℕ → StoreFault → Type 0
   -- a commit under the path, to replace a file or not, may answer this fault
   pub may_refuse_commit : S → List ℕ → D → Bool → StoreFault → Type 0
+
+-- the fault of an answer that has one
+abbrev pub fault_in : {A : Type 0} → Result A StoreFault → Option StoreFault
+fault_in (Ok done) = None
+fault_in (Err fault) = Some fault
 
 -- a draft as it begins
 abbrev pub new_draft : Drafted

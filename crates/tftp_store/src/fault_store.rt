@@ -116,8 +116,8 @@ fn after_call<A>(calls_left: Option<u64>, answer: &Result<A, StoreFault>) -> Opt
 impl<S: Store> Store for FaultStore<S> {
     ghost use Rattle.std.specs.Prelude.{◌≡◌, ◌≢◌, Err, IfErr, IfOk, IsErrOf, true, false};
     ghost use Rattle.tftp_file.specs.Sink.{Appends, Commits};
-    ghost use Rattle.tftp_store.specs.Store.{Opens, Begins, holding_of, files_of, Puts};
-    ghost use Rattle.tftp_store.specs.FaultStore.{Counts, MayAnswer, fault_meaning, is_due};
+    ghost use Rattle.tftp_store.specs.Store.{Opens, Begins, fault_in, holding_of, files_of, Puts};
+    ghost use Rattle.tftp_store.specs.FaultStore.{Begun, Counts, MayAnswer, fault_meaning, is_due};
     ghost use Rattle.tftp_store.specs.FaultStore.{never_told, opened_meaning};
 
     type Source = OpenedSource<S::Source>;
@@ -158,6 +158,7 @@ impl<S: Store> Store for FaultStore<S> {
         ensures refused { IfErr result (λ fault. MayAnswer (is_due self.old.calls_left)
             self.old.fault fault (S.meaning.may_refuse_begin self.old.inner path.now replace
             fault)) }
+        ensures begun { Begun S.meaning self.old self.new (fault_in result) }
         ensures memory { IsErrOf result StoreFault.Memory → self.new ≡ self.old }
         ensures counts { Counts self.old self.new result }
         ensures passed { is_due self.old.calls_left ≡ false → Begins S.meaning.drafted

@@ -3,7 +3,7 @@
 ghost use Rattle.std.specs.Prelude.{◌≡◌, ◌≢◌, Err, IfErr, IsErrOf};
 ghost use Rattle.tftp_file.specs.Sink.{Appends, Commits};
 ghost use Rattle.tftp_store.specs.Store.{StoreMeaning, Opens, Begins, holding_of, files_of, Puts};
-ghost use Rattle.tftp_store.specs.Store.{WritesBehind};
+ghost use Rattle.tftp_store.specs.Store.{WritesBehind, fault_in};
 
 use std::alloc::Global;
 use tftp_file::{Path, Source, StoreFault};
@@ -32,8 +32,9 @@ pub trait Store {
     /// A file that is written and not yet committed.
     type Draft: Drop;
 
-    /// What it and its drafts tell (`stored`, `drafted`), and which faults its calls may answer
-    /// (`may_refuse_open`, `may_refuse_begin`, `may_refuse_append`, `may_refuse_commit`).
+    /// What it and its drafts hold (`stored`, `drafted`), which faults its calls may answer
+    /// (`may_refuse_open`, `may_refuse_begin`, `may_refuse_append`, `may_refuse_commit`), and what
+    /// the beginning of a draft leaves of it (`begun`).
     ghost meaning: { StoreMeaning Self Self.Draft };
 
     /// Opens the file to be read in the mode.
@@ -62,6 +63,7 @@ pub trait Store {
         ensures begins { Begins meaning.drafted (meaning.stored self.old)
             (meaning.stored self.new) path.now replace result }
         ensures refused { IfErr result (meaning.may_refuse_begin self.old path.now replace) }
+        ensures begun { meaning.begun self.old self.new (fault_in result) }
         ensures memory { IsErrOf result StoreFault.Memory → self.new ≡ self.old };
 
     /// Puts the bytes at the end of a draft.

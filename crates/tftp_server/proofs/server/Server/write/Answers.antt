@@ -37,8 +37,8 @@ returns-clause-asks g c =
       | in-Ok-begin w ↦
           rw (w.result-is, ← c.self.view_is)
           (asks_to_write g.S.Store.meaning g.S.Source.Source.meaning old c.args.from c.args.bytes.now c.args.path c.args.mode c.args.agreed.now c.begin.new.self w.in-Ok-begin.draft c.in-Ok.end c.in-Ok.request.items w.new-transfer.result
-          w.in-Ok-begin.ensures.begins c.in-Ok.ensures.end.0 c.in-Ok.ensures.request w.new-transfer.ensures)
+          w.in-Ok-begin.ensures.begins w.in-Ok-begin.ensures.begun c.in-Ok.ensures.end.0 c.in-Ok.ensures.request w.new-transfer.ensures)
       | in-Err w ↦
           rw (w.result-is, ← c.self.view_is)
-          (refused_to_write g.S.Store.meaning g.S.Source.Source.meaning old c.args.from c.args.bytes.now c.args.path c.args.mode c.args.agreed.now c.begin.new.self w.in-Err.fault w.begin_refused.result w.in-Err.ensures.begins w.in-Err.ensures.refused w.begin_refused.ensures.refused)
+          (refused_to_write g.S.Store.meaning g.S.Source.Source.meaning old c.args.from c.args.bytes.now c.args.path c.args.mode c.args.agreed.now c.begin.new.self w.in-Err.fault w.begin_refused.result w.in-Err.ensures.begins w.in-Err.ensures.refused w.in-Err.ensures.begun w.begin_refused.ensures.refused)
     ]
