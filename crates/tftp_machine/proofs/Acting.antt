@@ -2,17 +2,14 @@
 use Rattle.std.proofs.Common.{◌≡◌, ◌+◌, Bool, true, false, List, [], ◌∷◌, ◌++◌, append_assoc, sym, refl, ap, ◌∙◌, subst}
 use Rattle.std.specs.Prelude.{◌≢◌}
 use Rattle.std.specs.List.{Contains}
+use Rattle.std.proofs.lemmas.Bool.{true≢false}
 use Rattle.std.proofs.lemmas.List.{append-nil}
 use Rattle.std.proofs.lemmas.List.Elements.{Contains-append_left}
 use Rattle.tftp_wire.specs.declared.packet.Request.{Request as WireRequest}
 use Rattle.tftp_machine.specs.Machine.{Endpoint, request_port, Request, Data, Ack, Oack, Message, Party, Machine}
-use Rattle.tftp_machine.specs.Rules.{Rule, Asks, Opens_plainly, Opens_with, Takes_oack, Takes_ack, Takes_data, Appends, Sends_next, Completes, Fails, Fails_with, Says_error, Repeats, Strays, message, actor, MayAct, Guard, packets, party_after, after}
-use Rattle.tftp_machine.specs.Facts.{Holds}
-use Rattle.tftp_machine.specs.Recorded.{AreRecorded}
+use Rattle.tftp_machine.specs.Rules.{Rule, Asks, Opens_plainly, Opens_with, Takes_oack, Takes_ack, Takes_data, Appends, Sends_next, Completes, Fails, Fails_with, Says_error, Repeats, Strays, message, actor, MayAct, Guard, OpensAnew, packets, party_after, after, IsLegal, run}
 use Rattle.tftp_machine.specs.Shows.{ActInTurn, party_then, sent_by}
 use Rattle.tftp_machine.proofs.Grows.{with_at, with_other}
-use Rattle.tftp_machine.proofs.Keeps.{keeps}
-use Rattle.tftp_machine.proofs.RecordedKept.{recorded_keeps}
 
 -- what is not told of an end
 pub record Unshown : Type 0 where
@@ -72,21 +69,56 @@ same_after b (Says_error at to) x = (b, refl)
 same_after b (Repeats old) x = (b, refl)
 same_after b (Strays stray) x = (b, refl)
 
-still_open : (r : Rule) (sent : List Message) (x : Party) → x.is_open ≡ true → MayAct r sent x → (party_after r x).is_open ≡ true
-still_open (Asks at write request text) sent x o h = refl
-still_open (Opens_plainly at peer write request text) sent x o h = refl
-still_open (Opens_with at peer write request text size) sent x o h = refl
-still_open (Takes_oack at peer size) sent x o h = o
-still_open (Takes_ack at peer) sent x o h = o
-still_open (Takes_data at peer bytes) sent x o h = o
-still_open (Appends at peer bytes) sent x o h = o
-still_open (Sends_next at peer) sent x o h = o
-still_open (Completes at peer) sent x o h = o
-still_open (Fails at) sent x o h = o
-still_open (Fails_with at peer bytes) sent x o h = o
-still_open (Says_error at to) sent x o h = o
-still_open (Repeats old) sent x o h = o
-still_open (Strays stray) sent x o h = o
+-- an open end x went on to y
+pub record KeepsOn (x y : Party) : Type 0 where
+  pub is_open : y.is_open ≡ true
+  pub client : y.client ≡ x.client
+  pub sender : y.sender ≡ x.sender
+  pub request : y.request ≡ x.request
+  pub done : x.done ≡ true → y.done ≡ true
+
+-- an end that stays open, and was not done
+on : (x y : Party) → y.is_open ≡ true → y.client ≡ x.client → y.sender ≡ x.sender → y.request ≡ x.request → x.done ≡ false → KeepsOn x y
+on x y o c s r n = record { is_open = o; client = c; sender = s; request = r; done = λ d. absurd (true≢false (sym d ∙ n)) }
+
+unchanged : (x : Party) → x.is_open ≡ true → KeepsOn x x
+unchanged x o = record { is_open = o; client = refl; sender = refl; request = refl; done = λ d. d }
+
+on_and_on : (x y z : Party) → KeepsOn x y → KeepsOn y z → KeepsOn x z
+on_and_on x y z g h = record { is_open = h.is_open; client = h.client ∙ g.client; sender = h.sender ∙ g.sender; request = h.request ∙ g.request; done = λ d. h.done (g.done d) }
+
+keeps_on : (r : Rule) (sent : List Message) (x : Party) → x.is_open ≡ true → MayAct r sent x → KeepsOn x (party_after r x)
+keeps_on (Asks at write request text) sent x o h = absurd (true≢false (sym o ∙ h.0))
+keeps_on (Opens_plainly at peer write request text) sent x o h = absurd (true≢false (sym o ∙ h.0))
+keeps_on (Opens_with at peer write request text size) sent x o h = absurd (true≢false (sym o ∙ h.0))
+keeps_on (Takes_oack at peer size) sent x o h = on x (party_after (Takes_oack at peer size) x) o refl refl refl h.0.0.1
+keeps_on (Takes_ack at peer) sent x o h = on x (party_after (Takes_ack at peer) x) o refl refl refl h.0.0.1
+keeps_on (Takes_data at peer bytes) sent x o h = on x (party_after (Takes_data at peer bytes) x) o refl refl refl h.0.0.1
+keeps_on (Appends at peer bytes) sent x o h = on x (party_after (Appends at peer bytes) x) o refl refl refl h.0.1
+keeps_on (Sends_next at peer) sent x o h = on x (party_after (Sends_next at peer) x) o refl refl refl h.0.0.1
+keeps_on (Completes at peer) sent x o h = on x (party_after (Completes at peer) x) o refl refl refl h.0.0.1
+keeps_on (Fails at) sent x o h = on x (party_after (Fails at) x) o refl refl refl h.1
+keeps_on (Fails_with at peer bytes) sent x o h = on x (party_after (Fails_with at peer bytes) x) o refl refl refl h.0.1
+keeps_on (Says_error at to) sent x o h = unchanged x o
+keeps_on (Repeats old) sent x o h = unchanged x o
+keeps_on (Strays stray) sent x o h = unchanged x o
+
+-- no rule opens an end that is open
+opens_none : (r : Rule) (sent : List Message) (x : Party) (m : Machine) → x.is_open ≡ true → MayAct r sent x → OpensAnew r m
+opens_none (Opens_plainly at peer write request text) sent x m o h = absurd (true≢false (sym o ∙ h.0))
+opens_none (Opens_with at peer write request text size) sent x m o h = absurd (true≢false (sym o ∙ h.0))
+opens_none (Asks at write request text) sent x m o h = tt
+opens_none (Takes_oack at peer size) sent x m o h = tt
+opens_none (Takes_ack at peer) sent x m o h = tt
+opens_none (Takes_data at peer bytes) sent x m o h = tt
+opens_none (Appends at peer bytes) sent x m o h = tt
+opens_none (Sends_next at peer) sent x m o h = tt
+opens_none (Completes at peer) sent x m o h = tt
+opens_none (Fails at) sent x m o h = tt
+opens_none (Fails_with at peer bytes) sent x m o h = tt
+opens_none (Says_error at to) sent x m o h = tt
+opens_none (Repeats old) sent x m o h = tt
+opens_none (Strays stray) sent x m o h = tt
 
 -- a rule that may act may still act when more was sent
 may_act_still : (r : Rule) (sent more : List Message) (x : Party) → ((d : Message) → Contains sent d → Contains more d) → MayAct r sent x → MayAct r more x
@@ -107,36 +139,39 @@ may_act_still (Strays stray) sent more x f h = h
 
 -- the machine went on by rules of the end at this endpoint alone, which is x now
 pub record WentOn (m : Machine) (a : Endpoint) (all : List Message) (x : Party) (n : Machine) : Type 0 where
-  pub holds : Holds n
-  pub recorded : AreRecorded n
   pub sent : n.sent ≡ all
   pub here : (b : Unshown) × (n.party a ≡ with_unshown b x)
+  pub keeps : KeepsOn (m.party a) (n.party a)
   pub others : (q : Endpoint) → q ≢ a → n.party q ≡ m.party q
 
 -- what is told of one end and of what was sent decides whether its rules may act, and what comes of it
-pub act_in_turn : (rs : List Rule) (a : Endpoint) (before : List Message) (m : Machine) (b : Unshown) (x : Party) → Holds m → AreRecorded m → m.party a ≡ with_unshown b x →
+pub act_in_turn : (rs : List Rule) (a : Endpoint) (before : List Message) (m : Machine) (b : Unshown) (x : Party) → (m.party a).is_open ≡ true → m.party a ≡ with_unshown b x →
     ((d : Message) → Contains before d → Contains m.sent d) → ActInTurn rs a before x →
-    (n : Machine) × WentOn m a (m.sent ++ sent_by rs x) (party_then rs x) n
-act_in_turn [] a before m b x h c e f t = (m, record { holds = h; recorded = c; sent = sym (append-nil m.sent); here = (b, e); others = λ q n. refl })
-act_in_turn (r ∷ rs) a before m b x h rec e f t =
+    IsLegal rs m × WentOn m a (m.sent ++ sent_by rs x) (party_then rs x) (run rs m)
+act_in_turn [] a before m b x o e f t = (tt, record { sent = sym (append-nil m.sent); here = (b, e); keeps = unchanged (m.party a) o; others = λ q n. refl })
+act_in_turn (r ∷ rs) a before m b x o e f t =
     let at = actor r in
-    let here : m.party at ≡ with_unshown b x = ap m.party t.0 ∙ e in
+    let same : m.party at ≡ m.party a = ap m.party t.0 in
+    let here : m.party at ≡ with_unshown b x = same ∙ e in
+    let open_there : (m.party at).is_open ≡ true = ap (λ (y : Party). y.is_open) same ∙ o in
     let guard : Guard r m = subst (λ (y : Party). MayAct r m.sent y) (sym here) (may_act_still r before m.sent (with_unshown b x) f (may_act b r before x t.1)) in
     let said : packets r (m.party at) ≡ packets r x = ap (packets r) here ∙ same_packets b r x in
     let next = after r m in
     let c = same_after b r x in
-    let moved : next.party a ≡ with_unshown c.0 (party_after r x) =
-    ap next.party (sym t.0) ∙ (with_at m.party at (party_after r (m.party at)) ∙ (ap (party_after r) here ∙ c.1)) in
+    let now : next.party a ≡ party_after r (m.party at) = ap next.party (sym t.0) ∙ with_at m.party at (party_after r (m.party at)) in
+    let moved : next.party a ≡ with_unshown c.0 (party_after r x) = now ∙ (ap (party_after r) here ∙ c.1) in
+    let first : KeepsOn (m.party a) (next.party a) =
+    subst (λ (y : Party). KeepsOn (m.party a) y) (sym now)
+    (subst (λ (y : Party). KeepsOn y (party_after r (m.party at))) same (keeps_on r m.sent (m.party at) open_there guard)) in
     let sent : next.sent ≡ m.sent ++ packets r x = ap (λ (ds : List Message). m.sent ++ ds) said in
-    let rest = act_in_turn rs a before next c.0 (party_after r x) (keeps r m h guard) (recorded_keeps r m h rec guard) moved
+    let rest = act_in_turn rs a before next c.0 (party_after r x) first.is_open moved
     (λ d i. Contains-append_left m.sent (packets r (m.party at)) d (f d i)) t.2 in
     let w = rest.1 in (
-      rest.0,
+      (guard, opens_none r m.sent (m.party at) m open_there guard, rest.0),
       record {
-        holds = w.holds;
-        recorded = w.recorded;
         sent = w.sent ∙ (ap (λ (ds : List Message). ds ++ sent_by rs (party_after r x)) sent ∙ append_assoc m.sent (packets r x) (sent_by rs (party_after r x)));
         here = w.here;
+        keeps = on_and_on (m.party a) (next.party a) ((run rs next).party a) first w.keeps;
         others = λ q n. w.others q n ∙ with_other m.party at (party_after r (m.party at)) q (λ g. n (g ∙ t.0));
       },
     )
@@ -144,4 +179,4 @@ act_in_turn (r ∷ rs) a before m b x h rec e f t =
 -- rules that act in turn at an open end leave it open
 pub stays_open : (rs : List Rule) (a : Endpoint) (before : List Message) (x : Party) → x.is_open ≡ true → ActInTurn rs a before x → (party_then rs x).is_open ≡ true
 stays_open [] a before x o t = o
-stays_open (r ∷ rs) a before x o t = stays_open rs a before (party_after r x) (still_open r before x o t.1) t.2
+stays_open (r ∷ rs) a before x o t = stays_open rs a before (party_after r x) (keeps_on r before x o t.1).is_open t.2

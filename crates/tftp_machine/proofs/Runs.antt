@@ -1,5 +1,5 @@
 -- Every run of the machine keeps its facts, and these make it safe.
-use Rattle.std.proofs.Common.{◌≡◌, true, List, [], ◌∷◌, Option, Some, None, sym, refl, ◌∙◌}
+use Rattle.std.proofs.Common.{◌≡◌, true, List, [], ◌∷◌, ◌++◌, Option, Some, None, sym, refl, ◌∙◌}
 use Rattle.std.specs.Prelude.{◌≢◌}
 use Rattle.std.proofs.lemmas.Bool.{true≢false}
 use Rattle.tftp_machine.specs.Machine.{Endpoint, Elsewhere, host_of, Machine, start}
@@ -19,6 +19,15 @@ Holds-start = record {
 pub Holds-run : (rules : List Rule) (m : Machine) → Holds m → IsLegal rules m → Holds (run rules m)
 Holds-run [] m h g = h
 Holds-run (r ∷ rules) m h g = Holds-run rules (after r m) (keeps r m h g.0) g.2
+
+-- rules after rules
+pub run_then : (rs qs : List Rule) (m : Machine) → run (rs ++ qs) m ≡ run qs (run rs m)
+run_then [] qs m = refl
+run_then (r ∷ rs) qs m = run_then rs qs (after r m)
+
+pub legal_then : (rs qs : List Rule) (m : Machine) → IsLegal rs m → IsLegal qs (run rs m) → IsLegal (rs ++ qs) m
+legal_then [] qs m g h = h
+legal_then (r ∷ rs) qs m g h = (g.0, g.1, legal_then rs qs (after r m) g.2 h)
 
 pub some_peer : (m : Machine) → Holds m → (x : Endpoint) → (m.party x).is_open ≡ true → (m.party x).done ≡ true → (o : Option Endpoint) → (m.party x).peer ≡ o → (y : Endpoint) × ((m.party x).peer ≡ Some y)
 some_peer m h x o d None e = absurd (true≢false (sym d ∙ ((h.ends x o).no_peer e).1))

@@ -1,19 +1,24 @@
 -- What is shown of a machine is shown again after an act, an opening or a datagram.
-use Rattle.std.proofs.Common.{◌≡◌, ℕ, ◌+◌, true, false, List, [], ◌∷◌, ◌++◌, length, set, Some, None, sym, refl, ap, ◌∙◌, subst, arith, inl, inr}
-use Rattle.std.specs.Prelude.{◌≢◌, slice_get}
+use Rattle.std.proofs.Common.{◌≡◌, ℕ, ◌+◌, Bool, true, false, List, [], ◌∷◌, ◌++◌, length, set, Some, None, sym, refl, ap, ◌∙◌, subst, arith, inl, inr}
+use Rattle.std.specs.Prelude.{◌≢◌, ◌⊎◌, not, slice_get}
 use Rattle.std.specs.List.{Contains}
 use Rattle.std.proofs.lemmas.Bool.{true≢false, cases_Bool}
 use Rattle.std.proofs.lemmas.Option.{slice_get_within}
 use Rattle.tftp_machine.specs.Machine.{Endpoint, Message, Party, nobody, Machine, start}
-use Rattle.tftp_machine.specs.Rules.{Rule, Asks, Opens_plainly, Opens_with, Says_error, Repeats, Strays, actor, MayAct, Guard, packets, party_after, after}
-use Rattle.tftp_machine.specs.Shows.{EndView, party_of, Matches, Shows, IsShown, ActInTurn, party_then, sent_by, Opens, Speaks}
-use Rattle.tftp_machine.proofs.Acting.{Unshown, with_unshown, act_in_turn}
+use Rattle.tftp_wire.specs.Spelling.{Spells}
+use Rattle.tftp_wire.specs.declared.packet.Packet.{Packet as WirePacket}
+use Rattle.tftp_wire.specs.declared.packet.Request.{Request as WireRequest}
+use Rattle.tftp_machine.specs.Facts.{Holds}
+use Rattle.tftp_machine.specs.Recorded.{AreRecorded}
+use Rattle.tftp_machine.specs.Rules.{Rule, Asks, Opens_plainly, Opens_with, Says_error, Repeats, Strays, actor, MayAct, Guard, OpensAnew, AreOver, packets, party_after, after, IsLegal, run}
+use Rattle.tftp_machine.specs.Shows.{EndView, party_of, Matches, requested, answered_by, IsInService, Shows, IsShown, ActInTurn, party_then, sent_by, Opens, Speaks, NoneAnswers, AsksAnew}
+use Rattle.tftp_machine.proofs.Acting.{Unshown, with_unshown, KeepsOn, act_in_turn}
 use Rattle.tftp_machine.proofs.Endpoints.{cases_same}
 use Rattle.tftp_machine.proofs.Grows.{with_at, with_other}
-use Rattle.tftp_machine.proofs.Keeps.{keeps}
 use Rattle.tftp_machine.proofs.Places.{slice_get-set_cases, slice_get-set_same, slice_get-set_other, slice_get-push_cases, slice_get-push_old, slice_get-push_new}
-use Rattle.tftp_machine.proofs.RecordedKept.{recorded_keeps, recorded_start}
-use Rattle.tftp_machine.proofs.Runs.{Holds-start}
+use Rattle.tftp_machine.proofs.RecordedKept.{recorded_run, recorded_start}
+use Rattle.tftp_machine.proofs.Runs.{Holds-start, Holds-run, run_then, legal_then}
+use Rattle.tftp_machine.proofs.Steps.{not-not}
 
 -- of an end that did not fail all is told but whether it was opened plainly, and by what request
 told_all : (e : EndView) (x : Party) → Matches e x → x.text ≡ e.text → x ≡ with_unshown (record { plain = x.plain; request = x.request }) (party_of e)
@@ -57,38 +62,118 @@ match_unshown f b x m = record {
 }
 
 pub shown_start : IsShown [] []
-shown_start = (start, Holds-start, recorded_start, record { sent = refl; ends = λ k e i. absurd (let z : None ≡ Some e = i in cc); only = λ a o. absurd (true≢false (sym o)) })
+shown_start = ([], tt, record {
+  sent = refl;
+  ends = λ k e i. absurd (let z : None ≡ Some e = i in cc);
+  asked = λ k e i. absurd (let z : None ≡ Some e = i in cc);
+  only = λ a o. absurd (true≢false (sym o));
+})
+
+-- a machine that shows them keeps its facts
+pub shown_by : (views : List EndView) (messages : List Message) → IsShown views messages → (m : Machine) × Holds m × AreRecorded m × Shows views messages m
+shown_by views messages shown =
+    (run shown.0 start, Holds-run shown.0 start Holds-start shown.1, recorded_run shown.0 start Holds-start recorded_start shown.1, shown.2)
+
+-- more rules show more
+shown_after : (views vs : List EndView) (messages ms : List Message) (shown : IsShown views messages) (rs : List Rule) →
+    IsLegal rs (run shown.0 start) → Shows vs ms (run rs (run shown.0 start)) → IsShown vs ms
+shown_after views vs messages ms shown rs legal shows =
+    (shown.0 ++ rs, legal_then shown.0 rs start shown.1 legal, subst (λ (m : Machine). Shows vs ms m) (sym (run_then shown.0 rs start)) shows)
+
+-- an end of the server answers the same request as long as it goes on
+same_answer : (x y : Party) → KeepsOn x y → answered_by x ≡ answered_by y
+same_answer x y g = ap (λ (b : Bool). requested (not b) x.request) (sym g.sender) ∙ ap (λ (r : WireRequest). requested (not y.sender) r) (sym g.request)
+
+-- what goes on was in service if it is now
+was_in_service : (e f : EndView) (x y : Party) → Matches e x → Matches f y → KeepsOn x y → e.failed ≡ false → IsInService f → IsInService e
+was_in_service e f x y m n g alive s = (sym m.client ∙ (sym g.client ∙ (n.client ∙ s.0)), not_done (cases_Bool e.done), alive) where
+  not_done : (e.done ≡ true) ⊎ (e.done ≡ false) → e.done ≡ false
+  not_done (inl d) = absurd (true≢false (sym (g.done (m.done ∙ d)) ∙ (n.done ∙ s.1)))
+  not_done (inr d) = d
 
 pub shown_acts : (views : List EndView) (messages : List Message) (k : ℕ) (e f : EndView) (rs : List Rule) → IsShown views messages → slice_get views k ≡ Some e → e.failed ≡ false →
-    ActInTurn rs e.address messages (party_of e) → f.address ≡ e.address → Matches f (party_then rs (party_of e)) →
+    ActInTurn rs e.address messages (party_of e) → f.address ≡ e.address → f.request ≡ e.request → Matches f (party_then rs (party_of e)) →
     IsShown (set views k f) (messages ++ sent_by rs (party_of e))
-shown_acts views messages k e f rs shown at alive turns same matches =
-    let m = shown.0 in
-    let s = shown.3 in
+shown_acts views messages k e f rs shown at alive turns same asks matches =
+    let m = run shown.0 start in
+    let s = shown.2 in
     let a = e.address in
     let here = s.ends k e at in
     let x = m.party a in
-    let acted = act_in_turn rs a messages m (record { plain = x.plain; request = x.request }) (party_of e) shown.1 shown.2 (told_all e x here.0 (same_text e x here.0 alive)) (λ d i. subst (λ (ds : List Message). Contains ds d) (sym s.sent) i) turns in
-    let n = acted.0 in
+    let acted = act_in_turn rs a messages m (record { plain = x.plain; request = x.request }) (party_of e) here.0.is_open (told_all e x here.0 (same_text e x here.0 alive)) (λ d i. subst (λ (ds : List Message). Contains ds d) (sym s.sent) i) turns in
+    let n = run rs m in
     let w = acted.1 in
-    let at_new : Matches f (n.party f.address) = subst (λ (y : Party). Matches f y) (sym w.here.1 ∙ ap n.party (sym same)) (match_unshown f w.here.0 (party_then rs (party_of e)) matches) in (
-      n,
-      w.holds,
-      w.recorded,
-      record {
+    let now : Matches f (n.party a) = subst (λ (y : Party). Matches f y) (sym w.here.1) (match_unshown f w.here.0 (party_then rs (party_of e)) matches) in
+    let at_new : Matches f (n.party f.address) = subst (λ (y : Party). Matches f y) (ap n.party (sym same)) now in
+    let asked_new : IsInService f → Spells (answered_by (n.party f.address)) f.request = λ busy.
+        subst (λ (bytes : List ℕ). Spells (answered_by (n.party f.address)) bytes) (sym asks)
+        (subst (λ (p : WirePacket). Spells p e.request) (same_answer x (n.party a) w.keeps ∙ ap (λ (q : Endpoint). answered_by (n.party q)) (sym same))
+        (s.asked k e at (was_in_service e f x (n.party a) here.0 now w.keeps alive busy))) in
+    let apart : (j : ℕ) (y : EndView) → j ≢ k → slice_get views j ≡ Some y → y.address ≢ a = λ j y other i q.
+        other (let p : y.address.port ≡ a.port = ap (λ (q : Endpoint). q.port) q in let c = (s.ends j y i).1 in let d = here.1 in omega arith) in
+    shown_after views (set views k f) messages (messages ++ sent_by rs (party_of e)) shown rs acted.0
+      (record {
         sent = w.sent ∙ ap (λ (ds : List Message). ds ++ sent_by rs (party_of e)) s.sent;
         ends = λ j y i. elim (slice_get-set_cases views k j f y i) [
           | inl b ↦ subst (λ (z : EndView). Matches z (n.party z.address) × (z.address.port ≡ 1024 + j)) (sym b.1)
               (at_new, ap (λ (q : Endpoint). q.port) same ∙ (here.1 ∙ ap (λ (q : ℕ). 1024 + q) (sym b.0)))
           | inr b ↦ let there = s.ends j y b.1 in
-              let apart : y.address ≢ a = λ q. b.0 (let p : y.address.port ≡ a.port = ap (λ (q : Endpoint). q.port) q in let c = there.1 in let d = here.1 in omega arith) in
-              (subst (λ (z : Party). Matches y z) (sym (w.others y.address apart)) there.0, there.1)
+              (subst (λ (z : Party). Matches y z) (sym (w.others y.address (apart j y b.0 b.1))) there.0, there.1)
+        ];
+        asked = λ j y i. elim (slice_get-set_cases views k j f y i) [
+          | inl b ↦ subst (λ (z : EndView). IsInService z → Spells (answered_by (n.party z.address)) z.request) (sym b.1) asked_new
+          | inr b ↦ λ busy. subst (λ (z : Party). Spells (answered_by z) y.request) (sym (w.others y.address (apart j y b.0 b.1))) (s.asked j y b.1 busy)
         ];
         only = λ b o. elim (cases_same b a) [
           | inl q ↦ (k, f, slice_get-set_same views k f e at, same ∙ sym q)
           | inr d ↦ let old = s.only b (subst (λ (z : Party). z.is_open ≡ true) (w.others b d) o) in
-              let apart : old.0 ≢ k = λ q. d (let z : Some old.1 ≡ Some e = sym old.2 ∙ (ap (slice_get views) q ∙ at) in let v : old.1 ≡ e = cc in sym old.3 ∙ ap (λ (y : EndView). y.address) v) in
-              (old.0, old.1, slice_get-set_other views k old.0 f apart ∙ old.2, old.3)
+              let away : old.0 ≢ k = λ q. d (let z : Some old.1 ≡ Some e = sym old.2 ∙ (ap (slice_get views) q ∙ at) in let v : old.1 ≡ e = cc in sym old.3 ∙ ap (λ (y : EndView). y.address) v) in
+              (old.0, old.1, slice_get-set_other views k old.0 f away ∙ old.2, old.3)
+        ];
+      })
+
+-- what asked for an end that is over is not shown
+pub shown_forgets : (views : List EndView) (messages : List Message) (k : ℕ) (d e f : EndView) → slice_get views k ≡ Some d → f ≡ record e { request = f.request } → (IsInService e → ⊥) →
+    IsShown (set views k e) messages → IsShown (set views k f) messages
+shown_forgets views messages k d e f at same over shown =
+    let m = run shown.0 start in
+    let s = shown.2 in
+    let here = slice_get-set_same views k e d at in
+    let old = s.ends k e here in
+    let matches : Matches (record e { request = f.request }) (m.party e.address) = record {
+      is_open = old.0.is_open;
+      client = old.0.client;
+      sender = old.0.sender;
+      mode = old.0.mode;
+      peer = old.0.peer;
+      size = old.0.size;
+      number = old.0.number;
+      done = old.0.done;
+      failed = old.0.failed;
+      beginning = old.0.beginning;
+      whole = old.0.whole;
+      live = old.0.live;
+      sent = old.0.sent;
+    } in
+    let now : Matches f (m.party f.address) = subst (λ (z : EndView). Matches z (m.party z.address)) (sym same) matches in
+    let address : f.address ≡ e.address = ap (λ (z : EndView). z.address) same in
+    let idle : IsInService f → ⊥ = subst (λ (z : EndView). IsInService z → ⊥) (sym same) over in (
+      shown.0,
+      shown.1,
+      record {
+        sent = s.sent;
+        ends = λ j y i. elim (slice_get-set_cases views k j f y i) [
+          | inl b ↦ subst (λ (z : EndView). Matches z (m.party z.address) × (z.address.port ≡ 1024 + j)) (sym b.1)
+              (now, ap (λ (q : Endpoint). q.port) address ∙ (old.1 ∙ ap (λ (q : ℕ). 1024 + q) (sym b.0)))
+          | inr b ↦ s.ends j y (slice_get-set_other views k j e b.0 ∙ b.1)
+        ];
+        asked = λ j y i. elim (slice_get-set_cases views k j f y i) [
+          | inl b ↦ λ busy. absurd (idle (subst IsInService b.1 busy))
+          | inr b ↦ s.asked j y (slice_get-set_other views k j e b.0 ∙ b.1)
+        ];
+        only = λ b o. let there = s.only b o in elim (slice_get-set_cases views k there.0 e there.1 there.2) [
+          | inl c ↦ (k, f, slice_get-set_same views k f d at, address ∙ (ap (λ (z : EndView). z.address) (sym c.1) ∙ there.3))
+          | inr c ↦ (there.0, there.1, slice_get-set_other views k there.0 f c.0 ∙ c.1, there.3)
         ];
       },
     )
@@ -115,45 +200,91 @@ opens_alike (Opens_plainly at peer write request text) o x = (refl, refl)
 opens_alike (Opens_with at peer write request text size) o x = (refl, refl)
 opens_alike r o x = absurd o
 
+-- where no end that is shown answers the request, those that it opened are over
+all_over : (views : List EndView) (messages : List Message) (m : Machine) → Shows views messages m → (peer : Endpoint) (write : Bool) (request : WireRequest) →
+    NoneAnswers views peer (requested write request) → AreOver m peer write request
+all_over views messages m s peer write request none a by = one_over (cases_Bool (m.party a).done) (cases_Bool (m.party a).failed) where
+  one_over : ((m.party a).done ≡ true) ⊎ ((m.party a).done ≡ false) → ((m.party a).failed ≡ true) ⊎ ((m.party a).failed ≡ false) →
+      ((m.party a).done ≡ true) ⊎ ((m.party a).failed ≡ true)
+  one_over (inl d) f = inl d
+  one_over (inr d) (inl f) = inr f
+  one_over (inr d) (inr f) = absurd (
+    let there = s.only a by.is_open in
+    let e = there.1 in
+    let t : Matches e (m.party a) = subst (λ (q : Endpoint). Matches e (m.party q)) there.3 (s.ends there.0 e there.2).0 in
+    let busy : IsInService e = (sym t.client ∙ by.server, sym t.done ∙ d, sym t.failed ∙ f) in
+    let says = s.asked there.0 e there.2 busy in
+    let same : answered_by (m.party e.address) ≡ requested write request =
+    ap (λ (q : Endpoint). answered_by (m.party q)) there.3
+    ∙ (ap (λ (b : Bool). requested (not b) (m.party a).request) by.sender
+    ∙ (ap (λ (b : Bool). requested b (m.party a).request) (not-not write)
+    ∙ ap (requested write) by.request_is)) in
+    none there.0 e there.2 (record { serving = busy; peer_is = sym t.peer ∙ by.peer_is; spells = subst (λ (p : WirePacket). Spells p e.request) same says })
+  )
+
+opens_anew : (views : List EndView) (messages : List Message) (m : Machine) (r : Rule) (bytes : List ℕ) → Shows views messages m → Opens r → AsksAnew r bytes views → OpensAnew r m
+opens_anew views messages m (Asks at write request text) bytes s o h = tt
+opens_anew views messages m (Opens_plainly at peer write request text) bytes s o h = all_over views messages m s peer write request h.1
+opens_anew views messages m (Opens_with at peer write request text size) bytes s o h = all_over views messages m s peer write request h.1
+opens_anew views messages m r bytes s o h = absurd o
+
+-- a new end of the server answers what it was asked
+answers_so : (write : Bool) (request : WireRequest) (bytes : List ℕ) → Spells (requested write request) bytes → Spells (requested (not (not write)) request) bytes
+answers_so write request bytes s = subst (λ (b : Bool). Spells (requested b request) bytes) (sym (not-not write)) s
+
+new_answer : (views : List EndView) (f : EndView) (r : Rule) → Opens r → AsksAnew r f.request views → Matches f (party_after r nobody) → IsInService f → Spells (answered_by (party_after r nobody)) f.request
+new_answer views f (Asks at write request text) o h t busy = absurd (true≢false (t.client ∙ busy.0))
+new_answer views f (Opens_plainly at peer write request text) o h t busy = answers_so write request f.request h.0
+new_answer views f (Opens_with at peer write request text size) o h t busy = answers_so write request f.request h.0
+new_answer views f r o h t busy = absurd o
+
 pub shown_opens : (views : List EndView) (messages : List Message) (f : EndView) (r : Rule) → IsShown views messages → Opens r → MayAct r messages nobody →
-    f.address ≡ actor r → f.address.port ≡ 1024 + length views → Matches f (party_after r nobody) →
+    f.address ≡ actor r → f.address.port ≡ 1024 + length views → Matches f (party_after r nobody) → AsksAnew r f.request views →
     IsShown (views ++ f ∷ []) (messages ++ packets r nobody)
-shown_opens views messages f r shown opening may same port matches =
-    let m = shown.0 in
-    let s = shown.3 in
+shown_opens views messages f r shown opening may same port matches asks =
+    let m = run shown.0 start in
+    let s = shown.2 in
     let a = actor r in
     let x = m.party a in
     let closed = next_port views messages m s a (ap (λ (q : Endpoint). q.port) (sym same) ∙ port) in
     let guard : Guard r m = subst (λ (ds : List Message). MayAct r ds x) (sym s.sent) (may_open r opening messages x closed may) in
     let alike = opens_alike r opening x in
     let n = after r m in
-    let here : n.party f.address ≡ party_after r nobody = ap n.party same ∙ (with_at m.party a (party_after r x) ∙ alike.0) in (
-      n,
-      keeps r m shown.1 guard,
-      recorded_keeps r m shown.1 shown.2 guard,
-      record {
+    let here : n.party f.address ≡ party_after r nobody = ap n.party same ∙ (with_at m.party a (party_after r x) ∙ alike.0) in
+    let apart : (j : ℕ) (y : EndView) → slice_get views j ≡ Some y → y.address ≢ a = λ j y i q.
+        (let p : y.address.port ≡ f.address.port = ap (λ (c : Endpoint). c.port) (q ∙ sym same) in let c = (s.ends j y i).1 in let l = slice_get_within views j y i in omega arith) in
+    shown_after views (views ++ f ∷ []) messages (messages ++ packets r nobody) shown (r ∷ []) (guard, opens_anew views messages m r f.request s opening asks, tt)
+      (record {
         sent = ap (λ (ds : List Message). ds ++ packets r x) s.sent ∙ ap (λ (ds : List Message). messages ++ ds) alike.1;
         ends = λ j y i. elim (slice_get-push_cases views j f y i) [
           | inl b ↦ let there = s.ends j y b in
-              let l = slice_get_within views j y b in
-              let apart : y.address ≢ a = λ q. (let p : y.address.port ≡ f.address.port = ap (λ (c : Endpoint). c.port) (q ∙ sym same) in let c = there.1 in omega arith) in
-              (subst (λ (z : Party). Matches y z) (sym (with_other m.party a (party_after r x) y.address apart)) there.0, there.1)
+              (subst (λ (z : Party). Matches y z) (sym (with_other m.party a (party_after r x) y.address (apart j y b))) there.0, there.1)
           | inr b ↦ subst (λ (z : EndView). Matches z (n.party z.address) × (z.address.port ≡ 1024 + j)) (sym b.1)
               (subst (λ (z : Party). Matches f z) (sym here) matches, port ∙ ap (λ (q : ℕ). 1024 + q) (sym b.0))
+        ];
+        asked = λ j y i. elim (slice_get-push_cases views j f y i) [
+          | inl b ↦ λ busy. subst (λ (z : Party). Spells (answered_by z) y.request) (sym (with_other m.party a (party_after r x) y.address (apart j y b))) (s.asked j y b busy)
+          | inr b ↦ subst (λ (z : EndView). IsInService z → Spells (answered_by (n.party z.address)) z.request) (sym b.1)
+              (λ busy. subst (λ (z : Party). Spells (answered_by z) f.request) (sym here) (new_answer views f r opening asks matches busy))
         ];
         only = λ b o. elim (cases_same b a) [
           | inl q ↦ (length views, f, slice_get-push_new views f, same ∙ sym q)
           | inr d ↦ let old = s.only b (subst (λ (z : Party). z.is_open ≡ true) (with_other m.party a (party_after r x) b d) o) in
               (old.0, old.1, slice_get-push_old views old.0 f old.1 old.2, old.3)
         ];
-      },
-    )
+      })
 
 may_speak : (r : Rule) → Speaks r → (sent : List Message) (x : Party) → MayAct r sent nobody → MayAct r sent x
 may_speak (Says_error at to) o sent x h = h
 may_speak (Repeats old) o sent x h = h
 may_speak (Strays stray) o sent x h = h
 may_speak r o sent x h = absurd o
+
+speaks_none : (r : Rule) → Speaks r → (m : Machine) → OpensAnew r m
+speaks_none (Says_error at to) o m = tt
+speaks_none (Repeats old) o m = tt
+speaks_none (Strays stray) o m = tt
+speaks_none r o m = absurd o
 
 speaks_alike : (r : Rule) → Speaks r → (x : Party) → (party_after r x ≡ x) × (packets r x ≡ packets r nobody)
 speaks_alike (Says_error at to) o x = (refl, refl)
@@ -164,8 +295,8 @@ speaks_alike r o x = absurd o
 pub shown_speaks : (views : List EndView) (messages : List Message) (r : Rule) → IsShown views messages → Speaks r → MayAct r messages nobody →
     IsShown views (messages ++ packets r nobody)
 shown_speaks views messages r shown speaking may =
-    let m = shown.0 in
-    let s = shown.3 in
+    let m = run shown.0 start in
+    let s = shown.2 in
     let a = actor r in
     let x = m.party a in
     let guard : Guard r m = subst (λ (ds : List Message). MayAct r ds x) (sym s.sent) (may_speak r speaking messages x may) in
@@ -174,13 +305,11 @@ shown_speaks views messages r shown speaking may =
     let stays : (q : Endpoint) → n.party q ≡ m.party q = λ q. elim (cases_same q a) [
       | inl e ↦ ap n.party e ∙ (with_at m.party a (party_after r x) ∙ (alike.0 ∙ ap m.party (sym e)))
       | inr d ↦ with_other m.party a (party_after r x) q d
-    ] in (
-      n,
-      keeps r m shown.1 guard,
-      recorded_keeps r m shown.1 shown.2 guard,
-      record {
+    ] in
+    shown_after views views messages (messages ++ packets r nobody) shown (r ∷ []) (guard, speaks_none r speaking m, tt)
+      (record {
         sent = ap (λ (ds : List Message). ds ++ packets r x) s.sent ∙ ap (λ (ds : List Message). messages ++ ds) alike.1;
         ends = λ j y i. let there = s.ends j y i in (subst (λ (z : Party). Matches y z) (sym (stays y.address)) there.0, there.1);
+        asked = λ j y i busy. subst (λ (z : Party). Spells (answered_by z) y.request) (sym (stays y.address)) (s.asked j y i busy);
         only = λ b o. s.only b (subst (λ (z : Party). z.is_open ≡ true) (stays b) o);
-      },
-    )
+      })

@@ -11,6 +11,7 @@ use Rattle.tftp_machine.specs.Texts.{BeginningsJoin, OnlyNothingBeginsNothing}
 use Rattle.tftp_machine.specs.ViewSafety.{IsAmong, IsAt, IsSafeViews, PeersAtHome}
 use Rattle.tftp_machine.proofs.Grows.{peer_of}
 use Rattle.tftp_machine.proofs.Steps.{own_server}
+use Rattle.tftp_machine.proofs.Shown.{shown_by}
 use Rattle.tftp_machine.proofs.Runs.{IsSafeMachine-holds, some_peer}
 
 pub IsBeginningOf-trans : BeginningsJoin
@@ -43,9 +44,10 @@ one_at views messages m s a x y i j =
 
 pub shown_safe : (views : List EndView) (messages : List Message) → IsShown views messages → IsSafeViews views
 shown_safe views messages shown =
-    let m = shown.0 in
-    let h = shown.1 in
-    let s = shown.3 in
+    let by = shown_by views messages shown in
+    let m = by.0 in
+    let h = by.1 in
+    let s = by.3 in
     let safe = IsSafeMachine-holds m h in
     let there : (x : EndView) → IsAmong views x → Matches x (m.party x.address) = λ x i. (s.ends i.0 x i.1).0 in
     record {
@@ -102,15 +104,16 @@ shown_safe views messages shown =
 -- where nobody at neither host has spoken, every peer is at one of them
 pub shown_at_home : (views : List EndView) (messages : List Message) → IsShown views messages → PeersAtHome views messages
 shown_at_home views messages shown home x p i e =
-    let m = shown.0 in
-    let s = shown.3 in
+    let by = shown_by views messages shown in
+    let m = by.0 in
+    let s = by.3 in
     let a = (s.ends i.0 x i.1).0 in
-    let h = shown.1.ends x.address a.is_open in
+    let h = by.1.ends x.address a.is_open in
     let peer : (m.party x.address).peer ≡ Some p = a.peer ∙ e in
     elim (cases_Bool (m.party x.address).client) [
       | inl c ↦ own_server p (h.serving c p peer).0
       | inr c ↦
           let y = m.party x.address in
           let d = message p request_port (Request (not y.sender) y.request) in
-          home d (subst (λ (ds : List Message). Contains ds d) s.sent ((shown.2.ends x.address a.is_open).requested c p peer))
+          home d (subst (λ (ds : List Message). Contains ds d) s.sent ((by.2.ends x.address a.is_open).requested c p peer))
     ]

@@ -2,7 +2,7 @@
 use Rattle.std.specs.Prelude.{◌≡◌, ℕ, ◌+◌, false, List, [], ◌∷◌, ◌++◌, length, slice_get, slice_set, Some}
 use Rattle.tftp_machine.specs.Machine.{Message, nobody}
 use Rattle.tftp_machine.specs.Rules.{Rule, actor, MayAct, packets, party_after}
-use Rattle.tftp_machine.specs.Shows.{EndView, party_of, Matches, IsShown, ActInTurn, party_then, sent_by, Opens, Speaks}
+use Rattle.tftp_machine.specs.Shows.{EndView, party_of, Matches, IsShown, ActInTurn, party_then, sent_by, Opens, Speaks, AsksAnew}
 
 -- how one end handles a datagram or a timeout is shown again, if rules of that end give it that
 -- may act one after another by what is told of it and by what was sent
@@ -11,16 +11,16 @@ EndsGoOn =
     (views : List EndView) (messages : List Message) (k : ℕ) (e f : EndView) (rules : List Rule) →
     IsShown views messages → slice_get views k ≡ Some e → e.failed ≡ false →
     ActInTurn rules e.address messages (party_of e) →
-    f.address ≡ e.address → Matches f (party_then rules (party_of e)) →
+    f.address ≡ e.address → f.request ≡ e.request → Matches f (party_then rules (party_of e)) →
     IsShown (slice_set views k f) (messages ++ sent_by rules (party_of e))
 
--- an end that a rule opens at the next port is shown
+-- an end that a rule opens at the next port is shown, where no open end answers its request already
 abbrev pub EndsOpen : Type 0
 EndsOpen =
     (views : List EndView) (messages : List Message) (f : EndView) (rule : Rule) →
     IsShown views messages → Opens rule → MayAct rule messages nobody →
     f.address ≡ actor rule → f.address.port ≡ 1024 + length views →
-    Matches f (party_after rule nobody) →
+    Matches f (party_after rule nobody) → AsksAnew rule f.request views →
     IsShown (views ++ f ∷ []) (messages ++ packets rule nobody)
 
 -- a datagram that changes no end is shown

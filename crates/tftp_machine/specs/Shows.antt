@@ -1,11 +1,13 @@
 -- What a world of ends and datagrams shows of the guarded machine.
-use Rattle.std.specs.Prelude.{◌≡◌, ℕ, ◌+◌, Bool, true, false, List, [], ◌∷◌, ◌++◌, slice_get, Option, Some}
+use Rattle.std.specs.Prelude.{◌≡◌, ℕ, ◌+◌, Bool, true, false, not, List, [], ◌∷◌, ◌++◌, slice_get, Option, Some}
+use Rattle.tftp_wire.specs.Spelling.{Spells}
 use Rattle.tftp_wire.specs.declared.mode.Mode.{Mode}
+use Rattle.tftp_wire.specs.declared.packet.Packet.{Packet as WirePacket}
+use Rattle.tftp_wire.specs.declared.packet.Packet.TheVariants.{Read, Write}
+use Rattle.tftp_wire.specs.declared.packet.Request.{Request as WireRequest}
 use Rattle.tftp_file.specs.Block.{IsBeginningOf}
-use Rattle.tftp_machine.specs.Machine.{Endpoint, Message, Party, no_request, Machine}
-use Rattle.tftp_machine.specs.Rules.{Rule, Asks, Opens_plainly, Opens_with, Says_error, Repeats, Strays, actor, MayAct, packets, party_after}
-use Rattle.tftp_machine.specs.Facts.{Holds}
-use Rattle.tftp_machine.specs.Recorded.{AreRecorded}
+use Rattle.tftp_machine.specs.Machine.{Endpoint, Message, Party, no_request, Machine, start}
+use Rattle.tftp_machine.specs.Rules.{Rule, Asks, Opens_plainly, Opens_with, Says_error, Repeats, Strays, actor, MayAct, packets, party_after, IsLegal, run}
 
 -- what is to be told of an end that was opened
 pub record EndView : Type 0 where
@@ -22,6 +24,8 @@ pub record EndView : Type 0 where
   pub failed : Bool
   -- a sender's wire text; of a receiver what it stored, as it travels, and the text held back
   pub text : List ℕ
+  -- the bytes of the request that an open end of the server answers
+  pub request : List ℕ
 
 -- the party with all that is told of the end: not whether it was opened plainly, nor its request
 abbrev pub party_of : EndView → Party
@@ -41,9 +45,9 @@ party_of e =
       text = e.text;
     }
 
--- what is to be told of the party x at this endpoint
-abbrev pub view_of : Endpoint → Party → EndView
-view_of a x =
+-- what is to be told of the party x at this endpoint, where these bytes asked for it
+abbrev pub view_of : Endpoint → List ℕ → Party → EndView
+view_of a request x =
     record {
       address = a;
       client = x.client;
@@ -55,6 +59,7 @@ view_of a x =
       done = x.done;
       failed = x.failed;
       text = x.text;
+      request = request;
     }
 
 -- the end tells of this party; of a receiver that failed only a beginning of its text
@@ -73,18 +78,33 @@ pub record Matches (e : EndView) (x : Party) : Type 0 where
   pub live : e.done ≡ false → e.failed ≡ false → x.text ≡ e.text
   pub sent : e.sender ≡ true → x.text ≡ e.text
 
+-- a request, to write or to read
+abbrev pub requested : Bool → WireRequest → WirePacket
+requested true request = Write request
+requested false request = Read request
+
+-- the request that the server's end x answers
+abbrev pub answered_by : Party → WirePacket
+answered_by x = requested (not x.sender) x.request
+
+-- an end of the server that is neither done nor failed
+abbrev pub IsInService : EndView → Type 0
+IsInService e = (e.client ≡ false) × (e.done ≡ false) × (e.failed ≡ false)
+
 -- the ends by their places, of which place k has port 1024 + k, and all that was sent,
 -- are those of the machine
 pub record Shows (views : List EndView) (messages : List Message) (m : Machine) : Type 0 where
   pub sent : m.sent ≡ messages
   pub ends : (k : ℕ) (e : EndView) → slice_get views k ≡ Some e →
       Matches e (m.party e.address) × (e.address.port ≡ 1024 + k)
+  pub asked : (k : ℕ) (e : EndView) → slice_get views k ≡ Some e → IsInService e →
+      Spells (answered_by (m.party e.address)) e.request
   pub only : (a : Endpoint) → (m.party a).is_open ≡ true →
       (k : ℕ) × (e : EndView) × (slice_get views k ≡ Some e) × (e.address ≡ a)
 
--- they are those of a machine that keeps its facts
+-- they are those of the machine after a legal list of rules from the start
 abbrev pub IsShown : List EndView → List Message → Type 0
-IsShown views messages = (m : Machine) × Holds m × AreRecorded m × Shows views messages m
+IsShown views messages = (rules : List Rule) × IsLegal rules start × Shows views messages (run rules start)
 
 -- the rules may act one after another at this endpoint, where x is the end, by what was sent before
 abbrev pub ActInTurn : List Rule → Endpoint → List Message → Party → Type 0
@@ -114,3 +134,23 @@ Speaks (Says_error at to) = Unit {0}
 Speaks (Repeats old) = Unit {0}
 Speaks (Strays stray) = Unit {0}
 Speaks _ = ⊥
+
+-- an end of the server answers this packet of that peer, and is neither done nor failed
+pub record IsAnswering (e : EndView) (peer : Endpoint) (packet : WirePacket) : Type 0 where
+  pub serving : IsInService e
+  pub peer_is : e.peer ≡ Some peer
+  pub spells : Spells packet e.request
+
+-- none of the ends does
+abbrev pub NoneAnswers : List EndView → Endpoint → WirePacket → Type 0
+NoneAnswers views peer packet =
+    (k : ℕ) (e : EndView) → slice_get views k ≡ Some e → IsAnswering e peer packet → ⊥
+
+-- a rule that opens an end at the server does so by a request that these bytes spell, and that none
+-- of the ends answers
+abbrev pub AsksAnew : Rule → List ℕ → List EndView → Type 0
+AsksAnew (Opens_plainly at peer write request text) bytes views =
+    Spells (requested write request) bytes × NoneAnswers views peer (requested write request)
+AsksAnew (Opens_with at peer write request text size) bytes views =
+    Spells (requested write request) bytes × NoneAnswers views peer (requested write request)
+AsksAnew rule bytes views = Unit {0}
