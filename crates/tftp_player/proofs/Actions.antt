@@ -6,10 +6,11 @@ use Rattle.std.proofs.lemmas.List.{append-nil}
 use Rattle.std.proofs.lemmas.Bool.{true≢false}
 use Rattle.tftp_negotiate.specs.declared.limits.TheConstants.{DEFAULT_BLOCK}
 use Rattle.tftp_wire.specs.declared.packet.Request.{Request as WireRequest}
+use Rattle.tftp_wire.specs.Spelling.{Spells}
 use Rattle.tftp_file.specs.Block.{block, block_count, Fits, IsBeginningOf}
 use Rattle.tftp_machine.specs.Machine.{Endpoint, server_ip, client_ip, At_server, At_client, Elsewhere, host_of, request_port, Packet, Request, Data, Ack, Oack, Error, Message, Party}
 use Rattle.tftp_machine.specs.Rules.{Rule, Asks, Opens_plainly, Opens_with, Takes_oack, Takes_ack, Takes_data, Appends, Sends_next, Completes, Fails, Fails_with, Says_error, Repeats, Strays, message, asking, opened, HasText}
-use Rattle.tftp_machine.specs.Shows.{EndView, party_of, view_of, Matches, IsShown, ActInTurn, party_then, sent_by}
+use Rattle.tftp_machine.specs.Shows.{EndView, party_of, view_of, Matches, requested, IsShown, ActInTurn, party_then, sent_by, NoneAnswers}
 use Rattle.tftp_machine.proofs.Acting.{stays_open}
 use Rattle.tftp_machine.proofs.Shown.{shown_acts, shown_opens, shown_speaks}
 
@@ -31,8 +32,8 @@ reader_begins sender e = rw e refl
 writer_begins : (sender : Bool) → sender ≡ true → begins sender ≡ 1
 writer_begins sender e = rw e refl
 
-pub match_self : (a : Endpoint) (x : Party) → x.is_open ≡ true → Matches (view_of a x) x
-match_self a x o = record {
+pub match_self : (a : Endpoint) (asks : List ℕ) (x : Party) → x.is_open ≡ true → Matches (view_of a asks x) x
+match_self a asks x o = record {
   is_open = o;
   client = refl;
   sender = refl;
@@ -49,8 +50,8 @@ match_self a x o = record {
 }
 
 -- of the text of a receiver that failed only a beginning is told
-pub match_cut : (a : Endpoint) (x : Party) (t : List ℕ) → x.is_open ≡ true → x.failed ≡ true → x.done ≡ false → IsBeginningOf t x.text → (x.sender ≡ true → x.text ≡ t) → Matches (record (view_of a x) { text = t }) x
-match_cut a x t o f d b s = record {
+pub match_cut : (a : Endpoint) (asks : List ℕ) (x : Party) (t : List ℕ) → x.is_open ≡ true → x.failed ≡ true → x.done ≡ false → IsBeginningOf t x.text → (x.sender ≡ true → x.text ≡ t) → Matches (record (view_of a asks x) { text = t }) x
+match_cut a asks x t o f d b s = record {
   is_open = o;
   client = refl;
   sender = refl;
@@ -90,16 +91,16 @@ says e to packet = message e.address to packet ∷ []
 module _ (views : List EndView) (messages : List Message) (k : ℕ) (e : EndView) (s : Stands views messages k e) where
   -- the rules of the end act in turn
   pub goes : (rs : List Rule) → e.failed ≡ false → ActInTurn rs e.address messages (party_of e) →
-      IsShown (set views k (view_of e.address (party_then rs (party_of e)))) (messages ++ sent_by rs (party_of e))
-  goes rs f t = shown_acts views messages k e (view_of e.address (party_then rs (party_of e))) rs s.shown s.place f t refl
-      (match_self e.address (party_then rs (party_of e)) (stays_open rs e.address messages (party_of e) refl t))
+      IsShown (set views k (view_of e.address e.request (party_then rs (party_of e)))) (messages ++ sent_by rs (party_of e))
+  goes rs f t = shown_acts views messages k e (view_of e.address e.request (party_then rs (party_of e))) rs s.shown s.place f t refl refl
+      (match_self e.address e.request (party_then rs (party_of e)) (stays_open rs e.address messages (party_of e) refl t))
 
   -- they act in turn and it fails, so that only a beginning of its text is told
   pub goes_cut : (rs : List Rule) (t : List ℕ) → e.failed ≡ false → ActInTurn rs e.address messages (party_of e) →
       (party_then rs (party_of e)).failed ≡ true → (party_then rs (party_of e)).done ≡ false → IsBeginningOf t (party_then rs (party_of e)).text → ((party_then rs (party_of e)).sender ≡ true → (party_then rs (party_of e)).text ≡ t) →
-      IsShown (set views k (record (view_of e.address (party_then rs (party_of e))) { text = t })) (messages ++ sent_by rs (party_of e))
-  goes_cut rs t f turns failed done b same = shown_acts views messages k e (record (view_of e.address (party_then rs (party_of e))) { text = t }) rs s.shown s.place f turns refl
-      (match_cut e.address (party_then rs (party_of e)) t (stays_open rs e.address messages (party_of e) refl turns) failed done b same)
+      IsShown (set views k (record (view_of e.address e.request (party_then rs (party_of e))) { text = t })) (messages ++ sent_by rs (party_of e))
+  goes_cut rs t f turns failed done b same = shown_acts views messages k e (record (view_of e.address e.request (party_then rs (party_of e))) { text = t }) rs s.shown s.place f turns refl refl
+      (match_cut e.address e.request (party_then rs (party_of e)) t (stays_open rs e.address messages (party_of e) refl turns) failed done b same)
 
   -- a waiting reader stores DATA 1
   pub stores_first : (from : Endpoint) (bytes : List ℕ) → IsWaiting e from → e.sender ≡ false → HasCome messages e from (Data 1 bytes) → length bytes ≤ DEFAULT_BLOCK →
@@ -203,22 +204,24 @@ strays views messages h stray o = shown_speaks views messages (Strays stray) h t
 -- a client opens; a reader has no text
 pub asks : (views : List EndView) (messages : List Message) → IsShown views messages → (a : Endpoint) (write : Bool) (request : WireRequest) (text : List ℕ) →
     a.ip ≡ client_ip → a.port ≡ 1024 + length views → (write ≡ false → text ≡ []) →
-    IsShown (views ++ view_of a (asking write request text) ∷ []) (messages ++ message a request_port (Request write request) ∷ [])
+    IsShown (views ++ view_of a [] (asking write request text) ∷ []) (messages ++ message a request_port (Request write request) ∷ [])
 asks views messages h a write request text ip port none =
-    shown_opens views messages (view_of a (asking write request text)) (Asks a write request text) h tt (refl, host_client a ip, none) refl port (match_self a (asking write request text) refl)
+    shown_opens views messages (view_of a [] (asking write request text)) (Asks a write request text) h tt (refl, host_client a ip, none) refl port (match_self a [] (asking write request text) refl) tt
 
 -- a request opens an end at the server, with no options
-pub serves_plainly : (views : List EndView) (messages : List Message) → IsShown views messages → (a peer : Endpoint) (write : Bool) (request : WireRequest) (text : List ℕ) →
+pub serves_plainly : (views : List EndView) (messages : List Message) → IsShown views messages → (a peer : Endpoint) (asked : List ℕ) (write : Bool) (request : WireRequest) (text : List ℕ) →
     a.ip ≡ server_ip → a.port ≡ 1024 + length views → Contains messages (message peer request_port (Request write request)) → HasText write text DEFAULT_BLOCK →
-    IsShown (views ++ view_of a (opened true peer write request text DEFAULT_BLOCK (if write then 0 else 1)) ∷ []) (messages ++ message a peer (if write then Ack 0 else Data 1 (block text DEFAULT_BLOCK 1)) ∷ [])
-serves_plainly views messages h a peer write request text ip port c has =
+    Spells (requested write request) asked → NoneAnswers views peer (requested write request) →
+    IsShown (views ++ view_of a asked (opened true peer write request text DEFAULT_BLOCK (if write then 0 else 1)) ∷ []) (messages ++ message a peer (if write then Ack 0 else Data 1 (block text DEFAULT_BLOCK 1)) ∷ [])
+serves_plainly views messages h a peer asked write request text ip port c has spells none =
     let x = opened true peer write request text DEFAULT_BLOCK (if write then 0 else 1) in
-    shown_opens views messages (view_of a x) (Opens_plainly a peer write request text) h tt (refl, host_server a ip, c, has) refl port (match_self a x refl)
+    shown_opens views messages (view_of a asked x) (Opens_plainly a peer write request text) h tt (refl, host_server a ip, c, has) refl port (match_self a asked x refl) (spells, none)
 
 -- a request opens an end at the server, with options
-pub serves_with : (views : List EndView) (messages : List Message) → IsShown views messages → (a peer : Endpoint) (write : Bool) (request : WireRequest) (text : List ℕ) (size : ℕ) →
+pub serves_with : (views : List EndView) (messages : List Message) → IsShown views messages → (a peer : Endpoint) (asked : List ℕ) (write : Bool) (request : WireRequest) (text : List ℕ) (size : ℕ) →
     a.ip ≡ server_ip → a.port ≡ 1024 + length views → Contains messages (message peer request_port (Request write request)) → HasText write text size → 0 < size →
-    IsShown (views ++ view_of a (opened false peer write request text size 0) ∷ []) (messages ++ message a peer (Oack size) ∷ [])
-serves_with views messages h a peer write request text size ip port c has positive =
+    Spells (requested write request) asked → NoneAnswers views peer (requested write request) →
+    IsShown (views ++ view_of a asked (opened false peer write request text size 0) ∷ []) (messages ++ message a peer (Oack size) ∷ [])
+serves_with views messages h a peer asked write request text size ip port c has positive spells none =
     let x = opened false peer write request text size 0 in
-    shown_opens views messages (view_of a x) (Opens_with a peer write request text size) h tt (refl, host_server a ip, c, has, positive) refl port (match_self a x refl)
+    shown_opens views messages (view_of a asked x) (Opens_with a peer write request text size) h tt (refl, host_server a ip, c, has, positive) refl port (match_self a asked x refl) (spells, none)

@@ -1,5 +1,5 @@
 -- A read in several blocks that runs straight to its end, event by event.
-use Rattle.std.proofs.Common.{◌≡◌, ℕ, decimal, true, false, List, [], ◌∷◌, ◌++◌, Some, Ok, refl, arith, rules}
+use Rattle.std.proofs.Common.{ℕ, true, false, List, [], ◌∷◌, ◌++◌, Some, Ok, refl, arith, rules}
 use Rattle.std.specs.Prelude.{slice_set}
 use Rattle.tftp_wire.specs.declared.mode.Mode.TheVariants.{Octet}
 use Rattle.tftp_wire.specs.Parts.{packet_in}

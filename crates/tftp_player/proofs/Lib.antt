@@ -28,6 +28,7 @@ pub mod SinkMoves
 pub mod PhaseMoves
 pub mod WaitingMoves
 pub mod EndTurns
+pub mod AnewLemmas
 pub mod WorldTurns
 pub mod WorldKeeps
 pub mod OackLemmas

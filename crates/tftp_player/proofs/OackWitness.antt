@@ -1,5 +1,5 @@
 -- A write that is answered by an OACK and runs straight to its end, event by event.
-use Rattle.std.proofs.Common.{◌≡◌, ℕ, decimal, true, false, List, [], ◌∷◌, ◌++◌, Some, Ok, refl, arith, rules}
+use Rattle.std.proofs.Common.{ℕ, true, false, List, [], ◌∷◌, ◌++◌, Some, Ok, refl, arith, rules}
 use Rattle.std.specs.Prelude.{slice_set}
 use Rattle.std.specs.BTreeMap.{is_at}
 use Rattle.tftp_store.specs.Store.{path_cmp}

@@ -1,6 +1,5 @@
 -- A datagram repeats the request of a transfer that the played server holds where it repeats that of an open end of its world.
-use Rattle.std.proofs.Common.{◌≡◌, ℕ, suc, zero, ◌+◌, Bool, true, false, List, [], ◌∷◌, cond, Option, Some, None, refl, sym, ap, ◌∙◌, subst, inl, inr}
-use Rattle.std.specs.Prelude.{slice_get}
+use Rattle.std.proofs.Common.{◌≡◌, ℕ, ◌+◌, Bool, true, false, List, [], ◌∷◌, cond, Option, Some, None, refl, sym, ap, ◌∙◌, subst, inl, inr}
 use Rattle.std.specs.BTreeMap.{is_at}
 use Rattle.std.specs.List.{AllByRecursion}
 use Rattle.std.specs.Ordering.{nat_cmp}
@@ -18,20 +17,16 @@ use Rattle.tftp_player.specs.Clients.{left_in}
 use Rattle.tftp_player.specs.Requests.{IsRepeated, Repeats, AnyRepeats}
 use Rattle.tftp_player.specs.Serving.{PlayedServer, Transfer}
 use Rattle.tftp_player.specs.Stage.{IsOwned, IsStaged, ends_of}
-use Rattle.tftp_player.specs.World.{WorldEnd, Open_end, by_outcome}
+use Rattle.tftp_player.specs.World.{Open_end, by_outcome}
 use Rattle.tftp_player.specs.declared.player.Player.{Player}
 use Rattle.tftp_player.specs.declared.player.Player.TheVariants.{Client, Server}
 use Rattle.tftp_player.specs.declared.served.Served.{Served}
+use Rattle.tftp_player.proofs.AnewLemmas.{any_at}
 use Rattle.tftp_player.proofs.HeldLemmas.{all_both, each_found}
 use Rattle.tftp_player.proofs.PlayLemmas.{ends_get, kept_at}
 
 module _ (from : Endpoint) (packet : Packet) where
-  -- an end at a place is one of them, and a transfer that is found
-  any_at : (ends : List WorldEnd) (k : ℕ) (x : WorldEnd) → slice_get ends k ≡ Some x → Repeats from packet x → AnyRepeats from packet ends
-  any_at [] k x e r = absurd (let f : None ≡ Some x = e in cc)
-  any_at (y ∷ ends) zero x e r = inl (subst (Repeats from packet) (sym (same_Some y x e)) r)
-  any_at (y ∷ ends) (suc k) x e r = inr (any_at ends k x e r)
-
+  -- a transfer that is found is one of them
   found_by : (port : ℕ) (e : ℕ × Transfer) (held : List (ℕ × Transfer)) (t : Transfer) (b : Bool) → is_at (nat_cmp port) e.0 ≡ b → at port (e ∷ held) ≡ Some t → server.Repeats from packet t →
       (at port held ≡ Some t → server.AnyRepeats from packet held) → server.AnyRepeats from packet (e ∷ held)
   found_by port e held t true h found r rest = inl (subst (server.Repeats from packet) (sym (same_Some e.1 t (ap (λ (c : Bool). cond c (Some e.1) (at port held)) (sym h) ∙ found))) r)
@@ -64,7 +59,7 @@ module _ (from : Endpoint) (packet : Packet) where
           let found : at port held ≡ Some e.1 = ap (λ (n : ℕ). at n held) (sym own.is) ∙ h.1 in
           let here : end_at port held (Server own.served) ≡ Open_end (served_as port own.served e.1.end (left_in e.1.files) (server.draft_of e.1.files) e.1.request) = served_here port own.served own.served.ended e.1 own.lives found in
           let side = served_side port own.served own.served.ended e.1 own.lives found (kept_at held ps own.place (Server own.served) all own.there) in
-          any_at (ends_from 1024 held ps) own.place (end_at port held (Server own.served)) (ends_get held ps own.place (Server own.served) own.there)
+          any_at from packet (ends_from 1024 held ps) own.place (end_at port held (Server own.served)) (ends_get held ps own.place (Server own.served) own.there)
           (subst (Repeats from packet) (sym here) (record { server = side; peer = r.peer; same = r.same }))
 
       any_owned : (es : List (ℕ × Transfer)) → AllByRecursion Has_end es → server.AnyRepeats from packet es → AnyRepeats from packet (ends_from 1024 held ps)

@@ -1,16 +1,18 @@
 -- An end after a turn as it stands in the world: open, or closed with its record.
-use Rattle.std.proofs.Common.{◌≡◌, Bool, true, false, Option, Some, None, refl, sym, ap, ◌∙◌}
-use Rattle.std.specs.Prelude.{◌&&◌, not, is_some}
+use Rattle.std.proofs.Common.{◌≡◌, ℕ, Bool, true, false, List, set, Option, Some, None, refl, sym, ap, ◌∙◌, subst, inl, inr}
+use Rattle.std.specs.Prelude.{◌&&◌, not, is_some, slice_get}
 use Rattle.std.specs.List.{Contains}
-use Rattle.std.proofs.lemmas.Bool.{true≢false}
+use Rattle.std.proofs.lemmas.Bool.{true≢false, cases_Bool}
 use Rattle.tftp_ends.specs.declared.outcome.Outcome.{Outcome}
 use Rattle.tftp_ends.specs.declared.phase.Phase.{Phase}
 use Rattle.tftp_ends.specs.declared.phase.Phase.TheVariants.{Waiting, Sending, Receiving, Dallying, Closed}
 use Rattle.tftp_ends.specs.End.{is_sender, is_client, terms_of, number_of, is_complete, outcome_of, size_of, record_of}
 use Rattle.tftp_ends.specs.Step.{with_position}
 use Rattle.tftp_player.specs.Requests.{is_transfer}
-use Rattle.tftp_machine.specs.Shows.{EndView}
-use Rattle.tftp_player.specs.World.{WorldState, OpenEnd, WorldEnd, Open_end, Closed_end, end_record, end_address, is_closed, datagram, in_state, closed_end, by_outcome, standing, text_of, peer_of, view_of_end, file_at}
+use Rattle.tftp_machine.specs.Machine.{Message}
+use Rattle.tftp_machine.proofs.Shown.{shown_forgets}
+use Rattle.tftp_machine.specs.Shows.{EndView, IsInService, IsShown}
+use Rattle.tftp_player.specs.World.{WorldState, OpenEnd, WorldEnd, Open_end, Closed_end, end_record, end_address, is_closed, datagram, in_state, closed_end, by_outcome, standing, text_of, peer_of, view_of_end, end_request, file_at}
 use Rattle.tftp_player.specs.WorldKept.{EndKept, IsKeptIn}
 
 -- it is closed, and not complete
@@ -35,6 +37,7 @@ open_view x =
       done = is_complete x.state.position.phase;
       failed = has_failed x.state.position.phase;
       text = text_of x;
+      request = x.request;
     }
 
 -- an end in this phase
@@ -48,16 +51,30 @@ stands_as {A = A} f a x open_now closed_now = by_case (outcome_of x.state.positi
   by_case None = open_now
   by_case (Some outcome) = closed_now
 
--- what is to be told of it is the same
-view_in : (phase : Phase) (x : OpenEnd) → view_of_end (standing (placed phase x)) ≡ open_view (placed phase x)
+-- what is to be told of it is the same, but for what asked for it, of which a closed end keeps nothing
+abbrev pub IsToldSo : OpenEnd → WorldEnd → Type 0
+IsToldSo x y = view_of_end y ≡ record (open_view x) { request = end_request y }
+
+view_in : (phase : Phase) (x : OpenEnd) → IsToldSo (placed phase x) (standing (placed phase x))
 view_in (Waiting asked limit) x = refl
 view_in (Sending terms number) x = refl
 view_in (Receiving terms number) x = refl
 view_in (Dallying terms number dally) x = refl
 view_in (Closed terms number complete outcome) x = refl
 
-pub standing_view : (x : OpenEnd) → view_of_end (standing x) ≡ open_view x
+pub standing_view : (x : OpenEnd) → IsToldSo x (standing x)
 standing_view x = view_in x.state.position.phase x
+
+-- what a turn has closed is over
+over_in : (phase : Phase) → is_some (outcome_of phase) ≡ true → is_complete phase ≡ false → has_failed phase ≡ true
+over_in (Waiting asked limit) closed d = absurd (true≢false (sym closed))
+over_in (Sending terms number) closed d = absurd (true≢false (sym closed))
+over_in (Receiving terms number) closed d = absurd (true≢false (sym closed))
+over_in (Dallying terms number dally) closed d = absurd (true≢false (sym closed))
+over_in (Closed terms number complete outcome) closed d = ap not d
+
+pub closed_over : (x : OpenEnd) → is_some (outcome_of x.state.position.phase) ≡ true → IsInService (open_view x) → ⊥
+closed_over x closed busy = true≢false (sym (over_in x.state.position.phase closed busy.1) ∙ busy.2)
 
 pub standing_record : (x : OpenEnd) → end_record (standing x) ≡ record_of x.state
 standing_record x = stands_as end_record (record_of x.state) x refl refl
@@ -74,7 +91,21 @@ pub standing_open : (x : OpenEnd) → is_some (outcome_of x.state.position.phase
 standing_open x e = ap (λ (o : Option Outcome). by_outcome o x) (no_outcome (outcome_of x.state.position.phase) e)
 
 pub open_is : (x : OpenEnd) → is_some (outcome_of x.state.position.phase) ≡ false → view_of_end (Open_end x) ≡ open_view x
-open_is x e = ap view_of_end (sym (standing_open x e)) ∙ standing_view x
+open_is x e = open_in x.state.position.phase x e where
+  open_in : (phase : Phase) (y : OpenEnd) → is_some (outcome_of phase) ≡ false → view_of_end (Open_end (placed phase y)) ≡ open_view (placed phase y)
+  open_in (Waiting asked limit) y e = refl
+  open_in (Sending terms number) y e = refl
+  open_in (Receiving terms number) y e = refl
+  open_in (Dallying terms number dally) y e = refl
+  open_in (Closed terms number complete outcome) y e = absurd (true≢false e)
+
+-- and so it is shown: of a closed one nothing is told of what asked for it
+pub standing_shown : (views : List EndView) (messages : List Message) (k : ℕ) (d : EndView) (x : OpenEnd) → slice_get views k ≡ Some d →
+    IsShown (set views k (open_view x)) messages → IsShown (set views k (view_of_end (standing x))) messages
+standing_shown views messages k d x at shown = elim (cases_Bool (is_some (outcome_of x.state.position.phase))) [
+  | inl closed ↦ shown_forgets views messages k d (open_view x) (view_of_end (standing x)) at (standing_view x) (closed_over x closed) shown
+  | inr open_now ↦ subst (λ (v : EndView). IsShown (set views k v) messages) (sym (ap view_of_end (standing_open x open_now) ∙ open_is x open_now)) shown
+]
 
 -- a closed one stands with its record
 pub standing_ended : (x : OpenEnd) → is_some (outcome_of x.state.position.phase) ≡ true → standing x ≡ Closed_end (closed_end x)

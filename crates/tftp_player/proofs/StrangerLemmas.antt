@@ -26,7 +26,7 @@ use Rattle.tftp_server.specs.Port.{Service, Silent, Refused, Sends, Takes}
 use Rattle.tftp_player.specs.declared.report.Report.{Report}
 use Rattle.tftp_player.proofs.PhaseMoves.{same_ips, same_endpoints}
 use Rattle.tftp_machine.proofs.Places.{slice_get-set_same, slice_get-set_other, slice_get-push_old}
-use Rattle.tftp_player.proofs.WorldTurns.{view_at}
+use Rattle.tftp_player.proofs.WorldTurns.{view_at, world_machine}
 use Rattle.tftp_player.proofs.Standing.{placed, standing_record}
 
 -- a test that cannot hold
@@ -120,8 +120,9 @@ strays_change_no_record strangers old new from to bytes report k x ok s there ho
 
 pub clients_have_servers : ClientsHaveServers
 clients_have_servers strangers w x p ok i client peer =
-    let shows = ok.shown.3 in
-    let m = ok.shown.0 in
+    let by = world_machine strangers w ok in
+    let shows = by.3 in
+    let m = by.0 in
     let h = shows.ends i.0 (view_of_end x) (view_at w.ends i.0 x i.1) in
     let party = m.party (end_address x) in
-    ((ok.shown.1.ends (end_address x) h.0.is_open).serving (h.0.client ∙ client) p (h.0.peer ∙ peer)).0
+    ((by.1.ends (end_address x) h.0.is_open).serving (h.0.client ∙ client) p (h.0.peer ∙ peer)).0

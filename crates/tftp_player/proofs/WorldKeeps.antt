@@ -12,7 +12,7 @@ use Rattle.tftp_wire.specs.declared.mode.Mode.TheVariants.{Octet, Netascii}
 use Rattle.tftp_wire.specs.declared.packet.Packet.{Packet as WirePacket}
 use Rattle.tftp_wire.specs.declared.packet.Packet.TheVariants.{Read, Write, Data, Ack, Error, Oack}
 use Rattle.tftp_wire.specs.declared.packet.Request.{Request}
-use Rattle.tftp_wire.specs.Spelling.{IsValid}
+use Rattle.tftp_wire.specs.Spelling.{IsValid, Spells}
 use Rattle.tftp_wire.specs.declared.options.RawOption.{RawOption}
 use Rattle.tftp_negotiate.specs.declared.asked.Asked.{Asked}
 use Rattle.tftp_negotiate.specs.declared.known.Kind.{Kind}
@@ -37,15 +37,16 @@ use Rattle.tftp_store.specs.Store.{measured}
 use Rattle.tftp_machine.specs.Machine.{Endpoint, Elsewhere, host_of, server_ip, client_ip, request_port, Message, Request as Says_request, Oack as Says_oack}
 use Rattle.tftp_machine.specs.Rules.{message}
 use Rattle.tftp_player.specs.Said.{said}
-use Rattle.tftp_machine.specs.Shows.{IsShown}
+use Rattle.tftp_machine.specs.Shows.{requested, NoneAnswers, IsShown}
 use Rattle.tftp_player.specs.World.{WorldState, WorldEnd, Open_end, file_at, in_the_way, datagram, said_in, view_of_end}
 use Rattle.tftp_player.specs.Openings.{request_of, reading_client, writing_client, MayGet, MayPut, sending_end, receiving_end}
 use Rattle.tftp_server.specs.Port.{Ask, Ignores, Refuses, Reads, Service, Refused, Sends, accept_reply, by_draft, by_file, by_length, by_name, by_options, by_packet, by_repeat}
-use Rattle.tftp_player.specs.Requests.{open_transfers, opened_of, begun_of, served, service}
+use Rattle.tftp_player.specs.Requests.{IsRepeated, open_transfers, opened_of, begun_of, served, service}
 use Rattle.tftp_player.specs.WorldSteps.{Stays, Serves, Opens}
 use Rattle.tftp_player.specs.WorldKept.{HeldFits, IsOk}
 use Rattle.tftp_player.specs.declared.report.Report.{Report}
 use Rattle.tftp_player.proofs.Actions.{host_server, host_client, asks, serves_plainly, serves_with, says_error}
+use Rattle.tftp_player.proofs.AnewLemmas.{none_answers}
 use Rattle.tftp_player.proofs.SaidLemmas.{spells_own, own_oack}
 use Rattle.tftp_player.proofs.EndMoves.{valid_error}
 use Rattle.tftp_player.proofs.SourceMoves.{valid_data}
@@ -102,6 +103,12 @@ writing_keeps strangers w v name mode asked file report ok may o =
     opening_keeps strangers w v ok x report p (spells_own p may.valid) shown_now (at_client a refl) refl
     (record { phase = (refl, may.options.askable, refl, refl, λ _. refl, λ _. refl); held = empty_held mode; committed = λ e. absurd (true≢false e) }) refl o
 
+-- a request that these bytes spell was sent, and no open end answers it
+pub record IsNewly (messages : List Message) (ends : List WorldEnd) (from : Endpoint) (bytes : List ℕ) (write : Bool) (request : Request) : Type 0 where
+  pub sent : Contains messages (message from request_port (Says_request write request))
+  pub spells : Spells (requested write request) bytes
+  pub anew : NoneAnswers (map view_of_end ends) from (requested write request)
+
 -- the options that a server agreed to
 pub answered_values : (kind : Kind) (mode : Mode) (told : ℕ) (limits : Limits) (options : List RawOption) (known : List Known) → IsBlockSize limits.max_block →
     answer options kind mode told limits ≡ Ok known → AllByRecursion IsAgreeable known
@@ -110,14 +117,14 @@ answered_values kind mode told limits options known ok e =
 
 -- a read is served
 sending_keeps : (strangers : Bool) (w v : WorldState) (from : Endpoint) (bytes : List ℕ) (request : Request) (path file : List ℕ) (agreed : List Known) (report : Report) (ok : IsOk strangers w) →
-    Contains ok.messages (message from request_port (Says_request false request)) → AllByRecursion IsAgreeable agreed → (agreed ≢ [] → IsValid (Oack (agreed_options agreed))) → Fits (wire_text request.mode file) (size agreed) →
+    IsNewly ok.messages w.ends from bytes false request → AllByRecursion IsAgreeable agreed → (agreed ≢ [] → IsValid (Oack (agreed_options agreed))) → Fits (wire_text request.mode file) (size agreed) →
     Opens w (sending_end w from bytes request.mode path file agreed) report v → IsOk strangers v
 sending_keeps strangers w v from bytes request path file [] report ok come agreeable valid fits o =
     let text = wire_text request.mode file in
     let x = sending_end w from bytes request.mode path file [] in
     let one : 1 ≤ block_count text DEFAULT_BLOCK = omega arith in
     let p = Data 1 (block text DEFAULT_BLOCK 1) in
-    let shown_now = serves_plainly (map view_of_end w.ends) ok.messages ok.shown x.address from false request text refl (ap (λ (n : ℕ). 1024 + n) (sym (length_views w))) come fits in
+    let shown_now = serves_plainly (map view_of_end w.ends) ok.messages ok.shown x.address from bytes false request text refl (ap (λ (n : ℕ). 1024 + n) (sym (length_views w))) come.sent fits come.spells come.anew in
     opening_keeps strangers w v ok x report p (spells_own p (valid_data text DEFAULT_BLOCK 0 (omega arith) (omega arith) fits one)) shown_now (at_server x.address refl) refl
     (record {
       phase = record { sender = refl; positive = omega arith; size = omega arith; fits = fits; so_far = one; left = refl; last_sent_to = refl; measured = refl };
@@ -129,7 +136,7 @@ sending_keeps strangers w v from bytes request path file (known ∷ agreed) repo
     let x = sending_end w from bytes request.mode path file (known ∷ agreed) in
     let b = agreed_size (known ∷ agreed) agreeable in
     let p = Oack (agreed_options (known ∷ agreed)) in
-    let shown_now = serves_with (map view_of_end w.ends) ok.messages ok.shown x.address from false request text (size (known ∷ agreed)) refl (ap (λ (n : ℕ). 1024 + n) (sym (length_views w))) come fits b.0 in
+    let shown_now = serves_with (map view_of_end w.ends) ok.messages ok.shown x.address from bytes false request text (size (known ∷ agreed)) refl (ap (λ (n : ℕ). 1024 + n) (sym (length_views w))) come.sent fits b.0 come.spells come.anew in
     let says = subst (λ (n : ℕ). IsShown (map view_of_end w.ends ++ view_of_end (Open_end x) ∷ []) (ok.messages ++ message x.address from (Says_oack n) ∷ [])) (sym (own_oack (known ∷ agreed) agreeable)) shown_now in
     let none : 0 * size (known ∷ agreed) ≡ 0 = omega arith in
     opening_keeps strangers w v ok x report p (spells_own p (valid (λ e. cc))) says (at_server x.address refl) refl
@@ -141,18 +148,18 @@ sending_keeps strangers w v from bytes request path file (known ∷ agreed) repo
 
 -- a write is served
 taking_keeps : (strangers : Bool) (w v : WorldState) (from : Endpoint) (bytes : List ℕ) (request : Request) (path : List ℕ) (agreed : List Known) (report : Report) (ok : IsOk strangers w) →
-    Contains ok.messages (message from request_port (Says_request true request)) → AllByRecursion IsAgreeable agreed → (agreed ≢ [] → IsValid (Oack (agreed_options agreed))) →
+    IsNewly ok.messages w.ends from bytes true request → AllByRecursion IsAgreeable agreed → (agreed ≢ [] → IsValid (Oack (agreed_options agreed))) →
     Opens w (receiving_end w from bytes request.mode path agreed) report v → IsOk strangers v
 taking_keeps strangers w v from bytes request path [] report ok come agreeable valid o =
     let x = receiving_end w from bytes request.mode path [] in
-    let shown_now = serves_plainly (map view_of_end w.ends) ok.messages ok.shown x.address from true request (wire_text request.mode [] ++ []) refl (ap (λ (n : ℕ). 1024 + n) (sym (length_views w))) come (no_text request.mode) in
+    let shown_now = serves_plainly (map view_of_end w.ends) ok.messages ok.shown x.address from bytes true request (wire_text request.mode [] ++ []) refl (ap (λ (n : ℕ). 1024 + n) (sym (length_views w))) come.sent (no_text request.mode) come.spells come.anew in
     opening_keeps strangers w v ok x report (Ack 0) (spells_own (Ack 0) (omega arith)) shown_now (at_server x.address refl) refl
     (record { phase = (refl, refl); held = empty_held request.mode; committed = λ _. refl }) refl o
 taking_keeps strangers w v from bytes request path (known ∷ agreed) report ok come agreeable valid o =
     let x = receiving_end w from bytes request.mode path (known ∷ agreed) in
     let b = agreed_size (known ∷ agreed) agreeable in
     let p = Oack (agreed_options (known ∷ agreed)) in
-    let shown_now = serves_with (map view_of_end w.ends) ok.messages ok.shown x.address from true request (wire_text request.mode [] ++ []) (size (known ∷ agreed)) refl (ap (λ (n : ℕ). 1024 + n) (sym (length_views w))) come (no_text request.mode) b.0 in
+    let shown_now = serves_with (map view_of_end w.ends) ok.messages ok.shown x.address from bytes true request (wire_text request.mode [] ++ []) (size (known ∷ agreed)) refl (ap (λ (n : ℕ). 1024 + n) (sym (length_views w))) come.sent (no_text request.mode) b.0 come.spells come.anew in
     let says = subst (λ (n : ℕ). IsShown (map view_of_end w.ends ++ view_of_end (Open_end x) ∷ []) (ok.messages ++ message x.address from (Says_oack n) ∷ [])) (sym (own_oack (known ∷ agreed) agreeable)) shown_now in
     opening_keeps strangers w v ok x report p (spells_own p (valid (λ e. cc))) says (at_server x.address refl) refl
     (record { phase = (refl, refl); held = empty_held request.mode; committed = λ _. refl }) refl o
@@ -169,21 +176,23 @@ if_served : {A : Type 0} (P : A → Type 0) (b : Bool) (r s : A) → (b ≡ true
 if_served P true r s f g = f refl
 if_served P false r s f g = g refl
 
--- a request, to write or to read
-abbrev pub request_packet : Bool → Request → WirePacket
-request_packet true r = Write r
-request_packet false r = Read r
+-- a request in this mode was
+abbrev pub WasAsked : List Message → List WorldEnd → Endpoint → List ℕ → Bool → Mode → Type 0
+WasAsked messages ends from bytes write mode = (q : Request) × (q.mode ≡ mode) × IsNewly messages ends from bytes write q
 
--- a request in this mode was sent
-abbrev pub WasAsked : List Message → Endpoint → Bool → Mode → Type 0
-WasAsked messages from write mode =
-    (q : Request) × (q.mode ≡ mode) × Contains messages (message from request_port (Says_request write q))
+-- the decoded request was, unless it repeats another
+abbrev pub AsksSo : List Message → List WorldEnd → Endpoint → List ℕ → Bool → Option WirePacket → Type 0
+AsksSo messages ends from bytes repeated decoded =
+    (write : Bool) (r : Request) → decoded ≡ Some (requested write r) → repeated ≡ false → WasAsked messages ends from bytes write r.mode
 
 -- what was decoded was sent
-pub asked_so : (messages : List Message) (from : Endpoint) (decoded : Option WirePacket) → ((p : WirePacket) → decoded ≡ Some p → Contains messages (message from request_port (said p))) →
-    (write : Bool) (r : Request) → decoded ≡ Some (request_packet write r) → WasAsked messages from write r.mode
-asked_so messages from decoded come true r e = (r, refl, come (Write r) e)
-asked_so messages from decoded come false r e = (r, refl, come (Read r) e)
+pub asked_so : (messages : List Message) (ends : List WorldEnd) (from : Endpoint) (bytes : List ℕ) (repeated : Bool) (decoded : Option WirePacket) →
+    ((p : WirePacket) → decoded ≡ Some p → Contains messages (message from request_port (said p))) → ((p : WirePacket) → decoded ≡ Some p → Spells p bytes) →
+    IsRepeated repeated from decoded ends → AsksSo messages ends from bytes repeated decoded
+asked_so messages ends from bytes repeated decoded come spelled same true r e new =
+    (r, refl, record { sent = come (Write r) e; spells = spelled (Write r) e; anew = none_answers from (Write r) ends repeated decoded same e new })
+asked_so messages ends from bytes repeated decoded come spelled same false r e new =
+    (r, refl, record { sent = come (Read r) e; spells = spelled (Read r) e; anew = none_answers from (Read r) ends repeated decoded same e new })
 
 module _ (strangers : Bool) (w v : WorldState) (from : Endpoint) (bytes : List ℕ) (report : Report) (ok : IsOk strangers w) where
   abbrev Kept_by : Service → Type 0
@@ -193,7 +202,7 @@ module _ (strangers : Bool) (w v : WorldState) (from : Endpoint) (bytes : List �
   refused reply h = refusing_keeps strangers w v from reply ok h.1
 
   -- a read with the server's answer to its options
-  sending_served : (path file : List ℕ) (mode : Mode) (options : List RawOption) (a : Result (List Known) Refusal) → WasAsked ok.messages from false mode →
+  sending_served : (path file : List ℕ) (mode : Mode) (options : List RawOption) (a : Result (List Known) Refusal) → WasAsked ok.messages w.ends from bytes false mode →
       file_at w.files path ≡ Some file → answer options kinds.Read mode (measured mode file) w.limits ≡ a → Kept_by (by_length path mode (measured mode file) a)
   sending_served path file mode options (Err refusal) come there e = refused (accept_reply refusal)
   sending_served path file mode options (Ok agreed) come there e =
@@ -212,13 +221,13 @@ module _ (strangers : Bool) (w v : WorldState) (from : Endpoint) (bytes : List �
       (subst (λ (g : List ℕ). Opens w (sending_end w from bytes mode path g agreed) report v) same o.2))
       (λ f. refused FileTooLarge)
 
-  reading_served : (path : List ℕ) (mode : Mode) (options : List RawOption) (there : Option (List ℕ)) → WasAsked ok.messages from false mode →
+  reading_served : (path : List ℕ) (mode : Mode) (options : List RawOption) (there : Option (List ℕ)) → WasAsked ok.messages w.ends from bytes false mode →
       file_at w.files path ≡ there → Kept_by (by_file w.limits path mode options (opened_of mode there))
   reading_served path mode options None come e = refused FileNotFound
   reading_served path mode options (Some file) come e = sending_served path file mode options (answer options kinds.Read mode (measured mode file) w.limits) come e refl
 
   -- a write with the server's answer to its options
-  taking_served : (path : List ℕ) (mode : Mode) (options : List RawOption) (there : Option (List ℕ)) (agreed : List Known) → WasAsked ok.messages from true mode →
+  taking_served : (path : List ℕ) (mode : Mode) (options : List RawOption) (there : Option (List ℕ)) (agreed : List Known) → WasAsked ok.messages w.ends from bytes true mode →
       answer options kinds.Write mode 0 w.limits ≡ Ok agreed → Kept_by (by_draft path mode agreed (begun_of there))
   taking_served path mode options None agreed come e =
       subst (λ (n : Mode). Opens w (receiving_end w from bytes n path agreed) report v → IsOk strangers v) come.1
@@ -230,7 +239,7 @@ module _ (strangers : Bool) (w v : WorldState) (from : Endpoint) (bytes : List �
   abbrev Kept_asking : Ask → Type 0
   Kept_asking ask = Kept_by (served w ask)
 
-  writing_served : (path : List ℕ) (mode : Mode) (options : List RawOption) (a : Result (List Known) Refusal) → WasAsked ok.messages from true mode →
+  writing_served : (path : List ℕ) (mode : Mode) (options : List RawOption) (a : Result (List Known) Refusal) → WasAsked ok.messages w.ends from bytes true mode →
       answer options kinds.Write mode 0 w.limits ≡ a → Kept_asking (by_options path mode a)
   writing_served path mode options (Err refusal) come e = refused (accept_reply refusal)
   writing_served path mode options (Ok agreed) come e = taking_served path mode options (in_the_way w.overwrite (file_at w.files path)) agreed come e
@@ -241,25 +250,25 @@ module _ (strangers : Bool) (w v : WorldState) (from : Endpoint) (bytes : List �
   named_served next each (Ok path) =
       if_served Kept_asking (nat_le w.cap (open_transfers w.ends)) (Refuses ServerBusy) (next path) (λ b. refused ServerBusy) (λ b. each path)
 
-  unless_repeated : (repeated : Bool) (ask : Ask) → Kept_asking ask → Kept_asking (by_repeat repeated ask)
-  unless_repeated repeated ask kept = if_served Kept_asking repeated Ignores ask (λ b h. stays_ok strangers w v report ok h) (λ b. kept)
+  unless_repeated : (repeated : Bool) (ask : Ask) → (repeated ≡ false → Kept_asking ask) → Kept_asking (by_repeat repeated ask)
+  unless_repeated repeated ask kept = if_served Kept_asking repeated Ignores ask (λ b h. stays_ok strangers w v report ok h) kept
 
-  by_request : (repeated : Bool) (decoded : Option WirePacket) → ((write : Bool) (r : Request) → decoded ≡ Some (request_packet write r) → WasAsked ok.messages from write r.mode) → Kept_asking (by_packet w.cap (open_transfers w.ends) repeated w.limits decoded)
+  by_request : (repeated : Bool) (decoded : Option WirePacket) → AsksSo ok.messages w.ends from bytes repeated decoded → Kept_asking (by_packet w.cap (open_transfers w.ends) repeated w.limits decoded)
   by_request repeated None come = refused IllegalOperation
   by_request repeated (Some (Read r)) come =
       unless_repeated repeated (by_name w.cap (open_transfers w.ends) (λ path. Reads path r.mode r.options) (path_of_name r.name))
-      (named_served (λ path. Reads path r.mode r.options) (λ path. reading_served path r.mode r.options (file_at w.files path) (come false r refl) refl) (path_of_name r.name))
+      (λ new. named_served (λ path. Reads path r.mode r.options) (λ path. reading_served path r.mode r.options (file_at w.files path) (come false r refl new) refl) (path_of_name r.name))
   by_request repeated (Some (Write r)) come =
       unless_repeated repeated (by_name w.cap (open_transfers w.ends) (λ path. by_options path r.mode (answer r.options kinds.Write r.mode 0 w.limits)) (path_of_name r.name))
-      (named_served (λ path. by_options path r.mode (answer r.options kinds.Write r.mode 0 w.limits))
-      (λ path. writing_served path r.mode r.options (answer r.options kinds.Write r.mode 0 w.limits) (come true r refl) refl) (path_of_name r.name))
+      (λ new. named_served (λ path. by_options path r.mode (answer r.options kinds.Write r.mode 0 w.limits))
+      (λ path. writing_served path r.mode r.options (answer r.options kinds.Write r.mode 0 w.limits) (come true r refl new) refl) (path_of_name r.name))
   by_request repeated (Some (Data number bytes)) come = refused IllegalOperation
   by_request repeated (Some (Ack number)) come = refused IllegalOperation
   by_request repeated (Some (Error code text)) come = refused IllegalOperation
   by_request repeated (Some (Oack options)) come = refused IllegalOperation
 
   -- the request port keeps the world
-  pub serving_keeps : (repeated : Bool) (decoded : Option WirePacket) → ((write : Bool) (r : Request) → decoded ≡ Some (request_packet write r) → WasAsked ok.messages from write r.mode) → Kept_by (service w repeated bytes decoded)
+  pub serving_keeps : (repeated : Bool) (decoded : Option WirePacket) → AsksSo ok.messages w.ends from bytes repeated decoded → Kept_by (service w repeated bytes decoded)
   serving_keeps repeated decoded come =
       if_served Kept_asking (has_error_opcode bytes) Ignores (by_packet w.cap (open_transfers w.ends) repeated w.limits decoded)
       (λ b h. stays_ok strangers w v report ok h)

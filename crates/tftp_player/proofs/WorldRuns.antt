@@ -90,7 +90,7 @@ module _ (strangers : Bool) (w v : WorldState) (ok : IsOk strangers w) (report :
   arrives_keeps from to bytes come (At_request_port here port decoded says repeated same served) =
       let spelled = says_spelled bytes decoded says in
       serving_keeps strangers w v from bytes report ok repeated decoded
-      (asked_so ok.messages from decoded (λ p e. subst (λ (a : Endpoint). Contains ok.messages (message from a (said p))) here (come p (spelled p e)))) served
+      (asked_so ok.messages w.ends from bytes repeated decoded (λ p e. subst (λ (a : Endpoint). Contains ok.messages (message from a (said p))) here (come p (spelled p e))) spelled same) served
   arrives_keeps from to bytes come (At_open_end k x at here h) =
       datagram_keeps k x from bytes at (λ p s. subst (λ (a : Endpoint). Contains ok.messages (message from a (said p))) (sym here) (come p s)) h
   arrives_keeps from to bytes come (At_closed_end k x at here s) = stays_ok strangers w v report ok s

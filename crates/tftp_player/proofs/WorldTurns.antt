@@ -1,5 +1,5 @@
 -- A turn of an end, an opening and an ERROR keep a world.
-use Rattle.std.proofs.Common.{◌≡◌, ℕ, Bool, true, false, List, [], ◌∷◌, ◌++◌, map, set, Option, Some, None, sym, refl, ap, ◌∙◌, subst, arith, inl, inr}
+use Rattle.std.proofs.Common.{◌≡◌, ℕ, Bool, true, false, List, [], ◌∷◌, ◌++◌, map, Option, Some, None, sym, refl, ap, ◌∙◌, subst, arith, inl, inr}
 use Rattle.std.specs.Prelude.{◌≢◌, ◌⊎◌, ◌&&◌, not, slice_get, option_map}
 use Rattle.std.specs.List.{Contains}
 use Rattle.std.proofs.lemmas.Bool.{true≢false}
@@ -13,11 +13,13 @@ use Rattle.tftp_file.specs.declared.files.Files.TheVariants.{Source, Sink}
 use Rattle.tftp_file.specs.Sink.{Holding}
 use Rattle.tftp_ends.specs.End.{is_sender, is_client, is_complete, outcome_of}
 use Rattle.tftp_ends.specs.Step.{Turn, Reply, after_turn}
-use Rattle.tftp_machine.specs.Machine.{Endpoint, Elsewhere, host_of, Message}
+use Rattle.tftp_machine.specs.Machine.{Endpoint, Elsewhere, host_of, Message, Machine}
 use Rattle.tftp_machine.specs.Rules.{message}
 use Rattle.tftp_player.specs.Said.{said}
-use Rattle.tftp_machine.specs.Facts.{home}
-use Rattle.tftp_machine.specs.Shows.{EndView, IsShown}
+use Rattle.tftp_machine.specs.Facts.{home, Holds}
+use Rattle.tftp_machine.specs.Recorded.{AreRecorded}
+use Rattle.tftp_machine.specs.Shows.{EndView, Shows, IsShown}
+use Rattle.tftp_machine.proofs.Shown.{shown_by}
 use Rattle.tftp_player.specs.World.{WorldState, OpenEnd, WorldEnd, Open_end, Closed_end, end_address, end_path, end_stored, StoredFile, file_at, in_the_way, datagram, replied, standing, end_after, with_files, has_committed, world_after, opened_in, said_in, view_of_end}
 use Rattle.tftp_player.specs.WorldSteps.{FilesAfter, Turns, Opens}
 use Rattle.tftp_player.specs.WorldKept.{EndKept, IsOpenIn, StandsIn, IsKeptIn, SaysSo, MaySpeak, IsOk}
@@ -25,7 +27,7 @@ use Rattle.tftp_player.specs.declared.datagram.Datagram.{Datagram}
 use Rattle.tftp_player.specs.declared.report.Report.{Report}
 use Rattle.tftp_machine.proofs.Places.{slice_get-set_cases, slice_get-push_cases}
 use Rattle.tftp_player.proofs.EndMoves.{Goes, Replies, Newest}
-use Rattle.tftp_player.proofs.Standing.{standing_view, standing_kept}
+use Rattle.tftp_player.proofs.Standing.{standing_shown, standing_kept}
 
 pub nothing_in : {X : Type 0} (x : X) → Contains [] x → ⊥
 nothing_in x h = let l = h.1 in omega arith
@@ -74,12 +76,17 @@ home_not_elsewhere false e = cc
 pub view_at : (ends : List WorldEnd) (k : ℕ) (x : WorldEnd) → slice_get ends k ≡ Some x → slice_get (map view_of_end ends) k ≡ Some (view_of_end x)
 view_at ends k x e = slice_get-map view_of_end ends k ∙ ap (option_map view_of_end) e
 
+-- a machine that keeps its facts shows a world that is kept
+pub world_machine : (strangers : Bool) (w : WorldState) (ok : IsOk strangers w) → (m : Machine) × Holds m × AreRecorded m × Shows (map view_of_end w.ends) ok.messages m
+world_machine strangers w ok = shown_by (map view_of_end w.ends) ok.messages ok.shown
+
 -- each end is at one of the two hosts
 pub at_home : (strangers : Bool) (w : WorldState) → IsOk strangers w → (k : ℕ) (x : WorldEnd) → slice_get w.ends k ≡ Some x → host_of (end_address x) ≢ Elsewhere
 at_home strangers w ok k x e f =
-    let there = (ok.shown.3.ends k (view_of_end x) (view_at w.ends k x e)).0 in
-    let h = (ok.shown.1.ends (end_address x) there.is_open).at_home in
-    home_not_elsewhere (ok.shown.0.party (end_address x)).client (sym h ∙ f)
+    let by = world_machine strangers w ok in
+    let there = (by.3.ends k (view_of_end x) (view_at w.ends k x e)).0 in
+    let h = (by.1.ends (end_address x) there.is_open).at_home in
+    home_not_elsewhere (by.0.party (end_address x)).client (sym h ∙ f)
 
 same_place : (x : OpenEnd) (held : Files (List ℕ) Holding) → ((with_files x held).address ≡ x.address) × ((with_files x held).path ≡ x.path) × ((with_files x held).state ≡ x.state)
 same_place x (Source left) = (refl, refl, refl)
@@ -188,7 +195,8 @@ turn_keeps strangers w v ok k x turn held report at g t = subst (λ (z : WorldSt
       let own = at_home strangers w ok k (Open_end x) at in
       record {
         messages = ok.messages ++ g.said_now;
-        shown = subst (λ (vs : List EndView). IsShown vs (ok.messages ++ g.said_now)) (sym (map-set view_of_end w.ends k (standing y) ∙ ap (set (map view_of_end w.ends) k) (standing_view y))) g.shown;
+        shown = subst (λ (vs : List EndView). IsShown vs (ok.messages ++ g.said_now)) (sym (map-set view_of_end w.ends k (standing y)))
+            (standing_shown (map view_of_end w.ends) (ok.messages ++ g.said_now) k (view_of_end (Open_end x)) y (view_at w.ends k (Open_end x) at) g.shown);
         sent = sent_then strangers w ok x.address own turn.reply g.said_now g.replies;
         only = only_then strangers w ok x.address own turn.reply g.said_now g.replies;
         speakers = speakers_then strangers w ok x.address own turn.reply g.said_now g.replies;

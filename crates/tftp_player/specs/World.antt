@@ -267,6 +267,11 @@ abbrev pub end_text : WorldEnd → List ℕ
 end_text (Open_end x) = text_of x
 end_text (Closed_end x) = closed_text x
 
+-- the datagram that asked for an open end of the server
+abbrev pub end_request : WorldEnd → List ℕ
+end_request (Open_end x) = x.request
+end_request (Closed_end x) = []
+
 -- the endpoint of the other end
 abbrev pub peer_of : Phase → Option Endpoint
 peer_of phase = option_map (λ t. t.peer) (terms_of phase)
@@ -285,4 +290,5 @@ view_of_end x =
       done = (end_record x).complete;
       failed = is_closed x && not (end_record x).complete;
       text = end_text x;
+      request = end_request x;
     }
