@@ -1,31 +1,31 @@
--- How what a world shows is kept: by the rules of one end, by an end that opens, by a datagram.
+-- How what a world shows is kept, by more rules: those of one end, an opening, a datagram.
 use Rattle.std.specs.Prelude.{◌≡◌, ℕ, ◌+◌, false, List, [], ◌∷◌, ◌++◌, length, slice_get, slice_set, Some}
 use Rattle.tftp_machine.specs.Machine.{Message, nobody}
 use Rattle.tftp_machine.specs.Rules.{Rule, actor, MayAct, packets, party_after}
-use Rattle.tftp_machine.specs.Shows.{EndView, party_of, Matches, IsShown, ActInTurn, party_then, sent_by, Opens, Speaks, AsksAnew}
+use Rattle.tftp_machine.specs.Shows.{EndView, party_of, Matches, IsShownAfter, ActInTurn, party_then, sent_by, Opens, Speaks, AsksAnew}
 
 -- how one end handles a datagram or a timeout is shown again, if rules of that end give it that
 -- may act one after another by what is told of it and by what was sent
 abbrev pub EndsGoOn : Type 0
 EndsGoOn =
-    (views : List EndView) (messages : List Message) (k : ℕ) (e f : EndView) (rules : List Rule) →
-    IsShown views messages → slice_get views k ≡ Some e → e.failed ≡ false →
+    (first : List Rule) (views : List EndView) (messages : List Message) (k : ℕ) (e f : EndView) (rules : List Rule) →
+    IsShownAfter first views messages → slice_get views k ≡ Some e → e.failed ≡ false →
     ActInTurn rules e.address messages (party_of e) →
     f.address ≡ e.address → f.request ≡ e.request → Matches f (party_then rules (party_of e)) →
-    IsShown (slice_set views k f) (messages ++ sent_by rules (party_of e))
+    IsShownAfter first (slice_set views k f) (messages ++ sent_by rules (party_of e))
 
 -- an end that a rule opens at the next port is shown, where no open end answers its request already
 abbrev pub EndsOpen : Type 0
 EndsOpen =
-    (views : List EndView) (messages : List Message) (f : EndView) (rule : Rule) →
-    IsShown views messages → Opens rule → MayAct rule messages nobody →
+    (first : List Rule) (views : List EndView) (messages : List Message) (f : EndView) (rule : Rule) →
+    IsShownAfter first views messages → Opens rule → MayAct rule messages nobody →
     f.address ≡ actor rule → f.address.port ≡ 1024 + length views →
     Matches f (party_after rule nobody) → AsksAnew rule f.request views →
-    IsShown (views ++ f ∷ []) (messages ++ packets rule nobody)
+    IsShownAfter first (views ++ f ∷ []) (messages ++ packets rule nobody)
 
 -- a datagram that changes no end is shown
 abbrev pub DatagramsAreAdded : Type 0
 DatagramsAreAdded =
-    (views : List EndView) (messages : List Message) (rule : Rule) →
-    IsShown views messages → Speaks rule → MayAct rule messages nobody →
-    IsShown views (messages ++ packets rule nobody)
+    (first : List Rule) (views : List EndView) (messages : List Message) (rule : Rule) →
+    IsShownAfter first views messages → Speaks rule → MayAct rule messages nobody →
+    IsShownAfter first views (messages ++ packets rule nobody)

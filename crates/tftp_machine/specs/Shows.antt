@@ -102,9 +102,14 @@ pub record Shows (views : List EndView) (messages : List Message) (m : Machine) 
   pub only : (a : Endpoint) → (m.party a).is_open ≡ true →
       (k : ℕ) × (e : EndView) × (slice_get views k ≡ Some e) × (e.address ≡ a)
 
+-- they are those of the machine after a legal list of rules from the start, of which these are the first
+abbrev pub IsShownAfter : List Rule → List EndView → List Message → Type 0
+IsShownAfter first views messages =
+    (more : List Rule) × IsLegal (first ++ more) start × Shows views messages (run (first ++ more) start)
+
 -- they are those of the machine after a legal list of rules from the start
 abbrev pub IsShown : List EndView → List Message → Type 0
-IsShown views messages = (rules : List Rule) × IsLegal rules start × Shows views messages (run rules start)
+IsShown views messages = IsShownAfter [] views messages
 
 -- the rules may act one after another at this endpoint, where x is the end, by what was sent before
 abbrev pub ActInTurn : List Rule → Endpoint → List Message → Party → Type 0
