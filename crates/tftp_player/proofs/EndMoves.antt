@@ -25,9 +25,9 @@ use Rattle.tftp_ends.specs.End.{is_sender, terms_of, is_complete, outcome_of}
 use Rattle.tftp_ends.specs.ErrorReply.{code_of, text_of, error_packet}
 use Rattle.tftp_ends.specs.Step.{Turn, Reply, response_turn, after, with_position}
 use Rattle.tftp_machine.specs.Machine.{Endpoint, Error, Message}
-use Rattle.tftp_machine.specs.Rules.{Says_error, Repeats, message}
+use Rattle.tftp_machine.specs.Rules.{Rule, Says_error, Repeats, message}
 use Rattle.tftp_player.specs.Said.{said}
-use Rattle.tftp_machine.specs.Shows.{EndView, IsShown}
+use Rattle.tftp_machine.specs.Shows.{EndView, IsShownAfter}
 use Rattle.tftp_player.specs.World.{OpenEnd, files_of, holding_of, with_files, in_state, end_after, goes_on, text_of as text_of_end}
 use Rattle.tftp_player.specs.WorldKept.{EndKept, PhaseKept}
 use Rattle.tftp_player.proofs.Actions.{Stands, goes, closes, refuses}
@@ -117,9 +117,9 @@ abbrev pub IsThere : List Message → Endpoint → Endpoint → List ℕ → Typ
 IsThere messages from to bytes = (p : WirePacket) × Spells p bytes × Contains messages (message from to (said p))
 
 -- a turn of the end x at place k, after which it is y, is shown again
-pub record Goes (views : List EndView) (messages : List Message) (k : ℕ) (x : OpenEnd) (turn : Turn) (y : OpenEnd) : Type 0 where
+pub record Goes (first : List Rule) (views : List EndView) (messages : List Message) (k : ℕ) (x : OpenEnd) (turn : Turn) (y : OpenEnd) : Type 0 where
   pub said_now : List Message
-  pub shown : IsShown (set views k (open_view y)) (messages ++ said_now)
+  pub shown : IsShownAfter first (set views k (open_view y)) (messages ++ said_now)
   pub replies : Replies x.address turn.reply said_now
   pub kept : EndKept y
   pub side : y.state.role.side ≡ x.state.role.side
@@ -138,15 +138,15 @@ same_files true x = refl
 same_files false x = refl
 
 -- a response, which touches no file
-pub from_response : (views : List EndView) (messages : List Message) (k : ℕ) (x : OpenEnd) (response : Response) (from : Endpoint) (turn : Turn) (held : Files (List ℕ) Holding) →
-    Goes views messages k x (response_turn response from x.state) (in_state (with_position (after response from x.state) x.state) x) →
-    (turn ≡ response_turn response from x.state) × (held ≡ files_of x) → Goes views messages k x turn (end_after x turn held)
-from_response views messages k x response from turn held g h =
+pub from_response : (first : List Rule) (views : List EndView) (messages : List Message) (k : ℕ) (x : OpenEnd) (response : Response) (from : Endpoint) (turn : Turn) (held : Files (List ℕ) Holding) →
+    Goes first views messages k x (response_turn response from x.state) (in_state (with_position (after response from x.state) x.state) x) →
+    (turn ≡ response_turn response from x.state) × (held ≡ files_of x) → Goes first views messages k x turn (end_after x turn held)
+from_response first views messages k x response from turn held g h =
     let y = in_state (with_position (after response from x.state) x.state) x in
     let same : with_files y (files_of x) ≡ y = same_files (is_sender x.state.role.side) y in
-    subst (λ (t : Turn). Goes views messages k x t (end_after x t held)) (sym h.0)
-    (subst (λ (f : Files (List ℕ) Holding). Goes views messages k x (response_turn response from x.state) (with_files y f)) (sym h.1)
-    (subst (λ (z : OpenEnd). Goes views messages k x (response_turn response from x.state) z) (sym same) g))
+    subst (λ (t : Turn). Goes first views messages k x t (end_after x t held)) (sym h.0)
+    (subst (λ (f : Files (List ℕ) Holding). Goes first views messages k x (response_turn response from x.state) (with_files y f)) (sym h.1)
+    (subst (λ (z : OpenEnd). Goes first views messages k x (response_turn response from x.state) z) (sym same) g))
 
 text_cut : (b g : Bool) (f w h : List ℕ) → IsBeginningOf (if b then f else w) (if b then f else if g then w ++ h else w)
 text_cut true g f w h = ([], append-nil f)
@@ -186,12 +186,12 @@ going_live (Receiving terms number) e = (refl, refl)
 going_live (Dallying terms number dally) e = absurd (true≢false (sym e))
 going_live (Closed terms number complete outcome) e = absurd (true≢false (sym e))
 
-module _ (views : List EndView) (messages : List Message) (k : ℕ) (x : OpenEnd) (s : Stands views messages k (open_view x)) (kept : EndKept x) where
+module _ (first : List Rule) (views : List EndView) (messages : List Message) (k : ℕ) (x : OpenEnd) (s : Stands first views messages k (open_view x)) (kept : EndKept x) where
   -- nothing changes
-  pub ignores : (from : Endpoint) → is_some (outcome_of x.state.position.phase) ≡ false → Goes views messages k x (response_turn Ignore from x.state) x
+  pub ignores : (from : Endpoint) → is_some (outcome_of x.state.position.phase) ≡ false → Goes first views messages k x (response_turn Ignore from x.state) x
   ignores from o = record {
     said_now = [];
-    shown = goes views messages k (open_view x) s [] (open_live x.state.position.phase o) tt;
+    shown = goes first views messages k (open_view x) s [] (open_live x.state.position.phase o) tt;
     replies = refl;
     kept = kept;
     side = refl;
@@ -200,10 +200,10 @@ module _ (views : List EndView) (messages : List Message) (k : ℕ) (x : OpenEnd
   }
 
   -- a stranger is told so
-  pub tells_stranger : (from : Endpoint) → is_some (outcome_of x.state.position.phase) ≡ false → Goes views messages k x (response_turn Stranger from x.state) x
+  pub tells_stranger : (from : Endpoint) → is_some (outcome_of x.state.position.phase) ≡ false → Goes first views messages k x (response_turn Stranger from x.state) x
   tells_stranger from o = record {
     said_now = message x.address from Error ∷ [];
-    shown = goes views messages k (open_view x) s (Says_error x.address from ∷ []) (open_live x.state.position.phase o) (refl, tt, tt);
+    shown = goes first views messages k (open_view x) s (Says_error x.address from ∷ []) (open_live x.state.position.phase o) (refl, tt, tt);
     replies = error_says UnknownTransferId x.address from;
     kept = kept;
     side = refl;
@@ -213,11 +213,11 @@ module _ (views : List EndView) (messages : List Message) (k : ℕ) (x : OpenEnd
 
   -- the last datagram sent goes out again
   pub answers_again : (from : Endpoint) → is_some (outcome_of x.state.position.phase) ≡ false → from ≡ x.state.position.last_sent_to →
-      IsThere messages x.address x.state.position.last_sent_to x.state.position.last_sent → Goes views messages k x (response_turn ResendReply from x.state) x
+      IsThere messages x.address x.state.position.last_sent_to x.state.position.last_sent → Goes first views messages k x (response_turn ResendReply from x.state) x
   answers_again from o same old =
       let m = message x.address from (said old.0) in record {
         said_now = m ∷ [];
-        shown = goes views messages k (open_view x) s (Repeats m ∷ []) (open_live x.state.position.phase o)
+        shown = goes first views messages k (open_view x) s (Repeats m ∷ []) (open_live x.state.position.phase o)
             (refl, subst (λ (to : Endpoint). Contains messages (message x.address to (said old.0))) (sym same) old.2, tt);
         replies = (old.0, old.1, refl);
         kept = kept;
@@ -229,11 +229,11 @@ module _ (views : List EndView) (messages : List Message) (k : ℕ) (x : OpenEnd
   -- a timeout: the last datagram sent goes out again, for one retry
   pub retries : (from : Endpoint) → is_some (outcome_of x.state.position.phase) ≡ false →
       IsThere messages x.address x.state.position.last_sent_to x.state.position.last_sent →
-      Goes views messages k x (response_turn Retransmit from x.state) (in_state (with_position (after Retransmit from x.state) x.state) x)
+      Goes first views messages k x (response_turn Retransmit from x.state) (in_state (with_position (after Retransmit from x.state) x.state) x)
   retries from o old =
       let m = message x.address x.state.position.last_sent_to (said old.0) in record {
         said_now = m ∷ [];
-        shown = goes views messages k (open_view x) s (Repeats m ∷ []) (open_live x.state.position.phase o) (refl, old.2, tt);
+        shown = goes first views messages k (open_view x) s (Repeats m ∷ []) (open_live x.state.position.phase o) (refl, old.2, tt);
         replies = (old.0, old.1, refl);
         kept = record { phase = phase_retries x.state.position.phase x (x.state.position.retries_left - 1) kept.phase; held = kept.held; committed = kept.committed };
         side = refl;
@@ -248,19 +248,19 @@ module _ (views : List EndView) (messages : List Message) (k : ℕ) (x : OpenEnd
 
   -- it gives up in silence
   pub gives_up : (outcome : Outcome) (from : Endpoint) → goes_on x.state.position.phase ≡ true →
-      Goes views messages k x (response_turn (Close outcome) from x.state) (in_state (with_position (after (Close outcome) from x.state) x.state) x)
+      Goes first views messages k x (response_turn (Close outcome) from x.state) (in_state (with_position (after (Close outcome) from x.state) x.state) x)
   gives_up outcome from going =
       let y = in_state (with_position (after (Close outcome) from x.state) x.state) x in
       let live = going_live x.state.position.phase going in
       let b = is_sender x.state.role.side in
       let f = wire_text x.state.role.mode x.file in
       let w = wire_text x.state.role.mode x.stored in
-      let shown_now = closes views messages k (open_view x) s (text_of_end y) live (text_cut b (goes_on x.state.position.phase) f w x.state.position.held)
+      let shown_now = closes first views messages k (open_view x) s (text_of_end y) live (text_cut b (goes_on x.state.position.phase) f w x.state.position.held)
       (text_sent b (goes_on x.state.position.phase) f w x.state.position.held) in
       record {
         said_now = [];
-        shown = subst (λ (ms : List Message). IsShown (set views k (open_view y)) ms) (sym (append-nil messages))
-            (subst (λ (v : EndView). IsShown (set views k v) messages)
+        shown = subst (λ (ms : List Message). IsShownAfter first (set views k (open_view y)) ms) (sym (append-nil messages))
+            (subst (λ (v : EndView). IsShownAfter first (set views k v) messages)
             (failed_view (open_view x) (text_of_end y) (is_complete x.state.position.phase) (open_view x).peer (open_view x).size live.0) shown_now);
         replies = refl;
         kept = closed_kept (terms_of x.state.position.phase) outcome;
@@ -271,18 +271,18 @@ module _ (views : List EndView) (messages : List Message) (k : ℕ) (x : OpenEnd
 
   -- it gives up, and says so
   pub refuses_now : (reply : ErrorReply) (outcome : Outcome) (from : Endpoint) → goes_on x.state.position.phase ≡ true →
-      Goes views messages k x (response_turn (Refuse (terms_of x.state.position.phase) reply outcome) from x.state) (in_state (with_position (after (Refuse (terms_of x.state.position.phase) reply outcome) from x.state) x.state) x)
+      Goes first views messages k x (response_turn (Refuse (terms_of x.state.position.phase) reply outcome) from x.state) (in_state (with_position (after (Refuse (terms_of x.state.position.phase) reply outcome) from x.state) x.state) x)
   refuses_now reply outcome from going =
       let y = in_state (with_position (after (Refuse (terms_of x.state.position.phase) reply outcome) from x.state) x.state) x in
       let live = going_live x.state.position.phase going in
       let b = is_sender x.state.role.side in
       let f = wire_text x.state.role.mode x.file in
       let w = wire_text x.state.role.mode x.stored in
-      let shown_now = refuses views messages k (open_view x) s from (text_of_end y) live (text_cut b (goes_on x.state.position.phase) f w x.state.position.held)
+      let shown_now = refuses first views messages k (open_view x) s from (text_of_end y) live (text_cut b (goes_on x.state.position.phase) f w x.state.position.held)
       (text_sent b (goes_on x.state.position.phase) f w x.state.position.held) in
       record {
         said_now = message x.address from Error ∷ [];
-        shown = subst (λ (v : EndView). IsShown (set views k v) (messages ++ message x.address from Error ∷ []))
+        shown = subst (λ (v : EndView). IsShownAfter first (set views k v) (messages ++ message x.address from Error ∷ []))
             (failed_view (open_view x) (text_of_end y) (is_complete x.state.position.phase) (open_view x).peer (open_view x).size live.0) shown_now;
         replies = error_says reply x.address from;
         kept = closed_kept (terms_of x.state.position.phase) outcome;

@@ -30,9 +30,9 @@ use Rattle.tftp_ends.specs.Sender.{sender_action, acked_action, illegal_action}
 use Rattle.tftp_ends.specs.Step.{Turn, Acts, StoresIn}
 use Rattle.tftp_ends.specs.Text.{is_readable}
 use Rattle.tftp_machine.specs.Machine.{Endpoint, Data as Says_data, Ack as Says_ack, Message}
-use Rattle.tftp_machine.specs.Rules.{message}
+use Rattle.tftp_machine.specs.Rules.{Rule, message}
 use Rattle.tftp_player.specs.Said.{said}
-use Rattle.tftp_machine.specs.Shows.{EndView, IsShown}
+use Rattle.tftp_machine.specs.Shows.{EndView, IsShownAfter}
 use Rattle.tftp_player.specs.World.{OpenEnd, files_of, end_after, text_of as text_of_end}
 use Rattle.tftp_player.specs.WorldSteps.{world_sink}
 use Rattle.tftp_player.specs.WorldKept.{EndKept, sent_text}
@@ -66,42 +66,42 @@ same_endpoints a b e =
     endpoint_from a b (same_ips a b h.0) (eqb-true a.port b.port h.1)
 
 -- whatever comes of an action is shown again
-abbrev pub Acting : List EndView → List Message → ℕ → OpenEnd → (Holding → StoreFault → Type 0) → Endpoint → List ℕ → Action → Type 0
-Acting views messages k x refuses_commit from bytes action =
+abbrev pub Acting : List Rule → List EndView → List Message → ℕ → OpenEnd → (Holding → StoreFault → Type 0) → Endpoint → List ℕ → Action → Type 0
+Acting first views messages k x refuses_commit from bytes action =
     (turn : Turn) (held : Files (List ℕ) Holding) →
     Acts memory_source (world_sink refuses_commit) action from bytes x.state (files_of x) turn held →
-    Goes views messages k x turn (end_after x turn held)
+    Goes first views messages k x turn (end_after x turn held)
 
 -- the packet that was handled was sent
 abbrev pub OfDecoded : List Message → Endpoint → OpenEnd → Option WirePacket → Type 0
 OfDecoded messages from x decoded = (p : WirePacket) → decoded ≡ Some p → Contains messages (message from x.address (said p))
 
-module _ (views : List EndView) (messages : List Message) (k : ℕ) (x : OpenEnd) (s : Stands views messages k (open_view x)) (kept : EndKept x)
+module _ (first : List Rule) (views : List EndView) (messages : List Message) (k : ℕ) (x : OpenEnd) (s : Stands first views messages k (open_view x)) (kept : EndKept x)
     (refuses_commit : Holding → StoreFault → Type 0) (from : Endpoint) (bytes : List ℕ) (open_now : is_some (outcome_of x.state.position.phase) ≡ false) where
-  pub ignore_acts : Acting views messages k x refuses_commit from bytes (Respond Ignore)
-  ignore_acts turn held h = from_response views messages k x Ignore from turn held (ignores views messages k x s kept from open_now) h
+  pub ignore_acts : Acting first views messages k x refuses_commit from bytes (Respond Ignore)
+  ignore_acts turn held h = from_response first views messages k x Ignore from turn held (ignores first views messages k x s kept from open_now) h
 
-  pub stranger_acts : Acting views messages k x refuses_commit from bytes (Respond Stranger)
-  stranger_acts turn held h = from_response views messages k x Stranger from turn held (tells_stranger views messages k x s kept from open_now) h
+  pub stranger_acts : Acting first views messages k x refuses_commit from bytes (Respond Stranger)
+  stranger_acts turn held h = from_response first views messages k x Stranger from turn held (tells_stranger first views messages k x s kept from open_now) h
 
-  pub again_acts : from ≡ x.state.position.last_sent_to → IsThere messages x.address x.state.position.last_sent_to x.state.position.last_sent → Acting views messages k x refuses_commit from bytes (Respond ResendReply)
-  again_acts same old turn held h = from_response views messages k x ResendReply from turn held (answers_again views messages k x s kept from open_now same old) h
+  pub again_acts : from ≡ x.state.position.last_sent_to → IsThere messages x.address x.state.position.last_sent_to x.state.position.last_sent → Acting first views messages k x refuses_commit from bytes (Respond ResendReply)
+  again_acts same old turn held h = from_response first views messages k x ResendReply from turn held (answers_again first views messages k x s kept from open_now same old) h
 
-module _ (views : List EndView) (messages : List Message) (k : ℕ) (x0 : OpenEnd) (terms : Terms) (n : ℕ)
-    (s : Stands views messages k (open_view (placed (Sending terms n) x0))) (kept : EndKept (placed (Sending terms n) x0))
+module _ (first : List Rule) (views : List EndView) (messages : List Message) (k : ℕ) (x0 : OpenEnd) (terms : Terms) (n : ℕ)
+    (s : Stands first views messages k (open_view (placed (Sending terms n) x0))) (kept : EndKept (placed (Sending terms n) x0))
     (refuses_commit : Holding → StoreFault → Type 0) (from : Endpoint) (bytes : List ℕ) where
   abbrev sender : OpenEnd
   sender = placed (Sending terms n) x0
 
-  illegal_sender : Acting views messages k sender refuses_commit from bytes (illegal_action terms)
+  illegal_sender : Acting first views messages k sender refuses_commit from bytes (illegal_action terms)
   illegal_sender turn held h =
-      from_response views messages k sender (Refuse (Some terms) replies.IllegalOperation outcomes.Illegal) from turn held (refuses_now views messages k sender s kept replies.IllegalOperation outcomes.Illegal from refl) h
+      from_response first views messages k sender (Refuse (Some terms) replies.IllegalOperation outcomes.Illegal) from turn held (refuses_now first views messages k sender s kept replies.IllegalOperation outcomes.Illegal from refl) h
 
   -- a sender with an ACK
   acked_acts : (acked : ℕ) → terms.peer ≡ from → Contains messages (message from x0.address (Says_ack acked)) →
-      Acting views messages k sender refuses_commit from bytes (acked_action x0.state.role.length terms n acked)
+      Acting first views messages k sender refuses_commit from bytes (acked_action x0.state.role.length terms n acked)
   acked_acts acked peer come =
-      let P = Acting views messages k sender refuses_commit from bytes in
+      let P = Acting first views messages k sender refuses_commit from bytes in
       let u = kept.phase in
       let text = sent_text x0 in
       let measured : x0.state.role.length ≡ length text = u.measured in
@@ -110,52 +110,52 @@ module _ (views : List EndView) (messages : List Message) (k : ℕ) (x0 : OpenEn
       let here : Contains messages (message from x0.address (Says_ack n)) = subst (λ (m : ℕ). Contains messages (message from x0.address (Says_ack m))) (eqb-true acked n e) come in
       if_acts P (nat_lt n (x0.state.role.length / terms.size + 1)) (Send terms (n + 1)) (Respond Complete)
       (λ l. let more : n < block_count text terms.size = subst (λ (m : ℕ). n < m / terms.size + 1) measured (ltb-true n (x0.state.role.length / terms.size + 1) l) in
-      λ turn held h. data_goes views messages k sender terms n from turn held refuses_commit u.sender measured u.left
-      (sends_next views messages k x0 terms n s kept from peer here more) h)
+      λ turn held h. data_goes first views messages k sender terms n from turn held refuses_commit u.sender measured u.left
+      (sends_next first views messages k x0 terms n s kept from peer here more) h)
       (λ l. let least : block_count text terms.size ≤ n = subst (λ (m : ℕ). m / terms.size + 1 ≤ n) measured (ltb-false n (x0.state.role.length / terms.size + 1) l) in
       let most = u.so_far in
       let last : n ≡ block_count text terms.size = omega arith in
-      λ turn held h. from_response views messages k sender Complete from turn held (ends_whole views messages k x0 terms n s kept from peer here last) h))
+      λ turn held h. from_response first views messages k sender Complete from turn held (ends_whole first views messages k x0 terms n s kept from peer here last) h))
       (λ e. if_acts P (nat_lt acked n) (Respond Ignore) (illegal_action terms)
-      (λ l. ignore_acts views messages k sender s kept refuses_commit from bytes refl)
+      (λ l. ignore_acts first views messages k sender s kept refuses_commit from bytes refl)
       (λ l. illegal_sender))
 
   -- a sender with any packet
   pub sender_acts : (client : Bool) (decoded : Option WirePacket) → terms.peer ≡ from → OfDecoded messages from x0 decoded →
-      Acting views messages k sender refuses_commit from bytes (sender_action client x0.state.role.length terms n decoded)
+      Acting first views messages k sender refuses_commit from bytes (sender_action client x0.state.role.length terms n decoded)
   sender_acts client None peer come = illegal_sender
   sender_acts client (Some (Read r)) peer come = illegal_sender
   sender_acts client (Some (Write r)) peer come = illegal_sender
   sender_acts client (Some (Data number piece)) peer come = illegal_sender
   sender_acts client (Some (Ack acked)) peer come = acked_acts acked peer (come (Ack acked) refl)
   sender_acts client (Some (Error code text)) peer come =
-      λ turn held h. from_response views messages k sender (Close (outcomes.PeerError code)) from turn held (gives_up views messages k sender s kept (outcomes.PeerError code) from refl) h
+      λ turn held h. from_response first views messages k sender (Close (outcomes.PeerError code)) from turn held (gives_up first views messages k sender s kept (outcomes.PeerError code) from refl) h
   sender_acts client (Some (Oack options)) peer come =
-      if_acts (Acting views messages k sender refuses_commit from bytes) (client && terms.by_oack) (Respond Ignore) (illegal_action terms)
-      (λ e. ignore_acts views messages k sender s kept refuses_commit from bytes refl) (λ e. illegal_sender)
+      if_acts (Acting first views messages k sender refuses_commit from bytes) (client && terms.by_oack) (Respond Ignore) (illegal_action terms)
+      (λ e. ignore_acts first views messages k sender s kept refuses_commit from bytes refl) (λ e. illegal_sender)
 
-module _ (views : List EndView) (messages : List Message) (k : ℕ) (x0 : OpenEnd) (terms : Terms) (n : ℕ)
-    (s : Stands views messages k (open_view (placed (Receiving terms n) x0))) (kept : EndKept (placed (Receiving terms n) x0))
+module _ (first : List Rule) (views : List EndView) (messages : List Message) (k : ℕ) (x0 : OpenEnd) (terms : Terms) (n : ℕ)
+    (s : Stands first views messages k (open_view (placed (Receiving terms n) x0))) (kept : EndKept (placed (Receiving terms n) x0))
     (refuses_commit : Holding → StoreFault → Type 0) (from : Endpoint) (bytes : List ℕ)
     (peer : terms.peer ≡ from) (old : IsThere messages x0.address x0.state.position.last_sent_to x0.state.position.last_sent) where
   abbrev receiver : OpenEnd
   receiver = placed (Receiving terms n) x0
 
-  refuse_receiver : (reply : ErrorReply) (outcome : Outcome) → Acting views messages k receiver refuses_commit from bytes (Respond (Refuse (Some terms) reply outcome))
+  refuse_receiver : (reply : ErrorReply) (outcome : Outcome) → Acting first views messages k receiver refuses_commit from bytes (Respond (Refuse (Some terms) reply outcome))
   refuse_receiver reply outcome turn held h =
-      from_response views messages k receiver (Refuse (Some terms) reply outcome) from turn held (refuses_now views messages k receiver s kept reply outcome from refl) h
+      from_response first views messages k receiver (Refuse (Some terms) reply outcome) from turn held (refuses_now first views messages k receiver s kept reply outcome from refl) h
 
-  again_receiver : Acting views messages k receiver refuses_commit from bytes (Respond ResendReply)
-  again_receiver = again_acts views messages k receiver s kept refuses_commit from bytes refl (sym peer ∙ sym kept.phase.1) old
+  again_receiver : Acting first views messages k receiver refuses_commit from bytes (Respond ResendReply)
+  again_receiver = again_acts first views messages k receiver s kept refuses_commit from bytes refl (sym peer ∙ sym kept.phase.1) old
 
-  ignore_receiver : Acting views messages k receiver refuses_commit from bytes (Respond Ignore)
-  ignore_receiver = ignore_acts views messages k receiver s kept refuses_commit from bytes refl
+  ignore_receiver : Acting first views messages k receiver refuses_commit from bytes (Respond Ignore)
+  ignore_receiver = ignore_acts first views messages k receiver s kept refuses_commit from bytes refl
 
   -- a receiver with its next block
   next_acts : (number : ℕ) (piece : List ℕ) → number ≡ n + 1 → Spells (Data number piece) bytes → Contains messages (message from x0.address (Says_data number piece)) →
-      Acting views messages k receiver refuses_commit from bytes (next_action x0.state.role.mode x0.state.position.held terms number piece)
+      Acting first views messages k receiver refuses_commit from bytes (next_action x0.state.role.mode x0.state.position.held terms number piece)
   next_acts number piece is spelled come =
-      let P = Acting views messages k receiver refuses_commit from bytes in
+      let P = Acting first views messages k receiver refuses_commit from bytes in
       let last = nat_lt (length piece) terms.size in
       let store = if is_readable x0.state.role.mode x0.state.position.held piece last then Store terms number else Respond (Refuse (Some terms) replies.NotNetascii outcomes.NotNetascii) in
       if_acts P (nat_lt terms.size (length piece)) (illegal_action terms)
@@ -164,27 +164,27 @@ module _ (views : List EndView) (messages : List Message) (k : ℕ) (x0 : OpenEn
       (λ e.
       let l : length piece ≤ terms.size = ltb-false terms.size (length piece) e in
       let here : Contains messages (message from x0.address (Says_data (n + 1) piece)) = subst (λ (m : ℕ). Contains messages (message from x0.address (Says_data m piece))) is come in
-      let got : Receives views messages k receiver terms number from piece = record {
+      let got : Receives first views messages k receiver terms number from piece = record {
         receiver = kept.phase.0;
         going = refl;
         incomplete = refl;
         peer = sym peer;
         fits = spelled.valid.1;
-        stored = subst (λ (m : ℕ). IsShown (set views k (record (open_view receiver) { number = m; done = last; text = text_of_end receiver ++ piece })) (messages ++ message x0.address from (Says_ack m) ∷ [])) (sym is)
-            (stores views messages k (open_view receiver) s from piece (refl, refl) kept.phase.0 (ap Some peer) here l);
-        refused = λ t b. refuses_next views messages k (open_view receiver) s from piece t (refl, refl) kept.phase.0 (ap Some peer) here l b;
+        stored = subst (λ (m : ℕ). IsShownAfter first (set views k (record (open_view receiver) { number = m; done = last; text = text_of_end receiver ++ piece })) (messages ++ message x0.address from (Says_ack m) ∷ [])) (sym is)
+            (stores first views messages k (open_view receiver) s from piece (refl, refl) kept.phase.0 (ap Some peer) here l);
+        refused = λ t b. refuses_next first views messages k (open_view receiver) s from piece t (refl, refl) kept.phase.0 (ap Some peer) here l b;
       } in
       if_acts P (number == 65535 && (length piece == terms.size)) (Respond (Refuse (Some terms) replies.FileTooLarge outcomes.TooLarge)) store
       (λ f. refuse_receiver replies.FileTooLarge outcomes.TooLarge)
       (λ f. if_acts P (is_readable x0.state.role.mode x0.state.position.held piece last) (Store terms number) (Respond (Refuse (Some terms) replies.NotNetascii outcomes.NotNetascii))
-      (λ readable turn held h. block_goes views messages k receiver terms number from piece kept got readable refuses_commit turn held
+      (λ readable turn held h. block_goes first views messages k receiver terms number from piece kept got readable refuses_commit turn held
       (subst (λ (bs : List ℕ). StoresIn memory_source (world_sink refuses_commit) terms number from bs receiver.state (files_of receiver) turn held) (sym (data_of number h.0 bytes h.1) ∙ data_of number piece bytes spelled) h.2))
       (λ g. refuse_receiver replies.NotNetascii outcomes.NotNetascii)))
 
   data_acts : (number : ℕ) (piece : List ℕ) → Spells (Data number piece) bytes → Contains messages (message from x0.address (Says_data number piece)) →
-      Acting views messages k receiver refuses_commit from bytes (data_action x0.state.role.mode x0.state.position.held terms n number piece)
+      Acting first views messages k receiver refuses_commit from bytes (data_action x0.state.role.mode x0.state.position.held terms n number piece)
   data_acts number piece spelled come =
-      let P = Acting views messages k receiver refuses_commit from bytes in
+      let P = Acting first views messages k receiver refuses_commit from bytes in
       let later = if number == n + 1 then next_action x0.state.role.mode x0.state.position.held terms number piece else illegal_action terms in
       if_acts P (number == n) (Respond ResendReply) (if nat_lt number n then Respond Ignore else later)
       (λ e. again_receiver)
@@ -196,38 +196,38 @@ module _ (views : List EndView) (messages : List Message) (k : ℕ) (x0 : OpenEn
 
   -- a receiver with any packet
   pub receiver_acts : (client : Bool) (decoded : Option WirePacket) → ((p : WirePacket) → decoded ≡ Some p → Spells p bytes) → OfDecoded messages from x0 decoded →
-      Acting views messages k receiver refuses_commit from bytes (receiver_action client x0.state.role.mode x0.state.position.held terms n decoded)
+      Acting first views messages k receiver refuses_commit from bytes (receiver_action client x0.state.role.mode x0.state.position.held terms n decoded)
   receiver_acts client None spelled come = refuse_receiver replies.IllegalOperation outcomes.Illegal
   receiver_acts client (Some (Read r)) spelled come = refuse_receiver replies.IllegalOperation outcomes.Illegal
   receiver_acts client (Some (Write r)) spelled come = refuse_receiver replies.IllegalOperation outcomes.Illegal
   receiver_acts client (Some (Data number piece)) spelled come = data_acts number piece (spelled (Data number piece) refl) (come (Data number piece) refl)
   receiver_acts client (Some (Ack acked)) spelled come = refuse_receiver replies.IllegalOperation outcomes.Illegal
   receiver_acts client (Some (Error code text)) spelled come =
-      λ turn held h. from_response views messages k receiver (Close (outcomes.PeerError code)) from turn held (gives_up views messages k receiver s kept (outcomes.PeerError code) from refl) h
+      λ turn held h. from_response first views messages k receiver (Close (outcomes.PeerError code)) from turn held (gives_up first views messages k receiver s kept (outcomes.PeerError code) from refl) h
   receiver_acts client (Some (Oack options)) spelled come =
-      let P = Acting views messages k receiver refuses_commit from bytes in
+      let P = Acting first views messages k receiver refuses_commit from bytes in
       if_acts P (client && terms.by_oack) (if n == 0 then Respond ResendReply else Respond Ignore) (illegal_action terms)
       (λ e. if_acts P (n == 0) (Respond ResendReply) (Respond Ignore) (λ f. again_receiver) (λ f. ignore_receiver))
       (λ e. refuse_receiver replies.IllegalOperation outcomes.Illegal)
 
-module _ (views : List EndView) (messages : List Message) (k : ℕ) (x0 : OpenEnd) (terms : Terms) (n : ℕ) (dally : Dally)
-    (s : Stands views messages k (open_view (placed (Dallying terms n dally) x0))) (kept : EndKept (placed (Dallying terms n dally) x0))
+module _ (first : List Rule) (views : List EndView) (messages : List Message) (k : ℕ) (x0 : OpenEnd) (terms : Terms) (n : ℕ) (dally : Dally)
+    (s : Stands first views messages k (open_view (placed (Dallying terms n dally) x0))) (kept : EndKept (placed (Dallying terms n dally) x0))
     (refuses_commit : Holding → StoreFault → Type 0) (from : Endpoint) (bytes : List ℕ)
     (peer : terms.peer ≡ from) (old : IsThere messages x0.address x0.state.position.last_sent_to x0.state.position.last_sent) where
   abbrev dallier : OpenEnd
   dallier = placed (Dallying terms n dally) x0
 
-  ignore_dallier : Acting views messages k dallier refuses_commit from bytes (Respond Ignore)
-  ignore_dallier = ignore_acts views messages k dallier s kept refuses_commit from bytes refl
+  ignore_dallier : Acting first views messages k dallier refuses_commit from bytes (Respond Ignore)
+  ignore_dallier = ignore_acts first views messages k dallier s kept refuses_commit from bytes refl
 
   -- a receiver that dallies, with any packet
-  pub dally_acts : (decoded : Option WirePacket) → Acting views messages k dallier refuses_commit from bytes (Respond (dally_response n decoded))
+  pub dally_acts : (decoded : Option WirePacket) → Acting first views messages k dallier refuses_commit from bytes (Respond (dally_response n decoded))
   dally_acts None = ignore_dallier
   dally_acts (Some (Read r)) = ignore_dallier
   dally_acts (Some (Write r)) = ignore_dallier
   dally_acts (Some (Data number piece)) =
-      if_acts (λ (r : Response). Acting views messages k dallier refuses_commit from bytes (Respond r)) (number == n) ResendReply Ignore
-      (λ e. again_acts views messages k dallier s kept refuses_commit from bytes refl (sym peer ∙ sym kept.phase.1) old)
+      if_acts (λ (r : Response). Acting first views messages k dallier refuses_commit from bytes (Respond r)) (number == n) ResendReply Ignore
+      (λ e. again_acts first views messages k dallier s kept refuses_commit from bytes refl (sym peer ∙ sym kept.phase.1) old)
       (λ e. ignore_dallier)
   dally_acts (Some (Ack acked)) = ignore_dallier
   dally_acts (Some (Error code text)) = ignore_dallier

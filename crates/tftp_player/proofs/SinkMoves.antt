@@ -26,8 +26,8 @@ use Rattle.tftp_ends.specs.End.{EndState, is_sender, is_complete, number_of}
 use Rattle.tftp_ends.specs.Step.{Done, Turn, Appended, Committed, GoesOn, Stores, StoresIn, sent_turn, refused_turn, committed_turn, commit_reply, holding, ack_bytes}
 use Rattle.tftp_ends.specs.Text.{Decoded, is_readable, begins_netascii, ends_in_cr}
 use Rattle.tftp_machine.specs.Machine.{Endpoint, Ack as Says_ack, Error, Message}
-use Rattle.tftp_machine.specs.Rules.{message}
-use Rattle.tftp_machine.specs.Shows.{EndView, IsShown}
+use Rattle.tftp_machine.specs.Rules.{Rule, message}
+use Rattle.tftp_machine.specs.Shows.{EndView, IsShownAfter}
 use Rattle.tftp_player.specs.World.{OpenEnd, files_of, holding_of, end_after, goes_on, text_of as text_of_end}
 use Rattle.tftp_player.specs.WorldSteps.{may_refuse_append, world_sink}
 use Rattle.tftp_player.specs.WorldKept.{EndKept, HeldFits}
@@ -125,22 +125,22 @@ stores_in false f refuses_commit terms number from piece e left sink turn (Sink 
 stores_in false f refuses_commit terms number from piece e left sink turn (Source l) h = absurd h
 
 -- what the machine has for a receiver that was sent this block
-pub record Receives (views : List EndView) (messages : List Message) (k : ℕ) (x : OpenEnd) (terms : Terms) (number : ℕ) (from : Endpoint) (piece : List ℕ) : Type 0 where
+pub record Receives (first : List Rule) (views : List EndView) (messages : List Message) (k : ℕ) (x : OpenEnd) (terms : Terms) (number : ℕ) (from : Endpoint) (piece : List ℕ) : Type 0 where
   pub receiver : is_sender x.state.role.side ≡ false
   pub going : goes_on x.state.position.phase ≡ true
   pub incomplete : is_complete x.state.position.phase ≡ false
   pub peer : from ≡ terms.peer
   pub fits : number < 2 ^ 16
-  pub stored : IsShown (set views k (record (open_view x) { peer = Some terms.peer; size = terms.size; number = number; done = nat_lt (length piece) terms.size; text = text_of_end x ++ piece })) (messages ++ message x.address from (Says_ack number) ∷ [])
+  pub stored : IsShownAfter first (set views k (record (open_view x) { peer = Some terms.peer; size = terms.size; number = number; done = nat_lt (length piece) terms.size; text = text_of_end x ++ piece })) (messages ++ message x.address from (Says_ack number) ∷ [])
   pub refused : (t : List ℕ) → IsBeginningOf t (text_of_end x ++ piece) →
-      IsShown (set views k (record (open_view x) { peer = Some terms.peer; size = terms.size; number = number_of x.state.position.phase; failed = true; text = t })) (messages ++ message x.address from Error ∷ [])
+      IsShownAfter first (set views k (record (open_view x) { peer = Some terms.peer; size = terms.size; number = number_of x.state.position.phase; failed = true; text = t })) (messages ++ message x.address from Error ∷ [])
 
 -- the block goes on with netascii, or is octet
 abbrev pub Readable : OpenEnd → Terms → List ℕ → Type 0
 Readable x terms piece = is_readable x.state.role.mode x.state.position.held piece (nat_lt (length piece) terms.size) ≡ true
 
-module _ (views : List EndView) (messages : List Message) (k : ℕ) (x : OpenEnd) (terms : Terms) (number : ℕ) (from : Endpoint) (piece : List ℕ)
-    (kept : EndKept x) (r : Receives views messages k x terms number from piece) where
+module _ (first : List Rule) (views : List EndView) (messages : List Message) (k : ℕ) (x : OpenEnd) (terms : Terms) (number : ℕ) (from : Endpoint) (piece : List ℕ)
+    (kept : EndKept x) (r : Receives first views messages k x terms number from piece) where
   -- what it has of its peer's text
   pub told : text_of_end x ≡ wire_text x.state.role.mode x.stored ++ x.state.position.held
   told =
@@ -162,7 +162,7 @@ module _ (views : List EndView) (messages : List Message) (k : ℕ) (x : OpenEnd
   pub refused_goes : (held : List ℕ) (sink : Holding) (reply : ErrorReply) (outcome : Outcome) → HeldFits x.state.role.mode held → sink.committed ≡ false →
       IsBeginningOf (wire_text x.state.role.mode sink.bytes) (text_of_end x ++ piece) →
       let turn = refused_turn terms reply outcome from (holding held x.state) in
-      Goes views messages k x turn (end_after x turn (Sink sink))
+      Goes first views messages k x turn (end_after x turn (Sink sink))
   refused_goes held sink reply outcome fits un begins =
       let turn = refused_turn terms reply outcome from (holding held x.state) in
       let y = end_after x turn (Sink sink) in
@@ -170,7 +170,7 @@ module _ (views : List EndView) (messages : List Message) (k : ℕ) (x : OpenEnd
       let shown_now = r.refused (text_of_end y) (subst (λ (z : List ℕ). IsBeginningOf z (text_of_end x ++ piece)) (sym t) begins) in
       record {
         said_now = message x.address from Error ∷ [];
-        shown = subst (λ (b : Bool). IsShown (set views k (record (open_view y) { failed = not b })) (messages ++ message x.address from Error ∷ []))
+        shown = subst (λ (b : Bool). IsShownAfter first (set views k (record (open_view y) { failed = not b })) (messages ++ message x.address from Error ∷ []))
             (sym r.incomplete) shown_now;
         replies = error_says reply x.address from;
         kept = record { phase = tt; held = fits; committed = λ _. un ∙ sym r.incomplete };
@@ -182,11 +182,11 @@ module _ (views : List EndView) (messages : List Message) (k : ℕ) (x : OpenEnd
   -- the block is acknowledged: stored, or stored and committed
   acknowledged : (sink : Holding) (more after : List ℕ) → sink.bytes ≡ x.stored ++ more → Decoded x.state.role.mode x.state.position.held piece more after →
       (t : List ℕ) → wire_text x.state.role.mode (x.stored ++ more) ++ after ≡ t → (done : Bool) → nat_lt (length piece) terms.size ≡ done →
-      IsShown (set views k (record (open_view x) { peer = Some terms.peer; size = terms.size; number = number; done = done; text = t })) (messages ++ message x.address from (Says_ack number) ∷ [])
+      IsShownAfter first (set views k (record (open_view x) { peer = Some terms.peer; size = terms.size; number = number; done = done; text = t })) (messages ++ message x.address from (Says_ack number) ∷ [])
   acknowledged sink more after bytes d t text done last =
-      subst (λ (z : List ℕ). IsShown (set views k (record (open_view x) { peer = Some terms.peer; size = terms.size; number = number; done = done; text = z })) (messages ++ message x.address from (Says_ack number) ∷ []))
+      subst (λ (z : List ℕ). IsShownAfter first (set views k (record (open_view x) { peer = Some terms.peer; size = terms.size; number = number; done = done; text = z })) (messages ++ message x.address from (Says_ack number) ∷ []))
       (more_text more after d ∙ text)
-      (subst (λ (b : Bool). IsShown (set views k (record (open_view x) { peer = Some terms.peer; size = terms.size; number = number; done = b; text = text_of_end x ++ piece })) (messages ++ message x.address from (Says_ack number) ∷ []))
+      (subst (λ (b : Bool). IsShownAfter first (set views k (record (open_view x) { peer = Some terms.peer; size = terms.size; number = number; done = b; text = text_of_end x ++ piece })) (messages ++ message x.address from (Says_ack number) ∷ []))
       last r.stored)
 
   failed_not : has_failed x.state.position.phase ≡ false
@@ -194,14 +194,14 @@ module _ (views : List EndView) (messages : List Message) (k : ℕ) (x : OpenEnd
 
   -- it is no failure
   sound_view : (t : List ℕ) (done : Bool) (ms : List Message) →
-      IsShown (set views k (record (open_view x) { peer = Some terms.peer; size = terms.size; number = number; done = done; text = t })) ms →
-      IsShown (set views k (record (open_view x) { peer = Some terms.peer; size = terms.size; number = number; done = done; failed = false; text = t })) ms
-  sound_view t done ms h = subst (λ (b : Bool). IsShown (set views k (record (open_view x) { peer = Some terms.peer; size = terms.size; number = number; done = done; failed = b; text = t })) ms) failed_not h
+      IsShownAfter first (set views k (record (open_view x) { peer = Some terms.peer; size = terms.size; number = number; done = done; text = t })) ms →
+      IsShownAfter first (set views k (record (open_view x) { peer = Some terms.peer; size = terms.size; number = number; done = done; failed = false; text = t })) ms
+  sound_view t done ms h = subst (λ (b : Bool). IsShownAfter first (set views k (record (open_view x) { peer = Some terms.peer; size = terms.size; number = number; done = done; failed = b; text = t })) ms) failed_not h
 
   next_goes : (sink : Holding) (more after : List ℕ) → sink.bytes ≡ x.stored ++ more → sink.committed ≡ false → Decoded x.state.role.mode x.state.position.held piece more after →
       nat_lt (length piece) terms.size ≡ false →
       let turn = sent_turn (Receiving terms number) from (ack_bytes number) (holding after x.state) in
-      Goes views messages k x turn (end_after x turn (Sink sink))
+      Goes first views messages k x turn (end_after x turn (Sink sink))
   next_goes sink more after bytes un d last =
       let turn = sent_turn (Receiving terms number) from (ack_bytes number) (holding after x.state) in
       let y = end_after x turn (Sink sink) in
@@ -221,7 +221,7 @@ module _ (views : List EndView) (messages : List Message) (k : ℕ) (x : OpenEnd
   whole_goes : Readable x terms piece → (sink : Holding) (more after : List ℕ) → sink.bytes ≡ x.stored ++ more → sink.committed ≡ true → Decoded x.state.role.mode x.state.position.held piece more after →
       nat_lt (length piece) terms.size ≡ true →
       let turn = sent_turn (Dallying terms number Fresh) from (ack_bytes number) (holding after x.state) in
-      Goes views messages k x turn (end_after x turn (Sink sink))
+      Goes first views messages k x turn (end_after x turn (Sink sink))
   whole_goes readable sink more after bytes done d last =
       let turn = sent_turn (Dallying terms number Fresh) from (ack_bytes number) (holding after x.state) in
       let y = end_after x turn (Sink sink) in
@@ -246,26 +246,26 @@ module _ (views : List EndView) (messages : List Message) (k : ℕ) (x : OpenEnd
   commit_goes : Readable x terms piece → (refuses_commit : Holding → StoreFault → Type 0) (mid sink : Holding) (more after : List ℕ) (turn : Turn) → mid.bytes ≡ x.stored ++ more → mid.committed ≡ false →
       Decoded x.state.role.mode x.state.position.held piece more after → nat_lt (length piece) terms.size ≡ true →
       Committed (world_sink refuses_commit) terms number from (holding after x.state) mid turn sink →
-      Goes views messages k x turn (end_after x turn (Sink sink))
+      Goes first views messages k x turn (end_after x turn (Sink sink))
   commit_goes readable refuses_commit mid sink more after turn bytes un d last c =
       by_commit c.answer c.answers (kept_by mid.refuses mid sink c.answer c.commits) where
         by_commit : (answer : Result Done StoreFault) → turn ≡ committed_turn terms number from (holding after x.state) answer → Kept_all mid sink answer →
-            Goes views messages k x turn (end_after x turn (Sink sink))
+            Goes first views messages k x turn (end_after x turn (Sink sink))
         by_commit answer t (For_good ok same done) =
             let turn_is : turn ≡ sent_turn (Dallying terms number Fresh) from (ack_bytes number) (holding after x.state) = t ∙ ap (committed_turn terms number from (holding after x.state)) ok in
-            subst (λ (z : Turn). Goes views messages k x z (end_after x z (Sink sink))) (sym turn_is) (whole_goes readable sink more after (same ∙ bytes) done d last)
+            subst (λ (z : Turn). Goes first views messages k x z (end_after x z (Sink sink))) (sym turn_is) (whole_goes readable sink more after (same ∙ bytes) done d last)
         by_commit answer t (Not_yet fault err same still) =
             let turn_is : turn ≡ refused_turn terms (commit_reply fault) outcomes.StoreFault from (holding after x.state) = t ∙ ap (committed_turn terms number from (holding after x.state)) err in
             let begins : IsBeginningOf (wire_text x.state.role.mode sink.bytes) (text_of_end x ++ piece) =
             (after, ap (λ (z : List ℕ). wire_text x.state.role.mode z ++ after) (same ∙ bytes) ∙ sym (more_text more after d)) in
-            subst (λ (z : Turn). Goes views messages k x z (end_after x z (Sink sink))) (sym turn_is)
+            subst (λ (z : Turn). Goes first views messages k x z (end_after x z (Sink sink))) (sym turn_is)
             (refused_goes after sink (commit_reply fault) outcomes.StoreFault (held_fits x.state.role.mode x.state.position.held piece more after kept.held d) (still ∙ un) begins)
 
   -- after an append
   append_goes : Readable x terms piece → (refuses_commit : Holding → StoreFault → Type 0) (mid sink : Holding) (more after : List ℕ) (turn : Turn) (answer : Result Done StoreFault) (last : Bool) → nat_lt (length piece) terms.size ≡ last →
       Decoded x.state.role.mode x.state.position.held piece more after → Took (holding_of x) mid more answer →
       GoesOn (world_sink refuses_commit) terms number from x.state last after mid answer turn sink →
-      Goes views messages k x turn (end_after x turn (Sink sink))
+      Goes first views messages k x turn (end_after x turn (Sink sink))
   append_goes readable refuses_commit mid sink more after turn (Err f) last is d (All_of_it ok same un) h = absurd (let e : Err f ≡ Ok tt = ok in cc)
   append_goes readable refuses_commit mid sink more after turn (Ok u) last is d (None_of_it fault err same still) h = absurd (let e : Ok u ≡ Err fault = err in cc)
   append_goes readable refuses_commit mid sink more after turn (Err f) last is d (None_of_it fault err same still) h =
@@ -275,23 +275,23 @@ module _ (views : List EndView) (messages : List Message) (k : ℕ) (x : OpenEnd
         ap (λ (z : List ℕ). wire_text x.state.role.mode z ++ (x.state.position.held ++ piece)) same
             ∙ (sym (append_assoc w x.state.position.held piece) ∙ ap (λ (z : List ℕ). z ++ piece) (sym told)),
       ) in
-      subst (λ (z : Holding). Goes views messages k x turn (end_after x turn (Sink z))) (sym h.1)
-      (subst (λ (t : Turn). Goes views messages k x t (end_after x t (Sink mid))) (sym h.0)
+      subst (λ (z : Holding). Goes first views messages k x turn (end_after x turn (Sink z))) (sym h.1)
+      (subst (λ (t : Turn). Goes first views messages k x t (end_after x t (Sink mid))) (sym h.0)
       (refused_goes x.state.position.held mid replies.DiskFull outcomes.StoreFault kept.held (still ∙ uncommitted) begins))
   append_goes readable refuses_commit mid sink more after turn (Ok u) true is d (All_of_it ok same un) h =
       commit_goes readable refuses_commit mid sink more after turn same (un uncommitted) d is h
   append_goes readable refuses_commit mid sink more after turn (Ok u) false is d (All_of_it ok same un) h =
-      subst (λ (z : Holding). Goes views messages k x turn (end_after x turn (Sink z))) (sym h.1)
-      (subst (λ (t : Turn). Goes views messages k x t (end_after x t (Sink mid))) (sym h.0)
+      subst (λ (z : Holding). Goes first views messages k x turn (end_after x turn (Sink z))) (sym h.1)
+      (subst (λ (t : Turn). Goes first views messages k x t (end_after x t (Sink mid))) (sym h.0)
       (next_goes mid more after same (un uncommitted) d is))
 
   -- an action that stores has gone on
   pub block_goes : Readable x terms piece → (refuses_commit : Holding → StoreFault → Type 0) (turn : Turn) (held : Files (List ℕ) Holding) →
       StoresIn memory_source (world_sink refuses_commit) terms number from piece x.state (files_of x) turn held →
-      Goes views messages k x turn (end_after x turn held)
+      Goes first views messages k x turn (end_after x turn held)
   block_goes readable refuses_commit turn held h =
       let f = stores_in (is_sender x.state.role.side) r.receiver refuses_commit terms number from piece x.state x.left (holding_of x) turn held h in
       let b = f.2 in
-      subst (λ (fs : Files (List ℕ) Holding). Goes views messages k x turn (end_after x turn fs)) (sym f.1)
+      subst (λ (fs : Files (List ℕ) Holding). Goes first views messages k x turn (end_after x turn fs)) (sym f.1)
       (append_goes readable refuses_commit b.mid f.0 b.bytes b.after turn b.answer (nat_lt (length piece) terms.size) refl b.decoded
       (took (holding_of x) b.mid b.bytes b.answer refuses_commit b.appended b.memory) b.rest)

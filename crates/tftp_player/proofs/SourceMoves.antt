@@ -26,9 +26,9 @@ use Rattle.tftp_ends.specs.declared.action.Response.TheVariants.{Complete}
 use Rattle.tftp_ends.specs.End.{EndState, is_sender}
 use Rattle.tftp_ends.specs.Step.{Turn, response_turn, after, Sends, SendsFrom, sent_turn, refused_turn, data_bytes, block_length, filled_turn, result_count_is, after_turn, with_position}
 use Rattle.tftp_machine.specs.Machine.{Endpoint, Data as Says_data, Ack as Says_ack, Message}
-use Rattle.tftp_machine.specs.Rules.{message}
+use Rattle.tftp_machine.specs.Rules.{Rule, message}
 use Rattle.tftp_player.specs.Said.{said}
-use Rattle.tftp_machine.specs.Shows.{EndView, IsShown}
+use Rattle.tftp_machine.specs.Shows.{EndView, IsShownAfter}
 use Rattle.tftp_player.specs.World.{OpenEnd, files_of, holding_of, in_state, end_after, text_of as text_of_end, received_text}
 use Rattle.tftp_player.specs.WorldSteps.{world_sink}
 use Rattle.tftp_player.specs.WorldKept.{EndKept, sent_text}
@@ -128,17 +128,17 @@ data_end x terms n from =
     record (in_state (after_turn x.state (data_turn x terms n from)) x) { left = drop ((n + 1) * terms.size) (sent_text x) }
 
 -- an action that sends has sent the next block
-pub data_goes : (views : List EndView) (messages : List Message) (k : ℕ) (x : OpenEnd) (terms : Terms) (n : ℕ) (from : Endpoint) (turn : Turn) (held : Files (List ℕ) Holding) (refuses_commit : Holding → StoreFault → Type 0) →
+pub data_goes : (first : List Rule) (views : List EndView) (messages : List Message) (k : ℕ) (x : OpenEnd) (terms : Terms) (n : ℕ) (from : Endpoint) (turn : Turn) (held : Files (List ℕ) Holding) (refuses_commit : Holding → StoreFault → Type 0) →
     is_sender x.state.role.side ≡ true → x.state.role.length ≡ length (sent_text x) → x.left ≡ drop (n * terms.size) (sent_text x) →
-    Goes views messages k x (data_turn x terms n from) (data_end x terms n from) →
+    Goes first views messages k x (data_turn x terms n from) (data_end x terms n from) →
     SendsFrom memory_source (world_sink refuses_commit) terms (n + 1) from x.state (files_of x) turn held →
-    Goes views messages k x turn (end_after x turn held)
-data_goes views messages k x terms n from turn held refuses_commit sender measured behind g h =
+    Goes first views messages k x turn (end_after x turn held)
+data_goes first views messages k x terms n from turn held refuses_commit sender measured behind g h =
     let f = sends_from (is_sender x.state.role.side) sender refuses_commit terms (n + 1) from x.state x.left (holding_of x) turn held h in
     let b = block_sent terms n from x.state (sent_text x) x.left turn f.0 measured behind f.2 in
-    subst (λ (fs : Files (List ℕ) Holding). Goes views messages k x turn (end_after x turn fs)) (sym f.1)
-    (subst (λ (t : Turn). Goes views messages k x t (end_after x t (Source f.0))) (sym b.turn_is)
-    (subst (λ (l : List ℕ). Goes views messages k x (data_turn x terms n from) (end_after x (data_turn x terms n from) (Source l))) (sym b.left_is) g))
+    subst (λ (fs : Files (List ℕ) Holding). Goes first views messages k x turn (end_after x turn fs)) (sym f.1)
+    (subst (λ (t : Turn). Goes first views messages k x t (end_after x t (Source f.0))) (sym b.turn_is)
+    (subst (λ (l : List ℕ). Goes first views messages k x (data_turn x terms n from) (end_after x (data_turn x terms n from) (Source l))) (sym b.left_is) g))
 
 -- the sender's state after a block is kept
 pub data_kept : (x : OpenEnd) (terms : Terms) (n : ℕ) (from : Endpoint) → EndKept x → x.state.role.length ≡ length (sent_text x) → is_sender x.state.role.side ≡ true → 0 < terms.size → terms.size ≤ MAX_BLOCK →
@@ -154,11 +154,11 @@ pub text_if : (b : Bool) (f r : List ℕ) → b ≡ true → (if b then f else r
 text_if true f r e = refl
 text_if false f r e = absurd (true≢false (sym e))
 
-module _ (views : List EndView) (messages : List Message) (k : ℕ) (x0 : OpenEnd) (terms : Terms) (n : ℕ)
-    (s : Stands views messages k (open_view (placed (Sending terms n) x0))) (kept : EndKept (placed (Sending terms n) x0)) where
+module _ (first : List Rule) (views : List EndView) (messages : List Message) (k : ℕ) (x0 : OpenEnd) (terms : Terms) (n : ℕ)
+    (s : Stands first views messages k (open_view (placed (Sending terms n) x0))) (kept : EndKept (placed (Sending terms n) x0)) where
   -- the next block is sent
   pub sends_next : (from : Endpoint) → terms.peer ≡ from → Contains messages (message from x0.address (Says_ack n)) → n < block_count (sent_text x0) terms.size →
-      Goes views messages k (placed (Sending terms n) x0) (data_turn (placed (Sending terms n) x0) terms n from) (data_end (placed (Sending terms n) x0) terms n from)
+      Goes first views messages k (placed (Sending terms n) x0) (data_turn (placed (Sending terms n) x0) terms n from) (data_end (placed (Sending terms n) x0) terms n from)
   sends_next from peer acked more =
       let x = placed (Sending terms n) x0 in
       let u = kept.phase in
@@ -167,10 +167,10 @@ module _ (views : List EndView) (messages : List Message) (k : ℕ) (x0 : OpenEn
       let l : n + 1 ≤ block_count text terms.size = omega arith in
       let packet = Data (n + 1) (block text terms.size (n + 1)) in
       let room : n < block_count (text_of_end x) terms.size = subst (λ (t : List ℕ). n < block_count t terms.size) (sym told) more in
-      let shown_now = sends views messages k (open_view x) s from (refl, refl) u.sender (ap Some peer) acked room in
+      let shown_now = sends first views messages k (open_view x) s from (refl, refl) u.sender (ap Some peer) acked room in
       record {
         said_now = message x.address from (said packet) ∷ [];
-        shown = subst (λ (t : List ℕ). IsShown (set views k (open_view (data_end x terms n from))) (messages ++ message x.address from (Says_data (n + 1) (block t terms.size (n + 1))) ∷ [])) told shown_now;
+        shown = subst (λ (t : List ℕ). IsShownAfter first (set views k (open_view (data_end x terms n from))) (messages ++ message x.address from (Says_data (n + 1) (block t terms.size (n + 1))) ∷ [])) told shown_now;
         replies = (packet, spells_own packet (valid_data text terms.size n u.positive u.size u.fits l), refl);
         kept = data_kept x terms n from kept u.measured u.sender u.positive u.size u.fits l (sym peer);
         side = refl;
@@ -180,20 +180,20 @@ module _ (views : List EndView) (messages : List Message) (k : ℕ) (x0 : OpenEn
 
   -- the last block is acknowledged
   pub ends_whole : (from : Endpoint) → terms.peer ≡ from → Contains messages (message from x0.address (Says_ack n)) → n ≡ block_count (sent_text x0) terms.size →
-      Goes views messages k (placed (Sending terms n) x0) (response_turn Complete from (placed (Sending terms n) x0).state) (in_state (with_position (after Complete from (placed (Sending terms n) x0).state) (placed (Sending terms n) x0).state) (placed (Sending terms n) x0))
+      Goes first views messages k (placed (Sending terms n) x0) (response_turn Complete from (placed (Sending terms n) x0).state) (in_state (with_position (after Complete from (placed (Sending terms n) x0).state) (placed (Sending terms n) x0).state) (placed (Sending terms n) x0))
   ends_whole from peer acked last =
       let x = placed (Sending terms n) x0 in
       let u = kept.phase in
       let text = sent_text x in
       let told : text_of_end x ≡ text = text_if (is_sender x.state.role.side) text (received_text x) u.sender in
       let whole : n ≡ block_count (text_of_end x) terms.size = subst (λ (t : List ℕ). n ≡ block_count t terms.size) (sym told) last in
-      let shown_now = completes views messages k (open_view x) s from (refl, refl) u.sender (ap Some peer) acked whole in
+      let shown_now = completes first views messages k (open_view x) s from (refl, refl) u.sender (ap Some peer) acked whole in
       let y = in_state (with_position (after Complete from x.state) x.state) x in
       let still : text_of_end x ≡ text_of_end y = told ∙ sym (text_if (is_sender x.state.role.side) text (received_text y) u.sender) in
       record {
         said_now = [];
-        shown = subst (λ (ms : List Message). IsShown (set views k (open_view y)) ms) (sym (append-nil messages))
-            (subst (λ (t : List ℕ). IsShown (set views k (record (open_view x) { done = true; text = t })) messages) still shown_now);
+        shown = subst (λ (ms : List Message). IsShownAfter first (set views k (open_view y)) ms) (sym (append-nil messages))
+            (subst (λ (t : List ℕ). IsShownAfter first (set views k (record (open_view x) { done = true; text = t })) messages) still shown_now);
         replies = refl;
         kept = record { phase = tt; held = kept.held; committed = λ r. absurd (true≢false (sym u.sender ∙ r)) };
         side = refl;

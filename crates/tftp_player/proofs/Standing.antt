@@ -11,7 +11,8 @@ use Rattle.tftp_ends.specs.Step.{with_position}
 use Rattle.tftp_player.specs.Requests.{is_transfer}
 use Rattle.tftp_machine.specs.Machine.{Message}
 use Rattle.tftp_machine.proofs.Shown.{shown_forgets}
-use Rattle.tftp_machine.specs.Shows.{EndView, IsInService, IsShown}
+use Rattle.tftp_machine.specs.Rules.{Rule}
+use Rattle.tftp_machine.specs.Shows.{EndView, IsInService, IsShownAfter}
 use Rattle.tftp_player.specs.World.{WorldState, OpenEnd, WorldEnd, Open_end, Closed_end, end_record, end_address, is_closed, datagram, in_state, closed_end, by_outcome, standing, text_of, peer_of, view_of_end, end_request, file_at}
 use Rattle.tftp_player.specs.WorldKept.{EndKept, IsKeptIn}
 
@@ -100,11 +101,11 @@ open_is x e = open_in x.state.position.phase x e where
   open_in (Closed terms number complete outcome) y e = absurd (true≢false e)
 
 -- and so it is shown: of a closed one nothing is told of what asked for it
-pub standing_shown : (views : List EndView) (messages : List Message) (k : ℕ) (d : EndView) (x : OpenEnd) → slice_get views k ≡ Some d →
-    IsShown (set views k (open_view x)) messages → IsShown (set views k (view_of_end (standing x))) messages
-standing_shown views messages k d x at shown = elim (cases_Bool (is_some (outcome_of x.state.position.phase))) [
-  | inl closed ↦ shown_forgets views messages k d (open_view x) (view_of_end (standing x)) at (standing_view x) (closed_over x closed) shown
-  | inr open_now ↦ subst (λ (v : EndView). IsShown (set views k v) messages) (sym (ap view_of_end (standing_open x open_now) ∙ open_is x open_now)) shown
+pub standing_shown : (first : List Rule) (views : List EndView) (messages : List Message) (k : ℕ) (d : EndView) (x : OpenEnd) → slice_get views k ≡ Some d →
+    IsShownAfter first (set views k (open_view x)) messages → IsShownAfter first (set views k (view_of_end (standing x))) messages
+standing_shown first views messages k d x at shown = elim (cases_Bool (is_some (outcome_of x.state.position.phase))) [
+  | inl closed ↦ shown_forgets first views messages k d (open_view x) (view_of_end (standing x)) at (standing_view x) (closed_over x closed) shown
+  | inr open_now ↦ subst (λ (v : EndView). IsShownAfter first (set views k v) messages) (sym (ap view_of_end (standing_open x open_now) ∙ open_is x open_now)) shown
 ]
 
 -- a closed one stands with its record

@@ -42,9 +42,9 @@ use Rattle.tftp_ends.specs.Step.{StoresIn, response_turn, after, with_position}
 use Rattle.tftp_ends.specs.Text.{is_readable}
 use Rattle.tftp_ends.specs.Waiting.{default_terms, agreed_terms, no_answer, refusal_action, accept_action, begin_action, begin_with_action, reader_action, writer_action}
 use Rattle.tftp_machine.specs.Machine.{Endpoint, server_ip, Data as Says_data, Ack as Says_ack, Oack as Says_oack, Message}
-use Rattle.tftp_machine.specs.Rules.{message}
+use Rattle.tftp_machine.specs.Rules.{Rule, message}
 use Rattle.tftp_player.specs.Said.{said, oack_size}
-use Rattle.tftp_machine.specs.Shows.{EndView, IsShown}
+use Rattle.tftp_machine.specs.Shows.{EndView, IsShownAfter}
 use Rattle.tftp_player.specs.World.{OpenEnd, files_of, holding_of, in_state, received_text, text_of as text_of_end}
 use Rattle.tftp_player.specs.WorldSteps.{world_sink}
 use Rattle.tftp_player.specs.WorldKept.{EndKept, sent_text}
@@ -69,22 +69,22 @@ pub taken_size : (asked : Asked) (kind : Kind) (options : List RawOption) (mode 
 taken_size asked kind options mode limit known askable e =
     agreed_size known (taken_may_be_agreed asked kind mode options limit known askable e).values
 
-module _ (views : List EndView) (messages : List Message) (k : ℕ) (x0 : OpenEnd) (asked : Asked) (limit : ℕ)
-    (s : Stands views messages k (open_view (placed (Waiting asked limit) x0))) (kept : EndKept (placed (Waiting asked limit) x0))
+module _ (first : List Rule) (views : List EndView) (messages : List Message) (k : ℕ) (x0 : OpenEnd) (asked : Asked) (limit : ℕ)
+    (s : Stands first views messages k (open_view (placed (Waiting asked limit) x0))) (kept : EndKept (placed (Waiting asked limit) x0))
     (refuses_commit : Holding → StoreFault → Type 0) (from : Endpoint) (bytes : List ℕ) (server : from.ip ≡ server_ip) where
   abbrev waiter : OpenEnd
   waiter = placed (Waiting asked limit) x0
 
   abbrev Answers : Action → Type 0
-  Answers action = Acting views messages k waiter refuses_commit from bytes action
+  Answers action = Acting first views messages k waiter refuses_commit from bytes action
 
   refuse_waiter : (reply : ErrorReply) (outcome : Outcome) → Answers (Respond (Refuse None reply outcome))
   refuse_waiter reply outcome turn held h =
-      from_response views messages k waiter (Refuse None reply outcome) from turn held (refuses_now views messages k waiter s kept reply outcome from refl) h
+      from_response first views messages k waiter (Refuse None reply outcome) from turn held (refuses_now first views messages k waiter s kept reply outcome from refl) h
 
   close_waiter : (outcome : Outcome) → Answers (Respond (Close outcome))
   close_waiter outcome turn held h =
-      from_response views messages k waiter (Close outcome) from turn held (gives_up views messages k waiter s kept outcome from refl) h
+      from_response first views messages k waiter (Close outcome) from turn held (gives_up first views messages k waiter s kept outcome from refl) h
 
   refusal_acts : (refusal : Refusal) → Answers (refusal_action refusal)
   refusal_acts refusals.Repeated = refuse_waiter replies.OptionRefused (outcomes.Refused refusals.Repeated)
@@ -100,16 +100,16 @@ module _ (views : List EndView) (messages : List Message) (k : ℕ) (x0 : OpenEn
       let y = in_state (with_position (after response from waiter.state) waiter.state) waiter in
       let here : Contains messages (message from x0.address (Says_oack (size known))) =
       subst (λ (n : ℕ). Contains messages (message from x0.address (Says_oack n))) (taken_oack asked kinds.Read x0.state.role.mode options limit known e) come in
-      let goes_now : Goes views messages k waiter (response_turn response from waiter.state) y = record {
+      let goes_now : Goes first views messages k waiter (response_turn response from waiter.state) y = record {
         said_now = message x0.address from (Says_ack 0) ∷ [];
-        shown = accepts views messages k (open_view waiter) s from (size known) ((refl, refl), kept.phase.0, refl, server) reader here;
+        shown = accepts first views messages k (open_view waiter) s from (size known) ((refl, refl), kept.phase.0, refl, server) reader here;
         replies = (Ack 0, spells_own (Ack 0) (omega arith), refl);
         kept = record { phase = (reader, refl); held = kept.held; committed = kept.committed };
         side = refl;
         last_sent = inr refl;
         stored = λ _. refl;
       } in
-      from_response views messages k waiter response from turn held goes_now h
+      from_response first views messages k waiter response from turn held goes_now h
 
   accept_cases : is_sender x0.state.role.side ≡ false → (options : List RawOption) → Contains messages (message from x0.address (Says_oack (oack_size options))) →
       (r : Result (List Known) Refusal) → agreement asked kinds.Read x0.state.role.mode options limit ≡ r → Answers (accept_action from r)
@@ -124,24 +124,24 @@ module _ (views : List EndView) (messages : List Message) (k : ℕ) (x0 : OpenEn
       let last = nat_lt (length piece) DEFAULT_BLOCK in
       let none : x0.state.position.held ≡ [] = kept.phase.4 reader in
       let waits : IsWaiting (open_view waiter) from = ((refl, refl), kept.phase.0, refl, server) in
-      let got : Receives views messages k waiter terms 1 from piece = record {
+      let got : Receives first views messages k waiter terms 1 from piece = record {
         receiver = reader;
         going = refl;
         incomplete = refl;
         peer = refl;
         fits = omega arith;
-        stored = stores_first views messages k (open_view waiter) s from piece waits reader come l;
-        refused = λ t b. refuses_first views messages k (open_view waiter) s from piece t waits reader come l b;
+        stored = stores_first first views messages k (open_view waiter) s from piece waits reader come l;
+        refused = λ t b. refuses_first first views messages k (open_view waiter) s from piece t waits reader come l b;
       } in
       let refuse : (reply : ErrorReply) (outcome : Outcome) → Answers (Respond (Refuse (Some terms) reply outcome)) =
-      λ reply outcome turn held h. from_response views messages k waiter (Refuse (Some terms) reply outcome) from turn held
-      (refused_goes views messages k waiter terms 1 from piece kept got x0.state.position.held (holding_of waiter) reply outcome kept.held (kept.committed reader)
-      (x0.state.position.held ++ piece, sym (append_assoc (wire_text x0.state.role.mode x0.stored) x0.state.position.held piece) ∙ ap (λ (t : List ℕ). t ++ piece) (sym (told views messages k waiter terms 1 from piece kept got)))) h in
+      λ reply outcome turn held h. from_response first views messages k waiter (Refuse (Some terms) reply outcome) from turn held
+      (refused_goes first views messages k waiter terms 1 from piece kept got x0.state.position.held (holding_of waiter) reply outcome kept.held (kept.committed reader)
+      (x0.state.position.held ++ piece, sym (append_assoc (wire_text x0.state.role.mode x0.stored) x0.state.position.held piece) ∙ ap (λ (t : List ℕ). t ++ piece) (sym (told first views messages k waiter terms 1 from piece kept got)))) h in
       if_acts Answers (nat_lt DEFAULT_BLOCK (length piece)) (illegal_action terms)
       (if is_readable x0.state.role.mode [] piece last then Store terms 1 else Respond (Refuse (Some terms) replies.NotNetascii outcomes.NotNetascii))
       (λ e. refuse replies.IllegalOperation outcomes.Illegal)
       (λ e. if_acts Answers (is_readable x0.state.role.mode [] piece last) (Store terms 1) (Respond (Refuse (Some terms) replies.NotNetascii outcomes.NotNetascii))
-      (λ readable turn held h. block_goes views messages k waiter terms 1 from piece kept got
+      (λ readable turn held h. block_goes first views messages k waiter terms 1 from piece kept got
       (subst (λ (hs : List ℕ). is_readable x0.state.role.mode hs piece last ≡ true) (sym none) readable) refuses_commit turn held
       (subst (λ (bs : List ℕ). StoresIn memory_source (world_sink refuses_commit) terms 1 from bs waiter.state (files_of waiter) turn held) (sym (data_of 1 h.0 bytes h.1) ∙ data_of 1 piece bytes spelled) h.2))
       (λ g. refuse replies.NotNetascii outcomes.NotNetascii))
@@ -170,7 +170,7 @@ module _ (views : List EndView) (messages : List Message) (k : ℕ) (x0 : OpenEn
 
   -- a writer begins
   begin_acts : is_sender x0.state.role.side ≡ true → (terms : Terms) → terms.peer ≡ from → 0 < terms.size → terms.size ≤ MAX_BLOCK →
-      (Fits (text_of_end waiter) terms.size → IsShown (set views k (record (open_view waiter) { peer = Some from; size = terms.size; number = 1 })) (messages ++ message x0.address from (Says_data 1 (block (text_of_end waiter) terms.size 1)) ∷ [])) →
+      (Fits (text_of_end waiter) terms.size → IsShownAfter first (set views k (record (open_view waiter) { peer = Some from; size = terms.size; number = 1 })) (messages ++ message x0.address from (Says_data 1 (block (text_of_end waiter) terms.size 1)) ∷ [])) →
       Answers (begin_action x0.state.role.length terms)
   begin_acts writer terms peer positive small shown =
       if_acts Answers (nat_lt x0.state.role.length (65535 * terms.size)) (Send terms 1) (Respond (Refuse None replies.FileTooLarge outcomes.TooLarge))
@@ -183,10 +183,10 @@ module _ (views : List EndView) (messages : List Message) (k : ℕ) (x0 : OpenEn
       let behind : x0.left ≡ drop (0 * terms.size) text = kept.phase.3 ∙ ap (λ (n : ℕ). drop n text) (sym zero_blocks) in
       let l : 1 ≤ block_count text terms.size = omega arith in
       let packet = Data 1 (block text terms.size 1) in
-      let goes_now : Goes views messages k waiter (data_turn waiter terms 0 from) (data_end waiter terms 0 from) = record {
+      let goes_now : Goes first views messages k waiter (data_turn waiter terms 0 from) (data_end waiter terms 0 from) = record {
         said_now = message x0.address from (said packet) ∷ [];
-        shown = subst (λ (p : Endpoint). IsShown (set views k (record (open_view waiter) { peer = Some p; size = terms.size; number = 1 })) (messages ++ message x0.address from (said packet) ∷ [])) (sym peer)
-            (subst (λ (t : List ℕ). IsShown (set views k (record (open_view waiter) { peer = Some from; size = terms.size; number = 1 })) (messages ++ message x0.address from (Says_data 1 (block t terms.size 1)) ∷ [])) told_now
+        shown = subst (λ (p : Endpoint). IsShownAfter first (set views k (record (open_view waiter) { peer = Some p; size = terms.size; number = 1 })) (messages ++ message x0.address from (said packet) ∷ [])) (sym peer)
+            (subst (λ (t : List ℕ). IsShownAfter first (set views k (record (open_view waiter) { peer = Some from; size = terms.size; number = 1 })) (messages ++ message x0.address from (Says_data 1 (block t terms.size 1)) ∷ [])) told_now
             (shown (subst (λ (t : List ℕ). Fits t terms.size) (sym told_now) fits)));
         replies = (packet, spells_own packet (valid_data text terms.size 0 positive small fits l), refl);
         kept = data_kept waiter terms 0 from kept measured writer positive small fits l (sym peer);
@@ -194,13 +194,13 @@ module _ (views : List EndView) (messages : List Message) (k : ℕ) (x0 : OpenEn
         last_sent = inr refl;
         stored = λ _. refl;
       } in
-      λ turn held h. data_goes views messages k waiter terms 0 from turn held refuses_commit writer measured behind goes_now h)
+      λ turn held h. data_goes first views messages k waiter terms 0 from turn held refuses_commit writer measured behind goes_now h)
       (λ e. refuse_waiter replies.FileTooLarge outcomes.TooLarge)
 
   begin_plain : is_sender x0.state.role.side ≡ true → Contains messages (message from x0.address (Says_ack 0)) → Answers (begin_action x0.state.role.length (default_terms from))
   begin_plain writer come =
       begin_acts writer (default_terms from) refl (omega arith) (omega arith)
-      (λ fits. sends_first views messages k (open_view waiter) s from ((refl, refl), kept.phase.0, refl, server) writer come fits)
+      (λ fits. sends_first first views messages k (open_view waiter) s from ((refl, refl), kept.phase.0, refl, server) writer come fits)
 
   begin_with : is_sender x0.state.role.side ≡ true → (options : List RawOption) → Contains messages (message from x0.address (Says_oack (oack_size options))) →
       (r : Result (List Known) Refusal) → agreement asked kinds.Write x0.state.role.mode options limit ≡ r → Answers (begin_with_action from x0.state.role.length r)
@@ -209,7 +209,7 @@ module _ (views : List EndView) (messages : List Message) (k : ℕ) (x0 : OpenEn
       let here : Contains messages (message from x0.address (Says_oack (size known))) =
       subst (λ (n : ℕ). Contains messages (message from x0.address (Says_oack n))) (taken_oack asked kinds.Write x0.state.role.mode options limit known e) come in
       begin_acts writer (agreed_terms from known) refl b.0 b.1
-      (λ fits. sends_first_with views messages k (open_view waiter) s from (size known) ((refl, refl), kept.phase.0, refl, server) writer here fits)
+      (λ fits. sends_first_with first views messages k (open_view waiter) s from (size known) ((refl, refl), kept.phase.0, refl, server) writer here fits)
   begin_with writer options come (Err refusal) e = refusal_acts refusal
 
   -- a waiting writer with any packet

@@ -35,15 +35,15 @@ use Rattle.tftp_wire.specs.Reading.{has_error_opcode}
 use Rattle.tftp_ends.specs.Step.{error_bytes}
 use Rattle.tftp_store.specs.Store.{measured}
 use Rattle.tftp_machine.specs.Machine.{Endpoint, Elsewhere, host_of, server_ip, client_ip, request_port, Message, Request as Says_request, Oack as Says_oack}
-use Rattle.tftp_machine.specs.Rules.{message}
+use Rattle.tftp_machine.specs.Rules.{Rule, message}
 use Rattle.tftp_player.specs.Said.{said}
-use Rattle.tftp_machine.specs.Shows.{requested, NoneAnswers, IsShown}
+use Rattle.tftp_machine.specs.Shows.{requested, NoneAnswers, IsShownAfter}
 use Rattle.tftp_player.specs.World.{WorldState, WorldEnd, Open_end, file_at, in_the_way, datagram, said_in, view_of_end}
 use Rattle.tftp_player.specs.Openings.{request_of, reading_client, writing_client, MayGet, MayPut, sending_end, receiving_end}
 use Rattle.tftp_server.specs.Port.{Ask, Ignores, Refuses, Reads, Service, Refused, Sends, accept_reply, by_draft, by_file, by_length, by_name, by_options, by_packet, by_repeat}
 use Rattle.tftp_player.specs.Requests.{IsRepeated, open_transfers, opened_of, begun_of, served, service}
 use Rattle.tftp_player.specs.WorldSteps.{Stays, Serves, Opens}
-use Rattle.tftp_player.specs.WorldKept.{HeldFits, IsOk}
+use Rattle.tftp_player.specs.WorldKept.{HeldFits, IsOkAfter}
 use Rattle.tftp_player.specs.declared.report.Report.{Report}
 use Rattle.tftp_player.proofs.Actions.{host_server, host_client, asks, serves_plainly, serves_with, says_error}
 use Rattle.tftp_player.proofs.AnewLemmas.{none_answers}
@@ -79,28 +79,28 @@ empty_held Netascii = tt
 no_text : (mode : Mode) → wire_text mode [] ++ [] ≡ []
 no_text mode = append-nil (wire_text mode []) ∙ empty_text mode
 
-pub stays_ok : (strangers : Bool) (w v : WorldState) (report : Report) → IsOk strangers w → Stays w report v → IsOk strangers v
-stays_ok strangers w v report ok s = subst (λ (z : WorldState). IsOk strangers z) (sym s.is) ok
+pub stays_ok : (first : List Rule) (strangers : Bool) (w v : WorldState) (report : Report) → IsOkAfter first strangers w → Stays w report v → IsOkAfter first strangers v
+stays_ok first strangers w v report ok s = subst (λ (z : WorldState). IsOkAfter first strangers z) (sym s.is) ok
 
 -- a client opens
-pub reading_keeps : (strangers : Bool) (w v : WorldState) (name : List ℕ) (mode : Mode) (asked : Asked) (report : Report) → IsOk strangers w → MayGet name mode asked →
-    Opens w (reading_client w name mode asked) report v → IsOk strangers v
-reading_keeps strangers w v name mode asked report ok may o =
+pub reading_keeps : (first : List Rule) (strangers : Bool) (w v : WorldState) (name : List ℕ) (mode : Mode) (asked : Asked) (report : Report) → IsOkAfter first strangers w → MayGet name mode asked →
+    Opens w (reading_client w name mode asked) report v → IsOkAfter first strangers v
+reading_keeps first strangers w v name mode asked report ok may o =
     let x = reading_client w name mode asked in
     let p = Read (request_of name mode asked) in
     let a = x.address in
-    let shown_now = asks (map view_of_end w.ends) ok.messages ok.shown a false (request_of name mode asked) (wire_text mode [] ++ []) refl (ap (λ (n : ℕ). 1024 + n) (sym (length_views w))) (λ _. no_text mode) in
-    opening_keeps strangers w v ok x report p (spells_own p may.valid) shown_now (at_client a refl) refl
+    let shown_now = asks first (map view_of_end w.ends) ok.messages ok.shown a false (request_of name mode asked) (wire_text mode [] ++ []) refl (ap (λ (n : ℕ). 1024 + n) (sym (length_views w))) (λ _. no_text mode) in
+    opening_keeps first strangers w v ok x report p (spells_own p may.valid) shown_now (at_client a refl) refl
     (record { phase = (refl, may.options.askable, refl, refl, λ _. refl, λ e. absurd (true≢false (sym e))); held = empty_held mode; committed = λ _. refl }) refl o
 
-pub writing_keeps : (strangers : Bool) (w v : WorldState) (name : List ℕ) (mode : Mode) (asked : Asked) (file : List ℕ) (report : Report) → IsOk strangers w → MayPut name mode asked (length (wire_text mode file)) →
-    Opens w (writing_client w name mode asked file) report v → IsOk strangers v
-writing_keeps strangers w v name mode asked file report ok may o =
+pub writing_keeps : (first : List Rule) (strangers : Bool) (w v : WorldState) (name : List ℕ) (mode : Mode) (asked : Asked) (file : List ℕ) (report : Report) → IsOkAfter first strangers w → MayPut name mode asked (length (wire_text mode file)) →
+    Opens w (writing_client w name mode asked file) report v → IsOkAfter first strangers v
+writing_keeps first strangers w v name mode asked file report ok may o =
     let x = writing_client w name mode asked file in
     let p = Write (request_of name mode asked) in
     let a = x.address in
-    let shown_now = asks (map view_of_end w.ends) ok.messages ok.shown a true (request_of name mode asked) (wire_text mode file) refl (ap (λ (n : ℕ). 1024 + n) (sym (length_views w))) (λ e. absurd (true≢false e)) in
-    opening_keeps strangers w v ok x report p (spells_own p may.valid) shown_now (at_client a refl) refl
+    let shown_now = asks first (map view_of_end w.ends) ok.messages ok.shown a true (request_of name mode asked) (wire_text mode file) refl (ap (λ (n : ℕ). 1024 + n) (sym (length_views w))) (λ e. absurd (true≢false e)) in
+    opening_keeps first strangers w v ok x report p (spells_own p may.valid) shown_now (at_client a refl) refl
     (record { phase = (refl, may.options.askable, refl, refl, λ _. refl, λ _. refl); held = empty_held mode; committed = λ e. absurd (true≢false e) }) refl o
 
 -- a request that these bytes spell was sent, and no open end answers it
@@ -116,30 +116,30 @@ answered_values kind mode told limits options known ok e =
     (answers_may_be_agreed options kind mode told limits known ok e).values
 
 -- a read is served
-sending_keeps : (strangers : Bool) (w v : WorldState) (from : Endpoint) (bytes : List ℕ) (request : Request) (path file : List ℕ) (agreed : List Known) (report : Report) (ok : IsOk strangers w) →
+sending_keeps : (first : List Rule) (strangers : Bool) (w v : WorldState) (from : Endpoint) (bytes : List ℕ) (request : Request) (path file : List ℕ) (agreed : List Known) (report : Report) (ok : IsOkAfter first strangers w) →
     IsNewly ok.messages w.ends from bytes false request → AllByRecursion IsAgreeable agreed → (agreed ≢ [] → IsValid (Oack (agreed_options agreed))) → Fits (wire_text request.mode file) (size agreed) →
-    Opens w (sending_end w from bytes request.mode path file agreed) report v → IsOk strangers v
-sending_keeps strangers w v from bytes request path file [] report ok come agreeable valid fits o =
+    Opens w (sending_end w from bytes request.mode path file agreed) report v → IsOkAfter first strangers v
+sending_keeps first strangers w v from bytes request path file [] report ok come agreeable valid fits o =
     let text = wire_text request.mode file in
     let x = sending_end w from bytes request.mode path file [] in
     let one : 1 ≤ block_count text DEFAULT_BLOCK = omega arith in
     let p = Data 1 (block text DEFAULT_BLOCK 1) in
-    let shown_now = serves_plainly (map view_of_end w.ends) ok.messages ok.shown x.address from bytes false request text refl (ap (λ (n : ℕ). 1024 + n) (sym (length_views w))) come.sent fits come.spells come.anew in
-    opening_keeps strangers w v ok x report p (spells_own p (valid_data text DEFAULT_BLOCK 0 (omega arith) (omega arith) fits one)) shown_now (at_server x.address refl) refl
+    let shown_now = serves_plainly first (map view_of_end w.ends) ok.messages ok.shown x.address from bytes false request text refl (ap (λ (n : ℕ). 1024 + n) (sym (length_views w))) come.sent fits come.spells come.anew in
+    opening_keeps first strangers w v ok x report p (spells_own p (valid_data text DEFAULT_BLOCK 0 (omega arith) (omega arith) fits one)) shown_now (at_server x.address refl) refl
     (record {
       phase = record { sender = refl; positive = omega arith; size = omega arith; fits = fits; so_far = one; left = refl; last_sent_to = refl; measured = refl };
       held = empty_held request.mode;
       committed = λ e. absurd (true≢false e);
     }) refl o
-sending_keeps strangers w v from bytes request path file (known ∷ agreed) report ok come agreeable valid fits o =
+sending_keeps first strangers w v from bytes request path file (known ∷ agreed) report ok come agreeable valid fits o =
     let text = wire_text request.mode file in
     let x = sending_end w from bytes request.mode path file (known ∷ agreed) in
     let b = agreed_size (known ∷ agreed) agreeable in
     let p = Oack (agreed_options (known ∷ agreed)) in
-    let shown_now = serves_with (map view_of_end w.ends) ok.messages ok.shown x.address from bytes false request text (size (known ∷ agreed)) refl (ap (λ (n : ℕ). 1024 + n) (sym (length_views w))) come.sent fits b.0 come.spells come.anew in
-    let says = subst (λ (n : ℕ). IsShown (map view_of_end w.ends ++ view_of_end (Open_end x) ∷ []) (ok.messages ++ message x.address from (Says_oack n) ∷ [])) (sym (own_oack (known ∷ agreed) agreeable)) shown_now in
+    let shown_now = serves_with first (map view_of_end w.ends) ok.messages ok.shown x.address from bytes false request text (size (known ∷ agreed)) refl (ap (λ (n : ℕ). 1024 + n) (sym (length_views w))) come.sent fits b.0 come.spells come.anew in
+    let says = subst (λ (n : ℕ). IsShownAfter first (map view_of_end w.ends ++ view_of_end (Open_end x) ∷ []) (ok.messages ++ message x.address from (Says_oack n) ∷ [])) (sym (own_oack (known ∷ agreed) agreeable)) shown_now in
     let none : 0 * size (known ∷ agreed) ≡ 0 = omega arith in
-    opening_keeps strangers w v ok x report p (spells_own p (valid (λ e. cc))) says (at_server x.address refl) refl
+    opening_keeps first strangers w v ok x report p (spells_own p (valid (λ e. cc))) says (at_server x.address refl) refl
     (record {
       phase = record { sender = refl; positive = b.0; size = b.1; fits = fits; so_far = omega arith; left = ap (λ (n : ℕ). drop n text) (sym none); last_sent_to = refl; measured = refl };
       held = empty_held request.mode;
@@ -147,29 +147,29 @@ sending_keeps strangers w v from bytes request path file (known ∷ agreed) repo
     }) refl o
 
 -- a write is served
-taking_keeps : (strangers : Bool) (w v : WorldState) (from : Endpoint) (bytes : List ℕ) (request : Request) (path : List ℕ) (agreed : List Known) (report : Report) (ok : IsOk strangers w) →
+taking_keeps : (first : List Rule) (strangers : Bool) (w v : WorldState) (from : Endpoint) (bytes : List ℕ) (request : Request) (path : List ℕ) (agreed : List Known) (report : Report) (ok : IsOkAfter first strangers w) →
     IsNewly ok.messages w.ends from bytes true request → AllByRecursion IsAgreeable agreed → (agreed ≢ [] → IsValid (Oack (agreed_options agreed))) →
-    Opens w (receiving_end w from bytes request.mode path agreed) report v → IsOk strangers v
-taking_keeps strangers w v from bytes request path [] report ok come agreeable valid o =
+    Opens w (receiving_end w from bytes request.mode path agreed) report v → IsOkAfter first strangers v
+taking_keeps first strangers w v from bytes request path [] report ok come agreeable valid o =
     let x = receiving_end w from bytes request.mode path [] in
-    let shown_now = serves_plainly (map view_of_end w.ends) ok.messages ok.shown x.address from bytes true request (wire_text request.mode [] ++ []) refl (ap (λ (n : ℕ). 1024 + n) (sym (length_views w))) come.sent (no_text request.mode) come.spells come.anew in
-    opening_keeps strangers w v ok x report (Ack 0) (spells_own (Ack 0) (omega arith)) shown_now (at_server x.address refl) refl
+    let shown_now = serves_plainly first (map view_of_end w.ends) ok.messages ok.shown x.address from bytes true request (wire_text request.mode [] ++ []) refl (ap (λ (n : ℕ). 1024 + n) (sym (length_views w))) come.sent (no_text request.mode) come.spells come.anew in
+    opening_keeps first strangers w v ok x report (Ack 0) (spells_own (Ack 0) (omega arith)) shown_now (at_server x.address refl) refl
     (record { phase = (refl, refl); held = empty_held request.mode; committed = λ _. refl }) refl o
-taking_keeps strangers w v from bytes request path (known ∷ agreed) report ok come agreeable valid o =
+taking_keeps first strangers w v from bytes request path (known ∷ agreed) report ok come agreeable valid o =
     let x = receiving_end w from bytes request.mode path (known ∷ agreed) in
     let b = agreed_size (known ∷ agreed) agreeable in
     let p = Oack (agreed_options (known ∷ agreed)) in
-    let shown_now = serves_with (map view_of_end w.ends) ok.messages ok.shown x.address from bytes true request (wire_text request.mode [] ++ []) (size (known ∷ agreed)) refl (ap (λ (n : ℕ). 1024 + n) (sym (length_views w))) come.sent (no_text request.mode) b.0 come.spells come.anew in
-    let says = subst (λ (n : ℕ). IsShown (map view_of_end w.ends ++ view_of_end (Open_end x) ∷ []) (ok.messages ++ message x.address from (Says_oack n) ∷ [])) (sym (own_oack (known ∷ agreed) agreeable)) shown_now in
-    opening_keeps strangers w v ok x report p (spells_own p (valid (λ e. cc))) says (at_server x.address refl) refl
+    let shown_now = serves_with first (map view_of_end w.ends) ok.messages ok.shown x.address from bytes true request (wire_text request.mode [] ++ []) (size (known ∷ agreed)) refl (ap (λ (n : ℕ). 1024 + n) (sym (length_views w))) come.sent (no_text request.mode) b.0 come.spells come.anew in
+    let says = subst (λ (n : ℕ). IsShownAfter first (map view_of_end w.ends ++ view_of_end (Open_end x) ∷ []) (ok.messages ++ message x.address from (Says_oack n) ∷ [])) (sym (own_oack (known ∷ agreed) agreeable)) shown_now in
+    opening_keeps first strangers w v ok x report p (spells_own p (valid (λ e. cc))) says (at_server x.address refl) refl
     (record { phase = (refl, refl); held = empty_held request.mode; committed = λ _. refl }) refl o
 
 -- the request port refuses
-refusing_keeps : (strangers : Bool) (w v : WorldState) (from : Endpoint) (reply : ErrorReply) → IsOk strangers w → v ≡ said_in w (datagram request_port from (error_bytes reply)) → IsOk strangers v
-refusing_keeps strangers w v from reply ok e =
-    subst (λ (z : WorldState). IsOk strangers z) (sym e)
-    (saying_keeps strangers w ok request_port from (error_bytes reply) (error_packet reply) (spells_own (error_packet reply) (valid_error reply))
-    (says_error (map view_of_end w.ends) ok.messages ok.shown request_port from) (at_server request_port refl))
+refusing_keeps : (first : List Rule) (strangers : Bool) (w v : WorldState) (from : Endpoint) (reply : ErrorReply) → IsOkAfter first strangers w → v ≡ said_in w (datagram request_port from (error_bytes reply)) → IsOkAfter first strangers v
+refusing_keeps first strangers w v from reply ok e =
+    subst (λ (z : WorldState). IsOkAfter first strangers z) (sym e)
+    (saying_keeps first strangers w ok request_port from (error_bytes reply) (error_packet reply) (spells_own (error_packet reply) (valid_error reply))
+    (says_error first (map view_of_end w.ends) ok.messages ok.shown request_port from) (at_server request_port refl))
 
 -- either way of a test
 if_served : {A : Type 0} (P : A → Type 0) (b : Bool) (r s : A) → (b ≡ true → P r) → (b ≡ false → P s) → P (if b then r else s)
@@ -194,12 +194,12 @@ asked_so messages ends from bytes repeated decoded come spelled same true r e ne
 asked_so messages ends from bytes repeated decoded come spelled same false r e new =
     (r, refl, record { sent = come (Read r) e; spells = spelled (Read r) e; anew = none_answers from (Read r) ends repeated decoded same e new })
 
-module _ (strangers : Bool) (w v : WorldState) (from : Endpoint) (bytes : List ℕ) (report : Report) (ok : IsOk strangers w) where
+module _ (first : List Rule) (strangers : Bool) (w v : WorldState) (from : Endpoint) (bytes : List ℕ) (report : Report) (ok : IsOkAfter first strangers w) where
   abbrev Kept_by : Service → Type 0
-  Kept_by service = Serves service w from bytes report v → IsOk strangers v
+  Kept_by service = Serves service w from bytes report v → IsOkAfter first strangers v
 
   refused : (reply : ErrorReply) → Kept_by (Refused reply)
-  refused reply h = refusing_keeps strangers w v from reply ok h.1
+  refused reply h = refusing_keeps first strangers w v from reply ok h.1
 
   -- a read with the server's answer to its options
   sending_served : (path file : List ℕ) (mode : Mode) (options : List RawOption) (a : Result (List Known) Refusal) → WasAsked ok.messages w.ends from bytes false mode →
@@ -215,8 +215,8 @@ module _ (strangers : Bool) (w v : WorldState) (from : Endpoint) (bytes : List �
       let fits : Fits (wire_text mode file) (size agreed) = measured_fits mode file (size agreed) b.1 few in
       let small = let c = b.1 in let l : m < 65535 * MAX_BLOCK = omega arith in l in
       let same : o.0 ≡ file = same_Some o.0 file (sym o.1 ∙ there) in
-      subst (λ (n : Mode). Fits (wire_text n file) (size agreed) → Opens w (sending_end w from bytes n path file agreed) report v → IsOk strangers v) come.1
-      (sending_keeps strangers w v from bytes come.0 path file agreed report ok come.2 agreeable
+      subst (λ (n : Mode). Fits (wire_text n file) (size agreed) → Opens w (sending_end w from bytes n path file agreed) report v → IsOkAfter first strangers v) come.1
+      (sending_keeps first strangers w v from bytes come.0 path file agreed report ok come.2 agreeable
       (λ some. valid_oack kinds.Read mode m w.limits options agreed (omega (arith, small)) ok.max_block e some)) fits
       (subst (λ (g : List ℕ). Opens w (sending_end w from bytes mode path g agreed) report v) same o.2))
       (λ f. refused FileTooLarge)
@@ -230,8 +230,8 @@ module _ (strangers : Bool) (w v : WorldState) (from : Endpoint) (bytes : List �
   taking_served : (path : List ℕ) (mode : Mode) (options : List RawOption) (there : Option (List ℕ)) (agreed : List Known) → WasAsked ok.messages w.ends from bytes true mode →
       answer options kinds.Write mode 0 w.limits ≡ Ok agreed → Kept_by (by_draft path mode agreed (begun_of there))
   taking_served path mode options None agreed come e =
-      subst (λ (n : Mode). Opens w (receiving_end w from bytes n path agreed) report v → IsOk strangers v) come.1
-      (taking_keeps strangers w v from bytes come.0 path agreed report ok come.2 (answered_values kinds.Write mode 0 w.limits options agreed ok.max_block e)
+      subst (λ (n : Mode). Opens w (receiving_end w from bytes n path agreed) report v → IsOkAfter first strangers v) come.1
+      (taking_keeps first strangers w v from bytes come.0 path agreed report ok come.2 (answered_values kinds.Write mode 0 w.limits options agreed ok.max_block e)
       (λ some. valid_oack kinds.Write mode 0 w.limits options agreed (omega arith) ok.max_block e some))
   taking_served path mode options (Some file) agreed come e = refused FileExists
 
@@ -251,7 +251,7 @@ module _ (strangers : Bool) (w v : WorldState) (from : Endpoint) (bytes : List �
       if_served Kept_asking (nat_le w.cap (open_transfers w.ends)) (Refuses ServerBusy) (next path) (λ b. refused ServerBusy) (λ b. each path)
 
   unless_repeated : (repeated : Bool) (ask : Ask) → (repeated ≡ false → Kept_asking ask) → Kept_asking (by_repeat repeated ask)
-  unless_repeated repeated ask kept = if_served Kept_asking repeated Ignores ask (λ b h. stays_ok strangers w v report ok h) kept
+  unless_repeated repeated ask kept = if_served Kept_asking repeated Ignores ask (λ b h. stays_ok first strangers w v report ok h) kept
 
   by_request : (repeated : Bool) (decoded : Option WirePacket) → AsksSo ok.messages w.ends from bytes repeated decoded → Kept_asking (by_packet w.cap (open_transfers w.ends) repeated w.limits decoded)
   by_request repeated None come = refused IllegalOperation
@@ -271,5 +271,5 @@ module _ (strangers : Bool) (w v : WorldState) (from : Endpoint) (bytes : List �
   pub serving_keeps : (repeated : Bool) (decoded : Option WirePacket) → AsksSo ok.messages w.ends from bytes repeated decoded → Kept_by (service w repeated bytes decoded)
   serving_keeps repeated decoded come =
       if_served Kept_asking (has_error_opcode bytes) Ignores (by_packet w.cap (open_transfers w.ends) repeated w.limits decoded)
-      (λ b h. stays_ok strangers w v report ok h)
+      (λ b h. stays_ok first strangers w v report ok h)
       (λ b. by_request repeated decoded come)

@@ -3,7 +3,7 @@ use Rattle.std.proofs.Common.{◌≡◌, ℕ, Bool, true, false, List, [], ◌�
 use Rattle.std.specs.Prelude.{if◌then◌else◌, is_some, slice_get}
 use Rattle.std.specs.List.{Contains}
 use Rattle.std.proofs.lemmas.Bool.{true≢false}
-use Rattle.std.proofs.lemmas.List.{map-set}
+use Rattle.std.proofs.lemmas.List.{map-set, append-nil}
 use Rattle.std.proofs.lemmas.List.Elements.{Contains-append_cases, Contains-append_left, Contains-append_right, Contains-push}
 use Rattle.std.proofs.lemmas.Option.{same_Some}
 use Rattle.tftp_wire.specs.declared.packet.Packet.{Packet as WirePacket}
@@ -17,13 +17,13 @@ use Rattle.tftp_ends.specs.End.{is_sender, is_client}
 use Rattle.tftp_ends.specs.Action.{Decodes, timeout_response}
 use Rattle.tftp_ends.specs.Step.{timeout_turn}
 use Rattle.tftp_machine.specs.Machine.{Endpoint, Elsewhere, host_of, Message}
-use Rattle.tftp_machine.specs.Rules.{message}
+use Rattle.tftp_machine.specs.Rules.{Rule, message, IsLegal, run, start}
 use Rattle.tftp_player.specs.Said.{said}
-use Rattle.tftp_machine.specs.Shows.{EndView, IsShown}
+use Rattle.tftp_machine.specs.Shows.{EndView, Shows, IsShownAfter}
 use Rattle.tftp_player.specs.World.{WorldState, OpenEnd, WorldEnd, Open_end, Closed_end, StoredFile, file_at, in_the_way, datagram, files_of, new_world, view_of_end}
-use Rattle.tftp_player.specs.WorldSteps.{may_refuse_commit, OnDatagram, Arrives, At_request_port, At_open_end, At_closed_end, At_nobody, TimesOut, told_end}
-use Rattle.tftp_player.specs.WorldKept.{PhaseKept, IsKeptIn, IsOk}
-use Rattle.tftp_player.specs.WorldRuns.{Runs, MayAllHappen, StepsKeep}
+use Rattle.tftp_player.specs.WorldSteps.{may_refuse_commit, OnDatagram, Arrives, At_request_port, At_open_end, At_closed_end, At_nobody, TimesOut, told_end, WorldStep}
+use Rattle.tftp_player.specs.WorldKept.{PhaseKept, IsKeptIn, IsOkAfter, IsOk}
+use Rattle.tftp_player.specs.WorldRuns.{Runs, MayHappen, MayAllHappen, StepsKeep, StepsAreRules}
 use Rattle.tftp_player.specs.WorldSafety.{HasPeersAtHome}
 use Rattle.tftp_player.specs.declared.datagram.Datagram.{Datagram}
 use Rattle.tftp_player.specs.declared.event.Event.{Event}
@@ -50,14 +50,14 @@ set_same {X = X} (y ∷ ys) zero x e = ap (λ (z : X). z ∷ ys) (sym (same_Some
 set_same {X = X} (y ∷ ys) (suc k) x e = ap (λ (zs : List X). y ∷ zs) (set_same ys k x e)
 
 -- what a datagram of the list says is there
-pub come_from : (strangers : Bool) (w : WorldState) (ok : IsOk strangers w) (d : Datagram) → Contains w.sent d → (p : WirePacket) → Spells p d.bytes → Contains ok.messages (message d.from d.to (said p))
-come_from strangers w ok d i p s =
+pub come_from : (first : List Rule) (strangers : Bool) (w : WorldState) (ok : IsOkAfter first strangers w) (d : Datagram) → Contains w.sent d → (p : WirePacket) → Spells p d.bytes → Contains ok.messages (message d.from d.to (said p))
+come_from first strangers w ok d i p s =
     let h = ok.sent d i in
     let same : h.1.packet ≡ p = one_meaning h.1.packet p d.bytes h.1.spells s in
     subst (λ (q : WirePacket). Contains ok.messages (message d.from d.to (said q))) same (subst (λ (m : Message). Contains ok.messages m) h.1.says h.2)
 
-there_now : (strangers : Bool) (w : WorldState) (ok : IsOk strangers w) (from to : Endpoint) (bytes : List ℕ) → Contains w.sent (datagram from to bytes) → IsThere ok.messages from to bytes
-there_now strangers w ok from to bytes i =
+there_now : (first : List Rule) (strangers : Bool) (w : WorldState) (ok : IsOkAfter first strangers w) (from to : Endpoint) (bytes : List ℕ) → Contains w.sent (datagram from to bytes) → IsThere ok.messages from to bytes
+there_now first strangers w ok from to bytes i =
     let h = ok.sent (datagram from to bytes) i in
     (h.1.packet, h.1.spells, subst (λ (m : Message). Contains ok.messages m) h.1.says h.2)
 
@@ -65,9 +65,9 @@ pub says_spelled : (bytes : List ℕ) (decoded : Option WirePacket) → Decodes 
 says_spelled bytes (Some q) s p e = subst (λ (z : WirePacket). Spells z bytes) (same_Some q p e) s
 says_spelled bytes None s p e = absurd (let f : None ≡ Some p = e in cc)
 
-module _ (strangers : Bool) (w v : WorldState) (ok : IsOk strangers w) (report : Report) where
+module _ (first : List Rule) (strangers : Bool) (w v : WorldState) (ok : IsOkAfter first strangers w) (report : Report) where
   -- an open end stands among all that is shown
-  stands : (k : ℕ) (x : OpenEnd) → slice_get w.ends k ≡ Some (Open_end x) → Stands (map view_of_end w.ends) ok.messages k (open_view x)
+  stands : (k : ℕ) (x : OpenEnd) → slice_get w.ends k ≡ Some (Open_end x) → Stands first (map view_of_end w.ends) ok.messages k (open_view x)
   stands k x at = record {
     shown = ok.shown;
     place = view_at w.ends k (Open_end x) at ∙ ap (λ (v : EndView). Some v) (open_is x (ap is_some (ok.ends k (Open_end x) at).stands.still));
@@ -75,36 +75,36 @@ module _ (strangers : Bool) (w v : WorldState) (ok : IsOk strangers w) (report :
 
   -- how an end handled a datagram keeps the world
   datagram_keeps : (k : ℕ) (x : OpenEnd) (from : Endpoint) (bytes : List ℕ) → slice_get w.ends k ≡ Some (Open_end x) →
-      ((p : WirePacket) → Spells p bytes → Contains ok.messages (message from x.address (said p))) → OnDatagram w k x from bytes report v → IsOk strangers v
+      ((p : WirePacket) → Spells p bytes → Contains ok.messages (message from x.address (said p))) → OnDatagram w k x from bytes report v → IsOkAfter first strangers v
   datagram_keeps k x from bytes at come h =
       let here = (ok.ends k (Open_end x) at).stands in
       let spelled = says_spelled bytes h.steps.decoded h.steps.says in
-      let old = there_now strangers w ok x.address x.state.position.last_sent_to x.state.position.last_sent here.last_sent in
-      let goes_now = by_datagram (map view_of_end w.ends) ok.messages k x (may_refuse_commit (is_client x.state.role.side) (in_the_way w.overwrite (file_at w.files x.path))) from bytes h.steps.decoded spelled
+      let old = there_now first strangers w ok x.address x.state.position.last_sent_to x.state.position.last_sent here.last_sent in
+      let goes_now = by_datagram first (map view_of_end w.ends) ok.messages k x (may_refuse_commit (is_client x.state.role.side) (in_the_way w.overwrite (file_at w.files x.path))) from bytes h.steps.decoded spelled
       (λ p e. come p (spelled p e)) old x.state.position.phase (stands k x at) here.kept (ap is_some here.still) h.turn h.held h.steps.acts in
-      turn_keeps strangers w v ok k x h.turn h.held report at goes_now h.turns
+      turn_keeps first strangers w v ok k x h.turn h.held report at goes_now h.turns
 
   -- a datagram that came keeps the world
   pub arrives_keeps : (from to : Endpoint) (bytes : List ℕ) → ((p : WirePacket) → Spells p bytes → Contains ok.messages (message from to (said p))) →
-      Arrives w from to bytes report v → IsOk strangers v
+      Arrives w from to bytes report v → IsOkAfter first strangers v
   arrives_keeps from to bytes come (At_request_port here port decoded says repeated same served) =
       let spelled = says_spelled bytes decoded says in
-      serving_keeps strangers w v from bytes report ok repeated decoded
+      serving_keeps first strangers w v from bytes report ok repeated decoded
       (asked_so ok.messages w.ends from bytes repeated decoded (λ p e. subst (λ (a : Endpoint). Contains ok.messages (message from a (said p))) here (come p (spelled p e))) spelled same) served
   arrives_keeps from to bytes come (At_open_end k x at here h) =
       datagram_keeps k x from bytes at (λ p s. subst (λ (a : Endpoint). Contains ok.messages (message from a (said p))) (sym here) (come p s)) h
-  arrives_keeps from to bytes come (At_closed_end k x at here s) = stays_ok strangers w v report ok s
-  arrives_keeps from to bytes come (At_nobody away nobody_there s) = stays_ok strangers w v report ok s
+  arrives_keeps from to bytes come (At_closed_end k x at here s) = stays_ok first strangers w v report ok s
+  arrives_keeps from to bytes come (At_nobody away nobody_there s) = stays_ok first strangers w v report ok s
 
   -- a timeout keeps the world
-  timeout_keeps : (k : ℕ) (x : WorldEnd) → slice_get w.ends k ≡ Some x → TimesOut w k x report v → IsOk strangers v
-  timeout_keeps k (Closed_end x) at s = stays_ok strangers w v report ok s
+  timeout_keeps : (k : ℕ) (x : WorldEnd) → slice_get w.ends k ≡ Some x → TimesOut w k x report v → IsOkAfter first strangers v
+  timeout_keeps k (Closed_end x) at s = stays_ok first strangers w v report ok s
   timeout_keeps k (Open_end x) at t =
       let here = (ok.ends k (Open_end x) at).stands in
-      let old = there_now strangers w ok x.address x.state.position.last_sent_to x.state.position.last_sent here.last_sent in
-      let g = by_timeout (map view_of_end w.ends) ok.messages k x old x.state.position.phase (stands k x at) here.kept (ap is_some here.still) in
-      turn_keeps strangers w v ok k x (timeout_turn x.state) (files_of x) report at
-      (from_response (map view_of_end w.ends) ok.messages k x (timeout_response x.state.position.retries_left x.state.position.phase) x.state.position.last_sent_to (timeout_turn x.state) (files_of x) g (refl, refl)) t
+      let old = there_now first strangers w ok x.address x.state.position.last_sent_to x.state.position.last_sent here.last_sent in
+      let g = by_timeout first (map view_of_end w.ends) ok.messages k x old x.state.position.phase (stands k x at) here.kept (ap is_some here.still) in
+      turn_keeps first strangers w v ok k x (timeout_turn x.state) (files_of x) report at
+      (from_response first (map view_of_end w.ends) ok.messages k x (timeout_response x.state.position.retries_left x.state.position.phase) x.state.position.last_sent_to (timeout_turn x.state) (files_of x) g (refl, refl)) t
 
 -- what is to be refused has no part in what an end tells
 told_open : (b : Bool) (x : OpenEnd) → view_of_end (Open_end (if b then x else record x { refuses = true })) ≡ view_of_end (Open_end x)
@@ -152,9 +152,9 @@ same_kept w ends (Open_end x) h = record { stands = record { still = h.stands.st
 same_kept w ends (Closed_end x) h = record { stands = h.stands; stored = h.stored }
 
 -- who is told to refuse keeps the world
-told_keeps : (strangers : Bool) (w : WorldState) (ok : IsOk strangers w) (k : ℕ) (x : WorldEnd) → slice_get w.ends k ≡ Some x →
-    IsOk strangers (record w { ends = set w.ends k (told_end x) })
-told_keeps strangers w ok k x at =
+told_keeps : (first : List Rule) (strangers : Bool) (w : WorldState) (ok : IsOkAfter first strangers w) (k : ℕ) (x : WorldEnd) → slice_get w.ends k ≡ Some x →
+    IsOkAfter first strangers (record w { ends = set w.ends k (told_end x) })
+told_keeps first strangers w ok k x at =
     let y = told_end x in
     let v = record w { ends = set w.ends k y } in
     let same : map view_of_end (set w.ends k y) ≡ map view_of_end w.ends =
@@ -162,7 +162,7 @@ told_keeps strangers w ok k x at =
     ∙ set_same (map view_of_end w.ends) k (view_of_end x) (view_at w.ends k x at)) in
     record {
       messages = ok.messages;
-      shown = subst (λ (vs : List EndView). IsShown vs ok.messages) (sym same) ok.shown;
+      shown = subst (λ (vs : List EndView). IsShownAfter first vs ok.messages) (sym same) ok.shown;
       sent = ok.sent;
       only = ok.only;
       speakers = ok.speakers;
@@ -174,12 +174,12 @@ told_keeps strangers w ok k x at =
     }
 
 -- a stranger has spoken
-stray_ok : (w : WorldState) (ok : IsOk true w) (from to : Endpoint) (p : WirePacket) → host_of from ≡ Elsewhere → IsOk true w
-stray_ok w ok from to p far =
+stray_ok : (first : List Rule) (w : WorldState) (ok : IsOkAfter first true w) (from to : Endpoint) (p : WirePacket) → host_of from ≡ Elsewhere → IsOkAfter first true w
+stray_ok first w ok from to p far =
     let m = message from to (said p) in
     record {
       messages = ok.messages ++ m ∷ [];
-      shown = strays (map view_of_end w.ends) ok.messages ok.shown m far;
+      shown = strays first (map view_of_end w.ends) ok.messages ok.shown m far;
       sent = λ d i. let h = ok.sent d i in (h.0, h.1, Contains-append_left ok.messages (m ∷ []) h.0 h.2);
       only = λ n i. elim (Contains-append_cases ok.messages (m ∷ []) n i) [
         | inl o ↦ ok.only n o
@@ -191,37 +191,57 @@ stray_ok w ok from to p far =
     }
 
 -- the world with what a stranger said
-pub with_decoded : (w : WorldState) (ok : IsOk true w) (from to : Endpoint) (bytes : List ℕ) (decoded : Option WirePacket) → host_of from ≡ Elsewhere → Decodes bytes decoded →
-    (more : IsOk true w) × ((p : WirePacket) → Spells p bytes → Contains more.messages (message from to (said p)))
+pub with_decoded : (first : List Rule) (w : WorldState) (ok : IsOkAfter first true w) (from to : Endpoint) (bytes : List ℕ) (decoded : Option WirePacket) → host_of from ≡ Elsewhere → Decodes bytes decoded →
+    (more : IsOkAfter first true w) × ((p : WirePacket) → Spells p bytes → Contains more.messages (message from to (said p)))
 unfolding stray_ok
-with_decoded w ok from to bytes (Some q) far says = (
-  stray_ok w ok from to q far,
+with_decoded first w ok from to bytes (Some q) far says = (
+  stray_ok first w ok from to q far,
   λ p s. let e = one_meaning q p bytes says s in
       subst (λ (z : WirePacket). Contains (ok.messages ++ message from to (said q) ∷ []) (message from to (said z))) e (Contains-push ok.messages (message from to (said q))),
 )
-with_decoded w ok from to bytes None far says =
+with_decoded first w ok from to bytes None far says =
     (ok, λ p s. absurd (let f : None ≡ Some says.0 = sym (spelled_has_no_fault p bytes s) ∙ says.1 in cc))
 
-pub stray_keeps : (w v : WorldState) (ok : IsOk true w) (report : Report) (from to : Endpoint) (bytes : List ℕ) → host_of from ≡ Elsewhere → Arrives w from to bytes report v → IsOk true v
-stray_keeps w v ok report from to bytes far (At_request_port here port decoded says repeated same served) =
-    let h = with_decoded w ok from to bytes decoded far says in
-    arrives_keeps true w v h.0 report from to bytes h.1 (At_request_port here port decoded says repeated same served)
-stray_keeps w v ok report from to bytes far (At_open_end k x at here g) =
-    let h = with_decoded w ok from to bytes g.steps.decoded far g.steps.says in
-    arrives_keeps true w v h.0 report from to bytes h.1 (At_open_end k x at here g)
-stray_keeps w v ok report from to bytes far (At_closed_end k x at here s) = stays_ok true w v report ok s
-stray_keeps w v ok report from to bytes far (At_nobody away nobody_there s) = stays_ok true w v report ok s
+pub stray_keeps : (first : List Rule) (w v : WorldState) (ok : IsOkAfter first true w) (report : Report) (from to : Endpoint) (bytes : List ℕ) → host_of from ≡ Elsewhere → Arrives w from to bytes report v → IsOkAfter first true v
+stray_keeps first w v ok report from to bytes far (At_request_port here port decoded says repeated same served) =
+    let h = with_decoded first w ok from to bytes decoded far says in
+    arrives_keeps first true w v h.0 report from to bytes h.1 (At_request_port here port decoded says repeated same served)
+stray_keeps first w v ok report from to bytes far (At_open_end k x at here g) =
+    let h = with_decoded first w ok from to bytes g.steps.decoded far g.steps.says in
+    arrives_keeps first true w v h.0 report from to bytes h.1 (At_open_end k x at here g)
+stray_keeps first w v ok report from to bytes far (At_closed_end k x at here s) = stays_ok first true w v report ok s
+stray_keeps first w v ok report from to bytes far (At_nobody away nobody_there s) = stays_ok first true w v report ok s
 
--- each step keeps the world
+-- each step keeps the world, by more rules
+step_after : (first : List Rule) (strangers : Bool) (w v : WorldState) (event : Event) (report : Report) → MayHappen strangers event → IsOkAfter first strangers w → WorldStep w event report v → IsOkAfter first strangers v
+step_after first strangers w v (Get name mode asked) report may ok s = reading_keeps first strangers w v name mode asked report ok s.1 s.2
+step_after first strangers w v (Put name mode asked bytes) report may ok s = writing_keeps first strangers w v name mode asked bytes report ok s.1 s.2
+step_after first strangers w v (Deliver i) report may ok s =
+    arrives_keeps first strangers w v ok report s.0.from s.0.to s.0.bytes (come_from first strangers w ok s.0 (contains_at w.sent i s.0 s.1)) s.2
+step_after first strangers w v (Timeout port) report may ok s = timeout_keeps first strangers w v ok report s.0 s.1 s.2.there s.3
+step_after first strangers w v (RefuseStore port) report may ok s = subst (λ (z : WorldState). IsOkAfter first strangers z) (sym s.4) (told_keeps first strangers w ok s.0 s.1 s.2.there)
+step_after first true w v (Stray from to bytes) report may ok s = stray_keeps first w v ok report from to bytes s.0 s.1
+step_after first false w v (Stray from to bytes) report may ok s = absurd may
+
 pub step_keeps : StepsKeep
-step_keeps strangers w v (Get name mode asked) report may ok s = reading_keeps strangers w v name mode asked report ok s.1 s.2
-step_keeps strangers w v (Put name mode asked bytes) report may ok s = writing_keeps strangers w v name mode asked bytes report ok s.1 s.2
-step_keeps strangers w v (Deliver i) report may ok s =
-    arrives_keeps strangers w v ok report s.0.from s.0.to s.0.bytes (come_from strangers w ok s.0 (contains_at w.sent i s.0 s.1)) s.2
-step_keeps strangers w v (Timeout port) report may ok s = timeout_keeps strangers w v ok report s.0 s.1 s.2.there s.3
-step_keeps strangers w v (RefuseStore port) report may ok s = subst (λ (z : WorldState). IsOk strangers z) (sym s.4) (told_keeps strangers w ok s.0 s.1 s.2.there)
-step_keeps true w v (Stray from to bytes) report may ok s = stray_keeps w v ok report from to bytes s.0 s.1
-step_keeps false w v (Stray from to bytes) report may ok s = absurd may
+step_keeps = step_after []
+
+-- no more rules
+pub none_more : (strangers : Bool) (w : WorldState) (ok : IsOk strangers w) → IsOkAfter ok.shown.0 strangers w
+none_more strangers w ok = record {
+  messages = ok.messages;
+  shown =
+      let same = append-nil ok.shown.0 in
+      ([], subst (λ (rs : List Rule). IsLegal rs start) (sym same) ok.shown.1, subst (λ (rs : List Rule). Shows (map view_of_end w.ends) ok.messages (run rs start)) (sym same) ok.shown.2);
+  sent = ok.sent;
+  only = ok.only;
+  speakers = ok.speakers;
+  max_block = ok.max_block;
+  ends = ok.ends;
+}
+
+pub steps_are_rules : StepsAreRules
+steps_are_rules strangers w v event report may ok s = step_after ok.shown.0 strangers w v event report may (none_more strangers w ok) s
 
 -- so do all of them
 pub run_keeps : (strangers : Bool) (events : List Event) (w v : WorldState) → MayAllHappen strangers events → IsOk strangers w → Runs w events v → IsOk strangers v

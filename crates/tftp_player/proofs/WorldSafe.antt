@@ -96,11 +96,11 @@ module _ (strangers : Bool) (w : WorldState) (ok : IsOk strangers w) where
   committed (Open_end x) h r d = h.stands.kept.committed r ∙ d
   committed (Closed_end x) h r d = h.stands r ∙ d
 
-  matched : (k : ℕ) (x : WorldEnd) → slice_get w.ends k ≡ Some x → Matches (view_of_end x) ((world_machine strangers w ok).0.party (end_address x))
-  matched k x i = ((world_machine strangers w ok).3.ends k (view_of_end x) (view_at w.ends k x i)).0
+  matched : (k : ℕ) (x : WorldEnd) → slice_get w.ends k ≡ Some x → Matches (view_of_end x) ((world_machine [] strangers w ok).0.party (end_address x))
+  matched k x i = ((world_machine [] strangers w ok).3.ends k (view_of_end x) (view_at w.ends k x i)).0
 
-  sound : (k : ℕ) (x : WorldEnd) → slice_get w.ends k ≡ Some x → IsSound (world_machine strangers w ok).0.party (end_address x) ((world_machine strangers w ok).0.party (end_address x))
-  sound k x i = (world_machine strangers w ok).1.ends (end_address x) (matched k x i).is_open
+  sound : (k : ℕ) (x : WorldEnd) → slice_get w.ends k ≡ Some x → IsSound (world_machine [] strangers w ok).0.party (end_address x) ((world_machine [] strangers w ok).0.party (end_address x))
+  sound k x i = (world_machine [] strangers w ok).1.ends (end_address x) (matched k x i).is_open
 
   pub ok_safe : IsSafe w
   ok_safe = record {

@@ -15,9 +15,9 @@ use Rattle.tftp_ends.specs.declared.phase.Phase.TheVariants.{Waiting, Sending, R
 use Rattle.tftp_ends.specs.declared.phase.Terms.{Terms}
 use Rattle.tftp_ends.specs.End.{is_sender, is_client, is_complete, outcome_of}
 use Rattle.tftp_machine.specs.Machine.{Endpoint, Elsewhere, host_of, request_port, Message}
-use Rattle.tftp_machine.specs.Rules.{message}
+use Rattle.tftp_machine.specs.Rules.{Rule, message}
 use Rattle.tftp_player.specs.Said.{said}
-use Rattle.tftp_machine.specs.Shows.{IsShown}
+use Rattle.tftp_machine.specs.Shows.{IsShownAfter}
 use Rattle.tftp_player.specs.World.{WorldState, OpenEnd, ClosedEnd, WorldEnd, Open_end, Closed_end, end_record, end_path, end_stored, file_at, datagram, view_of_end}
 use Rattle.tftp_player.specs.declared.datagram.Datagram.{Datagram}
 
@@ -93,11 +93,11 @@ pub record SaysSo (d : Datagram) (m : Message) : Type 0 where
 abbrev pub MaySpeak : Bool → Endpoint → Type 0
 MaySpeak strangers a = strangers ≡ false → host_of a ≢ Elsewhere
 
--- a guarded machine that keeps its facts shows the world's ends and what was sent; `strangers` says that
--- somebody at neither host may have spoken
-pub record IsOk (strangers : Bool) (w : WorldState) : Type 0 where
+-- a legal list of rules, of which these are the first, leads to a machine that the world's ends and what was sent
+-- show; `strangers` says that somebody at neither host may have spoken
+pub record IsOkAfter (first : List Rule) (strangers : Bool) (w : WorldState) : Type 0 where
   pub messages : List Message
-  pub shown : IsShown (map view_of_end w.ends) messages
+  pub shown : IsShownAfter first (map view_of_end w.ends) messages
   -- what was sent is there
   pub sent : (d : Datagram) → Contains w.sent d → (m : Message) × SaysSo d m × Contains messages m
   -- and what is there was sent, or a stranger said it
@@ -106,3 +106,7 @@ pub record IsOk (strangers : Bool) (w : WorldState) : Type 0 where
   pub speakers : (m : Message) → Contains messages m → MaySpeak strangers m.from
   pub max_block : IsBlockSize w.limits.max_block
   pub ends : (k : ℕ) (x : WorldEnd) → slice_get w.ends k ≡ Some x → IsKeptIn w x
+
+-- a legal list of rules leads to it
+abbrev pub IsOk : Bool → WorldState → Type 0
+IsOk strangers w = IsOkAfter [] strangers w

@@ -15,7 +15,8 @@ ghost use Rattle.tftp_player.specs.Straight.{ReadsComplete, WritesComplete, Read
 ghost use Rattle.tftp_player.specs.Straight.{WritesSettle};
 ghost use Rattle.tftp_player.specs.Straight.{SomeReadIsStraight, SomeWriteIsStraight};
 ghost use Rattle.tftp_player.specs.Strangers.{StraysChangeNoRecord, ClientsHaveServers};
-ghost use Rattle.tftp_player.specs.WorldRuns.{WorldsAreSafe, PeersStayHome, StepsKeep, KeptIsSafe};
+ghost use Rattle.tftp_player.specs.WorldRuns.{WorldsAreSafe, PeersStayHome, StepsKeep};
+ghost use Rattle.tftp_player.specs.WorldRuns.{StepsAreRules, KeptIsSafe};
 ghost use Rattle.tftp_player.specs.WorldRuns.{NewWorldsBegin};
 
 /// After every list of events, from a world in which nothing has happened: the ends of an
@@ -39,10 +40,12 @@ pub fn some_worlds_transfer()
 {}
 
 /// What makes a world safe holds of a new one, and is kept by each event, in both modes, for reads
-/// and for writes.
+/// and for writes. An event is rules of the guarded machine, which go on where the old world was
+/// shown and lead to where the new one is.
 pub fn a_step_keeps_a_world()
     ensures begins { NewWorldsBegin }
     ensures kept { StepsKeep }
+    ensures rules { StepsAreRules }
     ensures safe { KeptIsSafe }
 {}
 
