@@ -5,4 +5,5 @@ pub mod Fallback
 pub mod LogLine
 pub mod Printed
 pub mod ProgressLine
+pub mod Reason
 pub mod Watch

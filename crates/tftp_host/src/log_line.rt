@@ -1,7 +1,31 @@
 //! The lines of `tftpd --log`.
 
+use crate::reason::Reason;
 use std::fmt;
 use tftp_ends::{Endpoint, Outcome};
+
+/// For want of what a request is lost.
+#[derive(Clone, Copy, Debug, PartialEq, Eq)]
+pub enum Lost {
+    /// No port can be bound.
+    Port,
+    /// Out of memory.
+    Memory,
+}
+
+impl fmt::Display for Lost {
+    ghost use Rattle.std.specs.Prelude.{Some};
+    ghost use Rattle.tftp_host.specs.LogLine.{lost_text};
+
+    ghost output = { λ lost. Some (lost_text lost) };
+
+    fn fmt<W: fmt::Write>(&self, f: &mut fmt::Formatter<W>) -> fmt::Result {
+        match *self {
+            Lost::Port => f.write_str("no port"),
+            Lost::Memory => f.write_str("out of memory"),
+        }
+    }
+}
 
 /// A line of the log of `tftpd`. A datagram stands in it as its packet's line, or as its first
 /// fault.
@@ -14,19 +38,28 @@ pub enum LogLine<'a> {
         request: &'a str,
         answer: &'a str,
     },
-    /// A datagram came to the request port, opened no transfer and was answered so.
+    /// A datagram came to the request port, opened no transfer and was answered so; why, where the
+    /// system refused a call on a file.
     Refused {
         peer: Endpoint,
         request: &'a str,
         answer: &'a str,
+        reason: Option<Reason>,
     },
     /// A datagram came to the request port, opened no transfer and was not answered.
     Ignored {
         peer: Endpoint,
         request: &'a str,
     },
-    /// A transfer closed, after so many bytes of DATA and so many milliseconds. `answer` is its
-    /// first one, which has the options that were agreed.
+    /// A request came that might have opened a transfer, and is lost.
+    Lost {
+        peer: Endpoint,
+        request: &'a str,
+        lost: Lost,
+    },
+    /// A transfer closed, after so many bytes of DATA and so many milliseconds; why, where the
+    /// system refused a call on its file. `answer` is its first one, which has the options that
+    /// were agreed.
     Closed {
         port: u16,
         peer: Endpoint,
@@ -35,7 +68,26 @@ pub enum LogLine<'a> {
         bytes: u64,
         millis: u64,
         outcome: Outcome,
+        reason: Option<Reason>,
     },
+}
+
+/// The end of a line: why, where that is known.
+#[derive(Clone, Copy)]
+struct Why(Option<Reason>);
+
+impl fmt::Display for Why {
+    ghost use Rattle.std.specs.Prelude.{Some};
+    ghost use Rattle.tftp_host.specs.LogLine.{why_text};
+
+    ghost output = { λ why. Some (why_text why.0) };
+
+    fn fmt<W: fmt::Write>(&self, f: &mut fmt::Formatter<W>) -> fmt::Result {
+        match self.0 {
+            Some(reason) => write!(f, ", {reason}"),
+            None => Ok(()),
+        }
+    }
 }
 
 impl fmt::Display for LogLine<'_> {
@@ -56,8 +108,17 @@ impl fmt::Display for LogLine<'_> {
                 peer,
                 request,
                 answer,
-            } => write!(f, "refused {peer} {request}: {answer}"),
+                reason,
+            } => {
+                let why = Why(reason);
+                write!(f, "refused {peer} {request}: {answer}{why}")
+            }
             LogLine::Ignored { peer, request } => write!(f, "ignored {peer} {request}"),
+            LogLine::Lost {
+                peer,
+                request,
+                lost,
+            } => write!(f, "lost {peer} {request}: {lost}"),
             LogLine::Closed {
                 port,
                 peer,
@@ -66,10 +127,14 @@ impl fmt::Display for LogLine<'_> {
                 bytes,
                 millis,
                 outcome,
-            } => write!(
-                f,
-                "closed {port} {peer} {request}: {answer}, {bytes} bytes, {millis} ms, {outcome}"
-            ),
+                reason,
+            } => {
+                let why = Why(reason);
+                write!(
+                    f,
+                    "closed {port} {peer} {request}: {answer}, {bytes} bytes, {millis} ms, {outcome}{why}"
+                )
+            }
         }
     }
 }

@@ -5,7 +5,7 @@ use std::fmt::Display;
 use std::process::Abort;
 use std::test::Fail;
 use tftp_ends::{Endpoint, OpenFault, Outcome};
-use tftp_host::{ClientEnd, LineClock, LogLine, Printed, ProgressLine};
+use tftp_host::{ClientEnd, LineClock, LogLine, Lost, Printed, ProgressLine, Reason};
 
 /// A value prints this.
 fn prints<R: AllocGlobal + Abort, D: Display>(rt: &R, value: &D, wanted: &str) -> Result<(), Fail> {
@@ -127,6 +127,7 @@ fn log_lines(rt: HostRuntime) -> Result<(), Fail> {
         peer: PEER,
         request: "RRQ b octet",
         answer: "ERROR 1 (file not found)",
+        reason: None,
     };
     prints(
         &rt,
@@ -141,6 +142,29 @@ fn log_lines(rt: HostRuntime) -> Result<(), Fail> {
     Ok(())
 }
 
+/// The lines of a log of a request that the system refused a file, and of one that was lost.
+#[test]
+fn log_lines_of_the_system(rt: HostRuntime) -> Result<(), Fail> {
+    let refused = LogLine::Refused {
+        peer: PEER,
+        request: "RRQ b octet",
+        answer: "ERROR 2 (access violation)",
+        reason: Some(Reason::TooManyOpenFiles),
+    };
+    prints(
+        &rt,
+        &refused,
+        "refused 10.0.0.2:1024 RRQ b octet: ERROR 2 (access violation), too many open files",
+    )?;
+    let lost = LogLine::Lost {
+        peer: PEER,
+        request: "RRQ b octet",
+        lost: Lost::Port,
+    };
+    prints(&rt, &lost, "lost 10.0.0.2:1024 RRQ b octet: no port")?;
+    Ok(())
+}
+
 /// The line of a log of a transfer that has closed.
 #[test]
 fn closing_log_line(rt: HostRuntime) -> Result<(), Fail> {
@@ -152,6 +176,7 @@ fn closing_log_line(rt: HostRuntime) -> Result<(), Fail> {
         bytes: 3,
         millis: 12,
         outcome: Outcome::Complete,
+        reason: None,
     };
     let wanted = "closed 1025 10.0.0.2:1024 RRQ a octet: DATA 1 3, 3 bytes, 12 ms, Complete";
     prints(&rt, &closed, wanted)?;

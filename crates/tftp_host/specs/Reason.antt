@@ -1,0 +1,39 @@
+-- Why the system refused a call on a file (own).
+use Rattle.std.specs.Prelude.{ℕ, ℤ, unsigned_abs, List, ◌++◌, codes, Option, Some, None, if◌then◌else◌, ◌==◌}
+use Rattle.std.specs.Fmt.{decimal}
+use Rattle.tftp_host.specs.declared.reason.Reason.{Reason}
+use Rattle.tftp_host.specs.declared.reason.Reason.TheVariants as reasons
+
+-- the reason that an error number of Linux is
+abbrev pub reason_of_number : ℕ → Reason
+reason_of_number number =
+    if number == 1 then reasons.PermissionDenied else
+    if number == 12 then reasons.OutOfMemory else
+    if number == 13 then reasons.PermissionDenied else
+    if number == 18 then reasons.AnotherDevice else
+    if number == 23 then reasons.TooManyOpenFiles else
+    if number == 24 then reasons.TooManyOpenFiles else
+    if number == 27 then reasons.FileTooLarge else
+    if number == 28 then reasons.NoSpace else
+    if number == 30 then reasons.ReadOnlyFileSystem else
+    if number == 122 then reasons.QuotaExceeded else
+    reasons.System number
+
+-- the reason of an error with this number, where it has one
+abbrev pub reason_of : Option ℤ → Reason
+reason_of (Some code) = reason_of_number (unsigned_abs code)
+reason_of None = reasons.Other
+
+-- the words for a reason
+abbrev pub reason_text : Reason → List ℕ
+reason_text reasons.NoSpace = codes "no space"
+reason_text reasons.QuotaExceeded = codes "quota exceeded"
+reason_text reasons.FileTooLarge = codes "file too large"
+reason_text reasons.TooManyOpenFiles = codes "too many open files"
+reason_text reasons.PermissionDenied = codes "permission denied"
+reason_text reasons.ReadOnlyFileSystem = codes "read-only file system"
+reason_text reasons.AnotherDevice = codes "another device"
+reason_text reasons.OutOfMemory = codes "out of memory"
+reason_text reasons.DraftReplaced = codes "draft replaced"
+reason_text (reasons.System number) = codes "system error " ++ decimal number
+reason_text reasons.Other = codes "another error"
