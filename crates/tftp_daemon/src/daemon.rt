@@ -92,7 +92,7 @@ impl From<AllocError> for ServiceFault {
 struct Daemon<R: Files + Drop> {
     server: Server<FolderStore<R>>,
     sockets: Sockets,
-    ports: Vec<TransferPort<R>>,
+    ports: Vec<TransferPort>,
     out: Vec<u8>,
     tids: Vec<u16>,
     logs: bool,
@@ -119,7 +119,7 @@ impl Room {
 }
 
 /// The port of a transfer.
-type TransferPort<R> = Port<TransferSocket<<R as Files>::File>>;
+type TransferPort = Port<TransferSocket>;
 
 /// Serves until so many transfers have closed, or so many waits are over.
 pub(crate) fn serve<R: Files + Clone + Drop + Udp + Clock + Print + Eprint>(
@@ -152,10 +152,17 @@ fn open_server<R: Files + Clone + Drop>(
     if service.read_only {
         store.refuse_writes();
     }
+    store.set_longest(longest_text(service.config.limits.max_block));
     match Server::new(alloc, service.config, store) {
         Ok(server) => Ok(server),
         Err(_) => Err(ServiceFault::Memory),
     }
+}
+
+/// The longest text that can be sent in blocks of this size at most: 65,535 blocks, the last of
+/// them one byte short (RFC 1350, section 6).
+fn longest_text(max_block: u16) -> u64 {
+    u64::from(max_block) * 65_535 - 1
 }
 
 /// Binds the request port, and serves what comes to it.
@@ -354,8 +361,6 @@ impl<R: Files + Drop> Daemon<R> {
                 self.refuse(rt, opened.to, from, bytes);
             }
         }
-        // A file that no transfer took.
-        let _ = self.server.store().take_opened();
     }
 
     /// Sends the answer to a datagram that opened no transfer, if there is one.
@@ -384,7 +389,7 @@ impl<R: Files + Drop> Daemon<R> {
     }
 
     /// The port of a transfer that opened, with its file.
-    fn port_of(&self, spare: Spare, log_entry: Option<LogEntry>) -> TransferPort<R> {
+    fn port_of(&self, spare: Spare, log_entry: Option<LogEntry>) -> TransferPort {
         let agreed = timeout_of(&self.server, spare.tid);
         let due = deadline(self.sockets.watch.now, agreed);
         Port {
@@ -395,7 +400,6 @@ impl<R: Files + Drop> Daemon<R> {
                 udp: spare.socket,
                 agreed,
                 times_out_at: due,
-                file: self.server.store().take_opened(),
                 bytes: data_length(self.out.as_slice()),
                 log_entry,
             },

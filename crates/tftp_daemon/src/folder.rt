@@ -1,24 +1,28 @@
 //! A store over a folder: a server's files are those in it and below it.
 
-ghost use Rattle.std.specs.Prelude.{◌≡◌, IfErr, true};
-ghost use Rattle.tftp_host.specs.DiskFault.{MayNotOpen, MayNotStore};
+ghost use Rattle.std.specs.Prelude.{◌≡◌, ◌≢◌, IfErr, true};
+ghost use Rattle.tftp_host.specs.DiskFault.{MayNotOpen, MayNotStore, MayNotBegin, MayNotName};
 
-use crate::shared_file::{FolderSource, PortFile, share_source, share_writer};
+use crate::folder_draft::FolderDraft;
+use crate::naming::{give_name, is_same_file};
+use crate::wire_lengths::WireLengths;
 use std::alloc::Global;
-use std::cell::RefCell;
+use std::cell::Cell;
 use std::fs::{self, Metadata, OpenFile, OpenOptions};
-use std::io::{self, BufReader, BufWriter, ErrorKind, Write};
+use std::io::{self, BufReader, ErrorKind};
 use std::os::unix::fs::MetadataExt;
-use std::rc::Rc;
 use std::rt::Files;
-use tftp_file::{FileFault, Path, ReadSource, StoreFault};
-use tftp_host::{Ahead, WRITE_BUFFER, length_on_wire, name_fault, open_fault, write_fault};
+use tftp_file::{Path, ReadSource, StoreFault};
+use tftp_host::{Ahead, Reason, name_fault, open_fault, reason_of, write_fault};
 use tftp_server::{Opening, Store};
 use tftp_wire::Mode;
 
 /// The most bytes of a file that are read into a buffer at once. Blocks of this size and more pass
 /// it.
 const READ_BUFFER: usize = 32_768;
+
+/// A file of a [`FolderStore`] that is read.
+pub type FolderSource<F> = Ahead<ReadSource<BufReader<F>>>;
 
 /// The files in a folder and below it. It tells no meaning: what a disk holds between calls is not
 /// known.
@@ -34,16 +38,9 @@ pub struct FolderStore<R: Files + Drop> {
     /// No write is taken.
     is_read_only: bool,
     port: u16,
-    /// The file that was opened or begun last, until its port takes it.
-    opened: RefCell<Option<PortFile<R::File>>>,
-}
-
-/// A file that is being written to a [`FolderStore`].
-#[derive(Drop)]
-pub struct FolderDraft<F: Write + Drop> {
-    writer: Rc<RefCell<BufWriter<F>>>,
-    draft: String,
-    target: String,
+    lengths: WireLengths,
+    /// Why the system refused the newest call, until it is taken.
+    reason: Cell<Option<Reason>>,
 }
 
 /// Where a path of the store leads.
@@ -53,6 +50,8 @@ struct Place {
     path: String,
     /// A link stands on the way, or at its end.
     has_link: bool,
+    /// The device of the folder in which it stands, where that is not the root.
+    device: Option<u64>,
     /// What is there, links not followed.
     found: Option<Metadata>,
 }
@@ -72,7 +71,8 @@ impl<R: Files + Drop> FolderStore<R> {
             root,
             is_read_only: false,
             port: 0,
-            opened: RefCell::new(None),
+            lengths: WireLengths::new(alloc)?,
+            reason: Cell::new(None),
         })
     }
 
@@ -88,10 +88,52 @@ impl<R: Files + Drop> FolderStore<R> {
         self.port = port;
     }
 
-    /// Takes the file that was opened or begun since this was last asked, for the port of its
-    /// transfer.
-    pub(crate) fn take_opened(&self) -> Option<PortFile<R::File>> {
-        self.opened.try_replace(None).unwrap_or(None)
+    /// Tells the longest text on the wire that can be sent, in bytes. A longer file is not read to
+    /// be measured.
+    pub fn set_longest(&mut self, bytes: u64) {
+        self.lengths.set_longest(bytes);
+    }
+
+    /// Takes the reason for which the system refused the newest open, begin, append or commit. There
+    /// is none where it did not, nor for a file that is missing or exists.
+    pub fn take_reason(&self) -> Option<Reason> {
+        self.reason.replace(None)
+    }
+
+    /// Keeps why the system refused a call with this fault, where the fault does not say it.
+    fn keep_reason(&self, fault: StoreFault, reason: Reason) {
+        if fault != StoreFault::Missing && fault != StoreFault::Exists {
+            self.reason.set(Some(reason));
+        }
+    }
+
+    /// Why a file was not opened; the reason is kept.
+    fn open_refused(&self, error: &io::Error) -> StoreFault
+        ensures { MayNotOpen result }
+    {
+        let fault = open_fault(error);
+        self.keep_reason(fault, reason_of(error));
+        fault
+    }
+
+    /// Why bytes were not stored; the reason is kept.
+    fn write_refused(&self, error: &io::Error) -> StoreFault
+        ensures stored { MayNotStore result }
+        ensures not_memory { result ≢ StoreFault.Memory }
+    {
+        let fault = write_fault(error);
+        self.keep_reason(fault, reason_of(error));
+        fault
+    }
+
+    /// Why a draft did not get its name; the reason is kept.
+    fn name_refused(&self, error: &io::Error, replace: bool) -> StoreFault
+        ensures named { MayNotName replace result }
+        ensures not_memory { result ≢ StoreFault.Memory }
+    {
+        let fault = name_fault(error, replace);
+        self.keep_reason(fault, reason_of(error));
+        fault
     }
 
     /// Goes along a path, from the folder on. `Missing` if a folder on the way is.
@@ -104,12 +146,16 @@ impl<R: Files + Drop> FolderStore<R> {
         let mut place = Place {
             path: String::from_str(alloc, self.root.as_str())?,
             has_link: false,
+            device: None,
             found: None,
         };
         let mut is_missing = false;
         for segment in name.split('/') {
             if is_missing {
                 return Err(StoreFault::Missing);
+            }
+            if let Some(folder) = &place.found {
+                place.device = Some(folder.dev());
             }
             place.path.push('/')?;
             place.path.push_str(segment)?;
@@ -122,7 +168,7 @@ impl<R: Files + Drop> FolderStore<R> {
                     is_missing = true;
                     place.found = None;
                 }
-                Err(error) => return Err(open_fault(&error)),
+                Err(error) => return Err(self.open_refused(&error)),
             }
         }
         Ok(place)
@@ -135,7 +181,7 @@ impl<R: Files + Drop> FolderStore<R> {
         let rt = (&self.files, alloc);
         let canonical = match fs::canonicalize(&rt, path) {
             Ok(canonical) => canonical,
-            Err(error) => return Err(open_fault(&error)),
+            Err(error) => return Err(self.open_refused(&error)),
         };
         let text = canonical.as_path().as_str();
         let is_inside = text
@@ -148,16 +194,17 @@ impl<R: Files + Drop> FolderStore<R> {
             Ok(found) => Ok(Place {
                 path: String::from_str(alloc, text)?,
                 has_link: false,
+                device: None,
                 found: Some(found),
             }),
-            Err(error) => Err(open_fault(&error)),
+            Err(error) => Err(self.open_refused(&error)),
         }
     }
 
-    /// Opens the regular file at the path, and tells its length in host bytes. A folder is
+    /// Opens the regular file at the path, and returns what the system says of it. A folder is
     /// `Missing`, what else is no regular file `Io`: it is looked at before it is opened, since
     /// opening a FIFO would wait.
-    fn open_file(&self, alloc: Global, path: &Path) -> Result<(R::File, u64), StoreFault>
+    fn open_file(&self, alloc: Global, path: &Path) -> Result<(R::File, Metadata), StoreFault>
         ensures { IfErr result MayNotOpen }
     {
         let mut place = self.walk(alloc, path)?;
@@ -175,26 +222,55 @@ impl<R: Files + Drop> FolderStore<R> {
         }
         let file = match fs::open(&self.files, place.path.as_str()) {
             Ok(file) => file,
-            Err(error) => return Err(open_fault(&error)),
+            Err(error) => return Err(self.open_refused(&error)),
         };
         let Ok(opened) = file.metadata() else {
             return Err(StoreFault::Io);
         };
         // Another file came to its place in between.
-        if opened.dev() != found.dev() || opened.ino() != found.ino() {
+        if !is_same_file(&opened, &found) {
             return Err(StoreFault::Io);
         }
-        Ok((file, opened.len()))
+        Ok((file, opened))
     }
 
-    /// Gives a draft its name.
-    fn name(&self, draft: &str, target: &str, replace: bool) -> io::Result<()> {
-        if replace {
-            return fs::rename(&self.files, draft, target);
+    /// Where a file is to be written: nothing is there, or a file that is to be replaced, and the
+    /// way has no link and stays on the device of the root.
+    fn place_to_write(
+        &self,
+        alloc: Global,
+        path: &Path,
+        replace: bool,
+    ) -> Result<Place, StoreFault>
+        ensures { IfErr result (MayNotBegin replace) }
+    {
+        let place = match self.walk(alloc, path) {
+            Ok(place) => place,
+            Err(StoreFault::Memory) => return Err(StoreFault::Memory),
+            // A folder that is missing is not made.
+            Err(_) => return Err(StoreFault::Io),
+        };
+        if place.found.is_some() && !replace {
+            return Err(StoreFault::Exists);
         }
-        fs::hard_link(&self.files, draft, target)?;
-        let _ = fs::remove_file(&self.files, draft);
-        Ok(())
+        if place.has_link || place.found.as_ref().is_some_and(|found| !found.is_file()) {
+            return Err(StoreFault::Io);
+        }
+        if place.device.is_some_and(|device| !self.is_on(device)) {
+            self.reason.set(Some(Reason::AnotherDevice));
+            return Err(StoreFault::Io);
+        }
+        Ok(place)
+    }
+
+    /// Whether the root, and so each draft, is on this device.
+    fn is_on(&self, device: u64) -> bool {
+        let root = self.root.as_str();
+        let root = if root.is_empty() { "/" } else { root };
+        match fs::symlink_metadata(&self.files, root) {
+            Ok(root) => root.dev() == device,
+            Err(_) => false,
+        }
     }
 
     /// Makes the draft of the next transfer anew, in the place of an old one.
@@ -208,7 +284,16 @@ impl<R: Files + Drop> FolderStore<R> {
             .open(&self.files, draft)
         {
             Ok(file) => Ok(file),
-            Err(error) => Err(write_fault(&error)),
+            Err(error) => Err(self.write_refused(&error)),
+        }
+    }
+
+    /// Whether the file of a draft stands under its path. A server that has the same port at
+    /// another address removes it, and makes its own.
+    fn has_draft(&self, draft: &FolderDraft<R::File>) -> bool {
+        match fs::symlink_metadata(&self.files, draft.draft.as_str()) {
+            Ok(found) => draft.is_file(&found),
+            Err(_) => false,
         }
     }
 }
@@ -236,8 +321,9 @@ impl<R: Files + Drop> Store for FolderStore<R> {
         path: &Path,
         mode: Mode,
     ) -> Result<Opening<FolderSource<R::File>>, StoreFault> {
-        let (mut file, length) = self.open_file(alloc, path)?;
-        let Ok(length) = length_on_wire(&mut file, mode, length) else {
+        self.reason.set(None);
+        let (mut file, found) = self.open_file(alloc, path)?;
+        let Ok(length) = self.lengths.length_of(&mut file, &found, mode) else {
             return Err(StoreFault::Io);
         };
         // A short file has a short buffer.
@@ -245,9 +331,7 @@ impl<R: Files + Drop> Store for FolderStore<R> {
         let Ok(reader) = BufReader::with_capacity(alloc, room, file) else {
             return Err(StoreFault::Memory);
         };
-        let ahead = Ahead::new(alloc, ReadSource::new(reader, mode));
-        let (source, port) = share_source(alloc, ahead)?;
-        let _ = self.opened.try_replace(Some(port));
+        let source = Ahead::new(alloc, ReadSource::new(reader, mode));
         Ok(Opening { source, length })
     }
 
@@ -263,80 +347,53 @@ impl<R: Files + Drop> Store for FolderStore<R> {
         ensures memory { IsErrOf result StoreFault.Memory → self.new ≡ self.old }
         ensures read_only { self.old.is_read_only ≡ true → result ≡ Err StoreFault.Io }
     {
+        self.reason.set(None);
         if self.is_read_only {
             return Err(StoreFault::Io);
         }
-        let place = match self.walk(alloc, path) {
-            Ok(place) => place,
-            Err(StoreFault::Memory) => return Err(StoreFault::Memory),
-            // A folder that is missing is not made.
-            Err(_) => return Err(StoreFault::Io),
-        };
-        if place.found.is_some() && !replace {
-            return Err(StoreFault::Exists);
-        }
-        if place.has_link || place.found.is_some_and(|found| !found.is_file()) {
-            return Err(StoreFault::Io);
-        }
+        let place = self.place_to_write(alloc, path, replace)?;
         let root = self.root.as_str();
         let port = self.port;
         let draft = format!(in alloc; "{root}/.tftp-{port}")?;
         let file = self.make_draft(draft.as_str())?;
-        let Ok(writer) = BufWriter::with_capacity(alloc, WRITE_BUFFER, file) else {
-            return Err(StoreFault::Memory);
-        };
-        let (writer, port) = share_writer(alloc, writer)?;
-        let _ = self.opened.try_replace(Some(port));
-        Ok(FolderDraft {
-            writer,
-            draft,
-            target: place.path,
-        })
-    }
-
-    fn append(&mut self, draft: &mut FolderDraft<R::File>, bytes: &[u8]) -> Result<(), StoreFault> {
-        match draft.write(bytes) {
-            Ok(()) => Ok(()),
-            Err(error) => Err(write_fault(&error)),
+        match FolderDraft::new(alloc, file, draft, place.path) {
+            Ok(draft) => Ok(draft),
+            Err(_) => Err(StoreFault::Memory),
         }
     }
 
-    /// The draft is on the disk before it gets its name. It gets it by a hard link, which never
-    /// takes the place of a file; to replace one it is renamed, which leaves the old file or the
-    /// new one.
+    fn append(&mut self, draft: &mut FolderDraft<R::File>, bytes: &[u8]) -> Result<(), StoreFault> {
+        match draft.append(bytes) {
+            Ok(()) => Ok(()),
+            Err(error) => Err(self.write_refused(&error)),
+        }
+    }
+
+    /// The draft is on the disk before it gets its name, and so is the name before this returns. A
+    /// new name is given by a hard link, which never takes the place of a file, or, where the
+    /// system makes none, by a rename once no file was found; to replace one the draft is renamed,
+    /// which leaves the old file or the new one. Another file under the path of the draft is `Io`.
     fn commit(
         &mut self,
         _path: &Path,
         draft: &mut FolderDraft<R::File>,
         replace: bool,
     ) -> Result<(), StoreFault> {
-        if let Err(error) = draft.write_out() {
-            return Err(write_fault(&error));
+        if let Err(error) = draft.finish() {
+            return Err(self.write_refused(&error));
         }
-        match self.name(draft.draft.as_str(), draft.target.as_str(), replace) {
+        if !self.has_draft(draft) {
+            self.reason.set(Some(Reason::DraftReplaced));
+            return Err(StoreFault::Io);
+        }
+        let (path, target) = (draft.draft.as_str(), draft.target.as_str());
+        match give_name(&self.files, path, target, replace) {
             Ok(()) => Ok(()),
-            Err(error) => Err(name_fault(&error, replace)),
-        }
-    }
-}
-
-impl<F: Write + OpenFile + Drop> FolderDraft<F> {
-    /// Holds bytes to be written.
-    fn write(&self, bytes: &[u8]) -> io::Result<()> {
-        match self.writer.try_borrow_mut() {
-            Ok(mut writer) => writer.write_all(bytes),
-            Err(_) => Err(io::Error::from(ErrorKind::ResourceBusy)),
+            Err(error) => Err(self.name_refused(&error, replace)),
         }
     }
 
-    /// Brings all that was appended to the disk.
-    fn write_out(&self) -> io::Result<()> {
-        match self.writer.try_borrow_mut() {
-            Ok(mut writer) => {
-                writer.flush()?;
-                writer.get_ref().sync_all()
-            }
-            Err(_) => Err(io::Error::from(ErrorKind::ResourceBusy)),
-        }
+    fn write_behind(&mut self, draft: &mut FolderDraft<R::File>) {
+        draft.write_behind();
     }
 }

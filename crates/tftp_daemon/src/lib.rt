@@ -5,10 +5,13 @@
 
 mod daemon;
 mod folder;
-mod shared_file;
+mod folder_draft;
+mod kept_error;
+mod naming;
 mod udp;
+mod wire_lengths;
 mod words;
 
-pub use folder::{FolderDraft, FolderStore};
-pub use shared_file::FolderSource;
+pub use folder::{FolderSource, FolderStore};
+pub use folder_draft::FolderDraft;
 pub use words::{tftpd_command, tftpd_words};

@@ -3,7 +3,6 @@
 use crate::daemon::ServiceFault;
 use crate::daemon::transfer_port::{TransferSocket, shown};
 use std::alloc::Global;
-use std::io::{Read, Write};
 use tftp_ends::{Endpoint, Outcome, Record};
 use tftp_host::{LogLine, Port, Printed};
 use tftp_server::{Server, Store};
@@ -28,6 +27,7 @@ pub(crate) fn log_unopened<E: Eprint>(
             peer,
             request: request.as_str(),
             answer: shown_answer.as_str(),
+            reason: None,
         }
     };
     let _ = eprintln!(rt; "{line}");
@@ -40,10 +40,10 @@ fn record_of_closed<S: Store + Drop>(server: &mut Server<S>, tid: u16) -> Option
 }
 
 /// Closes the port of a transfer, and prints how the transfer ended.
-pub(crate) fn close_port<P: Print + Eprint, S: Store + Drop, F: Read + Write + Drop>(
+pub(crate) fn close_port<P: Print + Eprint, S: Store + Drop>(
     rt: &P,
     server: &mut Server<S>,
-    port: Port<TransferSocket<F>>,
+    port: Port<TransferSocket>,
     now: u64,
 ) -> Result<(), ServiceFault> {
     let record = record_of_closed(server, port.tid);
@@ -51,9 +51,9 @@ pub(crate) fn close_port<P: Print + Eprint, S: Store + Drop, F: Read + Write + D
 }
 
 /// Prints how a transfer ended, and writes its line where there is a log.
-fn report_close<P: Print + Eprint, F: Read + Write + Drop>(
+fn report_close<P: Print + Eprint>(
     rt: &P,
-    port: &Port<TransferSocket<F>>,
+    port: &Port<TransferSocket>,
     record: Option<Record>,
     now: u64,
 ) -> Result<(), ServiceFault> {
@@ -80,9 +80,9 @@ fn report_close<P: Print + Eprint, F: Read + Write + Drop>(
 }
 
 /// Writes the line of a transfer's close, where there is a log.
-fn log_closed<E: Eprint, F: Read + Write + Drop>(
+fn log_closed<E: Eprint>(
     rt: &E,
-    port: &Port<TransferSocket<F>>,
+    port: &Port<TransferSocket>,
     now: u64,
     outcome: Outcome,
 ) {

@@ -1,10 +1,8 @@
 //! A transfer of `tftpd` at its port: what comes to it, and what goes out.
 
-use crate::shared_file::PortFile;
 use crate::udp::{receive, send};
 use mio::net::UdpSocket;
 use std::alloc::Global;
-use std::io::{Read, Write};
 use tftp_ends::{Endpoint, Outcome};
 use tftp_host::{LogLine, Port, deadline, is_due};
 use tftp_server::{Server, Store};
@@ -34,14 +32,12 @@ pub(crate) enum Turn {
 
 /// A transfer's socket, with what is reported of the transfer at its close.
 #[derive(Drop)]
-pub(crate) struct TransferSocket<F: Read + Write + Drop> {
+pub(crate) struct TransferSocket {
     pub(crate) udp: UdpSocket,
     /// The agreed timeout, in seconds.
     pub(crate) agreed: Option<u8>,
     /// When the transfer times out. Its port may be due before, to be looked at.
     pub(crate) times_out_at: u64,
-    /// The file of the transfer.
-    pub(crate) file: Option<PortFile<F>>,
     /// The bytes of DATA that were sent or taken, each once.
     pub(crate) bytes: u64,
     /// What the log says of it, where there is a log.
@@ -94,6 +90,7 @@ impl LogEntry {
             bytes,
             millis: now.saturating_sub(self.opened_at),
             outcome,
+            reason: None,
         }
     }
 }
@@ -119,9 +116,9 @@ pub(crate) fn timeout_of<S: Store>(server: &Server<S>, tid: u16) -> Option<u8> {
 }
 
 /// Takes datagrams from a transfer's port, until one takes the transfer onward or none is left.
-pub(crate) fn take_datagrams<S: Store, F: Read + Write + Drop>(
+pub(crate) fn take_datagrams<S: Store>(
     server: &mut Server<S>,
-    port: &mut Port<TransferSocket<F>>,
+    port: &mut Port<TransferSocket>,
     now: u64,
     buffer: &mut [u8],
 ) -> Turn {
@@ -139,9 +136,9 @@ pub(crate) fn take_datagrams<S: Store, F: Read + Write + Drop>(
 
 /// Takes a datagram, and sends what goes out; the file does its work behind that. A datagram for
 /// whose handling there is no memory is a lost one.
-fn take_datagram<S: Store, F: Read + Write + Drop>(
+fn take_datagram<S: Store>(
     server: &mut Server<S>,
-    port: &mut Port<TransferSocket<F>>,
+    port: &mut Port<TransferSocket>,
     now: u64,
     from: Endpoint,
     bytes: &[u8],
@@ -165,17 +162,14 @@ fn take_datagram<S: Store, F: Read + Write + Drop>(
     }
     port.socket.times_out_at = deadline(now, port.socket.agreed);
     port.due = port.socket.times_out_at.min(now.saturating_add(LOOK_AFTER));
-    if let Some(file) = &port.socket.file {
-        file.work();
-    }
     Turn::Onward
 }
 
 /// Nothing took a transfer onward whose port is due: it times out where that is due too. Answers
 /// whether that closed it.
-pub(crate) fn take_silence<S: Store, F: Read + Write + Drop>(
+pub(crate) fn take_silence<S: Store>(
     server: &mut Server<S>,
-    port: &mut Port<TransferSocket<F>>,
+    port: &mut Port<TransferSocket>,
     now: u64,
 ) -> bool {
     port.due = port.socket.times_out_at;
@@ -183,9 +177,9 @@ pub(crate) fn take_silence<S: Store, F: Read + Write + Drop>(
 }
 
 /// Tells a transfer that it waited long enough, and answers whether that closed it.
-fn take_timeout<S: Store, F: Read + Write + Drop>(
+fn take_timeout<S: Store>(
     server: &mut Server<S>,
-    port: &mut Port<TransferSocket<F>>,
+    port: &mut Port<TransferSocket>,
     now: u64,
 ) -> bool {
     port.due = deadline(now, port.socket.agreed);
