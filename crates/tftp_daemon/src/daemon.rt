@@ -162,7 +162,7 @@ fn open_server<R: Files + Clone + Drop>(
 /// The longest text that can be sent in blocks of this size at most: 65,535 blocks, the last of
 /// them one byte short (RFC 1350, section 6).
 fn longest_text(max_block: u16) -> u64 {
-    u64::from(max_block) * 65_535 - 1
+    (u64::from(max_block) * 65_535).saturating_sub(1)
 }
 
 /// Binds the request port, and serves what comes to it.

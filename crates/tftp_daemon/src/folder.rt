@@ -236,12 +236,7 @@ impl<R: Files + Drop> FolderStore<R> {
 
     /// Where a file is to be written: nothing is there, or a file that is to be replaced, and the
     /// way has no link and stays on the device of the root.
-    fn place_to_write(
-        &self,
-        alloc: Global,
-        path: &Path,
-        replace: bool,
-    ) -> Result<Place, StoreFault>
+    fn place_to_write(&self, alloc: Global, path: &Path, replace: bool) -> Result<Place, StoreFault>
         ensures { IfErr result (MayNotBegin replace) }
     {
         let place = match self.walk(alloc, path) {

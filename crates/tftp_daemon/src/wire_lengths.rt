@@ -1,12 +1,12 @@
 //! The lengths of files in netascii, each measured once.
 
+use lru::LruCache;
 use std::alloc::{AllocError, Global};
 use std::cell::RefCell;
 use std::fs::Metadata;
 use std::io::{Read, Seek};
 use std::num::NonZeroUsize;
 use std::os::unix::fs::MetadataExt;
-use lru::LruCache;
 use tftp_file::{FileFault, MAX_WIRE};
 use tftp_host::length_on_wire;
 use tftp_wire::Mode;

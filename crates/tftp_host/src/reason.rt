@@ -4,8 +4,7 @@ ghost use Rattle.std.specs.Prelude.{◌≡◌};
 ghost use Rattle.std.specs.IoError.{raw_os_error};
 ghost use Rattle.tftp_host.specs.Reason.{reason_of, reason_of_number};
 
-use std::fmt;
-use std::io;
+use std::{fmt, io};
 
 /// Why a call on a file was refused.
 #[derive(Clone, Copy, Debug, PartialEq, Eq)]

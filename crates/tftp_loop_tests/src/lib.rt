@@ -7,6 +7,8 @@ mod address_rows;
 #[cfg(test)]
 mod daemon_rows;
 #[cfg(test)]
+mod disk_rows;
+#[cfg(test)]
 mod expect;
 #[cfg(test)]
 mod fallback_rows;
@@ -46,3 +48,5 @@ mod size_rows;
 mod test_server;
 #[cfg(test)]
 mod usage_rows;
+#[cfg(test)]
+mod watched_files;

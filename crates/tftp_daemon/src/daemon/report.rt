@@ -80,12 +80,7 @@ fn report_close<P: Print + Eprint>(
 }
 
 /// Writes the line of a transfer's close, where there is a log.
-fn log_closed<E: Eprint>(
-    rt: &E,
-    port: &Port<TransferSocket>,
-    now: u64,
-    outcome: Outcome,
-) {
+fn log_closed<E: Eprint>(rt: &E, port: &Port<TransferSocket>, now: u64, outcome: Outcome) {
     if let Some(entry) = &port.socket.log_entry {
         let line = entry.closed(port.tid, port.socket.bytes, now, outcome);
         let _ = eprintln!(rt; "{line}");

@@ -1,0 +1,280 @@
+//! A store over a folder, and what it asks of the disk: how often a file is read to be measured,
+//! when bytes and names are brought to the disk, and why a call was refused.
+
+use crate::expect::{expect, expect_equal};
+use crate::loopback::bytes_of;
+use crate::scratch::{
+    has_bytes, has_file, lacks, make_folder, remove_folder, scratch_folder, write_file,
+};
+use crate::watched_files::{Calls, WatchedFiles};
+use std::alloc::Global;
+use std::process::{self, Abort};
+use std::rc::Rc;
+use std::rt::Files;
+use tftp_daemon::FolderStore;
+use tftp_file::{MAX_WIRE, Path, StoreFault, path_of};
+use tftp_host::Reason;
+use tftp_server::Store;
+use tftp_wire::Mode;
+
+fn path(rt: &impl Abort, alloc: Global, name: &str) -> Path {
+    path_of(alloc, name.as_bytes()).expect(rt, name)
+}
+
+/// A store over a folder, and the calls that it makes.
+fn watched<R: Files + Drop, A: Abort>(
+    rt: &A,
+    alloc: Global,
+    files: R,
+    folder: &str,
+) -> (FolderStore<WatchedFiles<R>>, Rc<Calls>) {
+    let files = WatchedFiles::new(alloc, files).expect(rt, "memory");
+    let calls = files.calls.clone().expect(rt, "memory");
+    let store = FolderStore::new(files, alloc, folder).expect(rt, "a folder");
+    calls.clear();
+    (store, calls)
+}
+
+/// The length of a file in netascii, as its store opens it.
+fn length_of<S: Store>(rt: &impl Abort, alloc: Global, store: &S, name: &str) -> u64 {
+    let path = path(rt, alloc, name);
+    let opening = store.open(alloc, &path, Mode::Netascii).expect(rt, name);
+    opening.length
+}
+
+/// A file is read once to be measured, and again once it has changed; one that is too long as it is
+/// is not read.
+#[test]
+fn a_file_is_measured_once(rt: HostRuntime) {
+    let alloc = rt.alloc();
+    let folder = scratch_folder(&rt, process::id(rt.process()), "measured");
+    let folder = folder.as_str();
+    write_file(&rt, folder, "a", b"A\nB");
+    let (mut store, calls) = watched(&rt, alloc, rt, folder);
+    let length = length_of(&rt, alloc, &store, "a");
+    expect_equal(&rt, &length, &4, "the first length");
+    expect(&rt, calls.count('r') > 0, "it is read");
+    calls.clear();
+    let length = length_of(&rt, alloc, &store, "a");
+    expect_equal(&rt, &length, &4, "the second length");
+    expect_equal(&rt, &calls.count('r'), &0, "the second reads");
+    write_file(&rt, folder, "a", b"A\nB\n");
+    let length = length_of(&rt, alloc, &store, "a");
+    expect_equal(&rt, &length, &6, "the length of other bytes");
+    write_file(&rt, folder, "b", b"four");
+    store.set_longest(3);
+    calls.clear();
+    let length = length_of(&rt, alloc, &store, "b");
+    expect_equal(&rt, &length, &(MAX_WIRE + 1), "the length of a long file");
+    expect_equal(&rt, &calls.count('r'), &0, "the reads of a long file");
+    remove_folder(&rt, folder);
+}
+
+/// Begins a draft of the file `n`.
+fn begun<S: Store>(rt: &impl Abort, alloc: Global, store: &mut S, replace: bool) -> S::Draft {
+    let path = path(rt, alloc, "n");
+    store.begin(alloc, &path, replace).expect(rt, "a draft")
+}
+
+/// Appends bytes to a draft, and has it write behind.
+fn appends<S: Store>(rt: &impl Abort, store: &mut S, draft: &mut S::Draft, bytes: &[u8]) {
+    store.append(draft, bytes).expect(rt, "an append");
+    store.write_behind(draft);
+}
+
+/// Commits a draft of the file `n`.
+fn commits<S: Store>(
+    rt: &impl Abort,
+    alloc: Global,
+    store: &mut S,
+    draft: &mut S::Draft,
+    replace: bool,
+) -> Result<(), StoreFault> {
+    store.commit(&path(rt, alloc, "n"), draft, replace)
+}
+
+/// Two servers with one port, at two addresses, over one folder: neither names the bytes of the
+/// other.
+#[test]
+fn two_servers_share_a_folder(rt: HostRuntime) {
+    let alloc = rt.alloc();
+    let folder = scratch_folder(&rt, process::id(rt.process()), "shared");
+    let folder = folder.as_str();
+    let mut one = FolderStore::new(rt, alloc, folder).expect(&rt, "a folder");
+    let mut other = FolderStore::new(rt, alloc, folder).expect(&rt, "a folder");
+    one.set_port(4711);
+    other.set_port(4711);
+    let mut draft = begun(&rt, alloc, &mut one, false);
+    appends(&rt, &mut one, &mut draft, b"one");
+    let path_of_other = path(&rt, alloc, "m");
+    let mut draft_of_other = other
+        .begin(alloc, &path_of_other, false)
+        .expect(&rt, "a draft");
+    appends(&rt, &mut other, &mut draft_of_other, b"other");
+    let committed = commits(&rt, alloc, &mut one, &mut draft, false);
+    expect_equal(&rt, &committed, &Err(StoreFault::Io), "the commit");
+    expect_equal(
+        &rt,
+        &one.take_reason(),
+        &Some(Reason::DraftReplaced),
+        "the reason",
+    );
+    lacks(&rt, folder, "n");
+    other
+        .commit(&path_of_other, &mut draft_of_other, false)
+        .expect(&rt, "the other commit");
+    has_bytes(&rt, folder, "m", b"other");
+    remove_folder(&rt, folder);
+}
+
+/// Twelve megabytes are synced three times on their way, and each long block is written by itself.
+#[test]
+fn a_long_put_is_synced_on_its_way(rt: HostRuntime) {
+    let alloc = rt.alloc();
+    let folder = scratch_folder(&rt, process::id(rt.process()), "synced");
+    let folder = folder.as_str();
+    let (mut store, calls) = watched(&rt, alloc, rt, folder);
+    let mut draft = begun(&rt, alloc, &mut store, false);
+    let block = bytes_of(&rt, alloc, 65_536);
+    for _ in 0..192 {
+        appends(&rt, &mut store, &mut draft, block.as_slice());
+    }
+    expect_equal(&rt, &calls.count('w'), &192, "the writes");
+    expect_equal(&rt, &calls.count('d'), &3, "the syncs on the way");
+    let committed = commits(&rt, alloc, &mut store, &mut draft, false);
+    expect_equal(&rt, &committed, &Ok(()), "the commit");
+    remove_folder(&rt, folder);
+}
+
+/// What a commit asks of the disk: the draft is synced, named, and the name is synced.
+#[test]
+fn a_name_is_synced(rt: HostRuntime) {
+    let alloc = rt.alloc();
+    let folder = scratch_folder(&rt, process::id(rt.process()), "durable");
+    let folder = folder.as_str();
+    let (mut store, calls) = watched(&rt, alloc, rt, folder);
+    let mut draft = begun(&rt, alloc, &mut store, false);
+    calls.clear();
+    let committed = commits(&rt, alloc, &mut store, &mut draft, false);
+    expect_equal(&rt, &committed, &Ok(()), "the commit");
+    expect(&rt, calls.were("sols"), "sync, link, sync");
+    let mut draft = begun(&rt, alloc, &mut store, true);
+    calls.clear();
+    let committed = commits(&rt, alloc, &mut store, &mut draft, true);
+    expect_equal(&rt, &committed, &Ok(()), "the second commit");
+    expect(&rt, calls.were("soms"), "sync, rename, sync");
+    remove_folder(&rt, folder);
+}
+
+/// Where the file system makes no hard links, a draft is renamed, and never over a file.
+#[test]
+fn without_hard_links(rt: HostRuntime) {
+    let alloc = rt.alloc();
+    let folder = scratch_folder(&rt, process::id(rt.process()), "linkless");
+    let folder = folder.as_str();
+    let (mut store, calls) = watched(&rt, alloc, rt, folder);
+    calls.refuse_links();
+    let mut draft = begun(&rt, alloc, &mut store, false);
+    appends(&rt, &mut store, &mut draft, b"first");
+    calls.clear();
+    let committed = commits(&rt, alloc, &mut store, &mut draft, false);
+    expect_equal(&rt, &committed, &Ok(()), "the commit");
+    expect(
+        &rt,
+        calls.were("wsolms"),
+        "write, sync, no link, rename, sync",
+    );
+    has_bytes(&rt, folder, "n", b"first");
+    let mut draft = begun(&rt, alloc, &mut store, true);
+    let committed = commits(&rt, alloc, &mut store, &mut draft, false);
+    expect_equal(
+        &rt,
+        &committed,
+        &Err(StoreFault::Exists),
+        "the second commit",
+    );
+    expect_equal(&rt, &store.take_reason(), &None, "the reason");
+    has_bytes(&rt, folder, "n", b"first");
+    remove_folder(&rt, folder);
+}
+
+/// A write to another device is refused at its beginning, and leaves no draft.
+#[test]
+fn another_device(rt: HostRuntime) {
+    let alloc = rt.alloc();
+    let folder = scratch_folder(&rt, process::id(rt.process()), "device");
+    let folder = folder.as_str();
+    make_folder(&rt, folder, "elsewhere");
+    let (mut store, calls) = watched(&rt, alloc, rt, folder);
+    store.set_port(4711);
+    let n = path(&rt, alloc, "elsewhere/n");
+    expect(
+        &rt,
+        store.begin(alloc, &n, false).is_ok(),
+        "the same device",
+    );
+    calls.move_elsewhere();
+    store.set_port(4712);
+    let refused = store.begin(alloc, &n, false).err();
+    expect_equal(&rt, &refused, &Some(StoreFault::Io), "the beginning");
+    expect_equal(
+        &rt,
+        &store.take_reason(),
+        &Some(Reason::AnotherDevice),
+        "the reason",
+    );
+    expect(&rt, !has_file(&rt, folder, ".tftp-4712"), "no draft");
+    remove_folder(&rt, folder);
+}
+
+/// Errors of the system by their numbers on Linux, the fault of a write, and the reason.
+const ERRORS: [(i32, StoreFault, Reason); 4] = [
+    (28, StoreFault::Full, Reason::NoSpace),
+    (24, StoreFault::Io, Reason::TooManyOpenFiles),
+    (13, StoreFault::Io, Reason::PermissionDenied),
+    (5, StoreFault::Io, Reason::System(5)),
+];
+
+/// A call on the file `n` was refused with this fault, and this reason is there once.
+fn refused<R: Files + Drop, A: Abort>(
+    rt: &A,
+    store: &FolderStore<R>,
+    fault: Option<StoreFault>,
+    wanted: StoreFault,
+    reason: Reason,
+) {
+    expect_equal(rt, &fault, &Some(wanted), "the fault");
+    expect_equal(rt, &store.take_reason(), &Some(reason), "the reason");
+    expect_equal(rt, &store.take_reason(), &None, "no second reason");
+}
+
+/// Each refused open, begin, append and commit has its reason, also where what was refused is what
+/// was written behind.
+#[test]
+fn reasons(rt: HostRuntime) {
+    let alloc = rt.alloc();
+    let folder = scratch_folder(&rt, process::id(rt.process()), "reasons");
+    let folder = folder.as_str();
+    write_file(&rt, folder, "a", b"A");
+    let (mut store, calls) = watched(&rt, alloc, rt, folder);
+    let (a, n) = (path(&rt, alloc, "a"), path(&rt, alloc, "n"));
+    for &(number, fault, reason) in &ERRORS {
+        calls.fail_with(Some(number));
+        let opened = store.open(alloc, &a, Mode::Octet).err();
+        refused(&rt, &store, opened, StoreFault::Io, reason);
+        let begun_with = store.begin(alloc, &n, false).err();
+        refused(&rt, &store, begun_with, fault, reason);
+        calls.fail_with(None);
+        let mut draft = begun(&rt, alloc, &mut store, false);
+        let block = bytes_of(&rt, alloc, 20_000);
+        calls.fail_with(Some(number));
+        appends(&rt, &mut store, &mut draft, block.as_slice());
+        calls.fail_with(None);
+        let appended = store.append(&mut draft, b"more").err();
+        refused(&rt, &store, appended, fault, reason);
+        let committed = store.commit(&n, &mut draft, false).err();
+        refused(&rt, &store, committed, fault, reason);
+        lacks(&rt, folder, "n");
+    }
+    remove_folder(&rt, folder);
+}

@@ -1,0 +1,221 @@
+//! The host's files, for a store of a test: the test sees which calls the store makes, and can have
+//! them fail.
+
+use std::alloc::{AllocError, Allocator, Global};
+use std::cell::{Cell, RefCell};
+use std::fs::{Metadata, OpenFile, OpenOptions};
+use std::io::{self, Read, Seek, SeekFrom, Write};
+use std::path::PathBuf;
+use std::rc::Rc;
+use std::rt::Files;
+
+/// The calls of a store, and what is to become of them.
+#[derive(Drop)]
+pub(crate) struct Calls {
+    /// A letter for each call: read, sync of the data, sync of all, link, rename.
+    letters: RefCell<String>,
+    /// The error number with which each call fails.
+    error: Cell<Option<i32>>,
+    /// The file system makes no hard links.
+    lacks_links: Cell<bool>,
+    /// A folder `elsewhere` is on another device.
+    has_elsewhere: Cell<bool>,
+}
+
+impl Calls {
+    /// Notes a call, which may have to fail.
+    fn note(&self, letter: char) -> io::Result<()> {
+        if let Some(number) = self.error.get() {
+            return Err(io::Error::from_raw_os_error(number));
+        }
+        if let Ok(mut letters) = self.letters.try_borrow_mut() {
+            letters.push(letter)?;
+        }
+        Ok(())
+    }
+
+    /// How many calls of this kind there were.
+    pub(crate) fn count(&self, letter: char) -> usize {
+        match self.letters.try_borrow() {
+            Ok(letters) => letters
+                .as_str()
+                .chars()
+                .filter(|each| *each == letter)
+                .count(),
+            Err(_) => 0,
+        }
+    }
+
+    /// Whether these were the calls.
+    pub(crate) fn were(&self, wanted: &str) -> bool {
+        match self.letters.try_borrow() {
+            Ok(letters) => letters.as_str() == wanted,
+            Err(_) => false,
+        }
+    }
+
+    /// Forgets the calls.
+    pub(crate) fn clear(&self) {
+        if let Ok(mut letters) = self.letters.try_borrow_mut() {
+            letters.clear();
+        }
+    }
+
+    /// From now on each call fails with this error number, or none does.
+    pub(crate) fn fail_with(&self, number: Option<i32>) {
+        self.error.set(number);
+    }
+
+    /// From now on no hard link is made.
+    pub(crate) fn refuse_links(&self) {
+        self.lacks_links.set(true);
+    }
+
+    /// From now on the folder `elsewhere` is on another device.
+    pub(crate) fn move_elsewhere(&self) {
+        self.has_elsewhere.set(true);
+    }
+}
+
+/// The host's files, whose calls are noted.
+#[derive(Drop)]
+pub(crate) struct WatchedFiles<R: Drop> {
+    rt: R,
+    /// The calls.
+    pub(crate) calls: Rc<Calls>,
+}
+
+impl<R: Drop> WatchedFiles<R> {
+    /// The files of a runtime.
+    pub(crate) fn new(alloc: Global, rt: R) -> Result<WatchedFiles<R>, AllocError> {
+        let calls = Calls {
+            letters: RefCell::new(String::new(alloc)),
+            error: Cell::new(None),
+            lacks_links: Cell::new(false),
+            has_elsewhere: Cell::new(false),
+        };
+        Ok(WatchedFiles {
+            rt,
+            calls: Rc::new(alloc, calls)?,
+        })
+    }
+}
+
+/// A file whose calls are noted.
+#[derive(Drop)]
+pub(crate) struct WatchedFile<F: Drop> {
+    file: F,
+    calls: Rc<Calls>,
+}
+
+impl<F: Read + Drop> Read for WatchedFile<F> {
+    fn read(&mut self, buffer: &mut [u8]) -> io::Result<usize> {
+        self.calls.note('r')?;
+        self.file.read(buffer)
+    }
+}
+
+impl<F: Write + Drop> Write for WatchedFile<F> {
+    fn write(&mut self, buffer: &[u8]) -> io::Result<usize> {
+        self.calls.note('w')?;
+        self.file.write(buffer)
+    }
+
+    fn flush(&mut self) -> io::Result<()> {
+        self.file.flush()
+    }
+}
+
+impl<F: Seek + Drop> Seek for WatchedFile<F> {
+    fn seek(&mut self, to: SeekFrom) -> io::Result<u64> {
+        self.file.seek(to)
+    }
+}
+
+impl<F: OpenFile + Drop> OpenFile for WatchedFile<F> {
+    fn metadata(&self) -> io::Result<Metadata> {
+        self.file.metadata()
+    }
+
+    fn set_len(&self, size: u64) -> io::Result<()> {
+        self.file.set_len(size)
+    }
+
+    fn sync_all(&self) -> io::Result<()> {
+        self.calls.note('s')?;
+        self.file.sync_all()
+    }
+
+    fn sync_data(&self) -> io::Result<()> {
+        self.calls.note('d')?;
+        self.file.sync_data()
+    }
+}
+
+impl<R: Files + Drop> Files for WatchedFiles<R> {
+    type File = WatchedFile<R::File>;
+
+    type Dir = R::Dir;
+
+    fn open_file(&self, how: &OpenOptions, path: &str) -> io::Result<WatchedFile<R::File>> {
+        self.calls.note('o')?;
+        let calls = self.calls.clone()?;
+        match self.rt.open_file(how, path) {
+            Ok(file) => Ok(WatchedFile { file, calls }),
+            Err(error) => Err(error),
+        }
+    }
+
+    fn open_dir(&self, path: &str) -> io::Result<R::Dir> {
+        self.rt.open_dir(path)
+    }
+
+    fn metadata(&self, path: &str) -> io::Result<Metadata> {
+        self.rt.metadata(path)
+    }
+
+    fn symlink_metadata(&self, path: &str) -> io::Result<Metadata> {
+        if self.calls.has_elsewhere.get() && path.ends_with("/elsewhere") {
+            // Its device is none that there is.
+            return Ok(Metadata::of_dir());
+        }
+        self.rt.symlink_metadata(path)
+    }
+
+    fn copy(&self, from: &str, to: &str) -> io::Result<u64> {
+        self.rt.copy(from, to)
+    }
+
+    fn rename(&self, from: &str, to: &str) -> io::Result<()> {
+        self.calls.note('m')?;
+        self.rt.rename(from, to)
+    }
+
+    fn remove_file(&self, path: &str) -> io::Result<()> {
+        self.rt.remove_file(path)
+    }
+
+    fn create_dir(&self, path: &str) -> io::Result<()> {
+        self.rt.create_dir(path)
+    }
+
+    fn remove_dir(&self, path: &str) -> io::Result<()> {
+        self.rt.remove_dir(path)
+    }
+
+    fn remove_dir_all<B: Allocator>(&self, alloc: B, path: &str) -> io::Result<()> {
+        self.rt.remove_dir_all(alloc, path)
+    }
+
+    fn canonicalize<B: Allocator>(&self, alloc: B, path: &str) -> io::Result<PathBuf<B>> {
+        self.rt.canonicalize(alloc, path)
+    }
+
+    fn hard_link(&self, original: &str, link: &str) -> io::Result<()> {
+        self.calls.note('l')?;
+        if self.calls.lacks_links.get() {
+            return Err(io::Error::from_raw_os_error(1));
+        }
+        self.rt.hard_link(original, link)
+    }
+}
