@@ -3,6 +3,7 @@
 //! Begin with [`tftp_words`].
 #![tactic(auto)]
 
+mod error_keeper;
 mod local;
 mod transfer;
 mod udp;

@@ -4,39 +4,21 @@
 ghost use Rattle.std.specs.Prelude.{◌≢◌};
 ghost use Rattle.tftp_file.specs.declared.fault.StoreFault.TheVariants.{Memory};
 
+use crate::error_keeper::ErrorKeeper;
 use std::alloc::Global;
 use std::fs::{self, OpenFile, OpenOptions};
-use std::io::{self, BufReader, BufWriter, ErrorKind, Read, Seek, Write};
+use std::io::{self, BufReader, BufWriter, ErrorKind, Read, Seek};
 use std::os::unix::fs::MetadataExt;
 use std::rt::Files;
-use tftp_file::{ReadSource, Sink, StoreFault};
-use tftp_host::{Ahead, FileWork, WRITE_BUFFER, length_on_wire, name_fault};
+use tftp_file::{Ahead, ReadSource, Sink, StoreFault, WriteSink};
+use tftp_host::{WRITE_BUFFER, length_on_wire, name_fault};
 use tftp_wire::Mode;
 
 /// The bytes that are read into a buffer at once. Blocks of this size and more pass it.
 const READ_BUFFER: usize = 32_768;
 
-/// A reader that keeps its newest error.
-#[derive(Drop)]
-pub(crate) struct ErrorKeeper<F> {
-    reader: F,
-    error: Option<io::Error>,
-}
-
-impl<F: Read> Read for ErrorKeeper<F> {
-    ghost remaining = { λ keeper. F.remaining keeper.reader };
-
-    fn read(&mut self, buffer: &mut [u8]) -> io::Result<usize> {
-        match self.reader.read(buffer) {
-            Ok(count) => Ok(count),
-            Err(error) => {
-                let kind = error.kind();
-                self.error = Some(error);
-                Err(io::Error::from(kind))
-            }
-        }
-    }
-}
+/// Blocks of this size and more are written each behind its own acknowledgement.
+const LONG_BLOCK: usize = 16_384;
 
 /// The source of a file that is sent.
 pub(crate) type LocalSource<F> = Ahead<ReadSource<BufReader<ErrorKeeper<F>>>>;
@@ -68,11 +50,7 @@ impl<F: Read + Seek + OpenFile + Drop> Outbound<F> {
         let Ok(wire_bytes) = length_on_wire(&mut file, mode, host_bytes) else {
             return Err(io::Error::from(ErrorKind::InvalidData));
         };
-        let reader = ErrorKeeper {
-            reader: file,
-            error: None,
-        };
-        let reader = BufReader::with_capacity(alloc, READ_BUFFER, reader)?;
+        let reader = BufReader::with_capacity(alloc, READ_BUFFER, ErrorKeeper::new(file))?;
         Ok(Outbound {
             source: Ahead::new(alloc, ReadSource::new(reader, mode)),
             host_bytes,
@@ -83,17 +61,21 @@ impl<F: Read + Seek + OpenFile + Drop> Outbound<F> {
 
 /// Why a file could not be read further, once it could not.
 pub(crate) fn read_error<F: Read + Drop>(source: LocalSource<F>) -> Option<io::Error> {
-    source.into_inner().into_inner().into_inner().error
+    source.into_inner().into_inner().into_inner().error()
 }
 
 /// A file `LOCAL` that is being fetched, as `LOCAL.part`. It gets its name at the commit, and stays
 /// as it is if there is none.
+///
+/// It holds back what is appended, and writes it behind a datagram.
 #[derive(Drop)]
 pub(crate) struct LocalFile<R: Files + Drop> {
     files: R,
-    writer: BufWriter<R::File>,
+    sink: WriteSink<BufWriter<ErrorKeeper<R::File>>>,
     local: String,
     part: String,
+    /// The bytes of the newest block.
+    newest: usize,
     count: u64,
     error: Option<io::Error>,
 }
@@ -111,11 +93,13 @@ impl<R: Files + Drop> LocalFile<R> {
             .write(true)
             .create_new(true)
             .open(&files, part.as_str())?;
+        let writer = BufWriter::with_capacity(alloc, WRITE_BUFFER, ErrorKeeper::new(file))?;
         Ok(LocalFile {
             files,
-            writer: BufWriter::with_capacity(alloc, WRITE_BUFFER, file)?,
+            sink: WriteSink::new(writer),
             local: String::from_str(alloc, local)?,
             part,
+            newest: 0,
             count: 0,
             error: None,
         })
@@ -140,9 +124,26 @@ impl<R: Files + Drop> LocalFile<R> {
         fault
     }
 
+    /// Records why nothing more could be written, and returns its fault.
+    fn record_written(&mut self) -> StoreFault
+        ensures { result ≢ Memory }
+    {
+        match self.sink.get_ref().get_ref().error() {
+            Some(error) => self.record_error(error),
+            None => self.record_error(io::Error::other("nothing was written")),
+        }
+    }
+
+    /// Whether what is held back is to be written: [`WRITE_BUFFER`] then has room for any block that
+    /// comes.
+    fn is_due(&self) -> bool {
+        let writer = self.sink.get_ref();
+        self.newest >= LONG_BLOCK || writer.buffer().len() > writer.capacity() / 2
+    }
+
     /// Fails where another file than the open one stands under `LOCAL.part`.
     fn check_part(&self) -> io::Result<()> {
-        let opened = self.writer.get_ref().metadata()?;
+        let opened = self.sink.get_ref().get_ref().get_ref().metadata()?;
         let found = fs::symlink_metadata(&self.files, self.part.as_str())?;
         if opened.dev() == found.dev() && opened.ino() == found.ino() {
             Ok(())
@@ -172,12 +173,6 @@ impl<R: Files + Drop> LocalFile<R> {
     }
 }
 
-impl<R: Files + Drop> FileWork for LocalFile<R> {
-    fn work(&mut self) {
-        self.writer.work();
-    }
-}
-
 impl<R: Files + Drop> Sink for LocalFile<R> {
     ghost use Rattle.std.specs.Prelude.{None, ⊤};
 
@@ -197,18 +192,26 @@ impl<R: Files + Drop> Sink for LocalFile<R> {
     ghost unmoved = { λ _. tt };
 
     fn append(&mut self, bytes: &[u8]) -> Result<(), StoreFault> {
-        match self.writer.write_all(bytes) {
+        match self.sink.append(bytes) {
             Ok(()) => {
+                self.newest = bytes.len();
                 self.count = self.count.saturating_add(bytes.len() as u64);
                 Ok(())
             }
-            Err(error) => Err(self.record_error(error)),
+            Err(_) => Err(self.record_written()),
+        }
+    }
+
+    /// What cannot be written stays held back, and the next append or the commit tries it again.
+    fn write_behind(&mut self) {
+        if self.is_due() {
+            let _ = self.sink.commit();
         }
     }
 
     fn commit(&mut self) -> Result<(), StoreFault> {
-        if let Err(error) = self.writer.flush() {
-            return Err(self.record_error(error));
+        if self.sink.commit().is_err() {
+            return Err(self.record_written());
         }
         match self.name() {
             Ok(()) => Ok(()),

@@ -11,9 +11,9 @@ use std::time::Clock;
 use tftp_ends::{End, Endpoint, Outcome, Step, decode_packet};
 use tftp_file::{Files, Sink, Source};
 use tftp_host::{
-    DATAGRAM_BUFFER, FileWork, LONGEST_WAIT, LineClock, ProgressLine, Watch, deadline, is_due,
-    read_clock,
+    DATAGRAM_BUFFER, LONGEST_WAIT, LineClock, ProgressLine, Watch, deadline, is_due, read_clock,
 };
+use tftp_negotiate::stated_tsize;
 use tftp_wire::{PacketRef, show_ref};
 
 /// The most waits of a transfer.
@@ -81,7 +81,7 @@ impl Conversation {
 
     /// Takes the transfer to its end, and fails with how it closed where it is not complete. One
     /// that takes too many waits has timed out.
-    pub(crate) fn run<C: Clock + Eprint, S: Source + FileWork, K: Sink + FileWork>(
+    pub(crate) fn run<C: Clock + Eprint, S: Source, K: Sink>(
         &mut self,
         rt: &C,
         files: &mut Files<S, K>,
@@ -106,7 +106,7 @@ impl Conversation {
 
     /// Takes the end of a complete transfer to its close: one that received acknowledges its last
     /// block again whenever it comes again, for two timeouts (RFC 1350, section 6).
-    pub(crate) fn linger<C: Clock, S: Source + FileWork, K: Sink + FileWork>(
+    pub(crate) fn linger<C: Clock, S: Source, K: Sink>(
         &mut self,
         clock: &C,
         files: &mut Files<S, K>,
@@ -122,11 +122,7 @@ impl Conversation {
     }
 
     /// Waits once, and takes what came or the timeout that is due.
-    fn turn<C: Clock, S: Source + FileWork, K: Sink + FileWork>(
-        &mut self,
-        clock: &C,
-        files: &mut Files<S, K>,
-    )
+    fn turn<C: Clock, S: Source, K: Sink>(&mut self, clock: &C, files: &mut Files<S, K>)
         requires { AreFilesOf self.old.end.role.side files.old }
         ensures { AreFilesOf self.new.end.role.side files.new }
     {
@@ -172,19 +168,19 @@ impl Conversation {
             self.peer_reason = error_line(self.alloc, bytes);
         }
         if step.progress && self.lines.is_some() && self.total.is_none() {
-            self.total = told_length(bytes);
+            self.total = stated_length(bytes);
         }
         step
     }
 
     /// Has the end's file do its work, once the datagram is out.
-    fn work<S: FileWork, K: FileWork>(&self, files: &mut Files<S, K>)
+    fn work<S: Source, K: Sink>(&self, files: &mut Files<S, K>)
         requires { AreFilesOf self.now.end.role.side files.old }
         ensures { AreFilesOf self.now.end.role.side files.new }
     {
         match files {
-            Files::Source(source) => source.work(),
-            Files::Sink(sink) => sink.work(),
+            Files::Source(source) => source.read_ahead(),
+            Files::Sink(sink) => sink.write_behind(),
         }
     }
 
@@ -255,16 +251,10 @@ fn error_line(alloc: Global, bytes: &[u8]) -> Reason {
     }
 }
 
-/// The length of the file that an OACK tells (RFC 2349, "Transfer Size Option Specification").
-fn told_length(bytes: &[u8]) -> Option<u64> {
-    let Some(PacketRef::Oack(options)) = decode_packet(bytes) else {
-        return None;
-    };
-    for option in options.iter() {
-        if option.name.eq_ignore_ascii_case(b"tsize") {
-            let value = str::from_utf8(option.value).ok()?;
-            return value.parse::<u64>().ok();
-        }
+/// The length of the file that a datagram states, if it is an OACK that states one.
+fn stated_length(bytes: &[u8]) -> Option<u64> {
+    match decode_packet(bytes) {
+        Some(PacketRef::Oack(options)) => stated_tsize(&options),
+        _ => None,
     }
-    None
 }

@@ -1,0 +1,65 @@
+//! A file that keeps why it failed.
+
+use std::io::{self, Read, Write};
+
+/// A reader or a writer that keeps its newest error.
+#[derive(Drop)]
+pub(crate) struct ErrorKeeper<F> {
+    file: F,
+    error: Option<io::Error>,
+}
+
+impl<F> ErrorKeeper<F> {
+    /// A file that has not failed yet.
+    pub(crate) fn new(file: F) -> ErrorKeeper<F> {
+        ErrorKeeper { file, error: None }
+    }
+
+    /// The file.
+    pub(crate) fn get_ref(&self) -> &F {
+        &self.file
+    }
+
+    /// Why it failed last, if it did.
+    pub(crate) fn error(&self) -> Option<io::Error> {
+        self.error
+    }
+}
+
+impl<F: Read> Read for ErrorKeeper<F> {
+    ghost remaining = { λ keeper. F.remaining keeper.file };
+
+    fn read(&mut self, buffer: &mut [u8]) -> io::Result<usize> {
+        match self.file.read(buffer) {
+            Ok(count) => Ok(count),
+            Err(error) => {
+                self.error = Some(error);
+                Err(error)
+            }
+        }
+    }
+}
+
+impl<F: Write> Write for ErrorKeeper<F> {
+    ghost contents = { λ keeper. F.contents keeper.file };
+
+    fn write(&mut self, buffer: &[u8]) -> io::Result<usize> {
+        match self.file.write(buffer) {
+            Ok(count) => Ok(count),
+            Err(error) => {
+                self.error = Some(error);
+                Err(error)
+            }
+        }
+    }
+
+    fn flush(&mut self) -> io::Result<()> {
+        match self.file.flush() {
+            Ok(()) => Ok(()),
+            Err(error) => {
+                self.error = Some(error);
+                Err(error)
+            }
+        }
+    }
+}
