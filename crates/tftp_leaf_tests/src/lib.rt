@@ -23,6 +23,8 @@ mod memory_rows;
 #[cfg(test)]
 mod netascii_rows;
 #[cfg(test)]
+mod oack_rows;
+#[cfg(test)]
 mod option_rows;
 #[cfg(test)]
 mod packet_rows;

@@ -9,9 +9,9 @@ use std::alloc::{AllocError, Global};
 use std::process::Abort;
 use tftp_negotiate::{
     Agreed, Asked, Kind, Known, Limits, Name, Refusal, accept, accept_ref, check_oack,
-    check_oack_ref, is_block_size,
+    is_block_size,
 };
-use tftp_wire::{Mode, OptionsRef, PacketRef, RawOption, decode_ref};
+use tftp_wire::{Mode, RawOption};
 
 const ROOMY: Limits = Limits {
     max_block: 65_464,
@@ -123,7 +123,7 @@ fn shown(alloc: Global, outcome: Result<Agreed, Refusal>) -> Result<String, Allo
 }
 
 /// This becomes of the options of a kind and mode; `what` says which options they are.
-fn comes_out(
+pub(crate) fn comes_out(
     rt: &impl Abort,
     alloc: Global,
     direction: (Kind, Mode),
@@ -419,30 +419,6 @@ fn a_datagram_is_answered(rt: HostRuntime) {
     let answer = accept_ref(&read.options, READ, read.mode, 10, &TIGHT);
     let want = "[Blksize(1428), Timeout(3)] 1428";
     comes_out(&rt, rt.alloc(), (READ, OCTET), answer, want, "the RRQ");
-}
-
-/// The options of an OACK.
-fn oack_options<'a>(rt: &impl Abort, oack: &'a [u8]) -> OptionsRef<'a> {
-    match decode_ref(oack).expect(rt, "a packet") {
-        PacketRef::Oack(options) => options,
-        _ => panic!(rt; "an OACK"),
-    }
-}
-
-/// The OACK that answers it, at a client that asked for more.
-#[test]
-fn a_datagram_is_taken(rt: HostRuntime) {
-    let rt = &rt;
-    let options = oack_options(rt, b"\0\x06blksize\01428\0timeout\03\0");
-    let asked = Asked {
-        blksize: Some(2000),
-        timeout: Some(3),
-        tsize: None,
-    };
-    expect(rt, asked.is_askable(), "what may be asked");
-    let taken = check_oack_ref(&asked, READ, OCTET, &options, 10);
-    let want = "[Blksize(1428), Timeout(3)] 1428";
-    comes_out(rt, rt.alloc(), (READ, OCTET), taken, want, "the OACK");
 }
 
 /// Names are compared without regard to the case of their letters (RFC 2347, "Packet Formats").

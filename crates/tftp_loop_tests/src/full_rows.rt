@@ -1,36 +1,117 @@
 //! Puts to a `tftpd` whose files may not grow: the client is told that the disk is full, and
 //! nothing is named.
 
-use crate::expect::expect;
+use crate::expect::{expect, expect_bytes};
 use crate::loopback::make_file;
-use crate::programs::{limited_program, prints, start};
+use crate::programs::{Served, limited_program, prints, start};
 use crate::scratch::{joined, lacks, remove_folder, scratch_folder};
-use std::process::{self, Abort, Processes};
+use crate::test_server::{loopback_socket, receive, send};
+use std::net::{Net, SocketAddr};
+use std::process::{self, Abort, OpenProcess, Processes};
 use std::rt::Runtime;
 
-/// Lengths of which one is written out at the commit, and the other as it comes.
-const LENGTHS: [usize; 2] = [20_000, 40_000];
+/// How far files may grow, in units of 512 bytes, and the bytes of one that is put. The first is
+/// written out at the commit, the second as it comes; of the third the last bytes alone are refused.
+const PUTS: [(&str, usize); 3] = [("8", 20_000), ("8", 200_000), ("384", 200_000)];
 
-/// A put of a file that is too long for the server.
-fn is_refused<R: Runtime + AllocGlobal + Processes + Abort>(rt: &R, folder: &str, length: usize) {
-    make_file(rt, folder, "local", length);
-    let serving = [folder, "--listen", "127.0.0.1:0"];
-    let server = start(rt, &mut limited_program(rt, "programs::tftpd", &serving));
-    let local = joined(rt, folder, "local");
-    let (address, local) = (server.address.as_str(), local.as_str());
-    let words = ["put", address, local, "n", "--verbose"];
-    let wanted = "tftp: PeerError(3)\ntftp: ERROR 3 (disk full)\n";
-    prints(rt, "programs::tftp", &words, wanted);
+/// A server whose files may grow so far.
+fn limited_server<R: Runtime + AllocGlobal + Processes + Abort>(
+    rt: &R,
+    folder: &str,
+    units: &str,
+) -> Served<R::Started> {
+    let serving = [
+        folder,
+        "--listen",
+        "127.0.0.1:0",
+        "--max-block",
+        "8192",
+        "--rounds",
+        "500",
+    ];
+    let mut command = limited_program(rt, units, "programs::tftpd", &serving);
+    start(rt, &mut command)
+}
+
+/// The transfer has failed, and there is no file of its name.
+fn is_not_named<R: Runtime + AllocGlobal + Abort, P: OpenProcess + Drop>(
+    rt: &R,
+    folder: &str,
+    server: Served<P>,
+) {
     let rest = server.finish(rt);
     expect(rt, rest.as_str().contains(" StoreFault\n"), rest.as_str());
     lacks(rt, folder, "n");
 }
 
+/// A put of a file that is too long for the server: its last block is not acknowledged, since that
+/// would be a complete transfer to the client.
+fn is_refused<R: Runtime + AllocGlobal + Processes + Abort>(
+    rt: &R,
+    folder: &str,
+    units: &str,
+    length: usize,
+) {
+    make_file(rt, folder, "local", length);
+    let server = limited_server(rt, folder, units);
+    let local = joined(rt, folder, "local");
+    let (address, local) = (server.address.as_str(), local.as_str());
+    let words = ["put", address, local, "n", "--verbose"];
+    let wanted = "tftp: PeerError(3)\ntftp: ERROR 3 (disk full)\n";
+    prints(rt, "programs::tftp", &words, wanted);
+    is_not_named(rt, folder, server);
+}
+
 #[test]
 fn the_disk_is_full(rt: HostRuntime) {
     let folder = scratch_folder(&rt, process::id(rt.process()), "full");
-    for &length in &LENGTHS {
-        is_refused(&rt, folder.as_str(), length);
+    for &(units, length) in &PUTS {
+        is_refused(&rt, folder.as_str(), units, length);
     }
     remove_folder(&rt, folder.as_str());
+}
+
+/// Nothing is repeated within a timeout of 20 seconds.
+const REQUEST: &[u8] = b"\0\x02n\0octet\0blksize\08192\0timeout\020\0";
+
+const AGREEMENT: &[u8] = b"\0\x06blksize\08192\0timeout\020\0";
+
+const DISK_FULL: &[u8] = b"\0\x05\0\x03disk full\0";
+
+/// The full blocks of a file of 204,800 bytes.
+const BLOCKS: u16 = 25;
+
+/// A client of the test puts full blocks until one is answered by the ERROR of a full disk (RFC
+/// 1350, appendix I), each before that by its ACK; returns the number of that block.
+fn puts<R: Net + AllocGlobal + Abort>(rt: &R, server: SocketAddr) -> u16 {
+    let socket = loopback_socket(rt);
+    let mut buffer = [0; 600];
+    send(rt, &socket, REQUEST, server);
+    let (answer, transfer) = receive(rt, &socket, &mut buffer);
+    expect_bytes(rt, answer, AGREEMENT, "OACK");
+    let mut block = Vec::from_elem(rt.alloc(), 7u8, 8_196).expect(rt, "memory");
+    for number in 1..=BLOCKS {
+        let [high, low] = number.to_be_bytes();
+        block.as_mut_slice()[..4].copy_from_slice(&[0, 3, high, low]);
+        send(rt, &socket, block.as_slice(), transfer);
+        let (answer, _) = receive(rt, &socket, &mut buffer);
+        if answer == DISK_FULL {
+            return number;
+        }
+        expect_bytes(rt, answer, &[0, 4, high, low], "ACK");
+    }
+    BLOCKS
+}
+
+/// Where a block is refused that is written behind its acknowledgement, one of the next is answered
+/// by the ERROR, long before the last.
+#[test]
+fn the_disk_is_full_in_mid_transfer(rt: HostRuntime) {
+    let folder = scratch_folder(&rt, process::id(rt.process()), "full-midway");
+    let folder = folder.as_str();
+    let server = limited_server(&rt, folder, "8");
+    let refused = puts(&rt, server.socket_address(&rt));
+    expect(&rt, refused > 1 && refused < BLOCKS, "the block");
+    is_not_named(&rt, folder, server);
+    remove_folder(&rt, folder);
 }

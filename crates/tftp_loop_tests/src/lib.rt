@@ -5,6 +5,8 @@
 #[cfg(test)]
 mod address_rows;
 #[cfg(test)]
+mod cut_file_rows;
+#[cfg(test)]
 mod daemon_rows;
 #[cfg(test)]
 mod disk_rows;

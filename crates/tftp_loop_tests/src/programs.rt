@@ -68,29 +68,22 @@ pub(crate) fn program<R: Runtime + AllocGlobal + Abort>(
     command
 }
 
-/// What a shell runs so that no file of a program grows beyond some kilobytes, and a longer one is
-/// an error and no signal.
-const LIMITED: &str = "trap '' XFSZ; ulimit -f 8; exec \"$@\"";
+/// What a shell runs so that no file of a program grows beyond its first word, in units of 512
+/// bytes, and a longer one is an error and no signal.
+const LIMITED: &str = "trap '' XFSZ; ulimit -f \"$1\"; shift; exec \"$@\"";
 
-/// A command that runs this program as the other, where files may not grow.
+/// A command that runs this program as the other, where files may grow to so many units of 512
+/// bytes.
 pub(crate) fn limited_program<R: Runtime + AllocGlobal + Abort>(
     rt: &R,
-    name: &str,
-    words: &[&str],
-) -> Command {
-    shell_program(rt, LIMITED, name, words)
-}
-
-/// A command by which a shell runs this program as the other: `script` has it as `"$@"`.
-pub(crate) fn shell_program<R: Runtime + AllocGlobal + Abort>(
-    rt: &R,
-    script: &str,
+    units: &str,
     name: &str,
     words: &[&str],
 ) -> Command {
     let own = own_name(rt);
     let mut command = Command::new(rt.alloc(), "sh").expect(rt, "memory");
-    append_words(rt, &mut command, &["-c", script, "sh", own.as_str(), name]);
+    let shell = ["-c", LIMITED, "sh", units, own.as_str(), name];
+    append_words(rt, &mut command, &shell);
     append_words(rt, &mut command, words);
     command
 }

@@ -4,10 +4,11 @@ use crate::expect::{expect, expect_bytes};
 use crate::loopback::bytes_of;
 use crate::programs::{client, ends_with};
 use crate::scratch::{joined, remove_folder, scratch_folder, write_file};
-use crate::test_server::{address_of, loopback_socket, take_put};
-use std::net::Net;
+use crate::test_server::{address_of, loopback_socket, receive, send, take_put};
+use std::net::{Net, UdpSocket};
 use std::process::{self, Abort, Processes};
 use std::rt::Runtime;
+use std::time::{Clock, Duration};
 
 /// A file of this length arrives whole, behind the plain request of a write.
 fn arrives<R: Runtime + AllocGlobal + Processes + Net + Abort>(
@@ -37,4 +38,40 @@ fn files_arrive(rt: HostRuntime) {
     arrives(&rt, folder.as_str(), 512, "complete 512\nstatus 0\n");
     arrives(&rt, folder.as_str(), 1025, "complete 1025\nstatus 0\n");
     remove_folder(&rt, folder.as_str());
+}
+
+/// A server of the test agrees on a timeout of 255 seconds, takes the first block, and gives up at
+/// once.
+fn gives_up<R: Net + Abort>(rt: &R, requests: &UdpSocket) {
+    let mut buffer = [0; 600];
+    let (request, client) = receive(rt, requests, &mut buffer);
+    let wanted = b"\0\x02n\0octet\0timeout\x00255\0".as_slice();
+    expect_bytes(rt, request, wanted, "the request");
+    let transfer = loopback_socket(rt);
+    send(rt, &transfer, b"\0\x06timeout\x00255\0".as_slice(), client);
+    let (block, _) = receive(rt, &transfer, &mut buffer);
+    expect(rt, block.starts_with(&[0, 3, 0, 1]), "DATA 1");
+    send(rt, &transfer, b"\0\x04\0\x01".as_slice(), client);
+    send(rt, &transfer, b"\0\x05\0\0stop\0".as_slice(), client);
+}
+
+/// An ERROR right behind an acknowledgement is seen long before the timeout.
+#[test]
+fn an_error_is_seen_soon(rt: HostRuntime) {
+    let folder = scratch_folder(&rt, process::id(rt.process()), "put-soon");
+    let folder = folder.as_str();
+    let bytes = bytes_of(&rt, rt.alloc(), 1_000);
+    write_file(&rt, folder, "local", bytes.as_slice());
+    let local = joined(&rt, folder, "local");
+    let requests = loopback_socket(&rt);
+    let address = address_of(&rt, &requests);
+    let (address, local) = (address.as_str(), local.as_str());
+    let words = ["put", address, local, "n", "--timeout", "255"];
+    let client = client(&rt, &words);
+    gives_up(&rt, &requests);
+    let began = rt.monotonic().expect(&rt, "the time");
+    ends_with(&rt, client, "status 1\n");
+    let took = rt.monotonic().expect(&rt, "the time").saturating_sub(began);
+    expect(&rt, took < Duration::from_secs(20), "it waits");
+    remove_folder(&rt, folder);
 }
