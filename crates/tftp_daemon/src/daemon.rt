@@ -6,11 +6,10 @@ mod transfer_port;
 
 ghost use Rattle.tftp_server.specs.Config.{IsConfig};
 
-use crate::daemon::report::{close_port, log_unopened};
+use crate::daemon::report::{close_port, log_lost, log_unopened};
 use crate::daemon::sockets::{REQUESTS, Sockets, Spare};
 use crate::daemon::transfer_port::{
-    LogEntry, MOST_AT_ONCE, TransferSocket, Turn, data_length, take_datagrams, take_silence,
-    timeout_of,
+    LogEntry, MOST_AT_ONCE, TransferSocket, Turn, take_datagrams, take_silence, timeout_of,
 };
 use crate::folder::FolderStore;
 use crate::udp::Udp;
@@ -19,7 +18,9 @@ use std::alloc::{AllocError, Global};
 use std::rt::Files;
 use std::time::Clock;
 use tftp_ends::Endpoint;
-use tftp_host::{DATAGRAM_BUFFER, Port, Printed, deadline, is_due, place_of, wait_for};
+use tftp_host::{
+    DATAGRAM_BUFFER, Lost, Port, Printed, Reason, deadline, is_due, place_of, wait_for,
+};
 use tftp_server::{Config, Server, ServerFault, Store};
 
 /// The most events that one wait reports.
@@ -345,8 +346,9 @@ impl<R: Files + Drop> Daemon<R> {
         bytes: &[u8],
         may_open: Result<bool, ServerFault>,
     ) {
-        if let Ok(port) = self.sockets.port_for(rt, may_open) {
-            self.handle_request(rt, from, port.unwrap_or(NO_PORT), bytes);
+        match self.sockets.port_for(rt, may_open) {
+            Ok(port) => self.handle_request(rt, from, port.unwrap_or(NO_PORT), bytes),
+            Err(lost) => self.lose(rt, from, bytes, lost),
         }
     }
 
@@ -354,22 +356,41 @@ impl<R: Files + Drop> Daemon<R> {
     fn handle_request<E: Eprint>(&mut self, rt: &E, from: Endpoint, tid: u16, bytes: &[u8]) {
         self.out.clear();
         self.server.store_mut().set_port(tid);
-        if let Ok(opened) = self.server.on_request(from, tid, bytes, &mut self.out) {
-            if opened.tid.is_some() {
-                self.open(rt, from, bytes);
-            } else {
-                self.refuse(rt, opened.to, from, bytes);
+        let opened = self.server.on_request(from, tid, bytes, &mut self.out);
+        let reason = self.server.store().take_reason();
+        match opened {
+            Ok(opened) => {
+                if opened.tid.is_some() {
+                    self.open(rt, from, bytes);
+                } else {
+                    self.refuse(rt, opened.to, from, bytes, reason);
+                }
             }
+            Err(_) => self.lose(rt, from, bytes, Lost::Memory),
+        }
+    }
+
+    /// Writes the line of a request that is lost, where there is a log.
+    fn lose<E: Eprint>(&self, rt: &E, from: Endpoint, bytes: &[u8], lost: Lost) {
+        if self.logs {
+            log_lost(rt, self.alloc, from, bytes, lost);
         }
     }
 
     /// Sends the answer to a datagram that opened no transfer, if there is one.
-    fn refuse<E: Eprint>(&self, rt: &E, to: Option<Endpoint>, from: Endpoint, bytes: &[u8]) {
+    fn refuse<E: Eprint>(
+        &self,
+        rt: &E,
+        to: Option<Endpoint>,
+        from: Endpoint,
+        bytes: &[u8],
+        reason: Option<Reason>,
+    ) {
         if let Some(to) = to {
             self.sockets.answer(to, self.out.as_slice());
         }
         if self.logs {
-            log_unopened(rt, self.alloc, from, bytes, self.out.as_slice());
+            log_unopened(rt, self.alloc, from, bytes, self.out.as_slice(), reason);
         }
     }
 
@@ -400,7 +421,6 @@ impl<R: Files + Drop> Daemon<R> {
                 udp: spare.socket,
                 agreed,
                 times_out_at: due,
-                bytes: data_length(self.out.as_slice()),
                 log_entry,
             },
         }
@@ -509,7 +529,8 @@ impl<R: Files + Drop> Daemon<R> {
             return Ok(());
         }
         let port = self.ports.swap_remove(place);
-        close_port(rt, &mut self.server, port, self.sockets.watch.now)
+        let reason = self.server.store().take_reason();
+        close_port(rt, &mut self.server, port, self.sockets.watch.now, reason)
     }
 }
 

@@ -4,16 +4,18 @@ use crate::daemon::ServiceFault;
 use crate::daemon::transfer_port::{TransferSocket, shown};
 use std::alloc::Global;
 use tftp_ends::{Endpoint, Outcome, Record};
-use tftp_host::{LogLine, Port, Printed};
+use tftp_host::{LogLine, Lost, Port, Printed, Reason};
 use tftp_server::{Server, Store};
 
-/// Writes the line of a datagram that opened no transfer.
+/// Writes the line of a datagram that opened no transfer, with the reason for which the system
+/// refused a call on a file, if it did.
 pub(crate) fn log_unopened<E: Eprint>(
     rt: &E,
     alloc: Global,
     peer: Endpoint,
     bytes: &[u8],
     answer: &[u8],
+    reason: Option<Reason>,
 ) {
     let request = shown(alloc, bytes);
     let shown_answer = shown(alloc, answer);
@@ -27,8 +29,19 @@ pub(crate) fn log_unopened<E: Eprint>(
             peer,
             request: request.as_str(),
             answer: shown_answer.as_str(),
-            reason: None,
+            reason,
         }
+    };
+    let _ = eprintln!(rt; "{line}");
+}
+
+/// Writes the line of a request that is lost.
+pub(crate) fn log_lost<E: Eprint>(rt: &E, alloc: Global, peer: Endpoint, bytes: &[u8], lost: Lost) {
+    let request = shown(alloc, bytes);
+    let line = LogLine::Lost {
+        peer,
+        request: request.as_str(),
+        lost,
     };
     let _ = eprintln!(rt; "{line}");
 }
@@ -39,15 +52,17 @@ fn record_of_closed<S: Store + Drop>(server: &mut Server<S>, tid: u16) -> Option
     Some(record)
 }
 
-/// Closes the port of a transfer, and prints how the transfer ended.
+/// Closes the port of a transfer, and prints how the transfer ended. `reason` is why the system
+/// refused the newest call on a file.
 pub(crate) fn close_port<P: Print + Eprint, S: Store + Drop>(
     rt: &P,
     server: &mut Server<S>,
     port: Port<TransferSocket>,
     now: u64,
+    reason: Option<Reason>,
 ) -> Result<(), ServiceFault> {
     let record = record_of_closed(server, port.tid);
-    report_close(rt, &port, record, now)
+    report_close(rt, &port, record, now, reason)
 }
 
 /// Prints how a transfer ended, and writes its line where there is a log.
@@ -56,6 +71,7 @@ fn report_close<P: Print + Eprint>(
     port: &Port<TransferSocket>,
     record: Option<Record>,
     now: u64,
+    reason: Option<Reason>,
 ) -> Result<(), ServiceFault> {
     let Some(
         Record {
@@ -67,7 +83,7 @@ fn report_close<P: Print + Eprint>(
     else {
         return Ok(());
     };
-    log_closed(rt, port, now, outcome);
+    log_closed(rt, port, now, outcome, reason);
     let line = Printed::Closed {
         port: port.tid,
         peer: peer.port,
@@ -80,9 +96,15 @@ fn report_close<P: Print + Eprint>(
 }
 
 /// Writes the line of a transfer's close, where there is a log.
-fn log_closed<E: Eprint>(rt: &E, port: &Port<TransferSocket>, now: u64, outcome: Outcome) {
+fn log_closed<E: Eprint>(
+    rt: &E,
+    port: &Port<TransferSocket>,
+    now: u64,
+    outcome: Outcome,
+    reason: Option<Reason>,
+) {
     if let Some(entry) = &port.socket.log_entry {
-        let line = entry.closed(port.tid, port.socket.bytes, now, outcome);
+        let line = entry.closed(port.tid, now, outcome, reason);
         let _ = eprintln!(rt; "{line}");
     }
 }

@@ -2,7 +2,7 @@
 //! transfer.
 
 ghost use Rattle.std.specs.Prelude.{◌≡◌, ◌≤◌, ◌↔◌, length, false, None, Ok, Err, IfSome, IsErr};
-ghost use Rattle.tftp_daemon.specs.declared.daemon.sockets.Lost.TheVariants as Lost;
+ghost use Rattle.tftp_host.specs.declared.log_line.Lost.TheVariants as Lost;
 
 use crate::udp::{Udp, receive, send};
 use mio::net::UdpSocket;
@@ -10,20 +10,11 @@ use mio::{Events, Interest, Poll, Token};
 use std::io;
 use std::time::{Clock, Duration};
 use tftp_ends::Endpoint;
-use tftp_host::{Watch, address_of, read_clock};
+use tftp_host::{Lost, Watch, address_of, read_clock};
 use tftp_server::ServerFault;
 
 /// The token of the request port; a transfer's is its port, which is never 0.
 pub(crate) const REQUESTS: Token = Token(0);
-
-/// For want of what a request is lost.
-#[derive(Clone, Copy, Debug, PartialEq, Eq)]
-pub(crate) enum Lost {
-    /// No port can be bound.
-    Port,
-    /// Out of memory.
-    Memory,
-}
 
 /// A port that waits for a transfer.
 #[derive(Drop)]

@@ -4,7 +4,7 @@ use crate::udp::{receive, send};
 use mio::net::UdpSocket;
 use std::alloc::Global;
 use tftp_ends::{Endpoint, Outcome};
-use tftp_host::{LogLine, Port, deadline, is_due};
+use tftp_host::{LogLine, Port, Reason, deadline, is_due};
 use tftp_server::{Server, Store};
 use tftp_wire::{PacketRef, decode_ref, show_datagram};
 
@@ -38,8 +38,6 @@ pub(crate) struct TransferSocket {
     pub(crate) agreed: Option<u8>,
     /// When the transfer times out. Its port may be due before, to be looked at.
     pub(crate) times_out_at: u64,
-    /// The bytes of DATA that were sent or taken, each once.
-    pub(crate) bytes: u64,
     /// What the log says of it, where there is a log.
     pub(crate) log_entry: Option<LogEntry>,
 }
@@ -51,6 +49,8 @@ pub(crate) struct LogEntry {
     request: String,
     answer: String,
     opened_at: u64,
+    /// The bytes of DATA that were sent or taken, each once.
+    bytes: u64,
 }
 
 impl LogEntry {
@@ -67,7 +67,13 @@ impl LogEntry {
             request: shown(alloc, request),
             answer: shown(alloc, answer),
             opened_at,
+            bytes: data_length(answer),
         }
+    }
+
+    /// Counts the bytes of DATA that a datagram carries.
+    fn count(&mut self, datagram: &[u8]) {
+        self.bytes = self.bytes.saturating_add(data_length(datagram));
     }
 
     /// The line of its opening.
@@ -80,17 +86,27 @@ impl LogEntry {
         }
     }
 
-    /// The line of its close.
-    pub(crate) fn closed(&self, port: u16, bytes: u64, now: u64, outcome: Outcome) -> LogLine<'_> {
+    /// The line of its close. `reason` is why the system refused the newest call on a file.
+    pub(crate) fn closed(
+        &self,
+        port: u16,
+        now: u64,
+        outcome: Outcome,
+        reason: Option<Reason>,
+    ) -> LogLine<'_> {
         LogLine::Closed {
             port,
             peer: self.peer,
             request: self.request.as_str(),
             answer: self.answer.as_str(),
-            bytes,
+            bytes: self.bytes,
             millis: now.saturating_sub(self.opened_at),
             outcome,
-            reason: None,
+            reason: if outcome == Outcome::StoreFault {
+                reason
+            } else {
+                None
+            },
         }
     }
 }
@@ -103,7 +119,7 @@ pub(crate) fn shown(alloc: Global, bytes: &[u8]) -> String {
 }
 
 /// The bytes of a file that a datagram carries.
-pub(crate) fn data_length(datagram: &[u8]) -> u64 {
+fn data_length(datagram: &[u8]) -> u64 {
     match decode_ref(datagram) {
         Ok(PacketRef::Data { bytes, .. }) => bytes.len() as u64,
         _ => 0,
@@ -146,14 +162,12 @@ fn take_datagram<S: Store>(
     let Ok((step, outgoing)) = server.handle_datagram(port.tid, from, bytes) else {
         return Turn::Unfinished;
     };
-    let answer = server.bytes_of(port.tid, outgoing).unwrap_or(&[]);
     if let Some(to) = step.to {
+        let answer = server.bytes_of(port.tid, outgoing).unwrap_or(&[]);
         send(&port.socket.udp, to, answer);
+        count_data(&mut port.socket.log_entry, step.progress, answer);
     }
-    if step.progress {
-        let carried = data_length(bytes).saturating_add(data_length(answer));
-        port.socket.bytes = port.socket.bytes.saturating_add(carried);
-    }
+    count_data(&mut port.socket.log_entry, step.progress, bytes);
     if step.closed.is_some() {
         return Turn::Closed;
     }
@@ -162,7 +176,18 @@ fn take_datagram<S: Store>(
     }
     port.socket.times_out_at = deadline(now, port.socket.agreed);
     port.due = port.socket.times_out_at.min(now.saturating_add(LOOK_AFTER));
+    server.work(port.tid);
     Turn::Onward
+}
+
+/// Counts the bytes of DATA that a datagram carries, where it took a transfer onward and there is a
+/// log.
+fn count_data(log_entry: &mut Option<LogEntry>, is_progress: bool, datagram: &[u8]) {
+    if let Some(entry) = log_entry {
+        if is_progress {
+            entry.count(datagram);
+        }
+    }
 }
 
 /// Nothing took a transfer onward whose port is due: it times out where that is due too. Answers
