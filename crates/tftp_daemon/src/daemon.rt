@@ -1,16 +1,15 @@
 //! `tftpd`: a server over UDP, in one thread.
 
 mod report;
+mod requests;
 mod sockets;
 mod transfer_port;
 
 ghost use Rattle.tftp_server.specs.Config.{IsConfig};
 
-use crate::daemon::report::{close_port, log_lost, log_unopened};
-use crate::daemon::sockets::{REQUESTS, Sockets, Spare};
-use crate::daemon::transfer_port::{
-    LogEntry, MOST_AT_ONCE, TransferSocket, Turn, take_datagrams, take_silence, timeout_of,
-};
+use crate::daemon::report::close_port;
+use crate::daemon::sockets::{REQUESTS, Sockets};
+use crate::daemon::transfer_port::{TransferSocket, Turn, take_datagrams, take_silence};
 use crate::folder::FolderStore;
 use crate::udp::Udp;
 use mio::{Events, Token};
@@ -18,16 +17,11 @@ use std::alloc::{AllocError, Global};
 use std::rt::Files;
 use std::time::Clock;
 use tftp_ends::Endpoint;
-use tftp_host::{
-    DATAGRAM_BUFFER, Lost, Port, Printed, Reason, deadline, is_due, place_of, wait_for,
-};
-use tftp_server::{Config, Server, ServerFault, Store};
+use tftp_host::{DATAGRAM_BUFFER, Port, Printed, is_due, place_of, wait_for};
+use tftp_server::{Config, Server};
 
 /// The most events that one wait reports.
 const MOST_EVENTS: usize = 128;
-
-/// The identifier with which the server handles a datagram that opens no transfer.
-const NO_PORT: u16 = 0;
 
 /// What `tftpd` is told to do.
 #[derive(Clone, Copy)]
@@ -285,164 +279,6 @@ impl<R: Files + Drop> Daemon<R> {
         } else {
             note_ready(token, self.ports.as_mut_slice());
         }
-    }
-
-    /// Takes requests that are there, as many as a wake-up takes. `left` counts the transfers that
-    /// are yet to close.
-    fn take_requests<N: Udp + Clock + Print + Eprint>(
-        &mut self,
-        rt: &N,
-        left: u64,
-        request: &mut [u8],
-        events: &mut Events,
-        datagram: &mut [u8],
-    ) -> Result<u64, ServiceFault> {
-        let mut left = left;
-        for _ in 0..MOST_AT_ONCE {
-            if left == 0 || self.ports.try_reserve(1).is_err() {
-                return Ok(left);
-            }
-            let Some((from, count)) = self.sockets.receive_request(request) else {
-                return Ok(left);
-            };
-            let bytes = &request[..count];
-            left = self.take_request(rt, left, from, bytes, events, datagram)?;
-        }
-        Ok(left)
-    }
-
-    /// Takes a datagram that came to the request port. Where it would open no transfer as the server
-    /// stands, what came to transfers is taken before it: its client may have sent the
-    /// acknowledgement that frees a place just ahead of it.
-    fn take_request<N: Udp + Clock + Print + Eprint>(
-        &mut self,
-        rt: &N,
-        left: u64,
-        from: Endpoint,
-        bytes: &[u8],
-        events: &mut Events,
-        datagram: &mut [u8],
-    ) -> Result<u64, ServiceFault> {
-        let may_open = self.server.may_open(from, bytes);
-        if !matches!(may_open, Ok(false)) {
-            self.answer_request(rt, from, bytes, may_open);
-            return Ok(left);
-        }
-        self.look(rt, events, 0);
-        let left = self.take_transfers(rt, left, datagram)?;
-        if left > 0 {
-            let may_open = self.server.may_open(from, bytes);
-            self.answer_request(rt, from, bytes, may_open);
-        }
-        Ok(left)
-    }
-
-    /// Answers a datagram that came to the request port. It is lost where it may open a transfer and
-    /// no port can be bound for it, and when out of memory.
-    fn answer_request<N: Udp + Eprint>(
-        &mut self,
-        rt: &N,
-        from: Endpoint,
-        bytes: &[u8],
-        may_open: Result<bool, ServerFault>,
-    ) {
-        match self.sockets.port_for(rt, may_open) {
-            Ok(port) => self.handle_request(rt, from, port.unwrap_or(NO_PORT), bytes),
-            Err(lost) => self.lose(rt, from, bytes, lost),
-        }
-    }
-
-    /// Takes a datagram that came to the request port, for which this port is there.
-    fn handle_request<E: Eprint>(&mut self, rt: &E, from: Endpoint, tid: u16, bytes: &[u8]) {
-        self.out.clear();
-        self.server.store_mut().set_port(tid);
-        let opened = self.server.on_request(from, tid, bytes, &mut self.out);
-        let reason = self.server.store().take_reason();
-        match opened {
-            Ok(opened) => {
-                if opened.tid.is_some() {
-                    self.open(rt, from, bytes);
-                } else {
-                    self.refuse(rt, opened.to, from, bytes, reason);
-                }
-            }
-            Err(_) => self.lose(rt, from, bytes, Lost::Memory),
-        }
-    }
-
-    /// Writes the line of a request that is lost, where there is a log.
-    fn lose<E: Eprint>(&self, rt: &E, from: Endpoint, bytes: &[u8], lost: Lost) {
-        if self.logs {
-            log_lost(rt, self.alloc, from, bytes, lost);
-        }
-    }
-
-    /// Sends the answer to a datagram that opened no transfer, if there is one.
-    fn refuse<E: Eprint>(
-        &self,
-        rt: &E,
-        to: Option<Endpoint>,
-        from: Endpoint,
-        bytes: &[u8],
-        reason: Option<Reason>,
-    ) {
-        if let Some(to) = to {
-            self.sockets.answer(to, self.out.as_slice());
-        }
-        if self.logs {
-            log_unopened(rt, self.alloc, from, bytes, self.out.as_slice(), reason);
-        }
-    }
-
-    /// Gives the spare port to the transfer that opened, and sends its first datagram.
-    fn open<E: Eprint>(&mut self, rt: &E, from: Endpoint, bytes: &[u8]) {
-        if let Some(spare) = self.sockets.open_spare(from, self.out.as_slice()) {
-            self.open_at(rt, spare, from, bytes);
-        }
-    }
-
-    /// Takes the port of a transfer that opened into the list, where there is room.
-    fn open_at<E: Eprint>(&mut self, rt: &E, mut spare: Spare, from: Endpoint, bytes: &[u8]) {
-        let log_entry = self.log_opened(rt, spare.tid, from, bytes);
-        self.sockets.register(&mut spare);
-        let port = self.port_of(spare, log_entry);
-        let _ = self.ports.push(port);
-    }
-
-    /// The port of a transfer that opened, with its file.
-    fn port_of(&self, spare: Spare, log_entry: Option<LogEntry>) -> TransferPort {
-        let agreed = timeout_of(&self.server, spare.tid);
-        let due = deadline(self.sockets.watch.now, agreed);
-        Port {
-            tid: spare.tid,
-            due,
-            is_ready: false,
-            socket: TransferSocket {
-                udp: spare.socket,
-                agreed,
-                times_out_at: due,
-                log_entry,
-            },
-        }
-    }
-
-    /// Writes the line of a request that opened a transfer at the port, where there is a log; what
-    /// its close is to say of it.
-    fn log_opened<E: Eprint>(
-        &self,
-        rt: &E,
-        tid: u16,
-        from: Endpoint,
-        bytes: &[u8],
-    ) -> Option<LogEntry> {
-        if !self.logs {
-            return None;
-        }
-        let first = self.out.as_slice();
-        let entry = LogEntry::new(self.alloc, from, bytes, first, self.sockets.watch.now);
-        let line = entry.opened(tid);
-        let _ = eprintln!(rt; "{line}");
-        Some(entry)
     }
 
     /// Takes what came to the ports of transfers. `left` counts the transfers that are yet to

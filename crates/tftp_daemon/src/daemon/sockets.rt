@@ -1,7 +1,8 @@
 //! The sockets of `tftpd` that no transfer has: the request port, and the port of the next
 //! transfer.
 
-ghost use Rattle.std.specs.Prelude.{◌≡◌, ◌≤◌, ◌↔◌, length, false, None, Ok, Err, IfSome, IsErr};
+ghost use Rattle.std.specs.Prelude.{◌≡◌, ◌≤◌, ◌↔◌, length, false, None, Ok, IfSome, IfErr};
+ghost use Rattle.tftp_server.specs.Port.{asks_store};
 ghost use Rattle.tftp_host.specs.declared.log_line.Lost.TheVariants as Lost;
 
 use crate::udp::{Udp, receive, send};
@@ -11,7 +12,7 @@ use std::io;
 use std::time::{Clock, Duration};
 use tftp_ends::Endpoint;
 use tftp_host::{Lost, Watch, address_of, read_clock};
-use tftp_server::ServerFault;
+use tftp_server::Admission;
 
 /// The token of the request port; a transfer's is its port, which is never 0.
 pub(crate) const REQUESTS: Token = Token(0);
@@ -84,18 +85,17 @@ impl Sockets {
     pub(crate) fn port_for<N: Udp>(
         &mut self,
         net: &N,
-        may_open: Result<bool, ServerFault>,
+        admission: &Admission<'_>,
     ) -> Result<Option<u16>, Lost>
-        ensures none { result ≡ Ok None ↔ may_open ≡ Ok false }
-        ensures memory { result ≡ Err Lost.Memory ↔ IsErr may_open }
+        ensures none { result ≡ Ok None ↔ (asks_store admission.now.ask ≡ false) }
+        ensures lost { IfErr result (λ lost. lost ≡ Lost.Port) }
     {
-        match may_open {
-            Ok(true) => match self.spare_port(net) {
-                Some(port) => Ok(Some(port)),
-                None => Err(Lost::Port),
-            },
-            Ok(false) => Ok(None),
-            Err(_) => Err(Lost::Memory),
+        if !admission.may_open() {
+            return Ok(None);
+        }
+        match self.spare_port(net) {
+            Some(port) => Ok(Some(port)),
+            None => Err(Lost::Port),
         }
     }
 
