@@ -1,7 +1,7 @@
 //! The two hosts between which transfers run.
 
 ghost use Rattle.std.specs.Prelude.{IsTrue, ◌≡◌, ◌↔◌};
-ghost use Rattle.tftp_machine.specs.Machine.{host_of, Elsewhere};
+ghost use Rattle.tftp_machine.specs.Machine.{host_of, Elsewhere, is_same_ip, server_ip, client_ip};
 
 use tftp_ends::Endpoint;
 
@@ -15,5 +15,19 @@ pub const CLIENT_IP: [u8; 4] = [10, 0, 0, 2];
 pub fn is_foreign(endpoint: &Endpoint) -> bool
     ensures { IsTrue result ↔ (host_of endpoint.now ≡ Elsewhere) }
 {
-    endpoint.ip != SERVER_IP && endpoint.ip != CLIENT_IP
+    !is_server(endpoint) && !is_client(endpoint)
+}
+
+/// Whether an endpoint is at the server.
+fn is_server(endpoint: &Endpoint) -> bool
+    ensures { result ≡ is_same_ip endpoint.now.ip server_ip }
+{
+    endpoint.ip == SERVER_IP
+}
+
+/// Whether an endpoint is at the clients' host.
+fn is_client(endpoint: &Endpoint) -> bool
+    ensures { result ≡ is_same_ip endpoint.now.ip client_ip }
+{
+    endpoint.ip == CLIENT_IP
 }
