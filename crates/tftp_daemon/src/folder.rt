@@ -294,7 +294,7 @@ impl<R: Files + Drop> FolderStore<R> {
 }
 
 impl<R: Files + Drop> Store for FolderStore<R> {
-    ghost use Rattle.std.specs.Prelude.{◌≡◌, None, true, Err, IfErr, IsErrOf};
+    ghost use Rattle.std.specs.Prelude.{◌≡◌, ⊤, None, true, Err, IfErr, IsErrOf};
     ghost use Rattle.tftp_host.specs.DiskFault.{MayNotOpen, MayNotStore, MayNotBegin, MayNotName};
 
     type Source = FolderSource<R::File>;
@@ -306,6 +306,7 @@ impl<R: Files + Drop> Store for FolderStore<R> {
       drafted = λ _. None;
       may_refuse_open = λ _ _ fault. MayNotOpen fault;
       may_refuse_begin = λ _ _ replace fault. MayNotBegin replace fault;
+      begun = λ _ _ _. ⊤;
       may_refuse_append = λ _ _ _ fault. MayNotStore fault;
       may_refuse_commit = λ _ _ _ replace fault. MayNotName replace fault;
     } };
