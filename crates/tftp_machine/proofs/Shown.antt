@@ -1,6 +1,6 @@
 -- What is shown of a machine is shown again after an act, an opening or a datagram.
-use Rattle.std.proofs.Common.{◌≡◌, ℕ, ◌+◌, Bool, true, false, List, [], ◌∷◌, ◌++◌, length, set, Some, None, append_assoc, sym, refl, ap, ◌∙◌, subst, arith, inl, inr}
-use Rattle.std.specs.Prelude.{◌≢◌, ◌⊎◌, not, slice_get}
+use Rattle.std.proofs.Common.{◌≡◌, ℕ, ◌+◌, Bool, true, false, List, [], ◌∷◌, ◌++◌, length, set, Some, None, sym, refl, ap, ◌∙◌, subst, arith, inl, inr}
+use Rattle.std.specs.Prelude.{◌≢◌, ◌≤◌, ◌⊎◌, not, slice_get}
 use Rattle.std.specs.List.{Contains}
 use Rattle.std.proofs.lemmas.Bool.{true≢false, cases_Bool}
 use Rattle.std.proofs.lemmas.Option.{slice_get_within}
@@ -11,7 +11,7 @@ use Rattle.tftp_wire.specs.declared.packet.Request.{Request as WireRequest}
 use Rattle.tftp_machine.specs.Facts.{Holds}
 use Rattle.tftp_machine.specs.Recorded.{AreRecorded}
 use Rattle.tftp_machine.specs.Rules.{Rule, Asks, Opens_plainly, Opens_with, Says_error, Repeats, Strays, actor, MayAct, Guard, OpensAnew, AreOver, packets, party_after, after, IsLegal, run}
-use Rattle.tftp_machine.specs.Shows.{EndView, party_of, Matches, requested, answered_by, IsInService, Shows, IsShownAfter, IsShown, ActInTurn, party_then, sent_by, Opens, Speaks, NoneAnswers, AsksAnew}
+use Rattle.tftp_machine.specs.Shows.{EndView, party_of, Matches, requested, answered_by, IsInService, Shows, IsShownAt, IsShownWithin, IsShown, ActInTurn, party_then, sent_by, Opens, Speaks, NoneAnswers, AsksAnew}
 use Rattle.tftp_machine.proofs.Acting.{Unshown, with_unshown, KeepsOn, act_in_turn}
 use Rattle.tftp_machine.proofs.Endpoints.{cases_same}
 use Rattle.tftp_machine.proofs.Grows.{with_at, with_other}
@@ -62,28 +62,31 @@ match_unshown f b x m = record {
 }
 
 pub shown_start : IsShown [] []
-shown_start = ([], tt, record {
+shown_start = ([], (tt, record {
   sent = refl;
   ends = λ k e i. absurd (let z : None ≡ Some e = i in cc);
   asked = λ k e i. absurd (let z : None ≡ Some e = i in cc);
   only = λ a o. absurd (true≢false (sym o));
-})
+}))
 
 -- a machine that shows them keeps its facts
 pub shown_by : (views : List EndView) (messages : List Message) → IsShown views messages → (m : Machine) × Holds m × AreRecorded m × Shows views messages m
 shown_by views messages shown =
-    (run shown.0 start, Holds-run shown.0 start Holds-start shown.1, recorded_run shown.0 start Holds-start recorded_start shown.1, shown.2)
+    (run shown.0 start, Holds-run shown.0 start Holds-start shown.1.0, recorded_run shown.0 start Holds-start recorded_start shown.1.0, shown.1.1)
 
 -- more rules show more
-shown_after : (first : List Rule) (views vs : List EndView) (messages ms : List Message) (shown : IsShownAfter first views messages) (rs : List Rule) →
-    IsLegal rs (run (first ++ shown.0) start) → Shows vs ms (run rs (run (first ++ shown.0) start)) → IsShownAfter first vs ms
-shown_after first views vs messages ms shown rs legal shows =
-    let old = first ++ shown.0 in
-    let same : old ++ rs ≡ first ++ (shown.0 ++ rs) = append_assoc first shown.0 rs in (
-      shown.0 ++ rs,
-      subst (λ (qs : List Rule). IsLegal qs start) same (legal_then old rs start shown.1 legal),
-      subst (λ (qs : List Rule). Shows vs ms (run qs start)) same (subst (λ (m : Machine). Shows vs ms m) (sym (run_then old rs start)) shows),
-    )
+shown_after : (first : List Rule) (vs : List EndView) (ms : List Message) → IsLegal first start → (rs : List Rule) →
+    IsLegal rs (run first start) → Shows vs ms (run rs (run first start)) → IsShownWithin (length rs) first vs ms
+shown_after first vs ms before rs legal shows =
+    (rs, omega arith, (legal_then first rs start before legal, subst (λ (m : Machine). Shows vs ms m) (sym (run_then first rs start)) shows))
+
+-- none show what is shown
+pub shown_still : (first : List Rule) (views : List EndView) (messages : List Message) → IsShownAt first views messages → IsShownWithin 0 first views messages
+shown_still first views messages shown = shown_after first views messages shown.0 [] tt shown.1
+
+-- so many are more
+pub shown_within : (few most : ℕ) (first : List Rule) (views : List EndView) (messages : List Message) → few ≤ most → IsShownWithin few first views messages → IsShownWithin most first views messages
+shown_within few most first views messages fits shown = (shown.0, (let l = shown.1 in omega (arith, l, fits)), shown.2)
 
 -- an end of the server answers the same request as long as it goes on
 same_answer : (x y : Party) → KeepsOn x y → answered_by x ≡ answered_by y
@@ -96,12 +99,12 @@ was_in_service e f x y m n g alive s = (sym m.client ∙ (sym g.client ∙ (n.cl
   not_done (inl d) = absurd (true≢false (sym (g.done (m.done ∙ d)) ∙ (n.done ∙ s.1)))
   not_done (inr d) = d
 
-pub shown_acts : (first : List Rule) (views : List EndView) (messages : List Message) (k : ℕ) (e f : EndView) (rs : List Rule) → IsShownAfter first views messages → slice_get views k ≡ Some e → e.failed ≡ false →
+pub shown_acts : (first : List Rule) (views : List EndView) (messages : List Message) (k : ℕ) (e f : EndView) (rs : List Rule) → IsShownAt first views messages → slice_get views k ≡ Some e → e.failed ≡ false →
     ActInTurn rs e.address messages (party_of e) → f.address ≡ e.address → f.request ≡ e.request → Matches f (party_then rs (party_of e)) →
-    IsShownAfter first (set views k f) (messages ++ sent_by rs (party_of e))
+    IsShownWithin (length rs) first (set views k f) (messages ++ sent_by rs (party_of e))
 shown_acts first views messages k e f rs shown at alive turns same asks matches =
-    let m = run (first ++ shown.0) start in
-    let s = shown.2 in
+    let m = run first start in
+    let s = shown.1 in
     let a = e.address in
     let here = s.ends k e at in
     let x = m.party a in
@@ -116,7 +119,7 @@ shown_acts first views messages k e f rs shown at alive turns same asks matches 
         (s.asked k e at (was_in_service e f x (n.party a) here.0 now w.keeps alive busy))) in
     let apart : (j : ℕ) (y : EndView) → j ≢ k → slice_get views j ≡ Some y → y.address ≢ a = λ j y other i q.
         other (let p : y.address.port ≡ a.port = ap (λ (q : Endpoint). q.port) q in let c = (s.ends j y i).1 in let d = here.1 in omega arith) in
-    shown_after first views (set views k f) messages (messages ++ sent_by rs (party_of e)) shown rs acted.0
+    shown_after first (set views k f) (messages ++ sent_by rs (party_of e)) shown.0 rs acted.0
       (record {
         sent = w.sent ∙ ap (λ (ds : List Message). ds ++ sent_by rs (party_of e)) s.sent;
         ends = λ j y i. elim (slice_get-set_cases views k j f y i) [
@@ -138,11 +141,11 @@ shown_acts first views messages k e f rs shown at alive turns same asks matches 
       })
 
 -- what asked for an end that is over is not shown
-pub shown_forgets : (first : List Rule) (views : List EndView) (messages : List Message) (k : ℕ) (d e f : EndView) → slice_get views k ≡ Some d → f ≡ record e { request = f.request } → (IsInService e → ⊥) →
-    IsShownAfter first (set views k e) messages → IsShownAfter first (set views k f) messages
-shown_forgets first views messages k d e f at same over shown =
+pub shown_forgets : (most : ℕ) (first : List Rule) (views : List EndView) (messages : List Message) (k : ℕ) (d e f : EndView) → slice_get views k ≡ Some d → f ≡ record e { request = f.request } → (IsInService e → ⊥) →
+    IsShownWithin most first (set views k e) messages → IsShownWithin most first (set views k f) messages
+shown_forgets most first views messages k d e f at same over shown =
     let m = run (first ++ shown.0) start in
-    let s = shown.2 in
+    let s = shown.2.1 in
     let here = slice_get-set_same views k e d at in
     let old = s.ends k e here in
     let matches : Matches (record e { request = f.request }) (m.party e.address) = record {
@@ -165,7 +168,7 @@ shown_forgets first views messages k d e f at same over shown =
     let idle : IsInService f → ⊥ = subst (λ (z : EndView). IsInService z → ⊥) (sym same) over in (
       shown.0,
       shown.1,
-      record {
+      (shown.2.0, record {
         sent = s.sent;
         ends = λ j y i. elim (slice_get-set_cases views k j f y i) [
           | inl b ↦ subst (λ (z : EndView). Matches z (m.party z.address) × (z.address.port ≡ 1024 + j)) (sym b.1)
@@ -180,7 +183,7 @@ shown_forgets first views messages k d e f at same over shown =
           | inl c ↦ (k, f, slice_get-set_same views k f d at, address ∙ (ap (λ (z : EndView). z.address) (sym c.1) ∙ there.3))
           | inr c ↦ (there.0, there.1, slice_get-set_other views k there.0 f c.0 ∙ c.1, there.3)
         ];
-      },
+      }),
     )
 
 -- no end is open at the next port
@@ -243,12 +246,12 @@ new_answer views f (Opens_plainly at peer write request text) o h t busy = answe
 new_answer views f (Opens_with at peer write request text size) o h t busy = answers_so write request f.request h.0
 new_answer views f r o h t busy = absurd o
 
-pub shown_opens : (first : List Rule) (views : List EndView) (messages : List Message) (f : EndView) (r : Rule) → IsShownAfter first views messages → Opens r → MayAct r messages nobody →
+pub shown_opens : (first : List Rule) (views : List EndView) (messages : List Message) (f : EndView) (r : Rule) → IsShownAt first views messages → Opens r → MayAct r messages nobody →
     f.address ≡ actor r → f.address.port ≡ 1024 + length views → Matches f (party_after r nobody) → AsksAnew r f.request views →
-    IsShownAfter first (views ++ f ∷ []) (messages ++ packets r nobody)
+    IsShownWithin 1 first (views ++ f ∷ []) (messages ++ packets r nobody)
 shown_opens first views messages f r shown opening may same port matches asks =
-    let m = run (first ++ shown.0) start in
-    let s = shown.2 in
+    let m = run first start in
+    let s = shown.1 in
     let a = actor r in
     let x = m.party a in
     let closed = next_port views messages m s a (ap (λ (q : Endpoint). q.port) (sym same) ∙ port) in
@@ -258,7 +261,7 @@ shown_opens first views messages f r shown opening may same port matches asks =
     let here : n.party f.address ≡ party_after r nobody = ap n.party same ∙ (with_at m.party a (party_after r x) ∙ alike.0) in
     let apart : (j : ℕ) (y : EndView) → slice_get views j ≡ Some y → y.address ≢ a = λ j y i q.
         (let p : y.address.port ≡ f.address.port = ap (λ (c : Endpoint). c.port) (q ∙ sym same) in let c = (s.ends j y i).1 in let l = slice_get_within views j y i in omega arith) in
-    shown_after first views (views ++ f ∷ []) messages (messages ++ packets r nobody) shown (r ∷ []) (guard, opens_anew views messages m r f.request s opening asks, tt)
+    shown_after first (views ++ f ∷ []) (messages ++ packets r nobody) shown.0 (r ∷ []) (guard, opens_anew views messages m r f.request s opening asks, tt)
       (record {
         sent = ap (λ (ds : List Message). ds ++ packets r x) s.sent ∙ ap (λ (ds : List Message). messages ++ ds) alike.1;
         ends = λ j y i. elim (slice_get-push_cases views j f y i) [
@@ -297,11 +300,11 @@ speaks_alike (Repeats old) o x = (refl, refl)
 speaks_alike (Strays stray) o x = (refl, refl)
 speaks_alike r o x = absurd o
 
-pub shown_speaks : (first : List Rule) (views : List EndView) (messages : List Message) (r : Rule) → IsShownAfter first views messages → Speaks r → MayAct r messages nobody →
-    IsShownAfter first views (messages ++ packets r nobody)
+pub shown_speaks : (first : List Rule) (views : List EndView) (messages : List Message) (r : Rule) → IsShownAt first views messages → Speaks r → MayAct r messages nobody →
+    IsShownWithin 1 first views (messages ++ packets r nobody)
 shown_speaks first views messages r shown speaking may =
-    let m = run (first ++ shown.0) start in
-    let s = shown.2 in
+    let m = run first start in
+    let s = shown.1 in
     let a = actor r in
     let x = m.party a in
     let guard : Guard r m = subst (λ (ds : List Message). MayAct r ds x) (sym s.sent) (may_speak r speaking messages x may) in
@@ -311,7 +314,7 @@ shown_speaks first views messages r shown speaking may =
       | inl e ↦ ap n.party e ∙ (with_at m.party a (party_after r x) ∙ (alike.0 ∙ ap m.party (sym e)))
       | inr d ↦ with_other m.party a (party_after r x) q d
     ] in
-    shown_after first views views messages (messages ++ packets r nobody) shown (r ∷ []) (guard, speaks_none r speaking m, tt)
+    shown_after first views (messages ++ packets r nobody) shown.0 (r ∷ []) (guard, speaks_none r speaking m, tt)
       (record {
         sent = ap (λ (ds : List Message). ds ++ packets r x) s.sent ∙ ap (λ (ds : List Message). messages ++ ds) alike.1;
         ends = λ j y i. let there = s.ends j y i in (subst (λ (z : Party). Matches y z) (sym (stays y.address)) there.0, there.1);

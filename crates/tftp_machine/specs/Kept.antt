@@ -2,30 +2,30 @@
 use Rattle.std.specs.Prelude.{◌≡◌, ℕ, ◌+◌, false, List, [], ◌∷◌, ◌++◌, length, slice_get, slice_set, Some}
 use Rattle.tftp_machine.specs.Machine.{Message, nobody}
 use Rattle.tftp_machine.specs.Rules.{Rule, actor, MayAct, packets, party_after}
-use Rattle.tftp_machine.specs.Shows.{EndView, party_of, Matches, IsShownAfter, ActInTurn, party_then, sent_by, Opens, Speaks, AsksAnew}
+use Rattle.tftp_machine.specs.Shows.{EndView, party_of, Matches, IsShownAt, IsShownWithin, ActInTurn, party_then, sent_by, Opens, Speaks, AsksAnew}
 
 -- how one end handles a datagram or a timeout is shown again, if rules of that end give it that
 -- may act one after another by what is told of it and by what was sent
 abbrev pub EndsGoOn : Type 0
 EndsGoOn =
     (first : List Rule) (views : List EndView) (messages : List Message) (k : ℕ) (e f : EndView) (rules : List Rule) →
-    IsShownAfter first views messages → slice_get views k ≡ Some e → e.failed ≡ false →
+    IsShownAt first views messages → slice_get views k ≡ Some e → e.failed ≡ false →
     ActInTurn rules e.address messages (party_of e) →
     f.address ≡ e.address → f.request ≡ e.request → Matches f (party_then rules (party_of e)) →
-    IsShownAfter first (slice_set views k f) (messages ++ sent_by rules (party_of e))
+    IsShownWithin (length rules) first (slice_set views k f) (messages ++ sent_by rules (party_of e))
 
 -- an end that a rule opens at the next port is shown, where no open end answers its request already
 abbrev pub EndsOpen : Type 0
 EndsOpen =
     (first : List Rule) (views : List EndView) (messages : List Message) (f : EndView) (rule : Rule) →
-    IsShownAfter first views messages → Opens rule → MayAct rule messages nobody →
+    IsShownAt first views messages → Opens rule → MayAct rule messages nobody →
     f.address ≡ actor rule → f.address.port ≡ 1024 + length views →
     Matches f (party_after rule nobody) → AsksAnew rule f.request views →
-    IsShownAfter first (views ++ f ∷ []) (messages ++ packets rule nobody)
+    IsShownWithin 1 first (views ++ f ∷ []) (messages ++ packets rule nobody)
 
 -- a datagram that changes no end is shown
 abbrev pub DatagramsAreAdded : Type 0
 DatagramsAreAdded =
     (first : List Rule) (views : List EndView) (messages : List Message) (rule : Rule) →
-    IsShownAfter first views messages → Speaks rule → MayAct rule messages nobody →
-    IsShownAfter first views (messages ++ packets rule nobody)
+    IsShownAt first views messages → Speaks rule → MayAct rule messages nobody →
+    IsShownWithin 1 first views (messages ++ packets rule nobody)

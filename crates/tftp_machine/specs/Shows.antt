@@ -1,5 +1,5 @@
 -- What a world of ends and datagrams shows of the guarded machine.
-use Rattle.std.specs.Prelude.{◌≡◌, ℕ, ◌+◌, Bool, true, false, not, List, [], ◌∷◌, ◌++◌, slice_get, Option, Some}
+use Rattle.std.specs.Prelude.{◌≡◌, ℕ, ◌+◌, ◌≤◌, Bool, true, false, not, List, [], ◌∷◌, ◌++◌, length, slice_get, Option, Some}
 use Rattle.tftp_wire.specs.Spelling.{Spells}
 use Rattle.tftp_wire.specs.declared.mode.Mode.{Mode}
 use Rattle.tftp_wire.specs.declared.packet.Packet.{Packet as WirePacket}
@@ -102,14 +102,18 @@ pub record Shows (views : List EndView) (messages : List Message) (m : Machine) 
   pub only : (a : Endpoint) → (m.party a).is_open ≡ true →
       (k : ℕ) × (e : EndView) × (slice_get views k ≡ Some e) × (e.address ≡ a)
 
--- they are those of the machine after a legal list of rules from the start, of which these are the first
-abbrev pub IsShownAfter : List Rule → List EndView → List Message → Type 0
-IsShownAfter first views messages =
-    (more : List Rule) × IsLegal (first ++ more) start × Shows views messages (run (first ++ more) start)
+-- the rules are legal from the start, and they are those of the machine then
+abbrev pub IsShownAt : List Rule → List EndView → List Message → Type 0
+IsShownAt rules views messages = IsLegal rules start × Shows views messages (run rules start)
 
--- they are those of the machine after a legal list of rules from the start
+-- there are such rules
 abbrev pub IsShown : List EndView → List Message → Type 0
-IsShown views messages = IsShownAfter [] views messages
+IsShown views messages = (rules : List Rule) × IsShownAt rules views messages
+
+-- there are such that go on from these by so many at most
+abbrev pub IsShownWithin : ℕ → List Rule → List EndView → List Message → Type 0
+IsShownWithin most rules views messages =
+    (more : List Rule) × (length more ≤ most) × IsShownAt (rules ++ more) views messages
 
 -- the rules may act one after another at this endpoint, where x is the end, by what was sent before
 abbrev pub ActInTurn : List Rule → Endpoint → List Message → Party → Type 0

@@ -1,5 +1,5 @@
 -- Each act of an end, each opening and each datagram of a world is shown again.
-use Rattle.std.proofs.Common.{◌≡◌, ℕ, ◌+◌, ◌<◌, ◌≤◌, Bool, true, false, List, [], ◌∷◌, ◌++◌, length, set, Some, None, sym, refl, ◌∙◌, subst}
+use Rattle.std.proofs.Common.{◌≡◌, ℕ, ◌+◌, ◌<◌, ◌≤◌, Bool, true, false, List, [], ◌∷◌, ◌++◌, length, set, Some, None, sym, refl, ◌∙◌, subst, arith}
 use Rattle.std.specs.Prelude.{slice_get, nat_lt, if◌then◌else◌}
 use Rattle.std.specs.List.{Contains}
 use Rattle.std.proofs.lemmas.List.{append-nil}
@@ -10,9 +10,9 @@ use Rattle.tftp_wire.specs.Spelling.{Spells}
 use Rattle.tftp_file.specs.Block.{block, block_count, Fits, IsBeginningOf}
 use Rattle.tftp_machine.specs.Machine.{Endpoint, server_ip, client_ip, At_server, At_client, Elsewhere, host_of, request_port, Packet, Request, Data, Ack, Oack, Error, Message, Party}
 use Rattle.tftp_machine.specs.Rules.{Rule, Asks, Opens_plainly, Opens_with, Takes_oack, Takes_ack, Takes_data, Appends, Sends_next, Completes, Fails, Fails_with, Says_error, Repeats, Strays, message, asking, opened, HasText}
-use Rattle.tftp_machine.specs.Shows.{EndView, party_of, view_of, Matches, requested, IsShownAfter, ActInTurn, party_then, sent_by, NoneAnswers}
+use Rattle.tftp_machine.specs.Shows.{EndView, party_of, view_of, Matches, requested, IsShownAt, IsShownWithin, ActInTurn, party_then, sent_by, NoneAnswers}
 use Rattle.tftp_machine.proofs.Acting.{stays_open}
-use Rattle.tftp_machine.proofs.Shown.{shown_acts, shown_opens, shown_speaks}
+use Rattle.tftp_machine.proofs.Shown.{shown_acts, shown_opens, shown_speaks, shown_within}
 
 pub host_server : (a : Endpoint) → a.ip ≡ server_ip → host_of a ≡ At_server
 unfolding host_of
@@ -69,7 +69,7 @@ match_cut a asks x t o f d b s = record {
 
 -- the end e stands at place k of ends that are shown
 pub record Stands (first : List Rule) (views : List EndView) (messages : List Message) (k : ℕ) (e : EndView) : Type 0 where
-  pub shown : IsShownAfter first views messages
+  pub shown : IsShownAt first views messages
   pub place : slice_get views k ≡ Some e
 
 -- neither done nor failed
@@ -89,139 +89,148 @@ abbrev pub says : EndView → Endpoint → Packet → List Message
 says e to packet = message e.address to packet ∷ []
 
 module _ (first : List Rule) (views : List EndView) (messages : List Message) (k : ℕ) (e : EndView) (s : Stands first views messages k e) where
+  -- they are a few
+  acted : (rs : List Rule) → length rs ≤ 3 → (f : EndView) → IsShownWithin (length rs) first (set views k f) (messages ++ sent_by rs (party_of e)) →
+      IsShownWithin 3 first (set views k f) (messages ++ sent_by rs (party_of e))
+  acted rs few f h = shown_within (length rs) 3 first (set views k f) (messages ++ sent_by rs (party_of e)) few h
+
   -- the rules of the end act in turn
-  pub goes : (rs : List Rule) → e.failed ≡ false → ActInTurn rs e.address messages (party_of e) →
-      IsShownAfter first (set views k (view_of e.address e.request (party_then rs (party_of e)))) (messages ++ sent_by rs (party_of e))
-  goes rs f t = shown_acts first views messages k e (view_of e.address e.request (party_then rs (party_of e))) rs s.shown s.place f t refl refl
-      (match_self e.address e.request (party_then rs (party_of e)) (stays_open rs e.address messages (party_of e) refl t))
+  pub goes : (rs : List Rule) → length rs ≤ 3 → e.failed ≡ false → ActInTurn rs e.address messages (party_of e) →
+      IsShownWithin 3 first (set views k (view_of e.address e.request (party_then rs (party_of e)))) (messages ++ sent_by rs (party_of e))
+  goes rs few f t = acted rs few (view_of e.address e.request (party_then rs (party_of e))) (shown_acts first views messages k e (view_of e.address e.request (party_then rs (party_of e))) rs s.shown s.place f t refl refl
+      (match_self e.address e.request (party_then rs (party_of e)) (stays_open rs e.address messages (party_of e) refl t)))
 
   -- they act in turn and it fails, so that only a beginning of its text is told
-  pub goes_cut : (rs : List Rule) (t : List ℕ) → e.failed ≡ false → ActInTurn rs e.address messages (party_of e) →
+  pub goes_cut : (rs : List Rule) → length rs ≤ 3 → (t : List ℕ) → e.failed ≡ false → ActInTurn rs e.address messages (party_of e) →
       (party_then rs (party_of e)).failed ≡ true → (party_then rs (party_of e)).done ≡ false → IsBeginningOf t (party_then rs (party_of e)).text → ((party_then rs (party_of e)).sender ≡ true → (party_then rs (party_of e)).text ≡ t) →
-      IsShownAfter first (set views k (record (view_of e.address e.request (party_then rs (party_of e))) { text = t })) (messages ++ sent_by rs (party_of e))
-  goes_cut rs t f turns failed done b same = shown_acts first views messages k e (record (view_of e.address e.request (party_then rs (party_of e))) { text = t }) rs s.shown s.place f turns refl refl
-      (match_cut e.address e.request (party_then rs (party_of e)) t (stays_open rs e.address messages (party_of e) refl turns) failed done b same)
+      IsShownWithin 3 first (set views k (record (view_of e.address e.request (party_then rs (party_of e))) { text = t })) (messages ++ sent_by rs (party_of e))
+  goes_cut rs few t f turns failed done b same = acted rs few (record (view_of e.address e.request (party_then rs (party_of e))) { text = t }) (shown_acts first views messages k e (record (view_of e.address e.request (party_then rs (party_of e))) { text = t }) rs s.shown s.place f turns refl refl
+      (match_cut e.address e.request (party_then rs (party_of e)) t (stays_open rs e.address messages (party_of e) refl turns) failed done b same))
 
   -- a waiting reader stores DATA 1
   pub stores_first : (from : Endpoint) (bytes : List ℕ) → IsWaiting e from → e.sender ≡ false → HasCome messages e from (Data 1 bytes) → length bytes ≤ DEFAULT_BLOCK →
-      IsShownAfter first (set views k (record e { peer = Some from; size = DEFAULT_BLOCK; number = 1; done = nat_lt (length bytes) DEFAULT_BLOCK; text = e.text ++ bytes })) (messages ++ says e from (Ack 1))
+      IsShownWithin 3 first (set views k (record e { peer = Some from; size = DEFAULT_BLOCK; number = 1; done = nat_lt (length bytes) DEFAULT_BLOCK; text = e.text ++ bytes })) (messages ++ says e from (Ack 1))
   stores_first from bytes w r c l =
       let n = reader_begins e.sender r in
-      let a = goes (Takes_data e.address from bytes ∷ Appends e.address from bytes ∷ []) w.0.1
+      let a = goes (Takes_data e.address from bytes ∷ Appends e.address from bytes ∷ []) (omega arith) w.0.1
       ((refl, (((refl, w.0.0, w.0.1), w.1, w.2, host_server from w.3), r, c), (refl, ((refl, w.0.0, w.0.1), r, refl, rw n c, l), tt))) in
       rw n at a
 
   -- a waiting reader refuses DATA 1, of which it stored a part at most
   pub refuses_first : (from : Endpoint) (bytes t : List ℕ) → IsWaiting e from → e.sender ≡ false → HasCome messages e from (Data 1 bytes) → length bytes ≤ DEFAULT_BLOCK → IsBeginningOf t (e.text ++ bytes) →
-      IsShownAfter first (set views k (record e { peer = Some from; size = DEFAULT_BLOCK; number = 0; failed = true; text = t })) (messages ++ says e from Error)
+      IsShownWithin 3 first (set views k (record e { peer = Some from; size = DEFAULT_BLOCK; number = 0; failed = true; text = t })) (messages ++ says e from Error)
   refuses_first from bytes t w r c l b =
       let n = reader_begins e.sender r in
-      let a = goes_cut (Takes_data e.address from bytes ∷ Fails_with e.address from bytes ∷ Says_error e.address from ∷ []) t w.0.1
+      let a = goes_cut (Takes_data e.address from bytes ∷ Fails_with e.address from bytes ∷ Says_error e.address from ∷ []) (omega arith) t w.0.1
       ((refl, (((refl, w.0.0, w.0.1), w.1, w.2, host_server from w.3), r, c), (refl, ((refl, w.0.0, w.0.1), r, refl, rw n c, l), (refl, tt, tt))))
       refl w.0.0 b (λ q. absurd (true≢false (sym q ∙ r))) in
       rw n at a
 
   -- a waiting reader takes an OACK
   pub accepts : (from : Endpoint) (size : ℕ) → IsWaiting e from → e.sender ≡ false → HasCome messages e from (Oack size) →
-      IsShownAfter first (set views k (record e { peer = Some from; size = size; number = 0 })) (messages ++ says e from (Ack 0))
+      IsShownWithin 3 first (set views k (record e { peer = Some from; size = size; number = 0 })) (messages ++ says e from (Ack 0))
   accepts from size w r c =
       let n = reader_begins e.sender r in
       let d : (if e.sender then Data 1 (block e.text size 1) else Ack 0) ≡ Ack 0 = rw r refl in
-      let a = goes (Takes_oack e.address from size ∷ []) w.0.1
+      let a = goes (Takes_oack e.address from size ∷ []) (omega arith) w.0.1
       ((refl, (((refl, w.0.0, w.0.1), w.1, w.2, host_server from w.3), c, λ q. absurd (true≢false (sym q ∙ r))), tt)) in
       rw (n, d) at a
 
   -- a waiting writer takes an OACK
   pub sends_first_with : (from : Endpoint) (size : ℕ) → IsWaiting e from → e.sender ≡ true → HasCome messages e from (Oack size) → Fits e.text size →
-      IsShownAfter first (set views k (record e { peer = Some from; size = size; number = 1 })) (messages ++ says e from (Data 1 (block e.text size 1)))
+      IsShownWithin 3 first (set views k (record e { peer = Some from; size = size; number = 1 })) (messages ++ says e from (Data 1 (block e.text size 1)))
   sends_first_with from size w r c fits =
       let n = writer_begins e.sender r in
       let d : (if e.sender then Data 1 (block e.text size 1) else Ack 0) ≡ Data 1 (block e.text size 1) = rw r refl in
-      let a = goes (Takes_oack e.address from size ∷ []) w.0.1
+      let a = goes (Takes_oack e.address from size ∷ []) (omega arith) w.0.1
       ((refl, (((refl, w.0.0, w.0.1), w.1, w.2, host_server from w.3), c, λ _. fits), tt)) in
       rw (n, d) at a
 
   -- a waiting writer takes ACK 0
   pub sends_first : (from : Endpoint) → IsWaiting e from → e.sender ≡ true → HasCome messages e from (Ack 0) → Fits e.text DEFAULT_BLOCK →
-      IsShownAfter first (set views k (record e { peer = Some from; size = DEFAULT_BLOCK; number = 1 })) (messages ++ says e from (Data 1 (block e.text DEFAULT_BLOCK 1)))
+      IsShownWithin 3 first (set views k (record e { peer = Some from; size = DEFAULT_BLOCK; number = 1 })) (messages ++ says e from (Data 1 (block e.text DEFAULT_BLOCK 1)))
   sends_first from w r c fits =
       let n = writer_begins e.sender r in
-      let a = goes (Takes_ack e.address from ∷ []) w.0.1
+      let a = goes (Takes_ack e.address from ∷ []) (omega arith) w.0.1
       ((refl, (((refl, w.0.0, w.0.1), w.1, w.2, host_server from w.3), r, c, fits), tt)) in
       rw n at a
 
   -- a receiver stores the next block
   pub stores : (from : Endpoint) (bytes : List ℕ) → IsGoing e → e.sender ≡ false → e.peer ≡ Some from → HasCome messages e from (Data (e.number + 1) bytes) → length bytes ≤ e.size →
-      IsShownAfter first (set views k (record e { number = e.number + 1; done = nat_lt (length bytes) e.size; text = e.text ++ bytes })) (messages ++ says e from (Ack (e.number + 1)))
+      IsShownWithin 3 first (set views k (record e { number = e.number + 1; done = nat_lt (length bytes) e.size; text = e.text ++ bytes })) (messages ++ says e from (Ack (e.number + 1)))
   stores from bytes g r p c l =
-      goes (Appends e.address from bytes ∷ []) g.1 ((refl, ((refl, g.0, g.1), r, p, c, l), tt))
+      goes (Appends e.address from bytes ∷ []) (omega arith) g.1 ((refl, ((refl, g.0, g.1), r, p, c, l), tt))
 
   -- a receiver refuses the next block, of which it stored a part at most
   pub refuses_next : (from : Endpoint) (bytes t : List ℕ) → IsGoing e → e.sender ≡ false → e.peer ≡ Some from → HasCome messages e from (Data (e.number + 1) bytes) → length bytes ≤ e.size → IsBeginningOf t (e.text ++ bytes) →
-      IsShownAfter first (set views k (record e { failed = true; text = t })) (messages ++ says e from Error)
+      IsShownWithin 3 first (set views k (record e { failed = true; text = t })) (messages ++ says e from Error)
   refuses_next from bytes t g r p c l b =
-      goes_cut (Fails_with e.address from bytes ∷ Says_error e.address from ∷ []) t g.1
+      goes_cut (Fails_with e.address from bytes ∷ Says_error e.address from ∷ []) (omega arith) t g.1
       ((refl, ((refl, g.0, g.1), r, p, c, l), (refl, tt, tt))) refl g.0 b (λ q. absurd (true≢false (sym q ∙ r)))
 
   -- a sender whose newest block is acknowledged sends the next one
   pub sends : (from : Endpoint) → IsGoing e → e.sender ≡ true → e.peer ≡ Some from → HasCome messages e from (Ack e.number) → e.number < block_count e.text e.size →
-      IsShownAfter first (set views k (record e { number = e.number + 1 })) (messages ++ says e from (Data (e.number + 1) (block e.text e.size (e.number + 1))))
+      IsShownWithin 3 first (set views k (record e { number = e.number + 1 })) (messages ++ says e from (Data (e.number + 1) (block e.text e.size (e.number + 1))))
   sends from g r p c l =
-      goes (Sends_next e.address from ∷ []) g.1 ((refl, (((refl, g.0, g.1), r, p, c), l), tt))
+      goes (Sends_next e.address from ∷ []) (omega arith) g.1 ((refl, (((refl, g.0, g.1), r, p, c), l), tt))
 
   -- a sender whose last block is acknowledged is done
   pub completes : (from : Endpoint) → IsGoing e → e.sender ≡ true → e.peer ≡ Some from → HasCome messages e from (Ack e.number) → e.number ≡ block_count e.text e.size →
-      IsShownAfter first (set views k (record e { done = true })) messages
+      IsShownWithin 3 first (set views k (record e { done = true })) messages
   completes from g r p c l =
-      let a = goes (Completes e.address from ∷ []) g.1 ((refl, (((refl, g.0, g.1), r, p, c), l), tt)) in
-      subst (λ (ds : List Message). IsShownAfter first (set views k (record e { done = true })) ds) (append-nil messages) a
+      let a = goes (Completes e.address from ∷ []) (omega arith) g.1 ((refl, (((refl, g.0, g.1), r, p, c), l), tt)) in
+      subst (λ (ds : List Message). IsShownWithin 3 first (set views k (record e { done = true })) ds) (append-nil messages) a
 
   -- an end gives up in silence; of a receiver's text a beginning is told from then on
   pub closes : (t : List ℕ) → IsGoing e → IsBeginningOf t e.text → (e.sender ≡ true → e.text ≡ t) →
-      IsShownAfter first (set views k (record e { failed = true; text = t })) messages
+      IsShownWithin 3 first (set views k (record e { failed = true; text = t })) messages
   closes t g b same =
-      let a = goes_cut (Fails e.address ∷ []) t g.1 ((refl, (refl, g.0, g.1), tt)) refl g.0 b same in
-      subst (λ (ds : List Message). IsShownAfter first (set views k (record e { failed = true; text = t })) ds) (append-nil messages) a
+      let a = goes_cut (Fails e.address ∷ []) (omega arith) t g.1 ((refl, (refl, g.0, g.1), tt)) refl g.0 b same in
+      subst (λ (ds : List Message). IsShownWithin 3 first (set views k (record e { failed = true; text = t })) ds) (append-nil messages) a
 
   -- an end gives up and says so
   pub refuses : (to : Endpoint) (t : List ℕ) → IsGoing e → IsBeginningOf t e.text → (e.sender ≡ true → e.text ≡ t) →
-      IsShownAfter first (set views k (record e { failed = true; text = t })) (messages ++ says e to Error)
+      IsShownWithin 3 first (set views k (record e { failed = true; text = t })) (messages ++ says e to Error)
   refuses to t g b same =
-      goes_cut (Fails e.address ∷ Says_error e.address to ∷ []) t g.1 ((refl, (refl, g.0, g.1), (refl, tt, tt))) refl g.0 b same
+      goes_cut (Fails e.address ∷ Says_error e.address to ∷ []) (omega arith) t g.1 ((refl, (refl, g.0, g.1), (refl, tt, tt))) refl g.0 b same
+
+-- one rule is a few
+one_more : (first : List Rule) (views : List EndView) (messages : List Message) → IsShownWithin 1 first views messages → IsShownWithin 3 first views messages
+one_more first views messages h = shown_within 1 3 first views messages (omega arith) h
 
 -- a datagram goes out again
-pub repeats : (first : List Rule) (views : List EndView) (messages : List Message) → IsShownAfter first views messages → (old : Message) → Contains messages old → IsShownAfter first views (messages ++ old ∷ [])
-repeats first views messages h old c = shown_speaks first views messages (Repeats old) h tt c
+pub repeats : (first : List Rule) (views : List EndView) (messages : List Message) → IsShownAt first views messages → (old : Message) → Contains messages old → IsShownWithin 3 first views (messages ++ old ∷ [])
+repeats first views messages h old c = one_more first _ _ (shown_speaks first views messages (Repeats old) h tt c)
 
 -- an ERROR goes out, to a stranger or from the request port
-pub says_error : (first : List Rule) (views : List EndView) (messages : List Message) → IsShownAfter first views messages → (from to : Endpoint) → IsShownAfter first views (messages ++ message from to Error ∷ [])
-says_error first views messages h from to = shown_speaks first views messages (Says_error from to) h tt tt
+pub says_error : (first : List Rule) (views : List EndView) (messages : List Message) → IsShownAt first views messages → (from to : Endpoint) → IsShownWithin 3 first views (messages ++ message from to Error ∷ [])
+says_error first views messages h from to = one_more first _ _ (shown_speaks first views messages (Says_error from to) h tt tt)
 
 -- a stranger says what he likes
-pub strays : (first : List Rule) (views : List EndView) (messages : List Message) → IsShownAfter first views messages → (stray : Message) → host_of stray.from ≡ Elsewhere → IsShownAfter first views (messages ++ stray ∷ [])
+pub strays : (first : List Rule) (views : List EndView) (messages : List Message) → IsShownAt first views messages → (stray : Message) → host_of stray.from ≡ Elsewhere → IsShownWithin 1 first views (messages ++ stray ∷ [])
 strays first views messages h stray o = shown_speaks first views messages (Strays stray) h tt o
 
 -- a client opens; a reader has no text
-pub asks : (first : List Rule) (views : List EndView) (messages : List Message) → IsShownAfter first views messages → (a : Endpoint) (write : Bool) (request : WireRequest) (text : List ℕ) →
+pub asks : (first : List Rule) (views : List EndView) (messages : List Message) → IsShownAt first views messages → (a : Endpoint) (write : Bool) (request : WireRequest) (text : List ℕ) →
     a.ip ≡ client_ip → a.port ≡ 1024 + length views → (write ≡ false → text ≡ []) →
-    IsShownAfter first (views ++ view_of a [] (asking write request text) ∷ []) (messages ++ message a request_port (Request write request) ∷ [])
+    IsShownWithin 3 first (views ++ view_of a [] (asking write request text) ∷ []) (messages ++ message a request_port (Request write request) ∷ [])
 asks first views messages h a write request text ip port none =
-    shown_opens first views messages (view_of a [] (asking write request text)) (Asks a write request text) h tt (refl, host_client a ip, none) refl port (match_self a [] (asking write request text) refl) tt
+    one_more first _ _ (shown_opens first views messages (view_of a [] (asking write request text)) (Asks a write request text) h tt (refl, host_client a ip, none) refl port (match_self a [] (asking write request text) refl) tt)
 
 -- a request opens an end at the server, with no options
-pub serves_plainly : (first : List Rule) (views : List EndView) (messages : List Message) → IsShownAfter first views messages → (a peer : Endpoint) (asked : List ℕ) (write : Bool) (request : WireRequest) (text : List ℕ) →
+pub serves_plainly : (first : List Rule) (views : List EndView) (messages : List Message) → IsShownAt first views messages → (a peer : Endpoint) (asked : List ℕ) (write : Bool) (request : WireRequest) (text : List ℕ) →
     a.ip ≡ server_ip → a.port ≡ 1024 + length views → Contains messages (message peer request_port (Request write request)) → HasText write text DEFAULT_BLOCK →
     Spells (requested write request) asked → NoneAnswers views peer (requested write request) →
-    IsShownAfter first (views ++ view_of a asked (opened true peer write request text DEFAULT_BLOCK (if write then 0 else 1)) ∷ []) (messages ++ message a peer (if write then Ack 0 else Data 1 (block text DEFAULT_BLOCK 1)) ∷ [])
+    IsShownWithin 3 first (views ++ view_of a asked (opened true peer write request text DEFAULT_BLOCK (if write then 0 else 1)) ∷ []) (messages ++ message a peer (if write then Ack 0 else Data 1 (block text DEFAULT_BLOCK 1)) ∷ [])
 serves_plainly first views messages h a peer asked write request text ip port c has spells none =
     let x = opened true peer write request text DEFAULT_BLOCK (if write then 0 else 1) in
-    shown_opens first views messages (view_of a asked x) (Opens_plainly a peer write request text) h tt (refl, host_server a ip, c, has) refl port (match_self a asked x refl) (spells, none)
+    one_more first _ _ (shown_opens first views messages (view_of a asked x) (Opens_plainly a peer write request text) h tt (refl, host_server a ip, c, has) refl port (match_self a asked x refl) (spells, none))
 
 -- a request opens an end at the server, with options
-pub serves_with : (first : List Rule) (views : List EndView) (messages : List Message) → IsShownAfter first views messages → (a peer : Endpoint) (asked : List ℕ) (write : Bool) (request : WireRequest) (text : List ℕ) (size : ℕ) →
+pub serves_with : (first : List Rule) (views : List EndView) (messages : List Message) → IsShownAt first views messages → (a peer : Endpoint) (asked : List ℕ) (write : Bool) (request : WireRequest) (text : List ℕ) (size : ℕ) →
     a.ip ≡ server_ip → a.port ≡ 1024 + length views → Contains messages (message peer request_port (Request write request)) → HasText write text size → 0 < size →
     Spells (requested write request) asked → NoneAnswers views peer (requested write request) →
-    IsShownAfter first (views ++ view_of a asked (opened false peer write request text size 0) ∷ []) (messages ++ message a peer (Oack size) ∷ [])
+    IsShownWithin 3 first (views ++ view_of a asked (opened false peer write request text size 0) ∷ []) (messages ++ message a peer (Oack size) ∷ [])
 serves_with first views messages h a peer asked write request text size ip port c has positive spells none =
     let x = opened false peer write request text size 0 in
-    shown_opens first views messages (view_of a asked x) (Opens_with a peer write request text size) h tt (refl, host_server a ip, c, has, positive) refl port (match_self a asked x refl) (spells, none)
+    one_more first _ _ (shown_opens first views messages (view_of a asked x) (Opens_with a peer write request text size) h tt (refl, host_server a ip, c, has, positive) refl port (match_self a asked x refl) (spells, none))

@@ -27,7 +27,7 @@ use Rattle.tftp_ends.specs.Step.{Turn, Reply, response_turn, after, with_positio
 use Rattle.tftp_machine.specs.Machine.{Endpoint, Error, Message}
 use Rattle.tftp_machine.specs.Rules.{Rule, Says_error, Repeats, message}
 use Rattle.tftp_player.specs.Said.{said}
-use Rattle.tftp_machine.specs.Shows.{EndView, IsShownAfter}
+use Rattle.tftp_machine.specs.Shows.{EndView, IsShownWithin}
 use Rattle.tftp_player.specs.World.{OpenEnd, files_of, holding_of, with_files, in_state, end_after, goes_on, text_of as text_of_end}
 use Rattle.tftp_player.specs.WorldKept.{EndKept, PhaseKept}
 use Rattle.tftp_player.proofs.Actions.{Stands, goes, closes, refuses}
@@ -119,7 +119,7 @@ IsThere messages from to bytes = (p : WirePacket) × Spells p bytes × Contains 
 -- a turn of the end x at place k, after which it is y, is shown again
 pub record Goes (first : List Rule) (views : List EndView) (messages : List Message) (k : ℕ) (x : OpenEnd) (turn : Turn) (y : OpenEnd) : Type 0 where
   pub said_now : List Message
-  pub shown : IsShownAfter first (set views k (open_view y)) (messages ++ said_now)
+  pub shown : IsShownWithin 3 first (set views k (open_view y)) (messages ++ said_now)
   pub replies : Replies x.address turn.reply said_now
   pub kept : EndKept y
   pub side : y.state.role.side ≡ x.state.role.side
@@ -191,7 +191,7 @@ module _ (first : List Rule) (views : List EndView) (messages : List Message) (k
   pub ignores : (from : Endpoint) → is_some (outcome_of x.state.position.phase) ≡ false → Goes first views messages k x (response_turn Ignore from x.state) x
   ignores from o = record {
     said_now = [];
-    shown = goes first views messages k (open_view x) s [] (open_live x.state.position.phase o) tt;
+    shown = goes first views messages k (open_view x) s [] (omega arith) (open_live x.state.position.phase o) tt;
     replies = refl;
     kept = kept;
     side = refl;
@@ -203,7 +203,7 @@ module _ (first : List Rule) (views : List EndView) (messages : List Message) (k
   pub tells_stranger : (from : Endpoint) → is_some (outcome_of x.state.position.phase) ≡ false → Goes first views messages k x (response_turn Stranger from x.state) x
   tells_stranger from o = record {
     said_now = message x.address from Error ∷ [];
-    shown = goes first views messages k (open_view x) s (Says_error x.address from ∷ []) (open_live x.state.position.phase o) (refl, tt, tt);
+    shown = goes first views messages k (open_view x) s (Says_error x.address from ∷ []) (omega arith) (open_live x.state.position.phase o) (refl, tt, tt);
     replies = error_says UnknownTransferId x.address from;
     kept = kept;
     side = refl;
@@ -217,7 +217,7 @@ module _ (first : List Rule) (views : List EndView) (messages : List Message) (k
   answers_again from o same old =
       let m = message x.address from (said old.0) in record {
         said_now = m ∷ [];
-        shown = goes first views messages k (open_view x) s (Repeats m ∷ []) (open_live x.state.position.phase o)
+        shown = goes first views messages k (open_view x) s (Repeats m ∷ []) (omega arith) (open_live x.state.position.phase o)
             (refl, subst (λ (to : Endpoint). Contains messages (message x.address to (said old.0))) (sym same) old.2, tt);
         replies = (old.0, old.1, refl);
         kept = kept;
@@ -233,7 +233,7 @@ module _ (first : List Rule) (views : List EndView) (messages : List Message) (k
   retries from o old =
       let m = message x.address x.state.position.last_sent_to (said old.0) in record {
         said_now = m ∷ [];
-        shown = goes first views messages k (open_view x) s (Repeats m ∷ []) (open_live x.state.position.phase o) (refl, old.2, tt);
+        shown = goes first views messages k (open_view x) s (Repeats m ∷ []) (omega arith) (open_live x.state.position.phase o) (refl, old.2, tt);
         replies = (old.0, old.1, refl);
         kept = record { phase = phase_retries x.state.position.phase x (x.state.position.retries_left - 1) kept.phase; held = kept.held; committed = kept.committed };
         side = refl;
@@ -259,8 +259,8 @@ module _ (first : List Rule) (views : List EndView) (messages : List Message) (k
       (text_sent b (goes_on x.state.position.phase) f w x.state.position.held) in
       record {
         said_now = [];
-        shown = subst (λ (ms : List Message). IsShownAfter first (set views k (open_view y)) ms) (sym (append-nil messages))
-            (subst (λ (v : EndView). IsShownAfter first (set views k v) messages)
+        shown = subst (λ (ms : List Message). IsShownWithin 3 first (set views k (open_view y)) ms) (sym (append-nil messages))
+            (subst (λ (v : EndView). IsShownWithin 3 first (set views k v) messages)
             (failed_view (open_view x) (text_of_end y) (is_complete x.state.position.phase) (open_view x).peer (open_view x).size live.0) shown_now);
         replies = refl;
         kept = closed_kept (terms_of x.state.position.phase) outcome;
@@ -282,7 +282,7 @@ module _ (first : List Rule) (views : List EndView) (messages : List Message) (k
       (text_sent b (goes_on x.state.position.phase) f w x.state.position.held) in
       record {
         said_now = message x.address from Error ∷ [];
-        shown = subst (λ (v : EndView). IsShownAfter first (set views k v) (messages ++ message x.address from Error ∷ []))
+        shown = subst (λ (v : EndView). IsShownWithin 3 first (set views k v) (messages ++ message x.address from Error ∷ []))
             (failed_view (open_view x) (text_of_end y) (is_complete x.state.position.phase) (open_view x).peer (open_view x).size live.0) shown_now;
         replies = error_says reply x.address from;
         kept = closed_kept (terms_of x.state.position.phase) outcome;

@@ -1,5 +1,5 @@
 -- An open end with any datagram, and at a timeout.
-use Rattle.std.proofs.Common.{◌≡◌, ℕ, Bool, true, false, List, [], Option, Some, sym, refl, ap, ◌∙◌, inl}
+use Rattle.std.proofs.Common.{◌≡◌, ℕ, Bool, true, false, List, [], Option, Some, sym, refl, ap, ◌∙◌, inl, arith}
 use Rattle.std.specs.Prelude.{◌==◌, ◌&&◌, if◌then◌else◌, is_none, is_some}
 use Rattle.std.proofs.lemmas.Bool.{true≢false}
 use Rattle.tftp_wire.specs.declared.packet.Packet.{Packet as WirePacket}
@@ -109,7 +109,7 @@ module _ (first : List Rule) (views : List EndView) (messages : List Message) (k
       Turns_at (placed (Dallying terms n dally) x0) (timeout_response x0.state.position.retries_left (Dallying terms n dally))
   dally_turns terms n Fresh s kept = record {
     said_now = [];
-    shown = goes first views messages k (open_view (placed (Dallying terms n Fresh) x0)) s [] refl tt;
+    shown = goes first views messages k (open_view (placed (Dallying terms n Fresh) x0)) s [] (omega arith) refl tt;
     replies = refl;
     kept = record { phase = kept.phase; held = kept.held; committed = kept.committed };
     side = refl;
@@ -118,7 +118,7 @@ module _ (first : List Rule) (views : List EndView) (messages : List Message) (k
   }
   dally_turns terms n Waited s kept = record {
     said_now = [];
-    shown = goes first views messages k (open_view (placed (Dallying terms n Waited) x0)) s [] refl tt;
+    shown = goes first views messages k (open_view (placed (Dallying terms n Waited) x0)) s [] (omega arith) refl tt;
     replies = refl;
     kept = record { phase = tt; held = kept.held; committed = kept.committed };
     side = refl;

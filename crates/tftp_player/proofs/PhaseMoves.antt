@@ -32,7 +32,7 @@ use Rattle.tftp_ends.specs.Text.{is_readable}
 use Rattle.tftp_machine.specs.Machine.{Endpoint, Data as Says_data, Ack as Says_ack, Message}
 use Rattle.tftp_machine.specs.Rules.{Rule, message}
 use Rattle.tftp_player.specs.Said.{said}
-use Rattle.tftp_machine.specs.Shows.{EndView, IsShownAfter}
+use Rattle.tftp_machine.specs.Shows.{EndView, IsShownWithin}
 use Rattle.tftp_player.specs.World.{OpenEnd, files_of, end_after, text_of as text_of_end}
 use Rattle.tftp_player.specs.WorldSteps.{world_sink}
 use Rattle.tftp_player.specs.WorldKept.{EndKept, sent_text}
@@ -170,7 +170,7 @@ module _ (first : List Rule) (views : List EndView) (messages : List Message) (k
         incomplete = refl;
         peer = sym peer;
         fits = spelled.valid.1;
-        stored = subst (λ (m : ℕ). IsShownAfter first (set views k (record (open_view receiver) { number = m; done = last; text = text_of_end receiver ++ piece })) (messages ++ message x0.address from (Says_ack m) ∷ [])) (sym is)
+        stored = subst (λ (m : ℕ). IsShownWithin 3 first (set views k (record (open_view receiver) { number = m; done = last; text = text_of_end receiver ++ piece })) (messages ++ message x0.address from (Says_ack m) ∷ [])) (sym is)
             (stores first views messages k (open_view receiver) s from piece (refl, refl) kept.phase.0 (ap Some peer) here l);
         refused = λ t b. refuses_next first views messages k (open_view receiver) s from piece t (refl, refl) kept.phase.0 (ap Some peer) here l b;
       } in

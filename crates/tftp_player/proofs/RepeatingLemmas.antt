@@ -41,7 +41,7 @@ use Rattle.tftp_player.proofs.WorldTurns.{view_at}
 -- no end is at the request port
 none_at_port : (strangers : Bool) (w : WorldState) (k : ℕ) (x : OpenEnd) → IsOk strangers w → slice_get w.ends k ≡ Some (Open_end x) → x.address ≡ request_port → ⊥
 none_at_port strangers w k x ok there at =
-    let p = (ok.shown.2.ends k (view_of_end (Open_end x)) (view_at w.ends k (Open_end x) there)).1 in
+    let p = (ok.shown.1.1.ends k (view_of_end (Open_end x)) (view_at w.ends k (Open_end x) there)).1 in
     let q : x.address.port ≡ 69 = ap (λ (e : Endpoint). e.port) at in
     omega (arith, p, q)
 

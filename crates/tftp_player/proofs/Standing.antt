@@ -12,7 +12,7 @@ use Rattle.tftp_player.specs.Requests.{is_transfer}
 use Rattle.tftp_machine.specs.Machine.{Message}
 use Rattle.tftp_machine.proofs.Shown.{shown_forgets}
 use Rattle.tftp_machine.specs.Rules.{Rule}
-use Rattle.tftp_machine.specs.Shows.{EndView, IsInService, IsShownAfter}
+use Rattle.tftp_machine.specs.Shows.{EndView, IsInService, IsShownWithin}
 use Rattle.tftp_player.specs.World.{WorldState, OpenEnd, WorldEnd, Open_end, Closed_end, end_record, end_address, is_closed, datagram, in_state, closed_end, by_outcome, standing, text_of, peer_of, view_of_end, end_request, file_at}
 use Rattle.tftp_player.specs.WorldKept.{EndKept, IsKeptIn}
 
@@ -102,10 +102,10 @@ open_is x e = open_in x.state.position.phase x e where
 
 -- and so it is shown: of a closed one nothing is told of what asked for it
 pub standing_shown : (first : List Rule) (views : List EndView) (messages : List Message) (k : ℕ) (d : EndView) (x : OpenEnd) → slice_get views k ≡ Some d →
-    IsShownAfter first (set views k (open_view x)) messages → IsShownAfter first (set views k (view_of_end (standing x))) messages
+    IsShownWithin 3 first (set views k (open_view x)) messages → IsShownWithin 3 first (set views k (view_of_end (standing x))) messages
 standing_shown first views messages k d x at shown = elim (cases_Bool (is_some (outcome_of x.state.position.phase))) [
-  | inl closed ↦ shown_forgets first views messages k d (open_view x) (view_of_end (standing x)) at (standing_view x) (closed_over x closed) shown
-  | inr open_now ↦ subst (λ (v : EndView). IsShownAfter first (set views k v) messages) (sym (ap view_of_end (standing_open x open_now) ∙ open_is x open_now)) shown
+  | inl closed ↦ shown_forgets 3 first views messages k d (open_view x) (view_of_end (standing x)) at (standing_view x) (closed_over x closed) shown
+  | inr open_now ↦ subst (λ (v : EndView). IsShownWithin 3 first (set views k v) messages) (sym (ap view_of_end (standing_open x open_now) ∙ open_is x open_now)) shown
 ]
 
 -- a closed one stands with its record

@@ -48,7 +48,7 @@ use Rattle.tftp_player.proofs.WorldTurns.{view_at}
 
 -- the end at place k of a world has port 1024 + k
 pub ports_of : (strangers : Bool) (w : WorldState) → IsOk strangers w → HasPorts w
-ports_of strangers w ok k x e = (ok.shown.2.ends k _ (view_at w.ends k x e)).1
+ports_of strangers w ok k x e = (ok.shown.1.1.ends k _ (view_at w.ends k x e)).1
 
 -- a delivery at an open end had it make this turn
 pub record Handles (w : WorldState) (k : ℕ) (x : OpenEnd) (from : Endpoint) (bytes : List ℕ) (report : Report) (v : WorldState) : Type 0 where

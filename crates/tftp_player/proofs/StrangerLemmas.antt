@@ -1,5 +1,5 @@
 -- What a datagram of neither host leaves of the ends of a world.
-use Rattle.std.proofs.Common.{◌≡◌, ◌≢◌, ℕ, Bool, true, false, List, [], set, Some, refl, sym, ap, ◌∙◌, subst, inl, inr}
+use Rattle.std.proofs.Common.{◌≡◌, ◌≢◌, ℕ, Bool, true, false, List, map, set, Some, refl, sym, ap, ◌∙◌, subst, inl, inr}
 use Rattle.std.specs.Prelude.{◌⊎◌, not, is_some, is_none, ◌&&◌, if◌then◌else◌, slice_get}
 use Rattle.std.proofs.lemmas.Bool.{true≢false}
 use Rattle.std.proofs.lemmas.Bool.Decides.{eqb_tells}
@@ -26,7 +26,8 @@ use Rattle.tftp_server.specs.Port.{Service, Silent, Refused, Sends, Takes}
 use Rattle.tftp_player.specs.declared.report.Report.{Report}
 use Rattle.tftp_player.proofs.PhaseMoves.{same_ips, same_endpoints}
 use Rattle.tftp_machine.proofs.Places.{slice_get-set_same, slice_get-set_other, slice_get-push_old}
-use Rattle.tftp_player.proofs.WorldTurns.{view_at, world_machine}
+use Rattle.tftp_player.proofs.WorldTurns.{view_at}
+use Rattle.tftp_machine.proofs.Shown.{shown_by}
 use Rattle.tftp_player.proofs.Standing.{placed, standing_record}
 
 -- a test that cannot hold
@@ -120,7 +121,7 @@ strays_change_no_record strangers old new from to bytes report k x ok s there ho
 
 pub clients_have_servers : ClientsHaveServers
 clients_have_servers strangers w x p ok i client peer =
-    let by = world_machine [] strangers w ok in
+    let by = shown_by (map view_of_end w.ends) ok.messages ok.shown in
     let shows = by.3 in
     let m = by.0 in
     let h = shows.ends i.0 (view_of_end x) (view_at w.ends i.0 x i.1) in

@@ -44,7 +44,7 @@ use Rattle.tftp_ends.specs.Waiting.{default_terms, agreed_terms, no_answer, refu
 use Rattle.tftp_machine.specs.Machine.{Endpoint, server_ip, Data as Says_data, Ack as Says_ack, Oack as Says_oack, Message}
 use Rattle.tftp_machine.specs.Rules.{Rule, message}
 use Rattle.tftp_player.specs.Said.{said, oack_size}
-use Rattle.tftp_machine.specs.Shows.{EndView, IsShownAfter}
+use Rattle.tftp_machine.specs.Shows.{EndView, IsShownWithin}
 use Rattle.tftp_player.specs.World.{OpenEnd, files_of, holding_of, in_state, received_text, text_of as text_of_end}
 use Rattle.tftp_player.specs.WorldSteps.{world_sink}
 use Rattle.tftp_player.specs.WorldKept.{EndKept, sent_text}
@@ -170,7 +170,7 @@ module _ (first : List Rule) (views : List EndView) (messages : List Message) (k
 
   -- a writer begins
   begin_acts : is_sender x0.state.role.side ≡ true → (terms : Terms) → terms.peer ≡ from → 0 < terms.size → terms.size ≤ MAX_BLOCK →
-      (Fits (text_of_end waiter) terms.size → IsShownAfter first (set views k (record (open_view waiter) { peer = Some from; size = terms.size; number = 1 })) (messages ++ message x0.address from (Says_data 1 (block (text_of_end waiter) terms.size 1)) ∷ [])) →
+      (Fits (text_of_end waiter) terms.size → IsShownWithin 3 first (set views k (record (open_view waiter) { peer = Some from; size = terms.size; number = 1 })) (messages ++ message x0.address from (Says_data 1 (block (text_of_end waiter) terms.size 1)) ∷ [])) →
       Answers (begin_action x0.state.role.length terms)
   begin_acts writer terms peer positive small shown =
       if_acts Answers (nat_lt x0.state.role.length (65535 * terms.size)) (Send terms 1) (Respond (Refuse None replies.FileTooLarge outcomes.TooLarge))
@@ -185,8 +185,8 @@ module _ (first : List Rule) (views : List EndView) (messages : List Message) (k
       let packet = Data 1 (block text terms.size 1) in
       let goes_now : Goes first views messages k waiter (data_turn waiter terms 0 from) (data_end waiter terms 0 from) = record {
         said_now = message x0.address from (said packet) ∷ [];
-        shown = subst (λ (p : Endpoint). IsShownAfter first (set views k (record (open_view waiter) { peer = Some p; size = terms.size; number = 1 })) (messages ++ message x0.address from (said packet) ∷ [])) (sym peer)
-            (subst (λ (t : List ℕ). IsShownAfter first (set views k (record (open_view waiter) { peer = Some from; size = terms.size; number = 1 })) (messages ++ message x0.address from (Says_data 1 (block t terms.size 1)) ∷ [])) told_now
+        shown = subst (λ (p : Endpoint). IsShownWithin 3 first (set views k (record (open_view waiter) { peer = Some p; size = terms.size; number = 1 })) (messages ++ message x0.address from (said packet) ∷ [])) (sym peer)
+            (subst (λ (t : List ℕ). IsShownWithin 3 first (set views k (record (open_view waiter) { peer = Some from; size = terms.size; number = 1 })) (messages ++ message x0.address from (Says_data 1 (block t terms.size 1)) ∷ [])) told_now
             (shown (subst (λ (t : List ℕ). Fits t terms.size) (sym told_now) fits)));
         replies = (packet, spells_own packet (valid_data text terms.size 0 positive small fits l), refl);
         kept = data_kept waiter terms 0 from kept measured writer positive small fits l (sym peer);

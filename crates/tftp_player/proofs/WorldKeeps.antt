@@ -37,15 +37,16 @@ use Rattle.tftp_store.specs.Store.{measured}
 use Rattle.tftp_machine.specs.Machine.{Endpoint, Elsewhere, host_of, server_ip, client_ip, request_port, Message, Request as Says_request, Oack as Says_oack}
 use Rattle.tftp_machine.specs.Rules.{Rule, message}
 use Rattle.tftp_player.specs.Said.{said}
-use Rattle.tftp_machine.specs.Shows.{requested, NoneAnswers, IsShownAfter}
+use Rattle.tftp_machine.specs.Shows.{requested, NoneAnswers, EndView, IsShownAt, IsShownWithin}
 use Rattle.tftp_player.specs.World.{WorldState, WorldEnd, Open_end, file_at, in_the_way, datagram, said_in, view_of_end}
 use Rattle.tftp_player.specs.Openings.{request_of, reading_client, writing_client, MayGet, MayPut, sending_end, receiving_end}
 use Rattle.tftp_server.specs.Port.{Ask, Ignores, Refuses, Reads, Service, Refused, Sends, accept_reply, by_draft, by_file, by_length, by_name, by_options, by_packet, by_repeat}
 use Rattle.tftp_player.specs.Requests.{IsRepeated, open_transfers, opened_of, begun_of, served, service}
 use Rattle.tftp_player.specs.WorldSteps.{Stays, Serves, Opens}
-use Rattle.tftp_player.specs.WorldKept.{HeldFits, IsOkAfter}
+use Rattle.tftp_player.specs.WorldKept.{HeldFits, IsOkBy, IsOkAt, IsOkWithin}
 use Rattle.tftp_player.specs.declared.report.Report.{Report}
 use Rattle.tftp_player.proofs.Actions.{host_server, host_client, asks, serves_plainly, serves_with, says_error}
+use Rattle.tftp_machine.proofs.Shown.{shown_still, shown_within}
 use Rattle.tftp_player.proofs.AnewLemmas.{none_answers}
 use Rattle.tftp_player.proofs.SaidLemmas.{spells_own, own_oack}
 use Rattle.tftp_player.proofs.EndMoves.{valid_error}
@@ -79,12 +80,30 @@ empty_held Netascii = tt
 no_text : (mode : Mode) → wire_text mode [] ++ [] ≡ []
 no_text mode = append-nil (wire_text mode []) ∙ empty_text mode
 
-pub stays_ok : (first : List Rule) (strangers : Bool) (w v : WorldState) (report : Report) → IsOkAfter first strangers w → Stays w report v → IsOkAfter first strangers v
-stays_ok first strangers w v report ok s = subst (λ (z : WorldState). IsOkAfter first strangers z) (sym s.is) ok
+-- no rule is a few
+pub none_more : (first : List Rule) (views : List EndView) (messages : List Message) → IsShownAt first views messages → IsShownWithin 3 first views messages
+none_more first views messages shown = shown_within 0 3 first views messages (omega arith) (shown_still first views messages shown)
+
+-- a world is kept by how it is shown
+unfoldable pub shown_as : (P Q : List EndView → List Message → Type 0) (strangers : Bool) (w : WorldState) (ok : IsOkBy P strangers w) → Q (map view_of_end w.ends) ok.messages → IsOkBy Q strangers w
+shown_as P Q strangers w ok shown = record {
+  messages = ok.messages;
+  shown = shown;
+  sent = ok.sent;
+  only = ok.only;
+  speakers = ok.speakers;
+  max_block = ok.max_block;
+  ends = ok.ends;
+}
+
+pub stays_ok : (first : List Rule) (strangers : Bool) (w v : WorldState) (report : Report) → IsOkAt first strangers w → Stays w report v → IsOkWithin 3 first strangers v
+stays_ok first strangers w v report ok s =
+    subst (λ (z : WorldState). IsOkWithin 3 first strangers z) (sym s.is)
+    (shown_as (IsShownAt first) (IsShownWithin 3 first) strangers w ok (none_more first (map view_of_end w.ends) ok.messages ok.shown))
 
 -- a client opens
-pub reading_keeps : (first : List Rule) (strangers : Bool) (w v : WorldState) (name : List ℕ) (mode : Mode) (asked : Asked) (report : Report) → IsOkAfter first strangers w → MayGet name mode asked →
-    Opens w (reading_client w name mode asked) report v → IsOkAfter first strangers v
+pub reading_keeps : (first : List Rule) (strangers : Bool) (w v : WorldState) (name : List ℕ) (mode : Mode) (asked : Asked) (report : Report) → IsOkAt first strangers w → MayGet name mode asked →
+    Opens w (reading_client w name mode asked) report v → IsOkWithin 3 first strangers v
 reading_keeps first strangers w v name mode asked report ok may o =
     let x = reading_client w name mode asked in
     let p = Read (request_of name mode asked) in
@@ -93,8 +112,8 @@ reading_keeps first strangers w v name mode asked report ok may o =
     opening_keeps first strangers w v ok x report p (spells_own p may.valid) shown_now (at_client a refl) refl
     (record { phase = (refl, may.options.askable, refl, refl, λ _. refl, λ e. absurd (true≢false (sym e))); held = empty_held mode; committed = λ _. refl }) refl o
 
-pub writing_keeps : (first : List Rule) (strangers : Bool) (w v : WorldState) (name : List ℕ) (mode : Mode) (asked : Asked) (file : List ℕ) (report : Report) → IsOkAfter first strangers w → MayPut name mode asked (length (wire_text mode file)) →
-    Opens w (writing_client w name mode asked file) report v → IsOkAfter first strangers v
+pub writing_keeps : (first : List Rule) (strangers : Bool) (w v : WorldState) (name : List ℕ) (mode : Mode) (asked : Asked) (file : List ℕ) (report : Report) → IsOkAt first strangers w → MayPut name mode asked (length (wire_text mode file)) →
+    Opens w (writing_client w name mode asked file) report v → IsOkWithin 3 first strangers v
 writing_keeps first strangers w v name mode asked file report ok may o =
     let x = writing_client w name mode asked file in
     let p = Write (request_of name mode asked) in
@@ -116,9 +135,9 @@ answered_values kind mode told limits options known ok e =
     (answers_may_be_agreed options kind mode told limits known ok e).values
 
 -- a read is served
-sending_keeps : (first : List Rule) (strangers : Bool) (w v : WorldState) (from : Endpoint) (bytes : List ℕ) (request : Request) (path file : List ℕ) (agreed : List Known) (report : Report) (ok : IsOkAfter first strangers w) →
+sending_keeps : (first : List Rule) (strangers : Bool) (w v : WorldState) (from : Endpoint) (bytes : List ℕ) (request : Request) (path file : List ℕ) (agreed : List Known) (report : Report) (ok : IsOkAt first strangers w) →
     IsNewly ok.messages w.ends from bytes false request → AllByRecursion IsAgreeable agreed → (agreed ≢ [] → IsValid (Oack (agreed_options agreed))) → Fits (wire_text request.mode file) (size agreed) →
-    Opens w (sending_end w from bytes request.mode path file agreed) report v → IsOkAfter first strangers v
+    Opens w (sending_end w from bytes request.mode path file agreed) report v → IsOkWithin 3 first strangers v
 sending_keeps first strangers w v from bytes request path file [] report ok come agreeable valid fits o =
     let text = wire_text request.mode file in
     let x = sending_end w from bytes request.mode path file [] in
@@ -137,7 +156,7 @@ sending_keeps first strangers w v from bytes request path file (known ∷ agreed
     let b = agreed_size (known ∷ agreed) agreeable in
     let p = Oack (agreed_options (known ∷ agreed)) in
     let shown_now = serves_with first (map view_of_end w.ends) ok.messages ok.shown x.address from bytes false request text (size (known ∷ agreed)) refl (ap (λ (n : ℕ). 1024 + n) (sym (length_views w))) come.sent fits b.0 come.spells come.anew in
-    let says = subst (λ (n : ℕ). IsShownAfter first (map view_of_end w.ends ++ view_of_end (Open_end x) ∷ []) (ok.messages ++ message x.address from (Says_oack n) ∷ [])) (sym (own_oack (known ∷ agreed) agreeable)) shown_now in
+    let says = subst (λ (n : ℕ). IsShownWithin 3 first (map view_of_end w.ends ++ view_of_end (Open_end x) ∷ []) (ok.messages ++ message x.address from (Says_oack n) ∷ [])) (sym (own_oack (known ∷ agreed) agreeable)) shown_now in
     let none : 0 * size (known ∷ agreed) ≡ 0 = omega arith in
     opening_keeps first strangers w v ok x report p (spells_own p (valid (λ e. cc))) says (at_server x.address refl) refl
     (record {
@@ -147,9 +166,9 @@ sending_keeps first strangers w v from bytes request path file (known ∷ agreed
     }) refl o
 
 -- a write is served
-taking_keeps : (first : List Rule) (strangers : Bool) (w v : WorldState) (from : Endpoint) (bytes : List ℕ) (request : Request) (path : List ℕ) (agreed : List Known) (report : Report) (ok : IsOkAfter first strangers w) →
+taking_keeps : (first : List Rule) (strangers : Bool) (w v : WorldState) (from : Endpoint) (bytes : List ℕ) (request : Request) (path : List ℕ) (agreed : List Known) (report : Report) (ok : IsOkAt first strangers w) →
     IsNewly ok.messages w.ends from bytes true request → AllByRecursion IsAgreeable agreed → (agreed ≢ [] → IsValid (Oack (agreed_options agreed))) →
-    Opens w (receiving_end w from bytes request.mode path agreed) report v → IsOkAfter first strangers v
+    Opens w (receiving_end w from bytes request.mode path agreed) report v → IsOkWithin 3 first strangers v
 taking_keeps first strangers w v from bytes request path [] report ok come agreeable valid o =
     let x = receiving_end w from bytes request.mode path [] in
     let shown_now = serves_plainly first (map view_of_end w.ends) ok.messages ok.shown x.address from bytes true request (wire_text request.mode [] ++ []) refl (ap (λ (n : ℕ). 1024 + n) (sym (length_views w))) come.sent (no_text request.mode) come.spells come.anew in
@@ -160,14 +179,14 @@ taking_keeps first strangers w v from bytes request path (known ∷ agreed) repo
     let b = agreed_size (known ∷ agreed) agreeable in
     let p = Oack (agreed_options (known ∷ agreed)) in
     let shown_now = serves_with first (map view_of_end w.ends) ok.messages ok.shown x.address from bytes true request (wire_text request.mode [] ++ []) (size (known ∷ agreed)) refl (ap (λ (n : ℕ). 1024 + n) (sym (length_views w))) come.sent (no_text request.mode) b.0 come.spells come.anew in
-    let says = subst (λ (n : ℕ). IsShownAfter first (map view_of_end w.ends ++ view_of_end (Open_end x) ∷ []) (ok.messages ++ message x.address from (Says_oack n) ∷ [])) (sym (own_oack (known ∷ agreed) agreeable)) shown_now in
+    let says = subst (λ (n : ℕ). IsShownWithin 3 first (map view_of_end w.ends ++ view_of_end (Open_end x) ∷ []) (ok.messages ++ message x.address from (Says_oack n) ∷ [])) (sym (own_oack (known ∷ agreed) agreeable)) shown_now in
     opening_keeps first strangers w v ok x report p (spells_own p (valid (λ e. cc))) says (at_server x.address refl) refl
     (record { phase = (refl, refl); held = empty_held request.mode; committed = λ _. refl }) refl o
 
 -- the request port refuses
-refusing_keeps : (first : List Rule) (strangers : Bool) (w v : WorldState) (from : Endpoint) (reply : ErrorReply) → IsOkAfter first strangers w → v ≡ said_in w (datagram request_port from (error_bytes reply)) → IsOkAfter first strangers v
+refusing_keeps : (first : List Rule) (strangers : Bool) (w v : WorldState) (from : Endpoint) (reply : ErrorReply) → IsOkAt first strangers w → v ≡ said_in w (datagram request_port from (error_bytes reply)) → IsOkWithin 3 first strangers v
 refusing_keeps first strangers w v from reply ok e =
-    subst (λ (z : WorldState). IsOkAfter first strangers z) (sym e)
+    subst (λ (z : WorldState). IsOkWithin 3 first strangers z) (sym e)
     (saying_keeps first strangers w ok request_port from (error_bytes reply) (error_packet reply) (spells_own (error_packet reply) (valid_error reply))
     (says_error first (map view_of_end w.ends) ok.messages ok.shown request_port from) (at_server request_port refl))
 
@@ -194,9 +213,9 @@ asked_so messages ends from bytes repeated decoded come spelled same true r e ne
 asked_so messages ends from bytes repeated decoded come spelled same false r e new =
     (r, refl, record { sent = come (Read r) e; spells = spelled (Read r) e; anew = none_answers from (Read r) ends repeated decoded same e new })
 
-module _ (first : List Rule) (strangers : Bool) (w v : WorldState) (from : Endpoint) (bytes : List ℕ) (report : Report) (ok : IsOkAfter first strangers w) where
+module _ (first : List Rule) (strangers : Bool) (w v : WorldState) (from : Endpoint) (bytes : List ℕ) (report : Report) (ok : IsOkAt first strangers w) where
   abbrev Kept_by : Service → Type 0
-  Kept_by service = Serves service w from bytes report v → IsOkAfter first strangers v
+  Kept_by service = Serves service w from bytes report v → IsOkWithin 3 first strangers v
 
   refused : (reply : ErrorReply) → Kept_by (Refused reply)
   refused reply h = refusing_keeps first strangers w v from reply ok h.1
@@ -215,7 +234,7 @@ module _ (first : List Rule) (strangers : Bool) (w v : WorldState) (from : Endpo
       let fits : Fits (wire_text mode file) (size agreed) = measured_fits mode file (size agreed) b.1 few in
       let small = let c = b.1 in let l : m < 65535 * MAX_BLOCK = omega arith in l in
       let same : o.0 ≡ file = same_Some o.0 file (sym o.1 ∙ there) in
-      subst (λ (n : Mode). Fits (wire_text n file) (size agreed) → Opens w (sending_end w from bytes n path file agreed) report v → IsOkAfter first strangers v) come.1
+      subst (λ (n : Mode). Fits (wire_text n file) (size agreed) → Opens w (sending_end w from bytes n path file agreed) report v → IsOkWithin 3 first strangers v) come.1
       (sending_keeps first strangers w v from bytes come.0 path file agreed report ok come.2 agreeable
       (λ some. valid_oack kinds.Read mode m w.limits options agreed (omega (arith, small)) ok.max_block e some)) fits
       (subst (λ (g : List ℕ). Opens w (sending_end w from bytes mode path g agreed) report v) same o.2))
@@ -230,7 +249,7 @@ module _ (first : List Rule) (strangers : Bool) (w v : WorldState) (from : Endpo
   taking_served : (path : List ℕ) (mode : Mode) (options : List RawOption) (there : Option (List ℕ)) (agreed : List Known) → WasAsked ok.messages w.ends from bytes true mode →
       answer options kinds.Write mode 0 w.limits ≡ Ok agreed → Kept_by (by_draft path mode agreed (begun_of there))
   taking_served path mode options None agreed come e =
-      subst (λ (n : Mode). Opens w (receiving_end w from bytes n path agreed) report v → IsOkAfter first strangers v) come.1
+      subst (λ (n : Mode). Opens w (receiving_end w from bytes n path agreed) report v → IsOkWithin 3 first strangers v) come.1
       (taking_keeps first strangers w v from bytes come.0 path agreed report ok come.2 (answered_values kinds.Write mode 0 w.limits options agreed ok.max_block e)
       (λ some. valid_oack kinds.Write mode 0 w.limits options agreed (omega arith) ok.max_block e some))
   taking_served path mode options (Some file) agreed come e = refused FileExists

@@ -1,6 +1,6 @@
 -- Each event keeps a world, and so does every run.
-use Rattle.std.proofs.Common.{◌≡◌, ℕ, Bool, true, false, List, [], ◌∷◌, ◌++◌, map, set, Option, Some, None, sym, refl, ap, ◌∙◌, subst, inl, inr, zero, suc}
-use Rattle.std.specs.Prelude.{if◌then◌else◌, is_some, slice_get}
+use Rattle.std.proofs.Common.{◌≡◌, ℕ, Bool, true, false, List, [], ◌∷◌, ◌++◌, map, set, Option, Some, None, sym, refl, ap, ◌∙◌, subst, inl, inr, zero, suc, length, length-append, append_assoc, arith}
+use Rattle.std.specs.Prelude.{◌≤◌, if◌then◌else◌, is_some, slice_get}
 use Rattle.std.specs.List.{Contains}
 use Rattle.std.proofs.lemmas.Bool.{true≢false}
 use Rattle.std.proofs.lemmas.List.{map-set, append-nil}
@@ -17,12 +17,12 @@ use Rattle.tftp_ends.specs.End.{is_sender, is_client}
 use Rattle.tftp_ends.specs.Action.{Decodes, timeout_response}
 use Rattle.tftp_ends.specs.Step.{timeout_turn}
 use Rattle.tftp_machine.specs.Machine.{Endpoint, Elsewhere, host_of, Message}
-use Rattle.tftp_machine.specs.Rules.{Rule, message, IsLegal, run, start}
+use Rattle.tftp_machine.specs.Rules.{Rule, message}
 use Rattle.tftp_player.specs.Said.{said}
-use Rattle.tftp_machine.specs.Shows.{EndView, Shows, IsShownAfter}
+use Rattle.tftp_machine.specs.Shows.{EndView, IsShownAt, IsShownWithin, IsShown}
 use Rattle.tftp_player.specs.World.{WorldState, OpenEnd, WorldEnd, Open_end, Closed_end, StoredFile, file_at, in_the_way, datagram, files_of, new_world, view_of_end}
 use Rattle.tftp_player.specs.WorldSteps.{may_refuse_commit, OnDatagram, Arrives, At_request_port, At_open_end, At_closed_end, At_nobody, TimesOut, told_end, WorldStep}
-use Rattle.tftp_player.specs.WorldKept.{PhaseKept, IsKeptIn, IsOkAfter, IsOk}
+use Rattle.tftp_player.specs.WorldKept.{PhaseKept, IsKeptIn, IsOkAt, IsOkWithin, IsOk}
 use Rattle.tftp_player.specs.WorldRuns.{Runs, MayHappen, MayAllHappen, StepsKeep, StepsAreRules}
 use Rattle.tftp_player.specs.WorldSafety.{HasPeersAtHome}
 use Rattle.tftp_player.specs.declared.datagram.Datagram.{Datagram}
@@ -32,12 +32,12 @@ use Rattle.tftp_player.specs.declared.report.Report.{Report}
 use Rattle.tftp_machine.proofs.Places.{slice_get-set_cases}
 use Rattle.tftp_player.proofs.Standing.{open_view, open_is}
 use Rattle.tftp_player.proofs.Actions.{Stands, strays}
-use Rattle.tftp_machine.proofs.Shown.{shown_start}
+use Rattle.tftp_machine.proofs.Shown.{shown_start, shown_within}
 use Rattle.tftp_machine.proofs.ViewSafe.{shown_at_home}
 use Rattle.tftp_player.proofs.EndMoves.{IsThere, from_response}
 use Rattle.tftp_player.proofs.EndTurns.{by_datagram, by_timeout}
 use Rattle.tftp_player.proofs.WorldTurns.{nothing_in, one_in, turn_keeps, view_at}
-use Rattle.tftp_player.proofs.WorldKeeps.{reading_keeps, writing_keeps, serving_keeps, asked_so, stays_ok}
+use Rattle.tftp_player.proofs.WorldKeeps.{reading_keeps, writing_keeps, serving_keeps, asked_so, stays_ok, none_more, shown_as}
 
 pub contains_at : {X : Type 0} (xs : List X) (k : ℕ) (x : X) → slice_get xs k ≡ Some x → Contains xs x
 contains_at {X = X} [] k x e = absurd (let f : None ≡ Some x = e in cc)
@@ -50,13 +50,13 @@ set_same {X = X} (y ∷ ys) zero x e = ap (λ (z : X). z ∷ ys) (sym (same_Some
 set_same {X = X} (y ∷ ys) (suc k) x e = ap (λ (zs : List X). y ∷ zs) (set_same ys k x e)
 
 -- what a datagram of the list says is there
-pub come_from : (first : List Rule) (strangers : Bool) (w : WorldState) (ok : IsOkAfter first strangers w) (d : Datagram) → Contains w.sent d → (p : WirePacket) → Spells p d.bytes → Contains ok.messages (message d.from d.to (said p))
+pub come_from : (first : List Rule) (strangers : Bool) (w : WorldState) (ok : IsOkAt first strangers w) (d : Datagram) → Contains w.sent d → (p : WirePacket) → Spells p d.bytes → Contains ok.messages (message d.from d.to (said p))
 come_from first strangers w ok d i p s =
     let h = ok.sent d i in
     let same : h.1.packet ≡ p = one_meaning h.1.packet p d.bytes h.1.spells s in
     subst (λ (q : WirePacket). Contains ok.messages (message d.from d.to (said q))) same (subst (λ (m : Message). Contains ok.messages m) h.1.says h.2)
 
-there_now : (first : List Rule) (strangers : Bool) (w : WorldState) (ok : IsOkAfter first strangers w) (from to : Endpoint) (bytes : List ℕ) → Contains w.sent (datagram from to bytes) → IsThere ok.messages from to bytes
+there_now : (first : List Rule) (strangers : Bool) (w : WorldState) (ok : IsOkAt first strangers w) (from to : Endpoint) (bytes : List ℕ) → Contains w.sent (datagram from to bytes) → IsThere ok.messages from to bytes
 there_now first strangers w ok from to bytes i =
     let h = ok.sent (datagram from to bytes) i in
     (h.1.packet, h.1.spells, subst (λ (m : Message). Contains ok.messages m) h.1.says h.2)
@@ -65,7 +65,7 @@ pub says_spelled : (bytes : List ℕ) (decoded : Option WirePacket) → Decodes 
 says_spelled bytes (Some q) s p e = subst (λ (z : WirePacket). Spells z bytes) (same_Some q p e) s
 says_spelled bytes None s p e = absurd (let f : None ≡ Some p = e in cc)
 
-module _ (first : List Rule) (strangers : Bool) (w v : WorldState) (ok : IsOkAfter first strangers w) (report : Report) where
+module _ (first : List Rule) (strangers : Bool) (w v : WorldState) (ok : IsOkAt first strangers w) (report : Report) where
   -- an open end stands among all that is shown
   stands : (k : ℕ) (x : OpenEnd) → slice_get w.ends k ≡ Some (Open_end x) → Stands first (map view_of_end w.ends) ok.messages k (open_view x)
   stands k x at = record {
@@ -75,7 +75,7 @@ module _ (first : List Rule) (strangers : Bool) (w v : WorldState) (ok : IsOkAft
 
   -- how an end handled a datagram keeps the world
   datagram_keeps : (k : ℕ) (x : OpenEnd) (from : Endpoint) (bytes : List ℕ) → slice_get w.ends k ≡ Some (Open_end x) →
-      ((p : WirePacket) → Spells p bytes → Contains ok.messages (message from x.address (said p))) → OnDatagram w k x from bytes report v → IsOkAfter first strangers v
+      ((p : WirePacket) → Spells p bytes → Contains ok.messages (message from x.address (said p))) → OnDatagram w k x from bytes report v → IsOkWithin 3 first strangers v
   datagram_keeps k x from bytes at come h =
       let here = (ok.ends k (Open_end x) at).stands in
       let spelled = says_spelled bytes h.steps.decoded h.steps.says in
@@ -86,7 +86,7 @@ module _ (first : List Rule) (strangers : Bool) (w v : WorldState) (ok : IsOkAft
 
   -- a datagram that came keeps the world
   pub arrives_keeps : (from to : Endpoint) (bytes : List ℕ) → ((p : WirePacket) → Spells p bytes → Contains ok.messages (message from to (said p))) →
-      Arrives w from to bytes report v → IsOkAfter first strangers v
+      Arrives w from to bytes report v → IsOkWithin 3 first strangers v
   arrives_keeps from to bytes come (At_request_port here port decoded says repeated same served) =
       let spelled = says_spelled bytes decoded says in
       serving_keeps first strangers w v from bytes report ok repeated decoded
@@ -97,7 +97,7 @@ module _ (first : List Rule) (strangers : Bool) (w v : WorldState) (ok : IsOkAft
   arrives_keeps from to bytes come (At_nobody away nobody_there s) = stays_ok first strangers w v report ok s
 
   -- a timeout keeps the world
-  timeout_keeps : (k : ℕ) (x : WorldEnd) → slice_get w.ends k ≡ Some x → TimesOut w k x report v → IsOkAfter first strangers v
+  timeout_keeps : (k : ℕ) (x : WorldEnd) → slice_get w.ends k ≡ Some x → TimesOut w k x report v → IsOkWithin 3 first strangers v
   timeout_keeps k (Closed_end x) at s = stays_ok first strangers w v report ok s
   timeout_keeps k (Open_end x) at t =
       let here = (ok.ends k (Open_end x) at).stands in
@@ -152,8 +152,8 @@ same_kept w ends (Open_end x) h = record { stands = record { still = h.stands.st
 same_kept w ends (Closed_end x) h = record { stands = h.stands; stored = h.stored }
 
 -- who is told to refuse keeps the world
-told_keeps : (first : List Rule) (strangers : Bool) (w : WorldState) (ok : IsOkAfter first strangers w) (k : ℕ) (x : WorldEnd) → slice_get w.ends k ≡ Some x →
-    IsOkAfter first strangers (record w { ends = set w.ends k (told_end x) })
+told_keeps : (first : List Rule) (strangers : Bool) (w : WorldState) (ok : IsOkAt first strangers w) (k : ℕ) (x : WorldEnd) → slice_get w.ends k ≡ Some x →
+    IsOkWithin 3 first strangers (record w { ends = set w.ends k (told_end x) })
 told_keeps first strangers w ok k x at =
     let y = told_end x in
     let v = record w { ends = set w.ends k y } in
@@ -162,7 +162,7 @@ told_keeps first strangers w ok k x at =
     ∙ set_same (map view_of_end w.ends) k (view_of_end x) (view_at w.ends k x at)) in
     record {
       messages = ok.messages;
-      shown = subst (λ (vs : List EndView). IsShownAfter first vs ok.messages) (sym same) ok.shown;
+      shown = subst (λ (vs : List EndView). IsShownWithin 3 first vs ok.messages) (sym same) (none_more first (map view_of_end w.ends) ok.messages ok.shown);
       sent = ok.sent;
       only = ok.only;
       speakers = ok.speakers;
@@ -174,7 +174,7 @@ told_keeps first strangers w ok k x at =
     }
 
 -- a stranger has spoken
-stray_ok : (first : List Rule) (w : WorldState) (ok : IsOkAfter first true w) (from to : Endpoint) (p : WirePacket) → host_of from ≡ Elsewhere → IsOkAfter first true w
+stray_ok : (first : List Rule) (w : WorldState) (ok : IsOkAt first true w) (from to : Endpoint) (p : WirePacket) → host_of from ≡ Elsewhere → IsOkWithin 1 first true w
 stray_ok first w ok from to p far =
     let m = message from to (said p) in
     record {
@@ -191,57 +191,73 @@ stray_ok first w ok from to p far =
     }
 
 -- the world with what a stranger said
-pub with_decoded : (first : List Rule) (w : WorldState) (ok : IsOkAfter first true w) (from to : Endpoint) (bytes : List ℕ) (decoded : Option WirePacket) → host_of from ≡ Elsewhere → Decodes bytes decoded →
-    (more : IsOkAfter first true w) × ((p : WirePacket) → Spells p bytes → Contains more.messages (message from to (said p)))
-unfolding stray_ok
-with_decoded first w ok from to bytes (Some q) far says = (
-  stray_ok first w ok from to q far,
-  λ p s. let e = one_meaning q p bytes says s in
-      subst (λ (z : WirePacket). Contains (ok.messages ++ message from to (said q) ∷ []) (message from to (said z))) e (Contains-push ok.messages (message from to (said q))),
-)
-with_decoded first w ok from to bytes None far says =
-    (ok, λ p s. absurd (let f : None ≡ Some says.0 = sym (spelled_has_no_fault p bytes s) ∙ says.1 in cc))
+pub record Strayed (first : List Rule) (w : WorldState) (from to : Endpoint) (bytes : List ℕ) : Type 0 where
+  pub more : List Rule
+  pub few : length more ≤ 1
+  pub ok : IsOkAt (first ++ more) true w
+  pub come : (p : WirePacket) → Spells p bytes → Contains ok.messages (message from to (said p))
 
-pub stray_keeps : (first : List Rule) (w v : WorldState) (ok : IsOkAfter first true w) (report : Report) (from to : Endpoint) (bytes : List ℕ) → host_of from ≡ Elsewhere → Arrives w from to bytes report v → IsOkAfter first true v
+pub with_decoded : (first : List Rule) (w : WorldState) (ok : IsOkAt first true w) (from to : Endpoint) (bytes : List ℕ) (decoded : Option WirePacket) → host_of from ≡ Elsewhere → Decodes bytes decoded →
+    Strayed first w from to bytes
+unfolding stray_ok shown_as
+with_decoded first w ok from to bytes (Some q) far says =
+    let h = stray_ok first w ok from to q far in record {
+      more = h.shown.0;
+      few = h.shown.1;
+      ok = shown_as (IsShownWithin 1 first) (IsShownAt (first ++ h.shown.0)) true w h h.shown.2;
+      come = λ p s. let e = one_meaning q p bytes says s in
+          subst (λ (z : WirePacket). Contains (ok.messages ++ message from to (said q) ∷ []) (message from to (said z))) e (Contains-push ok.messages (message from to (said q)));
+    }
+with_decoded first w ok from to bytes None far says = record {
+  more = [];
+  few = omega arith;
+  ok = subst (λ (rs : List Rule). IsOkAt rs true w) (sym (append-nil first)) ok;
+  come = λ p s. absurd (let f : None ≡ Some says.0 = sym (spelled_has_no_fault p bytes s) ∙ says.1 in cc);
+}
+
+-- one rule, and a few
+within_four : (first more : List Rule) (strangers : Bool) (v : WorldState) → length more ≤ 1 → IsOkWithin 3 (first ++ more) strangers v → IsOkWithin 4 first strangers v
+within_four first more strangers v few ok =
+    let s = ok.shown in
+    let l : length (more ++ s.0) ≤ 4 = (let a = length-append more s.0 in let b = s.1 in omega (arith, a, b, few)) in
+    shown_as (IsShownWithin 3 (first ++ more)) (IsShownWithin 4 first) strangers v ok
+    (more ++ s.0, l, subst (λ (rs : List Rule). IsShownAt rs (map view_of_end v.ends) ok.messages) (append_assoc first more s.0) s.2)
+
+-- no more than three are no more than four
+three_or_four : (first : List Rule) (strangers : Bool) (v : WorldState) → IsOkWithin 3 first strangers v → IsOkWithin 4 first strangers v
+three_or_four first strangers v ok =
+    shown_as (IsShownWithin 3 first) (IsShownWithin 4 first) strangers v ok (shown_within 3 4 first (map view_of_end v.ends) ok.messages (omega arith) ok.shown)
+
+pub stray_keeps : (first : List Rule) (w v : WorldState) (ok : IsOkAt first true w) (report : Report) (from to : Endpoint) (bytes : List ℕ) → host_of from ≡ Elsewhere → Arrives w from to bytes report v → IsOkWithin 4 first true v
 stray_keeps first w v ok report from to bytes far (At_request_port here port decoded says repeated same served) =
     let h = with_decoded first w ok from to bytes decoded far says in
-    arrives_keeps first true w v h.0 report from to bytes h.1 (At_request_port here port decoded says repeated same served)
+    within_four first h.more true v h.few (arrives_keeps (first ++ h.more) true w v h.ok report from to bytes h.come (At_request_port here port decoded says repeated same served))
 stray_keeps first w v ok report from to bytes far (At_open_end k x at here g) =
     let h = with_decoded first w ok from to bytes g.steps.decoded far g.steps.says in
-    arrives_keeps first true w v h.0 report from to bytes h.1 (At_open_end k x at here g)
-stray_keeps first w v ok report from to bytes far (At_closed_end k x at here s) = stays_ok first true w v report ok s
-stray_keeps first w v ok report from to bytes far (At_nobody away nobody_there s) = stays_ok first true w v report ok s
+    within_four first h.more true v h.few (arrives_keeps (first ++ h.more) true w v h.ok report from to bytes h.come (At_open_end k x at here g))
+stray_keeps first w v ok report from to bytes far (At_closed_end k x at here s) = three_or_four first true v (stays_ok first true w v report ok s)
+stray_keeps first w v ok report from to bytes far (At_nobody away nobody_there s) = three_or_four first true v (stays_ok first true w v report ok s)
 
 -- each step keeps the world, by more rules
-step_after : (first : List Rule) (strangers : Bool) (w v : WorldState) (event : Event) (report : Report) → MayHappen strangers event → IsOkAfter first strangers w → WorldStep w event report v → IsOkAfter first strangers v
-step_after first strangers w v (Get name mode asked) report may ok s = reading_keeps first strangers w v name mode asked report ok s.1 s.2
-step_after first strangers w v (Put name mode asked bytes) report may ok s = writing_keeps first strangers w v name mode asked bytes report ok s.1 s.2
+step_after : (first : List Rule) (strangers : Bool) (w v : WorldState) (event : Event) (report : Report) → MayHappen strangers event → IsOkAt first strangers w → WorldStep w event report v → IsOkWithin 4 first strangers v
+step_after first strangers w v (Get name mode asked) report may ok s = three_or_four first strangers v (reading_keeps first strangers w v name mode asked report ok s.1 s.2)
+step_after first strangers w v (Put name mode asked bytes) report may ok s = three_or_four first strangers v (writing_keeps first strangers w v name mode asked bytes report ok s.1 s.2)
 step_after first strangers w v (Deliver i) report may ok s =
-    arrives_keeps first strangers w v ok report s.0.from s.0.to s.0.bytes (come_from first strangers w ok s.0 (contains_at w.sent i s.0 s.1)) s.2
-step_after first strangers w v (Timeout port) report may ok s = timeout_keeps first strangers w v ok report s.0 s.1 s.2.there s.3
-step_after first strangers w v (RefuseStore port) report may ok s = subst (λ (z : WorldState). IsOkAfter first strangers z) (sym s.4) (told_keeps first strangers w ok s.0 s.1 s.2.there)
+    three_or_four first strangers v (arrives_keeps first strangers w v ok report s.0.from s.0.to s.0.bytes (come_from first strangers w ok s.0 (contains_at w.sent i s.0 s.1)) s.2)
+step_after first strangers w v (Timeout port) report may ok s = three_or_four first strangers v (timeout_keeps first strangers w v ok report s.0 s.1 s.2.there s.3)
+step_after first strangers w v (RefuseStore port) report may ok s =
+    three_or_four first strangers v (subst (λ (z : WorldState). IsOkWithin 3 first strangers z) (sym s.4) (told_keeps first strangers w ok s.0 s.1 s.2.there))
 step_after first true w v (Stray from to bytes) report may ok s = stray_keeps first w v ok report from to bytes s.0 s.1
 step_after first false w v (Stray from to bytes) report may ok s = absurd may
 
-pub step_keeps : StepsKeep
-step_keeps = step_after []
-
--- no more rules
-pub none_more : (strangers : Bool) (w : WorldState) (ok : IsOk strangers w) → IsOkAfter ok.shown.0 strangers w
-none_more strangers w ok = record {
-  messages = ok.messages;
-  shown =
-      let same = append-nil ok.shown.0 in
-      ([], subst (λ (rs : List Rule). IsLegal rs start) (sym same) ok.shown.1, subst (λ (rs : List Rule). Shows (map view_of_end w.ends) ok.messages (run rs start)) (sym same) ok.shown.2);
-  sent = ok.sent;
-  only = ok.only;
-  speakers = ok.speakers;
-  max_block = ok.max_block;
-  ends = ok.ends;
-}
-
 pub steps_are_rules : StepsAreRules
-steps_are_rules strangers w v event report may ok s = step_after ok.shown.0 strangers w v event report may (none_more strangers w ok) s
+steps_are_rules strangers w v event report may ok s =
+    step_after ok.shown.0 strangers w v event report may (shown_as IsShown (IsShownAt ok.shown.0) strangers w ok ok.shown.1) s
+
+pub step_keeps : StepsKeep
+step_keeps strangers w v event report may ok s =
+    let next = steps_are_rules strangers w v event report may ok s in
+    shown_as (IsShownWithin 4 ok.shown.0) IsShown strangers v next (ok.shown.0 ++ next.shown.0, next.shown.2)
 
 -- so do all of them
 pub run_keeps : (strangers : Bool) (events : List Event) (w v : WorldState) → MayAllHappen strangers events → IsOk strangers w → Runs w events v → IsOk strangers v

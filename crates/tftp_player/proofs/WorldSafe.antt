@@ -25,7 +25,8 @@ use Rattle.tftp_player.proofs.SourceMoves.{text_if}
 use Rattle.tftp_player.proofs.SinkMoves.{text_else}
 use Rattle.tftp_machine.proofs.Endpoints.{endpoint_from}
 use Rattle.tftp_machine.proofs.ViewSafe.{IsBeginningOf-trans, first_of_empty, shown_safe}
-use Rattle.tftp_player.proofs.WorldTurns.{view_at, world_machine}
+use Rattle.tftp_player.proofs.WorldTurns.{view_at}
+use Rattle.tftp_machine.proofs.Shown.{shown_by}
 use Rattle.tftp_player.proofs.WorldRuns.{run_keeps, new_ok, any_may, ok_at_home}
 
 -- an end that is shown is one of the world
@@ -96,11 +97,11 @@ module _ (strangers : Bool) (w : WorldState) (ok : IsOk strangers w) where
   committed (Open_end x) h r d = h.stands.kept.committed r ∙ d
   committed (Closed_end x) h r d = h.stands r ∙ d
 
-  matched : (k : ℕ) (x : WorldEnd) → slice_get w.ends k ≡ Some x → Matches (view_of_end x) ((world_machine [] strangers w ok).0.party (end_address x))
-  matched k x i = ((world_machine [] strangers w ok).3.ends k (view_of_end x) (view_at w.ends k x i)).0
+  matched : (k : ℕ) (x : WorldEnd) → slice_get w.ends k ≡ Some x → Matches (view_of_end x) ((shown_by (map view_of_end w.ends) ok.messages ok.shown).0.party (end_address x))
+  matched k x i = ((shown_by (map view_of_end w.ends) ok.messages ok.shown).3.ends k (view_of_end x) (view_at w.ends k x i)).0
 
-  sound : (k : ℕ) (x : WorldEnd) → slice_get w.ends k ≡ Some x → IsSound (world_machine [] strangers w ok).0.party (end_address x) ((world_machine [] strangers w ok).0.party (end_address x))
-  sound k x i = (world_machine [] strangers w ok).1.ends (end_address x) (matched k x i).is_open
+  sound : (k : ℕ) (x : WorldEnd) → slice_get w.ends k ≡ Some x → IsSound (shown_by (map view_of_end w.ends) ok.messages ok.shown).0.party (end_address x) ((shown_by (map view_of_end w.ends) ok.messages ok.shown).0.party (end_address x))
+  sound k x i = (shown_by (map view_of_end w.ends) ok.messages ok.shown).1.ends (end_address x) (matched k x i).is_open
 
   pub ok_safe : IsSafe w
   ok_safe = record {
@@ -108,11 +109,11 @@ module _ (strangers : Bool) (w : WorldState) (ok : IsOk strangers w) where
         let client = is_client (end_record x).side in
         endpoint_from (end_address x) (place_of_end (end_record x).side k)
         (ip_at_home (end_address x) client ((sound k x i).at_home ∙ ap home (matched k x i).client))
-        (ok.shown.2.ends k (view_of_end x) (view_at w.ends k x i)).1;
+        (ok.shown.1.1.ends k (view_of_end x) (view_at w.ends k x i)).1;
     at_server = λ x p i client peer. ((sound i.0 x i.1).serving ((matched i.0 x i.1).client ∙ client) p ((matched i.0 x i.1).peer ∙ peer)).0;
     unique = λ x y i j e.
-        let p = (ok.shown.2.ends i.0 (view_of_end x) (view_at w.ends i.0 x i.1)).1 in
-        let q = (ok.shown.2.ends j.0 (view_of_end y) (view_at w.ends j.0 y j.1)).1 in
+        let p = (ok.shown.1.1.ends i.0 (view_of_end x) (view_at w.ends i.0 x i.1)).1 in
+        let q = (ok.shown.1.1.ends j.0 (view_of_end y) (view_at w.ends j.0 y j.1)).1 in
         let f : (end_address x).port ≡ (end_address y).port = ap (λ (a : Endpoint). a.port) e in
         let k : i.0 ≡ j.0 = omega (arith, p, q, f) in
         same_Some x y (sym i.1 ∙ (ap (slice_get w.ends) k ∙ j.1));

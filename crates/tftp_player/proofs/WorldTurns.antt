@@ -18,11 +18,11 @@ use Rattle.tftp_machine.specs.Rules.{Rule, message}
 use Rattle.tftp_player.specs.Said.{said}
 use Rattle.tftp_machine.specs.Facts.{home, Holds}
 use Rattle.tftp_machine.specs.Recorded.{AreRecorded}
-use Rattle.tftp_machine.specs.Shows.{EndView, Shows, IsShownAfter}
+use Rattle.tftp_machine.specs.Shows.{EndView, Shows, IsShownWithin}
 use Rattle.tftp_machine.proofs.Shown.{shown_by}
 use Rattle.tftp_player.specs.World.{WorldState, OpenEnd, WorldEnd, Open_end, Closed_end, end_address, end_path, end_stored, StoredFile, file_at, in_the_way, datagram, replied, standing, end_after, with_files, has_committed, world_after, opened_in, said_in, view_of_end}
 use Rattle.tftp_player.specs.WorldSteps.{FilesAfter, Turns, Opens}
-use Rattle.tftp_player.specs.WorldKept.{EndKept, IsOpenIn, StandsIn, IsKeptIn, SaysSo, MaySpeak, IsOkAfter}
+use Rattle.tftp_player.specs.WorldKept.{EndKept, IsOpenIn, StandsIn, IsKeptIn, SaysSo, MaySpeak, IsOkAt, IsOkWithin}
 use Rattle.tftp_player.specs.declared.datagram.Datagram.{Datagram}
 use Rattle.tftp_player.specs.declared.report.Report.{Report}
 use Rattle.tftp_machine.proofs.Places.{slice_get-set_cases, slice_get-push_cases}
@@ -77,11 +77,11 @@ pub view_at : (ends : List WorldEnd) (k : ℕ) (x : WorldEnd) → slice_get ends
 view_at ends k x e = slice_get-map view_of_end ends k ∙ ap (option_map view_of_end) e
 
 -- a machine that keeps its facts shows a world that is kept
-pub world_machine : (first : List Rule) (strangers : Bool) (w : WorldState) (ok : IsOkAfter first strangers w) → (m : Machine) × Holds m × AreRecorded m × Shows (map view_of_end w.ends) ok.messages m
-world_machine first strangers w ok = shown_by (map view_of_end w.ends) ok.messages (first ++ ok.shown.0, ok.shown.1, ok.shown.2)
+pub world_machine : (first : List Rule) (strangers : Bool) (w : WorldState) (ok : IsOkAt first strangers w) → (m : Machine) × Holds m × AreRecorded m × Shows (map view_of_end w.ends) ok.messages m
+world_machine first strangers w ok = shown_by (map view_of_end w.ends) ok.messages (first, ok.shown)
 
 -- each end is at one of the two hosts
-pub at_home : (first : List Rule) (strangers : Bool) (w : WorldState) → IsOkAfter first strangers w → (k : ℕ) (x : WorldEnd) → slice_get w.ends k ≡ Some x → host_of (end_address x) ≢ Elsewhere
+pub at_home : (first : List Rule) (strangers : Bool) (w : WorldState) → IsOkAt first strangers w → (k : ℕ) (x : WorldEnd) → slice_get w.ends k ≡ Some x → host_of (end_address x) ≢ Elsewhere
 at_home first strangers w ok k x e f =
     let by = world_machine first strangers w ok in
     let there = (by.3.ends k (view_of_end x) (view_at w.ends k x e)).0 in
@@ -119,7 +119,7 @@ still_kept w v added x more set_same stay h = record {
 }
 
 -- what was sent and what is there, after an answer
-module _ (first : List Rule) (strangers : Bool) (w : WorldState) (ok : IsOkAfter first strangers w) (from : Endpoint) (own : host_of from ≢ Elsewhere)
+module _ (first : List Rule) (strangers : Bool) (w : WorldState) (ok : IsOkAt first strangers w) (from : Endpoint) (own : host_of from ≢ Elsewhere)
     (reply : Option Reply) (said_now : List Message) (r : Replies from reply said_now) where
   pub sent_then : (d : Datagram) → Contains (w.sent ++ replied from reply) d → (m : Message) × SaysSo d m × Contains (ok.messages ++ said_now) m
   sent_then d i = elim (Contains-append_cases w.sent (replied from reply) d i) [
@@ -153,9 +153,9 @@ complete_then false client old_committed new_committed o n c =
     inr (ap (λ (b : Bool). not client && (not b && new_committed)) o ∙ (ap (λ (b : Bool). not client && b) n ∙ ap (λ (b : Bool). not b && true) c))
 
 -- a turn of an end keeps the world
-pub turn_keeps : (first : List Rule) (strangers : Bool) (w v : WorldState) (ok : IsOkAfter first strangers w) (k : ℕ) (x : OpenEnd) (turn : Turn) (held : Files (List ℕ) Holding) (report : Report) →
-    slice_get w.ends k ≡ Some (Open_end x) → Goes first (map view_of_end w.ends) ok.messages k x turn (end_after x turn held) → Turns w k x turn held report v → IsOkAfter first strangers v
-turn_keeps first strangers w v ok k x turn held report at g t = subst (λ (z : WorldState). IsOkAfter first strangers z) (sym t.is) later where
+pub turn_keeps : (first : List Rule) (strangers : Bool) (w v : WorldState) (ok : IsOkAt first strangers w) (k : ℕ) (x : OpenEnd) (turn : Turn) (held : Files (List ℕ) Holding) (report : Report) →
+    slice_get w.ends k ≡ Some (Open_end x) → Goes first (map view_of_end w.ends) ok.messages k x turn (end_after x turn held) → Turns w k x turn held report v → IsOkWithin 3 first strangers v
+turn_keeps first strangers w v ok k x turn held report at g t = subst (λ (z : WorldState). IsOkWithin 3 first strangers z) (sym t.is) later where
   was : IsOpenIn w x
   was = (ok.ends k (Open_end x) at).stands
 
@@ -188,14 +188,14 @@ turn_keeps first strangers w v ok k x turn held report at g t = subst (λ (z : W
       ] in
       subst (λ (q : List ℕ). file_at t.files q ≡ Some y.stored) (sym path) under
 
-  later : IsOkAfter first strangers (world_after w k x turn held t.files)
+  later : IsOkWithin 3 first strangers (world_after w k x turn held t.files)
   later =
       let y = end_after x turn held in
       let place = (same_place (record x { state = after_turn x.state turn }) held).0 in
       let own = at_home first strangers w ok k (Open_end x) at in
       record {
         messages = ok.messages ++ g.said_now;
-        shown = subst (λ (vs : List EndView). IsShownAfter first vs (ok.messages ++ g.said_now)) (sym (map-set view_of_end w.ends k (standing y)))
+        shown = subst (λ (vs : List EndView). IsShownWithin 3 first vs (ok.messages ++ g.said_now)) (sym (map-set view_of_end w.ends k (standing y)))
             (standing_shown first (map view_of_end w.ends) (ok.messages ++ g.said_now) k (view_of_end (Open_end x)) y (view_at w.ends k (Open_end x) at) g.shown);
         sent = sent_then first strangers w ok x.address own turn.reply g.said_now g.replies;
         only = only_then first strangers w ok x.address own turn.reply g.said_now g.replies;
@@ -211,18 +211,18 @@ turn_keeps first strangers w v ok k x turn held report at g t = subst (λ (z : W
       }
 
 -- an end that opened keeps the world
-pub opening_keeps : (first : List Rule) (strangers : Bool) (w v : WorldState) (ok : IsOkAfter first strangers w) (x : OpenEnd) (report : Report) (p : WirePacket) →
-    Spells p x.state.position.last_sent → IsShownAfter first (map view_of_end w.ends ++ view_of_end (Open_end x) ∷ []) (ok.messages ++ message x.address x.state.position.last_sent_to (said p) ∷ []) →
-    host_of x.address ≢ Elsewhere → outcome_of x.state.position.phase ≡ None → EndKept x → is_complete x.state.position.phase ≡ false → Opens w x report v → IsOkAfter first strangers v
-opening_keeps first strangers w v ok x report p spells shown own still kept incomplete o = subst (λ (z : WorldState). IsOkAfter first strangers z) (sym o.is) later where
-  later : IsOkAfter first strangers (opened_in w x)
+pub opening_keeps : (first : List Rule) (strangers : Bool) (w v : WorldState) (ok : IsOkAt first strangers w) (x : OpenEnd) (report : Report) (p : WirePacket) →
+    Spells p x.state.position.last_sent → IsShownWithin 3 first (map view_of_end w.ends ++ view_of_end (Open_end x) ∷ []) (ok.messages ++ message x.address x.state.position.last_sent_to (said p) ∷ []) →
+    host_of x.address ≢ Elsewhere → outcome_of x.state.position.phase ≡ None → EndKept x → is_complete x.state.position.phase ≡ false → Opens w x report v → IsOkWithin 3 first strangers v
+opening_keeps first strangers w v ok x report p spells shown own still kept incomplete o = subst (λ (z : WorldState). IsOkWithin 3 first strangers z) (sym o.is) later where
+  later : IsOkWithin 3 first strangers (opened_in w x)
   later =
       let reply : Option Reply = Some (record { to = x.state.position.last_sent_to; bytes = x.state.position.last_sent }) in
       let m = message x.address x.state.position.last_sent_to (said p) in
       let r : Replies x.address reply (m ∷ []) = (p, spells, refl) in
       record {
         messages = ok.messages ++ m ∷ [];
-        shown = subst (λ (vs : List EndView). IsShownAfter first vs (ok.messages ++ m ∷ [])) (sym (map-append view_of_end w.ends (Open_end x ∷ []))) shown;
+        shown = subst (λ (vs : List EndView). IsShownWithin 3 first vs (ok.messages ++ m ∷ [])) (sym (map-append view_of_end w.ends (Open_end x ∷ []))) shown;
         sent = sent_then first strangers w ok x.address own reply (m ∷ []) r;
         only = only_then first strangers w ok x.address own reply (m ∷ []) r;
         speakers = speakers_then first strangers w ok x.address own reply (m ∷ []) r;
@@ -241,9 +241,9 @@ opening_keeps first strangers w v ok x report p spells shown own still kept inco
       }
 
 -- a datagram that changes no end keeps the world
-pub saying_keeps : (first : List Rule) (strangers : Bool) (w : WorldState) (ok : IsOkAfter first strangers w) (from to : Endpoint) (bytes : List ℕ) (p : WirePacket) →
-    Spells p bytes → IsShownAfter first (map view_of_end w.ends) (ok.messages ++ message from to (said p) ∷ []) → host_of from ≢ Elsewhere →
-    IsOkAfter first strangers (said_in w (datagram from to bytes))
+pub saying_keeps : (first : List Rule) (strangers : Bool) (w : WorldState) (ok : IsOkAt first strangers w) (from to : Endpoint) (bytes : List ℕ) (p : WirePacket) →
+    Spells p bytes → IsShownWithin 3 first (map view_of_end w.ends) (ok.messages ++ message from to (said p) ∷ []) → host_of from ≢ Elsewhere →
+    IsOkWithin 3 first strangers (said_in w (datagram from to bytes))
 saying_keeps first strangers w ok from to bytes p spells shown own =
     let reply : Option Reply = Some (record { to = to; bytes = bytes }) in
     let m = message from to (said p) in

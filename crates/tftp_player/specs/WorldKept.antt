@@ -17,7 +17,7 @@ use Rattle.tftp_ends.specs.End.{is_sender, is_client, is_complete, outcome_of}
 use Rattle.tftp_machine.specs.Machine.{Endpoint, Elsewhere, host_of, request_port, Message}
 use Rattle.tftp_machine.specs.Rules.{Rule, message}
 use Rattle.tftp_player.specs.Said.{said}
-use Rattle.tftp_machine.specs.Shows.{IsShownAfter}
+use Rattle.tftp_machine.specs.Shows.{EndView, IsShownAt, IsShown, IsShownWithin}
 use Rattle.tftp_player.specs.World.{WorldState, OpenEnd, ClosedEnd, WorldEnd, Open_end, Closed_end, end_record, end_path, end_stored, file_at, datagram, view_of_end}
 use Rattle.tftp_player.specs.declared.datagram.Datagram.{Datagram}
 
@@ -93,11 +93,11 @@ pub record SaysSo (d : Datagram) (m : Message) : Type 0 where
 abbrev pub MaySpeak : Bool → Endpoint → Type 0
 MaySpeak strangers a = strangers ≡ false → host_of a ≢ Elsewhere
 
--- a legal list of rules, of which these are the first, leads to a machine that the world's ends and what was sent
--- show; `strangers` says that somebody at neither host may have spoken
-pub record IsOkAfter (first : List Rule) (strangers : Bool) (w : WorldState) : Type 0 where
+-- the guarded machine shows the world's ends and what was sent, in this way; `strangers` says that somebody at neither
+-- host may have spoken
+pub record IsOkBy (IsShownSo : List EndView → List Message → Type 0) (strangers : Bool) (w : WorldState) : Type 0 where
   pub messages : List Message
-  pub shown : IsShownAfter first (map view_of_end w.ends) messages
+  pub shown : IsShownSo (map view_of_end w.ends) messages
   -- what was sent is there
   pub sent : (d : Datagram) → Contains w.sent d → (m : Message) × SaysSo d m × Contains messages m
   -- and what is there was sent, or a stranger said it
@@ -107,6 +107,14 @@ pub record IsOkAfter (first : List Rule) (strangers : Bool) (w : WorldState) : T
   pub max_block : IsBlockSize w.limits.max_block
   pub ends : (k : ℕ) (x : WorldEnd) → slice_get w.ends k ≡ Some x → IsKeptIn w x
 
--- a legal list of rules leads to it
+-- it is shown after a legal list of rules
 abbrev pub IsOk : Bool → WorldState → Type 0
-IsOk strangers w = IsOkAfter [] strangers w
+IsOk strangers w = IsOkBy IsShown strangers w
+
+-- it is after these
+abbrev pub IsOkAt : List Rule → Bool → WorldState → Type 0
+IsOkAt rules strangers w = IsOkBy (IsShownAt rules) strangers w
+
+-- it is after these and so many more at most
+abbrev pub IsOkWithin : ℕ → List Rule → Bool → WorldState → Type 0
+IsOkWithin most rules strangers w = IsOkBy (IsShownWithin most rules) strangers w

@@ -5,7 +5,7 @@ use Rattle.tftp_negotiate.specs.Ranges.{IsBlockSize}
 use Rattle.tftp_player.specs.World.{WorldState, StoredFile, new_world}
 use Rattle.tftp_player.specs.WorldSteps.{WorldStep}
 use Rattle.tftp_player.specs.WorldSafety.{IsSafe, HasPeersAtHome}
-use Rattle.tftp_player.specs.WorldKept.{IsOkAfter, IsOk}
+use Rattle.tftp_player.specs.WorldKept.{IsOk, IsOkWithin}
 use Rattle.tftp_player.specs.declared.event.Event.{Event}
 use Rattle.tftp_player.specs.declared.event.Event.TheVariants.{Stray}
 use Rattle.tftp_player.specs.declared.report.Report.{Report}
@@ -49,13 +49,13 @@ StepsKeep =
     (strangers : Bool) (old new : WorldState) (event : Event) (report : Report) →
     MayHappen strangers event → IsOk strangers old → WorldStep old event report new → IsOk strangers new
 
--- it is rules of the guarded machine: they go on, each by its guard, where the world was shown, and lead to where
--- it is shown now
+-- it is four rules of the guarded machine at most: they go on, each by its guard, where the world was shown, and lead
+-- to where it is shown now
 abbrev pub StepsAreRules : Type 0
 StepsAreRules =
     (strangers : Bool) (old new : WorldState) (event : Event) (report : Report) →
     MayHappen strangers event → (ok : IsOk strangers old) → WorldStep old event report new →
-    IsOkAfter ok.shown.0 strangers new
+    IsOkWithin 4 ok.shown.0 strangers new
 
 -- what every world keeps makes it safe
 abbrev pub KeptIsSafe : Type 0
