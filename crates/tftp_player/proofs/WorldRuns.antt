@@ -23,7 +23,7 @@ use Rattle.tftp_machine.specs.Shows.{EndView, IsShownAt, IsShownWithin, IsShown}
 use Rattle.tftp_player.specs.World.{WorldState, OpenEnd, WorldEnd, Open_end, Closed_end, StoredFile, file_at, in_the_way, datagram, files_of, new_world, view_of_end}
 use Rattle.tftp_player.specs.WorldSteps.{may_refuse_commit, OnDatagram, Arrives, At_request_port, At_open_end, At_closed_end, At_nobody, TimesOut, told_end, WorldStep}
 use Rattle.tftp_player.specs.WorldKept.{PhaseKept, IsKeptIn, IsOkAt, IsOkWithin, IsOk}
-use Rattle.tftp_player.specs.WorldRuns.{Runs, MayHappen, MayAllHappen, StepsKeep, StepsAreRules}
+use Rattle.tftp_player.specs.WorldRuns.{Runs, MayHappen, MayAllHappen, StepsKeep, StepsAreRules, most_rules}
 use Rattle.tftp_player.specs.WorldSafety.{HasPeersAtHome}
 use Rattle.tftp_player.specs.declared.datagram.Datagram.{Datagram}
 use Rattle.tftp_player.specs.declared.event.Event.{Event}
@@ -239,14 +239,14 @@ stray_keeps first w v ok report from to bytes far (At_closed_end k x at here s) 
 stray_keeps first w v ok report from to bytes far (At_nobody away nobody_there s) = three_or_four first true v (stays_ok first true w v report ok s)
 
 -- each step keeps the world, by more rules
-step_after : (first : List Rule) (strangers : Bool) (w v : WorldState) (event : Event) (report : Report) → MayHappen strangers event → IsOkAt first strangers w → WorldStep w event report v → IsOkWithin 4 first strangers v
-step_after first strangers w v (Get name mode asked) report may ok s = three_or_four first strangers v (reading_keeps first strangers w v name mode asked report ok s.1 s.2)
-step_after first strangers w v (Put name mode asked bytes) report may ok s = three_or_four first strangers v (writing_keeps first strangers w v name mode asked bytes report ok s.1 s.2)
+step_after : (first : List Rule) (strangers : Bool) (w v : WorldState) (event : Event) (report : Report) → MayHappen strangers event → IsOkAt first strangers w → WorldStep w event report v → IsOkWithin (most_rules event) first strangers v
+step_after first strangers w v (Get name mode asked) report may ok s = reading_keeps first strangers w v name mode asked report ok s.1 s.2
+step_after first strangers w v (Put name mode asked bytes) report may ok s = writing_keeps first strangers w v name mode asked bytes report ok s.1 s.2
 step_after first strangers w v (Deliver i) report may ok s =
-    three_or_four first strangers v (arrives_keeps first strangers w v ok report s.0.from s.0.to s.0.bytes (come_from first strangers w ok s.0 (contains_at w.sent i s.0 s.1)) s.2)
-step_after first strangers w v (Timeout port) report may ok s = three_or_four first strangers v (timeout_keeps first strangers w v ok report s.0 s.1 s.2.there s.3)
+    arrives_keeps first strangers w v ok report s.0.from s.0.to s.0.bytes (come_from first strangers w ok s.0 (contains_at w.sent i s.0 s.1)) s.2
+step_after first strangers w v (Timeout port) report may ok s = timeout_keeps first strangers w v ok report s.0 s.1 s.2.there s.3
 step_after first strangers w v (RefuseStore port) report may ok s =
-    three_or_four first strangers v (subst (λ (z : WorldState). IsOkWithin 3 first strangers z) (sym s.4) (told_keeps first strangers w ok s.0 s.1 s.2.there))
+    subst (λ (z : WorldState). IsOkWithin 3 first strangers z) (sym s.4) (told_keeps first strangers w ok s.0 s.1 s.2.there)
 step_after first true w v (Stray from to bytes) report may ok s = stray_keeps first w v ok report from to bytes s.0 s.1
 step_after first false w v (Stray from to bytes) report may ok s = absurd may
 
@@ -257,7 +257,7 @@ steps_are_rules strangers w v event report may ok s =
 pub step_keeps : StepsKeep
 step_keeps strangers w v event report may ok s =
     let next = steps_are_rules strangers w v event report may ok s in
-    shown_as (IsShownWithin 4 ok.shown.0) IsShown strangers v next (ok.shown.0 ++ next.shown.0, next.shown.2)
+    shown_as (IsShownWithin (most_rules event) ok.shown.0) IsShown strangers v next (ok.shown.0 ++ next.shown.0, next.shown.2)
 
 -- so do all of them
 pub run_keeps : (strangers : Bool) (events : List Event) (w v : WorldState) → MayAllHappen strangers events → IsOk strangers w → Runs w events v → IsOk strangers v

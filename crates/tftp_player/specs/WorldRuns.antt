@@ -1,5 +1,5 @@
 -- Every run of a world.
-use Rattle.std.specs.Prelude.{◌≡◌, Bool, false, List, [], ◌∷◌}
+use Rattle.std.specs.Prelude.{◌≡◌, ℕ, Bool, false, List, [], ◌∷◌}
 use Rattle.tftp_server.specs.declared.config.Config.{Config}
 use Rattle.tftp_negotiate.specs.Ranges.{IsBlockSize}
 use Rattle.tftp_player.specs.World.{WorldState, StoredFile, new_world}
@@ -49,13 +49,18 @@ StepsKeep =
     (strangers : Bool) (old new : WorldState) (event : Event) (report : Report) →
     MayHappen strangers event → IsOk strangers old → WorldStep old event report new → IsOk strangers new
 
--- it is four rules of the guarded machine at most: they go on, each by its guard, where the world was shown, and lead
--- to where it is shown now
+-- how many rules of the guarded machine an event is at most: a waiting reader takes its peer, stores a part of DATA 1
+-- and says that it gives up; a stranger speaks before
+abbrev pub most_rules : Event → ℕ
+most_rules (Stray from to bytes) = 4
+most_rules event = 3
+
+-- a step is so many at most: they go on, each by its guard, where the world was shown, and lead to where it is shown now
 abbrev pub StepsAreRules : Type 0
 StepsAreRules =
     (strangers : Bool) (old new : WorldState) (event : Event) (report : Report) →
     MayHappen strangers event → (ok : IsOk strangers old) → WorldStep old event report new →
-    IsOkWithin 4 ok.shown.0 strangers new
+    IsOkWithin (most_rules event) ok.shown.0 strangers new
 
 -- what every world keeps makes it safe
 abbrev pub KeptIsSafe : Type 0

@@ -40,8 +40,8 @@ pub fn some_worlds_transfer()
 {}
 
 /// What makes a world safe holds of a new one, and is kept by each event, in both modes, for reads
-/// and for writes. An event is rules of the guarded machine, which go on where the old world was
-/// shown and lead to where the new one is.
+/// and for writes. An event is three rules of the guarded machine at most, or four for a stranger's
+/// datagram, which go on where the old world was shown and lead to where the new one is.
 pub fn a_step_keeps_a_world()
     ensures begins { NewWorldsBegin }
     ensures kept { StepsKeep }
