@@ -230,7 +230,7 @@ sends_1 = takes w3 2 1 d2 server turn_3 (Source left_1) files refl refl refl
       acts = record {
         answer = Ok 8;
         piece = piece_1;
-        reads = record { fills = record { count = refl; given = refl; rest = refl }; read = λ e. absurd (cc); memory = λ e. absurd (cc) };
+        reads = record { fills = record { count = refl; given = refl; rest = refl }; read = λ e. absurd (cc); fails = λ f. absurd f; memory = λ e. absurd (cc) };
         answers = refl;
       };
       again = tt;
@@ -266,7 +266,7 @@ sends_2 = takes w5 4 1 d4 server_1 turn_5 (Source left_2) files refl refl refl
       acts = record {
         answer = Ok 8;
         piece = piece_2;
-        reads = record { fills = record { count = refl; given = refl; rest = refl }; read = λ e. absurd (cc); memory = λ e. absurd (cc) };
+        reads = record { fills = record { count = refl; given = refl; rest = refl }; read = λ e. absurd (cc); fails = λ f. absurd f; memory = λ e. absurd (cc) };
         answers = refl;
       };
       again = tt;
@@ -302,7 +302,7 @@ sends_3 = takes w7 6 1 d6 server_2 turn_7 (Source []) files refl refl refl
       acts = record {
         answer = Ok 1;
         piece = piece_3;
-        reads = record { fills = record { count = refl; given = refl; rest = refl }; read = λ e. absurd (cc); memory = λ e. absurd (cc) };
+        reads = record { fills = record { count = refl; given = refl; rest = refl }; read = λ e. absurd (cc); fails = λ f. absurd f; memory = λ e. absurd (cc) };
         answers = refl;
       };
       again = tt;

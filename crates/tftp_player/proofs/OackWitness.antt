@@ -175,7 +175,7 @@ sends_1 = takes w2 1 0 d1 client turn_2 (Source left_1) [] refl refl refl
       acts = rw (eight, read_8) (record {
         answer = Ok 8;
         piece = piece_1;
-        reads = record { fills = record { count = refl; given = refl; rest = refl }; read = λ e. absurd (cc); memory = λ e. absurd (cc) };
+        reads = record { fills = record { count = refl; given = refl; rest = refl }; read = λ e. absurd (cc); fails = λ f. absurd f; memory = λ e. absurd (cc) };
         answers = refl;
       });
       again = rw (eight, read_8) tt;
@@ -211,7 +211,7 @@ sends_2 = takes w4 3 0 d3 client_1 turn_4 (Source []) [] refl refl refl
       acts = record {
         answer = Ok 1;
         piece = piece_2;
-        reads = record { fills = record { count = refl; given = refl; rest = refl }; read = λ e. absurd (cc); memory = λ e. absurd (cc) };
+        reads = record { fills = record { count = refl; given = refl; rest = refl }; read = λ e. absurd (cc); fails = λ f. absurd f; memory = λ e. absurd (cc) };
         answers = refl;
       };
       again = tt;

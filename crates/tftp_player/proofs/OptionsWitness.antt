@@ -150,7 +150,7 @@ sends = takes w3 2 1 d2 server turn4 (Source []) files refl refl refl
       acts = record {
         answer = Ok 1;
         piece = file;
-        reads = record { fills = record { count = refl; given = refl; rest = refl }; read = λ e. absurd (cc); memory = λ e. absurd (cc) };
+        reads = record { fills = record { count = refl; given = refl; rest = refl }; read = λ e. absurd (cc); fails = λ f. absurd f; memory = λ e. absurd (cc) };
         answers = refl;
       };
       again = tt;

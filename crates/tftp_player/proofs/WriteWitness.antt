@@ -105,7 +105,7 @@ sends = takes w2 1 0 d1 client turn3 (Source []) [] refl refl refl
       acts = record {
         answer = Ok 1;
         piece = file;
-        reads = record { fills = record { count = refl; given = refl; rest = refl }; read = λ e. absurd (cc); memory = λ e. absurd (cc) };
+        reads = record { fills = record { count = refl; given = refl; rest = refl }; read = λ e. absurd (cc); fails = λ f. absurd f; memory = λ e. absurd (cc) };
         answers = refl;
       };
       again = tt;
