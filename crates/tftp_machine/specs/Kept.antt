@@ -8,7 +8,8 @@ use Rattle.tftp_machine.specs.Shows.{EndView, party_of, Matches, IsShownAt, IsSh
 -- may act one after another by what is told of it and by what was sent
 abbrev pub EndsGoOn : Type 0
 EndsGoOn =
-    (first : List Rule) (views : List EndView) (messages : List Message) (k : ℕ) (e f : EndView) (rules : List Rule) →
+    (first : List Rule) (views : List EndView) (messages : List Message) (k : ℕ) (e f : EndView)
+    (rules : List Rule) →
     IsShownAt first views messages → slice_get views k ≡ Some e → e.failed ≡ false →
     ActInTurn rules e.address messages (party_of e) →
     f.address ≡ e.address → f.request ≡ e.request → Matches f (party_then rules (party_of e)) →
@@ -17,7 +18,8 @@ EndsGoOn =
 -- an end that a rule opens at the next port is shown, where no open end answers its request already
 abbrev pub EndsOpen : Type 0
 EndsOpen =
-    (first : List Rule) (views : List EndView) (messages : List Message) (f : EndView) (rule : Rule) →
+    (first : List Rule) (views : List EndView) (messages : List Message) (f : EndView)
+    (rule : Rule) →
     IsShownAt first views messages → Opens rule → MayAct rule messages nobody →
     f.address ≡ actor rule → f.address.port ≡ 1024 + length views →
     Matches f (party_after rule nobody) → AsksAnew rule f.request views →

@@ -93,9 +93,10 @@ pub record SaysSo (d : Datagram) (m : Message) : Type 0 where
 abbrev pub MaySpeak : Bool → Endpoint → Type 0
 MaySpeak strangers a = strangers ≡ false → host_of a ≢ Elsewhere
 
--- the guarded machine shows the world's ends and what was sent, in this way; `strangers` says that somebody at neither
--- host may have spoken
-pub record IsOkBy (IsShownSo : List EndView → List Message → Type 0) (strangers : Bool) (w : WorldState) : Type 0 where
+-- the guarded machine shows the world's ends and what was sent, in this way; `strangers` says that
+-- somebody at neither host may have spoken
+pub record IsOkBy (IsShownSo : List EndView → List Message → Type 0) (strangers : Bool)
+    (w : WorldState) : Type 0 where
   pub messages : List Message
   pub shown : IsShownSo (map view_of_end w.ends) messages
   -- what was sent is there

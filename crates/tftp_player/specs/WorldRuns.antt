@@ -49,13 +49,14 @@ StepsKeep =
     (strangers : Bool) (old new : WorldState) (event : Event) (report : Report) →
     MayHappen strangers event → IsOk strangers old → WorldStep old event report new → IsOk strangers new
 
--- how many rules of the guarded machine an event is at most: a waiting reader takes its peer, stores a part of DATA 1
--- and says that it gives up; a stranger speaks before
+-- how many rules of the guarded machine an event is at most: a waiting reader takes its peer,
+-- stores a part of DATA 1 and says that it gives up; a stranger speaks before
 abbrev pub most_rules : Event → ℕ
 most_rules (Stray from to bytes) = 4
 most_rules event = 3
 
--- a step is so many at most: they go on, each by its guard, where the world was shown, and lead to where it is shown now
+-- a step is so many at most: they go on, each by its guard, where the world was shown, and lead to
+-- where it is shown now
 abbrev pub StepsAreRules : Type 0
 StepsAreRules =
     (strangers : Bool) (old new : WorldState) (event : Event) (report : Report) →
