@@ -152,7 +152,7 @@ impl<R: Files + Drop> Daemon<R> {
         let _ = self.ports.push(port);
     }
 
-    /// The port of a transfer that opened, with its file.
+    /// The port of a transfer that opened.
     fn port_of(&self, spare: Spare, log_entry: Option<LogEntry>) -> TransferPort {
         let agreed = timeout_of(&self.server, spare.tid);
         let due = deadline(self.sockets.watch.now, agreed);
