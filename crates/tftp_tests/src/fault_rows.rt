@@ -48,13 +48,17 @@ fn a_file_that_cannot_be_opened(rt: HostRuntime) {
     is_refused(&rt, rt.alloc(), full, violation);
 }
 
-/// Without an option the answer would be the first block, which cannot be read.
+/// Without an option the answer would be the first block, which cannot be read; nor can an empty
+/// one.
 #[test]
 fn a_file_that_cannot_be_read(rt: HostRuntime) {
     let changed = b"\x00\x05\x00\x00file changed\x00";
     let store = files(&rt, rt.alloc());
     let store = FaultStore::new(store, 0, StoreFault::Io, false, true);
     is_refused(&rt, rt.alloc(), store, changed);
+    let store = store_of(&rt, rt.alloc(), b"a", b"");
+    let empty = FaultStore::new(store, 0, StoreFault::Io, false, true);
+    is_refused(&rt, rt.alloc(), empty, changed);
 }
 
 /// No call of a read is refused: the first block answers, and a transfer opens.
