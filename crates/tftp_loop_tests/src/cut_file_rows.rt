@@ -55,7 +55,7 @@ impl Receiver {
             return false;
         }
         let blocks = self.file.as_slice().chunks(SIZE);
-        let wanted = blocks.skip(usize::from(number) - 1).next();
+        let wanted = blocks.skip(usize::from(number).saturating_sub(1)).next();
         let [0, 3, 0, found, bytes @ ..] = answer else {
             panic!(rt; "no DATA");
         };

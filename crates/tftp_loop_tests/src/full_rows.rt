@@ -12,13 +12,13 @@ use std::rt::Runtime;
 
 /// How far files may grow, in units of 512 bytes, and the bytes of one that is put. The first is
 /// written out at the commit, the second as it comes; of the third the last bytes alone are refused.
-const PUTS: [(&str, usize); 3] = [("8", 20_000), ("8", 200_000), ("384", 200_000)];
+const PUTS: [(&str, usize); 3] = [("-f 8", 20_000), ("-f 8", 200_000), ("-f 384", 200_000)];
 
 /// A server whose files may grow so far.
 fn limited_server<R: Runtime + AllocGlobal + Processes + Abort>(
     rt: &R,
     folder: &str,
-    units: &str,
+    limit: &str,
 ) -> Served<R::Started> {
     let serving = [
         folder,
@@ -29,7 +29,7 @@ fn limited_server<R: Runtime + AllocGlobal + Processes + Abort>(
         "--rounds",
         "500",
     ];
-    let mut command = limited_program(rt, units, "programs::tftpd", &serving);
+    let mut command = limited_program(rt, limit, "programs::tftpd", &serving);
     start(rt, &mut command)
 }
 
@@ -49,11 +49,11 @@ fn is_not_named<R: Runtime + AllocGlobal + Abort, P: OpenProcess + Drop>(
 fn is_refused<R: Runtime + AllocGlobal + Processes + Abort>(
     rt: &R,
     folder: &str,
-    units: &str,
+    limit: &str,
     length: usize,
 ) {
     make_file(rt, folder, "local", length);
-    let server = limited_server(rt, folder, units);
+    let server = limited_server(rt, folder, limit);
     let local = joined(rt, folder, "local");
     let (address, local) = (server.address.as_str(), local.as_str());
     let words = ["put", address, local, "n", "--verbose"];
@@ -65,8 +65,8 @@ fn is_refused<R: Runtime + AllocGlobal + Processes + Abort>(
 #[test]
 fn the_disk_is_full(rt: HostRuntime) {
     let folder = scratch_folder(&rt, process::id(rt.process()), "full");
-    for &(units, length) in &PUTS {
-        is_refused(&rt, folder.as_str(), units, length);
+    for &(limit, length) in &PUTS {
+        is_refused(&rt, folder.as_str(), limit, length);
     }
     remove_folder(&rt, folder.as_str());
 }
@@ -89,10 +89,10 @@ fn puts<R: Net + AllocGlobal + Abort>(rt: &R, server: SocketAddr) -> u16 {
     send(rt, &socket, REQUEST, server);
     let (answer, transfer) = receive(rt, &socket, &mut buffer);
     expect_bytes(rt, answer, AGREEMENT, "OACK");
-    let mut block = Vec::from_elem(rt.alloc(), 7u8, 8_196).expect(rt, "memory");
     for number in 1..=BLOCKS {
         let [high, low] = number.to_be_bytes();
-        block.as_mut_slice()[..4].copy_from_slice(&[0, 3, high, low]);
+        let mut block = Vec::from_slice(rt.alloc(), &[0, 3, high, low]).expect(rt, "memory");
+        block.resize(8_196, 7).expect(rt, "memory");
         send(rt, &socket, block.as_slice(), transfer);
         let (answer, _) = receive(rt, &socket, &mut buffer);
         if answer == DISK_FULL {
@@ -109,7 +109,7 @@ fn puts<R: Net + AllocGlobal + Abort>(rt: &R, server: SocketAddr) -> u16 {
 fn the_disk_is_full_in_mid_transfer(rt: HostRuntime) {
     let folder = scratch_folder(&rt, process::id(rt.process()), "full-midway");
     let folder = folder.as_str();
-    let server = limited_server(&rt, folder, "8");
+    let server = limited_server(&rt, folder, "-f 8");
     let refused = puts(&rt, server.socket_address(&rt));
     expect(&rt, refused > 1 && refused < BLOCKS, "the block");
     is_not_named(&rt, folder, server);

@@ -1,9 +1,13 @@
 //! What `tftpd --log` writes on standard error.
 
 use crate::expect::expect;
-use crate::programs::{prints, program, start};
+use crate::loopback::make_file;
+use crate::programs::{limited_program, prints, program, start};
 use crate::scratch::{joined, remove_folder, scratch_folder, write_file};
-use std::process::{self, Stdio};
+use crate::test_server::{loopback_socket, send};
+use std::net::Net;
+use std::process::{self, Abort, Processes, Stdio};
+use std::rt::Runtime;
 
 /// Parts of the log, in its order.
 const LINES: [&str; 4] = [
@@ -37,6 +41,63 @@ fn log_lines(rt: HostRuntime) {
     let log = server.log(&rt);
     for &wanted in &LINES {
         expect(&rt, log.as_str().contains(wanted), log.as_str());
+    }
+    remove_folder(&rt, folder);
+}
+
+/// The log has the system's reason where a file was not stored.
+#[test]
+fn the_log_says_why(rt: HostRuntime) {
+    let folder = scratch_folder(&rt, process::id(rt.process()), "log-why");
+    let folder = folder.as_str();
+    make_file(&rt, folder, "long", 20_000);
+    let long = joined(&rt, folder, "long");
+    let serving = [folder, "--listen", "127.0.0.1:0", "--log", "--rounds", "60"];
+    let mut command = limited_program(&rt, "-f 8", "programs::tftpd", &serving);
+    let server = start(&rt, command.stderr(Stdio::piped()));
+    let words = ["put", server.address.as_str(), long.as_str(), "n"];
+    prints(&rt, TFTP, &words, "tftp: PeerError(3)\n");
+    let log = server.log(&rt);
+    let wanted = " ms, StoreFault, file too large\n";
+    expect(&rt, log.as_str().contains(wanted), log.as_str());
+    remove_folder(&rt, folder);
+}
+
+/// Limits of open files, and what the log then says of a request: no port for a transfer can be
+/// bound; there is one, and the file cannot be opened.
+const FEW_FILES: [(&str, &str); 2] = [
+    ("-n 5", " RRQ a octet: no port\n"),
+    (
+        "-n 6",
+        " RRQ a octet: ERROR 2 (access violation), too many open files\n",
+    ),
+];
+
+/// A server under this limit has this in its log.
+fn logs_want<R: Runtime + AllocGlobal + Processes + Net + Abort>(
+    rt: &R,
+    folder: &str,
+    limit: &str,
+    wanted: &str,
+) {
+    let serving = [folder, "--listen", "127.0.0.1:0", "--log", "--rounds", "5"];
+    let mut command = limited_program(rt, limit, "programs::tftpd", &serving);
+    let server = start(rt, command.stderr(Stdio::piped()));
+    let socket = loopback_socket(rt);
+    let request = b"\0\x01a\0octet\0".as_slice();
+    send(rt, &socket, request, server.socket_address(rt));
+    let log = server.log(rt);
+    expect(rt, log.as_str().contains(wanted), log.as_str());
+}
+
+/// A request that is lost, or refused, for want of open files is in the log.
+#[test]
+fn few_open_files(rt: HostRuntime) {
+    let folder = scratch_folder(&rt, process::id(rt.process()), "log-few");
+    let folder = folder.as_str();
+    write_file(&rt, folder, "a", b"ABC");
+    for &(limit, wanted) in &FEW_FILES {
+        logs_want(&rt, folder, limit, wanted);
     }
     remove_folder(&rt, folder);
 }

@@ -68,21 +68,21 @@ pub(crate) fn program<R: Runtime + AllocGlobal + Abort>(
     command
 }
 
-/// What a shell runs so that no file of a program grows beyond its first word, in units of 512
-/// bytes, and a longer one is an error and no signal.
-const LIMITED: &str = "trap '' XFSZ; ulimit -f \"$1\"; shift; exec \"$@\"";
+/// What a shell runs so that a program has the limit that the first words of `ulimit` say; a file
+/// that would grow beyond one is an error and no signal.
+const LIMITED: &str = "trap '' XFSZ; ulimit $1; shift; exec \"$@\"";
 
-/// A command that runs this program as the other, where files may grow to so many units of 512
-/// bytes.
+/// A command that runs this program as the other, under a limit: `-f 8` for files of 8 times 512
+/// bytes, `-n 8` for 8 open files.
 pub(crate) fn limited_program<R: Runtime + AllocGlobal + Abort>(
     rt: &R,
-    units: &str,
+    limit: &str,
     name: &str,
     words: &[&str],
 ) -> Command {
     let own = own_name(rt);
     let mut command = Command::new(rt.alloc(), "sh").expect(rt, "memory");
-    let shell = ["-c", LIMITED, "sh", units, own.as_str(), name];
+    let shell = ["-c", LIMITED, "sh", limit, own.as_str(), name];
     append_words(rt, &mut command, &shell);
     append_words(rt, &mut command, words);
     command
