@@ -62,12 +62,18 @@ match_unshown f b x m = record {
 }
 
 pub shown_start : IsShown [] []
-shown_start = ([], (tt, record {
-  sent = refl;
-  ends = λ k e i. absurd (let z : None ≡ Some e = i in cc);
-  asked = λ k e i. absurd (let z : None ≡ Some e = i in cc);
-  only = λ a o. absurd (true≢false (sym o));
-}))
+shown_start = (
+  [],
+  (
+    tt,
+    record {
+      sent = refl;
+      ends = λ k e i. absurd (let z : None ≡ Some e = i in cc);
+      asked = λ k e i. absurd (let z : None ≡ Some e = i in cc);
+      only = λ a o. absurd (true≢false (sym o));
+    },
+  ),
+)
 
 -- a machine that shows them keeps its facts
 pub shown_by : (views : List EndView) (messages : List Message) → IsShown views messages → (m : Machine) × Holds m × AreRecorded m × Shows views messages m
@@ -114,31 +120,31 @@ shown_acts first views messages k e f rs shown at alive turns same asks matches 
     let now : Matches f (n.party a) = subst (λ (y : Party). Matches f y) (sym w.here.1) (match_unshown f w.here.0 (party_then rs (party_of e)) matches) in
     let at_new : Matches f (n.party f.address) = subst (λ (y : Party). Matches f y) (ap n.party (sym same)) now in
     let asked_new : IsInService f → Spells (answered_by (n.party f.address)) f.request = λ busy.
-        subst (λ (bytes : List ℕ). Spells (answered_by (n.party f.address)) bytes) (sym asks)
-        (subst (λ (p : WirePacket). Spells p e.request) (same_answer x (n.party a) w.keeps ∙ ap (λ (q : Endpoint). answered_by (n.party q)) (sym same))
-        (s.asked k e at (was_in_service e f x (n.party a) here.0 now w.keeps alive busy))) in
+    subst (λ (bytes : List ℕ). Spells (answered_by (n.party f.address)) bytes) (sym asks)
+    (subst (λ (p : WirePacket). Spells p e.request) (same_answer x (n.party a) w.keeps ∙ ap (λ (q : Endpoint). answered_by (n.party q)) (sym same))
+    (s.asked k e at (was_in_service e f x (n.party a) here.0 now w.keeps alive busy))) in
     let apart : (j : ℕ) (y : EndView) → j ≢ k → slice_get views j ≡ Some y → y.address ≢ a = λ j y other i q.
-        other (let p : y.address.port ≡ a.port = ap (λ (q : Endpoint). q.port) q in let c = (s.ends j y i).1 in let d = here.1 in omega arith) in
+    other (let p : y.address.port ≡ a.port = ap (λ (q : Endpoint). q.port) q in let c = (s.ends j y i).1 in let d = here.1 in omega arith) in
     shown_after first (set views k f) (messages ++ sent_by rs (party_of e)) shown.0 rs acted.0
-      (record {
-        sent = w.sent ∙ ap (λ (ds : List Message). ds ++ sent_by rs (party_of e)) s.sent;
-        ends = λ j y i. elim (slice_get-set_cases views k j f y i) [
-          | inl b ↦ subst (λ (z : EndView). Matches z (n.party z.address) × (z.address.port ≡ 1024 + j)) (sym b.1)
-              (at_new, ap (λ (q : Endpoint). q.port) same ∙ (here.1 ∙ ap (λ (q : ℕ). 1024 + q) (sym b.0)))
-          | inr b ↦ let there = s.ends j y b.1 in
-              (subst (λ (z : Party). Matches y z) (sym (w.others y.address (apart j y b.0 b.1))) there.0, there.1)
-        ];
-        asked = λ j y i. elim (slice_get-set_cases views k j f y i) [
-          | inl b ↦ subst (λ (z : EndView). IsInService z → Spells (answered_by (n.party z.address)) z.request) (sym b.1) asked_new
-          | inr b ↦ λ busy. subst (λ (z : Party). Spells (answered_by z) y.request) (sym (w.others y.address (apart j y b.0 b.1))) (s.asked j y b.1 busy)
-        ];
-        only = λ b o. elim (cases_same b a) [
-          | inl q ↦ (k, f, slice_get-set_same views k f e at, same ∙ sym q)
-          | inr d ↦ let old = s.only b (subst (λ (z : Party). z.is_open ≡ true) (w.others b d) o) in
-              let away : old.0 ≢ k = λ q. d (let z : Some old.1 ≡ Some e = sym old.2 ∙ (ap (slice_get views) q ∙ at) in let v : old.1 ≡ e = cc in sym old.3 ∙ ap (λ (y : EndView). y.address) v) in
-              (old.0, old.1, slice_get-set_other views k old.0 f away ∙ old.2, old.3)
-        ];
-      })
+    (record {
+      sent = w.sent ∙ ap (λ (ds : List Message). ds ++ sent_by rs (party_of e)) s.sent;
+      ends = λ j y i. elim (slice_get-set_cases views k j f y i) [
+        | inl b ↦ subst (λ (z : EndView). Matches z (n.party z.address) × (z.address.port ≡ 1024 + j)) (sym b.1)
+            (at_new, ap (λ (q : Endpoint). q.port) same ∙ (here.1 ∙ ap (λ (q : ℕ). 1024 + q) (sym b.0)))
+        | inr b ↦ let there = s.ends j y b.1 in
+            (subst (λ (z : Party). Matches y z) (sym (w.others y.address (apart j y b.0 b.1))) there.0, there.1)
+      ];
+      asked = λ j y i. elim (slice_get-set_cases views k j f y i) [
+        | inl b ↦ subst (λ (z : EndView). IsInService z → Spells (answered_by (n.party z.address)) z.request) (sym b.1) asked_new
+        | inr b ↦ λ busy. subst (λ (z : Party). Spells (answered_by z) y.request) (sym (w.others y.address (apart j y b.0 b.1))) (s.asked j y b.1 busy)
+      ];
+      only = λ b o. elim (cases_same b a) [
+        | inl q ↦ (k, f, slice_get-set_same views k f e at, same ∙ sym q)
+        | inr d ↦ let old = s.only b (subst (λ (z : Party). z.is_open ≡ true) (w.others b d) o) in
+            let away : old.0 ≢ k = λ q. d (let z : Some old.1 ≡ Some e = sym old.2 ∙ (ap (slice_get views) q ∙ at) in let v : old.1 ≡ e = cc in sym old.3 ∙ ap (λ (y : EndView). y.address) v) in
+            (old.0, old.1, slice_get-set_other views k old.0 f away ∙ old.2, old.3)
+      ];
+    })
 
 -- what asked for an end that is over is not shown
 pub shown_forgets : (most : ℕ) (first : List Rule) (views : List EndView) (messages : List Message) (k : ℕ) (d e f : EndView) → slice_get views k ≡ Some d → f ≡ record e { request = f.request } → (IsInService e → ⊥) →
@@ -168,22 +174,25 @@ shown_forgets most first views messages k d e f at same over shown =
     let idle : IsInService f → ⊥ = subst (λ (z : EndView). IsInService z → ⊥) (sym same) over in (
       shown.0,
       shown.1,
-      (shown.2.0, record {
-        sent = s.sent;
-        ends = λ j y i. elim (slice_get-set_cases views k j f y i) [
-          | inl b ↦ subst (λ (z : EndView). Matches z (m.party z.address) × (z.address.port ≡ 1024 + j)) (sym b.1)
-              (now, ap (λ (q : Endpoint). q.port) address ∙ (old.1 ∙ ap (λ (q : ℕ). 1024 + q) (sym b.0)))
-          | inr b ↦ s.ends j y (slice_get-set_other views k j e b.0 ∙ b.1)
-        ];
-        asked = λ j y i. elim (slice_get-set_cases views k j f y i) [
-          | inl b ↦ λ busy. absurd (idle (subst IsInService b.1 busy))
-          | inr b ↦ s.asked j y (slice_get-set_other views k j e b.0 ∙ b.1)
-        ];
-        only = λ b o. let there = s.only b o in elim (slice_get-set_cases views k there.0 e there.1 there.2) [
-          | inl c ↦ (k, f, slice_get-set_same views k f d at, address ∙ (ap (λ (z : EndView). z.address) (sym c.1) ∙ there.3))
-          | inr c ↦ (there.0, there.1, slice_get-set_other views k there.0 f c.0 ∙ c.1, there.3)
-        ];
-      }),
+      (
+        shown.2.0,
+        record {
+          sent = s.sent;
+          ends = λ j y i. elim (slice_get-set_cases views k j f y i) [
+            | inl b ↦ subst (λ (z : EndView). Matches z (m.party z.address) × (z.address.port ≡ 1024 + j)) (sym b.1)
+                (now, ap (λ (q : Endpoint). q.port) address ∙ (old.1 ∙ ap (λ (q : ℕ). 1024 + q) (sym b.0)))
+            | inr b ↦ s.ends j y (slice_get-set_other views k j e b.0 ∙ b.1)
+          ];
+          asked = λ j y i. elim (slice_get-set_cases views k j f y i) [
+            | inl b ↦ λ busy. absurd (idle (subst IsInService b.1 busy))
+            | inr b ↦ s.asked j y (slice_get-set_other views k j e b.0 ∙ b.1)
+          ];
+          only = λ b o. let there = s.only b o in elim (slice_get-set_cases views k there.0 e there.1 there.2) [
+            | inl c ↦ (k, f, slice_get-set_same views k f d at, address ∙ (ap (λ (z : EndView). z.address) (sym c.1) ∙ there.3))
+            | inr c ↦ (there.0, there.1, slice_get-set_other views k there.0 f c.0 ∙ c.1, there.3)
+          ];
+        },
+      ),
     )
 
 -- no end is open at the next port
@@ -217,18 +226,18 @@ all_over views messages m s peer write request none a by = one_over (cases_Bool 
   one_over (inl d) f = inl d
   one_over (inr d) (inl f) = inr f
   one_over (inr d) (inr f) = absurd (
-    let there = s.only a by.is_open in
-    let e = there.1 in
-    let t : Matches e (m.party a) = subst (λ (q : Endpoint). Matches e (m.party q)) there.3 (s.ends there.0 e there.2).0 in
-    let busy : IsInService e = (sym t.client ∙ by.server, sym t.done ∙ d, sym t.failed ∙ f) in
-    let says = s.asked there.0 e there.2 busy in
-    let same : answered_by (m.party e.address) ≡ requested write request =
-    ap (λ (q : Endpoint). answered_by (m.party q)) there.3
-    ∙ (ap (λ (b : Bool). requested (not b) (m.party a).request) by.sender
-    ∙ (ap (λ (b : Bool). requested b (m.party a).request) (not-not write)
-    ∙ ap (requested write) by.request_is)) in
-    none there.0 e there.2 (record { serving = busy; peer_is = sym t.peer ∙ by.peer_is; spells = subst (λ (p : WirePacket). Spells p e.request) same says })
-  )
+      let there = s.only a by.is_open in
+      let e = there.1 in
+      let t : Matches e (m.party a) = subst (λ (q : Endpoint). Matches e (m.party q)) there.3 (s.ends there.0 e there.2).0 in
+      let busy : IsInService e = (sym t.client ∙ by.server, sym t.done ∙ d, sym t.failed ∙ f) in
+      let says = s.asked there.0 e there.2 busy in
+      let same : answered_by (m.party e.address) ≡ requested write request =
+      ap (λ (q : Endpoint). answered_by (m.party q)) there.3
+      ∙ (ap (λ (b : Bool). requested (not b) (m.party a).request) by.sender
+      ∙ (ap (λ (b : Bool). requested b (m.party a).request) (not-not write)
+      ∙ ap (requested write) by.request_is)) in
+      none there.0 e there.2 (record { serving = busy; peer_is = sym t.peer ∙ by.peer_is; spells = subst (λ (p : WirePacket). Spells p e.request) same says })
+      )
 
 opens_anew : (views : List EndView) (messages : List Message) (m : Machine) (r : Rule) (bytes : List ℕ) → Shows views messages m → Opens r → AsksAnew r bytes views → OpensAnew r m
 opens_anew views messages m (Asks at write request text) bytes s o h = tt
@@ -260,27 +269,27 @@ shown_opens first views messages f r shown opening may same port matches asks =
     let n = after r m in
     let here : n.party f.address ≡ party_after r nobody = ap n.party same ∙ (with_at m.party a (party_after r x) ∙ alike.0) in
     let apart : (j : ℕ) (y : EndView) → slice_get views j ≡ Some y → y.address ≢ a = λ j y i q.
-        (let p : y.address.port ≡ f.address.port = ap (λ (c : Endpoint). c.port) (q ∙ sym same) in let c = (s.ends j y i).1 in let l = slice_get_within views j y i in omega arith) in
+    (let p : y.address.port ≡ f.address.port = ap (λ (c : Endpoint). c.port) (q ∙ sym same) in let c = (s.ends j y i).1 in let l = slice_get_within views j y i in omega arith) in
     shown_after first (views ++ f ∷ []) (messages ++ packets r nobody) shown.0 (r ∷ []) (guard, opens_anew views messages m r f.request s opening asks, tt)
-      (record {
-        sent = ap (λ (ds : List Message). ds ++ packets r x) s.sent ∙ ap (λ (ds : List Message). messages ++ ds) alike.1;
-        ends = λ j y i. elim (slice_get-push_cases views j f y i) [
-          | inl b ↦ let there = s.ends j y b in
-              (subst (λ (z : Party). Matches y z) (sym (with_other m.party a (party_after r x) y.address (apart j y b))) there.0, there.1)
-          | inr b ↦ subst (λ (z : EndView). Matches z (n.party z.address) × (z.address.port ≡ 1024 + j)) (sym b.1)
-              (subst (λ (z : Party). Matches f z) (sym here) matches, port ∙ ap (λ (q : ℕ). 1024 + q) (sym b.0))
-        ];
-        asked = λ j y i. elim (slice_get-push_cases views j f y i) [
-          | inl b ↦ λ busy. subst (λ (z : Party). Spells (answered_by z) y.request) (sym (with_other m.party a (party_after r x) y.address (apart j y b))) (s.asked j y b busy)
-          | inr b ↦ subst (λ (z : EndView). IsInService z → Spells (answered_by (n.party z.address)) z.request) (sym b.1)
-              (λ busy. subst (λ (z : Party). Spells (answered_by z) f.request) (sym here) (new_answer views f r opening asks matches busy))
-        ];
-        only = λ b o. elim (cases_same b a) [
-          | inl q ↦ (length views, f, slice_get-push_new views f, same ∙ sym q)
-          | inr d ↦ let old = s.only b (subst (λ (z : Party). z.is_open ≡ true) (with_other m.party a (party_after r x) b d) o) in
-              (old.0, old.1, slice_get-push_old views old.0 f old.1 old.2, old.3)
-        ];
-      })
+    (record {
+      sent = ap (λ (ds : List Message). ds ++ packets r x) s.sent ∙ ap (λ (ds : List Message). messages ++ ds) alike.1;
+      ends = λ j y i. elim (slice_get-push_cases views j f y i) [
+        | inl b ↦ let there = s.ends j y b in
+            (subst (λ (z : Party). Matches y z) (sym (with_other m.party a (party_after r x) y.address (apart j y b))) there.0, there.1)
+        | inr b ↦ subst (λ (z : EndView). Matches z (n.party z.address) × (z.address.port ≡ 1024 + j)) (sym b.1)
+            (subst (λ (z : Party). Matches f z) (sym here) matches, port ∙ ap (λ (q : ℕ). 1024 + q) (sym b.0))
+      ];
+      asked = λ j y i. elim (slice_get-push_cases views j f y i) [
+        | inl b ↦ λ busy. subst (λ (z : Party). Spells (answered_by z) y.request) (sym (with_other m.party a (party_after r x) y.address (apart j y b))) (s.asked j y b busy)
+        | inr b ↦ subst (λ (z : EndView). IsInService z → Spells (answered_by (n.party z.address)) z.request) (sym b.1)
+            (λ busy. subst (λ (z : Party). Spells (answered_by z) f.request) (sym here) (new_answer views f r opening asks matches busy))
+      ];
+      only = λ b o. elim (cases_same b a) [
+        | inl q ↦ (length views, f, slice_get-push_new views f, same ∙ sym q)
+        | inr d ↦ let old = s.only b (subst (λ (z : Party). z.is_open ≡ true) (with_other m.party a (party_after r x) b d) o) in
+            (old.0, old.1, slice_get-push_old views old.0 f old.1 old.2, old.3)
+      ];
+    })
 
 may_speak : (r : Rule) → Speaks r → (sent : List Message) (x : Party) → MayAct r sent nobody → MayAct r sent x
 may_speak (Says_error at to) o sent x h = h
@@ -315,9 +324,9 @@ shown_speaks first views messages r shown speaking may =
       | inr d ↦ with_other m.party a (party_after r x) q d
     ] in
     shown_after first views (messages ++ packets r nobody) shown.0 (r ∷ []) (guard, speaks_none r speaking m, tt)
-      (record {
-        sent = ap (λ (ds : List Message). ds ++ packets r x) s.sent ∙ ap (λ (ds : List Message). messages ++ ds) alike.1;
-        ends = λ j y i. let there = s.ends j y i in (subst (λ (z : Party). Matches y z) (sym (stays y.address)) there.0, there.1);
-        asked = λ j y i busy. subst (λ (z : Party). Spells (answered_by z) y.request) (sym (stays y.address)) (s.asked j y i busy);
-        only = λ b o. s.only b (subst (λ (z : Party). z.is_open ≡ true) (stays b) o);
-      })
+    (record {
+      sent = ap (λ (ds : List Message). ds ++ packets r x) s.sent ∙ ap (λ (ds : List Message). messages ++ ds) alike.1;
+      ends = λ j y i. let there = s.ends j y i in (subst (λ (z : Party). Matches y z) (sym (stays y.address)) there.0, there.1);
+      asked = λ j y i busy. subst (λ (z : Party). Spells (answered_by z) y.request) (sym (stays y.address)) (s.asked j y i busy);
+      only = λ b o. s.only b (subst (λ (z : Party). z.is_open ≡ true) (stays b) o);
+    })

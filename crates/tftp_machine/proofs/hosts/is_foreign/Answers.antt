@@ -9,12 +9,12 @@ pub returns-then-not-is_server : goal.returns-then-not-is_server
 returns-then-not-is_server c =
     subst (λ (b : Bool). IsTrue b ↔ (host_of c.args.endpoint.now ≡ Elsewhere))
     (ap (λ (b : Bool). b && not (is_same_ip c.args.endpoint.now.ip client_ip))
-      (ap not (sym c.is_server.ensures ∙ c.if-not-is_server.true)) ∙ ap not (sym c.is_client.ensures))
+    (ap not (sym c.is_server.ensures ∙ c.if-not-is_server.true)) ∙ ap not (sym c.is_client.ensures))
     (foreign_by c.args.endpoint.now)
 
 pub returns-else-not-is_server : goal.returns-else-not-is_server
 returns-else-not-is_server c =
     subst (λ (b : Bool). IsTrue b ↔ (host_of c.args.endpoint.now ≡ Elsewhere))
     (ap (λ (b : Bool). b && not (is_same_ip c.args.endpoint.now.ip client_ip))
-      (ap not (sym c.is_server.ensures ∙ c.if-not-is_server.false)) ∙ ap not (sym c.if-not-is_server.false))
+    (ap not (sym c.is_server.ensures ∙ c.if-not-is_server.false)) ∙ ap not (sym c.if-not-is_server.false))
     (foreign_by c.args.endpoint.now)
