@@ -11,6 +11,7 @@ use Rattle.tftp_ends.specs.declared.side.Side.{Side}
 use Rattle.tftp_ends.specs.declared.side.Side.TheVariants.{ClientRead, ClientWrite, ServerRead, ServerWrite}
 use Rattle.tftp_ends.specs.declared.record.Held.{Held}
 use Rattle.tftp_ends.specs.declared.record.Record.{Record}
+use Rattle.tftp_ends.specs.declared.record.TheConstants.{DEFAULT_INTERVAL}
 use Rattle.tftp_ends.specs.declared.record.Step.{Step}
 
 -- where an end is in its transfer, and what it keeps for the next event
@@ -84,14 +85,14 @@ abbrev pub timeout_of : Option Terms → Option ℕ
 timeout_of None = None
 timeout_of (Some terms) = terms.timeout
 
--- a number, or 1
-abbrev pub or_one : Option ℕ → ℕ
-or_one None = 1
-or_one (Some number) = number
+-- the seconds of silence before a timeout: the agreed ones, or the default
+abbrev pub seconds_of : Option ℕ → ℕ
+seconds_of None = DEFAULT_INTERVAL
+seconds_of (Some seconds) = seconds
 
--- the seconds of silence before a timeout: the agreed ones, or 1
+-- the seconds of silence before an end's timeout
 abbrev pub interval_of : Option Terms → ℕ
-interval_of terms = or_one (timeout_of terms)
+interval_of terms = seconds_of (timeout_of terms)
 
 -- what an end tells of itself
 abbrev pub record_of : EndState → Record

@@ -6,25 +6,26 @@ use Rattle.tftp_ends.specs.declared.action.Action.TheVariants.{Respond, Send, St
 use Rattle.tftp_ends.specs.declared.action.Response.{Response}
 use Rattle.tftp_ends.specs.declared.action.Response.TheVariants.{Ignore, Stranger, ResendReply, Retransmit, Wait, Close, Refuse, Accept, Complete}
 use Rattle.tftp_ends.specs.End.{EndState}
+use Rattle.tftp_ends.specs.declared.reply.TheConstants.{MAX_ERROR}
 use Rattle.tftp_ends.specs.Step.{ReadsBlock, block_length, data_bytes, result_count_is}
 
 -- the most bytes that go out where no file is touched
 abbrev pub response_room : EndState → Response → ℕ
 response_room e Ignore = 0
-response_room e Stranger = 24
+response_room e Stranger = MAX_ERROR
 response_room e ResendReply = length e.position.last_sent
 response_room e Retransmit = length e.position.last_sent
 response_room e Wait = 0
 response_room e (Close outcome) = 0
-response_room e (Refuse terms reply outcome) = 24
-response_room e (Accept terms) = 24
+response_room e (Refuse terms reply outcome) = MAX_ERROR
+response_room e (Accept terms) = MAX_ERROR
 response_room e Complete = 0
 
 -- the most bytes that go out at an action
 abbrev pub room_of : EndState → Action → ℕ
 room_of e (Respond response) = response_room e response
-room_of e (Send terms number) = 24 + block_length e.role.length terms.size number
-room_of e (Store terms number) = 24
+room_of e (Send terms number) = MAX_ERROR + block_length e.role.length terms.size number
+room_of e (Store terms number) = MAX_ERROR
 
 -- a buffer holds the DATA of a block that came, and nothing where none came
 abbrev pub HoldsData : ℕ → ℕ → List ℕ → List ℕ → Bool → Type 0

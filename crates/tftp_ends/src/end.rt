@@ -20,7 +20,7 @@ use crate::outcome::Outcome;
 use crate::outgoing::Outgoing;
 use crate::phase::{Dally, Phase, Terms};
 use crate::receiver::{dally_response, receiver_action};
-use crate::record::{Held, Record, Step};
+use crate::record::{DEFAULT_INTERVAL, Held, Record, Step};
 use crate::role::Role;
 use crate::sender::sender_action;
 use crate::waiting::{reader_action, writer_action};
@@ -128,12 +128,12 @@ impl End {
     }
 
     /// The seconds that the caller lets pass in silence before a timeout: the agreed ones (RFC
-    /// 2349, "Timeout Interval Option Specification"), or 1.
+    /// 2349, "Timeout Interval Option Specification"), or [`DEFAULT_INTERVAL`].
     pub fn interval(&self) -> u8
         ensures { result ≡ interval_of (terms_of self.now.position.phase) }
     {
         let agreed = self.phase.terms().and_then(|terms| terms.timeout);
-        agreed.unwrap_or(1)
+        agreed.unwrap_or(DEFAULT_INTERVAL)
     }
 
     /// Whether a datagram from there is not from the other end, or, before there is one, not from

@@ -39,6 +39,6 @@ pub use fault::{EndFault, OpenFault};
 pub use outcome::Outcome;
 pub use outgoing::Outgoing;
 pub use phase::{Dally, Phase, Terms};
-pub use record::{Held, Record, Step};
+pub use record::{DEFAULT_INTERVAL, Held, Record, Step};
 pub use reply::MAX_ERROR;
 pub use side::Side;

@@ -1,8 +1,14 @@
 //! What an end reports of itself: where it is in its transfer, and what a call did.
 
+ghost use Rattle.std.specs.Prelude.{◌≡◌};
+ghost use Rattle.tftp_ends.specs.End.{seconds_of};
+
 use crate::endpoint::Endpoint;
 use crate::outcome::Outcome;
 use crate::side::Side;
+
+/// The seconds without progress before a timeout where none are agreed; no RFC gives a default.
+pub const DEFAULT_INTERVAL: u8 = 1;
 
 /// How far an end came.
 #[derive(Clone, Copy, Debug, PartialEq, Eq)]
@@ -21,6 +27,16 @@ pub struct Record {
     pub complete: bool,
     /// How it ended, once it is closed.
     pub outcome: Option<Outcome>,
+}
+
+impl Record {
+    /// The seconds without progress before a timeout: the agreed ones (RFC 2349, "Timeout Interval
+    /// Option Specification"), or [`DEFAULT_INTERVAL`].
+    pub fn interval(&self) -> u8
+        ensures { result ≡ seconds_of self.now.timeout }
+    {
+        self.timeout.unwrap_or(DEFAULT_INTERVAL)
+    }
 }
 
 /// How many bytes an end keeps between two events.

@@ -9,6 +9,7 @@ pub mod Memory
 pub mod FaultSource
 pub mod Stream
 pub mod Decoding
+pub mod Length
 pub mod Lines
 pub mod Path
 pub mod Shared

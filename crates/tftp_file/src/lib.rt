@@ -29,7 +29,7 @@ pub use bytes::Bytes as SharedBytes;
 pub use fault::{FileFault, StoreFault};
 pub use fault_source::FaultSource;
 pub use files::Files;
-pub use length::{MAX_WIRE, wire_length, wire_length_within};
+pub use length::{MAX_WIRE, wire_length, wire_length_up_to, wire_length_within};
 pub use memory::{MemSink, MemSource};
 pub use netascii::{NetDecoder, NetEncoder, NetFault};
 pub use path::{Path, PathFault, path_of};

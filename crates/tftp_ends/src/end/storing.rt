@@ -9,6 +9,7 @@ ghost use Rattle.tftp_ends.specs.Text.{begins_netascii, is_readable};
 ghost use Rattle.tftp_ends.specs.Step.{Turn, Lends, Stores, Appended, commit_reply, lent};
 ghost use Rattle.tftp_ends.specs.End.{is_sender};
 ghost use Rattle.tftp_ends.specs.Fits.{SentFits};
+ghost use Rattle.tftp_ends.specs.declared.reply.TheConstants.{MAX_ERROR};
 
 use crate::end::End;
 use crate::endpoint::Endpoint;
@@ -183,7 +184,7 @@ impl End {
         ensures stores { IfOk result (λ outgoing. (turn : Turn)
             × Stores K.meaning terms number from piece.now self.old sink.old turn sink.new
             × Lends self.old turn self.new (Some from) outgoing) }
-        ensures room { IfOk result (λ outgoing. length (lent outgoing self.new) ≤ 24) }
+        ensures room { IfOk result (λ outgoing. length (lent outgoing self.new) ≤ MAX_ERROR) }
         ensures err { OnErr result ((self.new ≡ self.old)
             × KeepsSink K.meaning sink.old sink.new) }
         ensures same { K.is_same sink.old sink.new }
