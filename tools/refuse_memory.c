@@ -1,7 +1,8 @@
 /* Preloaded before a program: counts its requests for memory, and refuses the one that REFUSED names,
    counted from 1; 0 refuses none. A request counts while a call is made: from a line of standard
-   output that ends in a colon to the next output. At the end it writes how many counted, and how many
-   of them were refused. It is for Linux on x86-64, and needs no headers. */
+   output that ends in a colon to the next output; or, where FROM_OUTPUT is set, always after the
+   first output. At the end it writes how many counted, and how many of them were refused. It is for
+   Linux on x86-64, and needs no headers. */
 
 #define ENOMEM 12
 #define SYS_WRITE 1
@@ -16,12 +17,13 @@ extern char *getenv(const char *name);
 extern long atol(const char *text);
 extern int dprintf(int file, const char *format, ...);
 
-static int counts;
+static int counts, from_output;
 static long counted, refused, wanted;
 
 __attribute__((constructor)) static void begin(void) {
     const char *text = getenv("REFUSED");
     wanted = text ? atol(text) : 0;
+    from_output = getenv("FROM_OUTPUT") != 0;
 }
 
 __attribute__((destructor)) static void end(void) {
@@ -48,7 +50,7 @@ void *realloc(void *old, size_t size) {
 long write(int file, const void *bytes, size_t count) {
     const char *text = bytes;
     if (file == 1)
-        counts = count > 1 && text[count - 2] == ':' && text[count - 1] == '\n';
+        counts = from_output || count > 1 && text[count - 2] == ':' && text[count - 1] == '\n';
     return syscall(SYS_WRITE, file, bytes, count);
 }
 

@@ -3,10 +3,9 @@
 //! Begin with [`tftp_words`].
 #![tactic(auto)]
 
-mod error_keeper;
+mod arguments;
 mod local;
 mod transfer;
 mod udp;
-mod words;
 
-pub use words::{tftp_command, tftp_words};
+pub use arguments::{tftp_command, tftp_words};

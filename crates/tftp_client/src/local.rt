@@ -4,21 +4,17 @@
 ghost use Rattle.std.specs.Prelude.{◌≢◌};
 ghost use Rattle.tftp_file.specs.declared.fault.StoreFault.TheVariants.{Memory};
 
-use crate::error_keeper::ErrorKeeper;
 use std::alloc::Global;
 use std::fs::{self, OpenFile, OpenOptions};
-use std::io::{self, BufReader, BufWriter, ErrorKind, Read, Seek};
+use std::io::{self, BufReader, ErrorKind, Read, Seek};
 use std::os::unix::fs::MetadataExt;
 use std::rt::Files;
-use tftp_file::{Ahead, ReadSource, Sink, StoreFault, WriteSink};
-use tftp_host::{WRITE_BUFFER, length_on_wire, name_fault};
+use tftp_file::{Ahead, MAX_WIRE, ReadSource, Sink, StoreFault};
+use tftp_host::{BlockWriter, ErrorKeeper, length_on_wire, name_fault};
 use tftp_wire::Mode;
 
 /// The bytes that are read into a buffer at once. Blocks of this size and more pass it.
 const READ_BUFFER: usize = 32_768;
-
-/// Blocks of this size and more are written each behind its own acknowledgement.
-const LONG_BLOCK: usize = 16_384;
 
 /// The source of a file that is sent.
 pub(crate) type LocalSource<F> = Ahead<ReadSource<BufReader<ErrorKeeper<F>>>>;
@@ -29,7 +25,7 @@ pub(crate) struct Outbound<F: Read + Drop> {
     pub(crate) source: LocalSource<F>,
     /// The bytes of the file.
     pub(crate) host_bytes: u64,
-    /// The bytes of its text on the wire, or `MAX_WIRE + 1` where they are more.
+    /// The bytes of its text on the wire, or `MAX_WIRE + 1` if there are more.
     pub(crate) wire_bytes: u64,
 }
 
@@ -47,14 +43,14 @@ impl<F: Read + Seek + OpenFile + Drop> Outbound<F> {
         }
         let mut file = fs::open(files, local)?;
         let host_bytes = file.metadata()?.len();
-        let Ok(wire_bytes) = length_on_wire(&mut file, mode, host_bytes) else {
+        let Ok(wire_bytes) = length_on_wire(&mut file, mode, host_bytes, MAX_WIRE) else {
             return Err(io::Error::from(ErrorKind::InvalidData));
         };
         let reader = BufReader::with_capacity(alloc, READ_BUFFER, ErrorKeeper::new(file))?;
         Ok(Outbound {
             source: Ahead::new(alloc, ReadSource::new(reader, mode)),
             host_bytes,
-            wire_bytes,
+            wire_bytes: wire_bytes.unwrap_or(MAX_WIRE + 1),
         })
     }
 }
@@ -71,11 +67,9 @@ pub(crate) fn read_error<F: Read + Drop>(source: LocalSource<F>) -> Option<io::E
 #[derive(Drop)]
 pub(crate) struct LocalFile<R: Files + Drop> {
     files: R,
-    sink: WriteSink<BufWriter<ErrorKeeper<R::File>>>,
+    writer: BlockWriter<R::File>,
     local: String,
     part: String,
-    /// The bytes of the newest block.
-    newest: usize,
     count: u64,
     error: Option<io::Error>,
 }
@@ -93,13 +87,11 @@ impl<R: Files + Drop> LocalFile<R> {
             .write(true)
             .create_new(true)
             .open(&files, part.as_str())?;
-        let writer = BufWriter::with_capacity(alloc, WRITE_BUFFER, ErrorKeeper::new(file))?;
         Ok(LocalFile {
             files,
-            sink: WriteSink::new(writer),
+            writer: BlockWriter::new(alloc, file)?,
             local: String::from_str(alloc, local)?,
             part,
-            newest: 0,
             count: 0,
             error: None,
         })
@@ -124,26 +116,9 @@ impl<R: Files + Drop> LocalFile<R> {
         fault
     }
 
-    /// Records why nothing more could be written, and returns its fault.
-    fn record_written(&mut self) -> StoreFault
-        ensures { result ≢ Memory }
-    {
-        match self.sink.get_ref().get_ref().error() {
-            Some(error) => self.record_error(error),
-            None => self.record_error(io::Error::other("nothing was written")),
-        }
-    }
-
-    /// Whether what is held back is to be written: [`WRITE_BUFFER`] then has room for any block that
-    /// comes.
-    fn is_due(&self) -> bool {
-        let writer = self.sink.get_ref();
-        self.newest >= LONG_BLOCK || writer.buffer().len() > writer.capacity() / 2
-    }
-
     /// Fails where another file than the open one stands under `LOCAL.part`.
     fn check_part(&self) -> io::Result<()> {
-        let opened = self.sink.get_ref().get_ref().get_ref().metadata()?;
+        let opened = self.writer.file().metadata()?;
         let found = fs::symlink_metadata(&self.files, self.part.as_str())?;
         if opened.dev() == found.dev() && opened.ino() == found.ino() {
             Ok(())
@@ -192,26 +167,25 @@ impl<R: Files + Drop> Sink for LocalFile<R> {
     ghost unmoved = { λ _. tt };
 
     fn append(&mut self, bytes: &[u8]) -> Result<(), StoreFault> {
-        match self.sink.append(bytes) {
+        match self.writer.append(bytes) {
             Ok(()) => {
-                self.newest = bytes.len();
                 self.count = self.count.saturating_add(bytes.len() as u64);
                 Ok(())
             }
-            Err(_) => Err(self.record_written()),
+            Err(error) => Err(self.record_error(error)),
         }
     }
 
     /// What cannot be written stays held back, and the next append or the commit tries it again.
     fn write_behind(&mut self) {
-        if self.is_due() {
-            let _ = self.sink.commit();
+        if self.writer.is_due() {
+            let _ = self.writer.flush();
         }
     }
 
     fn commit(&mut self) -> Result<(), StoreFault> {
-        if self.sink.commit().is_err() {
-            return Err(self.record_written());
+        if let Err(error) = self.writer.flush() {
+            return Err(self.record_error(error));
         }
         match self.name() {
             Ok(()) => Ok(()),

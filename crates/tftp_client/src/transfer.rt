@@ -22,7 +22,7 @@ use std::rt::Files as FileSystem;
 use std::time::Clock;
 use tftp_ends::{End, EndConfig, Endpoint, Outcome};
 use tftp_file::{Files, MAX_WIRE};
-use tftp_host::{ClientEnd, fallback};
+use tftp_host::{ClientOutcome, fallback};
 use tftp_negotiate::{Asked, Kind, Limits, MAX_BLOCK};
 use tftp_wire::Mode;
 
@@ -73,7 +73,7 @@ pub(crate) fn transfer<R: FileSystem + Clone + Drop + Udp + Clock + Eprint>(
         Err(failure) => failure,
     };
     match failure.end {
-        ClientEnd::Failed(outcome) if job.falls_back && fallback(outcome, &job.asked) => {
+        ClientOutcome::Failed(outcome) if job.falls_back && fallback(outcome, &job.asked) => {
             let plain = Job {
                 asked: Asked::default(),
                 ..*job
@@ -288,7 +288,7 @@ fn failed<R: FileSystem + Drop>(
         Files::Source(source) => read_error(source),
     };
     Failure {
-        end: ClientEnd::Failed(outcome),
+        end: ClientOutcome::Failed(outcome),
         reason: match error {
             Some(error) => Reason::System(error),
             None => peer,

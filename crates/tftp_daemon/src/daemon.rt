@@ -9,7 +9,7 @@ ghost use Rattle.tftp_server.specs.Config.{IsConfig};
 
 use crate::daemon::report::close_port;
 use crate::daemon::sockets::{REQUESTS, Sockets};
-use crate::daemon::transfer_port::{TransferSocket, Turn, take_datagrams, take_silence};
+use crate::daemon::transfer_port::{PortStatus, TransferSocket, take_datagrams, take_silence};
 use crate::folder::FolderStore;
 use crate::udp::Udp;
 use mio::{Events, Token};
@@ -25,7 +25,7 @@ const MOST_EVENTS: usize = 128;
 
 /// What `tftpd` is told to do.
 #[derive(Clone, Copy)]
-pub(crate) struct Service<'a> {
+pub(crate) struct DaemonConfig<'a> {
     /// The folder whose files are served.
     pub(crate) root: &'a str,
     /// Where requests come to.
@@ -60,7 +60,7 @@ impl Ending {
 
 /// Why `tftpd` did not serve, or stopped.
 #[derive(Clone, Copy)]
-pub(crate) enum ServiceFault {
+pub(crate) enum DaemonFault {
     /// The root is no folder.
     File,
     /// The request port could not be bound.
@@ -71,14 +71,14 @@ pub(crate) enum ServiceFault {
     Memory,
 }
 
-impl From<AllocError> for ServiceFault {
+impl From<AllocError> for DaemonFault {
     ghost use Rattle.std.specs.Prelude.{◌≡◌};
-    ghost use Rattle.tftp_daemon.specs.declared.daemon.ServiceFault.TheVariants as faults;
+    ghost use Rattle.tftp_daemon.specs.declared.daemon.DaemonFault.TheVariants as faults;
 
     ghost from_gives = { λ _ fault. fault ≡ faults.Memory };
 
-    fn from(_error: AllocError) -> ServiceFault {
-        ServiceFault::Memory
+    fn from(_error: AllocError) -> DaemonFault {
+        DaemonFault::Memory
     }
 }
 
@@ -120,8 +120,8 @@ type TransferPort = Port<TransferSocket>;
 pub(crate) fn serve<R: Files + Clone + Drop + Udp + Clock + Print + Eprint>(
     rt: &R,
     alloc: Global,
-    service: &Service<'_>,
-) -> Result<(), ServiceFault>
+    service: &DaemonConfig<'_>,
+) -> Result<(), DaemonFault>
     requires { IsConfig service.now.config }
 {
     match open_server(rt, alloc, service) {
@@ -134,30 +134,23 @@ pub(crate) fn serve<R: Files + Clone + Drop + Udp + Clock + Print + Eprint>(
 fn open_server<R: Files + Clone + Drop>(
     rt: &R,
     alloc: Global,
-    service: &Service<'_>,
-) -> Result<Server<FolderStore<R>>, ServiceFault>
+    service: &DaemonConfig<'_>,
+) -> Result<Server<FolderStore<R>>, DaemonFault>
     requires { IsConfig service.now.config }
 {
     let Ok(files) = rt.clone() else {
-        return Err(ServiceFault::Memory);
+        return Err(DaemonFault::Memory);
     };
     let Ok(mut store) = FolderStore::new(files, alloc, service.root) else {
-        return Err(ServiceFault::File);
+        return Err(DaemonFault::File);
     };
     if service.read_only {
         store.refuse_writes();
     }
-    store.set_longest(longest_text(service.config.limits.max_block));
     match Server::new(alloc, service.config, store) {
         Ok(server) => Ok(server),
-        Err(_) => Err(ServiceFault::Memory),
+        Err(_) => Err(DaemonFault::Memory),
     }
-}
-
-/// The longest text that can be sent in blocks of this size at most: 65,535 blocks, the last of
-/// them one byte short (RFC 1350, section 6).
-fn longest_text(max_block: u16) -> u64 {
-    (u64::from(max_block) * 65_535).saturating_sub(1)
 }
 
 /// Binds the request port, and serves what comes to it.
@@ -165,8 +158,8 @@ fn listen<N: Udp + Clock + Print + Eprint, R: Files + Drop>(
     rt: &N,
     alloc: Global,
     server: Server<FolderStore<R>>,
-    service: &Service<'_>,
-) -> Result<(), ServiceFault> {
+    service: &DaemonConfig<'_>,
+) -> Result<(), DaemonFault> {
     match bind(rt, service.listen) {
         Ok(sockets) => Daemon::new(alloc, server, sockets, service.logs).run(rt, service),
         Err(fault) => Err(fault),
@@ -174,14 +167,14 @@ fn listen<N: Udp + Clock + Print + Eprint, R: Files + Drop>(
 }
 
 /// Binds the request port, and prints where it is.
-fn bind<N: Udp + Clock + Print>(rt: &N, listen: Endpoint) -> Result<Sockets, ServiceFault> {
+fn bind<N: Udp + Clock + Print>(rt: &N, listen: Endpoint) -> Result<Sockets, DaemonFault> {
     let Ok(sockets) = Sockets::bind(rt, listen) else {
-        return Err(ServiceFault::Socket);
+        return Err(DaemonFault::Socket);
     };
     let line = Printed::Listening(sockets.listening);
     match println!(rt; "{line}") {
         Ok(()) => Ok(sockets),
-        Err(_) => Err(ServiceFault::Output),
+        Err(_) => Err(DaemonFault::Output),
     }
 }
 
@@ -208,11 +201,11 @@ impl<R: Files + Drop> Daemon<R> {
     fn run<N: Udp + Clock + Print + Eprint>(
         &mut self,
         rt: &N,
-        service: &Service<'_>,
-    ) -> Result<(), ServiceFault> {
+        service: &DaemonConfig<'_>,
+    ) -> Result<(), DaemonFault> {
         match Room::new(self.alloc) {
             Ok(mut room) => self.take_rounds(rt, service.ending, &mut room),
-            Err(_) => Err(ServiceFault::Memory),
+            Err(_) => Err(DaemonFault::Memory),
         }
     }
 
@@ -222,7 +215,7 @@ impl<R: Files + Drop> Daemon<R> {
         rt: &N,
         ending: Ending,
         room: &mut Room,
-    ) -> Result<(), ServiceFault> {
+    ) -> Result<(), DaemonFault> {
         let mut left = ending.transfers;
         for _ in 0..ending.rounds {
             left = self.take_round(rt, left, room)?;
@@ -241,7 +234,7 @@ impl<R: Files + Drop> Daemon<R> {
         rt: &N,
         left: u64,
         room: &mut Room,
-    ) -> Result<u64, ServiceFault> {
+    ) -> Result<u64, DaemonFault> {
         self.wait(rt, &mut room.events);
         let left = self.take_transfers(rt, left, room.datagram.as_mut_slice())?;
         let left = self.take_requests(
@@ -288,7 +281,7 @@ impl<R: Files + Drop> Daemon<R> {
         rt: &P,
         left: u64,
         buffer: &mut [u8],
-    ) -> Result<u64, ServiceFault> {
+    ) -> Result<u64, DaemonFault> {
         let mut left = left;
         // From the end, since a port that closes gives its place to the last.
         for place in (0..self.ports.len()).rev() {
@@ -300,8 +293,8 @@ impl<R: Files + Drop> Daemon<R> {
             }
             let now = self.sockets.watch.now;
             let turn = take_datagrams(&mut self.server, port, now, buffer);
-            port.is_ready = turn == Turn::Unfinished;
-            if turn == Turn::Closed {
+            port.is_ready = turn == PortStatus::Unfinished;
+            if turn == PortStatus::Closed {
                 self.close(rt, place)?;
                 left = left.saturating_sub(1);
             }
@@ -315,7 +308,7 @@ impl<R: Files + Drop> Daemon<R> {
         rt: &P,
         left: u64,
         buffer: &mut [u8],
-    ) -> Result<u64, ServiceFault> {
+    ) -> Result<u64, DaemonFault> {
         let now = self.sockets.watch.now;
         if wait_for(now, self.ports.as_slice()) > 0 {
             return Ok(left);
@@ -351,16 +344,16 @@ impl<R: Files + Drop> Daemon<R> {
             return false;
         }
         let turn = take_datagrams(&mut self.server, port, now, buffer);
-        port.is_ready = turn == Turn::Unfinished;
+        port.is_ready = turn == PortStatus::Unfinished;
         match turn {
-            Turn::Closed => true,
-            Turn::Onward => false,
-            Turn::Empty | Turn::Unfinished => take_silence(&mut self.server, port, now),
+            PortStatus::Closed => true,
+            PortStatus::Onward => false,
+            PortStatus::Empty | PortStatus::Unfinished => take_silence(&mut self.server, port, now),
         }
     }
 
     /// Takes a closed transfer out of the server, with its port, and prints how it ended.
-    fn close<P: Print + Eprint>(&mut self, rt: &P, place: usize) -> Result<(), ServiceFault> {
+    fn close<P: Print + Eprint>(&mut self, rt: &P, place: usize) -> Result<(), DaemonFault> {
         if place >= self.ports.len() {
             return Ok(());
         }

@@ -12,8 +12,8 @@ use std::fs::{self, Metadata, OpenFile, OpenOptions};
 use std::io::{self, BufReader, ErrorKind};
 use std::os::unix::fs::MetadataExt;
 use std::rt::Files;
-use tftp_file::{Path, ReadSource, StoreFault};
-use tftp_host::{Ahead, Reason, name_fault, open_fault, reason_of, write_fault};
+use tftp_file::{Ahead, MAX_WIRE, Path, ReadSource, StoreFault};
+use tftp_host::{Reason, name_fault, open_fault, reason_of, write_fault};
 use tftp_server::{Opening, Store};
 use tftp_wire::Mode;
 
@@ -322,6 +322,7 @@ impl<R: Files + Drop> Store for FolderStore<R> {
         let Ok(length) = self.lengths.length_of(&mut file, &found, mode) else {
             return Err(StoreFault::Io);
         };
+        let length = length.unwrap_or(MAX_WIRE + 1);
         // A short file has a short buffer.
         let room = length.min(READ_BUFFER as u64) as usize;
         let Ok(reader) = BufReader::with_capacity(alloc, room, file) else {

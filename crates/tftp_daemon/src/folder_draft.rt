@@ -1,15 +1,10 @@
 //! A file that is being written to a folder.
 
-use crate::kept_error::ErrorKeeper;
 use crate::naming::is_same_file;
 use std::alloc::Global;
 use std::fs::{Metadata, OpenFile};
-use std::io::{self, BufWriter, Write};
-use tftp_file::{Sink, WriteSink};
-use tftp_host::WRITE_BUFFER;
-
-/// Blocks of this size and more are written each behind its own acknowledgement.
-const LONG_BLOCK: usize = 16_384;
+use std::io::{self, Write};
+use tftp_host::BlockWriter;
 
 /// The most bytes that are written until they are synced.
 const MOST_UNSYNCED: u64 = 4 << 20;
@@ -21,13 +16,11 @@ const MOST_UNSYNCED: u64 = 4 << 20;
 /// write or to sync, each append and commit is refused.
 #[derive(Drop)]
 pub struct FolderDraft<F: Write + Drop> {
-    sink: WriteSink<BufWriter<ErrorKeeper<F>>>,
+    writer: BlockWriter<F>,
     /// The path of the draft on the system.
     pub(crate) draft: String,
     /// The path that it is to have.
     pub(crate) target: String,
-    /// The bytes of the newest block.
-    newest: usize,
     /// The bytes that were appended since the last sync.
     unsynced: u64,
     /// Why it is refused.
@@ -42,12 +35,11 @@ impl<F: Write + Drop> FolderDraft<F> {
         draft: String,
         target: String,
     ) -> io::Result<FolderDraft<F>> {
-        match BufWriter::with_capacity(alloc, WRITE_BUFFER, ErrorKeeper::new(file)) {
+        match BlockWriter::new(alloc, file) {
             Ok(writer) => Ok(FolderDraft {
-                sink: WriteSink::new(writer),
+                writer,
                 draft,
                 target,
-                newest: 0,
                 unsynced: 0,
                 failure: None,
             }),
@@ -60,17 +52,15 @@ impl<F: Write + Drop> FolderDraft<F> {
         if let Some(error) = self.failure {
             return Err(error);
         }
-        if self.sink.append(bytes).is_err() {
-            return Err(self.fail());
+        if let Err(error) = self.writer.append(bytes) {
+            return Err(self.fail(error));
         }
-        self.newest = bytes.len();
         self.unsynced = self.unsynced.saturating_add(bytes.len() as u64);
         Ok(())
     }
 
-    /// Takes over why its writer failed.
-    fn fail(&mut self) -> io::Error {
-        let error = self.sink.get_ref().get_ref().error();
+    /// Keeps why its writer failed.
+    fn fail(&mut self, error: io::Error) -> io::Error {
         self.failure = Some(error);
         error
     }
@@ -80,24 +70,17 @@ impl<F: Write + Drop> FolderDraft<F> {
         if let Some(error) = self.failure {
             return Err(error);
         }
-        match self.sink.commit() {
+        match self.writer.flush() {
             Ok(()) => Ok(()),
-            Err(_) => Err(self.fail()),
+            Err(error) => Err(self.fail(error)),
         }
-    }
-
-    /// Whether what it holds back is to be written: [`WRITE_BUFFER`] then has room for any block
-    /// that comes.
-    fn is_due(&self) -> bool {
-        let writer = self.sink.get_ref();
-        self.newest >= LONG_BLOCK || writer.buffer().len() > writer.capacity() / 2
     }
 }
 
 impl<F: Write + OpenFile + Drop> FolderDraft<F> {
     /// Writes what it holds back once that is much, and syncs what is written once that is.
     pub(crate) fn write_behind(&mut self) {
-        if self.is_due() && self.flush().is_ok() && self.unsynced >= MOST_UNSYNCED {
+        if self.writer.is_due() && self.flush().is_ok() && self.unsynced >= MOST_UNSYNCED {
             self.sync();
         }
     }
@@ -127,6 +110,6 @@ impl<F: Write + OpenFile + Drop> FolderDraft<F> {
     }
 
     fn file(&self) -> &F {
-        self.sink.get_ref().get_ref().get_ref()
+        self.writer.file()
     }
 }

@@ -3,15 +3,14 @@
 //! Begin with [`tftpd_words`] and [`FolderStore`].
 #![tactic(auto)]
 
+mod arguments;
 mod daemon;
 mod folder;
 mod folder_draft;
-mod kept_error;
 mod naming;
 mod udp;
 mod wire_lengths;
-mod words;
 
+pub use arguments::{tftpd_command, tftpd_words};
 pub use folder::{FolderSource, FolderStore};
 pub use folder_draft::FolderDraft;
-pub use words::{tftpd_command, tftpd_words};

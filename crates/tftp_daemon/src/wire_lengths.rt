@@ -37,10 +37,19 @@ impl Contents {
     }
 }
 
+/// What is known of the length of a text.
+#[derive(Clone, Copy)]
+enum Measured {
+    /// Its bytes.
+    Exactly(u64),
+    /// It has more bytes than these.
+    MoreThan(u64),
+}
+
 /// The lengths that were measured, and the longest text that can be sent.
 #[derive(Drop)]
 pub(crate) struct WireLengths {
-    measured: RefCell<LruCache<Contents, u64>>,
+    measured: RefCell<LruCache<Contents, Measured>>,
     /// The longest text on the wire that can be sent, in bytes.
     longest: u64,
 }
@@ -55,47 +64,50 @@ impl WireLengths {
         })
     }
 
-    /// Tells the longest text that can be sent.
+    /// Sets the longest text that can be sent.
     pub(crate) fn set_longest(&mut self, bytes: u64) {
         self.longest = bytes;
     }
 
-    /// The length of an open file on the wire, or `MAX_WIRE + 1` where it is too long. A wire text
-    /// is never shorter than its file, so what is too long as it is is not read, and what was read
-    /// once is not read again until it changes.
+    /// The length of an open file on the wire, or `None` if it is too long to be sent. A wire text
+    /// is never shorter than its file, so a file that is too long itself is not read, and one that
+    /// was measured is not read again until it changes or more of it can be sent.
     pub(crate) fn length_of<F: Read + Seek>(
         &self,
         file: &mut F,
         found: &Metadata,
         mode: Mode,
-    ) -> Result<u64, FileFault> {
-        if mode == Mode::Octet {
-            return length_on_wire(file, mode, found.len());
-        }
-        if found.len() > self.longest {
-            return Ok(MAX_WIRE + 1);
+    ) -> Result<Option<u64>, FileFault> {
+        if mode == Mode::Octet || found.len() > self.longest {
+            return length_on_wire(file, mode, found.len(), self.longest);
         }
         let contents = Contents::of(found);
-        if let Some(length) = self.recall(contents) {
-            return Ok(length);
+        match self.recall(contents) {
+            Some(Measured::Exactly(length)) => return Ok(Some(length)),
+            Some(Measured::MoreThan(bytes)) if bytes >= self.longest => return Ok(None),
+            _ => {}
         }
-        let measured = length_on_wire(file, mode, found.len());
-        if let Ok(length) = measured {
-            self.remember(contents, length);
-        }
-        measured
+        let length = length_on_wire(file, mode, found.len(), self.longest)?;
+        self.remember(
+            contents,
+            match length {
+                Some(length) => Measured::Exactly(length),
+                None => Measured::MoreThan(self.longest),
+            },
+        );
+        Ok(length)
     }
 
-    /// The length that was measured of these contents.
-    fn recall(&self, contents: Contents) -> Option<u64> {
+    /// What was measured of these contents.
+    fn recall(&self, contents: Contents) -> Option<Measured> {
         match self.measured.try_borrow_mut() {
             Ok(mut measured) => measured.get(&contents).copied(),
             Err(_) => None,
         }
     }
 
-    /// Remembers a length. Out of memory it is measured again.
-    fn remember(&self, contents: Contents, length: u64) {
+    /// Remembers what was measured. Out of memory it is measured again.
+    fn remember(&self, contents: Contents, length: Measured) {
         if let Ok(mut measured) = self.measured.try_borrow_mut() {
             let _ = measured.put(contents, length);
         }

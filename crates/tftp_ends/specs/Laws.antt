@@ -1,12 +1,12 @@
 -- Laws of a receiver's text, whatever the program does.
 use Rattle.std.specs.Prelude.{ℕ, ◌≡◌, List, ◌++◌, true}
-use Rattle.tftp_file.specs.Decoding.{Decodes}
+use Rattle.tftp_file.specs.Decoding.{DecodesPiece}
 use Rattle.tftp_ends.specs.Text.{begins_netascii, ends_in_cr}
 
 -- what stands for bytes of the host, behind what was held back before it, begins a wire text
 abbrev pub DecodedBegins : Type 0
-DecodedBegins = (held piece bytes after : List ℕ) → Decodes held piece bytes after → begins_netascii (held ++ piece) ≡ true
+DecodedBegins = (held piece bytes after : List ℕ) → DecodesPiece held piece bytes after → begins_netascii (held ++ piece) ≡ true
 
 -- it ends in a CR exactly where one is held back behind it
 abbrev pub DecodedEnds : Type 0
-DecodedEnds = (held piece bytes after : List ℕ) → Decodes held piece bytes after → ends_in_cr (held ++ piece) ≡ ends_in_cr after
+DecodedEnds = (held piece bytes after : List ℕ) → DecodesPiece held piece bytes after → ends_in_cr (held ++ piece) ≡ ends_in_cr after

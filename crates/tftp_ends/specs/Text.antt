@@ -2,7 +2,7 @@
 use Rattle.std.specs.Prelude.{ℕ, ◌≡◌, ◌==◌, ◌&&◌, ◌||◌, not, Bool, true, false, if◌then◌else◌, List, [], ◌∷◌, ◌++◌}
 use Rattle.tftp_wire.specs.declared.mode.Mode.{Mode}
 use Rattle.tftp_wire.specs.declared.mode.Mode.TheVariants.{Octet, Netascii}
-use Rattle.tftp_file.specs.Decoding.{Decodes}
+use Rattle.tftp_file.specs.Decoding.{DecodesPiece}
 
 -- each CR is followed by LF or NUL, and each LF follows a CR; a CR at the end awaits its byte
 abbrev pub begins_netascii : List ℕ → Bool
@@ -25,4 +25,4 @@ is_readable Netascii held piece last = begins_netascii (held ++ piece) && not (l
 -- a piece, with what was held back before it, stands for the host's bytes, and leaves this held back
 abbrev pub Decoded : Mode → List ℕ → List ℕ → List ℕ → List ℕ → Type 0
 Decoded Octet held piece bytes after = (bytes ≡ piece) × (after ≡ held)
-Decoded Netascii held piece bytes after = Decodes held piece bytes after
+Decoded Netascii held piece bytes after = DecodesPiece held piece bytes after

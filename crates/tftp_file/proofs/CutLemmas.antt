@@ -4,7 +4,7 @@ use Rattle.std.specs.Prelude.{◌⊎◌}
 use Rattle.std.specs.List.{concat}
 use Rattle.std.proofs.lemmas.List.{append-nil, length-append}
 use Rattle.tftp_file.specs.Netascii.{wire_byte, netascii_text}
-use Rattle.tftp_file.specs.Decoding.{IsHeld, Decodes, IsWrong, FirstWrong, BeginsWireText, TakesAll, RefusesAt}
+use Rattle.tftp_file.specs.Decoding.{IsHeld, DecodesPiece, IsWrong, FirstWrong, BeginsWireText, TakesAll, RefusesAt}
 use Rattle.tftp_file.specs.declared.netascii.NetFault.{NetFault}
 use Rattle.tftp_file.specs.declared.netascii.NetFault.TheVariants.{LoneCr, LoneLf, EndsInCr, Memory}
 use Rattle.tftp_file.proofs.NetasciiLemmas.{Line, Return, Itself, byte_form}
@@ -14,28 +14,28 @@ use Rattle.tftp_file.proofs.DecodingLemmas.{stop_held, stop_lone_cr, stop_lf, on
 joins : (held piece between bytes next : List ℕ) → held ++ piece ≡ netascii_text bytes ++ between → held ++ (piece ++ next) ≡ netascii_text bytes ++ (between ++ next)
 joins held piece between bytes next e = sym (append_assoc held piece next) ∙ (ap (λ (t : List ℕ). t ++ next) e ∙ append_assoc (netascii_text bytes) between next)
 
-decodes_joined : (held piece between next after first rest : List ℕ) → Decodes held piece first between → Decodes between next rest after → Decodes held (piece ++ next) (first ++ rest) after
+decodes_joined : (held piece between next after first rest : List ℕ) → DecodesPiece held piece first between → DecodesPiece between next rest after → DecodesPiece held (piece ++ next) (first ++ rest) after
 decodes_joined held piece between next after first rest d k =
     (k.0, joins held piece between first next d.1 ∙ (ap (λ (t : List ℕ). netascii_text first ++ t) k.1 ∙ front_joins first rest after))
 
 -- a text has one list of bytes, and one rest
-pub once : (held text bytes after others left : List ℕ) → Decodes held text bytes after → Decodes held text others left → (bytes ≡ others) × (after ≡ left)
+pub once : (held text bytes after others left : List ℕ) → DecodesPiece held text bytes after → DecodesPiece held text others left → (bytes ≡ others) × (after ≡ left)
 once held text bytes after others left d k = one_way bytes others after left (stop_held after d.0) (stop_held left k.0) (sym d.1 ∙ k.1)
 
-pub pieces_join : (held : List ℕ) (pieces : List (List ℕ)) (bytes after : List ℕ) → IsHeld held → TakesAll held pieces bytes after → Decodes held (concat pieces) bytes after
+pub pieces_join : (held : List ℕ) (pieces : List (List ℕ)) (bytes after : List ℕ) → IsHeld held → TakesAll held pieces bytes after → DecodesPiece held (concat pieces) bytes after
 pieces_join held [] bytes after h t = (
   subst (λ (l : List ℕ). IsHeld l) (sym t.1) h,
   append-nil held ∙ (sym t.1 ∙ ap (λ (l : List ℕ). netascii_text l ++ after) (sym t.0)),
 )
 pieces_join held (piece ∷ pieces) bytes after h t =
-    subst (λ (l : List ℕ). Decodes held (piece ++ concat pieces) l after) (sym t.5)
+    subst (λ (l : List ℕ). DecodesPiece held (piece ++ concat pieces) l after) (sym t.5)
     (decodes_joined held piece t.1 (concat pieces) after t.0 t.2 t.3 (pieces_join t.1 pieces t.2 after t.3.0 t.4))
 
 -- a text is right where its pieces are
-begins_cut : (held text bytes after : List ℕ) → Decodes held text bytes after → BeginsWireText (held ++ text)
+begins_cut : (held text bytes after : List ℕ) → DecodesPiece held text bytes after → BeginsWireText (held ++ text)
 begins_cut held text bytes after d = (bytes, after, d)
 
-pub whole_taken : (held : List ℕ) (pieces : List (List ℕ)) (bytes after : List ℕ) → IsHeld held → Decodes held (concat pieces) bytes after → TakesAll held pieces bytes after
+pub whole_taken : (held : List ℕ) (pieces : List (List ℕ)) (bytes after : List ℕ) → IsHeld held → DecodesPiece held (concat pieces) bytes after → TakesAll held pieces bytes after
 whole_taken held [] bytes after h d =
     let o = one_way bytes [] after held (stop_held after d.0) (stop_held held h) (sym d.1 ∙ append-nil held) in
     (o.0, o.1)

@@ -4,9 +4,9 @@ use Rattle.std.proofs.lemmas.List.{append-nil, length-append, nil_from_length}
 use Rattle.std.proofs.lemmas.Bool.{cases_eq}
 use Rattle.tftp_file.specs.Netascii.{wire_byte, netascii_text}
 use Rattle.tftp_file.specs.Lines.{EndsAtLine}
-use Rattle.tftp_file.specs.Decoding.{IsHeld, Decodes, IsWrong, Refuses, FirstWrong, BeginsWireText, held_bytes}
-use Rattle.tftp_file.specs.declared.netascii.Held.{Held}
-use Rattle.tftp_file.specs.declared.netascii.Held.TheVariants.{Nothing, CarriageReturn}
+use Rattle.tftp_file.specs.Decoding.{IsHeld, DecodesPiece, IsWrong, Refuses, FirstWrong, BeginsWireText, held_bytes}
+use Rattle.tftp_file.specs.declared.netascii.HeldText.{HeldText}
+use Rattle.tftp_file.specs.declared.netascii.HeldText.TheVariants.{Nothing, CarriageReturn}
 use Rattle.tftp_file.specs.declared.netascii.NetFault.{NetFault}
 use Rattle.tftp_file.specs.declared.netascii.NetFault.TheVariants.{LoneCr, LoneLf, EndsInCr, Memory}
 use Rattle.tftp_file.proofs.NetasciiLemmas.{ByteForm, Line, Return, Itself, byte_form, netascii-append}
@@ -230,25 +230,25 @@ wrong_refuses text EndsInCr h = h.1
 wrong_refuses text Memory h = absurd h.1
 
 -- two readings of one text are the same
-pub decoded_once : (text bytes after more_bytes more_after : List ℕ) → Decodes [] text bytes after → Decodes [] text more_bytes more_after → (bytes ≡ more_bytes) × (after ≡ more_after)
+pub decoded_once : (text bytes after more_bytes more_after : List ℕ) → DecodesPiece [] text bytes after → DecodesPiece [] text more_bytes more_after → (bytes ≡ more_bytes) × (after ≡ more_after)
 decoded_once text bytes after more_bytes more_after h k = one_way bytes more_bytes after more_after (stop_held after h.0) (stop_held more_after k.0) (sym h.1 ∙ k.1)
 
 -- an empty piece changes nothing
-pub held_is : (held : Held) → IsHeld (held_bytes held)
+pub held_is : (held : HeldText) → IsHeld (held_bytes held)
 held_is Nothing = inl refl
 held_is CarriageReturn = inr refl
 
-pub nothing_taken : (held : Held) (before piece : List ℕ) → held_bytes held ≡ before → length piece ≡ 0 → Decodes before piece [] before
+pub nothing_taken : (held : HeldText) (before piece : List ℕ) → held_bytes held ≡ before → length piece ≡ 0 → DecodesPiece before piece [] before
 nothing_taken held before piece e z = (
   subst (λ (t : List ℕ). IsHeld t) e (held_is held),
   ap (λ (t : List ℕ). before ++ t) (nil_from_length piece z) ∙ append-nil before,
 )
 
 -- a piece is the pair that it completes, and then the rest
-pub piece_taken : (held piece first rest bytes after : List ℕ) → held ++ piece ≡ netascii_text first ++ rest → Decodes [] rest bytes after → Decodes held piece (first ++ bytes) after
+pub piece_taken : (held piece first rest bytes after : List ℕ) → held ++ piece ≡ netascii_text first ++ rest → DecodesPiece [] rest bytes after → DecodesPiece held piece (first ++ bytes) after
 piece_taken held piece first rest bytes after e d = (d.0, e ∙ (ap (λ (t : List ℕ). netascii_text first ++ t) d.1 ∙ front_joins first bytes after))
 
-pub piece_begins : (held piece first rest bytes after : List ℕ) → held ++ piece ≡ netascii_text first ++ rest → Decodes [] rest bytes after → BeginsWireText (held ++ piece)
+pub piece_begins : (held piece first rest bytes after : List ℕ) → held ++ piece ≡ netascii_text first ++ rest → DecodesPiece [] rest bytes after → BeginsWireText (held ++ piece)
 piece_begins held piece first rest bytes after e d = (first ++ bytes, after, piece_taken held piece first rest bytes after e d)
 
 pub piece_wrong : (held piece first rest : List ℕ) (fault : NetFault) → held ++ piece ≡ netascii_text first ++ rest → IsWrong rest fault → Refuses (held ++ piece) fault

@@ -2,8 +2,8 @@
 use Rattle.std.specs.Prelude.{◌≡◌, refl, ◌≢◌, ℕ, ◌+◌, ◌<◌, ◌≤◌, ◌⊎◌, List, [], ◌∷◌, ◌++◌, length}
 use Rattle.std.specs.List.{concat}
 use Rattle.tftp_file.specs.Netascii.{netascii_text}
-use Rattle.tftp_file.specs.declared.netascii.Held.{Held}
-use Rattle.tftp_file.specs.declared.netascii.Held.TheVariants.{Nothing, CarriageReturn}
+use Rattle.tftp_file.specs.declared.netascii.HeldText.{HeldText}
+use Rattle.tftp_file.specs.declared.netascii.HeldText.TheVariants.{Nothing, CarriageReturn}
 use Rattle.tftp_file.specs.declared.netascii.NetFault.{NetFault}
 use Rattle.tftp_file.specs.declared.netascii.NetFault.TheVariants.{LoneCr, LoneLf, EndsInCr, Memory}
 
@@ -15,16 +15,16 @@ net_fault_number EndsInCr = 3
 net_fault_number Memory = 4
 
 -- the wire bytes that a decoder keeps between two pieces
-abbrev pub held_bytes : Held → List ℕ
+abbrev pub held_bytes : HeldText → List ℕ
 held_bytes Nothing = []
 held_bytes CarriageReturn = 13 ∷ []
 
 -- and what they stand for
-abbrev pub held_of : List ℕ → Held
+abbrev pub held_of : List ℕ → HeldText
 held_of [] = Nothing
 held_of (b ∷ bytes) = CarriageReturn
 
-pub held_again : (held : Held) → held_of (held_bytes held) ≡ held
+pub held_again : (held : HeldText) → held_of (held_bytes held) ≡ held
 held_again Nothing = refl
 held_again CarriageReturn = refl
 
@@ -33,12 +33,12 @@ abbrev pub IsHeld : List ℕ → Type 0
 IsHeld held = (held ≡ []) ⊎ (held ≡ 13 ∷ [])
 
 -- with what was held back before it, a piece travels as the host's bytes and what is held back after it
-abbrev pub Decodes : List ℕ → List ℕ → List ℕ → List ℕ → Type 0
-Decodes held piece bytes after = IsHeld after × (held ++ piece ≡ netascii_text bytes ++ after)
+abbrev pub DecodesPiece : List ℕ → List ℕ → List ℕ → List ℕ → Type 0
+DecodesPiece held piece bytes after = IsHeld after × (held ++ piece ≡ netascii_text bytes ++ after)
 
 -- some host's bytes as they travel, and a CR at most
 abbrev pub BeginsWireText : List ℕ → Type 0
-BeginsWireText text = (bytes : List ℕ) × (after : List ℕ) × Decodes [] text bytes after
+BeginsWireText text = (bytes : List ℕ) × (after : List ℕ) × DecodesPiece [] text bytes after
 
 -- behind some host's bytes as they travel stands a CR, and behind it, at this place, a byte that is
 -- neither LF nor NUL
@@ -80,7 +80,7 @@ Refuses text Memory = BeginsWireText text
 abbrev pub TakesAll : List ℕ → List (List ℕ) → List ℕ → List ℕ → Type 0
 TakesAll held [] bytes after = (bytes ≡ []) × (after ≡ held)
 TakesAll held (piece ∷ pieces) bytes after = (first : List ℕ) × (between : List ℕ) × (rest : List ℕ)
-    × Decodes held piece first between × TakesAll between pieces rest after × (bytes ≡ first ++ rest)
+    × DecodesPiece held piece first between × TakesAll between pieces rest after × (bytes ≡ first ++ rest)
 
 -- the pieces before one are taken, and that one, which holds this place of the whole, is refused
 pub record RefusesAt (held : List ℕ) (pieces : List (List ℕ)) (at : ℕ) (fault : NetFault) : Type 0 where

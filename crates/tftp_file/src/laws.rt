@@ -8,7 +8,7 @@ ghost use Rattle.tftp_file.specs.declared.netascii.NetFault.{NetFault};
 ghost use Rattle.tftp_file.specs.Netascii.{wire_text};
 ghost use Rattle.tftp_file.specs.Block.{block, block_count, first_blocks, IsBeginningOf};
 ghost use Rattle.tftp_file.specs.Path.{IsPath, path_of_name, without_slash};
-ghost use Rattle.tftp_file.specs.Decoding.{IsHeld, Decodes, BeginsWireText, FirstWrong, TakesAll};
+ghost use Rattle.tftp_file.specs.Decoding.{IsHeld, DecodesPiece, BeginsWireText, FirstWrong, TakesAll};
 ghost use Rattle.tftp_file.specs.Decoding.{RefusesAt};
 
 /// Netascii is decoded in the same way wherever it is cut (RFC 764).
@@ -18,7 +18,7 @@ ghost use Rattle.tftp_file.specs.Decoding.{RefusesAt};
 /// that one gave stands.
 pub fn any_cut()
     ensures joined { (held : List ℕ) (pieces : List (List ℕ)) (bytes after : List ℕ) → IsHeld held
-        → (TakesAll held pieces bytes after ↔ Decodes held (concat pieces) bytes after) }
+        → (TakesAll held pieces bytes after ↔ DecodesPiece held (concat pieces) bytes after) }
     ensures refused { (held : List ℕ) (pieces : List (List ℕ)) (at : ℕ) (fault : NetFault)
         → IsHeld held → FirstWrong (held ++ concat pieces) at fault
         → RefusesAt held pieces at fault }
@@ -34,7 +34,7 @@ pub fn one_reading()
         → FirstWrong text at fault → ⊥ }
     ensures front { (text rest : List ℕ) → BeginsWireText (text ++ rest) → BeginsWireText text }
     ensures decoded_once { (held piece bytes after others left : List ℕ)
-        → Decodes held piece bytes after → Decodes held piece others left
+        → DecodesPiece held piece bytes after → DecodesPiece held piece others left
         → (bytes ≡ others) × (after ≡ left) }
     ensures wrong_once { (text : List ℕ) (at other : ℕ) (fault wrong : NetFault)
         → FirstWrong text at fault → FirstWrong text other wrong

@@ -3,7 +3,7 @@
 ghost use Rattle.std.specs.Prelude.{◌≡◌, ◌≢◌, ◌≤◌, ◌+◌, ◌++◌, ◌↔◌, ◌∷◌, [], ℕ, List, length};
 ghost use Rattle.std.specs.Prelude.{option_to_list, vec_len, vec_capacity, IsOk, IfOk, IfErr};
 ghost use Rattle.std.specs.Prelude.{IsErrOf, OnErr, OnOk, MatchOption};
-ghost use Rattle.tftp_file.specs.Decoding.{net_fault_number, held_bytes, IsHeld, Decodes, Refuses};
+ghost use Rattle.tftp_file.specs.Decoding.{net_fault_number, held_bytes, IsHeld, DecodesPiece, Refuses};
 ghost use Rattle.tftp_file.specs.Decoding.{BeginsWireText, IsWrong};
 ghost use Rattle.tftp_file.specs.Netascii.{netascii_text, wire_byte};
 ghost use Rattle.tftp_file.specs.Lines.{EndsAtLine};
@@ -84,7 +84,7 @@ impl NetEncoder {
 
 /// What a decoder keeps between two pieces.
 #[derive(Clone, Copy, Debug, PartialEq, Eq)]
-enum Held {
+enum HeldText {
     /// Nothing: the text so far ends behind a whole byte or pair.
     Nothing,
     /// The CR that begins a pair.
@@ -97,7 +97,7 @@ enum Held {
 /// second byte is still to come.
 #[derive(Clone, Copy, Debug)]
 pub struct NetDecoder {
-    held: Held,
+    held: HeldText,
 }
 
 impl Model for NetDecoder {
@@ -120,7 +120,7 @@ impl NetDecoder {
         ensures { result ≡ [] }
     {
         NetDecoder {
-            held: Held::Nothing,
+            held: HeldText::Nothing,
         }
     }
 
@@ -130,8 +130,8 @@ impl NetDecoder {
         ensures held { IsHeld self.now }
     {
         match self.held {
-            Held::Nothing => 0,
-            Held::CarriageReturn => 1,
+            HeldText::Nothing => 0,
+            HeldText::CarriageReturn => 1,
         }
     }
 
@@ -141,7 +141,7 @@ impl NetDecoder {
     /// behind a CR, `LoneLf` where an LF has no CR before it (RFC 764). `Memory` comes only where
     /// no byte is wrong. After a refusal the decoder and `out` are unchanged.
     pub fn push(&mut self, piece: &[u8], out: &mut Vec<u8>) -> Result<(), NetFault>
-        ensures ok { OnOk result ((bytes : List ℕ) × Decodes self.old piece.now bytes self.new
+        ensures ok { OnOk result ((bytes : List ℕ) × DecodesPiece self.old piece.now bytes self.new
             × (out.new.items ≡ out.old.items ++ bytes)) }
         ensures refused { IfErr result (λ fault. Refuses (self.old ++ piece.now) fault) }
         ensures err { OnErr result ((self.new ≡ self.old) × (out.new.items ≡ out.old.items)) }
@@ -167,7 +167,7 @@ impl NetDecoder {
     /// It is refused where a push refuses the piece for a wrong byte.
     pub fn behind(&self, piece: &[u8]) -> Result<NetDecoder, NetFault>
         ensures ok { IfOk result (λ decoder. (bytes : List ℕ)
-            × Decodes self.now piece.now bytes decoder) }
+            × DecodesPiece self.now piece.now bytes decoder) }
         ensures refused { IfErr result (λ fault. IsWrong (self.now ++ piece.now) fault) }
     {
         if piece.is_empty() {
@@ -184,8 +184,8 @@ impl NetDecoder {
         ensures ends_in_cr { IsErrOf result EndsInCr ↔ (self.now ≡ 13 ∷ []) }
     {
         match self.held {
-            Held::Nothing => Ok(()),
-            Held::CarriageReturn => Err(NetFault::EndsInCr),
+            HeldText::Nothing => Ok(()),
+            HeldText::CarriageReturn => Err(NetFault::EndsInCr),
         }
     }
 }
@@ -225,7 +225,7 @@ fn pair_byte(second: u8) -> Option<u8>
 /// The host's byte that the held CR and the piece's first byte make, if a CR is held, and the rest
 /// of the piece.
 #[tactic(auto, using(crate::proofs::DecodingLemmas::wrong_pair))]
-fn complete_pair(held: Held, piece: &[u8]) -> Result<(Option<u8>, &[u8]), NetFault>
+fn complete_pair(held: HeldText, piece: &[u8]) -> Result<(Option<u8>, &[u8]), NetFault>
     requires { 1 ≤ length piece.now }
     ensures ok { IfOk result (λ parts. held_bytes held ++ piece.now
         ≡ netascii_text (option_to_list parts.0) ++ parts.1.now) }
@@ -234,7 +234,7 @@ fn complete_pair(held: Held, piece: &[u8]) -> Result<(Option<u8>, &[u8]), NetFau
     ensures wrong { IfErr result (λ fault. IsWrong (held_bytes held ++ piece.now) fault) }
 {
     match (held, piece) {
-        (Held::CarriageReturn, [second, rest @ ..]) => match pair_byte(*second) {
+        (HeldText::CarriageReturn, [second, rest @ ..]) => match pair_byte(*second) {
             Some(byte) => Ok((Some(byte), rest)),
             None => Err(NetFault::LoneCr),
         },
@@ -265,9 +265,9 @@ fn split_pair(text: &[u8]) -> Result<Option<(u8, &[u8])>, NetFault>
 }
 
 /// What is held back at the end of a text that begins a wire text; else its first fault.
-fn check(text: &[u8]) -> Result<Held, NetFault>
+fn check(text: &[u8]) -> Result<HeldText, NetFault>
     ensures ok { IfOk result (λ held. (bytes : List ℕ)
-        × Decodes [] text.now bytes (held_bytes held)) }
+        × DecodesPiece [] text.now bytes (held_bytes held)) }
     ensures wrong { IfErr result (λ fault. IsWrong text.now fault) }
 {
     let mut left = text;
@@ -275,8 +275,8 @@ fn check(text: &[u8]) -> Result<Held, NetFault>
         let (_, rest) = split_run(left);
         match split_pair(rest)? {
             Some((_, behind)) => left = behind,
-            None if rest.is_empty() => return Ok(Held::Nothing),
-            None => return Ok(Held::CarriageReturn),
+            None if rest.is_empty() => return Ok(HeldText::Nothing),
+            None => return Ok(HeldText::CarriageReturn),
         }
     }
 }
@@ -285,7 +285,7 @@ fn check(text: &[u8]) -> Result<Held, NetFault>
 fn append_host(text: &[u8], out: &mut Vec<u8>)
     requires begins { BeginsWireText text.now }
     requires room { vec_len out.old + length text.now ≤ vec_capacity out.old }
-    ensures { (bytes : List ℕ) × (after : List ℕ) × Decodes [] text.now bytes after
+    ensures { (bytes : List ℕ) × (after : List ℕ) × DecodesPiece [] text.now bytes after
         × (out.new.items ≡ out.old.items ++ bytes) }
 {
     let mut left = text;

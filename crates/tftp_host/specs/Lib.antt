@@ -1,5 +1,5 @@
 pub mod Address
-pub mod ClientEnd
+pub mod ClientOutcome
 pub mod DiskFault
 pub mod Fallback
 pub mod LogLine

@@ -5,10 +5,10 @@ use Rattle.tftp_ends.specs.Endpoint.{endpoint_text}
 use Rattle.tftp_ends.specs.Outcome.{outcome_text}
 use Rattle.tftp_ends.specs.declared.endpoint.Endpoint.{Endpoint}
 use Rattle.tftp_host.specs.declared.reason.Reason.{Reason}
-use Rattle.tftp_host.specs.declared.log_line.Lost.{Lost as Want}
-use Rattle.tftp_host.specs.declared.log_line.Lost.TheVariants as wants
-use Rattle.tftp_host.specs.declared.log_line.LogLine.{LogLine}
-use Rattle.tftp_host.specs.declared.log_line.LogLine.TheVariants.{Opened, Refused, Ignored, Lost, Closed}
+use Rattle.tftp_host.specs.declared.server.log_line.Lost.{Lost as Want}
+use Rattle.tftp_host.specs.declared.server.log_line.Lost.TheVariants as wants
+use Rattle.tftp_host.specs.declared.server.log_line.LogLine.{LogLine}
+use Rattle.tftp_host.specs.declared.server.log_line.LogLine.TheVariants.{Opened, Refused, Ignored, Lost, Closed}
 use Rattle.tftp_host.specs.Reason.{reason_text}
 
 -- for want of what a request is lost

@@ -1,7 +1,7 @@
 -- How far a client's transfer came, as a line (own).
 use Rattle.std.specs.Prelude.{ℕ, ◌≤◌, ◌-◌, ◌*◌, ◌/◌, ◌%◌, nat_le, max, if◌then◌else◌, List, ◌++◌, codes, Option, Some, None}
 use Rattle.std.specs.Fmt.{decimal}
-use Rattle.tftp_host.specs.declared.progress_line.ProgressLine.{ProgressLine}
+use Rattle.tftp_host.specs.declared.client.progress_line.ProgressLine.{ProgressLine}
 
 -- a line is due: there is none yet, or the newest one is a tenth of a second old
 abbrev pub IsLineDue : Option ℕ → ℕ → Type 0

@@ -1,32 +1,36 @@
 //! What a file of the disk is on the wire, and which fault an error of the disk is.
 
-ghost use Rattle.std.specs.Prelude.{◌≡◌, ◌≢◌, ◌+◌, ◌<◌, min, Ok};
+ghost use Rattle.std.specs.Prelude.{◌≡◌, ◌≢◌, ◌<◌, ◌≤◌, min, Ok, None, IfOk, IfSome};
+ghost use Rattle.tftp_file.specs.Length.{up_to};
 ghost use Rattle.tftp_wire.specs.declared.mode.Mode.TheVariants.{Octet};
 ghost use Rattle.tftp_file.specs.declared.fault.StoreFault.TheVariants.{Memory};
 ghost use Rattle.tftp_host.specs.DiskFault.{MayNotOpen, MayNotStore, MayNotName};
 
 use std::io::{self, ErrorKind, Read, Seek, SeekFrom};
-use tftp_file::{FileFault, MAX_WIRE, StoreFault, wire_length};
+use tftp_file::{FileFault, MAX_WIRE, StoreFault, wire_length_up_to};
 use tftp_wire::Mode;
 
-/// The length of a file on the wire, or `MAX_WIRE + 1` where it is greater: so many host bytes in
-/// octet, and in netascii what reading it once counts. The file is then at its front again. A wire
-/// text is never shorter than its file, so nothing is read where the file alone is too long.
+/// The length of a file on the wire, in bytes, or `None` where it is greater than `most` or
+/// `MAX_WIRE`: in octet its length, and in netascii what reading it once counts, after which the
+/// file is at its start again. A wire text is never shorter than its file, so nothing is read where
+/// the file alone is too long, and reading stops where the limit is passed.
 pub fn length_on_wire<F: Read + Seek>(
     file: &mut F,
     mode: Mode,
     length: u64,
-) -> Result<u64, FileFault>
-    ensures octet { mode ≡ Octet → result ≡ Ok (min length (MAX_WIRE + 1)) }
-    ensures long { MAX_WIRE < length → result ≡ Ok (MAX_WIRE + 1) }
+    most: u64,
+) -> Result<Option<u64>, FileFault>
+    ensures octet { mode ≡ Octet → result ≡ Ok (up_to (min most MAX_WIRE) length) }
+    ensures long { min most MAX_WIRE < length → result ≡ Ok None }
+    ensures within { IfOk result (λ found. IfSome found (λ count. count ≤ min most MAX_WIRE)) }
 {
-    if length > MAX_WIRE {
-        return Ok(MAX_WIRE + 1);
+    if length > most.min(MAX_WIRE) {
+        return Ok(None);
     }
     match mode {
-        Mode::Octet => Ok(length),
+        Mode::Octet => Ok(Some(length)),
         Mode::Netascii => {
-            let measured = wire_length(&mut *file, mode)?;
+            let measured = wire_length_up_to(&mut *file, mode, most)?;
             match file.seek(SeekFrom::Start(0)) {
                 Ok(_) => Ok(measured),
                 Err(_) => Err(FileFault::Read),

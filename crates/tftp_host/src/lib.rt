@@ -1,30 +1,24 @@
 //! What `tftp` and `tftpd` have of their host beside sockets: files of a disk, addresses, the time,
 //! and the lines that they print.
 //!
-//! Begin with [`Watch`], a program's time, and [`Ahead`], a file that is read a block ahead.
+//! Begin with [`Watch`], a program's time, and [`BlockWriter`], a file that is written block by
+//! block. What one program alone uses is in `client` and `server`.
 #![tactic(auto)]
 
-mod client_end;
+mod address;
+mod block_writer;
+mod client;
 mod disk;
-mod file_work;
-mod log_line;
-mod port;
-mod printed;
-mod progress_line;
+mod error_keeper;
 mod reason;
-mod udp;
+mod server;
 mod watch;
-mod without_options;
 
-pub use client_end::ClientEnd;
+pub use address::{DATAGRAM_BUFFER, address_of, endpoint_in, endpoint_of};
+pub use block_writer::BlockWriter;
+pub use client::{ClientOutcome, LineClock, ProgressLine, fallback};
 pub use disk::{length_on_wire, name_fault, open_fault, write_fault};
-pub use file_work::{FileWork, WRITE_BUFFER};
-pub use log_line::{LogLine, Lost};
-pub use port::{Port, place_of, wait_for};
-pub use printed::Printed;
-pub use progress_line::{LineClock, ProgressLine};
+pub use error_keeper::ErrorKeeper;
 pub use reason::{Reason, reason_of};
-pub use tftp_file::Ahead;
-pub use udp::{DATAGRAM_BUFFER, address_of, endpoint_in, endpoint_of, read_clock};
-pub use watch::{LONGEST_WAIT, Watch, deadline, is_due};
-pub use without_options::fallback;
+pub use server::{LogLine, Lost, Port, Printed, place_of, wait_for};
+pub use watch::{LONGEST_WAIT, Watch, deadline, is_due, read_clock};

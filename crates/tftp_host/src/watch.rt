@@ -3,6 +3,11 @@
 ghost use Rattle.std.specs.Prelude.{◌≡◌, ◌≤◌, ◌↔◌, IsTrue, min};
 ghost use Rattle.tftp_host.specs.Watch.{deadline_of, later_by};
 
+use std::time::Clock;
+
+/// The milliseconds of a second.
+const MILLIS_PER_SECOND: u64 = 1_000;
+
 /// The longest single wait, in milliseconds.
 pub const LONGEST_WAIT: u64 = 1_000;
 
@@ -40,14 +45,13 @@ impl Watch {
     }
 }
 
-/// When a transfer is due whose newest opening, progress or timeout is of now: after the agreed
-/// seconds (RFC 2349, "Timeout Interval Option Specification"), or after one.
-pub fn deadline(now: u64, agreed: Option<u8>) -> u64
-    ensures value { result ≡ deadline_of now agreed }
+/// When a transfer is due whose newest opening, progress or timeout is of now: after these seconds
+/// (RFC 2349, "Timeout Interval Option Specification").
+pub fn deadline(now: u64, seconds: u8) -> u64
+    ensures value { result ≡ deadline_of now seconds }
     ensures later { now ≤ result }
 {
-    let seconds = u64::from(agreed.unwrap_or(1));
-    now.saturating_add(seconds * 1_000)
+    now.saturating_add(u64::from(seconds) * MILLIS_PER_SECOND)
 }
 
 /// Whether a deadline has come.
@@ -55,4 +59,18 @@ pub fn is_due(now: u64, deadline: u64) -> bool
     ensures { IsTrue result ↔ (deadline ≤ now) }
 {
     deadline <= now
+}
+
+/// A reading of the monotonic clock in milliseconds, or the last one where it cannot be read. No
+/// contract says what a clock reads.
+pub fn read_clock(clock: &impl Clock, last: u64) -> u64 {
+    match clock.monotonic() {
+        Ok(time) => {
+            let millis = u64::from(time.subsec_millis());
+            time.as_secs()
+                .saturating_mul(MILLIS_PER_SECOND)
+                .saturating_add(millis)
+        }
+        Err(_) => last,
+    }
 }

@@ -42,8 +42,8 @@ fn length_of<S: Store>(rt: &impl Abort, alloc: Global, store: &S, name: &str) ->
     opening.length
 }
 
-/// A file is read once to be measured, and again once it has changed; one that is too long as it is
-/// is not read.
+/// A file is read once to be measured, and again once it has changed. One that is too long itself
+/// is not read, and one whose text is too long is read again once a longer one can be sent.
 #[test]
 fn a_file_is_measured_once(rt: HostRuntime) {
     let alloc = rt.alloc();
@@ -67,6 +67,22 @@ fn a_file_is_measured_once(rt: HostRuntime) {
     let length = length_of(&rt, alloc, &store, "b");
     expect_equal(&rt, &length, &(MAX_WIRE + 1), "the length of a long file");
     expect_equal(&rt, &calls.count('r'), &0, "the reads of a long file");
+    write_file(&rt, folder, "c", b"\n\n");
+    let length = length_of(&rt, alloc, &store, "c");
+    expect_equal(&rt, &length, &(MAX_WIRE + 1), "the length of a long text");
+    expect(&rt, calls.count('r') > 0, "a long text is read");
+    calls.clear();
+    let length = length_of(&rt, alloc, &store, "c");
+    expect_equal(&rt, &length, &(MAX_WIRE + 1), "the same long text");
+    expect_equal(
+        &rt,
+        &calls.count('r'),
+        &0,
+        "the reads of the same long text",
+    );
+    store.set_longest(4);
+    let length = length_of(&rt, alloc, &store, "c");
+    expect_equal(&rt, &length, &4, "the length of a text that can be sent");
     remove_folder(&rt, folder);
 }
 

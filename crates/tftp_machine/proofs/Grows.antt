@@ -6,7 +6,7 @@ use Rattle.std.proofs.lemmas.Bool.{cases_Bool, cond-true, cond-false}
 use Rattle.std.proofs.lemmas.List.Elements.{Contains-append_cases}
 use Rattle.tftp_machine.specs.Machine.{Endpoint, is_same, Elsewhere, host_of, Packet, Request, Data, Ack, Oack, Error, Message, Party, Machine, with_end}
 use Rattle.tftp_machine.proofs.Endpoints.{cases_same, same_self, same_other}
-use Rattle.tftp_machine.specs.Facts.{Told, IsServing, HasAsked, HasReceived, IsSound, Holds}
+use Rattle.tftp_machine.specs.Facts.{Told, IsServing, HasAsked, HasReceived, IsSoundParty, Holds}
 
 -- an open end x went on to y
 pub record Grows (x y : Party) : Type 0 where
@@ -73,13 +73,13 @@ pub record HasPeer (x y : Party) : Type 0 where
   pub mode : y.mode ≡ x.mode
   pub sender : y.sender ≡ not x.sender
 
-pub peer_of : (ends : Endpoint → Party) (a : Endpoint) (x : Party) → IsSound ends a x → (p : Endpoint) → x.peer ≡ Some p → host_of p ≢ Elsewhere → HasPeer x (ends p)
+pub peer_of : (ends : Endpoint → Party) (a : Endpoint) (x : Party) → IsSoundParty ends a x → (p : Endpoint) → x.peer ≡ Some p → host_of p ≢ Elsewhere → HasPeer x (ends p)
 peer_of ends a x h p e o = elim (cases_Bool x.client) [
   | inl c ↦ let s = (h.serving c p e).1 in record { is_open = s.is_open; client = rw c s.client; mode = s.mode; sender = s.sender }
   | inr c ↦ let s = h.asked c p e o in record { is_open = s.is_open; client = rw c s.client; mode = s.mode; sender = s.sender }
 ]
 
-pub IsSound-grows : (ends new : Endpoint → Party) → AllGrow ends new → (a : Endpoint) (x : Party) → IsSound ends a x → IsSound new a x
+pub IsSound-grows : (ends new : Endpoint → Party) → AllGrow ends new → (a : Endpoint) (x : Party) → IsSoundParty ends a x → IsSoundParty new a x
 IsSound-grows ends new g a x h = record {
   at_home = h.at_home;
   positive = h.positive;
@@ -96,7 +96,7 @@ IsSound-grows ends new g a x h = record {
 -- the end at a went on to x and these messages were added
 pub kept : (m : Machine) (a : Endpoint) (x : Party) (added : List Message) → Holds m →
     ((m.party a).is_open ≡ true → Grows (m.party a) x) →
-    (x.is_open ≡ true → IsSound (with_end m.party a x) a x) →
+    (x.is_open ≡ true → IsSoundParty (with_end m.party a x) a x) →
     ((d : Message) → Contains added d → host_of d.from ≢ Elsewhere → Told (with_end m.party a x d.from) d.to d.packet) →
     Holds (record { sent = m.sent ++ added; party = with_end m.party a x })
 kept m a x added h g s t =
@@ -105,9 +105,9 @@ kept m a x added h g s t =
     record {
       ends = λ q o. elim (cases_same q a) [
         | inl e ↦ let at_a : new q ≡ x = ap new e ∙ with_at m.party a x in
-            subst (λ (z : Endpoint). IsSound new z (new q)) (sym e) (subst (λ (y : Party). IsSound new a y) (sym at_a) (s (subst (λ (y : Party). y.is_open ≡ true) at_a o)))
+            subst (λ (z : Endpoint). IsSoundParty new z (new q)) (sym e) (subst (λ (y : Party). IsSoundParty new a y) (sym at_a) (s (subst (λ (y : Party). y.is_open ≡ true) at_a o)))
         | inr n ↦ let at_q : new q ≡ m.party q = with_other m.party a x q n in
-            subst (λ (y : Party). IsSound new q y) (sym at_q) (IsSound-grows m.party new all q (m.party q) (h.ends q (subst (λ (y : Party). y.is_open ≡ true) at_q o)))
+            subst (λ (y : Party). IsSoundParty new q y) (sym at_q) (IsSound-grows m.party new all q (m.party q) (h.ends q (subst (λ (y : Party). y.is_open ≡ true) at_q o)))
       ];
       told = λ d i o. elim (Contains-append_cases m.sent added d i) [
         | inl old ↦ Told-grows (m.party d.from) (new d.from) (all.grows d.from) d.to d.packet (h.told d old o)

@@ -6,7 +6,7 @@ use Rattle.std.proofs.lemmas.Bool.{true≢false, cases_Bool}
 use Rattle.tftp_file.specs.Block.{block}
 use Rattle.tftp_machine.specs.Machine.{Endpoint, At_server, At_client, Elsewhere, host_of, Data, Message, Party, Machine}
 use Rattle.tftp_machine.specs.Rules.{message, IsNext}
-use Rattle.tftp_machine.specs.Facts.{home, HasReceived, IsSound, Holds}
+use Rattle.tftp_machine.specs.Facts.{home, HasReceived, IsSoundParty, Holds}
 use Rattle.tftp_machine.specs.MachineSafety.{Established}
 use Rattle.tftp_machine.proofs.Grows.{peer_of}
 
@@ -66,12 +66,12 @@ pub record Moves (x y : Party) : Type 0 where
   pub peer : y.peer ≡ x.peer
   pub size : y.size ≡ x.size
 
-pub IsSound-moves : (ends : Endpoint → Party) (a : Endpoint) (x y : Party) → Moves x y → IsSound ends a x →
+pub IsSound-moves : (ends : Endpoint → Party) (a : Endpoint) (x y : Party) → Moves x y → IsSoundParty ends a x →
     (y.peer ≡ None → (y.number ≡ 0) × (y.done ≡ false) × (y.sender ≡ false → y.text ≡ [])) →
     (y.client ≡ false → y.sender ≡ true → y.plain ≡ false → 1 ≤ y.number → (p : Endpoint) → y.peer ≡ Some p → host_of p ≢ Elsewhere → (ends p).peer ≡ Some a) →
     (y.sender ≡ false → (p : Endpoint) → y.peer ≡ Some p → host_of p ≢ Elsewhere → HasReceived y (ends p)) →
     (y.sender ≡ true → y.done ≡ true → (p : Endpoint) → y.peer ≡ Some p → host_of p ≢ Elsewhere → ((ends p).peer ≡ Some a) × ((ends p).done ≡ true)) →
-    IsSound ends a y
+    IsSoundParty ends a y
 IsSound-moves ends a x y v h n b r d = record {
   at_home = rw v.client h.at_home;
   positive = rw v.size h.positive;

@@ -70,7 +70,7 @@ pub record HasReceived (x y : Party) : Type 0 where
   pub room : x.done ≡ false → x.number * x.size ≤ length y.text
 
 -- what holds of the open end x at this endpoint; of a peer at neither host nothing is known
-pub record IsSound (ends : Endpoint → Party) (a : Endpoint) (x : Party) : Type 0 where
+pub record IsSoundParty (ends : Endpoint → Party) (a : Endpoint) (x : Party) : Type 0 where
   -- it is a client's or the server's by its address
   pub at_home : host_of a ≡ home x.client
   pub positive : 0 < x.size
@@ -98,6 +98,6 @@ pub record IsSound (ends : Endpoint → Party) (a : Endpoint) (x : Party) : Type
 
 -- every open end is sound, and what the two hosts sent is true
 pub record Holds (m : Machine) : Type 0 where
-  pub ends : (a : Endpoint) → (m.party a).is_open ≡ true → IsSound m.party a (m.party a)
+  pub ends : (a : Endpoint) → (m.party a).is_open ≡ true → IsSoundParty m.party a (m.party a)
   pub told : (d : Message) → Contains m.sent d → host_of d.from ≢ Elsewhere →
       Told (m.party d.from) d.to d.packet

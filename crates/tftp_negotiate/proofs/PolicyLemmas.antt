@@ -21,7 +21,7 @@ use Rattle.tftp_negotiate.specs.Agreed.{name_of_known, IsAgreeable}
 use Rattle.tftp_negotiate.specs.Asked.{IsAskable, asked_tsize}
 use Rattle.tftp_negotiate.specs.Answer.{answered, answered_option, answered_blksize, answered_timeout, answered_tsize}
 use Rattle.tftp_negotiate.specs.Agreement.{taken, taken_option, taken_blksize, taken_timeout, taken_tsize}
-use Rattle.tftp_negotiate.specs.Policy.{judged, IsSound}
+use Rattle.tftp_negotiate.specs.Policy.{judged, IsSoundPolicy}
 use Rattle.tftp_negotiate.proofs.NegotiationLemmas.{Keeps}
 
 pub block_size_from_test : (n : ℕ) → is_in block_sizes n ≡ true → IsBlockSize n
@@ -123,6 +123,6 @@ taken_option-Keeps asked kind mode limit ok = record {
 }
 
 -- either side keeps options under their names, with values that may be agreed
-pub judged-Keeps : (policy : Policy) → IsSound policy → Keeps (judged policy)
+pub judged-Keeps : (policy : Policy) → IsSoundPolicy policy → Keeps (judged policy)
 judged-Keeps (Server kind mode length limits) ok = answered_option-Keeps kind mode length limits ok
 judged-Keeps (Client asked kind mode limit) ok = taken_option-Keeps asked kind mode limit ok

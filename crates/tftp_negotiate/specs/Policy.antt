@@ -16,6 +16,6 @@ judged (Server kind mode length limits) = answered_option kind mode length limit
 judged (Client asked kind mode limit) = taken_option asked kind mode limit
 
 -- the block sizes of a policy are in their range
-abbrev pub IsSound : Policy → Type 0
-IsSound (Server kind mode length limits) = IsBlockSize limits.max_block
-IsSound (Client asked kind mode limit) = IsAskable asked
+abbrev pub IsSoundPolicy : Policy → Type 0
+IsSoundPolicy (Server kind mode length limits) = IsBlockSize limits.max_block
+IsSoundPolicy (Client asked kind mode limit) = IsAskable asked

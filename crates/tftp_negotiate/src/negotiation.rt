@@ -7,7 +7,7 @@ ghost use Rattle.tftp_wire.specs.Borrowed.{owned_option};
 ghost use Rattle.tftp_wire.specs.declared.options.RawOption.{RawOption};
 ghost use Rattle.tftp_negotiate.specs.Agreed.{IsAgreement};
 ghost use Rattle.tftp_negotiate.specs.Negotiation.{negotiated, kept_after};
-ghost use Rattle.tftp_negotiate.specs.Policy.{judged, IsSound};
+ghost use Rattle.tftp_negotiate.specs.Policy.{judged, IsSoundPolicy};
 
 use crate::agreed::Agreed;
 use crate::known::Known;
@@ -23,7 +23,7 @@ pub(crate) fn negotiate<'a, I: Iterator<Item = OptionRef<'a>> + Drop>(
 ) -> Result<Agreed, Refusal>
     requires can { I.can_next options }
     requires ends { IsFinite (I.remaining options) }
-    requires sound { IsSound policy.now }
+    requires sound { IsSoundPolicy policy.now }
     ensures agreed { (os : List RawOption) → AlwaysYields I.next_gives owned_option options os
         → result ≡ negotiated (judged policy.now) os }
     ensures rule { IfOk result IsAgreement }
@@ -41,7 +41,7 @@ pub(crate) fn negotiate<'a, I: Iterator<Item = OptionRef<'a>> + Drop>(
 
 /// As [`negotiate`], of options that are owned.
 pub(crate) fn negotiate_slice(options: &[RawOption], policy: &Policy) -> Result<Agreed, Refusal>
-    requires { IsSound policy.now }
+    requires { IsSoundPolicy policy.now }
     ensures agreed { result ≡ negotiated (judged policy.now) options.now }
     ensures rule { IfOk result IsAgreement }
 {

@@ -12,7 +12,7 @@ use Rattle.tftp_file.specs.Netascii.{wire_text}
 use Rattle.tftp_ends.specs.declared.phase.Phase.{Phase}
 use Rattle.tftp_ends.specs.declared.phase.Phase.TheVariants.{Waiting, Sending, Receiving, Dallying, Closed}
 use Rattle.tftp_ends.specs.End.{is_sender, is_client, is_complete}
-use Rattle.tftp_machine.specs.Facts.{home, IsSound}
+use Rattle.tftp_machine.specs.Facts.{home, IsSoundParty}
 use Rattle.tftp_machine.specs.Machine.{Endpoint, At_server, At_client, Elsewhere, host_of, is_same_ip, server_ip, client_ip}
 use Rattle.tftp_machine.specs.Shows.{EndView, Matches}
 use Rattle.tftp_machine.specs.ViewSafety.{IsAmong, IsSafeViews}
@@ -100,7 +100,7 @@ module _ (strangers : Bool) (w : WorldState) (ok : IsOk strangers w) where
   matched : (k : ℕ) (x : WorldEnd) → slice_get w.ends k ≡ Some x → Matches (view_of_end x) ((shown_by (map view_of_end w.ends) ok.messages ok.shown).0.party (end_address x))
   matched k x i = ((shown_by (map view_of_end w.ends) ok.messages ok.shown).3.ends k (view_of_end x) (view_at w.ends k x i)).0
 
-  sound : (k : ℕ) (x : WorldEnd) → slice_get w.ends k ≡ Some x → IsSound (shown_by (map view_of_end w.ends) ok.messages ok.shown).0.party (end_address x) ((shown_by (map view_of_end w.ends) ok.messages ok.shown).0.party (end_address x))
+  sound : (k : ℕ) (x : WorldEnd) → slice_get w.ends k ≡ Some x → IsSoundParty (shown_by (map view_of_end w.ends) ok.messages ok.shown).0.party (end_address x) ((shown_by (map view_of_end w.ends) ok.messages ok.shown).0.party (end_address x))
   sound k x i = (shown_by (map view_of_end w.ends) ok.messages ok.shown).1.ends (end_address x) (matched k x i).is_open
 
   pub ok_safe : IsSafe w

@@ -11,7 +11,7 @@ use Rattle.tftp_ends.specs.Files.{AreFilesOf, AreSame}
 use Rattle.tftp_ends.specs.Step.{Turn, after_turn, timeout_turn}
 use Rattle.tftp_server.specs.Draft.{files_in, KeepsStore}
 use Rattle.tftp_store.specs.Memory.{memory_meaning, with_told}
-use Rattle.tftp_server.specs.State.{Held, ServerState, at, draft_of, with_next, without}
+use Rattle.tftp_server.specs.State.{HeldTransfer, ServerState, at, draft_of, with_next, without}
 use Rattle.tftp_server.specs.State as server
 use Rattle.tftp_server.specs.Steps.{StepIn, with_end}
 use Rattle.tftp_store.specs.Store.{Stored, Drafted}
@@ -26,7 +26,7 @@ abbrev pub PlayedServer : Type 0
 PlayedServer = ServerState Stored (List ℕ) Drafted
 
 abbrev pub Transfer : Type 0
-Transfer = Held (List ℕ) Drafted
+Transfer = HeldTransfer (List ℕ) Drafted
 
 -- the server, with its store told to refuse or not
 abbrev pub server_told : PlayedServer → Bool → PlayedServer

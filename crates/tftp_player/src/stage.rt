@@ -1,6 +1,6 @@
 //! The server and the clients of a world, and the network between them.
 
-mod arriving;
+mod delivery;
 mod opening;
 
 ghost use Rattle.std.specs.Prelude.{◌≡◌, ◌+◌, [], true, length, option_map, IfOk, IfErr, OnErr};

@@ -5,7 +5,7 @@ use std::fmt::Display;
 use std::process::Abort;
 use std::test::Fail;
 use tftp_ends::{Endpoint, OpenFault, Outcome};
-use tftp_host::{ClientEnd, LineClock, LogLine, Lost, Printed, ProgressLine, Reason};
+use tftp_host::{ClientOutcome, LineClock, LogLine, Lost, Printed, ProgressLine, Reason};
 
 /// A value prints this.
 fn prints<R: AllocGlobal + Abort, D: Display>(rt: &R, value: &D, wanted: &str) -> Result<(), Fail> {
@@ -17,29 +17,29 @@ fn prints<R: AllocGlobal + Abort, D: Display>(rt: &R, value: &D, wanted: &str) -
 /// How `tftp` ends: 0 for a complete transfer, 1 for one that failed, and 2 where none was opened.
 #[test]
 fn client_ends(rt: HostRuntime) -> Result<(), Fail> {
-    prints(&rt, &ClientEnd::Complete(3), "complete 3")?;
+    prints(&rt, &ClientOutcome::Complete(3), "complete 3")?;
     prints(
         &rt,
-        &ClientEnd::Failed(Outcome::PeerError(1)),
+        &ClientOutcome::Failed(Outcome::PeerError(1)),
         "tftp: PeerError(1)",
     )?;
-    prints(&rt, &ClientEnd::FileFault, "tftp: file fault")?;
-    prints(&rt, &ClientEnd::SocketFault, "tftp: socket fault")?;
+    prints(&rt, &ClientOutcome::FileFault, "tftp: file fault")?;
+    prints(&rt, &ClientOutcome::SocketFault, "tftp: socket fault")?;
     prints(
         &rt,
-        &ClientEnd::NotOpened(OpenFault::BadRequest),
+        &ClientOutcome::NotOpened(OpenFault::BadRequest),
         "tftp: BadRequest",
     )?;
-    expect_equal(&rt, &ClientEnd::Complete(0).status(), &0, "complete");
+    expect_equal(&rt, &ClientOutcome::Complete(0).status(), &0, "complete");
     expect_equal(
         &rt,
-        &ClientEnd::Failed(Outcome::TimedOut).status(),
+        &ClientOutcome::Failed(Outcome::TimedOut).status(),
         &1,
         "silence",
     );
     expect_equal(
         &rt,
-        &ClientEnd::NotOpened(OpenFault::TooLarge).status(),
+        &ClientOutcome::NotOpened(OpenFault::TooLarge).status(),
         &2,
         "not opened",
     );

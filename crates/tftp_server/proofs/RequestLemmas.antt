@@ -31,13 +31,13 @@ use Rattle.std.proofs.lemmas.List.{append-nil}
 use Rattle.tftp_server.specs.declared.config.Config.{Config}
 use Rattle.tftp_server.specs.declared.fault.ServerFault.{ServerFault}
 use Rattle.tftp_server.specs.declared.opened.Opened.{Opened}
-use Rattle.tftp_server.specs.declared.server.request.Asked.{Asked}
+use Rattle.tftp_server.specs.declared.server.request.PortAction.{PortAction}
 use Rattle.tftp_server.specs.declared.server.request.Decision.{Decision}
 use Rattle.tftp_server.specs.declared.server.request.Decision.TheVariants.{Refuse, Open}
 use Rattle.tftp_store.specs.declared.store.Opening.{Opening}
 use Rattle.tftp_server.specs.Port.{Ask, Ignores, Refuses, asks, by_packet, by_repeat, by_name, by_options, by_kind, by_file, begin_reply}
 use Rattle.tftp_server.specs.Request.{Acts, Admits, CarriesOut, Came, Nothing, An_error, A_transfer, IsRequest, AsksToRead, AsksToWrite, Goes, RequestStep, Sent, Left, ask_of, came_to, decided_bytes, left_by}
-use Rattle.tftp_server.specs.State.{Held, ServerState, IsRepeated, with_new}
+use Rattle.tftp_server.specs.State.{HeldTransfer, ServerState, IsRepeated, with_new}
 use Rattle.tftp_store.specs.Store.{StoreMeaning, Opens, Begins}
 
 -- what was appended is cut off again
@@ -121,7 +121,7 @@ module _ {S F D : Type 0} (old : ServerState S F D) (from : Endpoint) (bytes : L
             ∙ asks_named old.config.cap (length old.held) old.config.limits bytes (Some (kind, request)) decoded repeated test is);
       }
 
-  pub asked_by_name : {E : Type 0} (kind : Kind) (request : Request) (decoded : Option Packet) (repeated : Bool) (r : Result Asked E) → has_error_opcode bytes ≡ false → Decodes bytes decoded → IsRequest decoded (Some (kind, request)) →
+  pub asked_by_name : {E : Type 0} (kind : Kind) (request : Request) (decoded : Option Packet) (repeated : Bool) (r : Result PortAction E) → has_error_opcode bytes ≡ false → Decodes bytes decoded → IsRequest decoded (Some (kind, request)) →
       IsRepeated repeated from decoded old.held → repeated ≡ false →
       IfOk r (λ asked. ask_of asked ≡ named_now kind request) → IfOk r (λ asked. Admits old from bytes (ask_of asked))
   asked_by_name kind request decoded repeated (Ok asked) test says is repeats new h = admits_named kind request decoded repeated (ask_of asked) test says is repeats new h
@@ -148,14 +148,14 @@ module _ {S F D : Type 0} (meaning : StoreMeaning S D) (sources : SourceMeaning 
   asks_to_read path mode options file (Err e) o h = tt
 
   -- a draft was begun
-  pub asks_to_write : (path : List ℕ) (mode : Mode) (agreed : List Known) (store : S) (draft : D) (end : EndState) (request : List ℕ) (held : Held F D) → Begins meaning.drafted (meaning.stored old.store) (meaning.stored store) path old.config.overwrite (Ok draft) →
+  pub asks_to_write : (path : List ℕ) (mode : Mode) (agreed : List Known) (store : S) (draft : D) (end : EndState) (request : List ℕ) (held : HeldTransfer F D) → Begins meaning.drafted (meaning.stored old.store) (meaning.stored store) path old.config.overwrite (Ok draft) →
       meaning.begun old.store store None →
       end ≡ serving_write agreed from mode old.config.retries → request ≡ bytes →
       held ≡ record { end = end; files = Sink draft; path = path; request = request } →
       AsksToWrite meaning sources old from bytes path mode agreed (A_transfer held store)
   asks_to_write path mode agreed store draft end request held begins begun opens copies is =
       let held-is : held ≡ record { end = serving_write agreed from mode old.config.retries; files = Sink draft; path = path; request = bytes } = rw (← opens, ← copies) is in
-      record { store = store; draft = Ok draft; begins = begins; refused = tt; begun = begun; memory = λ e. cc; goes_on = ap (λ (h : Held F D). A_transfer h store) held-is }
+      record { store = store; draft = Ok draft; begins = begins; refused = tt; begun = begun; memory = λ e. cc; goes_on = ap (λ (h : HeldTransfer F D). A_transfer h store) held-is }
 
   -- or none was, which is answered by an ERROR
   pub refused_to_write : {E : Type 0} (path : List ℕ) (mode : Mode) (agreed : List Known) (store : S) (fault : StoreFault) (r : Result (Decision F D) E) → Begins {K = D} meaning.drafted (meaning.stored old.store) (meaning.stored store) path old.config.overwrite (Err fault) →
@@ -224,12 +224,12 @@ module _ {S F D : Type 0} (meaning : StoreMeaning S D) (sources : SourceMeaning 
   requested tid ask before after new (Err fault) admits h = tt
 
 -- ---- a write, whose table has made room first
-module _ {S F D : Type 0} (meaning : StoreMeaning S D) (sources : SourceMeaning F) (config : Config) (store : S) (held none : List (ℕ × Held F D)) (from : Endpoint) (bytes : List ℕ) (path : List ℕ) (mode : Mode) (agreed : List Known) (after : ServerState S F D)
-    (config' : Config) (store' : S) (others : List (ℕ × Held F D)) (table : List (ℕ × Held F D)) where
-  abbrev before_write : List (ℕ × Held F D) → ServerState S F D
+module _ {S F D : Type 0} (meaning : StoreMeaning S D) (sources : SourceMeaning F) (config : Config) (store : S) (held none : List (ℕ × HeldTransfer F D)) (from : Endpoint) (bytes : List ℕ) (path : List ℕ) (mode : Mode) (agreed : List Known) (after : ServerState S F D)
+    (config' : Config) (store' : S) (others : List (ℕ × HeldTransfer F D)) (table : List (ℕ × HeldTransfer F D)) where
+  abbrev before_write : List (ℕ × HeldTransfer F D) → ServerState S F D
   before_write transfers = record { config = config; store = store; held = transfers }
 
-  abbrev after_write : List (ℕ × Held F D) → ServerState S F D
+  abbrev after_write : List (ℕ × HeldTransfer F D) → ServerState S F D
   after_write transfers = record { config = config'; store = store'; held = transfers }
 
   module _ (seen : after_write others ≡ after) (rest : after ≡ record (before_write none) { store = after.store }) where
@@ -248,7 +248,7 @@ module _ {S F D : Type 0} (meaning : StoreMeaning S D) (sources : SourceMeaning 
         (came : Came S F D) × (sent : List ℕ) × AsksToWrite meaning sources (before_write held) from bytes path mode agreed came
         × (out ≡ was ++ sent) × (record { new = after_write table; opened = opened; sent = sent } ≡ left_by came (before_write held) from tid)
 
-    pub write_opened : (tid : ℕ) (was out : List ℕ) (d : Decision F D) (transfer : Held F D) → d ≡ Open transfer → table ≡ with_new tid transfer held → AsksToWrite meaning sources (before_write none) from bytes path mode agreed (came_to d after.store) → out ≡ was ++ decided_bytes d →
+    pub write_opened : (tid : ℕ) (was out : List ℕ) (d : Decision F D) (transfer : HeldTransfer F D) → d ≡ Open transfer → table ≡ with_new tid transfer held → AsksToWrite meaning sources (before_write none) from bytes path mode agreed (came_to d after.store) → out ≡ was ++ decided_bytes d →
         Written tid was out (record { tid = Some tid; to = Some from })
     write_opened tid was out d transfer is put asks sent = (
       A_transfer transfer after.store,

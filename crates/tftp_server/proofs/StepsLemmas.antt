@@ -25,7 +25,7 @@ use Rattle.tftp_server.specs.declared.fault.ServerFault.TheVariants as faults
 use Rattle.tftp_server.specs.declared.config.Config.{Config}
 use Rattle.tftp_server.specs.Draft.{Drafting, drafting_sink}
 use Rattle.tftp_server.specs.Fault.{of_end}
-use Rattle.tftp_server.specs.State.{Held, ServerState, is_closed, at, with_next}
+use Rattle.tftp_server.specs.State.{HeldTransfer, ServerState, is_closed, at, with_next}
 use Rattle.tftp_server.specs.Steps.{Gives, MakesStep, StepIn, TakesBy, TakesDatagramBy, TimesOutBy, StaysAs, KeepsHeld, TimeoutFault, DatagramFaultBy, with_end}
 use Rattle.tftp_server.specs.Work.{Works, WorksAt}
 use Rattle.tftp_store.specs.Store.{StoreMeaning}
@@ -108,34 +108,34 @@ different : {R : Type 0} (fault : EndFault) → fault ≡ ends.Memory → IsErrO
 different {R = R} fault memory e = let both : IsErrOf {T = R} (Err ends.Memory) ends.Closed = subst (λ (f : EndFault). IsErrOf {T = R} (Err f) ends.Closed) memory e in cc
 
 module _ {F D : Type 0} where
-  open_unless_closed : {R : Type 0} (held : Held F D) (fault : EndFault) → (IsErrOf {T = R} (Err fault) ends.Closed ↔ (is_closed held ≡ true)) → fault ≡ ends.Memory → is_closed held ≡ false
+  open_unless_closed : {R : Type 0} (held : HeldTransfer F D) (fault : EndFault) → (IsErrOf {T = R} (Err fault) ends.Closed ↔ (is_closed held ≡ true)) → fault ≡ ends.Memory → is_closed held ≡ false
   open_unless_closed {R = R} held fault closed memory = by (is_closed held) refl
     where
       by : (b : Bool) → is_closed held ≡ b → b ≡ false
       by true h = absurd (different {R = R} fault memory (closed.1 h))
       by false h = refl
 
-  pub timeout_fault : (transfer : Option (Held F D)) (held : Held F D) (fault : EndFault) (server : ServerFault) → transfer ≡ Some held → server ≡ of_end fault → (IsErrOf {T = Step} (Err fault) ends.Closed ↔ (is_closed held ≡ true)) → (IsErrOf {T = Step} (Err fault) ends.Memory → IsAnswered (timeout_action held.end.position.retries_left held.end.position.phase)) → TimeoutFault transfer server
+  pub timeout_fault : (transfer : Option (HeldTransfer F D)) (held : HeldTransfer F D) (fault : EndFault) (server : ServerFault) → transfer ≡ Some held → server ≡ of_end fault → (IsErrOf {T = Step} (Err fault) ends.Closed ↔ (is_closed held ≡ true)) → (IsErrOf {T = Step} (Err fault) ends.Memory → IsAnswered (timeout_action held.end.position.retries_left held.end.position.phase)) → TimeoutFault transfer server
   timeout_fault transfer held fault server there same closed memory =
-      subst (λ (t : Option (Held F D)). TimeoutFault t server) (sym there) (subst (λ (f : ServerFault). TimeoutFault (Some held) f) (sym same) (by fault closed memory))
+      subst (λ (t : Option (HeldTransfer F D)). TimeoutFault t server) (sym there) (subst (λ (f : ServerFault). TimeoutFault (Some held) f) (sym same) (by fault closed memory))
     where
       by : (f : EndFault) → (IsErrOf {T = Step} (Err f) ends.Closed ↔ (is_closed held ≡ true)) → (IsErrOf {T = Step} (Err f) ends.Memory → IsAnswered (timeout_action held.end.position.retries_left held.end.position.phase)) → TimeoutFault (Some held) (of_end f)
       by ends.Closed c m = ap not (c.0 refl)
       by ends.Memory c m = (open_unless_closed {R = Step} held ends.Memory c refl, m refl)
 
-  pub datagram_fault : {R : Type 0} (kind : Action → Type 0) (from : Endpoint) (bytes : List ℕ) (transfer : Option (Held F D)) (held : Held F D) (fault : EndFault) (server : ServerFault) → transfer ≡ Some held → server ≡ of_end fault → (IsErrOf {T = R} (Err fault) ends.Closed ↔ (is_closed held ≡ true)) → (IsErrOf {T = R} (Err fault) ends.Memory → (decoded : Option Packet) × Decodes bytes decoded × kind (datagram_action held.end from bytes decoded)) → DatagramFaultBy kind from bytes transfer server
+  pub datagram_fault : {R : Type 0} (kind : Action → Type 0) (from : Endpoint) (bytes : List ℕ) (transfer : Option (HeldTransfer F D)) (held : HeldTransfer F D) (fault : EndFault) (server : ServerFault) → transfer ≡ Some held → server ≡ of_end fault → (IsErrOf {T = R} (Err fault) ends.Closed ↔ (is_closed held ≡ true)) → (IsErrOf {T = R} (Err fault) ends.Memory → (decoded : Option Packet) × Decodes bytes decoded × kind (datagram_action held.end from bytes decoded)) → DatagramFaultBy kind from bytes transfer server
   datagram_fault {R = R} kind from bytes transfer held fault server there same closed memory =
-      subst (λ (t : Option (Held F D)). DatagramFaultBy kind from bytes t server) (sym there) (subst (λ (f : ServerFault). DatagramFaultBy kind from bytes (Some held) f) (sym same) (by fault closed memory))
+      subst (λ (t : Option (HeldTransfer F D)). DatagramFaultBy kind from bytes t server) (sym there) (subst (λ (f : ServerFault). DatagramFaultBy kind from bytes (Some held) f) (sym same) (by fault closed memory))
     where
       by : (f : EndFault) → (IsErrOf {T = R} (Err f) ends.Closed ↔ (is_closed held ≡ true)) → (IsErrOf {T = R} (Err f) ends.Memory → (decoded : Option Packet) × Decodes bytes decoded × kind (datagram_action held.end from bytes decoded)) → DatagramFaultBy kind from bytes (Some held) (of_end f)
       by ends.Closed c m = ap not (c.0 refl)
       by ends.Memory c m = let said = m refl in (open_unless_closed {R = R} held ends.Memory c refl, said.0, said.1, said.2)
 
   -- ---- what is written back to the transfers
-  pub found_now : (tid : ℕ) (table now : List (ℕ × Held F D)) (transfer : Held F D) → table ≡ now → Some transfer ≡ at tid table → at tid now ≡ Some transfer
+  pub found_now : (tid : ℕ) (table now : List (ℕ × HeldTransfer F D)) (transfer : HeldTransfer F D) → table ≡ now → Some transfer ≡ at tid table → at tid now ≡ Some transfer
   found_now tid table now transfer same found = ap (at tid) (sym same) ∙ sym found
 
-  pub times_out : (gives : Gives) (tid : ℕ) (table now : List (ℕ × Held F D)) (transfer next : Held F D) (step : Step) → table ≡ now → Some transfer ≡ at tid table → gives transfer.end (timeout_turn transfer.end) next.end step.to × (step ≡ told transfer.end (timeout_turn transfer.end)) × (next ≡ with_end next.end transfer) → TimesOutBy gives tid now (with_next tid next table) step
+  pub times_out : (gives : Gives) (tid : ℕ) (table now : List (ℕ × HeldTransfer F D)) (transfer next : HeldTransfer F D) (step : Step) → table ≡ now → Some transfer ≡ at tid table → gives transfer.end (timeout_turn transfer.end) next.end step.to × (step ≡ told transfer.end (timeout_turn transfer.end)) × (next ≡ with_end next.end transfer) → TimesOutBy gives tid now (with_next tid next table) step
   times_out gives tid table now transfer next step same found h =
       record {
         transfer = transfer;
@@ -143,28 +143,28 @@ module _ {F D : Type 0} where
         end = next.end;
         carries = h.0;
         tells = h.1;
-        held = ap (λ (t : Held F D). with_next tid t table) h.2 ∙ ap (with_next tid (with_end next.end transfer)) same;
+        held = ap (λ (t : HeldTransfer F D). with_next tid t table) h.2 ∙ ap (with_next tid (with_end next.end transfer)) same;
       }
 
   -- a transfer that is written back as it was changes nothing
-  pub nothing_written : (tid : ℕ) (table : List (ℕ × Held F D)) (transfer next : Held F D) → Some transfer ≡ at tid table → next ≡ transfer → with_next tid next table ≡ table
-  nothing_written tid table transfer next found same = ap (λ (t : Held F D). with_next tid t table) same ∙ set_value_same (is_at (nat_cmp tid)) table transfer (sym found)
+  pub nothing_written : (tid : ℕ) (table : List (ℕ × HeldTransfer F D)) (transfer next : HeldTransfer F D) → Some transfer ≡ at tid table → next ≡ transfer → with_next tid next table ≡ table
+  nothing_written tid table transfer next found same = ap (λ (t : HeldTransfer F D). with_next tid t table) same ∙ set_value_same (is_at (nat_cmp tid)) table transfer (sym found)
 
 of_closed : (fault : EndFault) → of_end fault ≡ faults.NoSuchTid → fault ≡ ends.Closed
 of_closed ends.Closed e = refl
 of_closed ends.Memory e = absurd (cc)
 
 -- a datagram that comes to a closed transfer changes nothing of the server
-pub leaves_unmoved : {S F D R Q : Type 0} (config : Config) (store store' : S) (tid : ℕ) (table : List (ℕ × Held F D)) (transfer next : Held F D) (fault : EndFault) (server : ServerFault) → Some transfer ≡ at tid table → server ≡ of_end fault →
+pub leaves_unmoved : {S F D R Q : Type 0} (config : Config) (store store' : S) (tid : ℕ) (table : List (ℕ × HeldTransfer F D)) (transfer next : HeldTransfer F D) (fault : EndFault) (server : ServerFault) → Some transfer ≡ at tid table → server ≡ of_end fault →
     (IsErrOf {T = R} (Err fault) ends.Closed → (next ≡ transfer) × (store' ≡ store)) → IsErrOf {T = Q} (Err server) faults.NoSuchTid →
     ◌≡◌ {A = ServerState S F D} (record { config = config; store = store'; held = with_next tid next table }) (record { config = config; store = store; held = table })
 leaves_unmoved {S = S} {F = F} {D = D} config store store' tid table transfer next fault server found same kept is =
     let closed : server ≡ faults.NoSuchTid = cc in
     let k = kept (ap Err (of_closed fault (sym same ∙ closed))) in
     let step-1 : ◌≡◌ {A = ServerState S F D} (record { config = config; store = store'; held = with_next tid next table }) (record { config = config; store = store; held = with_next tid next table }) = ap (λ (s : S). record { config = config; store = s; held = with_next tid next table }) k.1 in
-    step-1 ∙ ap (λ (held : List (ℕ × Held F D)). record { config = config; store = store; held = held }) (nothing_written tid table transfer next found k.0)
+    step-1 ∙ ap (λ (held : List (ℕ × HeldTransfer F D)). record { config = config; store = store; held = held }) (nothing_written tid table transfer next found k.0)
 
-module _ {S F D : Type 0} (meaning : StoreMeaning S D) (sources : SourceMeaning F) (tid : ℕ) (old new : ServerState S F D) (table : List (ℕ × Held F D)) (transfer next : Held F D) (same : table ≡ old.held) (found : Some transfer ≡ at tid table) (written : new.held ≡ with_next tid next table) where
+module _ {S F D : Type 0} (meaning : StoreMeaning S D) (sources : SourceMeaning F) (tid : ℕ) (old new : ServerState S F D) (table : List (ℕ × HeldTransfer F D)) (transfer next : HeldTransfer F D) (same : table ≡ old.held) (found : Some transfer ≡ at tid table) (written : new.held ≡ with_next tid next table) where
   pub takes_datagram : (gives : Gives) (from : Endpoint) (bytes : List ℕ) (step : Step) → TakesBy meaning sources gives old.config.overwrite from bytes old.store new.store transfer next step → TakesDatagramBy meaning sources gives tid from bytes old new step
   takes_datagram gives from bytes step h =
       record {
@@ -182,8 +182,8 @@ module _ {S F D : Type 0} (meaning : StoreMeaning S D) (sources : SourceMeaning 
 
   pub keeps_held : StaysAs meaning sources old.config.overwrite old.store new.store transfer next → KeepsHeld meaning sources tid (at tid old.held) old new
   keeps_held h =
-      subst (λ (t : Option (Held F D)). KeepsHeld meaning sources tid t old new) (sym (found_now tid table old.held transfer same found)) (next, h, written ∙ ap (with_next tid next) same)
+      subst (λ (t : Option (HeldTransfer F D)). KeepsHeld meaning sources tid t old new) (sym (found_now tid table old.held transfer same found)) (next, h, written ∙ ap (with_next tid next) same)
 
   pub works_at : Works meaning sources old.store new.store transfer next → WorksAt meaning sources tid (at tid old.held) old new
   works_at h =
-      subst (λ (t : Option (Held F D)). WorksAt meaning sources tid t old new) (sym (found_now tid table old.held transfer same found)) (next, h, written ∙ ap (with_next tid next) same)
+      subst (λ (t : Option (HeldTransfer F D)). WorksAt meaning sources tid t old new) (sym (found_now tid table old.held transfer same found)) (next, h, written ∙ ap (with_next tid next) same)

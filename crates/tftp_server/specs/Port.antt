@@ -1,5 +1,5 @@
 -- The tests of the request port, each a definition: the first that holds decides (RFC 1350, sections 2 and 4; RFC 2347, "Negotiation Protocol").
-use Rattle.std.specs.Prelude.{ℕ, Bool, true, false, ◌*◌, nat_lt, nat_le, if◌then◌else◌, List, Option, Some, Result, Ok, Err}
+use Rattle.std.specs.Prelude.{ℕ, Bool, true, false, ◌*◌, nat_lt, nat_le, if◌then◌else◌, List, Option, Some, None, Result, Ok, Err}
 use Rattle.tftp_wire.specs.declared.mode.Mode.{Mode}
 use Rattle.tftp_wire.specs.declared.options.RawOption.{RawOption}
 use Rattle.tftp_wire.specs.declared.packet.Packet.{Packet}
@@ -102,6 +102,19 @@ asks_store Ignores = false
 asks_store (Refuses reply) = false
 asks_store (Reads path mode options) = true
 asks_store (Writes path mode agreed) = true
+
+-- the block size of a transfer with these options, unless they are refused
+abbrev pub agreed_size : Result (List Known) Refusal → Option ℕ
+agreed_size (Ok agreed) = Some (size agreed)
+agreed_size (Err refusal) = None
+
+-- the block size of the transfer that may open, whatever the length of its file
+abbrev pub granted_size : Limits → Ask → Option ℕ
+granted_size limits Ignores = None
+granted_size limits (Refuses reply) = None
+granted_size limits (Reads path mode options) =
+    agreed_size (answer options kinds.Read mode 0 limits)
+granted_size limits (Writes path mode agreed) = Some (size agreed)
 
 -- ---- by what the store answers
 

@@ -22,12 +22,12 @@ use Rattle.tftp_ends.specs.Opening.{ServesRead, CannotStart, serving_write}
 use Rattle.tftp_ends.specs.Action.{Decodes}
 use Rattle.tftp_ends.specs.Step.{error_bytes}
 use Rattle.tftp_server.specs.declared.opened.Opened.{Opened}
-use Rattle.tftp_server.specs.declared.server.request.Asked.{Asked}
-use Rattle.tftp_server.specs.declared.server.request.Asked.TheVariants as asked
+use Rattle.tftp_server.specs.declared.server.request.PortAction.{PortAction}
+use Rattle.tftp_server.specs.declared.server.request.PortAction.TheVariants as asked
 use Rattle.tftp_server.specs.declared.server.request.Decision.{Decision}
 use Rattle.tftp_server.specs.declared.server.request.Decision.TheVariants.{Refuse, Open}
 use Rattle.tftp_store.specs.declared.store.Opening.{Opening}
-use Rattle.tftp_server.specs.State.{Held, ServerState, IsRepeated, with_new}
+use Rattle.tftp_server.specs.State.{HeldTransfer, ServerState, IsRepeated, with_new}
 use Rattle.tftp_server.specs.Port.{Ask, Ignores, Refuses, Reads, Writes, Service, Refused, Sends, Takes, asks, by_file, by_draft}
 use Rattle.tftp_store.specs.Store.{StoreMeaning, Opens, Begins, fault_in}
 
@@ -43,7 +43,7 @@ pub data Came (S F D : Type 0) : Type 0 where
   -- an ERROR goes out; the store has become this
   An_error : ErrorReply → S → Came S F D
   -- a transfer opens; the store has become this
-  A_transfer : Held F D → S → Came S F D
+  A_transfer : HeldTransfer F D → S → Came S F D
 
 -- a datagram that came to the request port, and what that has decided of it
 pub record AdmissionState : Type 0 where
@@ -167,7 +167,7 @@ abbrev pub kind_and_request : Kind × RequestRef → Kind × Request
 kind_and_request asked = (asked.0, owned_request asked.1)
 
 -- what the port asks, as the code has it
-abbrev pub ask_of : Asked → Ask
+abbrev pub ask_of : PortAction → Ask
 ask_of asked.Nothing = Ignores
 ask_of (asked.Refuse reply) = Refuses reply
 ask_of (asked.Read path request) = Reads path request.mode request.options

@@ -13,7 +13,7 @@ use Rattle.tftp_ends.specs.End.{EndState, record_of, outcome_of}
 use Rattle.tftp_server.specs.declared.config.Config.{Config}
 
 -- a held transfer: its end, its source or draft, the path of the file, and the datagram that asked for it
-pub record Held (F D : Type 0) : Type 0 where
+pub record HeldTransfer (F D : Type 0) : Type 0 where
   pub end : EndState
   pub files : Files F D
   pub path : List ℕ
@@ -23,15 +23,15 @@ pub record Held (F D : Type 0) : Type 0 where
 pub record ServerState (S F D : Type 0) : Type 0 where
   pub config : Config
   pub store : S
-  pub held : List (ℕ × Held F D)
+  pub held : List (ℕ × HeldTransfer F D)
 
 module _ {F D : Type 0} where
   -- the transfer has closed
-  abbrev pub is_closed : Held F D → Bool
+  abbrev pub is_closed : HeldTransfer F D → Bool
   is_closed held = is_some (outcome_of held.end.position.phase)
 
   -- there is a transfer, and it has not closed
-  abbrev pub is_open : Option (Held F D) → Bool
+  abbrev pub is_open : Option (HeldTransfer F D) → Bool
   is_open None = false
   is_open (Some held) = not (is_closed held)
 
@@ -45,35 +45,35 @@ module _ {F D : Type 0} where
   draft_of (Source source) = None
   draft_of (Sink draft) = Some draft
 
-  abbrev pub draft_at : Option (Held F D) → Option D
+  abbrev pub draft_at : Option (HeldTransfer F D) → Option D
   draft_at None = None
   draft_at (Some held) = draft_of held.files
 
   -- the transfers that have not closed, and how far each came
-  abbrev pub open_records : List (ℕ × Held F D) → List (ℕ × Record)
+  abbrev pub open_records : List (ℕ × HeldTransfer F D) → List (ℕ × Record)
   open_records [] = []
   open_records (e ∷ held) = if is_closed e.1 then open_records held else (e.0, record_of e.1.end) ∷ open_records held
 
   -- what is handed out of a transfer that is taken
-  abbrev pub taken_of : Option (Held F D) → Option (Record × Option D)
+  abbrev pub taken_of : Option (HeldTransfer F D) → Option (Record × Option D)
   taken_of None = None
   taken_of (Some held) = if is_closed held then Some (record_of held.end, draft_of held.files) else None
 
 module _ {F D : Type 0} where
   -- an open transfer was asked for from there by a datagram that spells this packet; the case of the mode's letters is
   -- no part of a packet
-  pub record Repeats (from : Endpoint) (packet : Packet) (held : Held F D) : Type 0 where
+  pub record Repeats (from : Endpoint) (packet : Packet) (held : HeldTransfer F D) : Type 0 where
     pub still : is_closed held ≡ false
     pub peer : (record_of held.end).peer ≡ Some from
     pub same : Spells packet held.request
 
   -- one of the transfers was
-  abbrev pub AnyRepeats : Endpoint → Packet → List (ℕ × Held F D) → Type 0
+  abbrev pub AnyRepeats : Endpoint → Packet → List (ℕ × HeldTransfer F D) → Type 0
   AnyRepeats from packet [] = ⊥
   AnyRepeats from packet (e ∷ held) = Repeats from packet e.1 ⊎ AnyRepeats from packet held
 
   -- whether a datagram repeats the request of an open transfer
-  abbrev pub IsRepeated : Bool → Endpoint → Option Packet → List (ℕ × Held F D) → Type 0
+  abbrev pub IsRepeated : Bool → Endpoint → Option Packet → List (ℕ × HeldTransfer F D) → Type 0
   IsRepeated repeated from None held = repeated ≡ false
   IsRepeated repeated from (Some packet) held = IsTrue repeated ↔ AnyRepeats from packet held
 

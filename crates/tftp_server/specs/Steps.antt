@@ -16,7 +16,7 @@ use Rattle.tftp_ends.specs.declared.outgoing.Outgoing.{Outgoing}
 use Rattle.tftp_server.specs.declared.fault.ServerFault.{ServerFault}
 use Rattle.tftp_server.specs.declared.fault.ServerFault.TheVariants.{NoSuchTid, Memory}
 use Rattle.tftp_server.specs.Draft.{Drafting, files_in, drafting_sink, KeepsStore}
-use Rattle.tftp_server.specs.State.{Held, ServerState, at, is_open, is_closed, with_next}
+use Rattle.tftp_server.specs.State.{HeldTransfer, ServerState, at, is_open, is_closed, with_next}
 use Rattle.tftp_store.specs.Store.{StoreMeaning}
 
 -- what a call gives of a turn of an end, by the end that it leaves and where the answer goes
@@ -40,12 +40,12 @@ pub record MakesStep {S K : Type 0} (sources : SourceMeaning S) (sinks : SinkMea
 
 module _ {F D : Type 0} where
   -- the transfer with another state of its end
-  abbrev pub with_end : EndState → Held F D → Held F D
+  abbrev pub with_end : EndState → HeldTransfer F D → HeldTransfer F D
   with_end e held = record held { end = e }
 
   -- the transfer at the identifier made the step of a timeout, which gave this, and every other is as before
-  pub record TimesOutBy (gives : Gives) (tid : ℕ) (old new : List (ℕ × Held F D)) (step : Step) : Type 0 where
-    pub transfer : Held F D
+  pub record TimesOutBy (gives : Gives) (tid : ℕ) (old new : List (ℕ × HeldTransfer F D)) (step : Step) : Type 0 where
+    pub transfer : HeldTransfer F D
     pub found : at tid old ≡ Some transfer
     pub end : EndState
     pub carries : gives transfer.end (timeout_turn transfer.end) end step.to
@@ -53,30 +53,30 @@ module _ {F D : Type 0} where
     pub held : new ≡ with_next tid (with_end end transfer) old
 
   -- its datagram was appended, or is lent
-  abbrev pub TimesOut : ℕ → List (ℕ × Held F D) → List (ℕ × Held F D) → Step → List ℕ → List ℕ → Type 0
+  abbrev pub TimesOut : ℕ → List (ℕ × HeldTransfer F D) → List (ℕ × HeldTransfer F D) → Step → List ℕ → List ℕ → Type 0
   TimesOut tid old new step before after = TimesOutBy (appends before after) tid old new step
 
-  abbrev pub TimesOutLent : ℕ → List (ℕ × Held F D) → List (ℕ × Held F D) → Step → Outgoing → Type 0
+  abbrev pub TimesOutLent : ℕ → List (ℕ × HeldTransfer F D) → List (ℕ × HeldTransfer F D) → Step → Outgoing → Type 0
   TimesOutLent tid old new step outgoing = TimesOutBy (lends outgoing) tid old new step
 
   -- why a timeout was not taken: there is no open transfer, or there is no memory for its datagram
-  abbrev pub TimeoutFault : Option (Held F D) → ServerFault → Type 0
+  abbrev pub TimeoutFault : Option (HeldTransfer F D) → ServerFault → Type 0
   TimeoutFault transfer NoSuchTid = is_open transfer ≡ false
   TimeoutFault (Some held) Memory = (is_closed held ≡ false) × IsAnswered (timeout_action held.end.position.retries_left held.end.position.phase)
   TimeoutFault transfer _ = ⊥
 
   -- why a datagram was not taken: there is no open transfer, or no memory for an action of this kind
-  abbrev pub DatagramFaultBy : (Action → Type 0) → Endpoint → List ℕ → Option (Held F D) → ServerFault → Type 0
+  abbrev pub DatagramFaultBy : (Action → Type 0) → Endpoint → List ℕ → Option (HeldTransfer F D) → ServerFault → Type 0
   DatagramFaultBy kind from bytes transfer NoSuchTid = is_open transfer ≡ false
   DatagramFaultBy kind from bytes (Some held) Memory =
       (is_closed held ≡ false) × (decoded : Option Packet) × Decodes bytes decoded × kind (datagram_action held.end from bytes decoded)
   DatagramFaultBy kind from bytes transfer _ = ⊥
 
   -- where the answer is appended, or lent
-  abbrev pub DatagramFault : Endpoint → List ℕ → Option (Held F D) → ServerFault → Type 0
+  abbrev pub DatagramFault : Endpoint → List ℕ → Option (HeldTransfer F D) → ServerFault → Type 0
   DatagramFault from bytes transfer fault = DatagramFaultBy IsAnswered from bytes transfer fault
 
-  abbrev pub DatagramFaultLent : Endpoint → List ℕ → Option (Held F D) → ServerFault → Type 0
+  abbrev pub DatagramFaultLent : Endpoint → List ℕ → Option (HeldTransfer F D) → ServerFault → Type 0
   DatagramFaultLent from bytes transfer fault = DatagramFaultBy UsesFile from bytes transfer fault
 
 module _ {S F D : Type 0} (meaning : StoreMeaning S D) (sources : SourceMeaning F) where
@@ -86,7 +86,7 @@ module _ {S F D : Type 0} (meaning : StoreMeaning S D) (sources : SourceMeaning 
       DatagramStep sources (drafting_sink meaning) from bytes e files turn files'
 
   -- the transfer made the step of a datagram, which gave this, and the store has become that
-  pub record TakesBy (gives : Gives) (replace : Bool) (from : Endpoint) (bytes : List ℕ) (store store' : S) (transfer next : Held F D) (step : Step) : Type 0 where
+  pub record TakesBy (gives : Gives) (replace : Bool) (from : Endpoint) (bytes : List ℕ) (store store' : S) (transfer next : HeldTransfer F D) (step : Step) : Type 0 where
     pub turn : Turn
     pub steps : StepIn from bytes transfer.end (files_in store transfer.path replace transfer.files) turn (files_in store' next.path replace next.files)
     pub carries : gives transfer.end turn next.end step.to
@@ -98,14 +98,14 @@ module _ {S F D : Type 0} (meaning : StoreMeaning S D) (sources : SourceMeaning 
 
   -- the transfer at the identifier made the step of a datagram, which gave this, and every other is as before
   pub record TakesDatagramBy (gives : Gives) (tid : ℕ) (from : Endpoint) (bytes : List ℕ) (old new : ServerState S F D) (step : Step) : Type 0 where
-    pub transfer : Held F D
-    pub next : Held F D
+    pub transfer : HeldTransfer F D
+    pub next : HeldTransfer F D
     pub found : at tid old.held ≡ Some transfer
     pub takes : TakesBy gives old.config.overwrite from bytes old.store new.store transfer next step
     pub held : new.held ≡ with_next tid next old.held
 
   -- its answer was appended, or is lent
-  abbrev pub TakesIn : Bool → Endpoint → List ℕ → S → S → Held F D → Held F D → Step → List ℕ → List ℕ → Type 0
+  abbrev pub TakesIn : Bool → Endpoint → List ℕ → S → S → HeldTransfer F D → HeldTransfer F D → Step → List ℕ → List ℕ → Type 0
   TakesIn replace from bytes store store' transfer next step before after = TakesBy (appends before after) replace from bytes store store' transfer next step
 
   abbrev pub TakesDatagram : ℕ → Endpoint → List ℕ → ServerState S F D → ServerState S F D → Step → List ℕ → List ℕ → Type 0
@@ -120,7 +120,7 @@ module _ {S F D : Type 0} (meaning : StoreMeaning S D) (sources : SourceMeaning 
       (taken : TakesDatagram tid from bytes old new step before after) × (r ≡ record_of taken.next.end)
 
   -- the transfer is as it was; its file tells the same, and so does the store
-  pub record StaysAs (replace : Bool) (store store' : S) (transfer next : Held F D) : Type 0 where
+  pub record StaysAs (replace : Bool) (store store' : S) (transfer next : HeldTransfer F D) : Type 0 where
     pub end : next.end ≡ transfer.end
     pub path : next.path ≡ transfer.path
     pub request : next.request ≡ transfer.request
@@ -128,7 +128,7 @@ module _ {S F D : Type 0} (meaning : StoreMeaning S D) (sources : SourceMeaning 
     pub files : KeepsFiles sources (drafting_sink meaning) (files_in store transfer.path replace transfer.files) (files_in store' next.path replace next.files)
 
   -- nothing has changed; the file of the transfer at the identifier tells the same, and so does the store
-  abbrev pub KeepsHeld : ℕ → Option (Held F D) → ServerState S F D → ServerState S F D → Type 0
+  abbrev pub KeepsHeld : ℕ → Option (HeldTransfer F D) → ServerState S F D → ServerState S F D → Type 0
   KeepsHeld tid None old new = new ≡ old
   KeepsHeld tid (Some transfer) old new =
-      (next : Held F D) × StaysAs old.config.overwrite old.store new.store transfer next × (new.held ≡ with_next tid next old.held)
+      (next : HeldTransfer F D) × StaysAs old.config.overwrite old.store new.store transfer next × (new.held ≡ with_next tid next old.held)

@@ -7,7 +7,7 @@ use Rattle.std.specs.Ordering.{nat_cmp}
 use Rattle.slab.specs.Slab.{Slab, HasRoomFor, get}
 use Rattle.tftp_wire.specs.declared.packet.Packet.{Packet}
 use Rattle.tftp_ends.specs.declared.endpoint.Endpoint.{Endpoint}
-use Rattle.tftp_server.specs.State.{Held, Repeats}
+use Rattle.tftp_server.specs.State.{HeldTransfer, Repeats}
 
 -- an entry whose key has a value, before others
 abbrev pub with_found : {T : Type 0} → ℕ → Option T → List (ℕ × T) → List (ℕ × T)
@@ -30,12 +30,12 @@ IsKeyFor None key slots = get slots key ≡ None
 IsKeyFor (Some found) key slots = key ≡ found
 
 -- the transfer under a key, if there is one, was asked for from there by this packet, and is open
-abbrev pub KeyRepeats : {F D : Type 0} → Endpoint → Packet → Option (Held F D) → Type 0
+abbrev pub KeyRepeats : {F D : Type 0} → Endpoint → Packet → Option (HeldTransfer F D) → Type 0
 KeyRepeats from packet None = ⊥
 KeyRepeats from packet (Some held) = Repeats from packet held
 
 -- one of those under the keys
-abbrev pub AnyKeyRepeats : {F D : Type 0} → Endpoint → Packet → Slab (Held F D) → List ℕ → Type 0
+abbrev pub AnyKeyRepeats : {F D : Type 0} → Endpoint → Packet → Slab (HeldTransfer F D) → List ℕ → Type 0
 AnyKeyRepeats from packet slots [] = ⊥
 AnyKeyRepeats from packet slots (key ∷ keys) = KeyRepeats from packet (get slots key) ⊎ AnyKeyRepeats from packet slots keys
 

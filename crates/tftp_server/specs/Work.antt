@@ -4,7 +4,7 @@ use Rattle.tftp_file.specs.Source.{SourceMeaning, ReadsAhead}
 use Rattle.tftp_file.specs.declared.files.Files.{Files}
 use Rattle.tftp_file.specs.declared.files.Files.TheVariants.{Source, Sink}
 use Rattle.tftp_store.specs.Store.{StoreMeaning, WritesBehind}
-use Rattle.tftp_server.specs.State.{Held, ServerState, with_next}
+use Rattle.tftp_server.specs.State.{HeldTransfer, ServerState, with_next}
 
 module _ {S F D : Type 0} (meaning : StoreMeaning S D) (sources : SourceMeaning F) where
   -- a source reads ahead, and the store stays as it is; a draft is written back
@@ -16,14 +16,14 @@ module _ {S F D : Type 0} (meaning : StoreMeaning S D) (sources : SourceMeaning 
   FilesWork store store' files files' = ⊥
 
   -- the file of a transfer works, and nothing else of the transfer changes
-  pub record Works (store store' : S) (transfer next : Held F D) : Type 0 where
+  pub record Works (store store' : S) (transfer next : HeldTransfer F D) : Type 0 where
     pub files : FilesWork store store' transfer.files next.files
     pub rest : next ≡ record transfer { files = next.files }
 
   -- the file of the transfer at the identifier works, if one is held, and every other transfer
   -- stays as it is
-  abbrev pub WorksAt : ℕ → Option (Held F D) → ServerState S F D → ServerState S F D → Type 0
+  abbrev pub WorksAt : ℕ → Option (HeldTransfer F D) → ServerState S F D → ServerState S F D → Type 0
   WorksAt tid None old new = new ≡ old
   WorksAt tid (Some transfer) old new =
-      (next : Held F D) × Works old.store new.store transfer next
+      (next : HeldTransfer F D) × Works old.store new.store transfer next
       × (new.held ≡ with_next tid next old.held)

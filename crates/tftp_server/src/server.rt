@@ -15,7 +15,7 @@ ghost use Rattle.tftp_server.specs.Request.{CarriesOut, RequestStep, left_by};
 ghost use Rattle.tftp_ends.specs.Step.{error_bytes, lent};
 ghost use Rattle.tftp_wire.specs.declared.packet.Packet.{Packet};
 ghost use Rattle.tftp_ends.specs.Action.{Decodes};
-ghost use Rattle.tftp_server.specs.Port.{Ignores, asks, asks_store};
+ghost use Rattle.tftp_server.specs.Port.{Ignores, asks, asks_store, granted_size};
 ghost use Rattle.tftp_server.specs.State.{IsRepeated, at, draft_at, is_open, open_records};
 ghost use Rattle.tftp_server.specs.State.{taken_of, without};
 ghost use Rattle.tftp_server.specs.Steps.{TimesOut, TimesOutLent, TimeoutFault, TakesDatagram};
@@ -29,7 +29,7 @@ use crate::fault::ServerFault;
 use crate::open_transfers::OpenTransfers;
 use crate::opened::Opened;
 pub use crate::server::admission::Admission;
-use crate::server::request::{Asked, Decision};
+use crate::server::request::{Decision, PortAction, read_block_size};
 use crate::table::Table;
 use crate::transfer::Transfer;
 use std::alloc::Global;
@@ -296,6 +296,19 @@ impl<S: Store> Server<S> {
         }
     }
 
+    /// The block size, in bytes, of the transfer that an admission may open, which no length of the
+    /// file changes (RFC 2348). There is none if no transfer opens, also by options that are
+    /// refused.
+    pub fn block_size(&self, admission: &Admission<'_>) -> Option<u16>
+        ensures { result ≡ granted_size self.now.config.limits admission.now.ask }
+    {
+        match &admission.asked {
+            PortAction::Nothing | PortAction::Refuse(_) => None,
+            PortAction::Read(_, request) => read_block_size(request, &self.config.limits),
+            PortAction::Write(_, _, agreed) => Some(agreed.block_size()),
+        }
+    }
+
     /// Carries an admission out. Where a transfer opens, that gets the identifier `tid`, the port
     /// from which its datagrams go out (RFC 1350, section 4). At most one datagram is appended to
     /// `out`, for where [`Opened::to`] says.
@@ -325,13 +338,15 @@ impl<S: Store> Server<S> {
         }
         let Admission { from, bytes, asked } = admission;
         match asked {
-            Asked::Nothing => Ok(Opened {
+            PortAction::Nothing => Ok(Opened {
                 tid: None,
                 to: None,
             }),
-            Asked::Refuse(reply) => refuse(reply, from, out),
-            Asked::Read(path, request) => self.read_from(from, tid, path, bytes, &request, out),
-            Asked::Write(path, mode, agreed) => {
+            PortAction::Refuse(reply) => refuse(reply, from, out),
+            PortAction::Read(path, request) => self.read_from(
+                from, tid, path, bytes, &request, out,
+            ),
+            PortAction::Write(path, mode, agreed) => {
                 self.write_from(from, tid, path, mode, &agreed, bytes, out)
             }
         }

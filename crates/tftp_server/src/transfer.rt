@@ -34,10 +34,10 @@ pub(crate) struct Transfer<F, D> {
 }
 
 impl<F, D> Model for Transfer<F, D> {
-    ghost use Rattle.tftp_server.specs.State.{Held};
+    ghost use Rattle.tftp_server.specs.State.{HeldTransfer};
     ghost use Rattle.tftp_ends.specs.Files.{AreFilesOf};
 
-    ghost Value = { Held F D };
+    ghost Value = { HeldTransfer F D };
 
     ghost view = { λ t. record {
       end = t.end;

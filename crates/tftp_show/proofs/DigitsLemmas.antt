@@ -9,7 +9,7 @@ use Rattle.std.proofs.Math.ListN.{drop_of_length-le}
 use Rattle.std.proofs.Math.Seq.{drop-cons}
 use Rattle.hex.specs.Hex.{◌>>=◌, decode_of, decode_pairs, digit_or_error, hex_digit_value}
 use Rattle.hex.specs.declared.error.FromHexError.{FromHexError}
-use Rattle.tftp_show.specs.Show.{Decodes}
+use Rattle.tftp_show.specs.Show.{DecodesHex}
 
 -- the value of a digit, and 255 for another byte
 abbrev pub value : ℕ → ℕ
@@ -58,7 +58,7 @@ digit_small c =
     small_in c 65 70 55 _ (omega arith) (small_in c 97 102 87 _ (omega arith) (small_in c 48 57 48 None (omega arith) tt))
 
 -- two values and the rest
-pair_step : (high low i : ℕ) (a b : Option ℕ) (r : Result (List ℕ) FromHexError) (m : ℕ) (bs : List ℕ) → IfSome a (λ v. v < 16) → IfSome b (λ v. v < 16) → Decodes r (ltb m 255) bs → Decodes ((digit_or_error high i a >>= (λ h. digit_or_error low (i + 1) b >>= (λ l. Ok (h * 16 + l)))) >>= (λ byte. r >>= (λ bytes. Ok (byte ∷ bytes)))) (ltb (max (max (unwrap_or a 255) (unwrap_or b 255)) m) 255) (joined (unwrap_or a 255) (unwrap_or b 255) ∷ bs)
+pair_step : (high low i : ℕ) (a b : Option ℕ) (r : Result (List ℕ) FromHexError) (m : ℕ) (bs : List ℕ) → IfSome a (λ v. v < 16) → IfSome b (λ v. v < 16) → DecodesHex r (ltb m 255) bs → DecodesHex ((digit_or_error high i a >>= (λ h. digit_or_error low (i + 1) b >>= (λ l. Ok (h * 16 + l)))) >>= (λ byte. r >>= (λ bytes. Ok (byte ∷ bytes)))) (ltb (max (max (unwrap_or a 255) (unwrap_or b 255)) m) 255) (joined (unwrap_or a 255) (unwrap_or b 255) ∷ bs)
 pair_step high low i None b r m bs x y h = le-ltb _ 255 (omega arith)
 pair_step high low i (Some v) None r m bs x y h = le-ltb _ 255 (omega arith)
 pair_step high low i (Some v) (Some w) (Err e) m bs x y h = let k : 255 ≤ m = ltb-false _ _ h in le-ltb _ 255 (omega arith)
@@ -67,7 +67,7 @@ pair_step high low i (Some v) (Some w) (Ok xs) m bs x y h =
     let byte : joined v w ≡ v * 16 + w = omega arith in
     (lt-ltb _ 255 (omega arith), rw (byte, h.1) refl)
 
-pairs_decode : (i : ℕ) (ds : List ℕ) → length ds % 2 ≡ 0 → Decodes (decode_pairs i ds) (ltb (largest_of ds) 255) (joined_pairs ds)
+pairs_decode : (i : ℕ) (ds : List ℕ) → length ds % 2 ≡ 0 → DecodesHex (decode_pairs i ds) (ltb (largest_of ds) 255) (joined_pairs ds)
 unfolding decode_pairs
 pairs_decode i [] e = (refl, refl)
 pairs_decode i (d ∷ []) e = absurd (omega arith)
@@ -75,7 +75,7 @@ pairs_decode i (high ∷ low ∷ rest) e =
     pair_step high low i (hex_digit_value high) (hex_digit_value low) (decode_pairs (i + 2) rest) (largest_of rest) (joined_pairs rest) (digit_small high) (digit_small low) (pairs_decode (i + 2) rest (omega arith))
 
 -- digits in pairs decode to their bytes, if the largest value is one of a digit
-pub digits_decode : (ds : List ℕ) (n largest : ℕ) (bytes : List ℕ) → length ds ≡ 2 * n → largest ≡ largest_of ds → bytes ≡ joined_pairs ds → Decodes (decode_of ds) (ltb largest 255) bytes
+pub digits_decode : (ds : List ℕ) (n largest : ℕ) (bytes : List ℕ) → length ds ≡ 2 * n → largest ≡ largest_of ds → bytes ≡ joined_pairs ds → DecodesHex (decode_of ds) (ltb largest 255) bytes
 digits_decode ds n largest bytes e l b =
     let even : length ds % 2 ≡ 0 = omega arith in
     rw (l, b, even) (pairs_decode 0 ds even)
@@ -118,7 +118,7 @@ pairs_go_on ds bytes i largest high low in_range g h l =
     }
 
 -- after the last pair
-pub pairs_end : (ds bytes : List ℕ) (i largest : ℕ) → length bytes ≤ i → PairsSoFar ds bytes i largest → Decodes (decode_of ds) (ltb largest 255) bytes
+pub pairs_end : (ds bytes : List ℕ) (i largest : ℕ) → length bytes ≤ i → PairsSoFar ds bytes i largest → DecodesHex (decode_of ds) (ltb largest 255) bytes
 pairs_end ds bytes i largest e g =
     let none : drop (2 * i) ds ≡ [] = drop_of_length-le ds (omega (arith, g.size)) in
     let all : take i bytes ≡ bytes = take_all i bytes (omega arith) in

@@ -31,9 +31,9 @@ spells_packet (Ok bytes) = is_none (first_fault bytes)
 spells_packet (Err e) = false
 
 -- digits are said to be hexadecimal where they decode, and then the bytes are what they decode to
-abbrev pub Decodes : Result (List ℕ) FromHexError → Bool → List ℕ → Type 0
-Decodes (Ok decoded) is_hex bytes = (is_hex ≡ true) × (bytes ≡ decoded)
-Decodes (Err e) is_hex bytes = is_hex ≡ false
+abbrev pub DecodesHex : Result (List ℕ) FromHexError → Bool → List ℕ → Type 0
+DecodesHex (Ok decoded) is_hex bytes = (is_hex ≡ true) × (bytes ≡ decoded)
+DecodesHex (Err e) is_hex bytes = is_hex ≡ false
 
 -- whether all lines are packets
 abbrev pub are_packets : List ℕ → Bool

@@ -60,7 +60,7 @@ impl Conversation {
         ensures { IfOk result (λ conversation. conversation.end.role.side ≡ end.role.side) }
     {
         let watch = Watch::new(read_clock(clock, 0));
-        let due = deadline(watch.now, Some(end.interval()));
+        let due = deadline(watch.now, end.interval());
         Ok(Conversation {
             alloc,
             socket,
@@ -138,11 +138,11 @@ impl Conversation {
             return;
         }
         if step.progress {
-            self.due = deadline(now, Some(self.end.interval()));
+            self.due = deadline(now, self.end.interval());
             self.advanced_at = now;
             self.work(files);
         } else if is_due(now, self.due) {
-            self.due = deadline(now, Some(self.end.interval()));
+            self.due = deadline(now, self.end.interval());
             self.take_timeout();
         }
     }

@@ -1,13 +1,13 @@
 //! Why a client's transfer failed, and what is known of the reason.
 
 ghost use Rattle.std.specs.Prelude.{◌≡◌, ◌≤◌};
-ghost use Rattle.tftp_host.specs.ClientEnd.{status_of};
-ghost use Rattle.tftp_host.specs.declared.client_end.ClientEnd.TheVariants as ends;
+ghost use Rattle.tftp_host.specs.ClientOutcome.{status_of};
+ghost use Rattle.tftp_host.specs.declared.client.client_outcome.ClientOutcome.TheVariants as ends;
 
 use std::alloc::AllocError;
 use std::{fmt, io};
 use tftp_ends::OpenFault;
-use tftp_host::ClientEnd;
+use tftp_host::ClientOutcome;
 
 /// What is known of the reason of a failure. `{}` writes it in words.
 #[derive(Drop)]
@@ -38,7 +38,7 @@ impl fmt::Display for Reason {
 #[derive(Drop)]
 pub(crate) struct Failure {
     /// How the program ends.
-    pub(crate) end: ClientEnd,
+    pub(crate) end: ClientOutcome,
     /// What is known of the reason.
     pub(crate) reason: Reason,
     ghost fails: { 1 ≤ status_of end },
@@ -50,7 +50,7 @@ impl Failure {
         ensures { result.end ≡ ends.Memory }
     {
         Failure {
-            end: ClientEnd::Memory,
+            end: ClientOutcome::Memory,
             reason: Reason::Unknown,
         }
     }
@@ -60,7 +60,7 @@ impl Failure {
         ensures { result.end ≡ ends.FileFault }
     {
         Failure {
-            end: ClientEnd::FileFault,
+            end: ClientOutcome::FileFault,
             reason: Reason::System(error),
         }
     }
@@ -70,7 +70,7 @@ impl Failure {
         ensures { result.end ≡ ends.SocketFault }
     {
         Failure {
-            end: ClientEnd::SocketFault,
+            end: ClientOutcome::SocketFault,
             reason: Reason::System(error),
         }
     }
@@ -80,7 +80,7 @@ impl Failure {
         ensures { result.end ≡ ends.NotOpened fault }
     {
         Failure {
-            end: ClientEnd::NotOpened(fault),
+            end: ClientOutcome::NotOpened(fault),
             reason: Reason::Unknown,
         }
     }

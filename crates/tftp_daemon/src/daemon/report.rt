@@ -1,6 +1,6 @@
 //! What `tftpd` prints of its transfers, and of datagrams that opened none.
 
-use crate::daemon::ServiceFault;
+use crate::daemon::DaemonFault;
 use crate::daemon::transfer_port::{TransferSocket, shown};
 use std::alloc::Global;
 use tftp_ends::{Endpoint, Outcome, Record};
@@ -60,7 +60,7 @@ pub(crate) fn close_port<P: Print + Eprint, S: Store + Drop>(
     port: Port<TransferSocket>,
     now: u64,
     reason: Option<Reason>,
-) -> Result<(), ServiceFault> {
+) -> Result<(), DaemonFault> {
     let record = record_of_closed(server, port.tid);
     report_close(rt, &port, record, now, reason)
 }
@@ -72,7 +72,7 @@ fn report_close<P: Print + Eprint>(
     record: Option<Record>,
     now: u64,
     reason: Option<Reason>,
-) -> Result<(), ServiceFault> {
+) -> Result<(), DaemonFault> {
     let Some(
         Record {
             peer: Some(peer),
@@ -91,7 +91,7 @@ fn report_close<P: Print + Eprint>(
     };
     match println!(rt; "{line}") {
         Ok(()) => Ok(()),
-        Err(_) => Err(ServiceFault::Output),
+        Err(_) => Err(DaemonFault::Output),
     }
 }
 

@@ -2,8 +2,8 @@
 
 use crate::daemon::report::{log_lost, log_unopened};
 use crate::daemon::sockets::Spare;
-use crate::daemon::transfer_port::{LogEntry, MOST_AT_ONCE, TransferSocket, timeout_of};
-use crate::daemon::{Daemon, ServiceFault, TransferPort};
+use crate::daemon::transfer_port::{LogEntry, MOST_AT_ONCE, TransferSocket, interval_of};
+use crate::daemon::{Daemon, DaemonFault, TransferPort};
 use crate::udp::Udp;
 use mio::Events;
 use std::rt::Files;
@@ -25,7 +25,7 @@ impl<R: Files + Drop> Daemon<R> {
         request: &mut [u8],
         events: &mut Events,
         datagram: &mut [u8],
-    ) -> Result<u64, ServiceFault> {
+    ) -> Result<u64, DaemonFault> {
         let mut left = left;
         for _ in 0..MOST_AT_ONCE {
             if left == 0 || self.ports.try_reserve(1).is_err() {
@@ -51,7 +51,7 @@ impl<R: Files + Drop> Daemon<R> {
         bytes: &[u8],
         events: &mut Events,
         datagram: &mut [u8],
-    ) -> Result<u64, ServiceFault> {
+    ) -> Result<u64, DaemonFault> {
         let admission = self.server.admit(from, bytes);
         if may_open(&admission) {
             self.answer_request(rt, from, bytes, admission);
@@ -98,7 +98,10 @@ impl<R: Files + Drop> Daemon<R> {
         tid: u16,
     ) {
         self.out.clear();
-        self.server.store_mut().set_port(tid);
+        let longest = self.server.block_size(&admission).map_or(0, longest_text);
+        let store = self.server.store_mut();
+        store.set_port(tid);
+        store.set_longest(longest);
         let opened = self.server.open(admission, tid, &mut self.out);
         let reason = self.server.store().take_reason();
         match opened {
@@ -154,15 +157,15 @@ impl<R: Files + Drop> Daemon<R> {
 
     /// The port of a transfer that opened.
     fn port_of(&self, spare: Spare, log_entry: Option<LogEntry>) -> TransferPort {
-        let agreed = timeout_of(&self.server, spare.tid);
-        let due = deadline(self.sockets.watch.now, agreed);
+        let interval = interval_of(&self.server, spare.tid);
+        let due = deadline(self.sockets.watch.now, interval);
         Port {
             tid: spare.tid,
             due,
             is_ready: false,
             socket: TransferSocket {
                 udp: spare.socket,
-                agreed,
+                interval,
                 times_out_at: due,
                 log_entry,
             },
@@ -187,6 +190,12 @@ impl<R: Files + Drop> Daemon<R> {
         let _ = eprintln!(rt; "{line}");
         Some(entry)
     }
+}
+
+/// The longest text that can be sent in blocks of this size, in bytes: 65,535 blocks, the last of
+/// them one byte short (RFC 1350, section 6).
+fn longest_text(block_size: u16) -> u64 {
+    (u64::from(block_size) * 65_535).saturating_sub(1)
 }
 
 /// Whether a transfer may open, as far as is known.

@@ -3,7 +3,7 @@
 
 ghost use Rattle.std.specs.Prelude.{◌≡◌, ◌≤◌, ◌↔◌, length, false, None, Ok, IfSome, IfErr};
 ghost use Rattle.tftp_server.specs.Port.{asks_store};
-ghost use Rattle.tftp_host.specs.declared.log_line.Lost.TheVariants as Lost;
+ghost use Rattle.tftp_host.specs.declared.server.log_line.Lost.TheVariants as Lost;
 
 use crate::udp::{Udp, receive, send};
 use mio::net::UdpSocket;

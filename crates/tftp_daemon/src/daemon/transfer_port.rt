@@ -3,7 +3,7 @@
 use crate::udp::{receive, send};
 use mio::net::UdpSocket;
 use std::alloc::Global;
-use tftp_ends::{Endpoint, Outcome};
+use tftp_ends::{DEFAULT_INTERVAL, Endpoint, Outcome};
 use tftp_host::{LogLine, Port, Reason, deadline, is_due};
 use tftp_server::{Server, Store};
 use tftp_wire::{PacketRef, decode_ref, show_datagram};
@@ -18,7 +18,7 @@ const LOOK_AFTER: u64 = 500;
 
 /// What came of the datagrams at a transfer's port.
 #[derive(Clone, Copy, PartialEq, Eq)]
-pub(crate) enum Turn {
+pub(crate) enum PortStatus {
     /// Nothing more is there.
     Empty,
     /// The transfer went on. What may be left is received at the next readiness, or when its port
@@ -34,8 +34,8 @@ pub(crate) enum Turn {
 #[derive(Drop)]
 pub(crate) struct TransferSocket {
     pub(crate) udp: UdpSocket,
-    /// The agreed timeout, in seconds.
-    pub(crate) agreed: Option<u8>,
+    /// The seconds without progress before a timeout.
+    pub(crate) interval: u8,
     /// When the transfer times out. Its port may be due before, to be looked at.
     pub(crate) times_out_at: u64,
     /// What the log says of it, where there is a log.
@@ -126,9 +126,11 @@ fn data_length(datagram: &[u8]) -> u64 {
     }
 }
 
-/// The agreed timeout of a transfer, in seconds.
-pub(crate) fn timeout_of<S: Store>(server: &Server<S>, tid: u16) -> Option<u8> {
-    server.record(tid).and_then(|record| record.timeout)
+/// The seconds without progress before a timeout of a transfer.
+pub(crate) fn interval_of<S: Store>(server: &Server<S>, tid: u16) -> u8 {
+    server
+        .record(tid)
+        .map_or(DEFAULT_INTERVAL, |record| record.interval())
 }
 
 /// Takes datagrams from a transfer's port, until one takes the transfer onward or none is left.
@@ -137,17 +139,17 @@ pub(crate) fn take_datagrams<S: Store>(
     port: &mut Port<TransferSocket>,
     now: u64,
     buffer: &mut [u8],
-) -> Turn {
+) -> PortStatus {
     for _ in 0..MOST_AT_ONCE {
         let Some((from, count)) = receive(&port.socket.udp, buffer) else {
-            return Turn::Empty;
+            return PortStatus::Empty;
         };
         let turn = take_datagram(server, port, now, from, &buffer[..count]);
-        if turn != Turn::Unfinished {
+        if turn != PortStatus::Unfinished {
             return turn;
         }
     }
-    Turn::Unfinished
+    PortStatus::Unfinished
 }
 
 /// Takes a datagram, and sends what goes out; the file does its work behind that. A datagram for
@@ -158,9 +160,9 @@ fn take_datagram<S: Store>(
     now: u64,
     from: Endpoint,
     bytes: &[u8],
-) -> Turn {
+) -> PortStatus {
     let Ok((step, outgoing)) = server.handle_datagram(port.tid, from, bytes) else {
-        return Turn::Unfinished;
+        return PortStatus::Unfinished;
     };
     if let Some(to) = step.to {
         let answer = server.bytes_of(port.tid, outgoing).unwrap_or(&[]);
@@ -169,15 +171,15 @@ fn take_datagram<S: Store>(
     }
     count_data(&mut port.socket.log_entry, step.progress, bytes);
     if step.closed.is_some() {
-        return Turn::Closed;
+        return PortStatus::Closed;
     }
     if !step.progress {
-        return Turn::Unfinished;
+        return PortStatus::Unfinished;
     }
-    port.socket.times_out_at = deadline(now, port.socket.agreed);
+    port.socket.times_out_at = deadline(now, port.socket.interval);
     port.due = port.socket.times_out_at.min(now.saturating_add(LOOK_AFTER));
     server.work(port.tid);
-    Turn::Onward
+    PortStatus::Onward
 }
 
 /// Counts the bytes of DATA that a datagram carries, where it took a transfer onward and there is a
@@ -207,7 +209,7 @@ fn take_timeout<S: Store>(
     port: &mut Port<TransferSocket>,
     now: u64,
 ) -> bool {
-    port.due = deadline(now, port.socket.agreed);
+    port.due = deadline(now, port.socket.interval);
     port.socket.times_out_at = port.due;
     let Ok((step, outgoing)) = server.handle_timeout(port.tid) else {
         return false;

@@ -2,7 +2,7 @@
 
 ghost use Rattle.std.specs.Prelude.{◌≡◌, ◌≤◌, ◌++◌, [], true, false, nat_lt, length, OnErr};
 ghost use Rattle.std.specs.Prelude.{IfOk, Some};
-ghost use Rattle.tftp_file.specs.Decoding.{Decodes};
+ghost use Rattle.tftp_file.specs.Decoding.{DecodesPiece};
 ghost use Rattle.tftp_ends.specs.BlockStored.{StoresBlock, StoresPiece, StoresLast};
 ghost use Rattle.tftp_ends.specs.Files.{KeepsSink};
 ghost use Rattle.tftp_ends.specs.Text.{begins_netascii, is_readable};
@@ -102,7 +102,7 @@ fn decode_into(
     piece: &[u8],
 ) -> Result<NetDecoder, AllocError>
     requires { begins_netascii (decoder ++ piece.now) ≡ true }
-    ensures { IfOk result (λ behind. Decodes decoder piece.now buffer.new.items behind) }
+    ensures { IfOk result (λ behind. DecodesPiece decoder piece.now buffer.new.items behind) }
 {
     let mut behind = decoder;
     buffer.clear();

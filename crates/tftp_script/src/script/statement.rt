@@ -11,7 +11,9 @@ use tftp_machine::is_foreign;
 use tftp_negotiate::Asked;
 use tftp_wire::{Bytes, Mode};
 
-/// A line on which something happens.
+/// A line on which something happens: an `Event` of `tftp_player`, or two things that stand for
+/// many of these, [`Statement::Settle`] and [`Statement::Random`]. The crate of scripts does not use
+/// that of the world, so that the two are proved side by side.
 #[derive(Drop)]
 pub enum Statement {
     /// A client asks for the server's file of this name.

@@ -3,7 +3,7 @@
 ghost use Rattle.std.specs.Prelude.{◌≡◌};
 ghost use Rattle.tftp_server.specs.Port.{asks_store};
 
-use crate::server::request::Asked;
+use crate::server::request::PortAction;
 use std::marker::Model;
 use tftp_ends::Endpoint;
 
@@ -20,7 +20,7 @@ use tftp_ends::Endpoint;
 pub struct Admission<'a> {
     pub(crate) from: Endpoint,
     pub(crate) bytes: &'a [u8],
-    pub(crate) asked: Asked<'a>,
+    pub(crate) asked: PortAction<'a>,
 }
 
 impl<'a> Model for Admission<'a> {
@@ -38,10 +38,10 @@ impl<'a> Admission<'a> {
         ensures { result ≡ asks_store self.now.ask }
     {
         match &self.asked {
-            Asked::Nothing => false,
-            Asked::Refuse(_) => false,
-            Asked::Read(..) => true,
-            Asked::Write(..) => true,
+            PortAction::Nothing => false,
+            PortAction::Refuse(_) => false,
+            PortAction::Read(..) => true,
+            PortAction::Write(..) => true,
         }
     }
 }

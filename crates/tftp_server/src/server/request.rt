@@ -13,7 +13,8 @@ ghost use Rattle.tftp_ends.specs.Action.{Decodes};
 ghost use Rattle.tftp_ends.specs.End.{is_sender};
 ghost use Rattle.tftp_ends.specs.Opening.{ServesRead, CannotStart, serving_write};
 ghost use Rattle.tftp_server.specs.State.{IsRepeated, source_of};
-ghost use Rattle.tftp_server.specs.Port.{accept_reply, asks, begin_reply, by_file, by_kind};
+ghost use Rattle.tftp_server.specs.Port.{accept_reply, agreed_size, asks, begin_reply, by_file};
+ghost use Rattle.tftp_server.specs.Port.{by_kind};
 ghost use Rattle.tftp_server.specs.Port.{by_name, by_options, by_room, by_length};
 ghost use Rattle.tftp_server.specs.Request.{Acts, Admits, AsksToRead, AsksToWrite, IsRequest};
 ghost use Rattle.tftp_server.specs.Request.{Sent, ask_of};
@@ -32,7 +33,7 @@ use tftp_wire::{Mode, PacketRef, RequestRef, has_error_opcode};
 
 /// What the request port does before it asks its store.
 #[derive(Drop)]
-pub(crate) enum Asked<'a> {
+pub(crate) enum PortAction<'a> {
     /// Nothing.
     Nothing,
     /// An ERROR goes out.
@@ -65,26 +66,26 @@ fn request_of<'a>(decoded: Option<PacketRef<'a>>) -> Option<(Kind, RequestRef<'a
 
 /// The options of a write are answered before the store is asked: the length of the file is then
 /// known by its `tsize` alone (RFC 2349, "Transfer Size Option Specification").
-fn by_options<'a>(path: Path, request: RequestRef<'a>, limits: &Limits) -> Asked<'a>
+fn by_options<'a>(path: Path, request: RequestRef<'a>, limits: &Limits) -> PortAction<'a>
     requires { IsBlockSize limits.now.max_block }
     ensures { ask_of result ≡ by_options path request.entry.mode
         (answer request.entry.options Kind.Write request.entry.mode 0 limits.now) }
 {
     let mode = request.mode;
     match accept_ref(&request.options, Kind::Write, mode, 0, limits) {
-        Ok(agreed) => Asked::Write(path, mode, agreed),
-        Err(refusal) => Asked::Refuse(accept_reply(refusal)),
+        Ok(agreed) => PortAction::Write(path, mode, agreed),
+        Err(refusal) => PortAction::Refuse(accept_reply(refusal)),
     }
 }
 
 /// A read goes to the store, a write first to its options.
-fn by_kind<'a>(kind: Kind, path: Path, request: RequestRef<'a>, limits: &Limits) -> Asked<'a>
+fn by_kind<'a>(kind: Kind, path: Path, request: RequestRef<'a>, limits: &Limits) -> PortAction<'a>
     requires { IsBlockSize limits.now.max_block }
     ensures { ask_of result ≡ by_kind kind request.entry.mode request.entry.options limits.now
         path }
 {
     match kind {
-        Kind::Read => Asked::Read(path, request),
+        Kind::Read => PortAction::Read(path, request),
         Kind::Write => by_options(path, request, limits),
     }
 }
@@ -96,13 +97,13 @@ fn by_room<'a>(
     kind: Kind,
     path: Path,
     request: RequestRef<'a>,
-) -> Asked<'a>
+) -> PortAction<'a>
     requires { IsBlockSize config.now.limits.max_block }
     ensures { ask_of result ≡ by_room config.now.cap count
         (by_kind kind request.entry.mode request.entry.options config.now.limits) path }
 {
     if count >= usize::from(config.cap) {
-        return Asked::Refuse(ErrorReply::ServerBusy);
+        return PortAction::Refuse(ErrorReply::ServerBusy);
     }
     by_kind(kind, path, request, &config.limits)
 }
@@ -114,7 +115,7 @@ fn by_name<'a>(
     count: usize,
     kind: Kind,
     request: RequestRef<'a>,
-) -> Result<Asked<'a>, ServerFault>
+) -> Result<PortAction<'a>, ServerFault>
     requires { IsBlockSize config.now.limits.max_block }
     ensures named { IfOk result (λ asked. ask_of asked ≡ by_name config.now.cap count
         (by_kind kind request.entry.mode request.entry.options config.now.limits)
@@ -125,8 +126,20 @@ fn by_name<'a>(
         Ok(path) => Ok(by_room(config, count, kind, path, request)),
         Err(PathFault::Memory) => Err(ServerFault::Memory),
         Err(PathFault::Empty | PathFault::Segment | PathFault::Depth | PathFault::Length) => {
-            Ok(Asked::Refuse(ErrorReply::AccessViolation))
+            Ok(PortAction::Refuse(ErrorReply::AccessViolation))
         }
+    }
+}
+
+/// The block size of a read by this request, in bytes, unless its options are refused.
+pub(crate) fn read_block_size(request: &RequestRef<'_>, limits: &Limits) -> Option<u16>
+    requires { IsBlockSize limits.now.max_block }
+    ensures { result ≡ agreed_size (answer request.now.options Kind.Read request.now.mode 0
+        limits.now) }
+{
+    match accept_ref(&request.options, Kind::Read, request.mode, 0, limits) {
+        Ok(agreed) => Some(agreed.block_size()),
+        Err(_) => None,
     }
 }
 
@@ -223,7 +236,7 @@ impl<S: Store> Server<S> {
         &self,
         from: Endpoint,
         bytes: &'a [u8],
-    ) -> Result<Asked<'a>, ServerFault>
+    ) -> Result<PortAction<'a>, ServerFault>
         ensures asks { IfOk result (λ asked. Admits self.now from bytes.now (ask_of asked)) }
         ensures memory { IfErr result (λ fault. fault ≡ ServerFault.Memory) }
         ensures acts { OnErr result (Acts self.now from bytes.now) }
@@ -231,16 +244,16 @@ impl<S: Store> Server<S> {
         let decoded = decode_packet(bytes);
         let is_repeated = self.table.is_repeated(from, &decoded);
         if has_error_opcode(bytes) {
-            return Ok(Asked::Nothing);
+            return Ok(PortAction::Nothing);
         }
         match request_of(decoded) {
             Some((kind, request)) => {
                 if is_repeated {
-                    return Ok(Asked::Nothing);
+                    return Ok(PortAction::Nothing);
                 }
                 by_name(self.alloc, &self.config, self.table.len(), kind, request)
             }
-            None => Ok(Asked::Refuse(ErrorReply::IllegalOperation)),
+            None => Ok(PortAction::Refuse(ErrorReply::IllegalOperation)),
         }
     }
 

@@ -4,7 +4,7 @@
 
 ghost use Rattle.std.specs.Prelude.{◌≡◌, ◌*◌, IfOk, length, unwrap_or};
 ghost use Rattle.hex.specs.Hex.{decode_of, hex_digit_value};
-ghost use Rattle.tftp_show.specs.Show.{Decodes};
+ghost use Rattle.tftp_show.specs.Show.{DecodesHex};
 
 use std::alloc::AllocError;
 
@@ -13,7 +13,7 @@ const NO_DIGIT: u8 = 255;
 
 /// Whether the digits are hexadecimal, two for a byte; `bytes` are then what they stand for.
 pub(crate) fn decode_digits(digits: &[u8], bytes: &mut Vec<u8>) -> Result<bool, AllocError>
-    ensures { IfOk result (λ is_hex. Decodes (decode_of digits.now) is_hex bytes.new.items) }
+    ensures { IfOk result (λ is_hex. DecodesHex (decode_of digits.now) is_hex bytes.new.items) }
 {
     if digits.len() % 2 != 0 {
         return Ok(false);
@@ -25,7 +25,7 @@ pub(crate) fn decode_digits(digits: &[u8], bytes: &mut Vec<u8>) -> Result<bool, 
 /// Whether all are digits; `bytes` are then what the pairs stand for.
 fn decode_pairs(digits: &[u8], bytes: &mut [u8]) -> bool
     requires { length digits.now ≡ 2 * length bytes.old }
-    ensures { Decodes (decode_of digits.now) result bytes.new }
+    ensures { DecodesHex (decode_of digits.now) result bytes.new }
 {
     let mut largest = 0u8;
     for i in 0..bytes.len() {

@@ -2,7 +2,7 @@
 use Rattle.std.proofs.Common.{rules, ◌≡◌, ◌++◌, ◌∷◌, [], ℕ, List, length, option_to_list, sym, ap, ◌∙◌, subst, append_assoc}
 use Rattle.std.proofs.lemmas.List.{append-nil}
 use Rattle.std.proofs.lemmas.Result.{err_from_is_err_and}
-use Rattle.tftp_file.specs.Decoding.{held_bytes, Decodes}
+use Rattle.tftp_file.specs.Decoding.{held_bytes, DecodesPiece}
 use Rattle.tftp_file.proofs.DecodingLemmas.{nothing_taken, piece_taken, piece_begins, piece_wrong, wrong_refuses, decoded_once}
 use Rattle.tftp_file.proofs.netascii.NetDecoder.push.Goals as goal
 use Rattle.tftp_file.proofs.netascii.NetDecoder.push.Goals.{in-Some, in_default}
@@ -39,6 +39,6 @@ returns-clause-ok c =
     ] in
     let taken = piece_taken (held_bytes c.self.inside.held) c.args.piece.now (option_to_list c.in_ok-first.first) c.in_ok-first.rest.now read.0 (held_bytes c.in_ok-held.held) c.in_ok-first.ensures.ok read.1 in (
       option_to_list c.in_ok-first.first ++ read.0,
-      subst (λ (t : List ℕ). Decodes t c.args.piece.now (option_to_list c.in_ok-first.first ++ read.0) (held_bytes c.in_ok-held.held)) c.self.view_is taken,
+      subst (λ (t : List ℕ). DecodesPiece t c.args.piece.now (option_to_list c.in_ok-first.first ++ read.0) (held_bytes c.in_ok-held.held)) c.self.view_is taken,
       wrote.3 ∙ (ap (λ (t : List ℕ). t ++ wrote.0) first ∙ (append_assoc c.args.out.now.items (option_to_list c.in_ok-first.first) wrote.0 ∙ ap (λ (t : List ℕ). c.args.out.now.items ++ (option_to_list c.in_ok-first.first ++ t)) (sym same.0))),
     )

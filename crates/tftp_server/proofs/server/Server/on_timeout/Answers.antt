@@ -1,6 +1,6 @@
 -- A fault comes from the transfer at the identifier, or from there being none.
 use Rattle.std.proofs.Common.{◌≡◌, ap, ◌∙◌, List, ℕ}
-use Rattle.tftp_server.specs.State.{ServerState, Held, at}
+use Rattle.tftp_server.specs.State.{ServerState, HeldTransfer, at}
 use Rattle.tftp_server.specs.Steps.{appends}
 use Rattle.tftp_server.proofs.StepsLemmas.{found_now, timeout_fault, times_out, nothing_written}
 use Rattle.tftp_server.proofs.server.Server.on_timeout.Goals as goal
@@ -31,7 +31,7 @@ returns-clause-steps g c =
 
 pub returns-clause-err : goal.returns-clause-err
 returns-clause-err g c =
-    let with_held : List (ℕ × Held g.row.S-Source.Denot g.row.S-Draft.Denot) → ServerState g.row.S.Denot g.row.S-Source.Denot g.row.S-Draft.Denot =
+    let with_held : List (ℕ × HeldTransfer g.row.S-Source.Denot g.row.S-Draft.Denot) → ServerState g.row.S.Denot g.row.S-Source.Denot g.row.S-Draft.Denot =
     λ held. record { config = c.self.inside.config; store = c.self.inside.store; held = held }
     in elim c.match-on_timeout.branch [
       | in-Ok w ↦ rw w.result-is tt

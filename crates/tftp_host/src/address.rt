@@ -1,9 +1,8 @@
-//! Addresses, the size of a datagram and the clock, as the programs over UDP use them.
+//! Addresses and the size of a datagram, as the programs over UDP use them.
 
 ghost use Rattle.tftp_host.specs.Address.{IsAddressOf, IsEndpointOf, Names};
 
 use std::net::{SocketAddr, SocketAddrV4};
-use std::time::Clock;
 use tftp_ends::Endpoint;
 use tftp_wire::MAX_DATA;
 
@@ -35,17 +34,5 @@ pub fn endpoint_in(word: &str) -> Option<Endpoint>
     match word.parse::<SocketAddrV4>() {
         Ok(address) => Some(Endpoint::from(address)),
         Err(_) => None,
-    }
-}
-
-/// A reading of the monotonic clock in milliseconds, or the last one where it cannot be read. What
-/// a clock reads is told by no contract.
-pub fn read_clock(clock: &impl Clock, last: u64) -> u64 {
-    match clock.monotonic() {
-        Ok(time) => {
-            let millis = u64::from(time.subsec_millis());
-            time.as_secs().saturating_mul(1_000).saturating_add(millis)
-        }
-        Err(_) => last,
     }
 }

@@ -4,11 +4,11 @@ use Rattle.std.specs.Fmt.{decimal}
 use Rattle.tftp_ends.specs.Outcome.{outcome_text}
 use Rattle.tftp_ends.specs.declared.fault.OpenFault.{OpenFault}
 use Rattle.tftp_ends.specs.declared.fault.OpenFault.TheVariants as open_faults
-use Rattle.tftp_host.specs.declared.client_end.ClientEnd.{ClientEnd}
-use Rattle.tftp_host.specs.declared.client_end.ClientEnd.TheVariants.{Complete, Failed, FileFault, SocketFault, NotOpened, Memory}
+use Rattle.tftp_host.specs.declared.client.client_outcome.ClientOutcome.{ClientOutcome}
+use Rattle.tftp_host.specs.declared.client.client_outcome.ClientOutcome.TheVariants.{Complete, Failed, FileFault, SocketFault, NotOpened, Memory}
 
 -- the status: 0 for a complete transfer, 1 for one that failed, 2 where none was opened
-abbrev pub status_of : ClientEnd → ℕ
+abbrev pub status_of : ClientOutcome → ℕ
 status_of (Complete count) = 0
 status_of (Failed outcome) = 1
 status_of FileFault = 2
@@ -24,7 +24,7 @@ open_fault_word open_faults.SourceFault = codes "SourceFault"
 open_fault_word open_faults.Memory = codes "Memory"
 
 -- the line, without its end
-abbrev pub end_text : ClientEnd → List ℕ
+abbrev pub end_text : ClientOutcome → List ℕ
 end_text (Complete count) = codes "complete " ++ decimal count
 end_text (Failed outcome) = codes "tftp: " ++ outcome_text outcome
 end_text FileFault = codes "tftp: file fault"

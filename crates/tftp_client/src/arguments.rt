@@ -1,7 +1,7 @@
 //! The command line of `tftp`.
 
 ghost use Rattle.std.specs.Prelude.{◌≡◌, ◌≤◌, IfOk, IfErr};
-ghost use Rattle.tftp_host.specs.ClientEnd.{status_of};
+ghost use Rattle.tftp_host.specs.ClientOutcome.{status_of};
 
 use crate::transfer::{Completed, Failure, Job, transfer};
 use crate::udp::Udp;
@@ -14,7 +14,7 @@ use std::net::Net;
 use std::rt::{Files, Runtime};
 use std::time::Clock;
 use tftp_arguments::{VERSION, flag, number, own_words, print_usage, word};
-use tftp_host::{ClientEnd, endpoint_in};
+use tftp_host::{ClientOutcome, endpoint_in};
 use tftp_negotiate::{Asked, DEFAULT_BLOCK, Kind, MAX_BLOCK, MIN_BLOCK};
 use tftp_wire::Mode;
 
@@ -45,7 +45,7 @@ pub fn tftp_command<R: Runtime + AllocGlobal + Net, E: IsTerminal>(rt: &R, error
 /// name; `errors` is standard error, on which how far a transfer came is shown where it is a
 /// terminal.
 ///
-/// `--help` and `--version` print and return 0. The status is that of the [`ClientEnd`] whose line
+/// `--help` and `--version` print and return 0. The status is that of the [`ClientOutcome`] whose line
 /// is printed, and 2 for a command line that is not understood, which is reported on standard
 /// error, when out of memory, and where an output cannot be written.
 pub fn tftp_words<R: Runtime + AllocGlobal + Net, S: AsStr, E: IsTerminal>(
@@ -216,11 +216,11 @@ fn conclude<N: Clock + Print + Eprint, R: Files + Drop>(
 }
 
 /// Prints how a transfer ended, and returns the status.
-fn print_end<R: Print + Eprint>(rt: &R, end: ClientEnd) -> io::Result<u8>
+fn print_end<R: Print + Eprint>(rt: &R, end: ClientOutcome) -> io::Result<u8>
     ensures { IfOk result (λ status. status ≡ status_of end) }
 {
     match end {
-        ClientEnd::Complete(_) => rt.println(end)?,
+        ClientOutcome::Complete(_) => rt.println(end)?,
         _ => rt.eprintln(end)?,
     }
     Ok(end.status())

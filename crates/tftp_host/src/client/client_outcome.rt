@@ -1,7 +1,7 @@
 //! How a run of `tftp` ended: its last line and its status.
 
 ghost use Rattle.std.specs.Prelude.{◌≡◌};
-ghost use Rattle.tftp_host.specs.ClientEnd.{open_fault_word, status_of};
+ghost use Rattle.tftp_host.specs.ClientOutcome.{open_fault_word, status_of};
 
 use std::fmt;
 use tftp_ends::{OpenFault, Outcome};
@@ -9,7 +9,7 @@ use tftp_ends::{OpenFault, Outcome};
 /// How a run of `tftp` ended. `{}` writes the line that it prints: a complete transfer on standard
 /// output, and any other on standard error.
 #[derive(Clone, Copy, Debug, PartialEq, Eq)]
-pub enum ClientEnd {
+pub enum ClientOutcome {
     /// The transfer is complete; the bytes of the file on this host.
     Complete(u64),
     /// The transfer was opened, and ended otherwise.
@@ -24,19 +24,19 @@ pub enum ClientEnd {
     Memory,
 }
 
-impl ClientEnd {
+impl ClientOutcome {
     /// The status of the program: 0 for a complete transfer, 1 for one that failed, and 2 where
     /// none was opened.
     pub fn status(self) -> u8
         ensures { result ≡ status_of self }
     {
         match self {
-            ClientEnd::Complete(_) => 0,
-            ClientEnd::Failed(_) => 1,
-            ClientEnd::FileFault
-            | ClientEnd::SocketFault
-            | ClientEnd::NotOpened(_)
-            | ClientEnd::Memory => 2,
+            ClientOutcome::Complete(_) => 0,
+            ClientOutcome::Failed(_) => 1,
+            ClientOutcome::FileFault
+            | ClientOutcome::SocketFault
+            | ClientOutcome::NotOpened(_)
+            | ClientOutcome::Memory => 2,
         }
     }
 }
@@ -53,23 +53,23 @@ fn open_fault_word(fault: OpenFault) -> &'static str
     }
 }
 
-impl fmt::Display for ClientEnd {
+impl fmt::Display for ClientOutcome {
     ghost use Rattle.std.specs.Prelude.{Some};
-    ghost use Rattle.tftp_host.specs.ClientEnd.{end_text};
+    ghost use Rattle.tftp_host.specs.ClientOutcome.{end_text};
 
     ghost output = { λ end. Some (end_text end) };
 
     fn fmt<W: fmt::Write>(&self, f: &mut fmt::Formatter<W>) -> fmt::Result {
         match *self {
-            ClientEnd::Complete(count) => write!(f, "complete {count}"),
-            ClientEnd::Failed(outcome) => write!(f, "tftp: {outcome}"),
-            ClientEnd::FileFault => f.write_str("tftp: file fault"),
-            ClientEnd::SocketFault => f.write_str("tftp: socket fault"),
-            ClientEnd::NotOpened(fault) => {
+            ClientOutcome::Complete(count) => write!(f, "complete {count}"),
+            ClientOutcome::Failed(outcome) => write!(f, "tftp: {outcome}"),
+            ClientOutcome::FileFault => f.write_str("tftp: file fault"),
+            ClientOutcome::SocketFault => f.write_str("tftp: socket fault"),
+            ClientOutcome::NotOpened(fault) => {
                 let word = open_fault_word(fault);
                 write!(f, "tftp: {word}")
             }
-            ClientEnd::Memory => f.write_str("tftp: out of memory"),
+            ClientOutcome::Memory => f.write_str("tftp: out of memory"),
         }
     }
 }

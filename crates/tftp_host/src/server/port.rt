@@ -2,6 +2,7 @@
 
 ghost use Rattle.std.specs.Prelude.{◌≡◌, ◌==◌, ◌≤◌, ◌-◌, map, position, All};
 ghost use Rattle.tftp_host.specs.Watch.{wait_of};
+ghost use Rattle.tftp_host.specs.declared.watch.TheConstants.{LONGEST_WAIT};
 
 use crate::watch::LONGEST_WAIT;
 
@@ -21,7 +22,7 @@ pub struct Port<S> {
 /// How long to wait, in milliseconds: until the nearest deadline, and a second at most.
 pub fn wait_for<S>(now: u64, ports: &[Port<S>]) -> u64
     ensures value { result ≡ wait_of now (map (λ port. port.due) ports.now) }
-    ensures longest { result ≤ 1000 }
+    ensures longest { result ≤ LONGEST_WAIT }
     ensures nearest { All (λ port. result ≤ port.due - now) ports.now }
 {
     match ports {

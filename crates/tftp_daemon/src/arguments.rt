@@ -3,7 +3,7 @@
 ghost use Rattle.std.specs.Prelude.{◌≤◌, IfOk, IfErr, IfSome};
 ghost use Rattle.tftp_server.specs.Config.{IsConfig};
 
-use crate::daemon::{Ending, Service, ServiceFault, serve};
+use crate::daemon::{DaemonConfig, DaemonFault, Ending, serve};
 use crate::udp::Udp;
 use anyhow::Result;
 use clap::error::ErrorKind;
@@ -95,7 +95,7 @@ fn serve_asked<R: Files + Clone + Drop + Udp + Clock + Print + Eprint>(
 }
 
 /// What a command line asks for, or the status where it was answered at once.
-type Asked<'a> = std::result::Result<Service<'a>, u8>;
+type Asked<'a> = std::result::Result<DaemonConfig<'a>, u8>;
 
 /// Reads the words by what `tftpd` understands.
 fn read_words<'a, P: Print + Eprint, S: AsStr>(
@@ -153,28 +153,28 @@ fn report_address<P: Print + Eprint>(rt: &P, command: &mut Command<'_>) -> Resul
 }
 
 /// Prints why the server ended, unless it was done, and returns the status.
-fn report<R: Eprint>(rt: &R, served: std::result::Result<(), ServiceFault>) -> io::Result<u8>
+fn report<R: Eprint>(rt: &R, served: std::result::Result<(), DaemonFault>) -> io::Result<u8>
     ensures { IfOk result (λ status. status ≤ 2) }
 {
     let message = match served {
         Ok(()) => return Ok(0),
-        Err(ServiceFault::File) => "tftpd: file fault",
-        Err(ServiceFault::Socket) => "tftpd: socket fault",
-        Err(ServiceFault::Output) => "tftpd: output fault",
-        Err(ServiceFault::Memory) => "tftpd: out of memory",
+        Err(DaemonFault::File) => "tftpd: file fault",
+        Err(DaemonFault::Socket) => "tftpd: socket fault",
+        Err(DaemonFault::Output) => "tftpd: output fault",
+        Err(DaemonFault::Memory) => "tftpd: out of memory",
     };
     rt.eprintln(message)?;
     Ok(2)
 }
 
 /// What the words of a command line that is understood say, if the address is one.
-fn service<'a>(matches: &ArgMatches<'a>) -> Option<Service<'a>>
+fn service<'a>(matches: &ArgMatches<'a>) -> Option<DaemonConfig<'a>>
     ensures { IfSome result (λ service. IsConfig service.config) }
 {
     let root = matches.get_str("ROOT")?;
     let listen = endpoint_in(matches.get_str("listen")?)?;
     let config = config(matches)?;
-    Some(Service {
+    Some(DaemonConfig {
         root,
         listen,
         config,

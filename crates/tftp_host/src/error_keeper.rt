@@ -4,24 +4,24 @@ use std::io::{self, Read, Write};
 
 /// A reader or a writer that keeps its newest error.
 #[derive(Drop)]
-pub(crate) struct ErrorKeeper<F> {
+pub struct ErrorKeeper<F> {
     file: F,
     error: Option<io::Error>,
 }
 
 impl<F> ErrorKeeper<F> {
     /// A file that has not failed yet.
-    pub(crate) fn new(file: F) -> ErrorKeeper<F> {
+    pub fn new(file: F) -> ErrorKeeper<F> {
         ErrorKeeper { file, error: None }
     }
 
     /// The file.
-    pub(crate) fn get_ref(&self) -> &F {
+    pub fn get_ref(&self) -> &F {
         &self.file
     }
 
     /// Why it failed last, if it did.
-    pub(crate) fn error(&self) -> Option<io::Error> {
+    pub fn error(&self) -> Option<io::Error> {
         self.error
     }
 }

@@ -1,0 +1,9 @@
+//! What `tftpd` alone prints and decides.
+
+mod log_line;
+mod port;
+mod printed;
+
+pub use log_line::{LogLine, Lost};
+pub use port::{Port, place_of, wait_for};
+pub use printed::Printed;

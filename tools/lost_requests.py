@@ -1,0 +1,83 @@
+#!/usr/bin/env python3
+"""Refuses each request for memory of a server in turn: lost_requests.py [TFTPD]
+
+TFTPD is the built tftpd; without words, the one that `rt ci` built. A client asks for a file, and again where it gets
+no answer. Whichever request for memory is refused, the transfer completes, and a request that is lost is a line of the
+log that says so. The counter is refuse_memory.c, compiled into a temporary folder.
+"""
+import os
+import re
+import socket
+import subprocess
+import sys
+import tempfile
+from pathlib import Path
+
+from memory_in_turn import compiled
+
+TFTPD = Path(__file__).resolve().parent.parent / "crates" / "tftpd_main" / "out" / "tftpd_main"
+PATIENCE = 20
+REPEAT_AFTER = 0.25
+REQUEST = b"\0\1a\0octet\0"
+DATA = b"\0\3\0\1fortytwo"
+ACK = b"\0\4\0\1"
+
+
+def fetched(server):
+    """How often a client asks until it has the file."""
+    with socket.socket(socket.AF_INET, socket.SOCK_DGRAM) as client:
+        client.bind(("127.0.0.1", 0))
+        client.settimeout(REPEAT_AFTER)
+        for requests in range(1, 10):
+            client.sendto(REQUEST, server)
+            try:
+                data, peer = client.recvfrom(600)
+            except socket.timeout:
+                continue
+            if data != DATA:
+                sys.exit(f"lost requests: the answer is {data!r}")
+            client.sendto(ACK, peer)
+            return requests
+    sys.exit("lost requests: no answer")
+
+
+def served(program, counter, folder, refused):
+    """How often the client asks, the log, and how many requests for memory were made and refused."""
+    words = [program, folder, "--listen", "127.0.0.1:0", "--log"]
+    env = {"LD_PRELOAD": str(counter), "REFUSED": str(refused), "FROM_OUTPUT": "1"}
+    with subprocess.Popen(words, env=env, stdout=subprocess.PIPE, stderr=subprocess.PIPE, text=True) as server:
+        port = int(server.stdout.readline().rsplit(":", 1)[1])
+        requests = fetched(("127.0.0.1", port))
+        printed, log = server.communicate(timeout=PATIENCE)
+    counts = re.search(r"^counted (\d+) refused (\d+)$", log, re.M)
+    if server.returncode or not counts or not printed.endswith(" Complete\n"):
+        sys.exit(f"lost requests: with {refused} refused, status {server.returncode}: {printed}{log}")
+    return requests, log, int(counts[1]), int(counts[2])
+
+
+def main():
+    if len(sys.argv) > 2:
+        sys.exit(__doc__)
+    program = os.path.abspath(sys.argv[1] if len(sys.argv) == 2 else TFTPD)
+    if not os.path.exists(program):
+        sys.exit(f"lost requests: {program} is not there; `rt ci` builds it")
+    lost, wrong = 0, 0
+    with tempfile.TemporaryDirectory(prefix="tftp-lost-") as folder:
+        counter = compiled(folder)
+        files = Path(folder, "files")
+        files.mkdir()
+        Path(files, "a").write_bytes(b"fortytwo")
+        _, _, count, _ = served(program, counter, str(files), 0)
+        for request in range(1, count + 1):
+            requests, log, _, refused = served(program, counter, str(files), request)
+            lines = re.findall(r"^lost 127\.0\.0\.1:\d+ RRQ a octet: out of memory$", log, re.M)
+            lost += len(lines)
+            if refused != 1 or len(lines) > 1 or requests > 1 + len(lines):
+                wrong += 1
+                print(f"lost requests: {request} of {count}, refused {refused}, asked {requests} times", log, sep="\n")
+    print(f"lost requests: {count} requests for memory, each refused in turn: {lost} requests of the client lost")
+    sys.exit(1 if wrong or not lost else 0)
+
+
+if __name__ == "__main__":
+    main()
