@@ -1,4 +1,4 @@
--- What is known of the action that an end finds at a packet.
+-- What holds of the action of an end for a packet.
 use Rattle.std.proofs.Common.{◌≡◌, ◌<◌, ◌∙◌, ℕ, Bool, true, false, List, [], length, drop, Option, Some, None, Result, Ok, Err, refl, sym, ap, subst, ◌≤◌, arith}
 use Rattle.std.proofs.lemmas.Bool.{lt-ltb, eqb-true}
 use Rattle.std.specs.Prelude.{◌==◌, ◌&&◌, ◌+◌, ◌*◌, ◌/◌, ◌||◌, not, nat_lt, nat_le, if◌then◌else◌}
@@ -33,7 +33,7 @@ use Rattle.tftp_ends.specs.Step.{ack_bytes}
 use Rattle.tftp_ends.specs.Text.{is_readable}
 use Rattle.tftp_ends.specs.Waiting.{reader_action, writer_action, accept_action, begin_action, begin_with_action, refusal_action, default_terms, agreed_terms, no_answer}
 
--- either way of a test
+-- both cases of a test
 if_either : {A : Type 0} (P : A → Type 0) (b : Bool) (r s : A) → (b ≡ true → P r) → (b ≡ false → P s) → P (if b then r else s)
 if_either P true r s f g = f refl
 if_either P false r s f g = g refl
@@ -59,17 +59,17 @@ both_first : (a b : Bool) → (a && b) ≡ true → a ≡ true
 both_first true b h = refl
 both_first false b h = h
 
--- terms of an end that had none allow its request
+-- any terms allow the request of an end that had none
 pub sent_any : (e : EndState) (terms : Option Terms) → length e.position.last_sent ≤ MAX_REQUEST → SentFits e terms
 sent_any e None w = w
 sent_any e (Some terms) w = omega (arith, w)
 
 module _ (e : EndState) (from : Endpoint) (bytes : List ℕ) where
-  -- what an action asks of the end and of the datagram
+  -- what an action requires of the end and of the datagram
   abbrev Fits : Action → Type 0
   Fits action = BytesFit e bytes action
 
-  -- what was sent last is the ACK of the number
+  -- the last datagram sent is the ACK of the number
   abbrev HasAcked : Type 0
   HasAcked = e.position.last_sent ≡ ack_bytes (number_of e.position.phase)
 
@@ -174,7 +174,7 @@ module _ (e : EndState) (from : Endpoint) (bytes : List ℕ) where
   writer_fits asked limit (Some (Error code text)) w = tt
   writer_fits asked limit (Some (Oack options)) w = begin_with_fits e.role.length (agreement asked kinds.Write e.role.mode options limit) w
 
-  -- what an end sent last, where it has acknowledged what it stored
+  -- the last datagram of an end that has acknowledged what it stored
   has_acked : (terms : Terms) (number : ℕ) → number_of e.position.phase ≡ number → HasAcknowledged e terms number → (is_client e.role.side || (not terms.by_oack || nat_lt 0 number)) ≡ true → HasAcked
   has_acked terms number same acknowledged may = acknowledged may ∙ ap ack_bytes (sym same)
 
@@ -201,6 +201,6 @@ module _ (e : EndState) (from : Endpoint) (bytes : List ℕ) where
   phase_fits decoded (Dallying terms number dally) same fits resends s d = dally_fits terms number decoded same resends d
   phase_fits decoded (Closed terms number complete outcome) same fits resends s d = tt
 
-  -- whatever an end finds at a packet
+  -- any action for a packet
   pub packet_fits : (decoded : Option Packet) → IsSound e → Decodes bytes decoded → Fits (packet_action e from decoded e.position.phase)
   packet_fits decoded sound d = phase_fits decoded e.position.phase refl sound.phase sound.resends sound.sent d

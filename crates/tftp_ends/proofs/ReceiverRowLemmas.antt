@@ -42,7 +42,7 @@ module _ {S K : Type 0} (sources : SourceMeaning S) (sinks : SinkMeaning K) wher
     dally_heard : (packet : Packet) → Spells packet c.bytes → DidSo c (packet_action c.e c.from (Some packet) (Dallying terms n dally))
     dally_heard packet says = at_packet c packet (Dallying terms n dally) (own_peer terms.peer c.from f.peer) f.stands says
 
-  -- no file was touched
+  -- no file was used
   abbrev Responded : (c : Handled sources sinks) → Response → Type 0
   Responded c response = DidSo c (Respond response)
 

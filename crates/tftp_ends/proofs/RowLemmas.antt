@@ -1,4 +1,4 @@
--- What an end does at a datagram, in the words of the tables.
+-- An end's step for a datagram, in the vocabulary of the tables.
 use Rattle.std.proofs.Common.{◌≡◌, ◌≤◌, ℕ, Bool, true, false, List, [], ◌∷◌, length, Option, Some, None, Result, Ok, Err, refl, sym, ap, subst, ◌∙◌}
 use Rattle.std.proofs.lemmas.Bool.{true≢false, eq-eqb, le-ltb}
 use Rattle.std.specs.Prelude.{◌+◌, ◌==◌, ◌&&◌, not, nat_eq, nat_lt, is_none, if◌then◌else◌}
@@ -39,7 +39,7 @@ use Rattle.tftp_ends.specs.Step.{Done, Turn, Reply, Acts, AcksAgain, IsAck, Send
 use Rattle.tftp_ends.specs.Text.{is_readable}
 use Rattle.tftp_ends.proofs.ActionLemmas.{data_behind}
 
--- ---- what a datagram says
+-- ---- the packet of a datagram
 decoded_is : (bytes : List ℕ) (packet : Packet) (decoded : Option Packet) → Spells packet bytes → Decodes bytes decoded → decoded ≡ Some packet
 decoded_is bytes packet (Some other) s d = ap (λ (p : Packet). Some p) (one_meaning other packet bytes d s)
 decoded_is bytes packet None s d = absurd (let f : None ≡ Some d.0 = sym (spelled_has_no_fault packet bytes s) ∙ d.1 in cc)
@@ -48,7 +48,7 @@ decoded_none : (bytes : List ℕ) (decoded : Option Packet) → ((packet : Packe
 decoded_none bytes (Some packet) n d = absurd (n packet d)
 decoded_none bytes None n d = refl
 
--- ---- from whom it came
+-- ---- its sender
 same_list : (xs : List ℕ) → pointwise nat_eq xs xs ≡ true
 same_list [] = refl
 same_list (x ∷ xs) = ap (λ (b : Bool). b && pointwise nat_eq xs xs) (eq-eqb x x refl) ∙ same_list xs
@@ -75,11 +75,11 @@ and_false true = refl
 and_false false = refl
 
 module _ {S K : Type 0} {sources : SourceMeaning S} {sinks : SinkMeaning K} (c : Handled sources sinks) where
-  -- the end did this
+  -- the end made this turn
   abbrev pub DidSo : Action → Type 0
   DidSo action = Acts sources sinks action c.from c.bytes c.e c.files c.turn c.files' × AcksAgain c.e c.turn action
 
-  -- what it does at what its bytes say, in a phase
+  -- its action for the decoded bytes, in a phase
   abbrev does_at : Option Packet → Phase → Action
   does_at decoded phase =
       if is_stranger (terms_of phase) c.e.position.last_sent_to c.from then (if has_error_opcode c.bytes then Respond Ignore else Respond Stranger)
@@ -91,7 +91,7 @@ module _ {S K : Type 0} {sources : SourceMeaning S} {sinks : SinkMeaning K} (c :
       let now : DidSo (does_at c.step.decoded c.e.position.phase) = (c.step.acts, c.step.again) in
       subst (λ (p : Phase). DidSo (does_at decoded p)) stands (subst (λ (d : Option Packet). DidSo (does_at d c.e.position.phase)) says now)
 
-  -- at a packet of its own
+  -- for a packet
   pub at_packet : (packet : Packet) (phase : Phase) → is_stranger (terms_of phase) c.e.position.last_sent_to c.from ≡ false → c.e.position.phase ≡ phase → Spells packet c.bytes →
       DidSo (packet_action c.e c.from (Some packet) phase)
   at_packet packet phase own stands says =
@@ -100,7 +100,7 @@ module _ {S K : Type 0} {sources : SourceMeaning S} {sinks : SinkMeaning K} (c :
       (if has_error_opcode c.bytes && false then Respond (garbled_response phase) else packet_action c.e c.from (Some packet) phase) own
       (did_at (Some packet) phase (decoded_is c.bytes packet c.step.decoded says c.step.says) stands))
 
-  -- at what spells no packet
+  -- for bytes that spell no packet
   nothing_at : (phase : Phase) → is_stranger (terms_of phase) c.e.position.last_sent_to c.from ≡ false → c.e.position.phase ≡ phase → ((packet : Packet) → Spells packet c.bytes → ⊥) →
       DidSo (if has_error_opcode c.bytes && true then Respond (garbled_response phase) else packet_action c.e c.from None phase)
   nothing_at phase own stands none =
@@ -118,14 +118,14 @@ module _ {S K : Type 0} {sources : SourceMeaning S} {sinks : SinkMeaning K} (c :
   either_same true x h = h
   either_same false x h = h
 
-  -- where both have one answer
+  -- if both cases have the same answer
   pub at_nothing : (phase : Phase) → is_stranger (terms_of phase) c.e.position.last_sent_to c.from ≡ false → c.e.position.phase ≡ phase → ((packet : Packet) → Spells packet c.bytes → ⊥) →
       Respond (garbled_response phase) ≡ packet_action c.e c.from None phase → DidSo (packet_action c.e c.from None phase)
   at_nothing phase own stands none same =
       either_same (has_error_opcode c.bytes && true) (packet_action c.e c.from None phase)
       (subst (λ (a : Action). DidSo (if has_error_opcode c.bytes && true then a else packet_action c.e c.from None phase)) same (nothing_at phase own stands none))
 
-  -- ---- where no file is touched
+  -- ---- without use of a file
   pub does_nothing : DidSo (Respond Ignore) → DoesNothing c
   does_nothing h = record { silent = ap (λ (t : Turn). t.reply) h.0.0; position = ap (λ (t : Turn). t.position) h.0.0; files = h.0.1 }
 

@@ -1,4 +1,4 @@
--- What a run of an end comes to.
+-- The bounds of a run of an end.
 use Rattle.std.proofs.Common.{◌≡◌, ℕ, ◌+◌, ◌*◌, ◌<◌, ◌≤◌, Bool, true, false, List, [], ◌∷◌, length, refl, sym, ap, ◌∙◌, subst, arith, inl, inr, mul-add}
 use Rattle.std.specs.Prelude.{◌==◌, ◌||◌, if◌then◌else◌, is_some}
 use Rattle.std.proofs.lemmas.Bool.{true≢false, cases_eq, eq-eqb, ne_eqb}
@@ -22,7 +22,7 @@ use Rattle.tftp_ends.specs.Run.{IsOpening, Gets, Puts, Serves_read, Serves_write
 use Rattle.tftp_ends.specs.Step.{Turn, after_turn, response_turn, timeout_turn, with_position}
 use Rattle.tftp_ends.proofs.RunSteps.{Kept, rank, waits, datagram_moves, one_at_most, not_below_itself, no_progress, waits_at_most, number_kept, refused_rises}
 
--- ---- what a timeout leaves
+-- ---- the end after a timeout
 pub record Waits (e : EndState) (turn : Turn) : Type 0 where
   pub kept : Kept e.role.side e.role.length turn.position.phase
   pub still : is_progress e.position.phase turn.position.phase ≡ false
@@ -40,7 +40,7 @@ gives_up e outcome o kept still =
       spent = λ h. absurd (true≢false h);
     }
 
--- one that sends its last datagram again
+-- an end that retransmits its last datagram
 sends_again : (e : EndState) → 0 < e.position.retries_left → Kept e.role.side e.role.length e.position.phase → Waits e (response_turn Retransmit e.position.last_sent_to e)
 sends_again e l kept =
     record {
@@ -57,14 +57,14 @@ closed_still (Receiving terms number) outcome o = rw (not_below_itself number) r
 closed_still (Dallying terms number dally) outcome o = rw (not_below_itself number) refl
 closed_still (Closed terms number complete was) outcome o = absurd (true≢false o)
 
--- one that may try again, or not
+-- an end with a retry left, or with none
 tries : (e : EndState) → IsOpen e → Kept e.role.side e.role.length e.position.phase → Waits e (response_turn (if e.position.retries_left == 0 then Close outcomes.TimedOut else Retransmit) e.position.last_sent_to e)
 tries e o kept = elim (cases_eq e.position.retries_left 0) [
   | inl none ↦ rw (eq-eqb e.position.retries_left 0 none) (gives_up e outcomes.TimedOut o kept (closed_still e.position.phase outcomes.TimedOut o))
   | inr some ↦ rw (ne_eqb e.position.retries_left 0 some) (sends_again e (omega arith) kept)
 ]
 
--- the end in a phase
+-- an end in a phase
 abbrev in_phase_alone : Phase → EndState → EndState
 in_phase_alone p e = with_position (record e.position { phase = p }) e
 
@@ -83,7 +83,7 @@ timeout_at e (Dallying terms number Waited) o kept =
     gives_up (in_phase_alone (Dallying terms number Waited) e) outcomes.Complete o kept (closed_still (Dallying terms number Waited) outcomes.Complete o)
 timeout_at e (Closed terms number complete outcome) o kept = absurd (true≢false o)
 
--- ---- what one step leaves
+-- ---- the end after one step
 pub record Steps (e : EndState) (event : Event) (turn : Turn) : Type 0 where
   pub kept : Kept e.role.side e.role.length turn.position.phase
   pub rises : rank e.position.phase + count_if (is_progress e.position.phase turn.position.phase) ≤ rank turn.position.phase
@@ -95,7 +95,7 @@ counts : (block oack progress : Bool) → oack ≡ false → (block ≡ true →
 counts true oack progress o f = rw (f refl) (omega arith)
 counts false oack progress o f = rw o (omega arith)
 
--- progress gives the retries back
+-- progress restores the retries
 gives_back : (progress : Bool) (left left' retries w w' : ℕ) → left' ≡ (if progress then retries else left) → w ≤ w' → 0 + left' + w ≤ left + retries * count_if progress + w'
 gives_back true left left' retries w w' e h = omega arith
 gives_back false left left' retries w w' e h = omega arith
@@ -120,7 +120,7 @@ module _ {S K : Type 0} (sources : SourceMeaning S) (sinks : SinkMeaning K) wher
         spent = λ live. let p = w.spent live in rw none (omega arith);
       }
 
-  -- ---- what a run leaves
+  -- ---- the end after a run
   record Behind (e : EndState) (run : List Taken) : Type 0 where
     pub side : (end_behind e run).role.side ≡ e.role.side
     pub kept : Kept (end_behind e run).role.side (end_behind e run).role.length (end_behind e run).position.phase

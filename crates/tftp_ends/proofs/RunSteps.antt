@@ -1,4 +1,4 @@
--- What one step of an end leaves of it.
+-- The end after one step.
 use Rattle.std.proofs.Common.{◌≡◌, ℕ, ◌+◌, ◌*◌, ◌/◌, ◌<◌, ◌≤◌, Bool, true, false, List, [], length, Option, Some, None, Result, Ok, Err, refl, sym, ap, ◌∙◌, subst, arith}
 use Rattle.std.specs.Prelude.{◌==◌, ◌&&◌, nat_lt, nat_le, if◌then◌else◌, is_some, is_none}
 use Rattle.std.proofs.lemmas.Bool.{true≢false, ltb-true, lt-ltb, le-ltb, eqb-true}
@@ -43,7 +43,7 @@ use Rattle.tftp_ends.specs.Step.{Done, Reply, Turn, Acts, DatagramStep, GoesOn, 
 use Rattle.tftp_ends.specs.Text.{is_readable}
 use Rattle.tftp_ends.specs.Waiting.{reader_action, writer_action, accept_action, begin_action, begin_with_action, refusal_action, default_terms, agreed_terms, no_answer}
 
--- ---- what is kept along a run
+-- ---- what every step of a run preserves
 -- senders send blocks that can be numbered, receivers receive, and numbers stay below 65,536
 abbrev pub Kept : Side → ℕ → Phase → Type 0
 Kept side length (Waiting asked limit) = Unit {0}
@@ -52,7 +52,7 @@ Kept side length (Receiving terms number) = (number ≤ 65535) × (is_sender sid
 Kept side length (Dallying terms number dally) = (number ≤ 65535) × (is_sender side ≡ false)
 Kept side length (Closed terms number complete outcome) = number ≤ 65535
 
--- how far an end came: progress makes it more
+-- the measure of an end: progress increases it
 abbrev pub rank : Phase → ℕ
 rank (Waiting asked limit) = 0
 rank (Sending terms number) = number
@@ -69,7 +69,7 @@ waits (Dallying terms number Fresh) = 0
 waits (Dallying terms number Waited) = 1
 waits (Closed terms number complete outcome) = 1
 
--- what a datagram leaves of an end
+-- the end after a datagram
 pub record Moves (e : EndState) (turn : Turn) : Type 0 where
   pub kept : Kept e.role.side e.role.length turn.position.phase
   pub left : turn.position.retries_left ≡ (if is_progress e.position.phase turn.position.phase then e.role.retries else e.position.retries_left)
@@ -78,7 +78,7 @@ pub record Moves (e : EndState) (turn : Turn) : Type 0 where
   pub oack : is_sender e.role.side ≡ true → is_oack turn.reply ≡ false
   pub sends : is_sender e.role.side ≡ true → is_data turn.reply ≡ true → is_progress e.position.phase turn.position.phase ≡ true
 
--- either way of a test
+-- both cases of a test
 pub if_either : {A : Type 0} (P : A → Type 0) (b : Bool) (r s : A) → (b ≡ true → P r) → (b ≡ false → P s) → P (if b then r else s)
 if_either P true r s f g = f refl
 if_either P false r s f g = g refl
@@ -101,7 +101,7 @@ no_progress (Closed None number false outcome) = rw (not_below_itself number) re
 no_progress (Closed (Some terms) number true outcome) = rw (not_below_itself number) refl
 no_progress (Closed (Some terms) number false outcome) = rw (not_below_itself number) refl
 
--- an end that stays as it is, with no DATA and no OACK where it sends
+-- an unchanged end; a sender sends no DATA and no OACK
 stays : (e : EndState) (reply : Option Reply) → Kept e.role.side e.role.length e.position.phase → (is_sender e.role.side ≡ true → (is_oack reply ≡ false) × (is_data reply ≡ false)) →
     Moves e (record { position = e.position; reply = reply })
 stays e reply kept quiet =
@@ -131,7 +131,7 @@ number_kept side length (Receiving terms number) k = k.0
 number_kept side length (Dallying terms number dally) k = k.0
 number_kept side length (Closed terms number complete outcome) k = k
 
--- closing an open end is progress only where that makes it more
+-- closing an open end is progress only if it increases the measure
 pub refused_rises : (p : Phase) (terms : Option Terms) (outcome : Outcome) → is_some (outcome_of p) ≡ false →
     rank p + count_if (is_progress p (refused terms outcome p)) ≤ rank (refused terms outcome p)
 refused_rises (Waiting asked limit) terms outcome o =
@@ -146,7 +146,7 @@ refused_rises (Dallying t number dally) terms outcome o =
     omega (arith, ap count_if n)
 refused_rises (Closed t number complete was) terms outcome o = absurd (true≢false o)
 
--- an end that goes into another phase
+-- an end that enters another phase
 goes_into : (e : EndState) (p : Phase) (sent : List ℕ) (to : Endpoint) (reply : Option Reply) → Kept e.role.side e.role.length p →
     rank e.position.phase + count_if (is_progress e.position.phase p) ≤ rank p → waits e.position.phase ≤ waits p →
     (is_sender e.role.side ≡ true → (is_oack reply ≡ false) × (is_data reply ≡ true → is_progress e.position.phase p ≡ true)) →
@@ -167,10 +167,10 @@ closes e terms outcome reply o kept oack sends =
     goes_into e (refused terms outcome e.position.phase) e.position.last_sent e.position.last_sent_to reply (number_kept e.role.side e.role.length e.position.phase kept) (refused_rises e.position.phase terms outcome o) (waits_at_most e.position.phase)
     (λ s. (oack, λ d. absurd (true≢false (sym d ∙ sends))))
 
--- ---- what a datagram leaves
+-- ---- after a datagram
 module _ {S K : Type 0} (sources : SourceMeaning S) (sinks : SinkMeaning K)
     (e : EndState) (from : Endpoint) (bytes : List ℕ) (open_now : IsOpen e) (kept : Kept e.role.side e.role.length e.position.phase) where
-  -- an action leaves this
+  -- the end after an action
   abbrev Moving : Action → Type 0
   Moving action = (turn : Turn) (files files' : Files S K) → Acts sources sinks action from bytes e files turn files' → Moves e turn
 
@@ -192,7 +192,7 @@ module _ {S K : Type 0} (sources : SourceMeaning S) (sinks : SinkMeaning K)
   refuses : (terms : Option Terms) (reply : ErrorReply) (outcome : Outcome) → Moving (Respond (Refuse terms reply outcome))
   refuses terms reply outcome = responds (Refuse terms reply outcome) (closes e terms outcome (Some (record { to = from; bytes = error_bytes reply })) open_now kept refl refl)
 
-  -- a source was asked for a block
+  -- a block was read from a source
   filled : (terms : Terms) (number : ℕ) (piece : List ℕ) (b : Bool) → number ≤ 65535 → e.role.length < 65535 * terms.size → rank e.position.phase + 1 ≤ number → waits e.position.phase ≡ 0 → is_progress e.position.phase (Sending terms number) ≡ true →
       Moves e (if b then sent_turn (Sending terms number) from (data_bytes number piece) e else refused_turn terms replies.FileChanged outcomes.SourceFault from e)
   filled terms number piece true n fits r w p =
@@ -207,7 +207,7 @@ module _ {S K : Type 0} (sources : SourceMeaning S) (sinks : SinkMeaning K)
   sends terms number n fits r w p turn (Sink sink) (Source source') h = absurd h
   sends terms number n fits r w p turn (Sink sink) (Sink sink') h = absurd h
 
-  -- what is held back has no part in it
+  -- the measure does not depend on the text held back
   from_holding : (after : List ℕ) (turn : Turn) → Moves (holding after e) turn → Moves e turn
   from_holding after turn m =
       record { kept = m.kept; left = m.left; rises = m.rises; waiting = m.waiting; oack = m.oack; sends = m.sends }
@@ -251,7 +251,7 @@ module _ {S K : Type 0} (sources : SourceMeaning S) (sinks : SinkMeaning K)
   abbrev at : Phase → EndState
   at p = with_position (record e0.position { phase = p }) e0
 
-  -- what an action leaves of it
+  -- the end in it after an action
   abbrev Going : (p : Phase) → is_some (outcome_of p) ≡ false → Kept e0.role.side e0.role.length p → Action → Type 0
   Going p o kept action = Moving sources sinks (at p) from bytes o kept action
 
@@ -444,7 +444,7 @@ module _ {S K : Type 0} (sources : SourceMeaning S) (sinks : SinkMeaning K)
       (λ _. if_either P (has_error_opcode bytes && is_none decoded) (Respond (garbled_response p)) (packet_action (at p) from decoded p)
       (λ _. garbled_goes p o kept) (λ _. packet_goes p o kept decoded d))
 
--- what a datagram leaves of an open end
+-- an open end after a datagram
 pub datagram_moves : {S K : Type 0} (sources : SourceMeaning S) (sinks : SinkMeaning K)
     (e : EndState) (from : Endpoint) (bytes : List ℕ) (files files' : Files S K) (turn : Turn) → IsOpen e → Kept e.role.side e.role.length e.position.phase →
     DatagramStep sources sinks from bytes e files turn files' → Moves e turn

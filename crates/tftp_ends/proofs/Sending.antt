@@ -1,4 +1,4 @@
--- A sender's step, from what its source offered.
+-- A sender's step, from the result of its read.
 use Rattle.std.proofs.Common.{◌≡◌, ℕ, Bool, true, false, List, Some, refl, sym, ap, subst, ◌∙◌}
 use Rattle.tftp_negotiate.specs.declared.limits.TheConstants.{DEFAULT_BLOCK}
 use Rattle.tftp_file.specs.Source.{SourceMeaning}
@@ -15,7 +15,7 @@ use Rattle.tftp_ends.specs.Phase.{refused}
 use Rattle.tftp_ends.specs.Room.{ReadsData}
 use Rattle.tftp_ends.specs.Step.{Turn, Sends, Lends, in_phase, having_sent, with_position, data_bytes, sent_turn, refused_turn, filled_turn, block_length}
 
--- a read that did not give DATA 1 cannot be served, and its source has left what the fill left
+-- without DATA 1 a read cannot be served, and the source has the bytes left that the fill left
 pub fails_to_start : {S : Type 0} (sources : SourceMeaning S) (length : ℕ) (source source' : S) (buffer : List ℕ) →
     ReadsData (sources.left source) (sources.left source') (sources.may_fail source (block_length length DEFAULT_BLOCK 1)) (sources.fails source (block_length length DEFAULT_BLOCK 1)) 1 (block_length length DEFAULT_BLOCK 1) buffer false →
     FailsToStart sources length source source'
@@ -26,22 +26,22 @@ fails_to_start sources length source source' buffer o =
     }
 
 module _ {S : Type 0} (sources : SourceMeaning S) (terms : Terms) (number : ℕ) (from : Endpoint) (e : EndState) (source source' : S) (buffer : List ℕ) where
-  -- what was offered for the next block
+  -- the result of reading the next block
   abbrev pub ReadsNext : Bool → Type 0
   ReadsNext is_whole =
       ReadsData (sources.left source) (sources.left source') (sources.may_fail source (block_length e.role.length terms.size number)) (sources.fails source (block_length e.role.length terms.size number)) number (block_length e.role.length terms.size number) buffer is_whole
 
-  -- what a sender does at an action that sends, and what its call lends
+  -- a sender's step for an action that sends, and the bytes that the call lends
   abbrev pub IsSent : EndState → Outgoing → Type 0
   IsSent e' outgoing =
       (turn : Turn) × Sends sources terms number from e source turn source' × Lends e turn e' (Some from) outgoing
 
-  -- the step of an offer, by the turn that it comes to
+  -- the step, by its turn
   abbrev pub step_at : (is_whole : Bool) → (o : ReadsNext is_whole) → Sends sources terms number from e source (filled_turn terms number from o.piece e o.answer) source'
   step_at is_whole o =
       record { answer = o.answer; piece = o.piece; reads = o.reads; answers = refl }
 
-  -- the block goes out, and is what a timeout sends again
+  -- the block is sent, and a timeout retransmits it
   pub sent_whole : (o : ReadsNext true) (e' : EndState) → e' ≡ with_position (having_sent (record { to = from; bytes = buffer }) (in_phase (Sending terms number) e)) e → IsSent e' LastSent
   sent_whole o e' s =
       let is : filled_turn terms number from o.piece e o.answer ≡ sent_turn (Sending terms number) from (data_bytes number o.piece) e = rw (← o.whole) refl in

@@ -1,4 +1,4 @@
--- A receiver's step, from what its sink made of a block.
+-- A receiver's step, from the result of storing a block.
 use Rattle.std.proofs.Common.{◌≡◌, ℕ, Bool, true, false, ltb, List, length, Some, Result, Ok, Err, refl, ap, ◌∙◌}
 use Rattle.tftp_file.specs.Sink.{SinkMeaning}
 use Rattle.tftp_file.specs.declared.fault.StoreFault.{StoreFault}
@@ -19,18 +19,18 @@ use Rattle.tftp_ends.specs.Step.{Done, Turn, Stores, GoesOn, Lends, in_phase, ha
 use Rattle.tftp_ends.specs.BlockStored.{StoresPiece, StoresOn, committed_as}
 
 module _ {K : Type 0} (sinks : SinkMeaning K) (terms : Terms) (number : ℕ) (from : Endpoint) (piece : List ℕ) (e : EndState) (behind : List ℕ) (sink sink' : K) where
-  -- the turn that this comes to
+  -- the turn of this result
   abbrev pub stored_turn : BlockStored → Turn
   stored_turn More = sent_turn (Receiving terms number) from (ack_bytes number) (holding behind e)
   stored_turn All = sent_turn (Dallying terms number Fresh) from (ack_bytes number) (holding behind e)
   stored_turn Refused = refused_turn terms DiskFull outcomes.StoreFault from e
   stored_turn (Uncommitted reply) = refused_turn terms reply outcomes.StoreFault from (holding behind e)
 
-  -- what was made of the block
+  -- the result of storing the block
   abbrev pub StoresNext : BlockStored → Type 0
   StoresNext block_stored = StoresPiece sinks e.role.mode e.position.held piece (ltb (length piece) terms.size) sink sink' block_stored behind
 
-  -- what a receiver does at an action that stores, and what its call lends
+  -- a receiver's step for an action that stores, and the bytes that the call lends
   abbrev pub IsStored : EndState → Outgoing → Type 0
   IsStored e' outgoing =
       (turn : Turn) × Stores sinks terms number from piece e sink turn sink' × Lends e turn e' (Some from) outgoing
@@ -59,11 +59,11 @@ module _ {K : Type 0} (sinks : SinkMeaning K) (terms : Terms) (number : ℕ) (fr
         rest = goes_on (ltb (length piece) terms.size) o.stores.answer o.stores.mid block_stored o.stores.rest;
       }
 
-  -- the block was stored, and more is to come
+  -- the block was stored, and it is not the last one
   pub stored_more : StoresNext More → (e' : EndState) → e' ≡ with_position (having_sent (record { to = from; bytes = ack_bytes number }) (in_phase (Receiving terms number) (holding behind e))) e → IsStored e' LastSent
   stored_more o e' s = (stored_turn More, stores More o, record { state = s; goes = refl; bytes = ap (λ (x : EndState). x.position.last_sent) s })
 
-  -- the whole was stored and committed
+  -- the last block was stored, and the file was committed
   pub stored_all : StoresNext All → (e' : EndState) → e' ≡ with_position (having_sent (record { to = from; bytes = ack_bytes number }) (in_phase (Dallying terms number Fresh) (holding behind e))) e → IsStored e' LastSent
   stored_all o e' s = (stored_turn All, stores All o, record { state = s; goes = refl; bytes = ap (λ (x : EndState). x.position.last_sent) s })
 

@@ -1,4 +1,4 @@
--- A piece of netascii by its first wrong byte, and by what it stands for.
+-- A piece of netascii, by its first wrong byte and by the host bytes that it stands for.
 use Rattle.std.proofs.Common.{◌≡◌, ◌≢◌, ℕ, Bool, true, false, List, [], ◌∷◌, ◌++◌, Result, Ok, Err, length, ltb, ◌<◌, ◌≤◌, sym, refl, ap, ◌∙◌, inl, inr, append_assoc}
 use Rattle.std.specs.Prelude.{◌==◌, ◌↔◌, ◌&&◌, not}
 use Rattle.std.proofs.lemmas.Bool.{cases_eq, ne_eqb, true≢false, lt-ltb, le-ltb}
@@ -6,7 +6,7 @@ use Rattle.std.specs.Result.{IsOk, is_ok}
 use Rattle.tftp_wire.specs.declared.mode.Mode.{Mode}
 use Rattle.tftp_wire.specs.declared.mode.Mode.TheVariants.{Octet, Netascii}
 use Rattle.tftp_file.specs.Netascii.{wire_byte, netascii_text}
-use Rattle.tftp_file.specs.Decoding.{IsHeld, DecodesPiece, IsWrong, Refuses}
+use Rattle.tftp_file.specs.Decoding.{IsHeld, Decodes, IsWrong, Refuses}
 use Rattle.tftp_file.specs.declared.netascii.NetFault.{NetFault}
 use Rattle.tftp_file.specs.declared.netascii.NetFault.TheVariants.{LoneCr, LoneLf, EndsInCr, Memory}
 use Rattle.tftp_ends.specs.Laws.{DecodedBegins, DecodedEnds}
@@ -27,7 +27,7 @@ pair_ends : (second : ℕ) (rest : List ℕ) → (second == 13) ≡ false → en
 pair_ends second [] m = m
 pair_ends second (c ∷ rest) m = refl
 
--- one byte of the host in front of a text
+-- one host byte before a text
 byte_begins : (b : ℕ) (rest : List ℕ) → (begins_netascii (wire_byte b ++ rest) ≡ begins_netascii rest) × (ends_in_cr (wire_byte b ++ rest) ≡ ends_in_cr rest)
 byte_begins b rest = elim (cases_eq b 10) [
   | inl e ↦ rw e (refl, pair_ends 10 rest refl)
@@ -39,7 +39,7 @@ byte_begins b rest = elim (cases_eq b 10) [
       ]
 ]
 
--- some bytes of the host in front of a text
+-- host bytes before a text
 text_begins : (bytes rest : List ℕ) → (begins_netascii (netascii_text bytes ++ rest) ≡ begins_netascii rest) × (ends_in_cr (netascii_text bytes ++ rest) ≡ ends_in_cr rest)
 text_begins [] rest = (refl, refl)
 text_begins (b ∷ bytes) rest =
@@ -54,7 +54,7 @@ held_begins held h = elim h [
   | inr e ↦ ap begins_netascii e
 ]
 
--- what decodes begins a wire text
+-- text that decodes begins a wire text
 pub decoded_begins : DecodedBegins
 decoded_begins held piece bytes after d = ap begins_netascii d.1 ∙ ((text_begins bytes after).0 ∙ held_begins after d.0)
 
@@ -62,7 +62,7 @@ decoded_begins held piece bytes after d = ap begins_netascii d.1 ∙ ((text_begi
 pub decoded_ends : DecodedEnds
 decoded_ends held piece bytes after d = ap ends_in_cr d.1 ∙ (text_begins bytes after).1
 
--- what has a wrong byte does not
+-- text with a wrong byte does not decode
 lone_cr : (byte : ℕ) (rest : List ℕ) → byte ≢ 10 → byte ≢ 0 → begins_netascii (13 ∷ byte ∷ rest) ≡ false
 lone_cr byte rest n m = rw (ne_eqb byte 10 n, ne_eqb byte 0 m)
 
@@ -76,7 +76,7 @@ wrong_begins text LoneLf h = ap begins_netascii h.1.split ∙ ((text_begins h.1.
 wrong_begins text EndsInCr h = absurd h.1
 wrong_begins text Memory h = absurd h.1
 
--- a push of what begins a wire text is refused for memory alone
+-- a push of the beginning of a wire text fails only if out of memory
 pub refused_for_memory : (text : List ℕ) (fault : NetFault) → begins_netascii text ≡ true → fault ≢ Memory → Refuses text fault → ⊥
 refused_for_memory text LoneCr b n h = true≢false (sym b ∙ wrong_begins text LoneCr h)
 refused_for_memory text LoneLf b n h = true≢false (sym b ∙ wrong_begins text LoneLf h)
@@ -87,11 +87,11 @@ both_true : (a b : Bool) → (a && b) ≡ true → (a ≡ true) × (b ≡ true)
 both_true true b e = (refl, e)
 both_true false b e = absurd (true≢false (sym e))
 
-readable_by : (held piece bytes after : List ℕ) (last : Bool) → DecodesPiece held piece bytes after → is_readable Netascii held piece last ≡ not (last && ends_in_cr after)
+readable_by : (held piece bytes after : List ℕ) (last : Bool) → Decodes held piece bytes after → is_readable Netascii held piece last ≡ not (last && ends_in_cr after)
 readable_by held piece bytes after last d = rw (decoded_begins held piece bytes after d, decoded_ends held piece bytes after d)
 
--- a whole block goes on with the text
-pub readable_more : (held piece bytes after : List ℕ) (size : ℕ) → DecodesPiece held piece bytes after → size ≤ length piece → true ≡ is_readable Netascii held piece (ltb (length piece) size)
+-- a whole block continues the text
+pub readable_more : (held piece bytes after : List ℕ) (size : ℕ) → Decodes held piece bytes after → size ≤ length piece → true ≡ is_readable Netascii held piece (ltb (length piece) size)
 readable_more held piece bytes after size d l =
     sym (readable_by held piece bytes after (ltb (length piece) size) d ∙ ap (λ (b : Bool). not (b && ends_in_cr after)) (le-ltb (length piece) size l))
 
@@ -102,16 +102,16 @@ ends_well after (Err fault) h iff = elim h [
   | inr e ↦ sym (ap (λ (t : List ℕ). not (ends_in_cr t)) e)
 ]
 
--- a last one does where no CR is held back behind it
-pub readable_last : (held piece bytes after : List ℕ) (size : ℕ) (answer : Result Done NetFault) → DecodesPiece held piece bytes after → length piece < size → IsOk answer ↔ (after ≡ []) → is_ok answer ≡ is_readable Netascii held piece (ltb (length piece) size)
+-- the last block does if no CR is held back after it
+pub readable_last : (held piece bytes after : List ℕ) (size : ℕ) (answer : Result Done NetFault) → Decodes held piece bytes after → length piece < size → IsOk answer ↔ (after ≡ []) → is_ok answer ≡ is_readable Netascii held piece (ltb (length piece) size)
 readable_last held piece bytes after size answer d l iff =
     ends_well after answer d.0 iff ∙ sym (readable_by held piece bytes after (ltb (length piece) size) d ∙ ap (λ (b : Bool). not (b && ends_in_cr after)) (lt-ltb (length piece) size l))
 
--- a piece with a wrong byte does not
+-- a piece with a wrong byte does not continue the text
 pub wrong_unreadable : (held piece : List ℕ) (last : Bool) (fault : NetFault) → IsWrong (held ++ piece) fault → false ≡ is_readable Netascii held piece last
 wrong_unreadable held piece last fault w = sym (ap (λ (b : Bool). b && not (last && ends_in_cr (held ++ piece))) (wrong_begins (held ++ piece) fault w))
 
--- what is readable begins a wire text
+-- a readable piece begins a wire text
 pub readable_begins : (held piece : List ℕ) (last : Bool) → is_readable Netascii held piece last ≡ true → begins_netascii (held ++ piece) ≡ true
 readable_begins held piece last e = (both_true (begins_netascii (held ++ piece)) (not (last && ends_in_cr (held ++ piece))) e).0
 

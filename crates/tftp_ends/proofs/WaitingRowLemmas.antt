@@ -30,7 +30,7 @@ use Rattle.tftp_ends.proofs.RowLemmas.{DidSo, own_address, if_yes, if_no, at_pac
 
 module _ {S K : Type 0} (sources : SourceMeaning S) (sinks : SinkMeaning K) where
   module _ (c : Handled sources sinks) (writes : Bool) (asked : Asked) (limit : ℕ) (f : FromServer c writes asked limit) where
-    -- how it handles what it heard, by which of the two it is
+    -- how it handles a packet, by its kind
     abbrev reads_so : Option Packet → Action
     reads_so decoded = reader_action c.e.role.mode asked limit c.from decoded
 

@@ -1,21 +1,22 @@
--- Bookkeeping of the code: what a sink did with a block, as its functions report it to each other.
+-- Internal to the code: the result of storing a block.
 use Rattle.std.specs.Prelude.{◌≡◌, ◌≢◌, Bool, true, false, List, ℕ, Result, Ok, Err, IfErr, is_ok}
 use Rattle.tftp_wire.specs.declared.mode.Mode.{Mode}
 use Rattle.tftp_file.specs.Sink.{SinkMeaning, Commits}
 use Rattle.tftp_file.specs.declared.fault.StoreFault.{StoreFault}
 use Rattle.tftp_file.specs.declared.fault.StoreFault.TheVariants.{Memory}
 use Rattle.tftp_ends.specs.declared.end.storing.BlockStored.{BlockStored}
-use Rattle.tftp_ends.specs.declared.end.storing.BlockStored.TheVariants.{More, All, Refused, Uncommitted}
+use Rattle.tftp_ends.specs.declared.end.storing.BlockStored.TheVariants.{More, All, Refused}
+use Rattle.tftp_ends.specs.declared.end.storing.BlockStored.TheVariants.{Uncommitted}
 use Rattle.tftp_ends.specs.Step.{Done, Appended, commit_reply}
 use Rattle.tftp_ends.specs.Text.{Decoded}
 
 module _ {K : Type 0} (sinks : SinkMeaning K) where
-  -- what a commit came to
+  -- the result of a commit
   abbrev pub committed_as : Result Done StoreFault → BlockStored
   committed_as (Ok done) = All
   committed_as (Err fault) = Uncommitted (commit_reply fault)
 
-  -- a sink was asked to commit the whole, and this came of it
+  -- a sink was called to commit the file, with this result
   pub record StoresLast (sink sink' : K) (block_stored : BlockStored) : Type 0 where
     pub answer : Result Done StoreFault
     pub commits : Commits (sinks.held sink) (sinks.held sink') answer
@@ -29,16 +30,18 @@ module _ {K : Type 0} (sinks : SinkMeaning K) where
   StoresOn true sink sink' block_stored (Ok done) = StoresLast sink sink' block_stored
   StoresOn false sink sink' block_stored (Ok done) = (block_stored ≡ More) × (sink' ≡ sink)
 
-  -- the bytes were appended, and behind the last ones the whole was committed
-  pub record StoresBlock (bytes : List ℕ) (is_last : Bool) (sink sink' : K) (block_stored : BlockStored) : Type 0 where
+  -- the bytes were appended, and after the last ones the file was committed
+  pub record StoresBlock (bytes : List ℕ) (is_last : Bool) (sink sink' : K)
+      (block_stored : BlockStored) : Type 0 where
     pub answer : Result Done StoreFault
     pub mid : K
     pub appended : Appended sinks bytes sink mid answer
     pub memory : answer ≢ Err Memory
     pub rest : StoresOn is_last mid sink' block_stored answer
 
-  -- the bytes that a piece of the text stands for were appended; behind it this much is held back
-  pub record StoresPiece (mode : Mode) (text piece : List ℕ) (is_last : Bool) (sink sink' : K) (block_stored : BlockStored) (behind : List ℕ) : Type 0 where
+  -- the host bytes of a piece of the text were appended; after it `behind` is held back
+  pub record StoresPiece (mode : Mode) (text piece : List ℕ) (is_last : Bool) (sink sink' : K)
+      (block_stored : BlockStored) (behind : List ℕ) : Type 0 where
     pub bytes : List ℕ
     pub decoded : Decoded mode text piece bytes behind
     pub stores : StoresBlock bytes is_last sink sink' block_stored

@@ -1,30 +1,33 @@
--- The state of an end, and what it tells of itself.
-use Rattle.std.specs.Prelude.{ℕ, Bool, true, false, ◌&&◌, ◌||◌, not, nat_lt, List, Option, Some, None, is_some, option_map, length as list_length}
+-- The state of an end, and what it reports.
+use Rattle.std.specs.Prelude.{ℕ, Bool, true, false, ◌&&◌, ◌||◌, not, nat_lt, List, Option, Some}
+use Rattle.std.specs.Prelude.{None, is_some, option_map, length as list_length}
 use Rattle.tftp_negotiate.specs.declared.limits.TheConstants.{DEFAULT_BLOCK}
 use Rattle.tftp_ends.specs.declared.endpoint.Endpoint.{Endpoint}
 use Rattle.tftp_ends.specs.declared.outcome.Outcome.{Outcome}
 use Rattle.tftp_ends.specs.declared.phase.Terms.{Terms}
 use Rattle.tftp_ends.specs.declared.phase.Phase.{Phase}
-use Rattle.tftp_ends.specs.declared.phase.Phase.TheVariants.{Waiting, Sending, Receiving, Dallying, Closed}
+use Rattle.tftp_ends.specs.declared.phase.Phase.TheVariants.{Waiting, Sending, Receiving, Dallying}
+use Rattle.tftp_ends.specs.declared.phase.Phase.TheVariants.{Closed}
 use Rattle.tftp_ends.specs.declared.role.Role.{Role}
 use Rattle.tftp_ends.specs.declared.side.Side.{Side}
-use Rattle.tftp_ends.specs.declared.side.Side.TheVariants.{ClientRead, ClientWrite, ServerRead, ServerWrite}
+use Rattle.tftp_ends.specs.declared.side.Side.TheVariants.{ClientRead, ClientWrite, ServerRead}
+use Rattle.tftp_ends.specs.declared.side.Side.TheVariants.{ServerWrite}
 use Rattle.tftp_ends.specs.declared.record.Held.{Held}
 use Rattle.tftp_ends.specs.declared.record.Record.{Record}
 use Rattle.tftp_ends.specs.declared.record.TheConstants.{DEFAULT_INTERVAL}
 use Rattle.tftp_ends.specs.declared.record.Step.{Step}
 
--- where an end is in its transfer, and what it keeps for the next event
+-- the progress of an end's transfer, and what the end keeps for the next event
 pub record Position : Type 0 where
   pub retries_left : ℕ
-  -- what a timeout sends again, and where to
+  -- the datagram that a timeout retransmits, and its destination
   pub last_sent : List ℕ
   pub last_sent_to : Endpoint
   -- a receiver's wire text that awaits its next byte
   pub held : List ℕ
   pub phase : Phase
 
--- an end: what it is from its opening on, and its position, which alone its steps change
+-- an end: its role, which its opening fixes, and its position, which its steps change
 pub record EndState : Type 0 where
   pub role : Role
   pub position : Position
@@ -43,7 +46,7 @@ is_client ClientWrite = true
 is_client ServerRead = false
 is_client ServerWrite = false
 
--- what was agreed on
+-- the terms, once the peer is known
 abbrev pub terms_of : Phase → Option Terms
 terms_of (Waiting asked limit) = None
 terms_of (Sending terms number) = Some terms
@@ -59,7 +62,7 @@ number_of (Receiving terms number) = number
 number_of (Dallying terms number dally) = number
 number_of (Closed terms number complete outcome) = number
 
--- all was acknowledged, or stored and committed
+-- the whole file was acknowledged, or stored and committed
 abbrev pub is_complete : Phase → Bool
 is_complete (Waiting asked limit) = false
 is_complete (Sending terms number) = false
@@ -67,7 +70,7 @@ is_complete (Receiving terms number) = false
 is_complete (Dallying terms number dally) = true
 is_complete (Closed terms number complete outcome) = complete
 
--- how it ended
+-- how the end closed
 abbrev pub outcome_of : Phase → Option Outcome
 outcome_of (Waiting asked limit) = None
 outcome_of (Sending terms number) = None
@@ -75,7 +78,7 @@ outcome_of (Receiving terms number) = None
 outcome_of (Dallying terms number dally) = None
 outcome_of (Closed terms number complete outcome) = Some outcome
 
--- the block size, the default one while nothing is agreed
+-- the block size: the default one while the peer is unknown
 abbrev pub size_of : Option Terms → ℕ
 size_of None = DEFAULT_BLOCK
 size_of (Some terms) = terms.size
@@ -85,16 +88,16 @@ abbrev pub timeout_of : Option Terms → Option ℕ
 timeout_of None = None
 timeout_of (Some terms) = terms.timeout
 
--- the seconds of silence before a timeout: the agreed ones, or the default
+-- the timeout interval in seconds: the agreed one, or the default
 abbrev pub seconds_of : Option ℕ → ℕ
 seconds_of None = DEFAULT_INTERVAL
 seconds_of (Some seconds) = seconds
 
--- the seconds of silence before an end's timeout
+-- the timeout interval of an end, in seconds
 abbrev pub interval_of : Option Terms → ℕ
 interval_of terms = seconds_of (timeout_of terms)
 
--- what an end tells of itself
+-- what an end reports
 abbrev pub record_of : EndState → Record
 record_of e =
     record {
@@ -109,13 +112,15 @@ record_of e =
 
 -- how many bytes an end keeps between two events
 abbrev pub held_by : EndState → Held
-held_by e = record { datagram = list_length e.position.last_sent; text = list_length e.position.held }
+held_by e =
+    record { datagram = list_length e.position.last_sent; text = list_length e.position.held }
 
--- the peer was taken, the number rose, or the end became complete
+-- the peer became known, the number rose, or the end became complete
 abbrev pub is_progress : Phase → Phase → Bool
 is_progress old new =
-    (not (is_some (terms_of old)) && is_some (terms_of new)) || (nat_lt (number_of old) (number_of new) || (not (is_complete old) && is_complete new))
+    (not (is_some (terms_of old)) && is_some (terms_of new))
+    || (nat_lt (number_of old) (number_of new) || (not (is_complete old) && is_complete new))
 
--- what a step that answered to there tells
+-- the report of a step that sent a datagram to `to`
 abbrev pub step_of : Phase → Phase → Option Endpoint → Step
 step_of old new to = record { to = to; progress = is_progress old new; closed = outcome_of new }

@@ -13,7 +13,8 @@ dotted byte rest = 46 ∷ (decimal byte ++ rest)
 abbrev pub endpoint_text : Endpoint → List ℕ
 endpoint_text e =
     decimal (slice_index e.ip 0)
-    ++ dotted (slice_index e.ip 1) (dotted (slice_index e.ip 2) (dotted (slice_index e.ip 3) (58 ∷ decimal e.port)))
+    ++ dotted (slice_index e.ip 1)
+    (dotted (slice_index e.ip 2) (dotted (slice_index e.ip 3) (58 ∷ decimal e.port)))
 
 -- the same address and the same port
 pub record IsSameAddress (endpoint : Endpoint) (address : SocketAddrV4) : Type 0 where

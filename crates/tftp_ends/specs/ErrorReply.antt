@@ -3,7 +3,13 @@ use Rattle.std.specs.Prelude.{ℕ, List, codes}
 use Rattle.tftp_wire.specs.declared.packet.Packet.{Packet}
 use Rattle.tftp_wire.specs.declared.packet.Packet.TheVariants.{Error}
 use Rattle.tftp_ends.specs.declared.error_reply.ErrorReply.{ErrorReply}
-use Rattle.tftp_ends.specs.declared.error_reply.ErrorReply.TheVariants.{FileTooLarge, ServerBusy, FileChanged, NotNetascii, FileNotFound, AccessViolation, DiskFull, IllegalOperation, UnknownTransferId, FileExists, OptionRefused}
+use Rattle.tftp_ends.specs.declared.error_reply.ErrorReply.TheVariants.{FileTooLarge, ServerBusy}
+use Rattle.tftp_ends.specs.declared.error_reply.ErrorReply.TheVariants.{FileChanged, NotNetascii}
+use Rattle.tftp_ends.specs.declared.error_reply.ErrorReply.TheVariants.{FileNotFound}
+use Rattle.tftp_ends.specs.declared.error_reply.ErrorReply.TheVariants.{AccessViolation, DiskFull}
+use Rattle.tftp_ends.specs.declared.error_reply.ErrorReply.TheVariants.{IllegalOperation}
+use Rattle.tftp_ends.specs.declared.error_reply.ErrorReply.TheVariants.{UnknownTransferId}
+use Rattle.tftp_ends.specs.declared.error_reply.ErrorReply.TheVariants.{FileExists, OptionRefused}
 
 -- the code
 abbrev pub code_of : ErrorReply → ℕ

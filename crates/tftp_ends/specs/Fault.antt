@@ -3,7 +3,8 @@ use Rattle.std.specs.Prelude.{ℕ}
 use Rattle.tftp_ends.specs.declared.fault.EndFault.{EndFault}
 use Rattle.tftp_ends.specs.declared.fault.EndFault.TheVariants as ends
 use Rattle.tftp_ends.specs.declared.fault.OpenFault.{OpenFault}
-use Rattle.tftp_ends.specs.declared.fault.OpenFault.TheVariants.{BadRequest, TooLarge, SourceFault, Memory}
+use Rattle.tftp_ends.specs.declared.fault.OpenFault.TheVariants.{BadRequest, TooLarge, SourceFault}
+use Rattle.tftp_ends.specs.declared.fault.OpenFault.TheVariants.{Memory}
 
 -- the number of a fault of an opening
 abbrev pub open_fault_number : OpenFault → ℕ

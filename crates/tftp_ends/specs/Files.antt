@@ -1,4 +1,4 @@
--- The files of an end, seen by what they tell.
+-- The files of an end, by their models.
 use Rattle.std.specs.Prelude.{◌≡◌, true, false, Option, Some, None}
 use Rattle.tftp_file.specs.Source.{SourceMeaning}
 use Rattle.tftp_file.specs.Sink.{Holding, SinkMeaning}
@@ -7,12 +7,12 @@ use Rattle.tftp_file.specs.declared.files.Files.TheVariants.{Source, Sink}
 use Rattle.tftp_ends.specs.declared.side.Side.{Side}
 use Rattle.tftp_ends.specs.End.{is_sender}
 
--- a sink that tells what it holds holds the same
+-- a sink with a model holds the same
 abbrev pub KeepsHolding : Option Holding → Option Holding → Type 0
 KeepsHolding None after = Unit {0}
 KeepsHolding (Some before) after = after ≡ Some before
 
--- a sink tells the same as before, and has left all else as where nothing was committed
+-- a sink with a model holds the same, and all else is as without a commit
 pub record KeepsSink {K : Type 0} (sinks : SinkMeaning K) (before after : K) : Type 0 where
   pub holding : KeepsHolding (sinks.held before) (sinks.held after)
   pub leaves : sinks.becomes before after false
@@ -23,7 +23,7 @@ module _ {S K : Type 0} where
   AreFilesOf side (Source source) = is_sender side ≡ true
   AreFilesOf side (Sink sink) = is_sender side ≡ false
 
-  -- the files tell the same as before, and a sink has left all else as where nothing was committed
+  -- a source has the same bytes left, or a sink is kept as above
   abbrev pub KeepsFiles : SourceMeaning S → SinkMeaning K → Files S K → Files S K → Type 0
   KeepsFiles sources sinks (Source old) (Source new) = sources.left new ≡ sources.left old
   KeepsFiles sources sinks (Sink old) (Sink new) = KeepsSink sinks old new

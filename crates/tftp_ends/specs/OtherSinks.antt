@@ -1,4 +1,4 @@
--- A step with one file is a step with another that tells as much.
+-- A step with one file is a step with another file that has the same model.
 use Rattle.std.specs.Prelude.{ℕ, ◌≡◌, Bool, true, false, List, [], ◌∷◌, Result, Ok, Err, IfErr}
 use Rattle.std.proofs.Common.{ap, sym, subst}
 use Rattle.tftp_file.specs.Source.{SourceMeaning}
@@ -12,23 +12,30 @@ use Rattle.tftp_ends.specs.declared.endpoint.Endpoint.{Endpoint}
 use Rattle.tftp_ends.specs.declared.phase.Terms.{Terms}
 use Rattle.tftp_ends.specs.End.{EndState}
 use Rattle.tftp_ends.specs.Files.{KeepsFiles}
-use Rattle.tftp_ends.specs.Step.{Done, Turn, Sends, Appended, Committed, GoesOn, Stores, Acts, DatagramStep}
+use Rattle.tftp_ends.specs.Step.{Done, Turn, Sends, Appended, Committed, GoesOn, Stores, Acts}
+use Rattle.tftp_ends.specs.Step.{DatagramStep}
 
--- sources of one kind tell as much as what they are seen as
-pub record SourcesTell {S T : Type 0} (seen : S → T) (sources : SourceMeaning S) (sources' : SourceMeaning T) : Type 0 where
+-- sources seen as values of another type: the same bytes are left, and their faults are allowed
+pub record SourcesTell {S T : Type 0} (seen : S → T) (sources : SourceMeaning S)
+    (sources' : SourceMeaning T) : Type 0 where
   pub tells : (source : S) → sources'.left (seen source) ≡ sources.left source
-  pub fails : (source : S) (want : ℕ) → sources.may_fail source want → sources'.may_fail (seen source) want
+  pub fails : (source : S) (want : ℕ) → sources.may_fail source want
+      → sources'.may_fail (seen source) want
   pub must : (source : S) (want : ℕ) → sources'.fails (seen source) want → sources.fails source want
 
--- sinks of one kind, of which something holds that an append keeps, tell as much as what they are seen as
-pub record SinksTell {K L : Type 0} (seen : K → L) (holds : K → Type 0) (sinks : SinkMeaning K) (sinks' : SinkMeaning L) : Type 0 where
+-- the same, of sinks for which `holds`, which an append preserves
+pub record SinksTell {K L : Type 0} (seen : K → L) (holds : K → Type 0) (sinks : SinkMeaning K)
+    (sinks' : SinkMeaning L) : Type 0 where
   pub tells : (sink : K) → sinks'.held (seen sink) ≡ sinks.held sink
   pub keeps : (sink sink' : K) → holds sink → sinks.becomes sink sink' false → holds sink'
-  pub appends : (sink : K) (bytes : List ℕ) (fault : StoreFault) → holds sink → sinks.may_refuse_append sink bytes fault → sinks'.may_refuse_append (seen sink) bytes fault
-  pub commits : (sink : K) (fault : StoreFault) → holds sink → sinks.may_refuse_commit sink fault → sinks'.may_refuse_commit (seen sink) fault
-  pub leaves : (sink sink' : K) (committed : Bool) → holds sink → sinks.becomes sink sink' committed → sinks'.becomes (seen sink) (seen sink') committed
+  pub appends : (sink : K) (bytes : List ℕ) (fault : StoreFault) → holds sink
+      → sinks.may_refuse_append sink bytes fault → sinks'.may_refuse_append (seen sink) bytes fault
+  pub commits : (sink : K) (fault : StoreFault) → holds sink → sinks.may_refuse_commit sink fault
+      → sinks'.may_refuse_commit (seen sink) fault
+  pub leaves : (sink sink' : K) (committed : Bool) → holds sink → sinks.becomes sink sink' committed
+      → sinks'.becomes (seen sink) (seen sink') committed
 
--- the files of an end, each seen as another
+-- the files of an end, each seen as a value of another type
 abbrev pub seen_as : {S T K L : Type 0} → (S → T) → (K → L) → Files S K → Files T L
 seen_as source sink (Source s) = Source (source s)
 seen_as source sink (Sink k) = Sink (sink k)
@@ -38,8 +45,9 @@ abbrev pub OfSink : {S K : Type 0} → (K → Type 0) → Files S K → Type 0
 OfSink holds (Source s) = Unit {0}
 OfSink holds (Sink k) = holds k
 
--- a fault that one may answer, the other may answer
-faults : {A E : Type 0} (answer : Result A E) (P Q : E → Type 0) → ((fault : E) → P fault → Q fault) → IfErr answer P → IfErr answer Q
+-- a fault that one may return, the other may return
+faults : {A E : Type 0} (answer : Result A E) (P Q : E → Type 0) → ((fault : E) → P fault → Q fault)
+    → IfErr answer P → IfErr answer Q
 faults (Ok done) P Q f h = tt
 faults (Err fault) P Q f h = f fault h
 
@@ -52,11 +60,14 @@ abbrev sink_or : {S K : Type 0} → K → Files S K → K
 sink_or other (Source s) = other
 sink_or other (Sink k) = k
 
-module _ {S T K L : Type 0} (sources : SourceMeaning S) (sinks : SinkMeaning K) (sources' : SourceMeaning T) (sinks' : SinkMeaning L) where
+module _ {S T K L : Type 0} (sources : SourceMeaning S) (sinks : SinkMeaning K)
+    (sources' : SourceMeaning T) (sinks' : SinkMeaning L) where
   -- ---- a source, whatever the sinks are
   module _ (source_as : S → T) (source_tells : SourcesTell source_as sources sources') where
-    sends_as : (terms : Terms) (number : ℕ) (from : Endpoint) (e : EndState) (s : S) (turn : Turn) (s' : S) →
-        Sends sources terms number from e s turn s' → Sends sources' terms number from e (source_as s) turn (source_as s')
+    sends_as : (terms : Terms) (number : ℕ) (from : Endpoint) (e : EndState) (s : S) (turn : Turn)
+        (s' : S) →
+        Sends sources terms number from e s turn s' →
+        Sends sources' terms number from e (source_as s) turn (source_as s')
     sends_as terms number from e s turn s' h =
         record {
           answer = h.answer;
@@ -71,27 +82,38 @@ module _ {S T K L : Type 0} (sources : SourceMeaning S) (sinks : SinkMeaning K) 
           answers = h.answers;
         }
 
-    source_acts_as : (action : Action) (from : Endpoint) (bytes : List ℕ) (e : EndState) (s : S) (turn : Turn) (s' : S) →
+    source_acts_as : (action : Action) (from : Endpoint) (bytes : List ℕ) (e : EndState) (s : S)
+        (turn : Turn) (s' : S) →
         Acts sources sinks action from bytes e (Source s) turn (Source s') →
         Acts sources' sinks' action from bytes e (Source (source_as s)) turn (Source (source_as s'))
-    source_acts_as (Respond response) from bytes e s turn s' h = (h.0, ap (λ (f : Files S K). Source (source_as (source_or s f))) h.1)
-    source_acts_as (Send terms number) from bytes e s turn s' h = sends_as terms number from e s turn s' h
+    source_acts_as (Respond response) from bytes e s turn s' h =
+        (h.0, ap (λ (f : Files S K). Source (source_as (source_or s f))) h.1)
+    source_acts_as (Send terms number) from bytes e s turn s' h =
+        sends_as terms number from e s turn s' h
     source_acts_as (Store terms number) from bytes e s turn s' h = h
 
     -- a step with the one source is a step with the other
-    pub source_step_as : (from : Endpoint) (bytes : List ℕ) (e : EndState) (s : S) (turn : Turn) (s' : S) →
+    pub source_step_as : (from : Endpoint) (bytes : List ℕ) (e : EndState) (s : S) (turn : Turn)
+        (s' : S) →
         DatagramStep sources sinks from bytes e (Source s) turn (Source s') →
-        DatagramStep sources' sinks' from bytes e (Source (source_as s)) turn (Source (source_as s'))
+        DatagramStep sources' sinks' from bytes e (Source (source_as s)) turn
+        (Source (source_as s'))
     source_step_as from bytes e s turn s' h =
-        record { decoded = h.decoded; says = h.says; acts = source_acts_as _ from bytes e s turn s' h.acts; again = h.again }
+        record {
+          decoded = h.decoded;
+          says = h.says;
+          acts = source_acts_as _ from bytes e s turn s' h.acts;
+          again = h.again;
+        }
 
-    -- a source that tells the same as before is seen as one that does
+    -- a source whose model is unchanged is seen as one whose model is unchanged
     pub source_keeps_as : (s s' : S) → KeepsFiles sources sinks (Source s) (Source s') →
         KeepsFiles sources' sinks' (Source (source_as s)) (Source (source_as s'))
     source_keeps_as s s' h = rw (source_tells.tells s, source_tells.tells s') h
 
   -- ---- a sink, whatever the sources are
-  module _ (sink_as : K → L) (holds : K → Type 0) (sink_tells : SinksTell sink_as holds sinks sinks') where
+  module _ (sink_as : K → L) (holds : K → Type 0)
+      (sink_tells : SinksTell sink_as holds sinks sinks') where
     appended_as : (bytes : List ℕ) (k k' : K) (answer : Result Done StoreFault) → holds k →
         Appended sinks bytes k k' answer →
         Appended sinks' bytes (sink_as k) (sink_as k') answer × holds k'
@@ -105,7 +127,8 @@ module _ {S T K L : Type 0} (sources : SourceMeaning S) (sinks : SinkMeaning K) 
       sink_tells.keeps k k' p h.2,
     )
 
-    committed_as : (terms : Terms) (number : ℕ) (from : Endpoint) (e : EndState) (k : K) (turn : Turn) (k' : K) → holds k →
+    committed_as : (terms : Terms) (number : ℕ) (from : Endpoint) (e : EndState) (k : K)
+        (turn : Turn) (k' : K) → holds k →
         Committed sinks terms number from e k turn k' →
         Committed sinks' terms number from e (sink_as k) turn (sink_as k')
     committed_as terms number from e k turn k' p h =
@@ -117,15 +140,19 @@ module _ {S T K L : Type 0} (sources : SourceMeaning S) (sinks : SinkMeaning K) 
           answers = h.answers;
         }
 
-    goes_on_as : (terms : Terms) (number : ℕ) (from : Endpoint) (e : EndState) (last : Bool) (after : List ℕ) (k : K) (answer : Result Done StoreFault) (turn : Turn) (k' : K) → holds k →
+    goes_on_as : (terms : Terms) (number : ℕ) (from : Endpoint) (e : EndState) (last : Bool)
+        (after : List ℕ) (k : K) (answer : Result Done StoreFault) (turn : Turn) (k' : K) →
+        holds k →
         GoesOn sinks terms number from e last after k answer turn k' →
         GoesOn sinks' terms number from e last after (sink_as k) answer turn (sink_as k')
     goes_on_as terms number from e true after k (Err fault) turn k' p h = (h.0, ap sink_as h.1)
     goes_on_as terms number from e false after k (Err fault) turn k' p h = (h.0, ap sink_as h.1)
-    goes_on_as terms number from e true after k (Ok done) turn k' p h = committed_as terms number from _ k turn k' p h
+    goes_on_as terms number from e true after k (Ok done) turn k' p h =
+        committed_as terms number from _ k turn k' p h
     goes_on_as terms number from e false after k (Ok done) turn k' p h = (h.0, ap sink_as h.1)
 
-    stores_as : (terms : Terms) (number : ℕ) (from : Endpoint) (piece : List ℕ) (e : EndState) (k : K) (turn : Turn) (k' : K) → holds k →
+    stores_as : (terms : Terms) (number : ℕ) (from : Endpoint) (piece : List ℕ) (e : EndState)
+        (k : K) (turn : Turn) (k' : K) → holds k →
         Stores sinks terms number from piece e k turn k' →
         Stores sinks' terms number from piece e (sink_as k) turn (sink_as k')
     stores_as terms number from piece e k turn k' p h =
@@ -141,21 +168,30 @@ module _ {S T K L : Type 0} (sources : SourceMeaning S) (sinks : SinkMeaning K) 
           rest = goes_on_as terms number from e _ h.after h.mid h.answer turn k' appended.1 h.rest;
         }
 
-    sink_acts_as : (action : Action) (from : Endpoint) (bytes : List ℕ) (e : EndState) (k : K) (turn : Turn) (k' : K) → holds k →
+    sink_acts_as : (action : Action) (from : Endpoint) (bytes : List ℕ) (e : EndState) (k : K)
+        (turn : Turn) (k' : K) → holds k →
         Acts sources sinks action from bytes e (Sink k) turn (Sink k') →
         Acts sources' sinks' action from bytes e (Sink (sink_as k)) turn (Sink (sink_as k'))
-    sink_acts_as (Respond response) from bytes e k turn k' p h = (h.0, ap (λ (f : Files S K). Sink (sink_as (sink_or k f))) h.1)
+    sink_acts_as (Respond response) from bytes e k turn k' p h =
+        (h.0, ap (λ (f : Files S K). Sink (sink_as (sink_or k f))) h.1)
     sink_acts_as (Send terms number) from bytes e k turn k' p h = h
-    sink_acts_as (Store terms number) from bytes e k turn k' p h = (h.0, h.1, stores_as terms number from h.0 e k turn k' p h.2)
+    sink_acts_as (Store terms number) from bytes e k turn k' p h =
+        (h.0, h.1, stores_as terms number from h.0 e k turn k' p h.2)
 
     -- a step with the one sink is a step with the other
-    pub sink_step_as : (from : Endpoint) (bytes : List ℕ) (e : EndState) (k : K) (turn : Turn) (k' : K) → holds k →
+    pub sink_step_as : (from : Endpoint) (bytes : List ℕ) (e : EndState) (k : K) (turn : Turn)
+        (k' : K) → holds k →
         DatagramStep sources sinks from bytes e (Sink k) turn (Sink k') →
         DatagramStep sources' sinks' from bytes e (Sink (sink_as k)) turn (Sink (sink_as k'))
     sink_step_as from bytes e k turn k' p h =
-        record { decoded = h.decoded; says = h.says; acts = sink_acts_as _ from bytes e k turn k' p h.acts; again = h.again }
+        record {
+          decoded = h.decoded;
+          says = h.says;
+          acts = sink_acts_as _ from bytes e k turn k' p h.acts;
+          again = h.again;
+        }
 
-    -- a sink that tells the same as before is seen as one that does
+    -- a sink whose model is unchanged is seen as one whose model is unchanged
     pub sink_keeps_as : (k k' : K) → holds k → KeepsFiles sources sinks (Sink k) (Sink k') →
         KeepsFiles sources' sinks' (Sink (sink_as k)) (Sink (sink_as k'))
     sink_keeps_as k k' p h =
@@ -169,21 +205,34 @@ module _ {S T K L : Type 0} (sources : SourceMeaning S) (sinks : SinkMeaning K) 
       (source_tells : SourcesTell source_as sources sources')
       (sink_tells : SinksTell sink_as holds sinks sinks') where
     -- an action with the one is an action with the other
-    pub acts_as : (action : Action) (from : Endpoint) (bytes : List ℕ) (e : EndState) (files : Files S K) (turn : Turn) (files' : Files S K) → OfSink holds files →
+    pub acts_as : (action : Action) (from : Endpoint) (bytes : List ℕ) (e : EndState)
+        (files : Files S K) (turn : Turn) (files' : Files S K) → OfSink holds files →
         Acts sources sinks action from bytes e files turn files' →
-        Acts sources' sinks' action from bytes e (seen_as source_as sink_as files) turn (seen_as source_as sink_as files')
-    acts_as action from bytes e (Source s) turn (Source s') p h = source_acts_as source_as source_tells action from bytes e s turn s' h
-    acts_as action from bytes e (Sink k) turn (Sink k') p h = sink_acts_as sink_as holds sink_tells action from bytes e k turn k' p h
-    acts_as (Respond response) from bytes e (Source s) turn (Sink k') p h = (h.0, ap (seen_as source_as sink_as) h.1)
-    acts_as (Respond response) from bytes e (Sink k) turn (Source s') p h = (h.0, ap (seen_as source_as sink_as) h.1)
+        Acts sources' sinks' action from bytes e (seen_as source_as sink_as files) turn
+        (seen_as source_as sink_as files')
+    acts_as action from bytes e (Source s) turn (Source s') p h =
+        source_acts_as source_as source_tells action from bytes e s turn s' h
+    acts_as action from bytes e (Sink k) turn (Sink k') p h =
+        sink_acts_as sink_as holds sink_tells action from bytes e k turn k' p h
+    acts_as (Respond response) from bytes e (Source s) turn (Sink k') p h =
+        (h.0, ap (seen_as source_as sink_as) h.1)
+    acts_as (Respond response) from bytes e (Sink k) turn (Source s') p h =
+        (h.0, ap (seen_as source_as sink_as) h.1)
     acts_as (Send terms number) from bytes e (Source s) turn (Sink k') p h = h
     acts_as (Send terms number) from bytes e (Sink k) turn (Source s') p h = h
     acts_as (Store terms number) from bytes e (Source s) turn (Sink k') p h = h
     acts_as (Store terms number) from bytes e (Sink k) turn (Source s') p h = h
 
     -- a step with the one is a step with the other
-    pub step_as : (from : Endpoint) (bytes : List ℕ) (e : EndState) (files : Files S K) (turn : Turn) (files' : Files S K) → OfSink holds files →
+    pub step_as : (from : Endpoint) (bytes : List ℕ) (e : EndState) (files : Files S K)
+        (turn : Turn) (files' : Files S K) → OfSink holds files →
         DatagramStep sources sinks from bytes e files turn files' →
-        DatagramStep sources' sinks' from bytes e (seen_as source_as sink_as files) turn (seen_as source_as sink_as files')
+        DatagramStep sources' sinks' from bytes e (seen_as source_as sink_as files) turn
+        (seen_as source_as sink_as files')
     step_as from bytes e files turn files' p h =
-        record { decoded = h.decoded; says = h.says; acts = acts_as _ from bytes e files turn files' p h.acts; again = h.again }
+        record {
+          decoded = h.decoded;
+          says = h.says;
+          acts = acts_as _ from bytes e files turn files' p h.acts;
+          again = h.again;
+        }

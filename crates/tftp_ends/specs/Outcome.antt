@@ -3,7 +3,10 @@ use Rattle.std.specs.Prelude.{ℕ, List, ◌++◌, codes, decimal}
 use Rattle.tftp_negotiate.specs.declared.refusal.Refusal.{Refusal}
 use Rattle.tftp_negotiate.specs.declared.refusal.Refusal.TheVariants as refusals
 use Rattle.tftp_ends.specs.declared.outcome.Outcome.{Outcome}
-use Rattle.tftp_ends.specs.declared.outcome.Outcome.TheVariants.{Complete, TimedOut, PeerError, Illegal, Refused, TooLarge, StoreFault, SourceFault, NotNetascii}
+use Rattle.tftp_ends.specs.declared.outcome.Outcome.TheVariants.{Complete, TimedOut, PeerError}
+use Rattle.tftp_ends.specs.declared.outcome.Outcome.TheVariants.{Illegal, Refused, TooLarge}
+use Rattle.tftp_ends.specs.declared.outcome.Outcome.TheVariants.{StoreFault, SourceFault}
+use Rattle.tftp_ends.specs.declared.outcome.Outcome.TheVariants.{NotNetascii}
 
 -- the number of an outcome
 abbrev pub number_of : Outcome → ℕ

@@ -1,6 +1,7 @@
--- How a receiver decides what it does at a packet from its peer, test by test as the code does. Its table, a sentence
--- for each row, is in ReceiverRows.
-use Rattle.std.specs.Prelude.{ℕ, ◌+◌, nat_lt, ◌==◌, ◌&&◌, Bool, if◌then◌else◌, List, length, Option, Some, None}
+-- How a receiver handles a packet from its peer, in the order of the code's tests. Its table, a
+-- statement for each row, is in ReceiverRows.
+use Rattle.std.specs.Prelude.{ℕ, ◌+◌, nat_lt, ◌==◌, ◌&&◌, Bool, if◌then◌else◌, List, length, Option}
+use Rattle.std.specs.Prelude.{Some, None}
 use Rattle.tftp_wire.specs.declared.mode.Mode.{Mode}
 use Rattle.tftp_wire.specs.declared.packet.Packet.{Packet}
 use Rattle.tftp_wire.specs.declared.packet.Packet.TheVariants.{Data, Error, Oack}
@@ -18,11 +19,12 @@ use Rattle.tftp_ends.specs.Text.{is_readable}
 abbrev pub next_action : Mode → List ℕ → Terms → ℕ → List ℕ → Action
 next_action mode held terms number bytes =
     if nat_lt terms.size (length bytes) then illegal_action terms
-    else if number == 65535 && (length bytes == terms.size) then Respond (Refuse (Some terms) FileTooLarge outcomes.TooLarge)
+    else if number == 65535 && (length bytes == terms.size)
+    then Respond (Refuse (Some terms) FileTooLarge outcomes.TooLarge)
     else if is_readable mode held bytes (nat_lt (length bytes) terms.size) then Store terms number
     else Respond (Refuse (Some terms) NotNetascii outcomes.NotNetascii)
 
--- the newest block again is acknowledged again, an older one is ignored, none may be skipped
+-- the newest block is acknowledged again, an older one is ignored, and none may be skipped
 abbrev pub data_action : Mode → List ℕ → Terms → ℕ → ℕ → List ℕ → Action
 data_action mode held terms stored number bytes =
     if number == stored then Respond ResendReply
@@ -33,13 +35,15 @@ data_action mode held terms stored number bytes =
 -- how a receiver handles a packet; `client` says that it is a client's end
 abbrev pub receiver_action : Bool → Mode → List ℕ → Terms → ℕ → Option Packet → Action
 receiver_action client mode held terms stored None = illegal_action terms
-receiver_action client mode held terms stored (Some (Data number bytes)) = data_action mode held terms stored number bytes
+receiver_action client mode held terms stored (Some (Data number bytes)) =
+    data_action mode held terms stored number bytes
 receiver_action client mode held terms stored (Some (Error code text)) = peer_error code
 receiver_action client mode held terms stored (Some (Oack options)) =
-    if client && terms.by_oack then (if stored == 0 then Respond ResendReply else Respond Ignore) else illegal_action terms
+    if client && terms.by_oack then (if stored == 0 then Respond ResendReply else Respond Ignore)
+    else illegal_action terms
 receiver_action client mode held terms stored (Some _) = illegal_action terms
 
--- a receiver that dallies acknowledges the last block again, and ignores all else
+-- a dallying receiver acknowledges the last block again, and ignores all else
 abbrev pub dally_response : ℕ → Option Packet → Response
 dally_response stored (Some (Data number bytes)) = if number == stored then ResendReply else Ignore
 dally_response stored _ = Ignore

@@ -1,5 +1,6 @@
--- The receiver's table, a sentence for each row (RFC 1350, sections 2 and 6).
-use Rattle.std.specs.Prelude.{ℕ, ◌≡◌, ◌≢◌, ◌<◌, ◌≤◌, ◌+◌, Bool, true, false, nat_lt, List, length, codes, Some, Result, Ok, Err, IfErr, is_ok}
+-- The receiver's table, a statement for each row (RFC 1350, sections 2 and 6).
+use Rattle.std.specs.Prelude.{ℕ, ◌≡◌, ◌≢◌, ◌<◌, ◌≤◌, ◌+◌, Bool, true, false, nat_lt, List, length}
+use Rattle.std.specs.Prelude.{codes, Some, Result, Ok, Err, IfErr, is_ok}
 use Rattle.tftp_wire.specs.Spelling.{Spells}
 use Rattle.tftp_wire.specs.declared.options.RawOption.{RawOption}
 use Rattle.tftp_wire.specs.declared.packet.Packet.{Packet}
@@ -14,12 +15,13 @@ use Rattle.tftp_ends.specs.declared.phase.Dally.{Dally}
 use Rattle.tftp_ends.specs.declared.phase.Dally.TheVariants.{Fresh}
 use Rattle.tftp_ends.specs.declared.phase.Phase.TheVariants.{Receiving, Dallying}
 use Rattle.tftp_ends.specs.declared.phase.Terms.{Terms}
-use Rattle.tftp_ends.specs.Rows.{Handled, FromPeer, IsMalformed, DoesNothing, ClosesInSilence, GivesUp, RefusesBy, AnswersBy, AnswersAgain}
+use Rattle.tftp_ends.specs.Rows.{Handled, FromPeer, IsMalformed, DoesNothing, ClosesInSilence}
+use Rattle.tftp_ends.specs.Rows.{GivesUp, RefusesBy, AnswersBy, AnswersAgain}
 use Rattle.tftp_ends.specs.SenderRows.{took_oack}
 use Rattle.tftp_ends.specs.Step.{Done, Appended}
 use Rattle.tftp_ends.specs.Text.{Decoded, is_readable}
 
--- a packet that has no place at a receiver
+-- a packet that is not valid at a receiver
 abbrev pub NoPlaceAtReceiver : Bool → Packet → Type 0
 NoPlaceAtReceiver took (Read request) = Unit {0}
 NoPlaceAtReceiver took (Write request) = Unit {0}
@@ -30,20 +32,26 @@ NoPlaceAtReceiver took (Oack options) = took ≡ false
 
 module _ {S K : Type 0} {sources : SourceMeaning S} {sinks : SinkMeaning K}
     (c : Handled sources sinks) (terms : Terms) (n : ℕ) where
-  -- ---- the next block, once its text was handed to the sink
-  -- the last block was stored, and the sink answered the commit
+  -- ---- the next block, after its text was appended to the sink
+  -- the last block was stored, and this is the result of the commit
   abbrev pub CommitRow : List ℕ → Result Done StoreFault → Type 0
   -- committed: n rises, ACK n+1, complete, dally begins
-  CommitRow after (Ok done) = AnswersBy c (Dallying terms (n + 1) Fresh) (Ack (n + 1)) × (c.turn.position.held ≡ after)
+  CommitRow after (Ok done) =
+      AnswersBy c (Dallying terms (n + 1) Fresh) (Ack (n + 1)) × (c.turn.position.held ≡ after)
   -- refused as Exists: ERROR 6, n stays, not complete
-  CommitRow after (Err faults.Exists) = GivesUp c (Some terms) n 6 (codes "file exists") outcomes.StoreFault
+  CommitRow after (Err faults.Exists) =
+      GivesUp c (Some terms) n 6 (codes "file exists") outcomes.StoreFault
   -- refused otherwise: ERROR 3, n stays, not complete
-  CommitRow after (Err faults.Missing) = GivesUp c (Some terms) n 3 (codes "disk full") outcomes.StoreFault
-  CommitRow after (Err faults.Full) = GivesUp c (Some terms) n 3 (codes "disk full") outcomes.StoreFault
-  CommitRow after (Err faults.Io) = GivesUp c (Some terms) n 3 (codes "disk full") outcomes.StoreFault
-  CommitRow after (Err faults.Memory) = GivesUp c (Some terms) n 3 (codes "disk full") outcomes.StoreFault
+  CommitRow after (Err faults.Missing) =
+      GivesUp c (Some terms) n 3 (codes "disk full") outcomes.StoreFault
+  CommitRow after (Err faults.Full) =
+      GivesUp c (Some terms) n 3 (codes "disk full") outcomes.StoreFault
+  CommitRow after (Err faults.Io) =
+      GivesUp c (Some terms) n 3 (codes "disk full") outcomes.StoreFault
+  CommitRow after (Err faults.Memory) =
+      GivesUp c (Some terms) n 3 (codes "disk full") outcomes.StoreFault
 
-  -- the sink was asked to commit the whole
+  -- the sink was called to commit the file
   pub record CommitsWhole (after : List ℕ) (sink sink' : K) : Type 0 where
     pub answer : Result Done StoreFault
     pub commits : Commits (sinks.held sink) (sinks.held sink') answer
@@ -51,17 +59,19 @@ module _ {S K : Type 0} {sources : SourceMeaning S} {sinks : SinkMeaning K}
     pub leaves : sinks.becomes sink sink' (is_ok answer)
     pub row : CommitRow after answer
 
-  -- the sink answered the append; `last` says that the block is shorter than others
+  -- the result of the append; `last` says that the block is shorter than the block size
   abbrev pub AppendRow : Bool → List ℕ → K → K → Result Done StoreFault → Type 0
   -- refused: ERROR 3
-  AppendRow last after sink sink' (Err fault) = GivesUp c (Some terms) n 3 (codes "disk full") outcomes.StoreFault × (sink' ≡ sink)
+  AppendRow last after sink sink' (Err fault) =
+      GivesUp c (Some terms) n 3 (codes "disk full") outcomes.StoreFault × (sink' ≡ sink)
   -- a block of b bytes: stored, n rises, ACK n+1
   AppendRow false after sink sink' (Ok done) =
-      AnswersBy c (Receiving terms (n + 1)) (Ack (n + 1)) × (c.turn.position.held ≡ after) × (sink' ≡ sink)
-  -- a block of fewer: the whole is committed before it is acknowledged
+      AnswersBy c (Receiving terms (n + 1)) (Ack (n + 1)) × (c.turn.position.held ≡ after)
+      × (sink' ≡ sink)
+  -- a block of fewer bytes: the file is committed before the block is acknowledged
   AppendRow true after sink sink' (Ok done) = CommitsWhole after sink sink'
 
-  -- the text that this data stands for was handed to the sink, if it is any
+  -- the host bytes of this data were appended to the sink, if there are any
   pub record HandsToSink (piece : List ℕ) : Type 0 where
     pub sink : K
     pub mid : K
@@ -78,9 +88,9 @@ module _ {S K : Type 0} {sources : SourceMeaning S} {sinks : SinkMeaning K}
 
   -- ---- DATA n+1 of at most b bytes that is not one block too many
   abbrev pub NextRow : List ℕ → Bool → Type 0
-  -- its text goes on as the mode wants it: it is stored
+  -- its text is valid in the mode: it is stored
   NextRow piece true = HandsToSink piece
-  -- it does not: ERROR 0 `not netascii`, nothing of it stored
+  -- its text is not valid: ERROR 0 `not netascii`, not stored
   NextRow piece false = RefusesBy c (Some terms) n 0 (codes "not netascii") outcomes.NotNetascii
 
 module _ {S K : Type 0} (sources : SourceMeaning S) (sinks : SinkMeaning K) where
@@ -98,7 +108,7 @@ module _ {S K : Type 0} (sources : SourceMeaning S) (sinks : SinkMeaning K) wher
       → FromPeer c (Dallying terms n dally) terms
       → Spells packet c.bytes → ((piece : List ℕ) → packet ≢ Data n piece) → DoesNothing c
 
-  -- in dally, what is no packet: nothing
+  -- in dally, bytes that spell no packet: nothing
   abbrev pub DallyIgnoresMalformed : Type 0
   DallyIgnoresMalformed =
       (c : Handled sources sinks) (terms : Terms) (n : ℕ) (dally : Dally)
@@ -153,14 +163,16 @@ module _ {S K : Type 0} (sources : SourceMeaning S) (sinks : SinkMeaning K) wher
       → Spells (Data (n + 1) piece) c.bytes
       → length piece ≤ terms.size
       → (n + 1 ≡ 65535 → length piece < terms.size)
-      → NextRow c terms n piece (is_readable c.e.role.mode c.e.position.held piece (nat_lt (length piece) terms.size))
+      → NextRow c terms n piece
+      (is_readable c.e.role.mode c.e.position.held piece (nat_lt (length piece) terms.size))
 
-  -- ERROR: the peer gave up, closed in silence
+  -- ERROR: PeerError, closed without a reply
   abbrev pub ErrorClosesReceiver : Type 0
   ErrorClosesReceiver =
       (c : Handled sources sinks) (terms : Terms) (n code : ℕ) (text : List ℕ)
       → FromPeer c (Receiving terms n) terms
-      → Spells (Error code text) c.bytes → ClosesInSilence c (Some terms) n false (outcomes.PeerError code)
+      → Spells (Error code text) c.bytes
+      → ClosesInSilence c (Some terms) n false (outcomes.PeerError code)
 
   -- OACK at a client that was opened by an OACK, n = 0: ACK 0 again
   abbrev pub OackIsAckedAgain : Type 0

@@ -1,15 +1,17 @@
--- Bookkeeping of the code: the room that it makes for what goes out, and what its buffers hold.
+-- Internal to the code: the capacity reserved for the datagram to send, and what the buffers hold.
 use Rattle.std.specs.Prelude.{ℕ, ◌≡◌, ◌≤◌, ◌+◌, Bool, true, false, List, [], length, Option, Result}
 use Rattle.tftp_file.specs.declared.fault.FileFault.{FileFault}
 use Rattle.tftp_ends.specs.declared.action.Action.{Action}
 use Rattle.tftp_ends.specs.declared.action.Action.TheVariants.{Respond, Send, Store}
 use Rattle.tftp_ends.specs.declared.action.Response.{Response}
-use Rattle.tftp_ends.specs.declared.action.Response.TheVariants.{Ignore, Stranger, ResendReply, Retransmit, Wait, Close, Refuse, Accept, Complete}
+use Rattle.tftp_ends.specs.declared.action.Response.TheVariants.{Ignore, Stranger, ResendReply}
+use Rattle.tftp_ends.specs.declared.action.Response.TheVariants.{Retransmit, Wait, Close, Refuse}
+use Rattle.tftp_ends.specs.declared.action.Response.TheVariants.{Accept, Complete}
 use Rattle.tftp_ends.specs.End.{EndState}
 use Rattle.tftp_ends.specs.declared.reply.TheConstants.{MAX_ERROR}
 use Rattle.tftp_ends.specs.Step.{ReadsBlock, block_length, data_bytes, result_count_is}
 
--- the most bytes that go out where no file is touched
+-- the capacity to reserve for a response
 abbrev pub response_room : EndState → Response → ℕ
 response_room e Ignore = 0
 response_room e Stranger = MAX_ERROR
@@ -21,18 +23,19 @@ response_room e (Refuse terms reply outcome) = MAX_ERROR
 response_room e (Accept terms) = MAX_ERROR
 response_room e Complete = 0
 
--- the most bytes that go out at an action
+-- the capacity to reserve for an action
 abbrev pub room_of : EndState → Action → ℕ
 room_of e (Respond response) = response_room e response
 room_of e (Send terms number) = MAX_ERROR + block_length e.role.length terms.size number
 room_of e (Store terms number) = MAX_ERROR
 
--- a buffer holds the DATA of a block that came, and nothing where none came
+-- a buffer holds DATA with a whole block, or is empty
 abbrev pub HoldsData : ℕ → ℕ → List ℕ → List ℕ → Bool → Type 0
-HoldsData number want piece buffer true = (buffer ≡ data_bytes number piece) × (length buffer ≤ 4 + want)
+HoldsData number want piece buffer true =
+    (buffer ≡ data_bytes number piece) × (length buffer ≤ 4 + want)
 HoldsData number want piece buffer false = buffer ≡ []
 
--- a source was asked for a block, and the buffer holds it as DATA if all of it came
+-- a block was read from a source, and the buffer holds it as DATA if it is whole
 pub record ReadsData (before after : Option (List ℕ)) (may_fail must_fail : Type 0)
     (number want : ℕ) (buffer : List ℕ) (is_whole : Bool) : Type 0 where
   pub answer : Result ℕ FileFault

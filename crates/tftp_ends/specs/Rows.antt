@@ -1,5 +1,5 @@
--- The words in which the tables of the ends are written: what came to an end, and what it then is
--- and answers. None of them is how the code decides.
+-- The vocabulary of the tables of the ends: what an end received, its state after it, and its
+-- answer. It is independent of how the code decides.
 use Rattle.std.specs.Prelude.{ℕ, ◌≡◌, Bool, false, List, Option, Some, None, Result}
 use Rattle.tftp_wire.specs.Reading.{has_error_opcode}
 use Rattle.tftp_wire.specs.Spelling.{Spells, canonical}
@@ -18,8 +18,8 @@ use Rattle.tftp_ends.specs.declared.phase.Terms.{Terms}
 use Rattle.tftp_ends.specs.End.{EndState}
 use Rattle.tftp_ends.specs.Step.{Turn, DatagramStep, AsksFor, block_length}
 
--- an end handled a datagram: the end and its files before, where the datagram came from, its bytes,
--- and the step
+-- an end handled a datagram: the end and its files before, the sender and the bytes of the
+-- datagram, and the step
 pub record Handled {S K : Type 0} (sources : SourceMeaning S) (sinks : SinkMeaning K) : Type 0 where
   pub e : EndState
   pub files : Files S K
@@ -31,8 +31,8 @@ pub record Handled {S K : Type 0} (sources : SourceMeaning S) (sinks : SinkMeani
 
 module _ {S K : Type 0} {sources : SourceMeaning S} {sinks : SinkMeaning K}
     (c : Handled sources sinks) where
-  -- ---- what came
-  -- to an end in this phase, from its peer
+  -- ---- what was received
+  -- by an end in this phase, from its peer
   pub record FromPeer (phase : Phase) (terms : Terms) : Type 0 where
     pub stands : c.e.position.phase ≡ phase
     pub peer : c.from ≡ terms.peer
@@ -49,27 +49,27 @@ module _ {S K : Type 0} {sources : SourceMeaning S} {sinks : SinkMeaning K}
     pub position : c.turn.position ≡ c.e.position
     pub files : c.files' ≡ c.files
 
-  -- closed with this outcome, in silence
+  -- closed with this outcome, without a reply
   pub record ClosesInSilence (terms : Option Terms) (number : ℕ) (complete : Bool)
       (outcome : Outcome) : Type 0 where
     pub silent : c.turn.reply ≡ None
     pub phase : c.turn.position.phase ≡ Closed terms number complete outcome
     pub files : c.files' ≡ c.files
 
-  -- closed with this outcome, behind an ERROR to where the datagram came from
+  -- closed with this outcome, after an ERROR to the sender of the datagram
   pub record GivesUp (terms : Option Terms) (number code : ℕ) (text : List ℕ)
       (outcome : Outcome) : Type 0 where
     pub error : c.turn.reply ≡ Some (record { to = c.from; bytes = canonical (Error code text) })
     pub phase : c.turn.position.phase ≡ Closed terms number false outcome
 
-  -- the same, and no file was asked
+  -- the same, and no file was used
   pub record RefusesBy (terms : Option Terms) (number code : ℕ) (text : List ℕ)
       (outcome : Outcome) : Type 0 where
     pub gives_up : GivesUp terms number code text outcome
     pub files : c.files' ≡ c.files
 
-  -- a new packet goes to where the datagram came from; a timeout will send it again, with all
-  -- retries left
+  -- a new packet is sent to the sender of the datagram; a timeout retransmits it, and all retries
+  -- are left
   pub record AnswersBy (next : Phase) (packet : Packet) : Type 0 where
     pub reply : c.turn.reply ≡ Some (record { to = c.from; bytes = canonical packet })
     pub phase : c.turn.position.phase ≡ next
@@ -77,14 +77,14 @@ module _ {S K : Type 0} {sources : SourceMeaning S} {sinks : SinkMeaning K}
     pub newest_to : c.turn.position.last_sent_to ≡ c.from
     pub retries : c.turn.position.retries_left ≡ c.e.role.retries
 
-  -- this packet goes there, and nothing has changed
+  -- this packet is sent there, and nothing has changed
   pub record AnswersAgain (packet : Packet) : Type 0 where
     pub reply : c.turn.reply ≡ Some (record { to = c.from; bytes = canonical packet })
     pub position : c.turn.position ≡ c.e.position
     pub files : c.files' ≡ c.files
 
   -- ---- the source of a sender
-  -- it was asked for the block of this number: what it answered, and what came
+  -- the block of this number was read: the answer, and the bytes read
   pub record AsksSource (terms : Terms) (number : ℕ) : Type 0 where
     pub source : S
     pub source' : S
@@ -93,4 +93,5 @@ module _ {S K : Type 0} {sources : SourceMeaning S} {sinks : SinkMeaning K}
     pub answer : Result ℕ FileFault
     pub piece : List ℕ
     pub asks :
-        AsksFor sources (block_length c.e.role.length terms.size number) source (sources.left source') piece answer
+        AsksFor sources (block_length c.e.role.length terms.size number) source
+        (sources.left source') piece answer

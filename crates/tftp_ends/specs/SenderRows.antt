@@ -1,4 +1,4 @@
--- The sender's table, a sentence for each row (RFC 1350, sections 2 and 6; RFC 1123, section
+-- The sender's table, a statement for each row (RFC 1350, sections 2 and 6; RFC 1123, section
 -- 4.2.3.1).
 use Rattle.std.specs.Prelude.{ℕ, ◌≡◌, ◌<◌, ◌+◌, ◌/◌, ◌&&◌, Bool, true, false, List, codes, Some}
 use Rattle.tftp_wire.specs.Spelling.{Spells}
@@ -7,22 +7,24 @@ use Rattle.tftp_wire.specs.declared.packet.Packet.{Packet}
 use Rattle.tftp_wire.specs.declared.packet.Packet.TheVariants.{Read, Write, Data, Ack, Error, Oack}
 use Rattle.tftp_file.specs.Source.{SourceMeaning}
 use Rattle.tftp_file.specs.Sink.{SinkMeaning}
-use Rattle.tftp_ends.specs.declared.outcome.Outcome.TheVariants.{Complete, PeerError, Illegal, SourceFault}
+use Rattle.tftp_ends.specs.declared.outcome.Outcome.TheVariants.{Complete, PeerError, Illegal}
+use Rattle.tftp_ends.specs.declared.outcome.Outcome.TheVariants.{SourceFault}
 use Rattle.tftp_ends.specs.declared.phase.Phase.TheVariants.{Sending}
 use Rattle.tftp_ends.specs.declared.phase.Terms.{Terms}
 use Rattle.tftp_ends.specs.End.{EndState, is_client}
-use Rattle.tftp_ends.specs.Rows.{Handled, FromPeer, IsMalformed, DoesNothing, ClosesInSilence, GivesUp, RefusesBy, AnswersBy, AsksSource}
+use Rattle.tftp_ends.specs.Rows.{Handled, FromPeer, IsMalformed, DoesNothing, ClosesInSilence}
+use Rattle.tftp_ends.specs.Rows.{GivesUp, RefusesBy, AnswersBy, AsksSource}
 use Rattle.tftp_ends.specs.Step.{block_length, result_count_is}
 
 -- how many blocks a sender's file has: the last is shorter than a block, and may be empty
 abbrev pub blocks_of : EndState → Terms → ℕ
 blocks_of e terms = e.role.length / terms.size + 1
 
--- an end that opened by taking an OACK
+-- a client's end that an OACK opened
 abbrev pub took_oack : EndState → Terms → Bool
 took_oack e terms = is_client e.role.side && terms.by_oack
 
--- a packet that has no place at a sender
+-- a packet that is not valid at a sender
 abbrev pub NoPlaceAtSender : Bool → Packet → Type 0
 NoPlaceAtSender took (Read request) = Unit {0}
 NoPlaceAtSender took (Write request) = Unit {0}
@@ -32,13 +34,14 @@ NoPlaceAtSender took (Error code text) = ⊥
 NoPlaceAtSender took (Oack options) = took ≡ false
 
 module _ {S K : Type 0} {sources : SourceMeaning S} {sinks : SinkMeaning K} where
-  -- DATA of the block where all of it came; where the source failed, or ended before the measured
-  -- length, ERROR 0 and the number stays
+  -- DATA, if the source gave the whole block; if it failed or ended before the measured length,
+  -- ERROR 0, and the number stays
   abbrev pub SendsBlock : (c : Handled sources sinks) → Terms → ℕ → ℕ → List ℕ → Bool → Type 0
   SendsBlock c terms n number piece true = AnswersBy c (Sending terms number) (Data number piece)
-  SendsBlock c terms n number piece false = GivesUp c (Some terms) n 0 (codes "file changed") SourceFault
+  SendsBlock c terms n number piece false =
+      GivesUp c (Some terms) n 0 (codes "file changed") SourceFault
 
-  -- the source is asked for the block, and so it is sent
+  -- the block is read from the source, and then DATA or an ERROR is sent
   abbrev pub SendsFromSource : (c : Handled sources sinks) → Terms → ℕ → ℕ → Type 0
   SendsFromSource c terms n number =
       let want = block_length c.e.role.length terms.size number in
@@ -54,7 +57,7 @@ module _ {S K : Type 0} (sources : SourceMeaning S) (sinks : SinkMeaning K) wher
       → Spells (Ack n) c.bytes
       → n < blocks_of c.e terms → SendsFromSource c terms n (n + 1)
 
-  -- ACK n, n = N: complete, closed in silence
+  -- ACK n, n = N: complete, closed without a reply
   abbrev pub LastAckCompletes : Type 0
   LastAckCompletes =
       (c : Handled sources sinks) (terms : Terms) (n : ℕ)
@@ -78,7 +81,7 @@ module _ {S K : Type 0} (sources : SourceMeaning S) (sinks : SinkMeaning K) wher
       → Spells (Ack m) c.bytes
       → n < m → RefusesBy c (Some terms) n 4 (codes "illegal operation") Illegal
 
-  -- ERROR: the peer gave up, closed in silence
+  -- ERROR: PeerError, closed without a reply
   abbrev pub ErrorClosesSender : Type 0
   ErrorClosesSender =
       (c : Handled sources sinks) (terms : Terms) (n code : ℕ) (text : List ℕ)

@@ -1,6 +1,7 @@
--- How a client decides what it does at the first answer to its request, test by test as the code does. Its table, a
--- sentence for each row, is in WaitingRows.
-use Rattle.std.specs.Prelude.{ℕ, ◌*◌, nat_lt, nat_le, ◌==◌, ◌&&◌, true, false, if◌then◌else◌, List, [], length, Option, Some, None, Result, Ok, Err}
+-- How a client handles the first answer to its request, in the order of the code's tests. Its
+-- table, a statement for each row, is in WaitingRows.
+use Rattle.std.specs.Prelude.{ℕ, ◌*◌, nat_lt, nat_le, ◌==◌, ◌&&◌, true, false, if◌then◌else◌, List}
+use Rattle.std.specs.Prelude.{[], length, Option, Some, None, Result, Ok, Err}
 use Rattle.tftp_wire.specs.declared.mode.Mode.{Mode}
 use Rattle.tftp_wire.specs.declared.packet.Packet.{Packet}
 use Rattle.tftp_wire.specs.declared.packet.Packet.TheVariants.{Data, Ack, Error, Oack}
@@ -13,7 +14,9 @@ use Rattle.tftp_negotiate.specs.declared.refusal.Refusal.TheVariants as refusals
 use Rattle.tftp_negotiate.specs.Agreement.{agreement}
 use Rattle.tftp_negotiate.specs.Agreed.{size, timeout_of}
 use Rattle.tftp_ends.specs.declared.endpoint.Endpoint.{Endpoint}
-use Rattle.tftp_ends.specs.declared.error_reply.ErrorReply.TheVariants.{FileTooLarge, DiskFull, IllegalOperation, OptionRefused}
+use Rattle.tftp_ends.specs.declared.error_reply.ErrorReply.TheVariants.{FileTooLarge, DiskFull}
+use Rattle.tftp_ends.specs.declared.error_reply.ErrorReply.TheVariants.{IllegalOperation}
+use Rattle.tftp_ends.specs.declared.error_reply.ErrorReply.TheVariants.{OptionRefused}
 use Rattle.tftp_ends.specs.declared.outcome.Outcome.TheVariants as outcomes
 use Rattle.tftp_ends.specs.declared.phase.Terms.{Terms}
 use Rattle.tftp_ends.specs.declared.action.Action.{Action}
@@ -22,36 +25,41 @@ use Rattle.tftp_ends.specs.declared.action.Response.TheVariants.{Refuse, Accept}
 use Rattle.tftp_ends.specs.Sender.{peer_error}
 use Rattle.tftp_ends.specs.Receiver.{receiver_action}
 
--- a first DATA or ACK agrees on nothing
+-- the terms without options: the first answer is DATA 1 or ACK 0
 abbrev pub default_terms : Endpoint → Terms
 default_terms peer = record { peer = peer; size = DEFAULT_BLOCK; timeout = None; by_oack = false }
 
--- an OACK agrees on these options
+-- the terms with these options: the first answer is an OACK
 abbrev pub agreed_terms : Endpoint → List Known → Terms
-agreed_terms peer agreed = record { peer = peer; size = size agreed; timeout = timeout_of agreed; by_oack = true }
+agreed_terms peer agreed =
+    record { peer = peer; size = size agreed; timeout = timeout_of agreed; by_oack = true }
 
--- a packet that has no place as a first answer
+-- a packet that is not valid as a first answer
 abbrev pub no_answer : Action
 no_answer = Respond (Refuse None IllegalOperation outcomes.Illegal)
 
--- an OACK that doesn't fit what was asked
+-- an OACK that does not match the requested options
 abbrev pub refusal_action : Refusal → Action
-refusal_action refusals.Repeated = Respond (Refuse None OptionRefused (outcomes.Refused refusals.Repeated))
+refusal_action refusals.Repeated =
+    Respond (Refuse None OptionRefused (outcomes.Refused refusals.Repeated))
 refusal_action refusals.TooLarge = Respond (Refuse None DiskFull outcomes.TooLarge)
-refusal_action refusals.NotAsked = Respond (Refuse None OptionRefused (outcomes.Refused refusals.NotAsked))
-refusal_action refusals.BadValue = Respond (Refuse None OptionRefused (outcomes.Refused refusals.BadValue))
+refusal_action refusals.NotAsked =
+    Respond (Refuse None OptionRefused (outcomes.Refused refusals.NotAsked))
+refusal_action refusals.BadValue =
+    Respond (Refuse None OptionRefused (outcomes.Refused refusals.BadValue))
 
--- a reader takes the options, or refuses them
+-- a client that reads accepts the options, or refuses them
 abbrev pub accept_action : Endpoint → Result (List Known) Refusal → Action
 accept_action from (Ok agreed) = Respond (Accept (agreed_terms from agreed))
 accept_action from (Err refusal) = refusal_action refusal
 
--- a writer begins, if the file's blocks can be numbered
+-- a client that writes sends DATA 1, if the file's blocks can be numbered
 abbrev pub begin_action : ℕ → Terms → Action
 begin_action length terms =
-    if nat_lt length (65535 * terms.size) then Send terms 1 else Respond (Refuse None FileTooLarge outcomes.TooLarge)
+    if nat_lt length (65535 * terms.size) then Send terms 1
+    else Respond (Refuse None FileTooLarge outcomes.TooLarge)
 
--- a writer takes the options and begins, or refuses them
+-- a client that writes accepts the options and sends DATA 1, or refuses them
 abbrev pub begin_with_action : Endpoint → ℕ → Result (List Known) Refusal → Action
 begin_with_action from length (Ok agreed) = begin_action length (agreed_terms from agreed)
 begin_with_action from length (Err refusal) = refusal_action refusal
@@ -60,15 +68,19 @@ begin_with_action from length (Err refusal) = refusal_action refusal
 abbrev pub reader_action : Mode → Asked → ℕ → Endpoint → Option Packet → Action
 reader_action mode asked limit from None = no_answer
 reader_action mode asked limit from (Some (Data number bytes)) =
-    if number == 1 && nat_le (length bytes) DEFAULT_BLOCK then receiver_action true mode [] (default_terms from) 0 (Some (Data number bytes)) else no_answer
-reader_action mode asked limit from (Some (Oack options)) = accept_action from (agreement asked kinds.Read mode options limit)
+    if number == 1 && nat_le (length bytes) DEFAULT_BLOCK
+    then receiver_action true mode [] (default_terms from) 0 (Some (Data number bytes))
+    else no_answer
+reader_action mode asked limit from (Some (Oack options)) =
+    accept_action from (agreement asked kinds.Read mode options limit)
 reader_action mode asked limit from (Some (Error code text)) = peer_error code
 reader_action mode asked limit from (Some _) = no_answer
 
 -- how a client that writes handles a packet from the server's address
 abbrev pub writer_action : Mode → Asked → ℕ → ℕ → Endpoint → Option Packet → Action
 writer_action mode asked limit length from None = no_answer
-writer_action mode asked limit length from (Some (Ack number)) = if number == 0 then begin_action length (default_terms from) else no_answer
+writer_action mode asked limit length from (Some (Ack number)) =
+    if number == 0 then begin_action length (default_terms from) else no_answer
 writer_action mode asked limit length from (Some (Oack options)) =
     begin_with_action from length (agreement asked kinds.Write mode options limit)
 writer_action mode asked limit length from (Some (Error code text)) = peer_error code

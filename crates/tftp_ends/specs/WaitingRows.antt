@@ -1,6 +1,7 @@
--- The table of a client that waits for its first answer, a sentence for each row (RFC 1350, section
--- 4; RFC 2347, "Negotiation Protocol").
-use Rattle.std.specs.Prelude.{ℕ, ◌≡◌, ◌≢◌, ◌<◌, ◌≤◌, ◌*◌, Bool, true, false, nat_lt, List, [], length, codes, None, Result, Ok, Err}
+-- The table of a client that waits for its first answer, a statement for each row (RFC 1350,
+-- section 4; RFC 2347, "Negotiation Protocol").
+use Rattle.std.specs.Prelude.{ℕ, ◌≡◌, ◌≢◌, ◌<◌, ◌≤◌, ◌*◌, Bool, true, false, nat_lt, List, []}
+use Rattle.std.specs.Prelude.{length, codes, None, Result, Ok, Err}
 use Rattle.tftp_wire.specs.Spelling.{Spells}
 use Rattle.tftp_wire.specs.declared.options.RawOption.{RawOption}
 use Rattle.tftp_wire.specs.declared.packet.Packet.{Packet}
@@ -14,7 +15,8 @@ use Rattle.tftp_negotiate.specs.declared.refusal.Refusal.{Refusal}
 use Rattle.tftp_negotiate.specs.declared.refusal.Refusal.TheVariants as refusals
 use Rattle.tftp_file.specs.Source.{SourceMeaning}
 use Rattle.tftp_file.specs.Sink.{SinkMeaning}
-use Rattle.tftp_ends.specs.declared.outcome.Outcome.TheVariants.{PeerError, Illegal, Refused, TooLarge}
+use Rattle.tftp_ends.specs.declared.outcome.Outcome.TheVariants.{PeerError, Illegal, Refused}
+use Rattle.tftp_ends.specs.declared.outcome.Outcome.TheVariants.{TooLarge}
 use Rattle.tftp_ends.specs.declared.phase.Phase.TheVariants.{Waiting, Receiving}
 use Rattle.tftp_ends.specs.declared.phase.Terms.{Terms}
 use Rattle.tftp_ends.specs.End.{is_sender}
@@ -24,8 +26,8 @@ use Rattle.tftp_ends.specs.SenderRows.{SendsFromSource}
 use Rattle.tftp_ends.specs.Text.{is_readable}
 use Rattle.tftp_ends.specs.Waiting.{default_terms, agreed_terms}
 
--- a packet that is no first answer to a client that reads: DATA 1 of at most 512 bytes, an OACK and
--- an ERROR are
+-- a packet that is not valid as a first answer to a client that reads: all but DATA 1 of at most
+-- 512 bytes, an OACK and an ERROR
 abbrev pub NoAnswerToReader : Packet → Type 0
 NoAnswerToReader (Read request) = Unit {0}
 NoAnswerToReader (Write request) = Unit {0}
@@ -34,7 +36,8 @@ NoAnswerToReader (Ack number) = Unit {0}
 NoAnswerToReader (Error code text) = ⊥
 NoAnswerToReader (Oack options) = ⊥
 
--- a packet that is no first answer to a client that writes: ACK 0, an OACK and an ERROR are
+-- a packet that is not valid as a first answer to a client that writes: all but ACK 0, an OACK and
+-- an ERROR
 abbrev pub NoAnswerToWriter : Packet → Type 0
 NoAnswerToWriter (Read request) = Unit {0}
 NoAnswerToWriter (Write request) = Unit {0}
@@ -45,34 +48,37 @@ NoAnswerToWriter (Oack options) = ⊥
 
 module _ {S K : Type 0} {sources : SourceMeaning S} {sinks : SinkMeaning K}
     (c : Handled sources sinks) where
-  -- a client that waits got a datagram from the server's address
+  -- a waiting client received a datagram from the server's address
   pub record FromServer (writes : Bool) (asked : Asked) (limit : ℕ) : Type 0 where
     pub stands : c.e.position.phase ≡ Waiting asked limit
     pub side : is_sender c.e.role.side ≡ writes
     pub server : c.from.ip ≡ c.e.position.last_sent_to.ip
     pub no_text : c.e.position.held ≡ []
 
-  -- an OACK that does not fit what was asked
+  -- an OACK that does not match the requested options
   abbrev pub RefusesOack : Refusal → Type 0
   -- as too large: ERROR 3, TooLarge
   RefusesOack refusals.TooLarge = RefusesBy c None 0 3 (codes "disk full") TooLarge
   -- otherwise: ERROR 8, Refused
-  RefusesOack refusals.Repeated = RefusesBy c None 0 8 (codes "option refused") (Refused refusals.Repeated)
-  RefusesOack refusals.NotAsked = RefusesBy c None 0 8 (codes "option refused") (Refused refusals.NotAsked)
-  RefusesOack refusals.BadValue = RefusesBy c None 0 8 (codes "option refused") (Refused refusals.BadValue)
+  RefusesOack refusals.Repeated =
+      RefusesBy c None 0 8 (codes "option refused") (Refused refusals.Repeated)
+  RefusesOack refusals.NotAsked =
+      RefusesBy c None 0 8 (codes "option refused") (Refused refusals.NotAsked)
+  RefusesOack refusals.BadValue =
+      RefusesBy c None 0 8 (codes "option refused") (Refused refusals.BadValue)
 
-  -- a client that reads takes an OACK: peer and size taken, n = 0, ACK 0
+  -- a client that reads accepts an OACK (its peer and size, n = 0, ACK 0), or refuses it
   abbrev pub ReaderTakes : Result (List Known) Refusal → Type 0
-  ReaderTakes (Ok agreed) = AnswersBy c (Receiving (agreed_terms c.from agreed) 0) (Ack 0) × (c.files' ≡ c.files)
+  ReaderTakes (Ok agreed) =
+      AnswersBy c (Receiving (agreed_terms c.from agreed) 0) (Ack 0) × (c.files' ≡ c.files)
   ReaderTakes (Err refusal) = RefusesOack refusal
 
-  -- a client that writes begins with these terms, if its file's blocks can be numbered: peer and
-  -- size taken, DATA 1
+  -- a client that writes sends DATA 1 with these terms, if its file's blocks can be numbered
   abbrev pub WriterBegins : Terms → Bool → Type 0
   WriterBegins terms true = SendsFromSource c terms 0 1
   WriterBegins terms false = RefusesBy c None 0 0 (codes "file too large") TooLarge
 
-  -- it takes an OACK, or refuses it
+  -- it accepts an OACK, or refuses it
   abbrev pub WriterTakes : Result (List Known) Refusal → Type 0
   WriterTakes (Ok agreed) =
       let terms = agreed_terms c.from agreed in
@@ -81,15 +87,16 @@ module _ {S K : Type 0} {sources : SourceMeaning S} {sinks : SinkMeaning K}
 
 module _ {S K : Type 0} (sources : SourceMeaning S) (sinks : SinkMeaning K) where
   -- ---- a client that reads
-  -- DATA 1 of at most 512 bytes: peer taken, size 512, then the receiver's rows with n = 0
+  -- DATA 1 of at most 512 bytes: peer known, size 512, then the receiver's rows with n = 0
   abbrev pub FirstDataIsStored : Type 0
   FirstDataIsStored =
       (c : Handled sources sinks) (asked : Asked) (limit : ℕ) (piece : List ℕ)
       → FromServer c false asked limit
       → Spells (Data 1 piece) c.bytes → length piece ≤ DEFAULT_BLOCK
-      → NextRow c (default_terms c.from) 0 piece (is_readable c.e.role.mode [] piece (nat_lt (length piece) DEFAULT_BLOCK))
+      → NextRow c (default_terms c.from) 0 piece
+      (is_readable c.e.role.mode [] piece (nat_lt (length piece) DEFAULT_BLOCK))
 
-  -- OACK: taken, and ACK 0, or refused
+  -- OACK: accepted by ACK 0, or refused
   abbrev pub OackOpensReader : Type 0
   OackOpensReader =
       (c : Handled sources sinks) (asked : Asked) (limit : ℕ) (options : List RawOption)
@@ -107,7 +114,7 @@ module _ {S K : Type 0} (sources : SourceMeaning S) (sinks : SinkMeaning K) wher
       → RefusesBy c None 0 4 (codes "illegal operation") Illegal
 
   -- ---- a client that writes
-  -- ACK 0: peer taken, size 512, n = 1, DATA 1; or the file does not fit
+  -- ACK 0: peer known, size 512, n = 1, DATA 1; or the file is too large
   abbrev pub FirstAckBegins : Type 0
   FirstAckBegins =
       (c : Handled sources sinks) (asked : Asked) (limit : ℕ)
@@ -115,7 +122,7 @@ module _ {S K : Type 0} (sources : SourceMeaning S) (sinks : SinkMeaning K) wher
       → Spells (Ack 0) c.bytes
       → WriterBegins c (default_terms c.from) (nat_lt c.e.role.length (65535 * DEFAULT_BLOCK))
 
-  -- OACK: taken, and DATA 1; or the file does not fit; or refused
+  -- OACK: accepted by DATA 1; or the file is too large; or refused
   abbrev pub OackOpensWriter : Type 0
   OackOpensWriter =
       (c : Handled sources sinks) (asked : Asked) (limit : ℕ) (options : List RawOption)
@@ -133,7 +140,7 @@ module _ {S K : Type 0} (sources : SourceMeaning S) (sinks : SinkMeaning K) wher
       → RefusesBy c None 0 4 (codes "illegal operation") Illegal
 
   -- ---- either
-  -- ERROR: closed in silence, and no peer
+  -- ERROR: closed without a reply, and no peer
   abbrev pub ErrorClosesWaiting : Type 0
   ErrorClosesWaiting =
       (c : Handled sources sinks) (writes : Bool) (asked : Asked) (limit code : ℕ) (text : List ℕ)

@@ -1,48 +1,47 @@
-//! How an end handles an event, before a file is touched.
+//! The actions of an end: how it handles an event, before it uses a file.
 
 use crate::error_reply::ErrorReply;
 use crate::outcome::Outcome;
 use crate::phase::Terms;
 
-/// What is to be done at an event.
+/// What an end does at an event.
 #[derive(Clone, Copy)]
 pub enum Action {
-    /// No file is touched.
+    /// An action that uses no file.
     Respond(Response),
-    /// DATA of this number, if the source gives it.
+    /// Read the block of this number from the source, and send it as DATA.
     Send { terms: Terms, number: u16 },
-    /// The data that came is stored as the block of this number, if the store takes it, and then
-    /// acknowledged.
+    /// Store the received data as the block of this number, and then acknowledge it.
     Store { terms: Terms, number: u16 },
 }
 
-/// What is to be done where no file is touched.
+/// An action that uses no file.
 #[derive(Clone, Copy)]
 pub enum Response {
     /// No datagram and no change.
     Ignore,
     /// ERROR 5 to the sender of the datagram, and no change.
     Stranger,
-    /// The last datagram sent once more, and no change.
+    /// Send the last datagram again, and no change.
     ResendReply,
-    /// A timeout with a retry left: the last datagram sent once more, for one retry.
+    /// A timeout with a retry left: send the last datagram again, for one retry.
     Retransmit,
-    /// The first timeout of a dally: it is counted.
+    /// The first timeout of a dally.
     Wait,
-    /// Closed in silence.
+    /// Close without a reply.
     Close {
         outcome: Outcome,
     },
-    /// An ERROR, and closed. There are terms if the peer was taken by then.
+    /// Send an ERROR and close. There are terms if the peer is known by then.
     Refuse {
         terms: Option<Terms>,
         reply: ErrorReply,
         outcome: Outcome,
     },
-    /// A client that reads takes an OACK: ACK 0.
+    /// A client that reads accepts an OACK: ACK 0.
     Accept {
         terms: Terms,
     },
-    /// The last block was acknowledged: closed as complete, in silence.
+    /// The last block is acknowledged: close as complete, without a reply.
     Complete,
 }

@@ -1,12 +1,12 @@
-//! How an end is set up.
+//! The configuration of a client's end.
 
 use tftp_negotiate::Limits;
 
-/// What an end allows, and how patient it is.
+/// The limits of an end, and its retries.
 #[derive(Clone, Copy, Debug, PartialEq, Eq)]
 pub struct EndConfig {
     /// The largest block size and the longest file.
     pub limits: Limits,
-    /// How often a datagram is sent again in a row, 0 to 10.
+    /// How many times in a row a datagram is retransmitted, 0 to 10.
     pub retries: u8,
 }

@@ -1,4 +1,4 @@
-//! What the bytes of a datagram say.
+//! Decoding of a datagram.
 
 ghost use Rattle.std.specs.Prelude.{◌≡◌, ◌↔◌, option_map};
 ghost use Rattle.tftp_wire.specs.Borrowed.{owned};
@@ -6,7 +6,7 @@ ghost use Rattle.tftp_ends.specs.Action.{Decodes};
 
 use tftp_wire::{PacketRef, decode_ref};
 
-/// The packet that the bytes spell, if they spell one.
+/// The packet that the bytes spell, or `None` if they spell none.
 pub fn decode_packet(bytes: &[u8]) -> Option<PacketRef<'_>>
     ensures { Decodes bytes.now (option_map owned result) }
 {

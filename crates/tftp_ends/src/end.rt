@@ -31,12 +31,11 @@ use tftp_wire::{PacketRef, has_error_opcode};
 
 /// One end of a transfer.
 ///
-/// Hand it each datagram that comes to its port ([`End::on_datagram`]), and a timeout
-/// ([`End::on_timeout`]) when nothing came for the agreed seconds after an opening, progress or the
-/// last timeout ([`End::interval`]). The caller owns the socket and the clock: it sends what a call
-/// appends to `out` to the endpoint that the [`Step`] names. [`End::handle_datagram`] and
-/// [`End::handle_timeout`] are the same steps, and lend the datagram. A call at a closed end is
-/// refused.
+/// The caller owns the socket and the clock. It delivers each datagram that arrives at the end's
+/// port ([`End::on_datagram`]), and a timeout ([`End::on_timeout`]) when [`End::interval`] seconds
+/// have passed since the opening, the last progress or the last timeout. It sends the datagram that
+/// a call appends to `out` to [`Step::to`]. [`End::handle_datagram`] and [`End::handle_timeout`]
+/// make the same steps, and lend the datagram instead. A closed end refuses every call.
 #[derive(Debug, Drop)]
 pub struct End {
     role: Role,
@@ -89,7 +88,7 @@ impl End {
     ghost use Rattle.tftp_ends.specs.Step.{Turn, DatagramStep, Carries, Lends, IsAnswered};
     ghost use Rattle.tftp_ends.specs.Step.{UsesFile, told, timeout_turn, lent};
 
-    /// How far the end came. What a repeated block is answered by is the ACK of the number.
+    /// The state of the end. A receiver answers a repeated block by the ACK of `number`.
     pub fn record(&self) -> Record
         ensures record { result ≡ record_of self.now }
         ensures resends { ResendsAck self.now self.now.position.phase }
@@ -113,9 +112,8 @@ impl End {
         self.phase.outcome()
     }
 
-    /// How many bytes the end keeps between two events: of datagrams, in both of its buffers
-    /// together, at most a header and a block of the agreed size, or 512 for a request or an OACK,
-    /// and of text one at most.
+    /// How many bytes the end keeps between two events: in both buffers together a datagram of at
+    /// most a header and a block of the agreed size, or 512 bytes, and at most one byte of text.
     pub fn held(&self) -> Held
         ensures held { result ≡ held_by self.now }
         ensures datagram { result.datagram ≤ longest_sent (terms_of self.now.position.phase) }
@@ -127,8 +125,8 @@ impl End {
         }
     }
 
-    /// The seconds that the caller lets pass in silence before a timeout: the agreed ones (RFC
-    /// 2349, "Timeout Interval Option Specification"), or [`DEFAULT_INTERVAL`].
+    /// The timeout interval in seconds: the agreed one (RFC 2349, "Timeout Interval Option
+    /// Specification"), or [`DEFAULT_INTERVAL`].
     pub fn interval(&self) -> u8
         ensures { result ≡ interval_of (terms_of self.now.position.phase) }
     {
@@ -136,8 +134,8 @@ impl End {
         agreed.unwrap_or(DEFAULT_INTERVAL)
     }
 
-    /// Whether a datagram from there is not from the other end, or, before there is one, not from
-    /// the server's address.
+    /// Whether a datagram is not from the peer or, while the peer is unknown, not from the server's
+    /// address.
     fn is_stranger(&self, from: Endpoint) -> bool
         ensures { result ≡ is_stranger (terms_of self.now.position.phase)
             self.now.position.last_sent_to from }
@@ -148,7 +146,7 @@ impl End {
         }
     }
 
-    /// What begins as an ERROR and is none ends the transfer in silence, but not a dally.
+    /// A malformed ERROR closes the transfer without a reply. In a dally it is ignored.
     fn garbled_response(&self) -> Response
         ensures { result ≡ garbled_response self.now.position.phase }
     {
@@ -161,7 +159,7 @@ impl End {
         }
     }
 
-    /// How the end handles a packet from its peer, or from the server while it has none.
+    /// How the end handles a packet from its peer, or from the server while the peer is unknown.
     fn packet_action(&self, from: Endpoint, decoded: &Option<PacketRef<'_>>) -> Action
         ensures action { result
             ≡ packet_action self.now from (option_map owned decoded.now) self.now.position.phase }
@@ -193,7 +191,7 @@ impl End {
         }
     }
 
-    /// How the end handles a datagram: first from whom it is, then whether it may be answered.
+    /// How the end handles a datagram: it tests the sender first, and then for a malformed ERROR.
     fn datagram_action(&self, from: Endpoint, bytes: &[u8]) -> Action
         ensures action { (decoded : Option Packet) × Decodes bytes.now decoded
             × (result ≡ datagram_action self.now from bytes.now decoded) }
@@ -247,14 +245,14 @@ impl End {
         self.outcome().is_some()
     }
 
-    /// Where the end stands.
+    /// The phase of the end.
     fn phase(&self) -> Phase
         ensures { result ≡ self.now.position.phase }
     {
         self.phase
     }
 
-    /// The bytes of what goes out, until the next call.
+    /// The bytes of the datagram to send, until the next call.
     pub fn bytes_of(&self, outgoing: Outgoing) -> &[u8]
         ensures { result.now ≡ lent outgoing self.now }
     {
@@ -265,12 +263,12 @@ impl End {
         }
     }
 
-    /// Takes a datagram that came from there to the end's port, and tells what goes out: no byte of
-    /// it is copied. [`End::bytes_of`] lends it, and [`Step::to`] says where it goes.
+    /// Handles a datagram that was received from `from` at the end's port, and returns the datagram
+    /// to send without a copy. [`End::bytes_of`] lends its bytes; [`Step::to`] is its destination.
     ///
-    /// `files` is the end's source if it sends, and its sink if it receives. After `Closed` and
-    /// after `Memory` nothing has changed; `Memory` comes only where a file is asked for a block or
-    /// given one.
+    /// `files` is the source of a sender or the sink of a receiver. After `Closed` and `Memory`
+    /// nothing has changed. `Memory` is possible only if a block is read from a file or stored in
+    /// one.
     pub fn handle_datagram<S: Source, K: Sink>(
         &mut self,
         files: &mut Files<S, K>,
@@ -301,8 +299,8 @@ impl End {
         Ok((before.step_to(self.phase(), to), outgoing))
     }
 
-    /// Takes a timeout, and tells what goes out. It takes no memory: its one fault is `Closed`,
-    /// after which nothing has changed.
+    /// Delivers a timeout, and returns the datagram to send. It allocates no memory: its only fault
+    /// is `Closed`, after which nothing has changed.
     pub fn handle_timeout(&mut self) -> Result<(Step, Outgoing), EndFault>
         ensures steps { IfOk result (λ answer.
             Lends self.old (timeout_turn self.old) self.new answer.0.to answer.1
@@ -321,7 +319,7 @@ impl End {
         Ok((before.step_to(self.phase(), to), outgoing))
     }
 
-    /// Appends what goes out, in room that was made for it.
+    /// Appends the datagram to send, in reserved capacity.
     fn append_outgoing(&self, outgoing: Outgoing, out: &mut Vec<u8>)
         requires { length (lent outgoing self.now) + vec_len out.old ≤ vec_capacity out.old }
         ensures { out.new.items ≡ out.old.items ++ lent outgoing self.now }
@@ -331,11 +329,11 @@ impl End {
         };
     }
 
-    /// Takes a datagram that came from there to the end's port.
+    /// Handles a datagram that was received from `from` at the end's port.
     ///
-    /// At most one datagram is appended to `out`; [`Step::to`] says where it goes. `files` is the
-    /// end's source if it sends, and its sink if it receives. After `Closed` and after `Memory`
-    /// nothing has changed; `Memory` comes only where a datagram is to be answered.
+    /// At most one datagram is appended to `out`; [`Step::to`] is its destination. `files` is the
+    /// source of a sender or the sink of a receiver. After `Closed` and `Memory` nothing has
+    /// changed. `Memory` is possible only if there is a datagram to send.
     pub fn on_datagram<S: Source, K: Sink>(
         &mut self,
         files: &mut Files<S, K>,
@@ -370,11 +368,11 @@ impl End {
         Ok(before.step_to(self.phase(), to))
     }
 
-    /// Takes a timeout: nothing came for the agreed time since an opening, progress or the last
-    /// timeout. A late or an early one does no harm; each uses one retry.
+    /// Delivers a timeout: [`End::interval`] seconds have passed since the opening, the last
+    /// progress or the last timeout. An early or late timeout is allowed; each uses one retry.
     ///
-    /// At most one datagram is appended to `out`; [`Step::to`] says where it goes. After `Closed`
-    /// and after `Memory` nothing has changed.
+    /// At most one datagram is appended to `out`; [`Step::to`] is its destination. After `Closed`
+    /// and `Memory` nothing has changed.
     pub fn on_timeout(&mut self, out: &mut Vec<u8>) -> Result<Step, EndFault>
         ensures steps { IfOk result (λ step.
             Carries self.old (timeout_turn self.old) self.new step.to out.old.items out.new.items

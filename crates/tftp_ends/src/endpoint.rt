@@ -1,4 +1,4 @@
-//! Where a datagram comes from or goes to.
+//! The source or destination of a datagram.
 
 use std::fmt;
 use std::net::{Ipv4Addr, SocketAddrV4};
@@ -7,7 +7,7 @@ use std::net::{Ipv4Addr, SocketAddrV4};
 /// transfer (RFC 1350, section 4).
 #[derive(Clone, Copy, Debug, PartialEq, Eq, PartialOrd, Ord)]
 pub struct Endpoint {
-    /// The four bytes of the address, as they are written from left to right.
+    /// The four bytes of the address, in network order.
     pub ip: [u8; 4],
     /// The UDP port.
     pub port: u16,

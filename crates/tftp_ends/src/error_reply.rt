@@ -1,4 +1,4 @@
-//! The ERROR packets that this project sends: each with its code and its text.
+//! The ERROR packets that are sent: the code and the text of each.
 
 ghost use Rattle.std.specs.Prelude.{◌≡◌};
 ghost use Rattle.tftp_ends.specs.ErrorReply.{code_of, text_of};
@@ -6,25 +6,25 @@ ghost use Rattle.tftp_ends.specs.ErrorReply.{code_of, text_of};
 /// An ERROR that we send (RFC 1350, appendix I; RFC 2347, "Negotiation Protocol" for code 8).
 #[derive(Clone, Copy, Debug, PartialEq, Eq)]
 pub enum ErrorReply {
-    /// The file has too many blocks for the block size, or more bytes than are taken.
+    /// The file has too many blocks for the block size, or exceeds the size limit.
     FileTooLarge,
-    /// The request port has no room for another transfer.
+    /// The limit of transfers is reached.
     ServerBusy,
     /// The file could not be read to the length that was measured.
     FileChanged,
-    /// The text that came is no netascii.
+    /// The received text is not valid netascii.
     NotNetascii,
     /// There is no such file.
     FileNotFound,
     /// The name is not allowed, or the file could not be opened.
     AccessViolation,
-    /// The store refused bytes, or the file is larger than is taken.
+    /// The store refused bytes, or the file exceeds the size limit.
     DiskFull,
-    /// A packet that has no place here.
+    /// A packet that is not valid in this state.
     IllegalOperation,
     /// A datagram from another port than the peer's.
     UnknownTransferId,
-    /// The name is taken.
+    /// A file with this name exists.
     FileExists,
     /// The options could not be agreed on.
     OptionRefused,
@@ -50,7 +50,7 @@ impl ErrorReply {
         }
     }
 
-    /// The text for the operator at the other end.
+    /// The text, for the operator of the other end.
     pub fn text(self) -> &'static str
         ensures { result.now ≡ text_of self }
     {

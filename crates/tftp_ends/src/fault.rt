@@ -1,4 +1,4 @@
-//! Why a call at an end was refused.
+//! The faults of the calls of an end.
 
 ghost use Rattle.std.specs.Prelude.{◌≡◌};
 ghost use Rattle.tftp_ends.specs.Fault.{open_fault_number, end_fault_number};
@@ -8,7 +8,7 @@ ghost use Rattle.tftp_ends.specs.declared.fault.OpenFault.TheVariants as opening
 use std::alloc::AllocError;
 use thiserror::Error;
 
-/// Why an end was not opened. Of the first three the least that holds is answered.
+/// Why an end was not opened: of the first three, the first fault that applies.
 #[derive(Clone, Copy, Debug, PartialEq, Eq, Error)]
 pub enum OpenFault {
     /// The name is empty or holds a zero byte, the request would pass 512 bytes, or the options
@@ -35,13 +35,13 @@ impl OpenFault {
     }
 }
 
-/// Why an event was not taken. Nothing has changed.
+/// Why an event was not handled. Nothing has changed.
 #[derive(Clone, Copy, Debug, PartialEq, Eq, Error)]
 pub enum EndFault {
     /// The end is closed.
     #[error("the end is closed")]
     Closed = 1,
-    /// Out of memory for the answer.
+    /// Out of memory.
     #[error("out of memory")]
     Memory = 2,
 }

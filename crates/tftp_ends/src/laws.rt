@@ -1,5 +1,5 @@
-//! What holds of every run of an end and of a receiver's text, over their definitions alone. That
-//! the calls of an [`End`](crate::End) are such steps their contracts say.
+//! Laws of every run of an end and of a receiver's text, over the definitions alone. The contracts
+//! of [`End`](crate::End) state that its calls are such steps.
 
 ghost use Rattle.std.specs.Prelude.{◌≡◌, ◌+◌, ◌*◌, ◌≤◌, ℕ, List, length, true};
 ghost use Rattle.tftp_ends.specs.End.{EndState, is_sender};
@@ -25,15 +25,14 @@ ghost use Rattle.tftp_ends.specs.WaitingRows.{MalformedClosesWaiting};
 
 use tftp_file::{Sink, Source};
 
-/// Every run of an end is bounded, whatever its peer and strangers send, and however often it times
+/// Every run of an end is bounded, whatever its peer and others send, and however often it times
 /// out.
 ///
-/// A sender answers a datagram by DATA only where it makes progress, and never by an OACK: so a
-/// repeated ACK causes none (RFC 1123, section 4.2.3.1). Over its life it sends at most one DATA or
-/// OACK at its opening, and one for each step with progress and for each timeout. There are at most
-/// 65,536 steps with progress. An end that is still open has had at most as many timeouts as it has
-/// retries, once and again for each step with progress, and one more while it dallies: the next one
-/// closes it or finds it closed. A step has one answer at most.
+/// A sender answers a datagram by DATA only with progress, and never by an OACK: a repeated ACK
+/// causes neither (RFC 1123, section 4.2.3.1). It sends at most one DATA or OACK at its opening,
+/// one for each step with progress and one for each timeout. There are at most 65,536 steps with
+/// progress. An end that is still open has had at most `r * (p + 1) + 1` timeouts, for `r` retries
+/// and `p` steps with progress. A step sends at most one datagram.
 pub fn run_bounds<S: Source, K: Sink>()
     ensures progress { (e : EndState) (run : List Taken) → IsOpening e
         → IsRun S.meaning K.meaning e run
@@ -54,14 +53,14 @@ pub fn run_bounds<S: Source, K: Sink>()
     ensures datagrams { (run : List Taken) → datagram_count run ≤ length run }
 {}
 
-/// What stands for bytes of the host begins a wire text, with what was held back before it, and
-/// ends in a CR exactly where one is held back behind it (RFC 764).
+/// Text that decodes, after the text held back before it, begins a wire text. It ends in a CR
+/// exactly if a CR is then held back (RFC 764).
 pub fn decoded_text()
     ensures begins { DecodedBegins }
     ensures ends { DecodedEnds }
 {}
 
-/// The sender's table: what it does at each packet from its peer (RFC 1350, sections 2 and 6; RFC
+/// The sender's table: how it handles each packet from its peer (RFC 1350, sections 2 and 6; RFC
 /// 1123, section 4.2.3.1).
 pub fn sender_rows<S: Source, K: Sink>()
     ensures newest_ack { NewestAckSends S.meaning K.meaning }
@@ -74,7 +73,7 @@ pub fn sender_rows<S: Source, K: Sink>()
     ensures malformed { SenderRefusesMalformed S.meaning K.meaning }
 {}
 
-/// The receiver's table: what it does at each packet from its peer (RFC 1350, sections 2 and 6).
+/// The receiver's table: how it handles each packet from its peer (RFC 1350, sections 2 and 6).
 pub fn receiver_rows<S: Source, K: Sink>()
     ensures dally_last { LastDataIsAckedAgain S.meaning K.meaning }
     ensures dally_others { DallyIgnoresOthers S.meaning K.meaning }
@@ -92,7 +91,7 @@ pub fn receiver_rows<S: Source, K: Sink>()
     ensures malformed { ReceiverRefusesMalformed S.meaning K.meaning }
 {}
 
-/// The table of a client that waits for its first answer: what it does at each packet from the
+/// The table of a client that waits for its first answer: how it handles each packet from the
 /// server's address (RFC 1350, section 4; RFC 2347, "Negotiation Protocol").
 pub fn waiting_rows<S: Source, K: Sink>()
     ensures first_data { FirstDataIsStored S.meaning K.meaning }

@@ -1,9 +1,9 @@
-//! The two ends of a transfer as machines with no IO (RFC 1350; RFC 1123, section 4.2.3.1; RFC
-//! 2347).
+//! The two ends of a transfer as state machines without IO (RFC 1350; RFC 1123, section 4.2.3.1;
+//! RFC 2347).
 //!
-//! An end opens no socket, reads no clock and touches no file but through its source or its sink:
-//! the caller hands in datagrams and timeouts, and sends what is appended to `out`, or lent, at
-//! most one datagram an event.
+//! An end opens no socket and reads no clock. It uses a file only through its source or its sink.
+//! The caller delivers datagrams and timeouts, and sends the datagram that a call appends to `out`
+//! or lends: at most one for each event.
 //!
 //! Begin with [`End`]. Each of its calls makes one step of the machine that specs/ defines.
 #![tactic(auto)]

@@ -1,4 +1,4 @@
-//! Known options as a packet spells them.
+//! Known options, as encoded in a packet.
 
 ghost use Rattle.std.specs.Prelude.{◌≡◌, ◌≤◌, ◌-◌, ◌*◌, ◌^◌, ◌++◌, length, min, OnOk, vec_capacity};
 ghost use Rattle.tftp_wire.specs.Options.{option_bytes, options_bytes};
@@ -9,8 +9,8 @@ use std::alloc::AllocError;
 use tftp_negotiate::Known;
 use tftp_wire::append_option;
 
-/// How many bytes an option takes: its name, its value and their zero bytes (RFC 2347, "Packet
-/// Formats").
+/// The encoded length of an option, in bytes: its name, its value and two zero bytes (RFC 2347,
+/// "Packet Formats").
 fn option_len(option: Known) -> usize
     ensures { result ≡ length (option_bytes (known_option option)) }
 {
@@ -18,7 +18,7 @@ fn option_len(option: Known) -> usize
     option.name().text().len() + digits.format(option.value()).len() + 2
 }
 
-/// How many bytes the options take, or the greatest `usize` where they are more.
+/// The encoded length of the options, in bytes, or the greatest `usize` if it is more.
 pub(crate) fn options_len(options: &[Known]) -> usize
     ensures { result ≡ min (length (options_bytes (agreed_options options.now))) (2 ^ 64 - 1) }
 {
@@ -29,8 +29,8 @@ pub(crate) fn options_len(options: &[Known]) -> usize
     len
 }
 
-/// Appends an option: a name of seven letters at most, decimal digits and two zero bytes. It fails
-/// only when out of memory.
+/// Appends an option: a name of at most seven letters, decimal digits and two zero bytes. It fails
+/// only if out of memory.
 fn append_known(out: &mut Vec<u8>, option: Known) -> Result<(), AllocError>
     ensures ok { OnOk result
         (out.new.items ≡ out.old.items ++ option_bytes (known_option option)) }
@@ -42,8 +42,7 @@ fn append_known(out: &mut Vec<u8>, option: Known) -> Result<(), AllocError>
     append_option(out, option.name().text().as_bytes(), value.as_bytes())
 }
 
-/// Appends options behind a request or behind the opcode of an OACK. It fails only when out of
-/// memory.
+/// Appends options to a request, or to the opcode of an OACK. It fails only if out of memory.
 pub(crate) fn append_options(out: &mut Vec<u8>, options: &[Known]) -> Result<(), AllocError>
     ensures ok { OnOk result
         (out.new.items ≡ out.old.items ++ options_bytes (agreed_options options.now)) }

@@ -1,4 +1,4 @@
-//! How a transfer ended, and whose fault it was.
+//! How a transfer ended.
 
 ghost use Rattle.std.specs.Prelude.{◌≡◌};
 ghost use Rattle.tftp_ends.specs.Outcome.{number_of, refusal_word};
@@ -9,23 +9,23 @@ use tftp_negotiate::Refusal;
 /// How an end closed. `{}` writes the words that the programs print.
 #[derive(Clone, Copy, Debug, PartialEq, Eq)]
 pub enum Outcome {
-    /// All was sent and acknowledged, or stored, committed and acknowledged.
+    /// The whole file was sent and acknowledged, or stored, committed and acknowledged.
     Complete,
-    /// The peer was silent until no retry was left. This is never success.
+    /// The peer did not answer, and no retry is left. This is never success.
     TimedOut,
-    /// The peer gave up, by an ERROR with this code.
+    /// The peer ended the transfer by an ERROR with this code.
     PeerError(u16),
-    /// The peer sent what the protocol does not allow at this place.
+    /// The peer sent a packet that the protocol does not allow in this state.
     Illegal,
-    /// The server's OACK does not fit what was asked.
+    /// The server's OACK does not match the requested options.
     Refused(Refusal),
-    /// The file has more blocks than can be numbered, or more bytes than are taken.
+    /// The file has more blocks than can be numbered, or exceeds the size limit.
     TooLarge,
-    /// Our store refused the bytes or the commit.
+    /// The local store refused the bytes or the commit.
     StoreFault,
-    /// Our file could not be read to the length that was measured.
+    /// The local file could not be read to its measured length.
     SourceFault,
-    /// The peer's text is no netascii.
+    /// The peer's text is not valid netascii.
     NotNetascii,
 }
 

@@ -1,14 +1,14 @@
-//! What a call has to send.
+//! The datagram to send after a call.
 
 use crate::error_reply::ErrorReply;
 
-/// What goes out to the endpoint that [`Step::to`](crate::Step::to) names. The end lends its bytes
-/// ([`End::bytes_of`](crate::End::bytes_of)).
+/// The datagram to send to [`Step::to`](crate::Step::to). [`End::bytes_of`](crate::End::bytes_of)
+/// lends its bytes.
 #[derive(Clone, Copy, Debug, PartialEq, Eq)]
 pub enum Outgoing {
     /// No datagram.
     Nothing,
-    /// The datagram that the end keeps for its retransmission.
+    /// The datagram that the end keeps for retransmission.
     LastSent,
     /// An ERROR, whose bytes are fixed.
     Error(ErrorReply),

@@ -1,4 +1,4 @@
-//! Where an end stands between two events.
+//! The state of an end between two events.
 
 ghost use Rattle.std.specs.Prelude.{◌≡◌, if◌then◌else◌};
 ghost use Rattle.tftp_ends.specs.End.{terms_of, number_of, is_complete, outcome_of, is_progress};
@@ -10,20 +10,20 @@ use crate::outcome::Outcome;
 use crate::record::Step;
 use tftp_negotiate::Asked;
 
-/// What the two ends of a transfer agreed on: at a client, once it has taken its peer.
+/// The parameters of a transfer. A client has them once its peer is known.
 #[derive(Clone, Copy, Debug)]
 pub struct Terms {
-    /// The other end. A datagram from any other is a stranger's.
+    /// The other end. A datagram from another endpoint does not affect the transfer.
     pub peer: Endpoint,
-    /// The block size in bytes, 8 to 65,464 (RFC 2348); 512 where none was agreed.
+    /// The block size in bytes, 8 to 65,464 (RFC 2348); 512 if none was agreed.
     pub size: u16,
     /// The agreed timeout in seconds (RFC 2349).
     pub timeout: Option<u8>,
-    /// Whether an OACK opened the transfer (RFC 2347), and not DATA 1 or ACK 0.
+    /// Whether an OACK opened the transfer (RFC 2347) instead of DATA 1 or ACK 0.
     pub by_oack: bool,
 }
 
-/// Whether a dallying receiver has seen its first timeout (RFC 1350, section 6).
+/// Whether a dallying receiver has had its first timeout (RFC 1350, section 6).
 #[derive(Clone, Copy, Debug)]
 pub enum Dally {
     /// No timeout yet.
@@ -32,7 +32,7 @@ pub enum Dally {
     Waited,
 }
 
-/// Where an end stands.
+/// The state of an end.
 ///
 /// ```text
 ///   get ──> Waiting ──DATA 1, OACK──> Receiving ──last DATA──> Dallying
@@ -40,18 +40,18 @@ pub enum Dally {
 ///   serve_write ────────────────────> Receiving                   v
 ///   serve_read ─────────────────────> Sending ──last ACK──────> Closed
 ///
-///   any ──ERROR, silence, a fault──> Closed
+///   any ──ERROR, timeout, fault──> Closed
 /// ```
 #[derive(Clone, Copy, Debug)]
 pub enum Phase {
     /// A client that waits for the first answer to its request.
     Waiting {
-        /// What it asked for.
+        /// The requested options.
         asked: Asked,
-        /// The longest file that it takes, in bytes, where the server tells the length.
+        /// The largest file accepted, in bytes, if the server's OACK has its length (`tsize`).
         limit: u64,
     },
-    /// It sends: DATA `number` is the last datagram sent, or at 0 an OACK is.
+    /// It sends: the last datagram sent is DATA `number`, or an OACK if `number` is 0.
     Sending {
         terms: Terms,
         number: u16,
@@ -61,13 +61,13 @@ pub enum Phase {
         terms: Terms,
         number: u16,
     },
-    /// It has stored and committed all, and answers a repeated last DATA for a while.
+    /// It has stored and committed the whole file, and acknowledges the last DATA again.
     Dallying {
         terms: Terms,
         number: u16,
         dally: Dally,
     },
-    /// It takes no event any more.
+    /// It handles no more events.
     Closed {
         terms: Option<Terms>,
         number: u16,
@@ -77,7 +77,7 @@ pub enum Phase {
 }
 
 impl Phase {
-    /// What was agreed on, once it was.
+    /// The parameters of the transfer, once the peer is known.
     pub(crate) fn terms(self) -> Option<Terms>
         ensures { result ≡ terms_of self }
     {
@@ -103,7 +103,7 @@ impl Phase {
         }
     }
 
-    /// Whether all was acknowledged, or stored and committed.
+    /// Whether the whole file was acknowledged, or stored and committed.
     pub(crate) fn is_complete(self) -> bool
         ensures { result ≡ is_complete self }
     {
@@ -124,7 +124,7 @@ impl Phase {
         }
     }
 
-    /// Whether the peer was taken, the number rose or the end became complete on the way to `next`.
+    /// Whether the peer became known, the number rose or the end became complete in `next`.
     pub(crate) fn is_progress(self, next: Phase) -> bool
         ensures { result ≡ is_progress self next }
     {
@@ -133,7 +133,7 @@ impl Phase {
             || (!self.is_complete() && next.is_complete())
     }
 
-    /// How many retries are left on the way to `next`: progress gives them back.
+    /// How many retries are left in `next`: progress restores them all.
     pub(crate) fn retries_left(self, next: Phase, retries: u8, left: u8) -> u8
         ensures { result ≡ (if is_progress self next then retries else left) }
     {
@@ -143,7 +143,7 @@ impl Phase {
         left
     }
 
-    /// What a call tells that led from here to `next`, and sent a datagram there.
+    /// The step from here to `next`, with the destination of its datagram.
     pub(crate) fn step_to(self, next: Phase, to: Option<Endpoint>) -> Step
         ensures { result ≡ step_of self next to }
     {
@@ -154,14 +154,14 @@ impl Phase {
         }
     }
 
-    /// Closed as it stands.
+    /// Closed, with the terms as they are.
     pub(crate) fn closed(self, outcome: Outcome) -> Phase
         ensures { result ≡ closed outcome self }
     {
         self.refused(self.terms(), outcome)
     }
 
-    /// Closed, with the terms that were taken by then.
+    /// Closed, with these terms.
     pub(crate) fn refused(self, terms: Option<Terms>, outcome: Outcome) -> Phase
         ensures { result ≡ refused terms outcome self }
     {
@@ -173,7 +173,7 @@ impl Phase {
         }
     }
 
-    /// Closed, the last block acknowledged.
+    /// Closed as complete, when the last block is acknowledged.
     pub(crate) fn completed(self) -> Phase
         ensures { result ≡ completed self }
     {

@@ -17,7 +17,7 @@ use crate::side::Side;
 use tftp_file::NetDecoder;
 use tftp_wire::{Mode, PacketRef};
 
-/// Whether a piece goes on with the text so far; one that is shorter than a block ends it.
+/// Whether a piece continues the text so far. A piece shorter than a block ends the text.
 fn is_readable(mode: Mode, decoder: NetDecoder, piece: &[u8], size: u16) -> bool
     ensures { result ≡ is_readable mode decoder piece.now (nat_lt (length piece.now) size) }
 {
@@ -61,7 +61,7 @@ fn next_action(mode: Mode, decoder: NetDecoder, terms: Terms, number: u16, bytes
     Action::Store { terms, number }
 }
 
-/// The newest block again is acknowledged again, an older one is ignored, none may be skipped.
+/// The newest block is acknowledged again, an older one is ignored, and none may be skipped.
 fn data_action(
     mode: Mode,
     decoder: NetDecoder,
@@ -85,8 +85,8 @@ fn data_action(
     next_action(mode, decoder, terms, number, bytes)
 }
 
-/// How a receiver that has stored so many blocks, and holds back text that awaits its next byte,
-/// handles a packet.
+/// How a receiver handles a packet, with `stored` blocks stored and the text that `decoder` holds
+/// back.
 pub(crate) fn receiver_action(
     side: Side,
     mode: Mode,
@@ -116,7 +116,7 @@ pub(crate) fn receiver_action(
     }
 }
 
-/// How a receiver that dallies handles a packet: the last block again is acknowledged again.
+/// How a dallying receiver handles a packet: the last block is acknowledged again.
 pub(crate) fn dally_response(stored: u16, decoded: &Option<PacketRef<'_>>) -> Response
     ensures response { result ≡ dally_response stored (option_map owned decoded.now) }
     ensures fits { IsReceivers result }

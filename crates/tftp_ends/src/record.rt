@@ -1,4 +1,4 @@
-//! What an end reports of itself: where it is in its transfer, and what a call did.
+//! The reports of an end: its state, and what a call did.
 
 ghost use Rattle.std.specs.Prelude.{◌≡◌};
 ghost use Rattle.tftp_ends.specs.End.{seconds_of};
@@ -7,10 +7,10 @@ use crate::endpoint::Endpoint;
 use crate::outcome::Outcome;
 use crate::side::Side;
 
-/// The seconds without progress before a timeout where none are agreed; no RFC gives a default.
+/// The timeout interval in seconds where none is agreed; no RFC states a default.
 pub const DEFAULT_INTERVAL: u8 = 1;
 
-/// How far an end came.
+/// The state of an end, as it reports it.
 #[derive(Clone, Copy, Debug, PartialEq, Eq)]
 pub struct Record {
     /// Which end it is.
@@ -23,15 +23,16 @@ pub struct Record {
     pub timeout: Option<u8>,
     /// A sender's newest DATA number, or how many blocks a receiver has stored.
     pub number: u16,
-    /// A sender's last block was acknowledged, or a receiver has stored and committed all.
+    /// Whether a sender's last block was acknowledged, or a receiver has stored and committed the
+    /// whole file.
     pub complete: bool,
     /// How it ended, once it is closed.
     pub outcome: Option<Outcome>,
 }
 
 impl Record {
-    /// The seconds without progress before a timeout: the agreed ones (RFC 2349, "Timeout Interval
-    /// Option Specification"), or [`DEFAULT_INTERVAL`].
+    /// The timeout interval in seconds: the agreed one (RFC 2349, "Timeout Interval Option
+    /// Specification"), or [`DEFAULT_INTERVAL`].
     pub fn interval(&self) -> u8
         ensures { result ≡ seconds_of self.now.timeout }
     {
@@ -42,18 +43,19 @@ impl Record {
 /// How many bytes an end keeps between two events.
 #[derive(Clone, Copy, Debug, PartialEq, Eq)]
 pub struct Held {
-    /// The newest datagram, which a timeout sends again, in bytes.
+    /// The newest datagram, which a timeout retransmits, in bytes.
     pub datagram: usize,
-    /// Wire text that awaits its next byte: in netascii the CR of a pair (RFC 764).
+    /// Wire text that awaits its next byte, in bytes: in netascii the CR of a pair (RFC 764).
     pub text: usize,
 }
 
 /// What a call did.
 #[derive(Clone, Copy, Debug, PartialEq, Eq)]
 pub struct Step {
-    /// Where the one datagram goes that the call appended; none was appended if there is none.
+    /// The destination of the datagram to send, or `None` if there is no datagram.
     pub to: Option<Endpoint>,
-    /// The peer was taken, the number rose, or the end became complete. False at an opening.
+    /// Whether the peer became known, the number rose, or the end became complete. False at an
+    /// opening.
     pub progress: bool,
     /// How the end closed, if the call closed it.
     pub closed: Option<Outcome>,

@@ -1,4 +1,4 @@
-//! The ERRORs that an end sends: the same bytes each time.
+//! The bytes of the ERROR packets that are sent.
 
 ghost use Rattle.std.specs.Prelude.{◌≡◌, ◌++◌, ◌+◌, ◌≤◌, IsOk, length, OnOk, OnErr, vec_capacity};
 ghost use Rattle.tftp_ends.specs.Step.{error_bytes};
@@ -6,11 +6,11 @@ ghost use Rattle.tftp_ends.specs.Step.{error_bytes};
 use crate::error_reply::ErrorReply;
 use std::alloc::AllocError;
 
-/// No ERROR that is sent is longer, in bytes.
+/// The length of the longest ERROR that is sent, in bytes.
 pub const MAX_ERROR: usize = 24;
 
 impl ErrorReply {
-    /// The ERROR as it is sent.
+    /// The bytes of the ERROR packet.
     pub fn datagram(self) -> &'static [u8]
         ensures bytes { result.now ≡ error_bytes self }
         ensures short { length result.now ≤ MAX_ERROR }
@@ -30,8 +30,8 @@ impl ErrorReply {
         }
     }
 
-    /// Appends the ERROR, as it is sent. It fails only when out of memory, and then appends
-    /// nothing; where there is room for the longest ERROR it does not fail.
+    /// Appends the bytes of the ERROR packet. It fails only if out of memory, and then appends
+    /// nothing. With spare capacity of [`MAX_ERROR`] bytes it does not fail.
     pub fn append_to(self, out: &mut Vec<u8>) -> Result<(), AllocError>
         ensures ok { OnOk result (out.new.items ≡ out.old.items ++ error_bytes self) }
         ensures err { OnErr result (out.new.items ≡ out.old.items) }

@@ -1,4 +1,4 @@
-//! The requests of a client: which can be asked for, and their bytes.
+//! The requests of a client: which are allowed, and their bytes.
 
 ghost use Rattle.std.specs.Prelude.{◌≡◌, ◌≤◌, ◌-◌, ◌^◌, ◌↔◌, length, min, IsTrue, IfOk};
 ghost use Rattle.std.specs.Prelude.{vec_capacity};
@@ -14,20 +14,20 @@ use std::alloc::{AllocError, Global};
 use tftp_negotiate::{Asked, Kind, laws};
 use tftp_wire::{HEADER, MAX_REQUEST, Mode, append_read, append_write, is_text};
 
-/// How many bytes the request takes, or the greatest `usize` where they are more.
+/// The length of the request in bytes, or the greatest `usize` if it is more.
 fn request_len(name: &[u8], mode: Mode, asked: &Asked) -> usize
     ensures { result
         ≡ min (length (canonical (Read (request_of name.now mode asked.now)))) (2 ^ 64 - 1) }
 {
-    // An opcode and two zero bytes stand round the name and the mode.
+    // The opcode has two bytes, and a zero byte follows the name and the mode.
     options_len(asked.options(mode).as_slice())
         .saturating_add(name.len())
         .saturating_add(mode.word().len())
         .saturating_add(4)
 }
 
-/// Whether the request is a packet: the name is not empty and holds no zero byte, and there are at
-/// most 512 bytes (RFC 2347, "Packet Formats").
+/// Whether the request is a valid packet: the name is not empty and holds no zero byte, and the
+/// packet has at most 512 bytes (RFC 2347, "Packet Formats").
 fn is_packet(name: &[u8], mode: Mode, asked: &Asked) -> bool
     requires { AllByRecursion IsOption (asked_options asked.now mode) }
     ensures read { IsTrue result ↔ IsValid (Read (request_of name.now mode asked.now)) }
@@ -36,17 +36,17 @@ fn is_packet(name: &[u8], mode: Mode, asked: &Asked) -> bool
     !name.is_empty() && is_text(name) && request_len(name, mode, asked) <= MAX_REQUEST
 }
 
-/// Whether a file can be asked for so.
+/// Whether this read request is allowed.
 pub(crate) fn may_get(name: &[u8], mode: Mode, asked: &Asked) -> bool
     ensures { IsTrue result ↔ MayGet name.now mode asked.now }
 {
-    // What may be asked for is spelled by options of a packet.
+    // Options that may be requested are valid options of a packet.
     laws::options_are_spelled();
     asked.is_for(Kind::Read, mode, 0) && is_packet(name, mode, asked)
 }
 
-/// Whether a file of that length can be offered so. Whether its blocks can be numbered is another
-/// question.
+/// Whether this write request is allowed for a file of that length. It does not test whether the
+/// blocks can be numbered.
 pub(crate) fn may_ask_put(name: &[u8], mode: Mode, asked: &Asked, length: u64) -> bool
     ensures { IsTrue result ↔ MayAskPut name.now mode asked.now length }
 {

@@ -1,17 +1,17 @@
-//! What an end is from its opening on.
+//! The role of an end, which its opening fixes.
 
 use crate::side::Side;
 use tftp_wire::Mode;
 
-/// What an end is: none of it changes after the opening.
+/// The role of an end. It does not change after the opening.
 #[derive(Clone, Copy, Debug)]
 pub(crate) struct Role {
     /// Which end of which transfer.
     pub(crate) side: Side,
-    /// How the file travels.
+    /// The transfer mode.
     pub(crate) mode: Mode,
-    /// A sender's file as it was measured, in bytes of wire text; 0 at a receiver.
+    /// The measured length of a sender's file, in bytes of wire text; 0 at a receiver.
     pub(crate) length: u64,
-    /// How often a datagram is sent again before the end gives up.
+    /// How many times in a row a datagram is retransmitted before the end closes.
     pub(crate) retries: u8,
 }

@@ -13,7 +13,7 @@ use crate::phase::Terms;
 use crate::side::Side;
 use tftp_wire::PacketRef;
 
-/// A packet that has no place in the transfer ends it.
+/// A packet that is not valid in this state closes the transfer.
 pub(crate) fn illegal_action(terms: Terms) -> Action
     ensures { result ≡ illegal_action terms }
 {
@@ -24,7 +24,7 @@ pub(crate) fn illegal_action(terms: Terms) -> Action
     })
 }
 
-/// The peer has given up.
+/// An ERROR from the peer closes the transfer.
 pub(crate) fn peer_error(code: u16) -> Action
     ensures { result ≡ peer_error code }
 {
@@ -33,8 +33,8 @@ pub(crate) fn peer_error(code: u16) -> Action
     })
 }
 
-/// An ACK of the newest block asks for the next one, or ends the transfer. An older one asks for
-/// nothing: answering it by DATA would double every later datagram (RFC 1123, section 4.2.3.1).
+/// An ACK of the newest block requests the next one, or ends the transfer. An older ACK is ignored:
+/// to answer it by DATA would double every later datagram (RFC 1123, section 4.2.3.1).
 fn acked_action(length: u64, terms: Terms, number: u16, acked: u16) -> Action
     requires size { 0 < terms.size }
     requires fits { length < 65535 * terms.size }
@@ -57,7 +57,7 @@ fn acked_action(length: u64, terms: Terms, number: u16, acked: u16) -> Action
     }
 }
 
-/// How a sender of a file of that length, whose newest DATA has that number, handles a packet.
+/// How a sender of a file of this length handles a packet. `number` is that of its newest DATA.
 pub(crate) fn sender_action(
     side: Side,
     length: u64,

@@ -1,9 +1,9 @@
-//! The four ends: who sends, and who asked.
+//! The four kinds of ends: client or server, sender or receiver.
 
 ghost use Rattle.std.specs.Prelude.{◌≡◌};
 ghost use Rattle.tftp_ends.specs.End.{is_sender, is_client};
 
-/// Which end of which transfer.
+/// The kind of an end.
 #[derive(Clone, Copy, Debug, PartialEq, Eq)]
 pub enum Side {
     /// The client of a read: it receives.

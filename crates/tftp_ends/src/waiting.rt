@@ -20,14 +20,14 @@ use tftp_file::NetDecoder;
 use tftp_negotiate::{Agreed, Asked, DEFAULT_BLOCK, Kind, Refusal, check_oack_ref};
 use tftp_wire::{Mode, PacketRef};
 
-/// Whether the blocks of a file of that length can be numbered in two bytes (RFC 1350, section 5).
+/// Whether the blocks of a file of this length can be numbered in two bytes (RFC 1350, section 5).
 pub(crate) fn can_be_numbered(length: u64, size: u16) -> bool
     ensures { IsTrue result ↔ (length < 65535 * size) }
 {
     length < 65_535 * u64::from(size)
 }
 
-/// A first DATA or ACK agrees on nothing.
+/// The terms of a transfer without options: the first answer is DATA 1 or ACK 0.
 pub(crate) fn default_terms(peer: Endpoint) -> Terms
     ensures { result ≡ default_terms peer }
 {
@@ -39,7 +39,7 @@ pub(crate) fn default_terms(peer: Endpoint) -> Terms
     }
 }
 
-/// An OACK agrees on these options.
+/// The terms of a transfer with these options: the first answer is an OACK.
 pub(crate) fn agreed_terms(peer: Endpoint, agreed: &Agreed) -> Terms
     ensures terms { result ≡ agreed_terms peer agreed.now }
     ensures positive { 0 < result.size }
@@ -90,7 +90,7 @@ fn accept_action(from: Endpoint, answer: Result<Agreed, Refusal>) -> Action
     }
 }
 
-/// A writer begins, if the file's blocks can be numbered.
+/// A client that writes sends DATA 1, if the file's blocks can be numbered.
 fn begin_action(length: u64, terms: Terms) -> Action
     requires { 0 < terms.size }
     ensures action { result ≡ begin_action length terms }
@@ -151,7 +151,7 @@ pub(crate) fn reader_action(
     }
 }
 
-/// How a client that writes a file of that length handles a packet from the server's address.
+/// How a client that writes a file of this length handles a packet from the server's address.
 pub(crate) fn writer_action(
     mode: Mode,
     asked: &Asked,

@@ -1,4 +1,4 @@
-//! What an end does at an action: its next phase, and what goes out.
+//! How an end carries out an action: its next phase, and the datagram to send.
 
 ghost use Rattle.std.specs.Prelude.{◌≡◌, ◌≤◌, drop, length, OnErr, IfOk};
 ghost use Rattle.tftp_ends.specs.Files.{AreFilesOf, KeepsFiles, AreSame};
@@ -22,7 +22,7 @@ use std::alloc::AllocError;
 use tftp_file::{Files, Sink, Source};
 use tftp_wire::append_ack;
 
-/// The bytes of a DATA behind its opcode and number.
+/// The data of a DATA packet, after its opcode and number.
 fn piece_of(bytes: &[u8]) -> &[u8]
     ensures { result.now ≡ drop 4 bytes.now }
 {
@@ -33,7 +33,7 @@ fn piece_of(bytes: &[u8]) -> &[u8]
 }
 
 impl End {
-    /// Goes into another phase. Progress gives the retries back.
+    /// Enters a phase. Progress restores the retries.
     pub(crate) fn go_into(&mut self, phase: Phase)
         requires fits { PhaseFits self.old phase }
         requires resends { ResendsAck self.old phase }
@@ -46,7 +46,7 @@ impl End {
         self.phase = phase;
     }
 
-    /// Goes into a phase and acknowledges its block. It takes no memory.
+    /// Enters a phase and acknowledges its block. It allocates no memory.
     pub(crate) fn acknowledge(&mut self, phase: Phase, from: Endpoint) -> Outgoing
         requires { PhaseFits self.old phase }
         ensures state { self.new ≡ with_position (having_sent
@@ -66,7 +66,7 @@ impl End {
         Outgoing::LastSent
     }
 
-    /// The most bytes that go out at an action.
+    /// The capacity to reserve for the datagram that an action sends, in bytes.
     pub(crate) fn room(&self, action: Action) -> usize
         ensures { result ≡ room_of self.now action }
     {
@@ -79,7 +79,7 @@ impl End {
         }
     }
 
-    /// The most bytes that go out where no file is touched.
+    /// The capacity to reserve for the datagram that a response sends, in bytes.
     pub(crate) fn response_room(&self, response: Response) -> usize
         ensures { result ≡ response_room self.now response }
     {
@@ -90,7 +90,8 @@ impl End {
         }
     }
 
-    /// Does what touches no file, and tells what goes out and where to. It takes no memory.
+    /// Carries out a response, and returns the datagram to send and its destination. It allocates
+    /// no memory.
     pub(crate) fn respond(
         &mut self,
         response: Response,
@@ -137,8 +138,8 @@ impl End {
         }
     }
 
-    /// Does what an action says, with the end's file where the action sends or stores, and tells
-    /// what goes out and where to.
+    /// Carries out an action, and returns the datagram to send and its destination. `files` is used
+    /// only by an action that sends DATA or stores a block.
     pub(crate) fn act<S: Source, K: Sink>(
         &mut self,
         action: Action,

@@ -1,4 +1,4 @@
-//! How a client's end opens: by its request.
+//! The openings of a client's end: by its request.
 
 ghost use Rattle.std.specs.Prelude.{ℕ, ◌≡◌, ◌↔◌, ◌++◌, ◌*◌, ◌≤◌, ◌⊎◌, IsTrue, IfOk, IfErr, OnOk};
 ghost use Rattle.std.specs.Prelude.{OnErr, IsErrOf, vec_capacity};
@@ -25,7 +25,7 @@ use tftp_file::NetDecoder;
 use tftp_negotiate::{Asked, DEFAULT_BLOCK};
 use tftp_wire::{HEADER, Mode};
 
-/// What an opening tells: one datagram, which is no progress yet.
+/// The step of an opening: one datagram, and no progress.
 pub(crate) fn opening_step(to: Endpoint) -> Step
     ensures { result ≡ opening_step to }
 {
@@ -37,7 +37,7 @@ pub(crate) fn opening_step(to: Endpoint) -> Step
 }
 
 impl End {
-    /// An end as it opens: with all its retries, after this was sent.
+    /// An end at its opening: with all its retries, and `last_sent` sent to `to`.
     pub(crate) fn opened(
         alloc: Global,
         role: Role,
@@ -64,10 +64,10 @@ impl End {
 
     /// Opens a client that reads: its request is appended to `out`, for `to`.
     ///
-    /// It retries `config.retries` times, and takes a file of at most `config.limits.max_file`
-    /// bytes where the server tells the length. `BadRequest` comes where the name is empty, holds a
-    /// zero byte or makes the request longer than 512 bytes (RFC 2347), or where an option is out
-    /// of its range or not for a read. After an error `out` is unchanged.
+    /// It retries `config.retries` times. It refuses an OACK with a file length (`tsize`) of more
+    /// than `config.limits.max_file` bytes. It fails with `BadRequest` if the name is empty, holds
+    /// a zero byte or makes the request longer than 512 bytes (RFC 2347), or if an option is out of
+    /// range or not for a read, and with `Memory`. After an error `out` is unchanged.
     pub fn get(
         alloc: Global,
         to: Endpoint,
@@ -109,13 +109,13 @@ impl End {
         Ok((end, opening_step(to)))
     }
 
-    /// Opens a client that writes a file of that length, in bytes of wire text: its request is
-    /// appended to `out`, for `to`.
+    /// Opens a client that writes a file of `length` bytes of wire text: its request is appended to
+    /// `out`, for `to`.
     ///
-    /// It retries `config.retries` times. `BadRequest` comes where [`End::get`] answers it, with
-    /// `length` as the `tsize` that can be asked, and then `TooLarge` where the file's blocks
-    /// cannot be numbered at the size that is asked, or at 512 bytes where none is. After an error
-    /// `out` is unchanged.
+    /// It retries `config.retries` times. It fails with `BadRequest` as [`End::get`] does, where
+    /// the only `tsize` allowed is `length`; then with `TooLarge` if the file's blocks cannot be
+    /// numbered at the requested block size, or at 512 bytes without one; and with `Memory`. After
+    /// an error `out` is unchanged.
     pub fn put(
         alloc: Global,
         to: Endpoint,

@@ -1,5 +1,5 @@
-//! The one block that a source gives: DATA is built in the spare buffer, which then changes places
-//! with the last datagram sent.
+//! How a sender sends a block: it builds DATA in the spare buffer, and swaps that with the buffer
+//! of the last datagram sent.
 
 ghost use Rattle.std.specs.Prelude.{◌≡◌, ◌≤◌, ◌+◌, [], length, OnOk, OnErr, IfOk, Some, vec_capacity};
 ghost use Rattle.tftp_ends.specs.BlockRead.{is_whole};
@@ -20,7 +20,7 @@ use std::mem;
 use tftp_file::{FileFault, Source};
 use tftp_wire::{HEADER, append_data_header};
 
-/// How many bytes DATA of this number carries, of a file of that length.
+/// How many bytes of a file of this length the block of this number has.
 pub(crate) fn block_length(length: u64, size: u16, number: u16) -> usize
     ensures { result ≡ block_length length size number }
 {
@@ -28,17 +28,17 @@ pub(crate) fn block_length(length: u64, size: u16, number: u16) -> usize
     length.saturating_sub(before).min(u64::from(size)) as usize
 }
 
-/// What came of the wish for a block.
+/// The result of reading a block.
 #[derive(Clone, Copy)]
 pub(crate) enum BlockRead {
-    /// All of the block.
+    /// The source gave the whole block.
     Whole,
-    /// Less than the block, or nothing.
+    /// The source gave less than the block, or failed.
     Changed,
 }
 
-/// Makes DATA of that number the buffer's bytes, if the source gives the block. If it does not, the
-/// buffer is empty.
+/// Replaces the buffer's bytes by DATA of this number, with a block of `want` bytes from the
+/// source. If the source does not give the whole block, the buffer is left empty.
 pub(crate) fn read_data<S: Source>(
     source: &mut S,
     number: u16,
@@ -79,7 +79,8 @@ pub(crate) fn read_data<S: Source>(
 }
 
 impl End {
-    /// Sends DATA of this number, if the source gives the block; the answer goes to the peer.
+    /// Sends DATA of this number to the peer. If the source does not give the block, it sends an
+    /// ERROR and closes.
     pub(crate) fn send<S: Source>(
         &mut self,
         terms: Terms,

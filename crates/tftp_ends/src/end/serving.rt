@@ -1,4 +1,4 @@
-//! How a server's end opens: by its first answer.
+//! The openings of a server's end: by its answer to the request.
 
 ghost use Rattle.std.specs.Prelude.{◌≡◌, ◌++◌, ◌*◌, ◌≤◌, ◌<◌, ◌⊎◌, not, true, [], length, IfOk};
 ghost use Rattle.std.specs.Prelude.{IfErr, OnOk, OnErr, IsErrOf, vec_capacity};
@@ -35,7 +35,7 @@ fn first_ack(alloc: Global) -> Result<Vec<u8>, AllocError>
     Ok(bytes)
 }
 
-/// The OACK of the options that are agreed.
+/// The OACK of the agreed options.
 fn oack(alloc: Global, agreed: &Agreed) -> Result<Vec<u8>, AllocError>
     ensures ok { IfOk result (λ v. v.items ≡ oack_bytes agreed.now) }
     ensures short { IfOk result (λ v. length v.items ≤ MAX_REQUEST) }
@@ -44,19 +44,20 @@ fn oack(alloc: Global, agreed: &Agreed) -> Result<Vec<u8>, AllocError>
     let mut bytes = Vec::with_capacity(alloc, HEADER)?;
     append_oack_header(&mut bytes)?;
     append_options(&mut bytes, agreed.as_slice())?;
-    // An agreement has three options at most.
+    // At most three options are agreed.
     laws::agreements();
     Ok(bytes)
 }
 
 impl End {
-    /// Opens a server's end that sends a file of that length, in bytes of wire text, to a client.
+    /// Opens a server's end that sends a file of `length` bytes of wire text to a client.
     ///
-    /// What is appended to `out`, for `peer`, is the OACK of the options that are agreed (RFC 2347,
-    /// "Negotiation Protocol"), or DATA 1 where none is (RFC 1350, section 4). `TooLarge` comes
-    /// where the file's blocks cannot be numbered, `SourceFault` where DATA 1 cannot be read to the
-    /// measured length, `BadRequest` never. After an error `out` is unchanged; after `TooLarge` and
-    /// `Memory` the source is, too, and after `SourceFault` it has left what the fill left.
+    /// It appends to `out`, for `peer`, the OACK of the agreed options (RFC 2347, "Negotiation
+    /// Protocol"), or DATA 1 if none is agreed (RFC 1350, section 4). It fails with `TooLarge` if
+    /// the file's blocks cannot be numbered, with `SourceFault` if DATA 1 cannot be read to the
+    /// measured length, and with `Memory`. After an error `out` is unchanged. After `TooLarge` and
+    /// `Memory` the source has the same bytes left; after `SourceFault` it has those that the fill
+    /// left.
     pub fn serve_read<S: Source, K: Sink>(
         alloc: Global,
         files: &mut Files<S, K>,
@@ -148,7 +149,7 @@ impl End {
         }
     }
 
-    /// Opens a server's end that sends, by the OACK of what is agreed.
+    /// Opens a server's end that sends, by the OACK of the agreed options.
     fn send_oack(
         alloc: Global,
         peer: Endpoint,
@@ -183,9 +184,9 @@ impl End {
 
     /// Opens a server's end that receives a file from a client.
     ///
-    /// What is appended to `out`, for `peer`, is the OACK of the options that are agreed (RFC 2347,
-    /// "Negotiation Protocol"), or ACK 0 where none is (RFC 1350, section 4). It fails with
-    /// `Memory` alone, and then `out` is unchanged.
+    /// It appends to `out`, for `peer`, the OACK of the agreed options (RFC 2347, "Negotiation
+    /// Protocol"), or ACK 0 if none is agreed (RFC 1350, section 4). It fails only with `Memory`,
+    /// and then `out` is unchanged.
     pub fn serve_write(
         alloc: Global,
         peer: Endpoint,
@@ -208,7 +209,7 @@ impl End {
         Ok(End::receive(alloc, agreed_terms(peer, agreed), mode, retries, oack, out)?)
     }
 
-    /// Opens a server's end that receives, by this answer.
+    /// Opens a server's end that receives, by `answer`.
     fn receive(
         alloc: Global,
         terms: Terms,

@@ -1,4 +1,4 @@
-//! The one block that a sink takes, and what is answered to it.
+//! How a receiver stores a block and acknowledges it.
 
 ghost use Rattle.std.specs.Prelude.{◌≡◌, ◌≤◌, ◌++◌, [], true, false, nat_lt, length, OnErr};
 ghost use Rattle.std.specs.Prelude.{IfOk, Some};
@@ -21,20 +21,20 @@ use std::alloc::AllocError;
 use tftp_file::{NetDecoder, NetFault, Sink, StoreFault};
 use tftp_wire::Mode;
 
-/// What a sink made of a block.
+/// The result of storing a block.
 #[derive(Clone, Copy)]
 enum BlockStored {
-    /// It holds the block, and more is to come.
+    /// The block is stored, and it is not the last one.
     More,
-    /// It holds and has committed the whole.
+    /// The last block is stored, and the file is committed.
     All,
-    /// It refused the block.
+    /// The sink refused the block.
     Refused,
-    /// It holds the block, and refused the commit.
+    /// The last block is stored, and the sink refused the commit.
     Uncommitted(ErrorReply),
 }
 
-/// Hands a block's bytes to the sink, if there are any.
+/// Appends a block's bytes to the sink, if there are any.
 fn append_block<K: Sink>(sink: &mut K, piece: &[u8]) -> Result<(), StoreFault>
     ensures appended { Appended K.meaning piece.now sink.old sink.new result }
     ensures same { K.is_same sink.old sink.new }
@@ -57,7 +57,7 @@ fn commit_reply(fault: StoreFault) -> ErrorReply
     }
 }
 
-/// Has the whole committed.
+/// Commits the file.
 fn commit<K: Sink>(sink: &mut K) -> BlockStored
     ensures takes { StoresLast K.meaning sink.old sink.new result }
     ensures same { K.is_same sink.old sink.new }
@@ -68,7 +68,7 @@ fn commit<K: Sink>(sink: &mut K) -> BlockStored
     }
 }
 
-/// Hands a block's bytes to the sink, and has the whole committed behind the last one.
+/// Appends a block's bytes to the sink, and commits the file after the last block.
 fn store_block<K: Sink>(
     sink: &mut K,
     piece: &[u8],
@@ -94,8 +94,8 @@ fn store_block<K: Sink>(
     }
 }
 
-/// Makes the host's bytes that a piece of netascii completes the buffer's bytes, and gives the
-/// decoder behind it.
+/// Replaces the buffer's bytes by the host bytes of a piece of netascii, and returns the decoder
+/// after it.
 fn decode_into(
     buffer: &mut Vec<u8>,
     decoder: NetDecoder,
@@ -115,8 +115,8 @@ fn decode_into(
     }
 }
 
-/// Hands the host's bytes of a piece to the sink, and gives the decoder behind it. The buffer is for
-/// the decoded bytes.
+/// Stores the host bytes of a piece, and returns the decoder after it. The buffer is for the
+/// decoded bytes.
 fn store_through<K: Sink>(
     sink: &mut K,
     mode: Mode,
@@ -144,8 +144,7 @@ fn store_through<K: Sink>(
     }
 }
 
-/// Hands the host's bytes of a piece to the sink, gives the decoder behind it, and leaves the buffer
-/// empty.
+/// Stores the host bytes of a piece, returns the decoder after it, and leaves the buffer empty.
 fn store_piece<K: Sink>(
     sink: &mut K,
     mode: Mode,
@@ -167,8 +166,8 @@ fn store_piece<K: Sink>(
 }
 
 impl End {
-    /// Stores the data that came, if the sink takes it, and acknowledges it behind that: the last
-    /// block only when the whole is committed.
+    /// Stores the received data and acknowledges it: the last block only after the file is
+    /// committed. If the sink refuses, it sends an ERROR and closes.
     pub(crate) fn store<K: Sink>(
         &mut self,
         terms: Terms,

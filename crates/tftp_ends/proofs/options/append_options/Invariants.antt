@@ -1,4 +1,4 @@
--- The bytes so far are those of the options passed.
+-- The bytes so far are those of the options before the index.
 use Rattle.std.proofs.Common.{◌≡◌, ◌≤◌, ◌*◌, ◌++◌, length, take, vec_capacity}
 use Rattle.tftp_wire.specs.Options.{options_bytes}
 use Rattle.tftp_negotiate.specs.Agreed.{agreed_options}

@@ -1,4 +1,4 @@
--- The length so far is that of the options passed.
+-- The length so far is that of the options before the index.
 use Rattle.std.proofs.Common.{◌≡◌, ◌-◌, ◌^◌, min, length, take}
 use Rattle.tftp_wire.specs.Options.{options_bytes}
 use Rattle.tftp_negotiate.specs.Agreed.{agreed_options}

@@ -1,4 +1,4 @@
--- A piece is readable by what the decoder says of it.
+-- A piece is readable if the decoder accepts it.
 use Rattle.std.proofs.Common.{◌∙◌, arith, length}
 use Rattle.std.specs.Prelude.{nat_lt}
 use Rattle.tftp_ends.proofs.TextLemmas.{readable_more, readable_last, wrong_unreadable}

@@ -1,4 +1,4 @@
--- An action fits the end and the datagram for which it was found.
+-- An action fits the end and the datagram.
 use Rattle.std.proofs.Common.{sym, subst}
 use Rattle.tftp_ends.specs.declared.action.Action.{Action}
 use Rattle.tftp_ends.specs.Fits.{BytesFit}

@@ -1,4 +1,4 @@
--- What is lent after a timeout is what the step tells.
+-- The datagram that is lent after a timeout is that of the step.
 use Rattle.std.proofs.Common.{rules}
 use Rattle.tftp_ends.specs.Step.{Lends, timeout_turn}
 use Rattle.tftp_ends.proofs.Lending.{tells_lent}

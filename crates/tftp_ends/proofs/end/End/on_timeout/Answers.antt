@@ -1,4 +1,4 @@
--- What is lent after a timeout is what the step appends.
+-- The datagram that is lent after a timeout is the one that the step appends.
 use Rattle.std.proofs.Common.{rules}
 use Rattle.tftp_ends.specs.Step.{Lends, timeout_turn}
 use Rattle.tftp_ends.proofs.Lending.{carries_lent}

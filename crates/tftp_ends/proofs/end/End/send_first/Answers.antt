@@ -1,4 +1,4 @@
--- A source that did not give DATA 1 cannot start, and has left what the fill left.
+-- A source that did not give DATA 1 cannot start, and has the bytes left that the fill left.
 use Rattle.tftp_ends.proofs.Sending.{fails_to_start}
 use Rattle.tftp_ends.proofs.end.End.send_first.Goals as goal
 

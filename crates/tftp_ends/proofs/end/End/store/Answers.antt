@@ -1,4 +1,4 @@
--- What the sink made of the piece is the step.
+-- The result of storing the piece is that of the step.
 use Rattle.std.proofs.Common.{◌≡◌, ◌∙◌, ap, Some, rules}
 use Rattle.tftp_ends.specs.declared.outcome.Outcome.TheVariants as outcomes
 use Rattle.tftp_ends.specs.End.{EndState}

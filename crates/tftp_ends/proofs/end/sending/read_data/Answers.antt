@@ -1,4 +1,4 @@
--- Less than was asked of the source is no whole block.
+-- A block with fewer bytes than requested is not whole.
 use Rattle.std.proofs.Common.{rules}
 use Rattle.tftp_ends.proofs.ReadingBlocks.{reads_short}
 use Rattle.tftp_ends.proofs.end.sending.read_data.Goals as goal

@@ -1,4 +1,4 @@
--- An OACK has three options at most.
+-- An OACK has at most three options.
 use Rattle.std.proofs.Common.{◌≡◌, rules}
 use Rattle.tftp_ends.specs.Opening.{oack_bytes}
 use Rattle.tftp_ends.proofs.OackLemmas.{oack_short}

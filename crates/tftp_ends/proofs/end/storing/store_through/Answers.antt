@@ -1,4 +1,4 @@
--- What is readable begins a wire text.
+-- A readable piece begins a wire text.
 use Rattle.tftp_ends.proofs.TextLemmas.{readable_begins}
 use Rattle.tftp_ends.proofs.end.storing.store_through.Goals as goal
 
