@@ -6,7 +6,7 @@ use Rattle.std.specs.Result.{IsOk, is_ok}
 use Rattle.tftp_wire.specs.declared.mode.Mode.{Mode}
 use Rattle.tftp_wire.specs.declared.mode.Mode.TheVariants.{Octet, Netascii}
 use Rattle.tftp_file.specs.Netascii.{wire_byte, netascii_text}
-use Rattle.tftp_file.specs.Decoding.{IsHeld, Decodes, IsWrong, Refuses}
+use Rattle.tftp_file.specs.Decoding.{IsHeld, DecodesPiece, IsWrong, Refuses}
 use Rattle.tftp_file.specs.declared.netascii.NetFault.{NetFault}
 use Rattle.tftp_file.specs.declared.netascii.NetFault.TheVariants.{LoneCr, LoneLf, EndsInCr, Memory}
 use Rattle.tftp_ends.specs.Laws.{DecodedBegins, DecodedEnds}
@@ -87,11 +87,11 @@ both_true : (a b : Bool) → (a && b) ≡ true → (a ≡ true) × (b ≡ true)
 both_true true b e = (refl, e)
 both_true false b e = absurd (true≢false (sym e))
 
-readable_by : (held piece bytes after : List ℕ) (last : Bool) → Decodes held piece bytes after → is_readable Netascii held piece last ≡ not (last && ends_in_cr after)
+readable_by : (held piece bytes after : List ℕ) (last : Bool) → DecodesPiece held piece bytes after → is_readable Netascii held piece last ≡ not (last && ends_in_cr after)
 readable_by held piece bytes after last d = rw (decoded_begins held piece bytes after d, decoded_ends held piece bytes after d)
 
 -- a whole block continues the text
-pub readable_more : (held piece bytes after : List ℕ) (size : ℕ) → Decodes held piece bytes after → size ≤ length piece → true ≡ is_readable Netascii held piece (ltb (length piece) size)
+pub readable_more : (held piece bytes after : List ℕ) (size : ℕ) → DecodesPiece held piece bytes after → size ≤ length piece → true ≡ is_readable Netascii held piece (ltb (length piece) size)
 readable_more held piece bytes after size d l =
     sym (readable_by held piece bytes after (ltb (length piece) size) d ∙ ap (λ (b : Bool). not (b && ends_in_cr after)) (le-ltb (length piece) size l))
 
@@ -103,7 +103,7 @@ ends_well after (Err fault) h iff = elim h [
 ]
 
 -- the last block does if no CR is held back after it
-pub readable_last : (held piece bytes after : List ℕ) (size : ℕ) (answer : Result Done NetFault) → Decodes held piece bytes after → length piece < size → IsOk answer ↔ (after ≡ []) → is_ok answer ≡ is_readable Netascii held piece (ltb (length piece) size)
+pub readable_last : (held piece bytes after : List ℕ) (size : ℕ) (answer : Result Done NetFault) → DecodesPiece held piece bytes after → length piece < size → IsOk answer ↔ (after ≡ []) → is_ok answer ≡ is_readable Netascii held piece (ltb (length piece) size)
 readable_last held piece bytes after size answer d l iff =
     ends_well after answer d.0 iff ∙ sym (readable_by held piece bytes after (ltb (length piece) size) d ∙ ap (λ (b : Bool). not (b && ends_in_cr after)) (lt-ltb (length piece) size l))
 

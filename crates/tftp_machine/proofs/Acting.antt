@@ -1,4 +1,4 @@
--- Rules that act one after another at one end, by what is told of that end.
+-- Rules that act in sequence at one end, by the view of that end.
 use Rattle.std.proofs.Common.{◌≡◌, ◌+◌, Bool, true, false, List, [], ◌∷◌, ◌++◌, append_assoc, sym, refl, ap, ◌∙◌, subst}
 use Rattle.std.specs.Prelude.{◌≢◌}
 use Rattle.std.specs.List.{Contains}
@@ -11,16 +11,16 @@ use Rattle.tftp_machine.specs.Rules.{Rule, Asks, Opens_plainly, Opens_with, Take
 use Rattle.tftp_machine.specs.Shows.{ActInTurn, party_then, sent_by}
 use Rattle.tftp_machine.proofs.Grows.{with_at, with_other}
 
--- what is not told of an end
+-- what the view of an end does not have
 pub record Unshown : Type 0 where
   pub plain : Bool
   pub request : WireRequest
 
--- x, with that
+-- x, with these
 abbrev pub with_unshown : Unshown → Party → Party
 with_unshown b x = record x { plain = b.plain; request = b.request }
 
--- no rule asks whether the end that acts was opened plainly, nor by what request
+-- no rule depends on `plain` or on the request of the acting end
 may_act : (b : Unshown) (r : Rule) (sent : List Message) (x : Party) → MayAct r sent x → MayAct r sent (with_unshown b x)
 may_act b (Asks at write request text) sent x h = h
 may_act b (Opens_plainly at peer write request text) sent x h = h
@@ -69,7 +69,7 @@ same_after b (Says_error at to) x = (b, refl)
 same_after b (Repeats old) x = (b, refl)
 same_after b (Strays stray) x = (b, refl)
 
--- an open end x went on to y
+-- an open end x became y
 pub record KeepsOn (x y : Party) : Type 0 where
   pub is_open : y.is_open ≡ true
   pub client : y.client ≡ x.client
@@ -120,7 +120,7 @@ opens_none (Says_error at to) sent x m o h = tt
 opens_none (Repeats old) sent x m o h = tt
 opens_none (Strays stray) sent x m o h = tt
 
--- a rule that may act may still act when more was sent
+-- a rule that may act may still act after more datagrams were sent
 may_act_still : (r : Rule) (sent more : List Message) (x : Party) → ((d : Message) → Contains sent d → Contains more d) → MayAct r sent x → MayAct r more x
 may_act_still (Asks at write request text) sent more x f h = h
 may_act_still (Opens_plainly at peer write request text) sent more x f h = (h.0, h.1, f (message peer request_port (Request write request)) h.2, h.3)
@@ -137,14 +137,14 @@ may_act_still (Says_error at to) sent more x f h = h
 may_act_still (Repeats old) sent more x f h = f old h
 may_act_still (Strays stray) sent more x f h = h
 
--- the machine went on by rules of the end at this endpoint alone, which is x now
+-- only rules of the end at this endpoint, which is now x, have acted in the machine
 pub record WentOn (m : Machine) (a : Endpoint) (all : List Message) (x : Party) (n : Machine) : Type 0 where
   pub sent : n.sent ≡ all
   pub here : (b : Unshown) × (n.party a ≡ with_unshown b x)
   pub keeps : KeepsOn (m.party a) (n.party a)
   pub others : (q : Endpoint) → q ≢ a → n.party q ≡ m.party q
 
--- what is told of one end and of what was sent decides whether its rules may act, and what comes of it
+-- the view of one end and the datagrams sent decide whether its rules may act, and with what result
 pub act_in_turn : (rs : List Rule) (a : Endpoint) (before : List Message) (m : Machine) (b : Unshown) (x : Party) → (m.party a).is_open ≡ true → m.party a ≡ with_unshown b x →
     ((d : Message) → Contains before d → Contains m.sent d) → ActInTurn rs a before x →
     IsLegal rs m × WentOn m a (m.sent ++ sent_by rs x) (party_then rs x) (run rs m)
@@ -176,7 +176,7 @@ act_in_turn (r ∷ rs) a before m b x o e f t =
       },
     )
 
--- rules that act in turn at an open end leave it open
+-- rules that act in sequence at an open end leave it open
 pub stays_open : (rs : List Rule) (a : Endpoint) (before : List Message) (x : Party) → x.is_open ≡ true → ActInTurn rs a before x → (party_then rs x).is_open ≡ true
 stays_open [] a before x o t = o
 stays_open (r ∷ rs) a before x o t = stays_open rs a before (party_after r x) (keeps_on r before x o t.1).is_open t.2

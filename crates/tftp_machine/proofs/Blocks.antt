@@ -1,4 +1,4 @@
--- The blocks of a text, one after another.
+-- The blocks of a text, in sequence.
 use Rattle.std.proofs.Common.{◌≡◌, ℕ, ◌+◌, ◌*◌, ◌-◌, ◌<◌, ◌≤◌, List, ◌++◌, length, take, drop, ap, ◌∙◌, arith}
 use Rattle.std.proofs.Math.Seq.{take-add}
 use Rattle.std.proofs.lemmas.List.{take-append-drop, length-take, length-drop, take_all}
@@ -8,7 +8,7 @@ use Rattle.tftp_machine.specs.Texts.{BlocksGoOn, BlocksHaveLengths}
 pub beginning_by_take : (n : ℕ) (xs : List ℕ) → IsBeginningOf (take n xs) xs
 beginning_by_take n xs = (drop n xs, take-append-drop n xs)
 
--- one more block goes on where the ones before it end
+-- the next block follows the blocks before it
 pub take-block : BlocksGoOn
 take-block text n size =
     let e : (n + 1) * size ≡ n * size + size = omega arith in
@@ -30,6 +30,6 @@ pub full_block : (text : List ℕ) (n size : ℕ) → 0 < size → n * size ≤ 
 full_block text n size p r h =
     let l = length-block text n size in omega arith
 
--- who has all the blocks has no room for another
+-- after all blocks no text is left for another
 pub count_is_past : (text : List ℕ) (n size : ℕ) → 0 < size → block_count text size ≤ n → length text < n * size
 count_is_past text n size p h = grind arith

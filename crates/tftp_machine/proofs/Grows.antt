@@ -1,4 +1,4 @@
--- An open end of the machine goes on: what stays of it, and what was told of it stays true.
+-- An open end of the machine continues: what does not change, and what its datagrams imply stays true.
 use Rattle.std.proofs.Common.{◌≡◌, ◌≤◌, true, not, List, ◌++◌, Some, sym, refl, ap, ◌∙◌, subst, arith, inl, inr}
 use Rattle.std.specs.Prelude.{◌≢◌}
 use Rattle.std.specs.List.{Contains}
@@ -8,7 +8,7 @@ use Rattle.tftp_machine.specs.Machine.{Endpoint, is_same, Elsewhere, host_of, Pa
 use Rattle.tftp_machine.proofs.Endpoints.{cases_same, same_self, same_other}
 use Rattle.tftp_machine.specs.Facts.{Told, IsServing, HasAsked, HasReceived, IsSoundParty, Holds}
 
--- an open end x went on to y
+-- an open end x became y
 pub record Grows (x y : Party) : Type 0 where
   pub is_open : y.is_open ≡ true
   pub client : y.client ≡ x.client
@@ -31,7 +31,7 @@ with_at ends a x = cond-true (is_same a a) x (ends a) (same_self a)
 pub with_other : (ends : Endpoint → Party) (a : Endpoint) (x : Party) (q : Endpoint) → q ≢ a → with_end ends a x q ≡ ends q
 with_other ends a x q n = cond-false (is_same q a) x (ends q) (same_other q a n)
 
--- every open end of the first goes on to the second
+-- every open end of the first continues in the second
 pub record AllGrow (ends new : Endpoint → Party) : Type 0 where
   pub grows : (q : Endpoint) → (ends q).is_open ≡ true → Grows (ends q) (new q)
 
@@ -66,7 +66,7 @@ pub HasReceived-grows : (x y z : Party) → Grows y z → y.sender ≡ true → 
 HasReceived-grows x y z g s h = let e = g.text s in
     record { beginning = rw e h.beginning; whole = rw e h.whole; so_far = rw e h.so_far; room = rw e h.room }
 
--- what is known of any end's peer, unless it is elsewhere
+-- the facts on an end's peer, unless it is elsewhere
 pub record HasPeer (x y : Party) : Type 0 where
   pub is_open : y.is_open ≡ true
   pub client : y.client ≡ not x.client
@@ -93,7 +93,7 @@ IsSound-grows ends new g a x h = record {
   ended = λ s d p e o. let k = g.grows p (peer_of ends a x h p e o).is_open in let b = h.ended s d p e o in (k.peer a b.0, k.done b.1);
 }
 
--- the end at a went on to x and these messages were added
+-- the end at a became x, and these messages were added
 pub kept : (m : Machine) (a : Endpoint) (x : Party) (added : List Message) → Holds m →
     ((m.party a).is_open ≡ true → Grows (m.party a) x) →
     (x.is_open ≡ true → IsSoundParty (with_end m.party a x) a x) →

@@ -16,6 +16,6 @@ by_tests true c h e = (λ t. absurd (true≢false (sym t)), λ f. absurd (let g 
 by_tests false true h e = (λ t. absurd (true≢false (sym t)), λ f. absurd (let g : At_client ≡ Elsewhere = sym e ∙ f in cc))
 by_tests false false h e = (λ t. e, λ f. refl)
 
--- an endpoint is at neither host where its address is none of the two
+-- an endpoint is at neither host if its address is not one of the two
 pub foreign_by : (a : Endpoint) → IsTrue (not (is_same_ip a.ip server_ip) && not (is_same_ip a.ip client_ip)) ↔ (host_of a ≡ Elsewhere)
 foreign_by a = by_tests (is_same_ip a.ip server_ip) (is_same_ip a.ip client_ip) (host_of a) (host_by a (is_same_ip a.ip server_ip) (is_same_ip a.ip client_ip) refl refl)

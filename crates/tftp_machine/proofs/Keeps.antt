@@ -1,4 +1,4 @@
--- Each rule of the machine keeps what carries the proof that it is safe.
+-- Each rule of the machine preserves the invariant.
 use Rattle.std.proofs.Common.{◌≡◌, ◌+◌, true, false, [], ◌∷◌, ◌++◌, length, Some, None, sym, refl, ◌∙◌, arith, inl, inr}
 use Rattle.std.specs.Prelude.{if◌then◌else◌, nat_lt}
 use Rattle.std.proofs.lemmas.Bool.{true≢false, cases_Bool}

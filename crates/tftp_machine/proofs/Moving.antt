@@ -1,4 +1,4 @@
--- A receiver that stores a block, a sender that goes on, an end that gives up.
+-- A receiver that stores a block, a sender that sends the next one, an end that fails.
 use Rattle.std.proofs.Common.{◌≡◌, ℕ, ◌+◌, ◌*◌, ◌<◌, ◌≤◌, true, false, List, [], ◌∷◌, ◌++◌, length, take, Some, None, sym, refl, ◌∙◌, subst, arith, inl, inr}
 use Rattle.std.specs.Prelude.{◌≢◌, nat_lt}
 use Rattle.std.specs.List.{Contains}
@@ -12,7 +12,7 @@ use Rattle.tftp_machine.proofs.Blocks.{beginning_by_take, take-block, last_block
 use Rattle.tftp_machine.proofs.Steps.{one_sent, own_of, same_size, Moves, IsSound-moves, GoesOn, next_block}
 use Rattle.tftp_machine.proofs.Telling.{told_at, told_none}
 
--- the piece goes after what the receiver has
+-- the piece follows the receiver's text
 pub more_text : (x y : Party) (piece : List ℕ) → GoesOn x y piece → x.text ++ piece ≡ take ((x.number + 1) * x.size) y.text
 more_text x y piece q = rw (q.so_far, q.bytes) (take-block y.text x.number x.size)
 
@@ -38,7 +38,7 @@ received_failed x y piece n q = record {
   room = λ _. q.room;
 }
 
--- a receiver goes on to x, in which its peer's text has this place
+-- a receiver becomes x, with this part of its peer's text
 pub receives : (m : Machine) → Holds m → (at peer : Endpoint) (bytes : List ℕ) → IsNext m.sent (m.party at) at peer bytes → (x : Party) → Moves (m.party at) x → (m.party at).number ≤ x.number →
     ((y : Party) → GoesOn (m.party at) y bytes → HasReceived x y) →
     (added : List Message) →
@@ -74,7 +74,7 @@ receives m h at peer bytes g x v up f added told =
     (λ s d p e o. absurd (true≢false (sym s ∙ receiver))))
     told
 
--- a sender with its newest block acknowledged goes on to x
+-- a sender with its newest block acknowledged becomes x
 pub sends : (m : Machine) → Holds m → (at peer : Endpoint) → IsAcked m.sent (m.party at) at peer → (x : Party) → Moves (m.party at) x → (m.party at).number ≤ x.number → x.text ≡ (m.party at).text →
     (x.done ≡ true → host_of peer ≢ Elsewhere → (m.party peer).done ≡ true) →
     (added : List Message) →
@@ -154,7 +154,7 @@ fails m h at g =
     s.ended)
     (told_none new)
 
--- nothing changes but what was sent
+-- only the datagrams sent change
 pub says : (m : Machine) → Holds m → (d : Message) → (host_of d.from ≢ Elsewhere → Told (m.party d.from) d.to d.packet) → Holds (record { sent = m.sent ++ d ∷ []; party = with_end m.party d.from (m.party d.from) })
 says m h d t =
     let at = d.from in

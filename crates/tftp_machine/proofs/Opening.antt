@@ -1,4 +1,4 @@
--- A client that asks, a server's end that opens, a client that takes its peer.
+-- A client's request, the opening of a server's end, and a client that accepts its peer.
 use Rattle.std.proofs.Common.{◌≡◌, ℕ, ◌<◌, Bool, true, false, not, List, [], ◌∷◌, ◌++◌, Some, None, sym, refl, ap, ◌∙◌, subst, arith}
 use Rattle.std.specs.Prelude.{◌≢◌, if◌then◌else◌}
 use Rattle.std.specs.List.{Contains}
@@ -62,7 +62,7 @@ opens m h at peer write plain request text size number closed server asks_so pos
     })
     (told_one m.party at x peer k t)
 
--- a waiting client takes this peer and size
+-- a waiting client accepts this peer and size
 pub takes : (m : Machine) → Holds m → (at peer : Endpoint) (size : ℕ) → Waits (m.party at) peer →
     (m.party peer).is_open ≡ true → (m.party peer).client ≡ false → (m.party peer).peer ≡ Some at → (m.party peer).size ≡ size →
     (added : List Message) →
@@ -106,7 +106,7 @@ takes m h at peer size w opens_there client back sized added told =
     })
     told
 
--- the first datagram of a client that took its peer
+-- the first datagram of a client that has accepted its peer
 pub told_first : (x : Party) (peer : Endpoint) (size : ℕ) → x.is_open ≡ true → x.client ≡ true → Told (taken x peer size) peer (if x.sender then Data 1 (block x.text size 1) else Ack 0)
 told_first x peer size o c =
     cond_both x.sender (Data 1 (block x.text size 1)) (Ack 0) (λ (k : Packet). Told (taken x peer size) peer k)

@@ -1,8 +1,8 @@
--- What stands at a place of a list after a write or a push.
+-- The element at an index of a list after a write or a push.
 use Rattle.std.proofs.Common.{◌≡◌, ℕ, List, [], ◌∷◌, ◌++◌, length, set, Some, None, refl, ap, arith, inl, inr, zero, suc}
 use Rattle.std.specs.Prelude.{◌≢◌, ◌⊎◌, slice_get}
 
--- what stands in a list after a write
+-- the elements of a list after a write
 pub slice_get-set_cases : {X : Type 0} (xs : List X) (i j : ℕ) (a y : X) → slice_get (set xs i a) j ≡ Some y → ((j ≡ i) × (y ≡ a)) ⊎ ((j ≢ i) × (slice_get xs j ≡ Some y))
 slice_get-set_cases [] i j a y e = absurd (let f : None ≡ Some y = e in cc)
 slice_get-set_cases (x ∷ xs) zero zero a y e = inl (refl, let f : Some a ≡ Some y = e in cc)

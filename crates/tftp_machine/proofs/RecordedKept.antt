@@ -1,4 +1,4 @@
--- Each rule of the machine keeps the record of what was sent before an end came to be what it is.
+-- Each rule of the machine preserves the record of the datagrams sent.
 use Rattle.std.proofs.Common.{◌≡◌, ℕ, ◌+◌, Bool, true, false, not, List, [], ◌∷◌, ◌++◌, length, Some, None, sym, refl, ap, ◌∙◌, subst, arith, inl, inr}
 use Rattle.std.specs.Prelude.{◌≢◌, if◌then◌else◌, nat_lt}
 use Rattle.std.specs.List.{Contains}
@@ -15,7 +15,7 @@ use Rattle.tftp_machine.proofs.Grows.{with_at, with_other}
 use Rattle.tftp_machine.proofs.Steps.{not-not, none_sent, one_sent}
 use Rattle.tftp_machine.proofs.Keeps.{keeps}
 
--- more was sent
+-- with more datagrams sent
 more : (sent added : List Message) (a : Endpoint) (x : Party) → IsRecorded sent a x → IsRecorded (sent ++ added) a x
 more sent added a x h = record {
   requested = λ c p e. Contains-append_left sent added (message p request_port (Request (not x.sender) x.request)) (h.requested c p e);
@@ -24,7 +24,7 @@ more sent added a x h = record {
   ended = λ s d p e. Contains-append_left sent added (message p a (Ack (block_count x.text x.size))) (h.ended s d p e);
 }
 
--- the end at a went on to x, these were added, and what is new is recorded
+-- the end at a became x, these datagrams were added, and the new ones are recorded
 kept : (m : Machine) (a : Endpoint) (x : Party) (added : List Message) → Holds m → AreRecorded m →
     ((m.party a).is_open ≡ true → (x.client ≡ (m.party a).client) × (x.plain ≡ (m.party a).plain) × ((p : Endpoint) → (m.party a).peer ≡ Some p → x.size ≡ (m.party a).size)) →
     (x.is_open ≡ true → IsRecorded (m.sent ++ added) a x) →
@@ -57,7 +57,7 @@ kept m a x added h r same now first =
       ];
     }
 
--- a datagram that is no ACK 0
+-- a datagram other than ACK 0
 other : (P : Endpoint → Endpoint → Type 0) (from to : Endpoint) (k : Packet) → (k ≡ Ack 0 → ⊥) → (y p : Endpoint) → host_of y ≢ Elsewhere → Contains (message from to k ∷ []) (message y p (Ack 0)) → P y p
 other P from to k n y p own i = absurd (one_sent (λ d. d.packet ≡ Ack 0 → ⊥) (message from to k) n (message y p (Ack 0)) i refl)
 

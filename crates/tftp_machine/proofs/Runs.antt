@@ -1,4 +1,4 @@
--- Every run of the machine keeps its facts, and these make it safe.
+-- Every run of the machine preserves the invariant, and the invariant implies that it is safe.
 use Rattle.std.proofs.Common.{◌≡◌, true, List, [], ◌∷◌, ◌++◌, Option, Some, None, sym, refl, ◌∙◌}
 use Rattle.std.specs.Prelude.{◌≢◌}
 use Rattle.std.proofs.lemmas.Bool.{true≢false}

@@ -1,4 +1,4 @@
--- What is shown of a machine is shown again after an act, an opening or a datagram.
+-- What is shown stays shown after a step, an opening or a datagram.
 use Rattle.std.proofs.Common.{◌≡◌, ℕ, ◌+◌, Bool, true, false, List, [], ◌∷◌, ◌++◌, length, set, Some, None, sym, refl, ap, ◌∙◌, subst, arith, inl, inr}
 use Rattle.std.specs.Prelude.{◌≢◌, ◌≤◌, ◌⊎◌, not, slice_get}
 use Rattle.std.specs.List.{Contains}
@@ -20,7 +20,7 @@ use Rattle.tftp_machine.proofs.RecordedKept.{recorded_run, recorded_start}
 use Rattle.tftp_machine.proofs.Runs.{Holds-start, Holds-run, run_then, legal_then}
 use Rattle.tftp_machine.proofs.Steps.{not-not}
 
--- of an end that did not fail all is told but whether it was opened plainly, and by what request
+-- the view of an end that did not fail has all of its party but `plain` and the request
 told_all : (e : EndView) (x : Party) → Matches e x → x.text ≡ e.text → x ≡ with_unshown (record { plain = x.plain; request = x.request }) (party_of e)
 told_all e x m t = λ i. record {
   is_open = m.is_open i;
@@ -43,7 +43,7 @@ same_text e x m f = elim (cases_Bool e.done) [
   | inr d ↦ m.live d f
 ]
 
--- a match does not ask whether the end was opened plainly, nor by what request
+-- a match does not depend on `plain` or on the request
 match_unshown : (f : EndView) (b : Unshown) (x : Party) → Matches f x → Matches f (with_unshown b x)
 match_unshown f b x m = record {
   is_open = m.is_open;
@@ -75,7 +75,7 @@ shown_start = (
   ),
 )
 
--- a machine that shows them keeps its facts
+-- a machine that shows them has the invariant
 pub shown_by : (views : List EndView) (messages : List Message) → IsShown views messages → (m : Machine) × Holds m × AreRecorded m × Shows views messages m
 shown_by views messages shown =
     (run shown.0 start, Holds-run shown.0 start Holds-start shown.1.0, recorded_run shown.0 start Holds-start recorded_start shown.1.0, shown.1.1)
@@ -86,19 +86,19 @@ shown_after : (first : List Rule) (vs : List EndView) (ms : List Message) → Is
 shown_after first vs ms before rs legal shows =
     (rs, omega arith, (legal_then first rs start before legal, subst (λ (m : Machine). Shows vs ms m) (sym (run_then first rs start)) shows))
 
--- none show what is shown
+-- with no more rules it is still shown
 pub shown_still : (first : List Rule) (views : List EndView) (messages : List Message) → IsShownAt first views messages → IsShownWithin 0 first views messages
 shown_still first views messages shown = shown_after first views messages shown.0 [] tt shown.1
 
--- so many are more
+-- it is shown within a greater number of rules, too
 pub shown_within : (few most : ℕ) (first : List Rule) (views : List EndView) (messages : List Message) → few ≤ most → IsShownWithin few first views messages → IsShownWithin most first views messages
 shown_within few most first views messages fits shown = (shown.0, (let l = shown.1 in omega (arith, l, fits)), shown.2)
 
--- an end of the server answers the same request as long as it goes on
+-- an end of the server answers the same request while it continues
 same_answer : (x y : Party) → KeepsOn x y → answered_by x ≡ answered_by y
 same_answer x y g = ap (λ (b : Bool). requested (not b) x.request) (sym g.sender) ∙ ap (λ (r : WireRequest). requested (not y.sender) r) (sym g.request)
 
--- what goes on was in service if it is now
+-- an end in service was in service before
 was_in_service : (e f : EndView) (x y : Party) → Matches e x → Matches f y → KeepsOn x y → e.failed ≡ false → IsInService f → IsInService e
 was_in_service e f x y m n g alive s = (sym m.client ∙ (sym g.client ∙ (n.client ∙ s.0)), not_done (cases_Bool e.done), alive) where
   not_done : (e.done ≡ true) ⊎ (e.done ≡ false) → e.done ≡ false
@@ -146,7 +146,7 @@ shown_acts first views messages k e f rs shown at alive turns same asks matches 
       ];
     })
 
--- what asked for an end that is over is not shown
+-- the request of an end that is done or failed is not shown
 pub shown_forgets : (most : ℕ) (first : List Rule) (views : List EndView) (messages : List Message) (k : ℕ) (d e f : EndView) → slice_get views k ≡ Some d → f ≡ record e { request = f.request } → (IsInService e → ⊥) →
     IsShownWithin most first (set views k e) messages → IsShownWithin most first (set views k f) messages
 shown_forgets most first views messages k d e f at same over shown =
@@ -217,7 +217,7 @@ opens_alike (Opens_plainly at peer write request text) o x = (refl, refl)
 opens_alike (Opens_with at peer write request text size) o x = (refl, refl)
 opens_alike r o x = absurd o
 
--- where no end that is shown answers the request, those that it opened are over
+-- if no end that is shown answers the request, those that it opened are done or failed
 all_over : (views : List EndView) (messages : List Message) (m : Machine) → Shows views messages m → (peer : Endpoint) (write : Bool) (request : WireRequest) →
     NoneAnswers views peer (requested write request) → AreOver m peer write request
 all_over views messages m s peer write request none a by = one_over (cases_Bool (m.party a).done) (cases_Bool (m.party a).failed) where
@@ -245,7 +245,7 @@ opens_anew views messages m (Opens_plainly at peer write request text) bytes s o
 opens_anew views messages m (Opens_with at peer write request text size) bytes s o h = all_over views messages m s peer write request h.1
 opens_anew views messages m r bytes s o h = absurd o
 
--- a new end of the server answers what it was asked
+-- a new end of the server answers its request
 answers_so : (write : Bool) (request : WireRequest) (bytes : List ℕ) → Spells (requested write request) bytes → Spells (requested (not (not write)) request) bytes
 answers_so write request bytes s = subst (λ (b : Bool). Spells (requested b request) bytes) (sym (not-not write)) s
 

@@ -56,7 +56,7 @@ same_size m h x y e = elim (cases_Bool (m.party x).client) [
       (((h.ends y e.1).serving d x e.3).1.size)
 ]
 
--- x went on to y, which keeps all but the number, the text and how it ended
+-- x became y, which differs only in the number, the text and how it ended
 pub record Moves (x y : Party) : Type 0 where
   pub is_open : y.is_open ≡ x.is_open
   pub client : y.client ≡ x.client
@@ -95,7 +95,7 @@ received_nothing x y t n d = record {
   room = λ e. rw n (omega arith);
 }
 
--- what the next block of a receiver x is
+-- the next block of a receiver x
 pub record GoesOn (x y : Party) (piece : List ℕ) : Type 0 where
   pub so_far : x.text ≡ take (x.number * x.size) y.text
   pub room : x.number * x.size ≤ length y.text

@@ -1,4 +1,4 @@
--- What the one datagram of a rule tells is true.
+-- The datagram of a rule is true of its sender.
 use Rattle.std.proofs.Common.{[], ◌∷◌, sym, subst}
 use Rattle.std.specs.Prelude.{◌≢◌}
 use Rattle.std.specs.List.{Contains}
@@ -11,7 +11,7 @@ use Rattle.tftp_machine.proofs.Steps.{none_sent, one_sent}
 pub told_at : (ends : Endpoint → Party) (a : Endpoint) (x : Party) (to : Endpoint) (k : Packet) → Told x to k → Told (with_end ends a x a) to k
 told_at ends a x to k t = subst (λ (y : Party). Told y to k) (sym (with_at ends a x)) t
 
--- the one datagram that an end at a, now x, sends
+-- the datagram that an end at a, which is now x, sends
 pub told_one : (ends : Endpoint → Party) (a : Endpoint) (x : Party) (to : Endpoint) (k : Packet) → Told x to k → (d : Message) → Contains (message a to k ∷ []) d → host_of d.from ≢ Elsewhere → Told (with_end ends a x d.from) d.to d.packet
 told_one ends a x to k t =
     one_sent (λ d. host_of d.from ≢ Elsewhere → Told (with_end ends a x d.from) d.to d.packet) (message a to k) (λ _. told_at ends a x to k t)

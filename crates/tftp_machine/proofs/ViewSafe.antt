@@ -17,12 +17,12 @@ use Rattle.tftp_machine.proofs.Runs.{IsSafeMachine-holds, some_peer}
 pub IsBeginningOf-trans : BeginningsJoin
 IsBeginningOf-trans xs ys zs a b = (a.0 ++ b.0, sym (append_assoc xs a.0 b.0) ∙ (ap (λ (us : List ℕ). us ++ b.0) a.1 ∙ b.1))
 
--- a beginning of nothing is nothing
+-- a beginning of the empty text is empty
 pub first_of_empty : OnlyNothingBeginsNothing
 first_of_empty [] h = refl
 first_of_empty (x ∷ xs) h = absurd (let e : x ∷ (xs ++ h.0) ≡ [] = h.1 in cc)
 
--- the end at this endpoint, and what it tells of
+-- the end at this endpoint, and its party
 record Found (views : List EndView) (m : Machine) (p : Endpoint) (y : EndView) : Type 0 where
   pub is_at : IsAt views p y
   pub matches : Matches y (m.party p)
@@ -101,7 +101,7 @@ shown_safe views messages shown =
           );
     }
 
--- where nobody at neither host has spoken, every peer is at one of them
+-- if no other host has sent a datagram, every peer is at one of the two
 pub shown_at_home : (views : List EndView) (messages : List Message) → IsShown views messages → PeersAtHome views messages
 shown_at_home views messages shown home x p i e =
     let by = shown_by views messages shown in

@@ -1,16 +1,19 @@
--- What stays true of the guarded machine, and carries the proof that it is safe.
-use Rattle.std.specs.Prelude.{◌≡◌, ◌≢◌, ◌*◌, ◌<◌, ◌≤◌, Bool, true, false, not, [], length, take, None, Some}
+-- The inductive invariant of the guarded machine, which implies that it is safe.
+use Rattle.std.specs.Prelude.{◌≡◌, ◌≢◌, ◌*◌, ◌<◌, ◌≤◌, Bool, true, false, not, [], length, take}
+use Rattle.std.specs.Prelude.{None, Some}
 use Rattle.std.specs.List.{Contains}
 use Rattle.tftp_negotiate.specs.declared.limits.TheConstants.{DEFAULT_BLOCK}
 use Rattle.tftp_file.specs.Block.{block, IsBeginningOf}
-use Rattle.tftp_machine.specs.Machine.{Endpoint, Host, At_server, At_client, Elsewhere, host_of, Packet, Request, Data, Ack, Oack, Error, Message, Party, Machine}
+use Rattle.tftp_machine.specs.Machine.{Endpoint, Host, At_server, At_client, Elsewhere, host_of}
+use Rattle.tftp_machine.specs.Machine.{Packet, Request, Data, Ack, Oack, Error, Message, Party}
+use Rattle.tftp_machine.specs.Machine.{Machine}
 
 -- the host of a client's end, and of a server's
 abbrev pub home : Bool → Host
 home true = At_client
 home false = At_server
 
--- what a datagram to `to` tells of the end x that sent it
+-- what a datagram to `to` implies for the end x that sent it
 abbrev pub Told : Party → Endpoint → Packet → Type 0
 Told x to (Request write request) =
     record {
@@ -62,7 +65,7 @@ pub record HasAsked (x y : Party) : Type 0 where
   pub mode : y.mode ≡ x.mode
   pub sender : y.sender ≡ not x.sender
 
--- what a receiver x has of its peer's text
+-- the text of a receiver x, by its peer's text
 pub record HasReceived (x y : Party) : Type 0 where
   pub beginning : IsBeginningOf x.text y.text
   pub whole : x.done ≡ true → x.text ≡ y.text
@@ -71,32 +74,32 @@ pub record HasReceived (x y : Party) : Type 0 where
 
 -- what holds of the open end x at this endpoint; of a peer at neither host nothing is known
 pub record IsSoundParty (ends : Endpoint → Party) (a : Endpoint) (x : Party) : Type 0 where
-  -- it is a client's or the server's by its address
+  -- its address is that of its kind
   pub at_home : host_of a ≡ home x.client
   pub positive : 0 < x.size
-  -- without a peer nothing has begun
+  -- without a peer the transfer has not begun
   pub no_peer : x.peer ≡ None → (x.number ≡ 0) × (x.done ≡ false) × (x.sender ≡ false → x.text ≡ [])
   -- a client's peer is an end of the server that serves it
   pub serving : x.client ≡ true → (p : Endpoint) → x.peer ≡ Some p →
       (host_of p ≡ At_server) × IsServing a x (ends p)
   -- an end of the server has a peer
   pub has_peer : x.client ≡ false → (p : Endpoint) × (x.peer ≡ Some p)
-  -- which is a client that asked for it
+  -- and the peer is a client that sent the request
   pub asked : x.client ≡ false → (p : Endpoint) → x.peer ≡ Some p → host_of p ≢ Elsewhere →
       HasAsked x (ends p)
   -- an end that was opened without options has blocks of 512 bytes
   pub plain : x.client ≡ false → x.plain ≡ true → x.size ≡ DEFAULT_BLOCK
-  -- a server's sender that was opened with options begins once its peer took it
+  -- a server's sender that was opened with options begins after its peer has it as its own peer
   pub begun : x.client ≡ false → x.sender ≡ true → x.plain ≡ false → 1 ≤ x.number →
       (p : Endpoint) → x.peer ≡ Some p → host_of p ≢ Elsewhere → (ends p).peer ≡ Some a
   -- a receiver has blocks of its peer's text
   pub received : x.sender ≡ false → (p : Endpoint) → x.peer ≡ Some p → host_of p ≢ Elsewhere →
       HasReceived x (ends p)
-  -- the peer of a sender that is done took it and is done
+  -- the peer of a sender that is done has it as its own peer, and is done
   pub ended : x.sender ≡ true → x.done ≡ true → (p : Endpoint) → x.peer ≡ Some p →
       host_of p ≢ Elsewhere → ((ends p).peer ≡ Some a) × ((ends p).done ≡ true)
 
--- every open end is sound, and what the two hosts sent is true
+-- every open end is sound, and every datagram from the two hosts is true of its sender
 pub record Holds (m : Machine) : Type 0 where
   pub ends : (a : Endpoint) → (m.party a).is_open ≡ true → IsSoundParty m.party a (m.party a)
   pub told : (d : Message) → Contains m.sent d → host_of d.from ≢ Elsewhere →

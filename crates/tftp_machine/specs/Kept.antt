@@ -1,11 +1,13 @@
--- How what a world shows is kept, by more rules: those of one end, an opening, a datagram.
-use Rattle.std.specs.Prelude.{◌≡◌, ℕ, ◌+◌, false, List, [], ◌∷◌, ◌++◌, length, slice_get, slice_set, Some}
+-- Ends and datagrams are shown again after a step of one end, an opening or a datagram.
+use Rattle.std.specs.Prelude.{◌≡◌, ℕ, ◌+◌, false, List, [], ◌∷◌, ◌++◌, length, slice_get, slice_set}
+use Rattle.std.specs.Prelude.{Some}
 use Rattle.tftp_machine.specs.Machine.{Message, nobody}
 use Rattle.tftp_machine.specs.Rules.{Rule, actor, MayAct, packets, party_after}
-use Rattle.tftp_machine.specs.Shows.{EndView, party_of, Matches, IsShownAt, IsShownWithin, ActInTurn, party_then, sent_by, Opens, Speaks, AsksAnew}
+use Rattle.tftp_machine.specs.Shows.{EndView, party_of, Matches, IsShownAt, IsShownWithin}
+use Rattle.tftp_machine.specs.Shows.{ActInTurn, party_then, sent_by, Opens, Speaks, AsksAnew}
 
--- how one end handles a datagram or a timeout is shown again, if rules of that end give it that
--- may act one after another by what is told of it and by what was sent
+-- a step of one end is shown, if it is the result of rules of that end that may act in sequence, by
+-- the view of the end and the datagrams sent
 abbrev pub EndsGoOn : Type 0
 EndsGoOn =
     (first : List Rule) (views : List EndView) (messages : List Message) (k : ℕ) (e f : EndView)
@@ -13,9 +15,10 @@ EndsGoOn =
     IsShownAt first views messages → slice_get views k ≡ Some e → e.failed ≡ false →
     ActInTurn rules e.address messages (party_of e) →
     f.address ≡ e.address → f.request ≡ e.request → Matches f (party_then rules (party_of e)) →
-    IsShownWithin (length rules) first (slice_set views k f) (messages ++ sent_by rules (party_of e))
+    IsShownWithin (length rules) first (slice_set views k f)
+    (messages ++ sent_by rules (party_of e))
 
--- an end that a rule opens at the next port is shown, where no open end answers its request already
+-- an end that a rule opens at the next port is shown, if no open end answers its request
 abbrev pub EndsOpen : Type 0
 EndsOpen =
     (first : List Rule) (views : List EndView) (messages : List Message) (f : EndView)

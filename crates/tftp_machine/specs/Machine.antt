@@ -1,5 +1,6 @@
 -- The guarded machine: the datagrams that were ever sent, and the ends of all transfers.
-use Rattle.std.specs.Prelude.{ℕ, ◌==◌, nat_eq, if◌then◌else◌, Bool, false, List, [], ◌∷◌, Option, None}
+use Rattle.std.specs.Prelude.{ℕ, ◌==◌, nat_eq, if◌then◌else◌, Bool, false, List, [], ◌∷◌, Option}
+use Rattle.std.specs.Prelude.{None}
 use Rattle.std.specs.Cmp.Lexicographic.{pointwise}
 use Rattle.tftp_negotiate.specs.declared.limits.TheConstants.{DEFAULT_BLOCK}
 use Rattle.tftp_wire.specs.declared.mode.Mode.{Mode}
@@ -31,17 +32,20 @@ client_ip = 10 ∷ 0 ∷ 0 ∷ 2 ∷ []
 
 -- the host of this address
 abbrev pub host_at : List ℕ → Host
-host_at ip = if is_same_ip ip server_ip then At_server else if is_same_ip ip client_ip then At_client else Elsewhere
+host_at ip =
+    if is_same_ip ip server_ip then At_server
+    else if is_same_ip ip client_ip then At_client else Elsewhere
 
 -- the host of this endpoint
 unfoldable pub host_of : Endpoint → Host
 host_of e = host_at e.ip
 
--- where the server takes requests (RFC 1350, section 4)
+-- the server's request port (RFC 1350, section 4)
 abbrev pub request_port : Endpoint
 request_port = record { ip = server_ip; port = 69 }
 
--- what a datagram says, as far as the machine goes: the whole request, and of an OACK the block size that it gives
+-- the packet of a datagram, as the machine models it: the whole request, and the block size of an
+-- OACK
 pub data Packet : Type 0 where
   Request : (write : Bool) → WireRequest → Packet
   Data : (block : ℕ) → (bytes : List ℕ) → Packet
@@ -49,7 +53,7 @@ pub data Packet : Type 0 where
   Oack : (size : ℕ) → Packet
   Error : Packet
 
--- a datagram on its way
+-- a datagram with its sender and its destination
 pub record Message : Type 0 where
   pub from : Endpoint
   pub to : Endpoint
@@ -66,25 +70,25 @@ pub record Party : Type 0 where
   -- a server's end that was opened without options
   pub plain : Bool
   pub mode : Mode
-  -- what a client asked, or what opened a server's end
+  -- the request that a client sent, or that opened a server's end
   pub request : WireRequest
   pub peer : Option Endpoint
   -- the block size, in bytes
   pub size : ℕ
-  -- the newest block that it sent or took
+  -- the number of the newest block that it sent or stored
   pub number : ℕ
   -- it completed
   pub done : Bool
-  -- it ended otherwise
+  -- it ended and did not complete
   pub failed : Bool
-  -- a sender's wire text, or what a receiver took of it
+  -- a sender's wire text, or the part that a receiver has stored
   pub text : List ℕ
 
 -- no request
 abbrev pub no_request : WireRequest
 no_request = record { name = []; mode = Octet; options = [] }
 
--- what stands at an endpoint that no end has opened
+-- the party at an endpoint where no end was opened
 abbrev pub nobody : Party
 nobody =
     record {

@@ -1,11 +1,12 @@
--- What was sent before an end of the guarded machine came to be what it is.
+-- The datagrams that were sent, by the states of the ends of the guarded machine.
 use Rattle.std.specs.Prelude.{◌≡◌, ◌≢◌, ◌≤◌, true, false, not, List, Some}
 use Rattle.std.specs.List.{Contains}
 use Rattle.tftp_file.specs.Block.{block_count}
-use Rattle.tftp_machine.specs.Machine.{Endpoint, Elsewhere, host_of, request_port, Request, Ack, Oack, Message, Party, Machine}
+use Rattle.tftp_machine.specs.Machine.{Endpoint, Elsewhere, host_of, request_port, Request, Ack}
+use Rattle.tftp_machine.specs.Machine.{Oack, Message, Party, Machine}
 use Rattle.tftp_machine.specs.Rules.{message}
 
--- what was sent, by what the end x at this endpoint is
+-- the datagrams that were sent, by the state of the end x at this endpoint
 pub record IsRecorded (sent : List Message) (a : Endpoint) (x : Party) : Type 0 where
   -- the peer of a server's end sent the request that it answers
   pub requested : x.client ≡ false → (p : Endpoint) → x.peer ≡ Some p →
@@ -13,14 +14,14 @@ pub record IsRecorded (sent : List Message) (a : Endpoint) (x : Party) : Type 0 
   -- a server's end that was opened with options sent its OACK
   pub oack : x.client ≡ false → x.plain ≡ false → (p : Endpoint) → x.peer ≡ Some p →
       Contains sent (message a p (Oack x.size))
-  -- if it sends and began, its peer sent ACK 0
+  -- if it is a sender that has begun, its peer sent ACK 0
   pub begun : x.client ≡ false → x.sender ≡ true → x.plain ≡ false → 1 ≤ x.number →
       (p : Endpoint) → x.peer ≡ Some p → Contains sent (message p a (Ack 0))
   -- a sender that is done has its last block acknowledged
   pub ended : x.sender ≡ true → x.done ≡ true → (p : Endpoint) → x.peer ≡ Some p →
       Contains sent (message p a (Ack (block_count x.text x.size)))
 
--- ACK 0 comes from a server's end opened plainly, or from a client that took an OACK of that peer
+-- ACK 0 is sent by a server's end opened without options, or by a client with an OACK of that peer
 abbrev pub IsFirstAck : List Message → Endpoint → Party → Endpoint → Type 0
 IsFirstAck sent y x p =
     (x.client ≡ false → x.plain ≡ true)

@@ -1,25 +1,31 @@
--- What may happen in the guarded machine: any rule may act whenever its guard holds.
-use Rattle.std.specs.Prelude.{◌≡◌, ℕ, ◌+◌, ◌<◌, ◌≤◌, Bool, true, false, not, nat_lt, if◌then◌else◌, List, [], ◌∷◌, ◌++◌, length, None, Some, ◌⊎◌}
+-- The rules of the guarded machine: a rule may act whenever its guard holds.
+use Rattle.std.specs.Prelude.{◌≡◌, ℕ, ◌+◌, ◌<◌, ◌≤◌, Bool, true, false, not, nat_lt, if◌then◌else◌}
+use Rattle.std.specs.Prelude.{List, [], ◌∷◌, ◌++◌, length, None, Some, ◌⊎◌}
 use Rattle.std.specs.List.{Contains}
 use Rattle.tftp_negotiate.specs.declared.limits.TheConstants.{DEFAULT_BLOCK}
 use Rattle.tftp_wire.specs.declared.packet.Request.{Request as WireRequest}
 use Rattle.tftp_file.specs.Block.{block, block_count, Fits}
-use Rattle.tftp_machine.specs.Machine.{Endpoint, At_server, At_client, Elsewhere, host_of, request_port, Packet, Request, Data, Ack, Oack, Error, Message, Party, nobody, Machine, with_end}
+use Rattle.tftp_machine.specs.Machine.{Endpoint, At_server, At_client, Elsewhere, host_of}
+use Rattle.tftp_machine.specs.Machine.{request_port, Packet, Request, Data, Ack, Oack, Error}
+use Rattle.tftp_machine.specs.Machine.{Message, Party, nobody, Machine, with_end}
 pub use Rattle.tftp_machine.specs.Machine.{start}
 
--- what may happen: `at` is the endpoint of the end that acts, and `peer` the other's
+-- the rules: `at` is the endpoint of the acting end, and `peer` that of the other end
 pub data Rule : Type 0 where
   -- a client opens and sends its request (RFC 1350, section 4)
   Asks : (at : Endpoint) (write : Bool) → WireRequest → (text : List ℕ) → Rule
   -- a request opens an end at the server, which answers by DATA 1 or ACK 0 (RFC 1350, section 4)
   Opens_plainly : (at peer : Endpoint) (write : Bool) → WireRequest → (text : List ℕ) → Rule
-  -- a request opens an end at the server, which answers by an OACK (RFC 2347, "Negotiation Protocol")
-  Opens_with : (at peer : Endpoint) (write : Bool) → WireRequest → (text : List ℕ) → (size : ℕ) → Rule
-  -- a waiting client takes an OACK, and answers by DATA 1 or ACK 0 (RFC 2347, "Negotiation Protocol")
+  -- a request opens an end at the server, which answers by an OACK (RFC 2347, "Negotiation
+  -- Protocol")
+  Opens_with : (at peer : Endpoint) (write : Bool) → WireRequest → (text : List ℕ) → (size : ℕ)
+      → Rule
+  -- a waiting client accepts an OACK, and answers by DATA 1 or ACK 0 (RFC 2347, "Negotiation
+  -- Protocol")
   Takes_oack : (at peer : Endpoint) (size : ℕ) → Rule
-  -- a waiting writer takes ACK 0, and answers by DATA 1
+  -- a waiting writer accepts ACK 0, and answers by DATA 1
   Takes_ack : (at peer : Endpoint) → Rule
-  -- a waiting reader takes the peer that sent DATA 1, and stores nothing yet
+  -- a waiting reader accepts the sender of DATA 1 as its peer, and stores nothing yet
   Takes_data : (at peer : Endpoint) → (bytes : List ℕ) → Rule
   -- a receiver stores the next block and acknowledges it (RFC 1350, section 2)
   Appends : (at peer : Endpoint) → (bytes : List ℕ) → Rule
@@ -27,18 +33,18 @@ pub data Rule : Type 0 where
   Sends_next : (at peer : Endpoint) → Rule
   -- a sender whose last block is acknowledged is done (RFC 1350, section 6)
   Completes : (at peer : Endpoint) → Rule
-  -- an end gives up
+  -- an end fails
   Fails : (at : Endpoint) → Rule
-  -- a receiver gives up when it has stored some of the next block
+  -- a receiver fails after it has stored some of the next block
   Fails_with : (at peer : Endpoint) → (bytes : List ℕ) → Rule
-  -- an ERROR goes from anywhere to anywhere (RFC 1350, section 7)
+  -- an ERROR is sent from any endpoint to any endpoint (RFC 1350, section 7)
   Says_error : (at to : Endpoint) → Rule
-  -- a datagram is sent again
+  -- a datagram is repeated
   Repeats : Message → Rule
-  -- somebody at neither host sends what he likes
+  -- another host sends any datagram
   Strays : Message → Rule
 
--- a datagram on its way
+-- a datagram
 abbrev pub message : Endpoint → Endpoint → Packet → Message
 message from to packet = record { from = from; to = to; packet = packet }
 
@@ -46,7 +52,7 @@ message from to packet = record { from = from; to = to; packet = packet }
 abbrev pub IsLive : Party → Type 0
 IsLive x = (x.is_open ≡ true) × (x.done ≡ false) × (x.failed ≡ false)
 
--- a client that waits for its first answer, which may come from any port of the server
+-- a client that waits for its first answer, from any port of the server
 abbrev pub Waits : Party → Endpoint → Type 0
 Waits x peer = IsLive x × (x.client ≡ true) × (x.peer ≡ None) × (host_of peer ≡ At_server)
 
@@ -59,27 +65,32 @@ IsNext sent x at peer bytes =
 -- the newest block of the sender x is acknowledged
 abbrev pub IsAcked : List Message → Party → Endpoint → Endpoint → Type 0
 IsAcked sent x at peer =
-    IsLive x × (x.sender ≡ true) × (x.peer ≡ Some peer) × Contains sent (message peer at (Ack x.number))
+    IsLive x × (x.sender ≡ true) × (x.peer ≡ Some peer)
+    × Contains sent (message peer at (Ack x.number))
 
--- a new end at the server has a text only if it sends, and one that can be numbered
+-- a new end at the server has a text only if it sends; the blocks of the text can be numbered
 abbrev pub HasText : Bool → List ℕ → ℕ → Type 0
 HasText true text size = text ≡ []
 HasText false text size = Fits text size
 
--- when the rule may act, where these were sent and x is the end that acts
+-- when the rule may act, by the datagrams sent and the acting end x
 abbrev pub MayAct : Rule → List Message → Party → Type 0
 MayAct (Asks at write request text) sent x =
     (x.is_open ≡ false) × (host_of at ≡ At_client) × (write ≡ false → text ≡ [])
 MayAct (Opens_plainly at peer write request text) sent x =
     (x.is_open ≡ false) × (host_of at ≡ At_server)
-    × Contains sent (message peer request_port (Request write request)) × HasText write text DEFAULT_BLOCK
+    × Contains sent (message peer request_port (Request write request))
+    × HasText write text DEFAULT_BLOCK
 MayAct (Opens_with at peer write request text size) sent x =
     (x.is_open ≡ false) × (host_of at ≡ At_server)
-    × Contains sent (message peer request_port (Request write request)) × HasText write text size × (0 < size)
+    × Contains sent (message peer request_port (Request write request)) × HasText write text size
+    × (0 < size)
 MayAct (Takes_oack at peer size) sent x =
-    Waits x peer × Contains sent (message peer at (Oack size)) × (x.sender ≡ true → Fits x.text size)
+    Waits x peer × Contains sent (message peer at (Oack size))
+    × (x.sender ≡ true → Fits x.text size)
 MayAct (Takes_ack at peer) sent x =
-    Waits x peer × (x.sender ≡ true) × Contains sent (message peer at (Ack 0)) × Fits x.text DEFAULT_BLOCK
+    Waits x peer × (x.sender ≡ true) × Contains sent (message peer at (Ack 0))
+    × Fits x.text DEFAULT_BLOCK
 MayAct (Takes_data at peer bytes) sent x =
     Waits x peer × (x.sender ≡ false) × Contains sent (message peer at (Data 1 bytes))
 MayAct (Appends at peer bytes) sent x = IsNext sent x at peer bytes
@@ -91,12 +102,19 @@ MayAct (Says_error at to) sent x = Unit {0}
 MayAct (Repeats old) sent x = Contains sent old
 MayAct (Strays stray) sent x = host_of stray.from ≡ Elsewhere
 
--- a client that asks
+-- a client after its request
 abbrev pub asking : Bool → WireRequest → List ℕ → Party
 asking write request text =
-    record nobody { is_open = true; client = true; sender = write; mode = request.mode; request = request; text = text }
+    record nobody {
+      is_open = true;
+      client = true;
+      sender = write;
+      mode = request.mode;
+      request = request;
+      text = text;
+    }
 
--- a server's end, as it opens
+-- a server's end at its opening
 abbrev pub opened : Bool → Endpoint → Bool → WireRequest → List ℕ → ℕ → ℕ → Party
 opened plain peer write request text size number =
     record nobody {
@@ -111,15 +129,16 @@ opened plain peer write request text size number =
       text = text;
     }
 
--- a client that took its peer and the size
+-- a client after it has accepted a peer and a block size
 abbrev pub taken : Party → Endpoint → ℕ → Party
 taken x peer size = record x { peer = Some peer; size = size; number = if x.sender then 1 else 0 }
 
--- a receiver that stored its next block
+-- a receiver after it has stored the next block
 abbrev pub appended : Party → List ℕ → Party
-appended x bytes = record x { number = x.number + 1; done = nat_lt (length bytes) x.size; text = x.text ++ bytes }
+appended x bytes =
+    record x { number = x.number + 1; done = nat_lt (length bytes) x.size; text = x.text ++ bytes }
 
--- where the end that acts is
+-- the endpoint of the acting end
 abbrev pub actor : Rule → Endpoint
 actor (Asks at write request text) = at
 actor (Opens_plainly at peer write request text) = at
@@ -136,11 +155,13 @@ actor (Says_error at to) = at
 actor (Repeats old) = old.from
 actor (Strays stray) = stray.from
 
--- the end that acts, after the rule
+-- the acting end, after the rule
 abbrev pub party_after : Rule → Party → Party
 party_after (Asks at write request text) x = asking write request text
-party_after (Opens_plainly at peer write request text) x = opened true peer write request text DEFAULT_BLOCK (if write then 0 else 1)
-party_after (Opens_with at peer write request text size) x = opened false peer write request text size 0
+party_after (Opens_plainly at peer write request text) x =
+    opened true peer write request text DEFAULT_BLOCK (if write then 0 else 1)
+party_after (Opens_with at peer write request text size) x =
+    opened false peer write request text size 0
 party_after (Takes_oack at peer size) x = taken x peer size
 party_after (Takes_ack at peer) x = taken x peer DEFAULT_BLOCK
 party_after (Takes_data at peer bytes) x = taken x peer DEFAULT_BLOCK
@@ -153,7 +174,7 @@ party_after (Says_error at to) x = x
 party_after (Repeats old) x = x
 party_after (Strays stray) x = x
 
--- what the rule sends, where the end that acts was x
+-- the datagrams that the rule sends, if the acting end was x
 abbrev pub packets : Rule → Party → List Message
 packets (Asks at write request text) x = message at request_port (Request write request) ∷ []
 packets (Opens_plainly at peer write request text) x =
@@ -186,7 +207,8 @@ after r m =
     }
 
 -- this request of this client opened the end
-pub record IsOpenedBy (x : Party) (peer : Endpoint) (write : Bool) (request : WireRequest) : Type 0 where
+pub record IsOpenedBy (x : Party) (peer : Endpoint) (write : Bool)
+    (request : WireRequest) : Type 0 where
   pub is_open : x.is_open ≡ true
   pub server : x.client ≡ false
   pub sender : x.sender ≡ not write
@@ -196,21 +218,21 @@ pub record IsOpenedBy (x : Party) (peer : Endpoint) (write : Bool) (request : Wi
 -- every end that this request of this client opened is done or failed
 abbrev pub AreOver : Machine → Endpoint → Bool → WireRequest → Type 0
 AreOver m peer write request =
-    (a : Endpoint) → IsOpenedBy (m.party a) peer write request → ((m.party a).done ≡ true) ⊎ ((m.party a).failed ≡ true)
+    (a : Endpoint) → IsOpenedBy (m.party a) peer write request
+    → ((m.party a).done ≡ true) ⊎ ((m.party a).failed ≡ true)
 
--- a request that is repeated while its transfer is open opens nothing: it opens an end only where
--- those that it opened before are over
+-- a request opens an end only if every end that it opened before is done or failed
 abbrev pub OpensAnew : Rule → Machine → Type 0
 OpensAnew (Opens_plainly at peer write request text) m = AreOver m peer write request
 OpensAnew (Opens_with at peer write request text size) m = AreOver m peer write request
 OpensAnew r m = Unit {0}
 
--- each rule may act when its turn comes
+-- each rule may act in its turn
 abbrev pub IsLegal : List Rule → Machine → Type 0
 IsLegal [] m = Unit {0}
 IsLegal (r ∷ rs) m = Guard r m × OpensAnew r m × IsLegal rs (after r m)
 
--- the rules, one after another
+-- the machine, after the rules
 abbrev pub run : List Rule → Machine → Machine
 run [] m = m
 run (r ∷ rs) m = run rs (after r m)

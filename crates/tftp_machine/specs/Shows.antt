@@ -1,5 +1,6 @@
--- What a world of ends and datagrams shows of the guarded machine.
-use Rattle.std.specs.Prelude.{◌≡◌, ℕ, ◌+◌, ◌≤◌, Bool, true, false, not, List, [], ◌∷◌, ◌++◌, length, slice_get, Option, Some}
+-- Which ends and datagrams the guarded machine shows.
+use Rattle.std.specs.Prelude.{◌≡◌, ℕ, ◌+◌, ◌≤◌, Bool, true, false, not, List, [], ◌∷◌, ◌++◌, length}
+use Rattle.std.specs.Prelude.{slice_get, Option, Some}
 use Rattle.tftp_wire.specs.Spelling.{Spells}
 use Rattle.tftp_wire.specs.declared.mode.Mode.{Mode}
 use Rattle.tftp_wire.specs.declared.packet.Packet.{Packet as WirePacket}
@@ -7,9 +8,10 @@ use Rattle.tftp_wire.specs.declared.packet.Packet.TheVariants.{Read, Write}
 use Rattle.tftp_wire.specs.declared.packet.Request.{Request as WireRequest}
 use Rattle.tftp_file.specs.Block.{IsBeginningOf}
 use Rattle.tftp_machine.specs.Machine.{Endpoint, Message, Party, no_request, Machine, start}
-use Rattle.tftp_machine.specs.Rules.{Rule, Asks, Opens_plainly, Opens_with, Says_error, Repeats, Strays, actor, MayAct, packets, party_after, IsLegal, run}
+use Rattle.tftp_machine.specs.Rules.{Rule, Asks, Opens_plainly, Opens_with, Says_error, Repeats}
+use Rattle.tftp_machine.specs.Rules.{Strays, actor, MayAct, packets, party_after, IsLegal, run}
 
--- what is to be told of an end that was opened
+-- the view of an end that was opened
 pub record EndView : Type 0 where
   pub address : Endpoint
   pub client : Bool
@@ -22,12 +24,12 @@ pub record EndView : Type 0 where
   pub done : Bool
   -- it is closed and not complete
   pub failed : Bool
-  -- a sender's wire text; of a receiver what it stored, as it travels, and the text held back
+  -- a sender's wire text; at a receiver the wire text of what it stored, and the text held back
   pub text : List ℕ
   -- the bytes of the request that an open end of the server answers
   pub request : List ℕ
 
--- the party with all that is told of the end: not whether it was opened plainly, nor its request
+-- the party of a view, which has neither `plain` nor a decoded request
 abbrev pub party_of : EndView → Party
 party_of e =
     record {
@@ -45,7 +47,7 @@ party_of e =
       text = e.text;
     }
 
--- what is to be told of the party x at this endpoint, where these bytes asked for it
+-- the view of the party x at this endpoint, with the bytes of its request
 abbrev pub view_of : Endpoint → List ℕ → Party → EndView
 view_of a request x =
     record {
@@ -62,7 +64,7 @@ view_of a request x =
       request = request;
     }
 
--- the end tells of this party; of a receiver that failed only a beginning of its text
+-- the view is that of this party; of a failed receiver it has only a beginning of the text
 pub record Matches (e : EndView) (x : Party) : Type 0 where
   pub is_open : x.is_open ≡ true
   pub client : x.client ≡ e.client
@@ -91,8 +93,7 @@ answered_by x = requested (not x.sender) x.request
 abbrev pub IsInService : EndView → Type 0
 IsInService e = (e.client ≡ false) × (e.done ≡ false) × (e.failed ≡ false)
 
--- the ends by their places, of which place k has port 1024 + k, and all that was sent,
--- are those of the machine
+-- the views, of which that at index k has port 1024 + k, and the messages are those of the machine
 pub record Shows (views : List EndView) (messages : List Message) (m : Machine) : Type 0 where
   pub sent : m.sent ≡ messages
   pub ends : (k : ℕ) (e : EndView) → slice_get views k ≡ Some e →
@@ -102,7 +103,7 @@ pub record Shows (views : List EndView) (messages : List Message) (m : Machine) 
   pub only : (a : Endpoint) → (m.party a).is_open ≡ true →
       (k : ℕ) × (e : EndView) × (slice_get views k ≡ Some e) × (e.address ≡ a)
 
--- the rules are legal from the start, and they are those of the machine then
+-- the rules are legal from the start, and the machine after them shows these
 abbrev pub IsShownAt : List Rule → List EndView → List Message → Type 0
 IsShownAt rules views messages = IsLegal rules start × Shows views messages (run rules start)
 
@@ -110,22 +111,23 @@ IsShownAt rules views messages = IsLegal rules start × Shows views messages (ru
 abbrev pub IsShown : List EndView → List Message → Type 0
 IsShown views messages = (rules : List Rule) × IsShownAt rules views messages
 
--- there are such that go on from these by so many at most
+-- there are such rules that extend these by at most `most`
 abbrev pub IsShownWithin : ℕ → List Rule → List EndView → List Message → Type 0
 IsShownWithin most rules views messages =
     (more : List Rule) × (length more ≤ most) × IsShownAt (rules ++ more) views messages
 
--- the rules may act one after another at this endpoint, where x is the end, by what was sent before
+-- the rules may act in sequence at the endpoint of the end x, by the datagrams sent before
 abbrev pub ActInTurn : List Rule → Endpoint → List Message → Party → Type 0
 ActInTurn [] at sent x = Unit {0}
-ActInTurn (r ∷ rs) at sent x = (actor r ≡ at) × MayAct r sent x × ActInTurn rs at sent (party_after r x)
+ActInTurn (r ∷ rs) at sent x =
+    (actor r ≡ at) × MayAct r sent x × ActInTurn rs at sent (party_after r x)
 
--- what the end is then
+-- the end after them
 abbrev pub party_then : List Rule → Party → Party
 party_then [] x = x
 party_then (r ∷ rs) x = party_then rs (party_after r x)
 
--- what they send
+-- the datagrams that they send
 abbrev pub sent_by : List Rule → Party → List Message
 sent_by [] x = []
 sent_by (r ∷ rs) x = packets r x ++ sent_by rs (party_after r x)
@@ -150,13 +152,13 @@ pub record IsAnswering (e : EndView) (peer : Endpoint) (packet : WirePacket) : T
   pub peer_is : e.peer ≡ Some peer
   pub spells : Spells packet e.request
 
--- none of the ends does
+-- none of the ends answers it
 abbrev pub NoneAnswers : List EndView → Endpoint → WirePacket → Type 0
 NoneAnswers views peer packet =
     (k : ℕ) (e : EndView) → slice_get views k ≡ Some e → IsAnswering e peer packet → ⊥
 
--- a rule that opens an end at the server does so by a request that these bytes spell, and that none
--- of the ends answers
+-- a rule that opens an end at the server does so by a request that these bytes spell and that no
+-- end answers
 abbrev pub AsksAnew : Rule → List ℕ → List EndView → Type 0
 AsksAnew (Opens_plainly at peer write request text) bytes views =
     Spells (requested write request) bytes × NoneAnswers views peer (requested write request)

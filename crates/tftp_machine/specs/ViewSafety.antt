@@ -13,21 +13,22 @@ IsAmong views e = (k : ℕ) × (slice_get views k ≡ Some e)
 abbrev pub IsAt : List EndView → Endpoint → EndView → Type 0
 IsAt views a e = IsAmong views e × (e.address ≡ a)
 
--- the two ends of a transfer agree, a receiver's text is its peer's, and a sender ends last;
--- of a peer at neither host nothing is claimed
+-- the two ends of a transfer have one block size, a receiver's text is its peer's, and a sender is
+-- done last; nothing is claimed of a peer at neither host
 pub record IsSafeViews (views : List EndView) : Type 0 where
   -- no two ends share an endpoint
   pub unique : (a : Endpoint) (x y : EndView) → IsAt views a x → IsAt views a y → x ≡ y
   -- an established transfer has one block size
   pub same_size : (x y : EndView) → IsAmong views x → IsAmong views y →
       x.peer ≡ Some y.address → y.peer ≡ Some x.address → x.size ≡ y.size
-  -- a receiver without a peer has nothing
+  -- a receiver without a peer has no text
   pub is_empty : (x : EndView) → IsAmong views x → x.sender ≡ false → x.peer ≡ None → x.text ≡ []
-  -- what a receiver has is a beginning of its peer's text
+  -- a receiver's text is a beginning of its peer's text
   pub is_beginning : (x : EndView) (p : Endpoint) → IsAmong views x → x.sender ≡ false →
       x.peer ≡ Some p → host_of p ≢ Elsewhere →
-      (y : EndView) × IsAt views p y × (y.sender ≡ true) × (y.mode ≡ x.mode) × IsBeginningOf x.text y.text
-  -- a receiver that is done has a peer, and all of its text
+      (y : EndView) × IsAt views p y × (y.sender ≡ true) × (y.mode ≡ x.mode)
+      × IsBeginningOf x.text y.text
+  -- a receiver that is done has a peer, and all of the peer's text
   pub is_whole : (x : EndView) → IsAmong views x → x.sender ≡ false → x.done ≡ true →
       (p : Endpoint) × (x.peer ≡ Some p)
       × (host_of p ≢ Elsewhere →
@@ -38,7 +39,7 @@ pub record IsSafeViews (views : List EndView) : Type 0 where
       × (host_of p ≢ Elsewhere →
       (y : EndView) × IsAt views p y × (y.peer ≡ Some x.address) × (y.done ≡ true))
 
--- where only the two hosts have spoken, every peer is at one of them
+-- if only the two hosts have sent datagrams, every peer is at one of them
 abbrev pub PeersAtHome : List EndView → List Message → Type 0
 PeersAtHome views messages =
     ((d : Message) → Contains messages d → host_of d.from ≢ Elsewhere) →

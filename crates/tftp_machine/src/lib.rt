@@ -1,8 +1,8 @@
 //! A machine of guarded rules for the transfers of one TFTP server and its clients, over a network
-//! that loses, repeats and reorders datagrams, and what every run of it keeps.
+//! that loses, repeats and reorders datagrams, and the invariants of every run.
 //!
-//! It has definitions and laws, and one call, [`is_foreign`]. What plays an end or a whole world is
-//! shown by the machine, and so takes over what the machine keeps.
+//! It has definitions and laws, and one function, [`is_foreign`]. Ends, or a whole world of them,
+//! that the machine shows have its invariants.
 //!
 //! Begin with [`laws::every_run_is_safe`].
 #![tactic(auto)]

@@ -1,4 +1,4 @@
--- An endpoint is at neither host where it is at none of the two.
+-- An endpoint with neither address is at neither host.
 use Rattle.std.proofs.Common.{◌≡◌, Bool, ap, sym, ◌∙◌, subst}
 use Rattle.std.specs.Prelude.{IsTrue, ◌&&◌, ◌↔◌, not}
 use Rattle.tftp_machine.specs.Machine.{Elsewhere, host_of, client_ip, is_same_ip}
