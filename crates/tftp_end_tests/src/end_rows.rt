@@ -24,7 +24,7 @@ const ACK_1: &[u8] = b"\x00\x04\x00\x01";
 
 const ACK_2: &[u8] = b"\x00\x04\x00\x02";
 
-/// A client that has asked for a file in octet, without options.
+/// A client that has sent a read request in octet, without options.
 fn get(rt: &impl Abort, alloc: Global, name: &[u8]) -> OpenEnd<MemSource> {
     reader(rt, alloc, name, Mode::Octet, &Asked::default(), &CONFIG)
 }
@@ -36,7 +36,7 @@ fn asks_by_a_request(rt: HostRuntime) {
     end.finish();
 }
 
-/// A client that has asked knows no peer and no size.
+/// The record of a client after its request: no peer, and the default block size.
 const ASKED: Record = Record {
     side: Side::ClientRead,
     peer: None,
@@ -54,7 +54,7 @@ fn has_no_peer_before_the_first_answer(rt: HostRuntime) {
     end.finish();
 }
 
-/// Names that no request has: empty, with a zero byte, and too long for 512 bytes.
+/// Names that are refused: empty, with a zero byte, and too long for 512 bytes.
 const WRONG_NAMES: [&[u8]; 3] = [b"", b"a\x00b", &[b'a'; 504]];
 
 #[test]
@@ -73,8 +73,9 @@ fn sender(rt: &impl Abort, alloc: Global, file: &[u8]) -> OpenEnd<MemSource> {
     end
 }
 
-/// A file of one full block needs an empty DATA at its end (RFC 1350, section 6); a repeated ACK
-/// gets nothing (RFC 1123, section 4.2.3.1); a stranger gets ERROR 5 and changes nothing.
+/// A file of one full block ends with an empty DATA (RFC 1350, section 6). A repeated ACK is
+/// ignored (RFC 1123, section 4.2.3.1). A datagram from another endpoint is answered by ERROR 5,
+/// and changes nothing.
 #[test]
 fn sends_a_full_block(rt: HostRuntime) {
     let mut end = sender(&rt, rt.alloc(), &[b'x'; 512]);
@@ -94,8 +95,8 @@ fn a_closed_end_takes_nothing(rt: HostRuntime) {
     end.finish();
 }
 
-/// The client takes the port that answers, and acknowledges the last block after the commit; it
-/// answers the block again while it dallies (RFC 1350, sections 4 and 6).
+/// The peer is the port that answers. The client acknowledges the last block after the commit, and
+/// again while it dallies (RFC 1350, sections 4 and 6).
 #[test]
 fn receives_a_short_block(rt: HostRuntime) {
     let mut end = get(&rt, rt.alloc(), b"a");
@@ -106,7 +107,7 @@ fn receives_a_short_block(rt: HostRuntime) {
     end.finish();
 }
 
-/// It closes at its second timeout (RFC 1350, section 6).
+/// A dally closes at its second timeout (RFC 1350, section 6).
 #[test]
 fn dallies(rt: HostRuntime) {
     let mut end = get(&rt, rt.alloc(), b"a");
@@ -117,8 +118,8 @@ fn dallies(rt: HostRuntime) {
     end.finish();
 }
 
-/// On a timeout the request is sent again, to the request port; with the retries spent the end
-/// closes in silence, and never as complete.
+/// A timeout retransmits the request to the request port. Without a retry left the end closes
+/// without a datagram, and never as complete.
 #[test]
 fn gives_up_in_silence(rt: HostRuntime) {
     let mut end = get(&rt, rt.alloc(), b"a");
@@ -129,7 +130,7 @@ fn gives_up_in_silence(rt: HostRuntime) {
     end.finish();
 }
 
-/// RFC 1350, appendix I, and RFC 2347, "Negotiation Protocol", for code 8.
+/// The codes of RFC 1350, appendix I, and code 8 of RFC 2347, "Negotiation Protocol".
 const ERRORS: [(ErrorReply, u16, &str); 11] = [
     (ErrorReply::FileTooLarge, 0, "file too large"),
     (ErrorReply::ServerBusy, 0, "server busy"),
@@ -156,7 +157,7 @@ fn error_codes(rt: HostRuntime) {
     }
 }
 
-/// Outcomes, their numbers and the words that the programs print.
+/// Outcomes, their numbers and their words.
 const OUTCOMES: [(Outcome, u8, &str); 9] = [
     (Outcome::Complete, 1, "Complete"),
     (Outcome::TimedOut, 2, "TimedOut"),

@@ -1,19 +1,19 @@
-//! What a test expects. Each is a function: an `assert_eq!` is proved at its place of use, for two
-//! to three seconds of a processor each.
+//! Assertions of the tests. They are functions, because each `assert_eq!` in a test costs two to
+//! three seconds of its proof.
 
 ghost use Rattle.std.specs.Prelude.{◌≡◌, true};
 
 use std::fmt::Debug;
 use std::process::Abort;
 
-/// Ends the test unless it holds; `what` says what it is.
+/// Fails the test unless the condition holds; `what` names it.
 pub(crate) fn expect(rt: &impl Abort, holds: bool, what: &str)
     ensures { holds ≡ true }
 {
     assert!(rt; holds, "{what}");
 }
 
-/// Ends the test unless the value is the wanted one; `what` says what it is.
+/// Fails the test unless the value is the expected one; `what` names it.
 pub(crate) fn expect_equal<T: PartialEq + Debug>(rt: &impl Abort, value: &T, wanted: &T, what: &str)
     ensures { T.eq value.now wanted.now ≡ true }
 {

@@ -1,5 +1,5 @@
-//! Ends whose file fails in the midst of a transfer, in blocks of eight bytes (RFC 2348). The
-//! ERRORs are those of RFC 1350, section 5 and appendix I.
+//! Ends whose file fails during a transfer, in blocks of eight bytes (RFC 2348). The ERRORs are
+//! those of RFC 1350, section 5 and appendix I.
 
 ghost use Rattle.std.specs.Prelude.{◌≡◌, ◌<◌, false};
 ghost use Rattle.tftp_ends.specs.End.{is_sender};
@@ -13,10 +13,10 @@ use tftp_ends::{End, Endpoint, Outcome};
 use tftp_file::{FaultSource, Files, MemSink, MemSource};
 use tftp_wire::Mode;
 
-/// A request for blocks of eight bytes.
+/// A read request for blocks of eight bytes.
 const REQUEST: &[u8] = b"\x00\x01a\x00octet\x00blksize\x008\x00";
 
-/// The file of five blocks: four full ones, and one of four bytes.
+/// A file of five blocks: four full ones, and one of four bytes.
 const FILE: &[u8] = b"aaaaaaaabbbbbbbbccccccccddddddddeeee";
 
 /// The ACKs of the OACK and of the blocks after it.
@@ -29,7 +29,7 @@ const ACKS: [&[u8]; 6] = [
     b"\x00\x04\x00\x05",
 ];
 
-/// The blocks, as they are sent.
+/// The blocks, as DATA.
 const DATA: [&[u8]; 5] = [
     b"\x00\x03\x00\x01aaaaaaaa",
     b"\x00\x03\x00\x02bbbbbbbb",
@@ -38,7 +38,8 @@ const DATA: [&[u8]; 5] = [
     b"\x00\x03\x00\x05eeee",
 ];
 
-/// An end that has agreed on the blocks, and a source of so many of the file's bytes.
+/// An end that has agreed on blocks of eight bytes, with a source that gives the first `give` bytes
+/// of the file and then ends or fails.
 fn faulty(
     rt: &impl Abort,
     alloc: Global,
@@ -52,7 +53,7 @@ fn faulty(
     sender(rt, alloc, Mode::Octet, &agreed, length, source)
 }
 
-/// An end of a source that may fail takes a datagram, and answers it by these bytes: how it closes.
+/// An end handles a datagram, and answers by these bytes. Returns how it closed.
 pub(crate) fn answers(
     rt: &impl Abort,
     alloc: Global,
@@ -73,8 +74,8 @@ pub(crate) fn answers(
     step.closed
 }
 
-/// An end that has sent so many blocks takes a datagram: its source gives no whole block for it,
-/// and ERROR 0 says that the file changed; its number stays.
+/// An end that has sent `sent` blocks handles a datagram, and its source does not give the whole
+/// next block. It sends ERROR 0 `file changed`, and its number stays.
 pub(crate) fn is_changed(
     rt: &impl Abort,
     alloc: Global,
@@ -93,7 +94,7 @@ pub(crate) fn is_changed(
     expect_equal(rt, &found, &wanted, "the blocks sent, and how it closed");
 }
 
-/// So many blocks are sent; where the next one is wanted, the file has changed.
+/// `sent` blocks are sent, and then the source does not give the next one.
 fn breaks_off(rt: &impl Abort, alloc: Global, file: &[u8], sent: usize, give: u64, fail: bool)
     requires { sent < 5 }
 {
@@ -104,7 +105,7 @@ fn breaks_off(rt: &impl Abort, alloc: Global, file: &[u8], sent: usize, give: u6
     is_changed(rt, alloc, end, files, CLIENT, ACKS[sent], sent);
 }
 
-/// The source ends, or fails, where a block would begin, or within it.
+/// The source ends or fails, at the start of a block or within it.
 fn breaks_off_in(rt: &impl Abort, alloc: Global, sent: usize)
     requires { sent < 5 }
 {
@@ -122,13 +123,13 @@ fn a_read_breaks_off_at_each_block(rt: HostRuntime) {
     }
 }
 
-/// A file of twenty bytes, of which a source gives sixteen: two whole blocks.
+/// A file of twenty bytes, of which the source gives sixteen: two whole blocks.
 #[test]
 fn a_read_of_twenty_bytes_breaks_off(rt: HostRuntime) {
     breaks_off(&rt, rt.alloc(), &FILE[..20], 2, 16, false);
 }
 
-/// An end that has agreed on the blocks, and takes a file.
+/// A server's end that has agreed on blocks of eight bytes, and receives.
 fn receiver(rt: &impl Abort, alloc: Global) -> End
     ensures { is_sender result.role.side ≡ false }
 {
@@ -138,7 +139,7 @@ fn receiver(rt: &impl Abort, alloc: Global) -> End
     end
 }
 
-/// A block is answered by these bytes.
+/// The end answers a block by these bytes. Returns how it closed.
 fn takes(
     rt: &impl Abort,
     alloc: Global,
@@ -159,7 +160,7 @@ fn takes(
     step.closed
 }
 
-/// So many blocks are stored; what the next one asks of the sink is refused.
+/// `stored` blocks are stored, and then the sink refuses the call for the next one.
 fn is_full(rt: &impl Abort, alloc: Global, stored: usize, next: &[u8])
     requires { stored < 5 }
 {
@@ -178,8 +179,8 @@ fn is_full(rt: &impl Abort, alloc: Global, stored: usize, next: &[u8])
     expect(rt, !sink.is_committed(), "they are not committed");
 }
 
-/// A block with bytes is appended first. An empty one, the last of a file of full blocks, asks for
-/// the commit alone.
+/// The sink refuses the append of a block with bytes. For an empty block, the last of a file of
+/// full blocks, it refuses the commit.
 #[test]
 fn a_write_is_refused_at_each_block(rt: HostRuntime) {
     for stored in 0..5 {

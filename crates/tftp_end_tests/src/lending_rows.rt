@@ -1,4 +1,4 @@
-//! The calls of an end that lend what goes out in place of appending it.
+//! The calls of an end that lend the datagram to send instead of appending it.
 
 use crate::expect::expect_equal;
 use crate::open_end::{OpenEnd, SERVER, reader};
@@ -29,12 +29,12 @@ const ACK_1: &[u8] = b"\x00\x04\x00\x01";
 
 const UNKNOWN_ID: &[u8] = b"\x00\x05\x00\x05unknown transfer id\x00";
 
-/// A client that has asked for the file `a`, and has no retry.
+/// A client that has sent a request for the file `a`, and has no retry.
 fn client(rt: &impl Abort, alloc: Global) -> OpenEnd<MemSource> {
     reader(rt, alloc, b"a", Mode::Octet, &Asked::default(), &NO_RETRY)
 }
 
-/// It lends these bytes for what is to be sent.
+/// The end lends these bytes.
 fn lends(rt: &impl Abort, open: &OpenEnd<MemSource>, outgoing: Outgoing, bytes: &[u8]) {
     expect_equal(
         rt,
@@ -44,7 +44,7 @@ fn lends(rt: &impl Abort, open: &OpenEnd<MemSource>, outgoing: Outgoing, bytes: 
     );
 }
 
-/// The last datagram that was sent is the request; a second call finds it there.
+/// The last datagram sent is the request.
 #[test]
 fn the_last_datagram_is_lent(rt: HostRuntime) {
     let client = client(&rt, rt.alloc());
@@ -64,7 +64,8 @@ fn an_ack_is_lent(rt: HostRuntime) {
     client.finish();
 }
 
-/// A stranger gets ERROR 5 (RFC 1350, section 4), and the request stays the last datagram.
+/// A datagram from another address is answered by ERROR 5 (RFC 1350, section 4), and the request
+/// stays the last datagram.
 #[test]
 fn an_error_to_a_stranger_is_lent(rt: HostRuntime) {
     let mut client = client(&rt, rt.alloc());
@@ -73,7 +74,7 @@ fn an_error_to_a_stranger_is_lent(rt: HostRuntime) {
     client.finish();
 }
 
-/// It gives up in silence, and stays closed.
+/// The end closes without a datagram, and stays closed.
 #[test]
 fn a_timeout_without_a_retry_lends_nothing(rt: HostRuntime) {
     let mut client = client(&rt, rt.alloc());
@@ -96,7 +97,7 @@ fn errors_are_appended(rt: HostRuntime) {
     expect_equal(&rt, &out.as_slice(), &wanted, "behind the old bytes");
 }
 
-/// Datagrams, and whether each is a packet.
+/// Datagrams, and whether each spells a packet.
 const DATAGRAMS: [(&[u8], bool); 4] = [
     (b"\x00\x05", false),
     (b"\x00\x05\x00\x01no\x00", true),

@@ -22,13 +22,13 @@ const ACK_2: &[u8] = b"\x00\x04\x00\x02";
 
 const NOT_NETASCII: &[u8] = b"\x00\x05\x00\x00not netascii\x00";
 
-/// A client that asks to read in netascii.
+/// A client that has sent a read request in netascii.
 fn client(rt: &impl Abort, alloc: Global, asked: &Asked) -> OpenEnd<MemSource> {
     reader(rt, alloc, b"a", Mode::Netascii, asked, &CONFIG)
 }
 
-/// DATA 1 of texts that are no netascii: a CR at the end, a CR before another byte than LF and NUL,
-/// an LF with no CR before it.
+/// DATA 1 of texts that are not valid netascii: a CR at the end, a CR before a byte other than LF
+/// and NUL, an LF without a CR before it.
 const WRONG: [&[u8]; 4] = [
     b"\x00\x03\x00\x01A\r",
     b"\x00\x03\x00\x01A\rB",
@@ -50,7 +50,7 @@ fn wrong_text_closes_a_receiver(rt: HostRuntime) {
     }
 }
 
-/// A client that has got seven letters and a CR as its first block of eight bytes.
+/// A client that has received seven letters and a CR as its first block of eight bytes.
 fn cut_behind_cr(rt: &impl Abort, alloc: Global) -> OpenEnd<MemSource> {
     let mut end = client(rt, alloc, &EIGHT);
     end.answers(rt, SERVER_END, OACK_8, ACK_0);
@@ -58,7 +58,7 @@ fn cut_behind_cr(rt: &impl Abort, alloc: Global) -> OpenEnd<MemSource> {
     end
 }
 
-/// The CR awaits its byte; all that is kept of datagrams is the ACK.
+/// The end keeps the CR, which awaits its byte, and one datagram, the ACK.
 #[test]
 fn a_receiver_keeps_an_ack_and_a_cr(rt: HostRuntime) {
     let end = cut_behind_cr(&rt, rt.alloc());
@@ -71,7 +71,7 @@ fn a_receiver_keeps_an_ack_and_a_cr(rt: HostRuntime) {
     end.finish();
 }
 
-/// Second blocks, their answers, and what is stored behind them: the byte behind the CR decides.
+/// Second blocks, their answers, and the bytes stored after them. The byte after the CR decides.
 const SECONDS: [(&[u8], &[u8], &[u8]); 4] = [
     (b"\x00\x03\x00\x02\nB", ACK_2, b"AAAAAAA\nB"),
     (b"\x00\x03\x00\x02\0", ACK_2, b"AAAAAAA\r"),
@@ -95,7 +95,7 @@ fn a_pair_is_cut_between_blocks(rt: HostRuntime) {
     }
 }
 
-/// A sender keeps its newest block, and no text.
+/// A sender keeps its newest DATA, and no text.
 #[test]
 fn a_sender_keeps_its_block(rt: HostRuntime) {
     let source = source_of(&rt, rt.alloc(), b"ABCDEFGHI", Mode::Octet);
@@ -109,11 +109,11 @@ fn a_sender_keeps_its_block(rt: HostRuntime) {
     end.finish();
 }
 
-/// A request to read in netascii, without options.
+/// A read request in netascii, without options.
 const RRQ_A: &[u8] = b"\x00\x01a\x00netascii\x00";
 
-/// A file is got in two blocks at most: what is stored after DATA 1 and at the end, and by how many
-/// datagrams.
+/// A read of a file of at most two blocks: how many bytes are stored after DATA 1, and how many
+/// datagrams it takes.
 fn is_got(rt: &impl Abort, alloc: Global, host: &[u8], first: usize, datagrams: u32) {
     let mut client = client(rt, alloc, &Asked::default());
     let mut server = sender_of(rt, alloc, RRQ_A, Mode::Netascii, host);
@@ -139,8 +139,8 @@ fn long_line() -> [u8; 512] {
     host
 }
 
-/// Five bytes of wire text are one block; 512 are one and an empty one; of 513 the CR of the last
-/// pair ends the first block.
+/// Wire text of 5 bytes has one block, and of 512 bytes a second, empty one. In that of 513 bytes
+/// the CR of the last pair ends the first block.
 #[test]
 fn files_travel_as_wire_text(rt: HostRuntime) {
     is_got(&rt, rt.alloc(), b"\r\nA", 3, 3);
@@ -148,7 +148,7 @@ fn files_travel_as_wire_text(rt: HostRuntime) {
     is_got(&rt, rt.alloc(), &long_line(), 511, 5);
 }
 
-/// A server's end answers a request to read an empty file by this datagram.
+/// A server's end answers a read request for an empty file by this datagram.
 fn is_answered(rt: &impl Abort, alloc: Global, request: &[u8], mode: Mode, answer: &[u8]) {
     let end = sender_of(rt, alloc, request, mode, b"");
     let found = (request, end.sent());
@@ -156,7 +156,7 @@ fn is_answered(rt: &impl Abort, alloc: Global, request: &[u8], mode: Mode, answe
     end.finish();
 }
 
-/// The length is told in octet alone: in netascii `tsize` is left out, and DATA 1 answers.
+/// The length is returned in octet only. In netascii `tsize` is ignored, and the answer is DATA 1.
 #[test]
 fn a_length_is_told_in_octet(rt: HostRuntime) {
     let octet = b"\x00\x01a\x00octet\x00tsize\x000\x00";

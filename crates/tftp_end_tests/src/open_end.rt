@@ -1,5 +1,4 @@
-//! An end that a test has opened, with its file, and what tests do with it: each call aborts where
-//! the end refuses.
+//! An end with its file, and the calls of the tests on it. A call aborts if the end refuses it.
 
 ghost use Rattle.std.specs.Prelude.{◌≡◌, false, IfOk};
 ghost use Rattle.tftp_ends.specs.End.{is_sender};
@@ -46,10 +45,10 @@ pub(crate) const EIGHT: Asked = Asked {
     tsize: None,
 };
 
-/// What a sink takes: more than any file of the tests has.
+/// The capacity of a sink: more bytes than any file of the tests has.
 const ROOM: u64 = 1_000_000;
 
-/// An end, its file, what it did last, and the datagram that it sent by that.
+/// An end, its file, its last step, and the datagram of that step.
 #[derive(Drop)]
 pub(crate) struct OpenEnd<S: Source + Drop> {
     end: End,
@@ -69,7 +68,7 @@ impl<S: Source + Drop> Model for OpenEnd<S> {
     ghost invariant = { λ e. AreFilesOf e.end.role.side e.files };
 }
 
-/// A client that has asked to read a file.
+/// A client that has sent a read request.
 pub(crate) fn reader(
     rt: &impl Abort,
     alloc: Global,
@@ -91,7 +90,7 @@ pub(crate) fn reader(
     }
 }
 
-/// No client asks to read so, and nothing is sent.
+/// A client refuses this read request, and sends nothing.
 pub(crate) fn is_bad_request(rt: &impl Abort, alloc: Global, name: &[u8], asked: &Asked) {
     let mut out = Vec::new(alloc);
     let refused = End::get(alloc, SERVER, name, Mode::Octet, asked, &CONFIG, &mut out);
@@ -100,7 +99,7 @@ pub(crate) fn is_bad_request(rt: &impl Abort, alloc: Global, name: &[u8], asked:
     expect_equal(rt, &found, &wanted, "a wrong request, and nothing is sent");
 }
 
-/// No client asks to write a file of this length.
+/// A client refuses a write request for a file of this length, and sends nothing.
 pub(crate) fn is_too_long(rt: &impl Abort, alloc: Global, asked: &Asked, length: u64) {
     let mut out = Vec::new(alloc);
     let refused = End::put(
@@ -118,7 +117,7 @@ pub(crate) fn is_too_long(rt: &impl Abort, alloc: Global, asked: &Asked, length:
     expect_equal(rt, &found, &wanted, "too long a file, and nothing is sent");
 }
 
-/// A client that has asked to write a file `n` of this length in octet.
+/// A client that has sent a write request for a file `n` of this length in octet.
 pub(crate) fn writer<S: Source + Drop>(
     rt: &impl Abort,
     alloc: Global,
@@ -147,7 +146,7 @@ pub(crate) fn writer<S: Source + Drop>(
     }
 }
 
-/// What a server agrees to of a request to read a file of this length.
+/// The options that a server agrees to for a read request, with a file of this length.
 pub(crate) fn agreed_of(rt: &impl Abort, request: &[u8], length: u64) -> Agreed {
     let Some(PacketRef::Read(asks)) = decode_packet(request) else {
         panic!(rt; "a request to read");
@@ -181,7 +180,7 @@ pub(crate) fn sender<S: Source + Drop>(
     }
 }
 
-/// No server's end sends a file of this length by these options, and nothing is sent.
+/// A server's end refuses to send a file of this length with these options, and sends nothing.
 pub(crate) fn is_too_long_to_serve(rt: &impl Abort, alloc: Global, agreed: &Agreed, length: u64) {
     let mut out = Vec::new(alloc);
     let mut files: Files<MemSource, MemSink> = Files::Source(source_of(
@@ -205,7 +204,7 @@ pub(crate) fn is_too_long_to_serve(rt: &impl Abort, alloc: Global, agreed: &Agre
     expect_equal(rt, &found, &wanted, "too long a file, and nothing is sent");
 }
 
-/// A server's end that sends this file, held in memory, to the client that asks so.
+/// A server's end that sends this file from memory, as the answer to the request.
 pub(crate) fn sender_of(
     rt: &impl Abort,
     alloc: Global,
@@ -224,7 +223,7 @@ pub(crate) fn source_of(rt: &impl Abort, alloc: Global, file: &[u8], mode: Mode)
     MemSource::new(alloc, file, mode).expect(rt, "memory")
 }
 
-/// A server's end that takes a file of the client in octet.
+/// A server's end that receives a file in octet.
 pub(crate) fn serve_write(
     alloc: Global,
     agreed: &Agreed,
@@ -235,7 +234,7 @@ pub(crate) fn serve_write(
     End::serve_write(alloc, CLIENT, Mode::Octet, agreed, 5, sent)
 }
 
-/// A server's end that stores a file of the client; its sink may refuse the commit.
+/// The same with a sink, which may refuse the commit.
 pub(crate) fn storer(
     rt: &impl Abort,
     alloc: Global,
@@ -254,7 +253,7 @@ pub(crate) fn storer(
 }
 
 impl<S: Source + Drop> OpenEnd<S> {
-    /// The test is done with it: its drop is proved here once, and not in each test.
+    /// Drops the end. The drop is proved here once instead of in each test.
     pub(crate) fn finish(self) {}
 
     /// The end and its file.
@@ -265,33 +264,33 @@ impl<S: Source + Drop> OpenEnd<S> {
         (end, files)
     }
 
-    /// The end alone.
+    /// The end.
     pub(crate) fn as_end(&self) -> &End {
         &self.end
     }
 
-    /// How far it came.
+    /// The record of the end.
     pub(crate) fn record(&self) -> Record {
         self.end.record()
     }
 
-    /// What its last event did.
+    /// The last step.
     pub(crate) fn step(&self) -> Step {
         self.step
     }
 
-    /// What it sent by its last event.
+    /// The datagram of the last step.
     pub(crate) fn sent(&self) -> &[u8] {
         self.sent.as_slice()
     }
 
-    /// By its last event it has sent these bytes there.
+    /// The last step has sent these bytes to this endpoint.
     pub(crate) fn has_sent(&self, rt: &impl Abort, bytes: &[u8], to: Option<Endpoint>) {
         let found = (self.sent.as_slice(), self.step.to);
         expect_equal(rt, &found, &(bytes, to), "what is sent, and where it goes");
     }
 
-    /// It takes a datagram.
+    /// Delivers a datagram.
     pub(crate) fn takes(&mut self, rt: &impl Abort, from: Endpoint, bytes: &[u8]) {
         self.sent.clear();
         self.step = self
@@ -300,7 +299,7 @@ impl<S: Source + Drop> OpenEnd<S> {
             .expect(rt, "the end takes it");
     }
 
-    /// It takes a datagram, and answers it by these bytes, or not at all.
+    /// Delivers a datagram: the end answers by these bytes, or not at all if they are empty.
     pub(crate) fn answers(&mut self, rt: &impl Abort, from: Endpoint, bytes: &[u8], answer: &[u8]) {
         self.takes(rt, from, bytes);
         let to = if answer.is_empty() { None } else { Some(from) };
@@ -313,7 +312,7 @@ impl<S: Source + Drop> OpenEnd<S> {
         );
     }
 
-    /// It takes a datagram, answers it by these bytes, or not at all, and closes so.
+    /// Delivers a datagram: the end answers as above, and closes with this outcome.
     pub(crate) fn closes(
         &mut self,
         rt: &impl Abort,
@@ -326,7 +325,8 @@ impl<S: Source + Drop> OpenEnd<S> {
         expect_equal(rt, &self.step.closed, &Some(outcome), "how it closes");
     }
 
-    /// It takes a timeout, sends these bytes there, and closes so or not.
+    /// Delivers a timeout: the end sends these bytes to this endpoint, and closes with this outcome
+    /// or stays open.
     pub(crate) fn times_out(
         &mut self,
         rt: &impl Abort,
@@ -343,7 +343,7 @@ impl<S: Source + Drop> OpenEnd<S> {
         expect_equal(rt, &found, &(bytes, to, closed), "what a timeout does");
     }
 
-    /// It is closed: it takes no late datagram and no late timeout, and sends nothing.
+    /// The end is closed: it refuses a late datagram and a late timeout, and sends nothing.
     pub(crate) fn takes_nothing(&mut self, rt: &impl Abort, from: Endpoint, bytes: &[u8]) {
         self.sent.clear();
         let late = self
@@ -356,7 +356,7 @@ impl<S: Source + Drop> OpenEnd<S> {
         expect_equal(rt, &found, &(closed, closed, true), "it is closed");
     }
 
-    /// It takes a datagram, and lends these bytes for whom sent it.
+    /// Delivers a datagram: the end lends these bytes for its sender.
     pub(crate) fn lends(&mut self, rt: &impl Abort, from: Endpoint, bytes: &[u8], answer: &[u8]) {
         let (step, outgoing) = self
             .end
@@ -371,13 +371,13 @@ impl<S: Source + Drop> OpenEnd<S> {
         );
     }
 
-    /// It takes a timeout: how it closes, and what it lends.
+    /// Delivers a timeout, and returns how the end closed and the datagram to send.
     pub(crate) fn handle_timeout(&mut self) -> Result<(Option<Outcome>, Outgoing), EndFault> {
         let (step, outgoing) = self.end.handle_timeout()?;
         Ok((step.closed, outgoing))
     }
 
-    /// Its sink holds these bytes, committed or not.
+    /// The sink holds these bytes, committed or not.
     pub(crate) fn has_stored(&self, rt: &impl Abort, bytes: &[u8], committed: bool) {
         has_stored(rt, &self.files, bytes, committed);
     }
@@ -398,7 +398,8 @@ pub(crate) fn has_stored<S>(
     expect_equal(rt, &found, &wanted, "what is stored, and whether for good");
 }
 
-/// The client gets what the server sent, and the server its answer: how many datagrams that adds.
+/// Delivers the server's datagram to the client, and the answer to the server. Returns how many
+/// datagrams that adds.
 pub(crate) fn round<S: Source + Drop>(
     rt: &impl Abort,
     client: &mut OpenEnd<MemSource>,

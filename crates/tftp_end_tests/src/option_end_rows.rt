@@ -1,5 +1,5 @@
-//! Options at one end of a transfer, datagram by datagram: what it asks, what it answers, and by
-//! which sizes it goes on. The bytes are written by hand from RFC 2347 to 2349.
+//! Options at one end of a transfer, datagram by datagram: the requests, the answers, and the block
+//! sizes that are used. The bytes are written by hand from RFC 2347 to 2349.
 
 use crate::expect::{expect, expect_equal};
 use crate::open_end::{
@@ -49,14 +49,14 @@ const LENGTH: Asked = Asked {
     tsize: Some(0),
 };
 
-/// A client asks to read `boot.img` by this request.
+/// A client sends this read request for `boot.img`.
 fn asks(rt: &impl Abort, alloc: Global, asked: &Asked, mode: Mode, request: &[u8]) {
     let end = reader(rt, alloc, b"boot.img", mode, asked, &CONFIG);
     end.has_sent(rt, request, Some(SERVER));
     end.finish();
 }
 
-/// The request to read `boot.img`: option names in lower case, values in decimal, and no length in
+/// Read requests for `boot.img`: option names in lower case, values in decimal, and no length in
 /// netascii.
 #[test]
 fn asks_for_options(rt: HostRuntime) {
@@ -82,7 +82,7 @@ const NO_TIME: Asked = Asked {
     tsize: None,
 };
 
-/// A length that a read does not ask (RFC 2349, "Transfer Size Option Specification").
+/// A length other than 0 in a read (RFC 2349, "Transfer Size Option Specification").
 const SOME_LENGTH: Asked = Asked {
     blksize: None,
     timeout: None,
@@ -103,8 +103,8 @@ const LARGE_BLOCKS: Asked = Asked {
     tsize: None,
 };
 
-/// A request has 512 bytes at most, its options among them (RFC 2347, "Packet Formats"): beside a
-/// block size of four digits, 13 bytes, and an octet request's own 9 a name has 490.
+/// A request has at most 512 bytes, with its options (RFC 2347, "Packet Formats"). Without the 13
+/// bytes of a block size of four digits and the 9 of an octet request, 490 are left for the name.
 #[test]
 fn options_count_in_a_request(rt: HostRuntime) {
     let name = [b'a'; 491];
@@ -128,8 +128,8 @@ fn sender(rt: &impl Abort, alloc: Global, request: &[u8], oack: &[u8]) -> OpenEn
     end
 }
 
-/// Requests, and the OACKs that answer them: the options stand in the order of the request, in
-/// lower case (RFC 2347, "Packet Formats").
+/// Requests, and the OACKs that answer them: the options are in the order of the request, in lower
+/// case (RFC 2347, "Packet Formats").
 const ANSWERS: [(&[u8], &[u8]); 2] = [
     (
         b"\x00\x01boot.img\x00octet\x00BLKSIZE\x001428\x00timeout\x003\x00",
@@ -141,7 +141,7 @@ const ANSWERS: [(&[u8], &[u8]); 2] = [
     ),
 ];
 
-/// An end goes on by blocks of this size, and by a timeout of these seconds.
+/// An end uses this block size, and this timeout in seconds.
 fn goes_by(rt: &impl Abort, open: &OpenEnd<MemSource>, size: u16, seconds: u8) {
     let found = (open.record().size, open.as_end().interval());
     expect_equal(
@@ -172,7 +172,7 @@ fn data_1() -> [u8; 516] {
     data
 }
 
-/// A timeout repeats the OACK; ACK 0 asks for DATA 1, and a full block is followed by an empty one
+/// A timeout retransmits the OACK. ACK 0 requests DATA 1, and an empty block follows a full one
 /// (RFC 2347, "Negotiation Protocol"; RFC 1350, section 6).
 #[test]
 fn sends_after_the_oack_is_acknowledged(rt: HostRuntime) {
@@ -184,12 +184,13 @@ fn sends_after_the_oack_is_acknowledged(rt: HostRuntime) {
     end.finish();
 }
 
-/// A client that has asked so for the file `a`.
+/// A client that has sent a read request for the file `a` with these options.
 fn receiver(rt: &impl Abort, alloc: Global, asked: &Asked) -> OpenEnd<MemSource> {
     reader(rt, alloc, b"a", Mode::Octet, asked, &CONFIG)
 }
 
-/// The OACK is acknowledged by ACK 0, again when it comes again; then come the blocks.
+/// The client acknowledges the OACK by ACK 0, and a repeated one again. Then it receives the
+/// blocks.
 #[test]
 fn receives_after_the_oack(rt: HostRuntime) {
     let mut end = receiver(&rt, rt.alloc(), &SIZE_AND_TIME);
@@ -202,8 +203,8 @@ fn receives_after_the_oack(rt: HostRuntime) {
     end.finish();
 }
 
-/// What the server answers to a block size of 1428 and a timeout of 3, and the block size and the
-/// seconds by which the client goes on: the answer's, and the defaults where it has none.
+/// OACKs for a block size of 1428 and a timeout of 3, and the block size and the seconds that the
+/// client then uses: those of the OACK, or else the defaults.
 const TAKEN: [(&[u8], u16, u8); 3] = [
     (b"\x00\x06blksize\x001428\x00timeout\x003\x00", 1428, 3),
     (b"\x00\x06BLKSIZE\x008\x00", 8, 1),
@@ -224,7 +225,8 @@ fn takes_what_the_oack_says(rt: HostRuntime) {
     }
 }
 
-/// OACKs that are refused where a block size of 1428 and a timeout of 3 are asked, and why.
+/// OACKs that are refused after a request for a block size of 1428 and a timeout of 3, and the
+/// refusal.
 const REFUSED: [(&[u8], Refusal); 3] = [
     (b"\x00\x06blksize\x001429\x00", Refusal::BadValue),
     (b"\x00\x06tsize\x003\x00", Refusal::NotAsked),
@@ -234,7 +236,7 @@ const REFUSED: [(&[u8], Refusal); 3] = [
     ),
 ];
 
-/// The client's first answer from the server closes it, and it takes no peer.
+/// The first answer from the server closes the client, which has no peer.
 fn refuses(
     rt: &impl Abort,
     end: &mut OpenEnd<MemSource>,
@@ -256,7 +258,7 @@ fn refuses_an_oack(rt: HostRuntime) {
     }
 }
 
-/// A file that is longer than the client takes: ERROR 3 (RFC 1350, appendix I).
+/// A file that exceeds the client's limit: ERROR 3 (RFC 1350, appendix I).
 #[test]
 fn refuses_too_long_a_file(rt: HostRuntime) {
     let mut end = receiver(&rt, rt.alloc(), &LENGTH);
@@ -265,14 +267,14 @@ fn refuses_too_long_a_file(rt: HostRuntime) {
     end.finish();
 }
 
-/// A client that has asked to write a file of this length by blocks of the asked size.
+/// A client that has sent a write request for a file of this length with these options.
 fn put(rt: &impl Abort, alloc: Global, length: u64, asked: &Asked) -> OpenEnd<MemSource> {
     let source = source_of(rt, alloc, b"", Mode::Octet);
     writer(rt, alloc, asked, &CONFIG, length, source)
 }
 
-/// A server that takes no option answers by ACK 0: the file then has to fit blocks of 512 bytes, of
-/// which 33,553,919 bytes are the most (RFC 2347, "Negotiation Protocol"; RFC 1350, section 5).
+/// A server without options answers by ACK 0. The file then has to fit blocks of 512 bytes: at most
+/// 33,553,919 bytes (RFC 2347, "Negotiation Protocol"; RFC 1350, section 5).
 #[test]
 fn a_file_for_larger_blocks_does_not_fall_back(rt: HostRuntime) {
     let mut end = put(&rt, rt.alloc(), 33_553_920, &LARGE_BLOCKS);
@@ -282,14 +284,14 @@ fn a_file_for_larger_blocks_does_not_fall_back(rt: HostRuntime) {
     end.finish();
 }
 
-/// Blocks of 8 bytes carry 524,279 bytes: 65,534 whole ones and a last one of 7.
+/// Blocks of 8 bytes carry at most 524,279 bytes: 65,534 whole blocks and a last one of 7 bytes.
 #[test]
 fn small_blocks_carry_less(rt: HostRuntime) {
     put(&rt, rt.alloc(), 524_279, &EIGHT).finish();
     is_too_long(&rt, rt.alloc(), &EIGHT, 524_280);
 }
 
-/// A request for blocks of 8 bytes.
+/// A read request for blocks of 8 bytes.
 const ASKS_8: &[u8] = b"\x00\x01a\x00octet\x00blksize\x008\x00";
 
 /// A server's end that sends by blocks of 8 bytes.
@@ -299,8 +301,8 @@ fn serves_by_small_blocks(rt: HostRuntime) {
     is_too_long_to_serve(&rt, rt.alloc(), &agreed, 524_280);
 }
 
-/// A server's end that receives answers a write request by the OACK of its options, and takes
-/// blocks of the size that it agreed to.
+/// A server's end that receives answers by the OACK of the agreed options, and receives blocks of
+/// the agreed size.
 #[test]
 fn receives_by_the_agreed_size(rt: HostRuntime) {
     let agreed = agreed_of(&rt, ASKS_8, 512);

@@ -18,7 +18,8 @@ const ACK_1: &[u8] = b"\x00\x04\x00\x01";
 
 const DATA_1: &[u8] = b"\x00\x03\x00\x01ABC";
 
-/// Sends a file in octet, without options, as one of this length.
+/// A client that has sent a write request for a file in octet, without options, as one of this
+/// length.
 fn put(rt: &impl Abort, alloc: Global, file: &[u8], length: u64) -> OpenEnd<MemSource> {
     let source = source_of(rt, alloc, file, Mode::Octet);
     writer(rt, alloc, &Asked::default(), &CONFIG, length, source)
@@ -32,14 +33,14 @@ fn asks_by_a_write_request(rt: HostRuntime) {
     end.finish();
 }
 
-/// Blocks of 512 bytes are numbered up to 65,535, and the last is short: 33,553,919 bytes at most.
+/// Blocks of 512 bytes are numbered up to 65,535, and the last is short: at most 33,553,919 bytes.
 #[test]
 fn a_file_has_its_longest_length(rt: HostRuntime) {
     put(&rt, rt.alloc(), b"", 33_553_919).finish();
     is_too_long(&rt, rt.alloc(), &Asked::default(), 33_553_920);
 }
 
-/// ACK 0 answers the request, from the port that the server took (RFC 1350, section 4).
+/// ACK 0 answers the request, from the port of the server's end (RFC 1350, section 4).
 #[test]
 fn sends_after_ack_0(rt: HostRuntime) {
     let mut end = put(&rt, rt.alloc(), b"ABC", 3);
@@ -67,7 +68,7 @@ fn stores_a_short_block(rt: HostRuntime) {
     end.finish();
 }
 
-/// A commit that is refused: ERROR 3 (RFC 1350, appendix I), and the end closes.
+/// A refused commit: ERROR 3 (RFC 1350, appendix I), and the end closes.
 #[test]
 fn a_refused_commit_is_no_success(rt: HostRuntime) {
     let mut end = receiver(&rt, rt.alloc(), true);

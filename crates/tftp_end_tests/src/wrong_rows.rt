@@ -1,6 +1,5 @@
-//! Datagrams that are no packets, at an end in each state, and files that end early or cannot be
-//! read, in each block. The bytes are written by hand from RFC 1350, sections 4 to 6 and appendix
-//! I, and RFC 2347.
+//! Malformed datagrams at an end in each state, and sources that end early or fail in each block.
+//! The bytes are written by hand from RFC 1350, sections 4 to 6 and appendix I, and RFC 2347.
 
 ghost use Rattle.std.specs.Prelude.{◌<◌};
 
@@ -20,16 +19,16 @@ const OACK_8: &[u8] = b"\x00\x06blksize\x008\x00";
 
 const ILLEGAL: &[u8] = b"\x00\x05\x00\x04illegal operation\x00";
 
-/// A request with an option.
+/// A read request with an option.
 const RRQ_8: &[u8] = b"\x00\x01a\x00octet\x00blksize\x008\x00";
 
-/// A client that has asked to write nine bytes, with nothing agreed yet.
+/// A client that has sent a write request for nine bytes.
 fn nine_bytes(rt: &impl Abort, alloc: Global) -> OpenEnd<MemSource> {
     let source = source_of(rt, alloc, b"ABCDEFGHI", Mode::Octet);
     writer(rt, alloc, &EIGHT, &CONFIG, 9, source)
 }
 
-/// An end of this side: a client has nothing agreed yet, and a server has answered the request.
+/// An end of this side: a client after its request, or a server's end after its first answer.
 fn opened(rt: &impl Abort, alloc: Global, side: Side) -> OpenEnd<MemSource> {
     match side {
         Side::ClientRead => reader(rt, alloc, b"a", Mode::Octet, &EIGHT, &CONFIG),
@@ -39,21 +38,20 @@ fn opened(rt: &impl Abort, alloc: Global, side: Side) -> OpenEnd<MemSource> {
     }
 }
 
-/// What a datagram that is no packet means to an end.
+/// How an end handles a malformed datagram.
 #[derive(Clone, Copy, Debug, PartialEq, Eq)]
 enum Means {
-    /// The end closes, and answers where it may.
+    /// The end closes, after an ERROR unless the datagram begins as one.
     Refusal,
-    /// The end dallies, and ignores it.
+    /// The end dallies, and ignores the datagram.
     Nothing,
 }
 
-/// A state by what led to it: which end, and up to two datagrams; and what comes of no packet.
+/// A state: the side, up to two datagrams that lead to it, and how it handles a malformed datagram.
 type State = (Side, &'static [u8], &'static [u8], Means);
 
-/// States by what led to them: a waiting reader and writer; a sender behind its OACK, its first
-/// block and its last; a receiver with no block, with one block of eight bytes, and one that
-/// dallies.
+/// The states: a waiting reader and writer; a sender after its OACK, its first block and its last;
+/// a receiver with no block, with one block of eight bytes, and one that dallies.
 const STATES: [State; 8] = [
     (Side::ClientRead, b"", b"", Means::Refusal),
     (Side::ClientWrite, b"", b"", Means::Refusal),
@@ -80,7 +78,7 @@ const STATES: [State; 8] = [
     ),
 ];
 
-/// What begins no packet, ends too early or too late, or has a wrong number, name or mode.
+/// Datagrams that begin no packet, end too early or too late, or have a wrong number, name or mode.
 const MALFORMED: [&[u8]; 13] = [
     b"",
     b"\x00",
@@ -97,7 +95,7 @@ const MALFORMED: [&[u8]; 13] = [
     b"\x00\x05\x00\x01no\x00!",
 ];
 
-/// An end that is led into a state by up to two datagrams; those that are empty do not come.
+/// An end in this state. Empty datagrams are not delivered.
 fn led(rt: &impl Abort, alloc: Global, (side, first, second, _): State) -> OpenEnd<MemSource> {
     let mut end = opened(rt, alloc, side);
     if !first.is_empty() {
@@ -109,8 +107,8 @@ fn led(rt: &impl Abort, alloc: Global, (side, first, second, _): State) -> OpenE
     end
 }
 
-/// The end gets the datagram: ERROR 4 or, where it begins as an ERROR, silence; it closes, but for
-/// one that dallies, which ignores it.
+/// The end handles the datagram: it sends ERROR 4, or nothing if the datagram begins as an ERROR,
+/// and closes. A dallying end ignores it.
 fn is_refused(rt: &impl Abort, alloc: Global, state: State, bytes: &[u8]) {
     let mut end = led(rt, alloc, state);
     let dallies = state.3 == Means::Nothing;
@@ -142,16 +140,17 @@ fn malformed_each_state(rt: HostRuntime) {
     }
 }
 
-/// 36 letters: at eight bytes a block they are four full blocks and one of four bytes.
+/// 36 letters: four full blocks of eight bytes, and one of four bytes.
 const LETTERS: &[u8] = b"ABCDEFGHIJKLMNOPQRSTUVWXYZabcdefghij";
 
-/// A client that writes the letters, from a source that gives so many bytes of them.
+/// A client that writes the letters, from a source that gives the first `give` bytes and then ends
+/// or fails.
 fn faulty(rt: &impl Abort, alloc: Global, give: u64, fail: bool) -> OpenEnd<FaultSource> {
     let source = FaultSource::new(alloc, LETTERS, Mode::Octet, give, fail).expect(rt, "memory");
     writer(rt, alloc, &EIGHT, &CONFIG, 36, source)
 }
 
-/// What asks for block 1, 2, 3, 4 and 5, and the block.
+/// The datagrams that request blocks 1 to 5, and the blocks.
 const ASKS: [(&[u8], &[u8]); 5] = [
     (OACK_8, b"\x00\x03\x00\x01ABCDEFGH"),
     (b"\x00\x04\x00\x01", b"\x00\x03\x00\x02IJKLMNOP"),
@@ -160,8 +159,8 @@ const ASKS: [(&[u8], &[u8]); 5] = [
     (b"\x00\x04\x00\x04", b"\x00\x03\x00\x05ghij"),
 ];
 
-/// The source ends, or fails, in this block: its number stays, and ERROR 0 says that the file
-/// changed.
+/// The source ends or fails in this block: the end's number stays, and it sends ERROR 0
+/// `file changed`.
 fn ends_in(rt: &impl Abort, alloc: Global, block: usize, fail: bool)
     requires { block < 5 }
 {

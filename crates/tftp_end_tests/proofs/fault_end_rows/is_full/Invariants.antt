@@ -1,4 +1,4 @@
--- The end takes a file.
+-- The end receives.
 use Rattle.std.specs.Prelude.{◌≡◌, false}
 use Rattle.tftp_ends.specs.End.{is_sender}
 use Rattle.tftp_end_tests.proofs.fault_end_rows.is_full.Given as goal
