@@ -49,7 +49,7 @@ match_self a asks x o = record {
   sent = λ _. refl;
 }
 
--- of the text of a receiver that failed only a beginning is told
+-- only a beginning of the text of a receiver that failed is shown
 pub match_cut : (a : Endpoint) (asks : List ℕ) (x : Party) (t : List ℕ) → x.is_open ≡ true → x.failed ≡ true → x.done ≡ false → IsBeginningOf t x.text → (x.sender ≡ true → x.text ≡ t) → Matches (record (view_of a asks x) { text = t }) x
 match_cut a asks x t o f d b s = record {
   is_open = o;
@@ -67,7 +67,7 @@ match_cut a asks x t o f d b s = record {
   sent = s;
 }
 
--- the end e stands at place k of ends that are shown
+-- the end e is at index k of the ends that are shown
 pub record Stands (first : List Rule) (views : List EndView) (messages : List Message) (k : ℕ) (e : EndView) : Type 0 where
   pub shown : IsShownAt first views messages
   pub place : slice_get views k ≡ Some e
@@ -76,11 +76,11 @@ pub record Stands (first : List Rule) (views : List EndView) (messages : List Me
 abbrev pub IsGoing : EndView → Type 0
 IsGoing e = (e.done ≡ false) × (e.failed ≡ false)
 
--- a client that waits for its first answer, which came from there
+-- a client that waits for its first answer, which arrived from there
 abbrev pub IsWaiting : EndView → Endpoint → Type 0
 IsWaiting e from = IsGoing e × (e.client ≡ true) × (e.peer ≡ None) × (from.ip ≡ server_ip)
 
--- it came from there to the end
+-- it arrived at the end from there
 abbrev pub HasCome : List Message → EndView → Endpoint → Packet → Type 0
 HasCome messages e from packet = Contains messages (message from e.address packet)
 
@@ -100,7 +100,7 @@ module _ (first : List Rule) (views : List EndView) (messages : List Message) (k
   goes rs few f t = acted rs few (view_of e.address e.request (party_then rs (party_of e))) (shown_acts first views messages k e (view_of e.address e.request (party_then rs (party_of e))) rs s.shown s.place f t refl refl
       (match_self e.address e.request (party_then rs (party_of e)) (stays_open rs e.address messages (party_of e) refl t)))
 
-  -- they act in turn and it fails, so that only a beginning of its text is told
+  -- they act in turn and it fails, so that only a beginning of its text is shown
   pub goes_cut : (rs : List Rule) → length rs ≤ 3 → (t : List ℕ) → e.failed ≡ false → ActInTurn rs e.address messages (party_of e) →
       (party_then rs (party_of e)).failed ≡ true → (party_then rs (party_of e)).done ≡ false → IsBeginningOf t (party_then rs (party_of e)).text → ((party_then rs (party_of e)).sender ≡ true → (party_then rs (party_of e)).text ≡ t) →
       IsShownWithin 3 first (set views k (record (view_of e.address e.request (party_then rs (party_of e))) { text = t })) (messages ++ sent_by rs (party_of e))
@@ -126,7 +126,7 @@ module _ (first : List Rule) (views : List EndView) (messages : List Message) (k
       refl w.0.0 b (λ q. absurd (true≢false (sym q ∙ r))) in
       rw n at a
 
-  -- a waiting reader takes an OACK
+  -- a waiting reader handles an OACK
   pub accepts : (from : Endpoint) (size : ℕ) → IsWaiting e from → e.sender ≡ false → HasCome messages e from (Oack size) →
       IsShownWithin 3 first (set views k (record e { peer = Some from; size = size; number = 0 })) (messages ++ says e from (Ack 0))
   accepts from size w r c =
@@ -136,7 +136,7 @@ module _ (first : List Rule) (views : List EndView) (messages : List Message) (k
       ((refl, (((refl, w.0.0, w.0.1), w.1, w.2, host_server from w.3), c, λ q. absurd (true≢false (sym q ∙ r))), tt)) in
       rw (n, d) at a
 
-  -- a waiting writer takes an OACK
+  -- a waiting writer handles an OACK
   pub sends_first_with : (from : Endpoint) (size : ℕ) → IsWaiting e from → e.sender ≡ true → HasCome messages e from (Oack size) → Fits e.text size →
       IsShownWithin 3 first (set views k (record e { peer = Some from; size = size; number = 1 })) (messages ++ says e from (Data 1 (block e.text size 1)))
   sends_first_with from size w r c fits =
@@ -146,7 +146,7 @@ module _ (first : List Rule) (views : List EndView) (messages : List Message) (k
       ((refl, (((refl, w.0.0, w.0.1), w.1, w.2, host_server from w.3), c, λ _. fits), tt)) in
       rw (n, d) at a
 
-  -- a waiting writer takes ACK 0
+  -- a waiting writer handles ACK 0
   pub sends_first : (from : Endpoint) → IsWaiting e from → e.sender ≡ true → HasCome messages e from (Ack 0) → Fits e.text DEFAULT_BLOCK →
       IsShownWithin 3 first (set views k (record e { peer = Some from; size = DEFAULT_BLOCK; number = 1 })) (messages ++ says e from (Data 1 (block e.text DEFAULT_BLOCK 1)))
   sends_first from w r c fits =
@@ -181,7 +181,7 @@ module _ (first : List Rule) (views : List EndView) (messages : List Message) (k
       let a = goes (Completes e.address from ∷ []) (omega arith) g.1 ((refl, (((refl, g.0, g.1), r, p, c), l), tt)) in
       subst (λ (ds : List Message). IsShownWithin 3 first (set views k (record e { done = true })) ds) (append-nil messages) a
 
-  -- an end gives up in silence; of a receiver's text a beginning is told from then on
+  -- an end closes without a reply; of a receiver's text a beginning is shown from then on
   pub closes : (t : List ℕ) → IsGoing e → IsBeginningOf t e.text → (e.sender ≡ true → e.text ≡ t) →
       IsShownWithin 3 first (set views k (record e { failed = true; text = t })) messages
   closes t g b same =
@@ -198,11 +198,11 @@ module _ (first : List Rule) (views : List EndView) (messages : List Message) (k
 one_more : (first : List Rule) (views : List EndView) (messages : List Message) → IsShownWithin 1 first views messages → IsShownWithin 3 first views messages
 one_more first views messages h = shown_within 1 3 first views messages (omega arith) h
 
--- a datagram goes out again
+-- a datagram is sent again
 pub repeats : (first : List Rule) (views : List EndView) (messages : List Message) → IsShownAt first views messages → (old : Message) → Contains messages old → IsShownWithin 3 first views (messages ++ old ∷ [])
 repeats first views messages h old c = one_more first _ _ (shown_speaks first views messages (Repeats old) h tt c)
 
--- an ERROR goes out, to a stranger or from the request port
+-- an ERROR is sent, to a stranger or from the request port
 pub says_error : (first : List Rule) (views : List EndView) (messages : List Message) → IsShownAt first views messages → (from to : Endpoint) → IsShownWithin 3 first views (messages ++ message from to Error ∷ [])
 says_error first views messages h from to = one_more first _ _ (shown_speaks first views messages (Says_error from to) h tt tt)
 

@@ -9,7 +9,7 @@ use Rattle.tftp_machine.specs.Shows.{EndView, IsAnswering, NoneAnswers}
 use Rattle.tftp_player.specs.Requests.{IsRepeated, Repeats, AnyRepeats}
 use Rattle.tftp_player.specs.World.{WorldEnd, Open_end, Closed_end, view_of_end}
 
--- an end at a place is one of them
+-- an end at an index is one of them
 pub any_at : (from : Endpoint) (packet : Packet) (ends : List WorldEnd) (k : ℕ) (x : WorldEnd) → slice_get ends k ≡ Some x → Repeats from packet x → AnyRepeats from packet ends
 any_at from packet [] k x e r = absurd (let f : None ≡ Some x = e in cc)
 any_at from packet (y ∷ ends) zero x e r = inl (subst (Repeats from packet) (sym (same_Some y x e)) r)

@@ -23,7 +23,7 @@ use Rattle.tftp_player.specs.declared.report.Report.{Report}
 use Rattle.tftp_player.proofs.PlayLemmas.{ends_length, said_is, report_is, address_is, none_here, list_get}
 use Rattle.tftp_player.proofs.StepLemmas.{HasPorts, open_arrives, closed_arrives, none_arrives, other_arrives}
 
--- each end has the port of its place
+-- each end has the port of its index
 port_is : (port : ℕ) (p : Player) → (address_of port p).port ≡ port
 port_is port (Client c) = refl
 port_is port (Server q) = refl
@@ -37,7 +37,7 @@ ports_from port held (p ∷ ps) zero x e =
 ports_from port held (p ∷ ps) (suc k) x e =
     let there : port + 1 + k ≡ port + suc k = omega arith in ports_from (port + 1) held ps k x e ∙ there
 
--- what landed, where the report and the world are told otherwise
+-- an arrival, with the report and the world replaced by equal ones
 landed : (w v v' : WorldState) (from to : Endpoint) (bytes : List ℕ) (r r' : Report) → r' ≡ r → v' ≡ v → Arrives w from to bytes r v → Arrives w from to bytes r' v'
 landed w v v' from to bytes r r' e f a = subst (λ (q : Report). Arrives w from to bytes q v') (sym e) (subst (λ (u : WorldState). Arrives w from to bytes r u) (sym f) a)
 
@@ -57,7 +57,7 @@ module _ (from to : Endpoint) (bytes : List ℕ) (before after : PlayedServer) (
   ports : (sent : List Datagram) → HasPorts (old sent)
   ports sent k x e = ports_from 1024 before.held ps k x e
 
-  -- nothing came of it
+  -- the datagram was lost
   still : (sent : List Datagram) → Lost → new sent ≡ old sent
   still sent lost =
       ap (λ (e : Effect). world_of before.config (sent ++ said_by e.from e.to e.bytes) after ps') lost.effects
@@ -106,7 +106,7 @@ module _ (from to : Endpoint) (bytes : List ℕ) (before after : PlayedServer) (
 pub asks_arrive : (from to : Endpoint) (bytes : List ℕ) (before after : PlayedServer) (ps ps' : List Player) (effect : Effect) → to ≡ request_port → StageAsks from bytes before after ps ps' effect → StageArrives from to bytes before after ps ps' effect
 asks_arrive from to bytes before after ps ps' effect e a = subst (λ (there : Endpoint). StageArrives from there bytes before after ps ps' effect) (sym e) a
 
--- the same, where what was sent is told by equations
+-- the same, with what was sent given by equations
 pub arrives_told : (config : Config) (sent : List Datagram) (from to : Endpoint) (bytes : List ℕ) (before after : PlayedServer) (ps ps' : List Player) (effect : Effect) (old : WorldState) (sent0 sent1 : List Datagram) (report : Report) →
     before.config ≡ config → world_of config sent before ps ≡ old → StageArrives from to bytes before after ps ps' effect →
     sent0 ≡ sent → sent1 ≡ sent0 ++ said_by effect.from effect.to effect.bytes → report ≡ report_by sent0 effect →

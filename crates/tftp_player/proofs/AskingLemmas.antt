@@ -89,7 +89,7 @@ module _ (from : Endpoint) (bytes : List ℕ) (before : PlayedServer) (ps : List
     in_the_world : (sent : List Datagram) → IsRepeated h.repeated from said.0 (w sent).ends
     in_the_world sent = repeated_is before ps records h.repeated from said.0 staged repeats
 
-  -- ---- where no end opens
+  -- ---- no end opens
   module _ (after : PlayedServer) (opened : Opened) (out : List ℕ) (h : Step (record { new = after; opened = opened; sent = out })) (none : opened.tid ≡ None) where
     abbrev result : PortLeft
     result = record { new = after; opened = opened; sent = out }
@@ -97,7 +97,7 @@ module _ (from : Endpoint) (bytes : List ℕ) (before : PlayedServer) (ps : List
     seen : (sent : List Datagram) → PortRefused (w sent) asking result (what result h sent) ⊎ PortSilent (w sent) asking result (what result h sent)
     seen sent = port_not_opened (w sent) asking result (what result h sent) (did result h sent) none
 
-    -- where nothing opened the server is as before
+    -- if no end opened the server is unchanged
     pub not_opened_same : after ≡ before
     not_opened_same = elim (seen []) [ inl refused ↦ refused.new | inr quiet ↦ quiet.new ]
 
@@ -126,7 +126,7 @@ module _ (from : Endpoint) (bytes : List ℕ) (before : PlayedServer) (ps : List
           (At_request_port refl (has sent) said.0 said.1 h.repeated (in_the_world result h sent) quiet.serves))
     ]
 
-    -- as it is told
+    -- the same, by equations
     pub quietly : (ps0 : List Player) (start given : List ℕ) → ps0 ≡ ps → start ≡ [] → given ≡ start ++ out →
         StageAsks from bytes before after ps ps0 (record { from = request_port; to = opened.to; bytes = given; closed = None })
     quietly ps0 start given same empty is_out =
@@ -139,7 +139,7 @@ module _ (from : Endpoint) (bytes : List ℕ) (before : PlayedServer) (ps : List
         subst (λ (v : PlayedServer). IsStaged v ps0 records0) (sym not_opened_same)
         (subst (λ (qs : List Player). IsStaged before qs records0) (sym a) (subst (λ (rs : List (ℕ × Record)). IsStaged before ps rs) (sym b) staged))
 
-  -- ---- where an end opens
+  -- ---- an end opens
   module _ (after : PlayedServer) (opened : Opened) (out : List ℕ) (h : Step (record { new = after; opened = opened; sent = out }))
       (t : ℕ) (told : opened.tid ≡ Some t) (o : Option Served) (admitted : IsAdmitted before from bytes o) where
     abbrev result' : PortLeft
@@ -157,7 +157,7 @@ module _ (from : Endpoint) (bytes : List ℕ) (before : PlayedServer) (ps : List
     abbrev transfer : List Datagram → Transfer
     transfer sent = (q sent).transfer
 
-    -- the port's tests that ask no store let it pass
+    -- it passes the port's tests that need no store
     is_let_in : OpensNone before from bytes → ⊥
     is_let_in none =
         let one : none.0 ≡ said.0 = says_one bytes none.0 said.0 none.2 said.1 in

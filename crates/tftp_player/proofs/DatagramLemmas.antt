@@ -32,7 +32,7 @@ use Rattle.tftp_player.proofs.StageLemmas.{Stepped, client_files, client_open, h
 use Rattle.tftp_player.proofs.StepLemmas.{client_files as client_commits}
 use Rattle.tftp_player.proofs.PlayLemmas.{ends_get, kept_at, list_get, turn_ends, turn_staged, closed_is, has_not_ended, address_is}
 
--- the open end at this port took a datagram
+-- the open end at this port handled a datagram
 pub record PlayerStepped (port : ℕ) (p p' : Player) (before after : PlayedServer) (from : Endpoint) (bytes : List ℕ) (effect : Effect) (r : Record) : Type 0 where
   pub end : OpenEnd
   pub turn : Turn
@@ -41,7 +41,7 @@ pub record PlayerStepped (port : ℕ) (p p' : Player) (before after : PlayedServ
   pub commits : FilesAfter before.config.overwrite (not (is_client end.state.role.side) && has_committed end (end_after end turn held)) end.path (end_after end turn held).stored before.store.files after.store.files
   pub stepped : Stepped port p end p' before after turn held effect r
 
--- the step of a client does not ask what stands in its way
+-- the step of a client does not depend on what is in its way
 client_step : (there : Option (List ℕ)) (client : Bool) (from : Endpoint) (bytes : List ℕ) (e : EndState) (files files' : Files (List ℕ) Holding) (turn : Turn) → client ≡ true →
     EndStep true None from bytes e files turn files' → EndStep client there from bytes e files turn files'
 client_step there client from bytes e files files' turn is h = subst (λ (b : Bool). EndStep b there from bytes e files turn files') (sym is) h
@@ -130,7 +130,7 @@ player_stepped port (Server s) (Server s') before after from bytes effect r kept
 player_stepped port (Client c) (Server s') before after from bytes effect r kept open_now t = absurd t
 player_stepped port (Server s) (Client c') before after from bytes effect r kept open_now t = absurd t
 
--- of the player at a place that is read
+-- of the player at an index that is read
 module _ (server : PlayedServer) (ps : List Player) (records : List (ℕ × Record)) (place : ℕ) (from to : Endpoint) (bytes : List ℕ) (p : Player)
     (staged : IsStaged server ps records) (at_place : (place < length ps) × (to.port ≡ 1024 + place)) (reads : p ≡ slice_index_or ps place p) where
   abbrev x : WorldEnd

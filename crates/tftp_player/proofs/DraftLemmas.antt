@@ -1,4 +1,4 @@
--- What a turn of a server's end makes of its draft and of the server's files.
+-- The effect of a turn of a server's end on its draft and on the server's files.
 use Rattle.std.proofs.Common.{length, ◌≡◌, ℕ, Bool, true, false, List, [], ◌∷◌, Option, Some, None, Result, Ok, Err, refl, sym, ap, ◌∙◌, subst}
 use Rattle.std.specs.Prelude.{◌&&◌, ◌==◌, not, if◌then◌else◌, is_none, is_ok, nat_lt, ⊤}
 use Rattle.std.proofs.lemmas.Bool.{true≢false}

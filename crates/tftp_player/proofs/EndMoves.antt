@@ -1,4 +1,4 @@
--- What an open end answers where no file is touched: ERRORs, resent datagrams, acknowledgements.
+-- The answers of an open end that touch no file: ERRORs, retransmissions, acknowledgements.
 use Rattle.std.proofs.Common.{◌≡◌, ℕ, ◌-◌, Bool, true, false, List, [], ◌∷◌, ◌++◌, length, set, Option, Some, None, sym, refl, ap, ◌∙◌, subst, arith, inl}
 use Rattle.std.specs.Prelude.{◌⊎◌, ◌==◌, if◌then◌else◌, not, nat_le, is_some}
 use Rattle.std.specs.List.{Contains}
@@ -116,7 +116,7 @@ Newest x turn y =
 abbrev pub IsThere : List Message → Endpoint → Endpoint → List ℕ → Type 0
 IsThere messages from to bytes = (p : WirePacket) × Spells p bytes × Contains messages (message from to (said p))
 
--- a turn of the end x at place k, after which it is y, is shown again
+-- a turn of the end x at index k, after which it is y, is shown
 pub record Goes (first : List Rule) (views : List EndView) (messages : List Message) (k : ℕ) (x : OpenEnd) (turn : Turn) (y : OpenEnd) : Type 0 where
   pub said_now : List Message
   pub shown : IsShownWithin 3 first (set views k (open_view y)) (messages ++ said_now)
@@ -199,7 +199,7 @@ module _ (first : List Rule) (views : List EndView) (messages : List Message) (k
     stored = λ _. refl;
   }
 
-  -- a stranger is told so
+  -- an ERROR is sent to a stranger
   pub tells_stranger : (from : Endpoint) → is_some (outcome_of x.state.position.phase) ≡ false → Goes first views messages k x (response_turn Stranger from x.state) x
   tells_stranger from o = record {
     said_now = message x.address from Error ∷ [];
@@ -211,7 +211,7 @@ module _ (first : List Rule) (views : List EndView) (messages : List Message) (k
     stored = λ _. refl;
   }
 
-  -- the last datagram sent goes out again
+  -- the last datagram is retransmitted
   pub answers_again : (from : Endpoint) → is_some (outcome_of x.state.position.phase) ≡ false → from ≡ x.state.position.last_sent_to →
       IsThere messages x.address x.state.position.last_sent_to x.state.position.last_sent → Goes first views messages k x (response_turn ResendReply from x.state) x
   answers_again from o same old =
@@ -226,7 +226,7 @@ module _ (first : List Rule) (views : List EndView) (messages : List Message) (k
         stored = λ _. refl;
       }
 
-  -- a timeout: the last datagram sent goes out again, for one retry
+  -- a timeout: the last datagram is retransmitted, for one retry
   pub retries : (from : Endpoint) → is_some (outcome_of x.state.position.phase) ≡ false →
       IsThere messages x.address x.state.position.last_sent_to x.state.position.last_sent →
       Goes first views messages k x (response_turn Retransmit from x.state) (in_state (with_position (after Retransmit from x.state) x.state) x)

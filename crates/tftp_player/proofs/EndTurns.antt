@@ -59,7 +59,7 @@ module _ (first : List Rule) (views : List EndView) (messages : List Message) (k
       dally_acts first views messages k x0 terms n dally s kept refuses_commit from bytes (same_endpoints terms.peer from (not_false (same_endpoint terms.peer from) near)) old decoded
   by_packet (Closed terms n complete outcome) s kept o near = absurd (true≢false o)
 
-  -- what begins as an ERROR and is none
+  -- a malformed ERROR
   by_garbled : (phase : Phase) → There phase → EndKept (placed phase x0) → is_some (outcome_of phase) ≡ false → Goes_on phase (Respond (garbled_response phase))
   by_garbled (Waiting asked limit) s kept o turn held h =
       let x = placed (Waiting asked limit) x0 in from_response first views messages k x (Close outcomes.Illegal) from turn held (gives_up first views messages k x s kept outcomes.Illegal from refl) h

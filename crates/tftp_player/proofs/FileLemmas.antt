@@ -1,4 +1,4 @@
--- What stands under the paths of a server's files after one was put in.
+-- The server's files by path, after one was added.
 use Rattle.std.proofs.Common.{◌≡◌, ◌≢◌, ℕ, Bool, true, false, List, [], ◌∷◌, cond, Option, Some, None, refl, sym, ap, ◌∙◌}
 use Rattle.std.specs.Prelude.{◌&&◌, not, is_some}
 use Rattle.std.proofs.lemmas.Bool.{true≢false}
@@ -49,7 +49,7 @@ module _ (path bytes : List ℕ) where
     others [] = ap (λ (b : Bool). cond b (Some bytes) None) (at_another q path n)
     others (e ∷ files) = put_elsewhere (path_cmp path e.0) e files (with_file files path bytes) refl (others files)
 
--- no file is in the way where none is taken, and one is where one is
+-- no file is in the way of a free path, and one is in the way of a taken one
 free_by : (replace : Bool) (o : Option (List ℕ)) → (not replace && is_some o) ≡ false → in_the_way replace o ≡ None
 free_by true o e = refl
 free_by false None e = refl
@@ -66,6 +66,6 @@ not_taken replace path files e = free_by replace (file_at files path) e
 pub is_in_the_way : (replace : Bool) (path : List ℕ) (files : FileList) → is_taken replace path files ≡ true → in_the_way replace (file_at files path) ≢ None
 is_in_the_way replace path files e = taken_by replace (file_at files path) e
 
--- a file that was put in is stored, if none was taken
+-- a file that was added is stored, if its path was free
 pub stored_so : (replace : Bool) (path bytes : List ℕ) (files : FileList) → is_taken replace path files ≡ false → IsStored replace path bytes files (with_file files path bytes)
 stored_so replace path bytes files free = record { free = not_taken replace path files free; here = here path bytes files; others = λ q n. others path bytes q n files }

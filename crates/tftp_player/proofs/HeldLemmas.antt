@@ -26,7 +26,7 @@ module _ {T : Type 0} where
   abbrev pub AreBelow : ℕ → List (ℕ × T) → Type 0
   AreBelow tid held = AllByRecursion (λ (e : ℕ × T). e.0 < tid) held
 
-  -- a transfer whose identifier is above all others comes last
+  -- a transfer whose identifier is above all others is the last
   pub with_new-last : (tid : ℕ) (new : T) (held : List (ℕ × T)) → AreBelow tid held → with_new tid new held ≡ held ++ (tid, new) ∷ []
   with_new-last tid new [] below = refl
   with_new-last tid new (e ∷ held) below =
@@ -49,7 +49,7 @@ module _ {T : Type 0} where
   pub at-with_new_other : (tid other : ℕ) (new : T) (held : List (ℕ × T)) → AreBelow tid held → other ≢ tid → at other (with_new tid new held) ≡ at other held
   at-with_new_other tid other new held below n = ap (at other) (with_new-last tid new held below) ∙ at-last_other tid other new held n
 
-  -- the transfer that took the place of another is found there, and every other as before
+  -- the transfer that replaced another is found at its identifier, and every other as before
   next_at : (tid : ℕ) (next : T) (e : ℕ × T) (held more : List (ℕ × T)) (b : Bool) → is_at (nat_cmp tid) e.0 ≡ b → (b ≡ false → at tid more ≡ Some next) →
       at tid (cond b ((e.0, next) ∷ held) (e ∷ more)) ≡ Some next
   next_at tid next e held more true h rest = ap (λ (c : Bool). cond c (Some next) (at tid held)) h
@@ -75,7 +75,7 @@ module _ {T : Type 0} where
       next_other other next e held (with_next tid next held) (is_at (nat_cmp tid) e.0)
       (λ h. at_other other e.0 (λ f. n (sym f ∙ same_at tid e.0 h))) (at-with_next_other tid other next held n)
 
-  -- where one is taken out, every other is found as before
+  -- after one is removed, every other is found as before
   out_other : (other : ℕ) (e : ℕ × T) (held more : List (ℕ × T)) (b : Bool) → (b ≡ true → is_at (nat_cmp other) e.0 ≡ false) → at other more ≡ at other held →
       at other (cond b held (e ∷ more)) ≡ at other (e ∷ held)
   out_other other e held more true h rest = sym (ap (λ (c : Bool). cond c (Some e.1) (at other held)) (h refl))
@@ -171,7 +171,7 @@ module _ {T : Type 0} where
   pub IsRising-with_new : (tid : ℕ) (new : T) (held : List (ℕ × T)) → AreBelow tid held → IsRising held → IsRising (with_new tid new held)
   IsRising-with_new tid new held below rises = subst IsRising (sym (with_new-last tid new held below)) (rising_pushed tid new held below rises)
 
-  -- where they rise, the one that is taken out is gone
+  -- the one that is removed from a rising list is gone
   gone_out : (tid : ℕ) (e : ℕ × T) (held more : List (ℕ × T)) (b : Bool) → is_at (nat_cmp tid) e.0 ≡ b → AllByRecursion (λ (f : ℕ × T). e.0 < f.0) held → AllByRecursion (λ (f : ℕ × T). f.0 ≢ tid) more →
       AllByRecursion (λ (f : ℕ × T). f.0 ≢ tid) (cond b held (e ∷ more))
   gone_out tid e held more true h above rest =
@@ -192,7 +192,7 @@ module _ {T : Type 0} where
         (λ f above found. ap (λ (b : Bool). cond b (Some e.1) (at f.0 held)) (at_other f.0 e.0 (let n : e.0 ≢ f.0 = omega (arith, above) in n)) ∙ found) rises.0 (each_found held rises.1),
   )
 
-  -- below the next identifier, where below this one
+  -- below the next identifier, if below this one
 
   pub AreBelow-more : (tid more : ℕ) (held : List (ℕ × T)) → tid < more → AreBelow tid held → AreBelow more held
   AreBelow-more tid more held l below = AllKeys-weaker (λ (k : ℕ). k < tid) (λ (k : ℕ). k < more) held (λ k h. omega arith) below

@@ -32,7 +32,7 @@ heads x y xs ys e = cc
 tails : (x y : ℕ) (xs ys : List ℕ) → x ∷ xs ≡ y ∷ ys → xs ≡ ys
 tails x y xs ys e = cc
 
--- the next byte can be told from the wire text
+-- the next byte is determined by the wire text
 next_byte : (x y : ℕ) (xs ys : List ℕ) → ByteForm x → ByteForm y → wire_byte x ++ xs ≡ wire_byte y ++ ys → (x ≡ y) × (xs ≡ ys)
 next_byte x y xs ys (Line a b) (Line c d) e =
     let f : 13 ∷ 10 ∷ xs ≡ 13 ∷ 10 ∷ ys = rw (b, d) at e in (a ∙ sym c, cc)

@@ -1,4 +1,4 @@
--- The length of a file as it is counted is its length, where its blocks can be numbered.
+-- The measured length of a file is its length, if its blocks can be numbered.
 use Rattle.std.proofs.Common.{◌≡◌, ◌+◌, ℕ, ◌*◌, ◌<◌, ◌≤◌, List, length, arith}
 use Rattle.std.specs.Prelude.{min}
 use Rattle.tftp_file.specs.declared.length.TheConstants.{MAX_WIRE}

@@ -98,7 +98,7 @@ fit_words : (options : List RawOption) (kind : Kind) (told : ℕ) (limits : Limi
 fit_words options kind told limits [] f ok h = tt
 fit_words options kind told limits (k ∷ ks) f ok h = (fits_word options kind told limits k f ok h.0, fit_words options kind told limits ks f ok h.1)
 
--- each name stands once, so that there are three at most
+-- each name is there once, so there are three at most
 three_at_most : (kind : Kind) (mode : Mode) (told : ℕ) (limits : Limits) (options : List RawOption) (ks : List Known) → IsBlockSize limits.max_block →
     answer options kind mode told limits ≡ Ok ks → length ks ≤ 3
 three_at_most kind mode told limits options ks ok e =

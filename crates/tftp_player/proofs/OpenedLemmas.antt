@@ -1,4 +1,4 @@
--- A client that opens, and an end that is told to refuse.
+-- A client that opens.
 use Rattle.std.proofs.Common.{◌≡◌, ℕ, suc, zero, ◌+◌, ◌<◌, ◌≤◌, true, List, [], ◌∷◌, ◌++◌, length, Some, None, refl, sym, ap, ◌∙◌, subst, arith, length-append}
 use Rattle.tftp_player.specs.Clients.{AskRefuses}
 use Rattle.tftp_player.specs.WorldSteps.{EventRefuses, WorldRefuses}
@@ -77,7 +77,7 @@ client_staged server ps records c port r staged is told client fits =
       quiet = staged.quiet;
     }
 
--- and as it is told
+-- the same, by equations
 pub client_entered : (server : PlayedServer) (ps ps0 ps1 : List Player) (records records0 records1 : List (ℕ × Record)) (c : PlayedClient) (port : ℕ) (r : Record) →
     IsStaged server ps records → port ≡ 1024 + length (ends_of server ps) → is_client c.end.role.side ≡ true → AreFilesOf c.end.role.side c.files → r ≡ record_of c.end →
     ps0 ≡ ps → ps1 ≡ ps0 ++ Client c ∷ [] → records0 ≡ records → records1 ≡ records0 ++ (port, r) ∷ [] → IsStaged server ps1 records1

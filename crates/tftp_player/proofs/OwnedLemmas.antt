@@ -1,4 +1,4 @@
--- The transfers that a server holds are those of its open ends, still where one end has changed.
+-- The transfers that a server holds are those of its open ends, also after one end has changed.
 use Rattle.std.proofs.Common.{◌≡◌, ◌≢◌, ℕ, ◌+◌, Bool, true, false, List, [], ◌∷◌, ◌++◌, Some, None, refl, sym, ap, ◌∙◌, arith}
 use Rattle.std.specs.Prelude.{slice_get, slice_set}
 use Rattle.std.proofs.lemmas.Bool.{true≢false}
@@ -19,7 +19,7 @@ use Rattle.tftp_machine.proofs.Places.{slice_get-set_same, slice_get-set_other, 
 abbrev pub AllOwned : List Player → List (ℕ × Transfer) → Type 0
 AllOwned ps held = AllByRecursion (λ (e : ℕ × Transfer). IsOwned ps e.0) held
 
--- another end is where it was
+-- another end is at its index as before
 owned_elsewhere : (ps : List Player) (place : ℕ) (p' : Player) (k : ℕ) → k ≢ 1024 + place → IsOwned ps k → IsOwned (slice_set ps place p') k
 owned_elsewhere ps place p' k n o = record {
   place = o.place;
@@ -29,7 +29,7 @@ owned_elsewhere ps place p' k n o = record {
   lives = o.lives;
 }
 
--- and that of this place, if it is the server's and open
+-- and that at this index, if it is the server's and open
 owned_here : (ps : List Player) (place : ℕ) (p : Player) (s' : Served) (k : ℕ) → slice_get ps place ≡ Some p → s'.ended ≡ None → k ≡ 1024 + place →
     IsOwned (slice_set ps place (Server s')) k
 owned_here ps place p s' k there lives is = record {
@@ -61,7 +61,7 @@ server_owned ps place p s' held there lives all =
       by k o true t = owned_here ps place p s' k there lives (same_at (1024 + place) k t)
       by k o false t = owned_elsewhere ps place (Server s') k (λ e. true≢false (sym (at_same (1024 + place) k e) ∙ t)) o
 
--- an end of the server with another in its place that ended as it did
+-- an end of the server replaced by another with the same record
 same_end : (ps : List Player) (place : ℕ) (s : Served) (k : ℕ) → slice_get ps place ≡ Some (Server s) → k ≡ 1024 + place → (o : IsOwned ps k) → o.served ≡ s
 same_end ps place s k there e o =
     let same : o.place ≡ place = let a = o.is in omega (arith, a, e) in
@@ -84,7 +84,7 @@ closed_owned ps port place p' held is rising all =
     all_both (λ (e : ℕ × Transfer). e.0 ≢ port) (λ (e : ℕ × Transfer). IsOwned ps e.0) (λ (e : ℕ × Transfer). IsOwned (slice_set ps place p') e.0) (without port held)
     (λ e n o. owned_elsewhere ps place p' e.0 (λ same. n (same ∙ sym is)) o) (gone-without port held rising) (AllKeys-without (IsOwned ps) port held all)
 
--- where there is an end more
+-- after an end was added
 pub pushed_owned : (ps : List Player) (p : Player) (held : List (ℕ × Transfer)) → AllOwned ps held → AllOwned (ps ++ p ∷ []) held
 pushed_owned ps p held all = AllKeys-weaker (IsOwned ps) (IsOwned (ps ++ p ∷ [])) held (λ k o. record {
   place = o.place;

@@ -65,7 +65,7 @@ same_endpoints a b e =
     let h = both_true (same_address a b) (a.port == b.port) e in
     endpoint_from a b (same_ips a b h.0) (eqb-true a.port b.port h.1)
 
--- whatever comes of an action is shown again
+-- the result of an action is shown
 abbrev pub Acting : List Rule → List EndView → List Message → ℕ → OpenEnd → (Holding → StoreFault → Type 0) → Endpoint → List ℕ → Action → Type 0
 Acting first views messages k x refuses_commit from bytes action =
     (turn : Turn) (held : Files (List ℕ) Holding) →

@@ -1,4 +1,5 @@
--- Ends that are told of one after another, each by its port and by what is held at that port, and how many of them are open.
+-- Values of ends in a list, each by the end's port and what is held at that port, and the number of
+-- open ends.
 use Rattle.std.proofs.Common.{◌≡◌, ◌≢◌, ℕ, suc, zero, ◌+◌, ◌<◌, ◌≤◌, Bool, true, false, List, [], ◌∷◌, ◌++◌, length, set, cond, count_by, Some, None, refl, sym, ap, ◌∙◌, subst, arith}
 use Rattle.std.specs.Prelude.{slice_get, slice_set}
 use Rattle.std.proofs.lemmas.List.Sums.{sum_by-cons, sum_by_push}
@@ -7,7 +8,7 @@ use Rattle.tftp_server.specs.State.{at}
 use Rattle.tftp_player.specs.World.{WorldEnd}
 use Rattle.tftp_player.specs.Requests.{is_transfer, open_transfers}
 
--- `told_from port held ps` is to be the list of what is told of each, in order, from this port on
+-- `told_from port held ps` is the list of the values of the ends, in order, from this port on
 module _ {P T X : Type 0} (told_at : ℕ → List (ℕ × T) → P → X) (told_from : ℕ → List (ℕ × T) → List P → List X)
     (empty : (port : ℕ) (held : List (ℕ × T)) → told_from port held [] ≡ [])
     (first : (port : ℕ) (held : List (ℕ × T)) (p : P) (ps : List P) → told_from port held (p ∷ ps) ≡ told_at port held p ∷ told_from (port + 1) held ps) where
@@ -15,7 +16,7 @@ module _ {P T X : Type 0} (told_at : ℕ → List (ℕ × T) → P → X) (told_
   told-length port held [] = ap length (empty port held)
   told-length port held (p ∷ ps) = ap length (first port held p ps) ∙ ap suc (told-length (port + 1) held ps)
 
-  -- what is told of the one at a place
+  -- the value at an index
   pub told-get : (port : ℕ) (held : List (ℕ × T)) (ps : List P) (k : ℕ) (p : P) → slice_get ps k ≡ Some p → slice_get (told_from port held ps) k ≡ Some (told_at (port + k) held p)
   told-get port held [] k p e = absurd (let f : None ≡ Some p = e in cc)
   told-get port held (q ∷ ps) zero p e =
@@ -52,7 +53,7 @@ module _ {P T X : Type 0} (told_at : ℕ → List (ℕ × T) → P → X) (told_
         ∙ (ap (λ (xs : List X). told_at port held p ∷ xs) (told-same (port + 1) held held' ps (λ other l u. same other (omega arith) (omega arith)))
         ∙ sym (first port held p ps)))
 
-    -- where the one at a place is another now, and what is held at its port
+    -- after the end at an index was replaced, and what is held at its port
     pub told-set : (port : ℕ) (held held' : List (ℕ × T)) (ps : List P) (k : ℕ) (p : P) → ((other : ℕ) → other ≢ port + k → at other held' ≡ at other held) →
         told_from port held' (slice_set ps k p) ≡ slice_set (told_from port held ps) k (told_at (port + k) held' p)
     told-set port held held' [] k p same =

@@ -1,4 +1,4 @@
--- How a turn at one place handles all ends of a world, and of the world.
+-- The effect of a turn at one index on all ends of a world, and on the world.
 use Rattle.std.proofs.Common.{◌≡◌, ℕ, suc, zero, ◌+◌, ◌<◌, ◌≤◌, Bool, true, false, List, [], ◌∷◌, ◌++◌, length, Option, Some, None, refl, sym, ap, ◌∙◌, subst, arith, inl, inr}
 use Rattle.std.specs.Prelude.{◌⊎◌, is_some, slice_get, slice_set, slice_index_or, option_map}
 use Rattle.std.proofs.lemmas.Bool.{true≢false}
@@ -61,7 +61,7 @@ from_kept port held (p ∷ ps) k = (k.0, from_kept (port + 1) held ps k.1)
 pub kept_at : (held : List (ℕ × Transfer)) (ps : List Player) (k : ℕ) (p : Player) → AllKept 1024 held ps → slice_get ps k ≡ Some p → PlayerKept (1024 + k) held p
 kept_at held ps k p all e = kept-get PlayerKept 1024 held ps k p (to_kept 1024 held ps all) e
 
--- what is recorded at a place
+-- the record at an index
 pub records_get : (port : ℕ) (ends : List WorldEnd) (k : ℕ) (x : WorldEnd) → slice_get ends k ≡ Some x → slice_get (records_from port ends) k ≡ Some (port + k, end_record x)
 records_get port [] k x e = absurd (let f : None ≡ Some x = e in cc)
 records_get port (y ∷ ends) zero x e =
@@ -82,7 +82,7 @@ records_set port (x ∷ ends) (suc k) y =
     ap (λ (rs : List (ℕ × Record)). (port, end_record x) ∷ rs) (records_set (port + 1) ends k y)
     ∙ ap (λ (n : ℕ). (port, end_record x) ∷ slice_set (records_from (port + 1) ends) k (n, end_record y)) there
 
--- ---- a turn at one place
+-- ---- a turn at one index
 module _ (place : ℕ) (before after : PlayedServer) (ps : List Player) (p : Player) (x : OpenEnd) (p' : Player) (turn : Turn) (held : Files (List ℕ) Holding) (effect : Effect) (r : Record)
     (t : Stepped (1024 + place) p x p' before after turn held effect r) where
   set_ends : ends_of after (slice_set ps place p') ≡ slice_set (ends_of before ps) place (end_at (1024 + place) after.held p')
@@ -129,7 +129,7 @@ timeout_commits : (files : Files (List ℕ) Drafted) (e : EndState) → is_some 
 timeout_commits (Source left) e open_now k = tt
 timeout_commits (Sink draft) e open_now k = λ f. k (not_yet e.position.phase e f open_now)
 
--- the open end at this port took a timeout
+-- the open end at this port handled a timeout
 pub record TimedOut (port : ℕ) (p p' : Player) (before after : PlayedServer) (effect : Effect) (r : Record) : Type 0 where
   pub end : OpenEnd
   pub stepped : Stepped port p end p' before after (timeout_turn end.state) (files_of end) effect r
@@ -172,7 +172,7 @@ keeps_store port (Server s) (Server s') before after effect r t = record {
 keeps_store port (Client c) (Server s') before after effect r t = absurd t
 keeps_store port (Server s) (Client c') before after effect r t = absurd t
 
--- an end that is open in the world is open where it is played
+-- an end that is open in the world is open as it is played
 ended_by : (port : ℕ) (s : Served) (o : Option Record) (h : Option Transfer) → is_closed (served_end port s o h) ≡ false → is_some o ≡ false
 ended_by port s None h e = refl
 ended_by port s (Some r) h e = absurd (true≢false e)
@@ -226,7 +226,7 @@ stage_stays place server ps p effect e closed is =
     }
 
 -- ---- the world
--- what goes out is the world's datagram, and what is reported its report
+-- the datagram to send is the world's, and so is the report
 pub said_is : (at : Endpoint) (reply : Option Reply) → said_by at (option_map (λ (q : Reply). q.to) reply) (reply_bytes reply) ≡ replied at reply
 said_is at None = refl
 said_is at (Some reply) = refl
@@ -286,7 +286,7 @@ pub address_is : (port : ℕ) (held : List (ℕ × Transfer)) (p : Player) → e
 address_is port held (Client c) = standing_address (client_end port c)
 address_is port held (Server s) = served_address port s s.ended (at port held)
 
--- what is known of the player at a place that is read
+-- what is known of the player at an index that is read
 module _ (server : PlayedServer) (ps : List Player) (records : List (ℕ × Record)) (place port : ℕ) (p : Player)
     (staged : IsStaged server ps records) (at_place : (place < length ps) × (port ≡ 1024 + place)) (reads : p ≡ slice_index_or ps place p) where
   is_there : slice_get ps place ≡ Some p
@@ -336,7 +336,7 @@ module _ (server : PlayedServer) (ps : List Player) (records : List (ℕ × Reco
       subst (λ (n : ℕ). IsStaged after (slice_set ps place p') (slice_set records place (n, r))) (sym at_place.1)
       (turn_staged place server after ps p h.end p' (timeout_turn h.end.state) (files_of h.end) effect r h.stepped records is_there staged)
 
--- the same, where what was sent is told by equations
+-- the same, with what was sent given by equations
 pub timeout_result : (config : Config) (sent : List Datagram) (place : ℕ) (before after : PlayedServer) (ps ps' : List Player) (effect : Effect) (port : ℕ) (old : WorldState) (sent0 sent1 : List Datagram) (report : Report) →
     world_of config sent before ps ≡ old → port ≡ 1024 + place → StageTimeoutStep place before after ps ps' effect →
     sent0 ≡ sent → sent1 ≡ sent0 ++ said_by effect.from effect.to effect.bytes → report ≡ report_by sent0 effect →
@@ -351,7 +351,7 @@ pub none_here : (server : PlayedServer) (ps : List Player) (count port : ℕ) �
 none_here server ps count port e (inl low) = inl low
 none_here server ps count port e (inr high) = let n = ends_length server.held ps in let h : 1024 + length (ends_of server ps) ≤ port = omega (arith, n, e, high) in inr h
 
--- an end at this port is there, so that want of memory alone can refuse its timeout
+-- there is an end at this port, so only lack of memory can refuse its timeout
 pub timeout_refused : (config : Config) (sent : List Datagram) (server : PlayedServer) (ps : List Player) (old : WorldState) (port place : ℕ) → world_of config sent server ps ≡ old → port ≡ 1024 + place → place < length ps →
     (fault : WorldFault) → fault ≡ Memory → WorldRefuses old (Timeout port) fault
 timeout_refused config sent server ps old port place view is within fault e =

@@ -32,8 +32,9 @@ use Rattle.tftp_player.specs.WorldSteps.{Serves}
 use Rattle.tftp_player.specs.declared.served.Served.{Served}
 use Rattle.tftp_player.proofs.ServerLemmas.{PortAsking, PortLeft, PortDid, held_sender, held_receiver}
 
--- ---- what was asked for where an end opens
--- the service opens an end in this mode at this path, which sends this file, or receives where the file is empty
+-- ---- the request of an end that opens
+-- the service opens an end in this mode at this path, which sends this file, or receives if the
+-- file is empty
 abbrev pub OpensFor : WorldState → Mode → (path file : List ℕ) → Service → Type 0
 OpensFor w mode path file (Sends p m count agreed) = (p ≡ path) × (m ≡ mode) × (file_at w.files path ≡ Some file)
 OpensFor w mode path file (Takes p m agreed) = (p ≡ path) × (m ≡ mode) × (file ≡ [])
@@ -116,7 +117,7 @@ module _ (w : WorldState) (mode : Mode) (path file : List ℕ) where
   opens_asks (Writes p m agreed) h = refl
 
 -- ---- an end of the server as it opens
--- it is what is kept of it and held of it at the server, and is set so
+-- it is consistent with what the server holds
 pub record IsNewEnd (w : WorldState) (from : Endpoint) (s : Served) (transfer : Transfer) (x : OpenEnd) : Type 0 where
   pub state : transfer.end ≡ x.state
   pub end : served_as (next_port w) s transfer.end (left_in transfer.files) (draft_of transfer.files) transfer.request ≡ x
@@ -188,7 +189,7 @@ new_receiver w from bytes mode path (known ∷ agreed) = record {
   ended = refl;
 }
 
--- ---- what the port did, by what it told
+-- ---- what the port did, by what it returned
 module _ (w : WorldState) (asking : PortAsking) (result : PortLeft) where
   -- a transfer opened: the end that the world says, and its first datagram went to whoever asked
   pub record PortOpened (what : Service) : Type 0 where
@@ -264,7 +265,7 @@ module _ (w : WorldState) (asking : PortAsking) (result : PortLeft) where
     serves = record { tells = refl; is = refl };
   })
 
-  -- by whether the call told an identifier
+  -- by whether the call returned an identifier
   pub port_opened : (what : Service) (tid : ℕ) → PortDid w what asking result → result.opened.tid ≡ Some tid → PortOpened what
   port_opened what tid did told = elim (port_seen what did) [
     | inl opened ↦ opened

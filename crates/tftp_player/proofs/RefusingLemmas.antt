@@ -1,4 +1,4 @@
--- An end that is told to refuse its next append or commit.
+-- An end that is set to refuse its next append or commit.
 use Rattle.std.proofs.Common.{◌≡◌, ℕ, ◌+◌, ◌<◌, Bool, true, false, List, [], length, Option, Some, None, refl, sym, ap, ◌∙◌, subst}
 use Rattle.std.specs.Prelude.{is_some, if◌then◌else◌, slice_get, slice_set, slice_index_or}
 use Rattle.std.specs.List.{AllByRecursion}
@@ -35,7 +35,7 @@ use Rattle.tftp_player.proofs.Standing.{standing_open, standing_closed}
 use Rattle.tftp_player.proofs.StageLemmas.{by_port, kept_by_port}
 use Rattle.tftp_player.proofs.StepLemmas.{refuse_step}
 
--- a sender is told nothing
+-- a sender is not set to refuse
 told_sender : (x : OpenEnd) → is_sender x.state.role.side ≡ true → told_to_refuse x ≡ x
 told_sender x e = ap (λ (b : Bool). if b then x else record x { refuses = true }) e
 
@@ -141,7 +141,7 @@ module _ (config : Config) (sent : List Datagram) (server : PlayedServer) (ps : 
   there : slice_get ps place ≡ Some p
   there = list_get ps place p within reads
 
-  -- as it is told
+  -- set to refuse
   abbrev q : Player
   q = told_player port server.held p
 

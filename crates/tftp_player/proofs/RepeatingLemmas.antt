@@ -197,7 +197,7 @@ module _ (from : Endpoint) (packet : Packet) where
     pushed : (y : OpenEnd) → Opens old y report new → Lasts z
     pushed y opens o = subst (Repeats from packet) (same_Some x z (sym (slice_get-push_old old.ends k (Open_end y) x there) ∙ (ap (λ (w : WorldState). slice_get w.ends k) (sym opens.is) ∙ here))) r
 
-    -- the end at a place became another
+    -- the end at an index was replaced
     set_at : (j : ℕ) (y a : WorldEnd) → new.ends ≡ slice_set old.ends j a → slice_get old.ends j ≡ Some y → (Repeats from packet y → Lasts a) → Lasts z
     set_at j y a e at lasts = elim (slice_get-set_cases old.ends j k a z (ap (λ (ends : List WorldEnd). slice_get ends k) (sym e) ∙ here)) [
       | inl h ↦ subst Lasts (sym h.1) (lasts (subst (Repeats from packet) (same_Some x y (sym there ∙ (ap (slice_get old.ends) h.0 ∙ at))) r))

@@ -64,7 +64,7 @@ no_size Tsize (Some v) rest n = refl
 told : RawOption → List Known → List Known
 told o rest = option_to_list (told_as (name_of o.name) (number_of o.value)) ++ rest
 
--- the OACK that tells of an agreement says its block size
+-- the block size of an OACK with these options is the agreed one
 pub own_oack : (agreed : List Known) → AllByRecursion IsAgreeable agreed → oack_size (agreed_options agreed) ≡ size agreed
 own_oack [] h = refl
 own_oack (known.Blksize n ∷ agreed) h =
@@ -124,7 +124,7 @@ pub negotiated_each : (b : Bool) (r : Result (List Known) Refusal) (ks : List Kn
 negotiated_each true r ks e = cc
 negotiated_each false r ks e = e
 
--- what a client agrees to is what the OACK tells
+-- what a client agrees to is what the OACK says
 pub taken_oack : (asked : Asked) (kind : Kind) (mode : Mode) (options : List RawOption) (limit : ℕ) (ks : List Known) → agreement asked kind mode options limit ≡ Ok ks → oack_size options ≡ size ks
 taken_oack asked kind mode options limit ks e =
     ap size (each_told asked kind mode limit options ks (negotiated_each (repeats options) (each_judged (taken_option asked kind mode limit) options) ks e))

@@ -65,7 +65,7 @@ sends_each old new (RefuseStore port) report s h =
     subst HasSentEach (sym s.4) (let a = length-set old.ends s.0 (told_end s.1) in let l : length (slice_set old.ends s.0 (told_end s.1)) ≤ length old.sent = omega (arith, a, h) in l)
 sends_each old new (Stray from to bytes) report s h = arrives old new _ _ _ report s.1 h
 
--- the port of the end at a place is recorded there
+-- the record at an index has the port of the end there
 pub record_port : (port : ℕ) (ends : List WorldEnd) (k : ℕ) (d : ℕ × Record) → k < length ends → (slice_index_or (records_from port ends) k d).0 ≡ port + k
 record_port port [] k d within = absurd (let h : k < 0 = within in omega (arith, h))
 record_port port (x ∷ ends) zero d within = omega arith

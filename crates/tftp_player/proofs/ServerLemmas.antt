@@ -62,14 +62,14 @@ says_something bytes fine = by_fault (first_fault bytes) refl where
   by_fault None e = (Some (packet_in bytes), fault_where_nothing bytes fine e)
   by_fault (Some fault) e = (None, (fault, e))
 
--- of a text that was counted to its end, the first block is wanted
+-- the first block is asked for of a text that was measured to its end
 first_want : (m n : ℕ) → m ≡ n → block_length m DEFAULT_BLOCK 1 ≡ min DEFAULT_BLOCK n
 first_want m n e = omega arith
 
 first_whole : (m n : ℕ) → m ≡ n → min (block_length m DEFAULT_BLOCK 1) n ≡ block_length m DEFAULT_BLOCK 1
 first_whole m n e = omega arith
 
--- and it came
+-- and it was read
 first_moved : (text rest piece : List ℕ) (m : ℕ) → m ≡ length text → Moved text (Some rest) (block_length m DEFAULT_BLOCK 1) [] piece (block_length m DEFAULT_BLOCK 1) →
     (piece ≡ block text DEFAULT_BLOCK 1) × (rest ≡ drop DEFAULT_BLOCK text)
 first_moved text rest piece m e f =
@@ -109,7 +109,7 @@ read_end w peer request mode path file (known ∷ others) m retries rest e whole
       s.0,
     )
 
--- a path is taken where a file stands in its way
+-- a path is taken if a file is in its way
 taken_is : (replace : Bool) (there : Option (List ℕ)) → (not replace && is_some there) ≡ is_some (in_the_way replace there)
 taken_is true there = refl
 taken_is false there = refl
@@ -128,7 +128,7 @@ pub record PortAsking : Type 0 where
   pub bytes : List ℕ
   pub tid : ℕ
 
--- what the port left, and what came of a datagram
+-- the state after the port's call, and its result
 abbrev pub PortLeft : Type 0
 PortLeft = Left Stored (List ℕ) Drafted
 
@@ -245,7 +245,7 @@ module _ (w : WorldState) (asking : PortAsking) (came : PortCame) (s : IsServerO
       ∙ (ap (λ (b : Bool). is_some (in_the_way b (file_at asking.old.store.files path))) s.overwrite
       ∙ ap (λ (files : List StoredFile). is_some (in_the_way w.overwrite (file_at files path))) s.files)
 
-  -- what the port asked came to what it comes to in the world
+  -- the port's request of its store has the result that it has in the world
   port_did : (ask : Ask) → Goes memory_meaning memory_source asking.old asking.from asking.bytes ask came → Did (served w ask)
   port_did Ignores h = ap (λ (c : PortCame). port_left c asking) h
   port_did (Refuses reply) h = refused reply h

@@ -50,7 +50,7 @@ Drafts = Drafting Stored Drafted
 abbrev pub seen : Drafts → Holding
 seen d = record { bytes = d.draft.bytes; committed = d.draft.committed; refuses = d.store.refuses }
 
--- a draft for this path, where these are the server's files
+-- a draft for this path, if these are the server's files
 abbrev IsFor : Bool → List ℕ → FileList → Drafts → Type 0
 IsFor replace path files d = (d.path ≡ path) × (d.replace ≡ replace) × (d.store.files ≡ files)
 

@@ -27,7 +27,7 @@ use Rattle.tftp_player.specs.declared.effect.Effect.{Effect}
 use Rattle.tftp_player.specs.declared.served.Served.{Served}
 use Rattle.tftp_player.proofs.HeldLemmas.{at-with_next}
 
--- a transfer that made a step has closed as the step told
+-- a transfer that made a step has closed as the step returned
 pub closes_as : (port : ℕ) (h next : Transfer) (held held' : List (ℕ × Transfer)) (turn : Turn) (step : Step) → at port held ≡ Some h → held' ≡ with_next port next held → next.end ≡ after_turn h.end turn → step ≡ told h.end turn →
     ClosesAs step.closed (at port held')
 closes_as port h next held held' turn step found e is tells =
@@ -41,14 +41,14 @@ pub is_recorded : (closed : Option Outcome) (o : Option Transfer) (r : Option Re
 is_recorded closed None r c e none = c
 is_recorded closed (Some h) r c e none = let f : Some (record_of h.end) ≡ None = sym e ∙ none in cc
 
--- what a step of an end there comes to
+-- the result of a step of an end there
 pub effect_is : (at : Endpoint) (e e' : EndState) (turn : Turn) (step : Step) (start out : List ℕ) → start ≡ [] → Carries e turn e' step.to start out → step ≡ told e turn →
     (let effect : Effect = record { from = at; to = step.to; bytes = out; closed = step.closed } in effect) ≡ effect_of at turn
 effect_is at e e' turn step start out none c tells =
     ap (λ (s : Step). record { from = at; to = s.to; bytes = out; closed = s.closed }) tells
     ∙ ap (λ (bytes : List ℕ). record { from = at; to = (told e turn).to; bytes = bytes; closed = outcome_of turn.position.phase }) (c.appended ∙ ap (λ (s : List ℕ). s ++ reply_bytes turn.reply) none)
 
--- what it left at the server, which has become that, where it was taken out if it has closed
+-- the server after it: the transfer is removed if it has closed
 turns_served : (port : ℕ) (was old new : Served) (before mid after : PlayedServer) (e : EndState) (turn : Turn) (next : Transfer) (refuses : Bool) (store : Stored) (effect : Effect) (r : Record) →
     next.end ≡ after_turn e turn → at port mid.held ≡ Some next → mid ≡ record before { store = store; held = with_next port next before.held } → old ≡ record was { refuses = refuses } →
     Concludes port (at port mid.held) old new mid after → r ≡ record_of next.end → effect ≡ effect_of (server_at port) turn →
@@ -87,7 +87,7 @@ served_times_out port old new before mid after step start out effect r none t re
           (made ∙ ap (λ (a : Endpoint). record { from = a; to = step.to; bytes = out; closed = step.closed }) is_here ∙ effect_is (server_at port) t.transfer.end t.end turn step start out none t.carries t.tells),
     )
 
--- ---- a datagram: the server was told what the end is told, and afterwards nothing
+-- ---- a datagram: the store was set to refuse as the end is, and afterwards not to
 module _ (port : ℕ) (from : Endpoint) (bytes : List ℕ) (was old new : Served) (before mid quieted after : PlayedServer) (step : Step) (start out : List ℕ) (effect : Effect) (r : Record) where
   steps_so : start ≡ [] → (t : TakesDatagram memory_meaning memory_source port from bytes (server_told before was.refuses) mid step start out) → r ≡ record_of t.next.end →
       mid ≡ record before { store = mid.store; held = mid.held } → old ≡ record was { refuses = mid.store.refuses } → quieted ≡ server_told mid false →
@@ -114,7 +114,7 @@ module _ (port : ℕ) (from : Endpoint) (bytes : List ℕ) (was old new : Served
         (made ∙ effect_is (server_at port) t.transfer.end t.next.end t.takes.turn step start out none t.takes.carries t.takes.tells);
   }
 
-  -- the server, and what goes out, are told by equations
+  -- the server, and the datagram to send, are given by equations
   pub served_steps : (told : PlayedServer) → told ≡ server_told before was.refuses → start ≡ [] → TakesRecorded memory_meaning memory_source port from bytes told mid step r start out →
       mid ≡ record told { store = mid.store; held = mid.held } → old ≡ record was { refuses = mid.store.refuses } → quieted ≡ server_told mid false →
       Concludes port (at port quieted.held) old new quieted after → (from_here : Endpoint) → from_here ≡ server_at port → effect ≡ record { from = from_here; to = step.to; bytes = out; closed = step.closed } →
@@ -126,7 +126,7 @@ module _ (port : ℕ) (from : Endpoint) (bytes : List ℕ) (was old new : Served
       (rest ∙ ap (λ (s : PlayedServer). record s { store = mid.store; held = mid.held }) told_is) told_so quiet c
       (made ∙ ap (λ (a : Endpoint). record { from = a; to = step.to; bytes = out; closed = step.closed }) is_here)
 
--- ---- a datagram that the end did not take leaves all as it was
+-- ---- a datagram that the end did not handle changes nothing
 same_by : (port : ℕ) (h : Transfer) (e : ℕ × Transfer) (held : List (ℕ × Transfer)) (b : Bool) → is_at (nat_cmp port) e.0 ≡ b → at port (e ∷ held) ≡ Some h →
     (is_at (nat_cmp port) e.0 ≡ false → with_next port h held ≡ held) → cond b ((e.0, h) ∷ held) (e ∷ with_next port h held) ≡ e ∷ held
 same_by port h e held true t found rest =

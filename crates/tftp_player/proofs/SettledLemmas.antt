@@ -1,4 +1,4 @@
--- Deliveries that are wanted are as many as an accepted transfer needs, where at least so many are wanted.
+-- `settle` makes as many deliveries as an accepted transfer needs, if its limit is not below.
 use Rattle.std.proofs.Common.{◌≡◌, ◌⊎◌, inl, inr, ℕ, ◌+◌, ◌<◌, ◌≤◌, Bool, true, false, nat_lt, List, [], ◌∷◌, length, Option, Some, None, refl, sym, ap, ◌∙◌, arith}
 use Rattle.std.specs.Prelude.{slice_get}
 use Rattle.std.proofs.lemmas.Bool.{true≢false, ltb-true, ltb-false}
@@ -38,7 +38,7 @@ settled_ends old begun new most made count s enough ends =
     let is = reached (length old.sent) (length new.sent) made most count enough s.all few (λ less. let e = ends.goes_on (let n : length s.reports < count = omega (arith, m, less) in n) in omega (arith, e, m)) in
     (is, ends.through (m ∙ is))
 
--- ---- where no end has closed because of its store, no delivery was refused by one
+-- ---- if no end has closed because of its store, no delivery was refused by one
 after_outcome : (x : OpenEnd) (turn : Turn) (held : Files (List ℕ) Holding) → outcome_of (end_after x turn held).state.position.phase ≡ outcome_of turn.position.phase
 after_outcome x turn (Source left) = refl
 after_outcome x turn (Sink holding) = refl

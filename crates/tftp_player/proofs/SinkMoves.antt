@@ -36,7 +36,7 @@ use Rattle.tftp_player.proofs.SaidLemmas.{spells_own}
 use Rattle.tftp_player.proofs.EndMoves.{Goes, error_says, going_live}
 use Rattle.tftp_player.proofs.Standing.{has_failed, open_view}
 
--- what a sink made of a block's bytes: all of them were stored, or none
+-- the effect of a block's bytes on a sink: all of them were stored, or none
 pub data Took (before after : Holding) (bytes : List ℕ) (answer : Result Done StoreFault) : Type 0 where
   All_of_it : (answer ≡ Ok tt) → (after.bytes ≡ before.bytes ++ bytes) → (before.committed ≡ false → after.committed ≡ false) → Took before after bytes answer
   None_of_it : (fault : StoreFault) → (answer ≡ Err fault) → (after.bytes ≡ before.bytes) → (after.committed ≡ before.committed) → Took before after bytes answer
@@ -62,7 +62,7 @@ took before after [] answer refuses_commit h memory =
     All_of_it h.0 (ap (λ (z : Holding). z.bytes) h.1 ∙ sym (append-nil before.bytes)) (λ c. ap (λ (z : Holding). z.committed) h.1 ∙ c)
 took before after (b ∷ bytes) answer refuses_commit h memory = took_some before.refuses before after b bytes answer refl h.0 h.1 memory
 
--- what a sink made of a commit: it keeps its bytes
+-- the effect of a commit on a sink: it keeps its bytes
 pub data Kept_all (before after : Holding) (answer : Result Done StoreFault) : Type 0 where
   For_good : (answer ≡ Ok tt) → (after.bytes ≡ before.bytes) → (after.committed ≡ true) → Kept_all before after answer
   Not_yet : (fault : StoreFault) → (answer ≡ Err fault) → (after.bytes ≡ before.bytes) → (after.committed ≡ before.committed) → Kept_all before after answer
@@ -79,13 +79,13 @@ kept_by false before after (Err fault) h =
     let e = same_Some after before h in
     Not_yet fault refl (ap (λ (z : Holding). z.bytes) e) (ap (λ (z : Holding). z.committed) e)
 
--- the text with a CR behind it ends in a CR
+-- the text with a CR after it ends in a CR
 ends_cr : (bs : List ℕ) → ends_in_cr (bs ++ 13 ∷ []) ≡ true
 ends_cr [] = refl
 ends_cr (b ∷ []) = refl
 ends_cr (b ∷ c ∷ bs) = ends_cr (c ∷ bs)
 
--- behind the last block nothing is held back
+-- after the last block nothing is held back
 none_held_in : (a c : Bool) → (a && not (true && c)) ≡ true → c ≡ false
 none_held_in true true e = absurd (true≢false (sym e))
 none_held_in false true e = absurd (true≢false (sym e))

@@ -37,7 +37,7 @@ use Rattle.tftp_player.proofs.SaidLemmas.{spells_own}
 use Rattle.tftp_player.proofs.EndMoves.{Goes}
 use Rattle.tftp_player.proofs.Standing.{open_view, placed}
 
--- a source in memory was asked for block n + 1, behind the n blocks that it gave
+-- a source in memory was asked for block n + 1, after the n blocks that it gave
 pub record BlockSent (terms : Terms) (n : ℕ) (from : Endpoint) (e : EndState) (text : List ℕ) (turn : Turn) (left : List ℕ) : Type 0 where
   pub turn_is : turn ≡ sent_turn (Sending terms (n + 1)) from (data_bytes (n + 1) (block text terms.size (n + 1))) e
   pub left_is : left ≡ drop ((n + 1) * terms.size) text
@@ -45,7 +45,7 @@ pub record BlockSent (terms : Terms) (n : ℕ) (from : Endpoint) (e : EndState) 
 back : (n : ℕ) → n + 1 - 1 ≡ n
 back n = omega arith
 
--- as much is wanted of the source as it can give of a block
+-- the source is asked for as much of a block as it can give
 requested_end : (terms : Terms) (n : ℕ) (e : EndState) (text left : List ℕ) → e.role.length ≡ length text → left ≡ drop (n * terms.size) text →
     block_length e.role.length terms.size (n + 1) ≡ min terms.size (length left)
 requested_end terms n e text left measured behind =
@@ -149,7 +149,7 @@ data_kept x terms n from kept measured sender positive small fits l peer = recor
   committed = λ r. absurd (true≢false (sym sender ∙ r));
 }
 
--- a sender's text is told
+-- a sender's text is shown
 pub text_if : (b : Bool) (f r : List ℕ) → b ≡ true → (if b then f else r) ≡ f
 text_if true f r e = refl
 text_if false f r e = absurd (true≢false (sym e))

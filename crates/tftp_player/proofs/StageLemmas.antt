@@ -30,7 +30,7 @@ use Rattle.tftp_player.proofs.OwnedLemmas.{AllOwned, client_owned, server_owned,
 use Rattle.tftp_player.specs.Requests.{is_transfer}
 use Rattle.tftp_player.proofs.Standing.{standing_record, standing_open, standing_ended, standing_transfer}
 
--- an end is told by what is held at its port
+-- an end depends on what is held at its port
 pub by_port : (port : ℕ) (held held' : List (ℕ × Transfer)) (p : Player) → at port held' ≡ at port held → end_at port held' p ≡ end_at port held p
 by_port port held held' (Client c) e = refl
 by_port port held held' (Server s) e = ap (λ (o : Option Transfer). served_end port s s.ended o) e
@@ -129,7 +129,7 @@ client_open port c c' server turn files effect r kept open_now t kind =
       config = refl;
     }
 
--- as it stands in the world
+-- as it is in the world
 pub client_steps : (port : ℕ) (c c' : PlayedClient) (before after : PlayedServer) (turn : Turn) (files : Files (List ℕ) Holding) (effect : Effect) (r : Record) →
     PlayerKept port before.held (Client c) → is_some (outcome_of c.end.position.phase) ≡ false → ClientTurns port c c' turn files effect r → after ≡ before → SameKind c.files files →
     Stepped port (Client c) (client_end port c) (Client c') before after turn files effect r
@@ -187,7 +187,7 @@ pub has_draft : (side : _) (files : Files (List ℕ) Drafted) → AreFilesOf sid
 has_draft side (Source left) fits = ap not (sym fits)
 has_draft side (Sink draft) fits = ap not (sym fits)
 
--- a sender is told nothing
+-- a sender's flag is unchanged
 abbrev pub KeepsTold : Files (List ℕ) Drafted → Bool → Bool → Type 0
 KeepsTold (Source left) old new = new ≡ old
 KeepsTold (Sink draft) old new = Unit {0}
@@ -209,7 +209,7 @@ served_after port s e turn (Sink draft) (Sink draft') refuses request k told = r
 served_after port s e turn (Source left) (Sink draft) refuses request k told = absurd k
 served_after port s e turn (Sink draft) (Source left) refuses request k told = absurd k
 
--- what a turn of a transfer h makes of it, next, beside its end
+-- the effect of a turn of a transfer h, beside its end
 pub record TransferGoes (h next : Transfer) (turn : Turn) (was refuses : Bool) : Type 0 where
   pub end : next.end ≡ after_turn h.end turn
   pub kind : SameDraftKind h.files next.files
@@ -345,7 +345,7 @@ module _ (port : ℕ) (s : Served) (before : PlayedServer) (h next : Transfer) (
     config = refl;
   }
 
--- an end of the server whose transfer made a turn, as it stands in the world
+-- an end of the server whose transfer made a turn, as it is in the world
 pub served_steps : (port : ℕ) (s s' : Served) (before after : PlayedServer) (h next : Transfer) (turn : Turn) (refuses : Bool) (store : Stored) (effect : Effect) (r : Record) →
     at port before.held ≡ Some h → is_some s.ended ≡ false → PlayerKept port before.held (Server s) →
     SameDraftKind h.files next.files → next.path ≡ h.path → next.request ≡ h.request → KeepsTold h.files s.refuses refuses → CommitsLast next.files turn.position.phase → (before.store.refuses ≡ false → store.refuses ≡ false) →

@@ -1,4 +1,4 @@
--- An end after a turn as it stands in the world: open, or closed with its record.
+-- An end after a turn, in the world: open, or closed with its record.
 use Rattle.std.proofs.Common.{◌≡◌, ℕ, Bool, true, false, List, set, Option, Some, None, refl, sym, ap, ◌∙◌, subst, inl, inr}
 use Rattle.std.specs.Prelude.{◌&&◌, not, is_some, slice_get}
 use Rattle.std.specs.List.{Contains}
@@ -24,7 +24,7 @@ has_failed (Receiving terms number) = false
 has_failed (Dallying terms number dally) = false
 has_failed (Closed terms number complete outcome) = not complete
 
--- what is to be told of an end after a turn, which may have closed it
+-- the view of an end after a turn, which may have closed it
 abbrev pub open_view : OpenEnd → EndView
 open_view x =
     record {
@@ -45,14 +45,14 @@ open_view x =
 abbrev pub placed : Phase → OpenEnd → OpenEnd
 placed phase x = in_state (with_position (record x.state.position { phase = phase }) x.state) x
 
--- an end stands in the world by how it ended
+-- an end in the world is open or closed
 pub stands_as : {A : Type 0} (f : WorldEnd → A) (a : A) (x : OpenEnd) → f (Open_end x) ≡ a → f (Closed_end (closed_end x)) ≡ a → f (standing x) ≡ a
 stands_as {A = A} f a x open_now closed_now = by_case (outcome_of x.state.position.phase) where
   by_case : (o : Option Outcome) → f (by_outcome o x) ≡ a
   by_case None = open_now
   by_case (Some outcome) = closed_now
 
--- what is to be told of it is the same, but for what asked for it, of which a closed end keeps nothing
+-- its view is the same, except for the request, which a closed end does not keep
 abbrev pub IsToldSo : OpenEnd → WorldEnd → Type 0
 IsToldSo x y = view_of_end y ≡ record (open_view x) { request = end_request y }
 
@@ -87,7 +87,7 @@ pub no_outcome : (o : Option Outcome) → is_some o ≡ false → o ≡ None
 no_outcome None e = refl
 no_outcome (Some outcome) e = absurd (true≢false e)
 
--- an open end stands as it is
+-- an open end is unchanged
 pub standing_open : (x : OpenEnd) → is_some (outcome_of x.state.position.phase) ≡ false → standing x ≡ Open_end x
 standing_open x e = ap (λ (o : Option Outcome). by_outcome o x) (no_outcome (outcome_of x.state.position.phase) e)
 
@@ -100,7 +100,7 @@ open_is x e = open_in x.state.position.phase x e where
   open_in (Dallying terms number dally) y e = refl
   open_in (Closed terms number complete outcome) y e = absurd (true≢false e)
 
--- and so it is shown: of a closed one nothing is told of what asked for it
+-- and so it is shown: a closed one without its request
 pub standing_shown : (first : List Rule) (views : List EndView) (messages : List Message) (k : ℕ) (d : EndView) (x : OpenEnd) → slice_get views k ≡ Some d →
     IsShownWithin 3 first (set views k (open_view x)) messages → IsShownWithin 3 first (set views k (view_of_end (standing x))) messages
 standing_shown first views messages k d x at shown = elim (cases_Bool (is_some (outcome_of x.state.position.phase))) [
@@ -108,7 +108,7 @@ standing_shown first views messages k d x at shown = elim (cases_Bool (is_some (
   | inr open_now ↦ subst (λ (v : EndView). IsShownWithin 3 first (set views k v) messages) (sym (ap view_of_end (standing_open x open_now) ∙ open_is x open_now)) shown
 ]
 
--- a closed one stands with its record
+-- a closed one has its record
 pub standing_ended : (x : OpenEnd) → is_some (outcome_of x.state.position.phase) ≡ true → standing x ≡ Closed_end (closed_end x)
 standing_ended x e = by_case (outcome_of x.state.position.phase) e where
   by_case : (o : Option Outcome) → is_some o ≡ true → by_outcome o x ≡ Closed_end (closed_end x)

@@ -1,4 +1,4 @@
--- Steps of a world, from what happened at one place of it.
+-- Steps of a world, from what happened at one index of it.
 use Rattle.std.proofs.Common.{◌≡◌, ◌≢◌, ℕ, ◌+◌, ◌<◌, ◌≤◌, Bool, true, List, length, Some, refl, sym, ap, ◌∙◌, subst, arith, inl, inr}
 use Rattle.std.specs.Prelude.{◌⊎◌, ◌&&◌, not, slice_get, slice_set}
 use Rattle.std.proofs.lemmas.Option.{same_Some, slice_get_within}
@@ -16,7 +16,7 @@ use Rattle.tftp_player.specs.Openings.{reading_client, writing_client, MayGet, M
 use Rattle.tftp_player.specs.declared.event.Event.TheVariants.{Get, Put, Timeout, RefuseStore}
 use Rattle.tftp_player.proofs.ServerTurns.{files_same, timeout_after}
 
--- the turn, where the end is a client's or commits nothing now
+-- the turn, if the end is a client's or commits nothing now
 pub turns_as : (w : WorldState) (k : ℕ) (x : OpenEnd) (turn : Turn) (held : Files (List ℕ) Holding) →
     FilesAfter w.overwrite (not (is_client x.state.role.side) && has_committed x (end_after x turn held)) x.path (end_after x turn held).stored w.files w.files →
     Turns w k x turn held (report_of w x turn) (world_after w k x turn held w.files)
@@ -46,12 +46,12 @@ timeout_step w port k x at =
 pub timeout_stays : (w : WorldState) (port k : ℕ) (x : ClosedEnd) → IsAtPort w port k (Closed_end x) → WorldStep w (Timeout port) no_report w
 timeout_stays w port k x at = (k, Closed_end x, at, record { tells = refl; is = refl })
 
--- an end was told to refuse its next append or commit
+-- an end was set to refuse its next append or commit
 pub refuse_step : (w : WorldState) (port k : ℕ) (x : WorldEnd) → IsAtPort w port k x →
     WorldStep w (RefuseStore port) no_report (record w { ends = slice_set w.ends k (told_end x) })
 refuse_step w port k x at = (k, x, at, refl, refl)
 
--- at an open end that took it
+-- at an open end that handled it
 pub open_arrives : (w : WorldState) (k : ℕ) (x : OpenEnd) (from : Endpoint) (bytes : List ℕ) (turn : Turn) (held : Files (List ℕ) Holding) (files : List StoredFile) → slice_get w.ends k ≡ Some (Open_end x) →
     EndStep (is_client x.state.role.side) (in_the_way w.overwrite (file_at w.files x.path)) from bytes x.state (files_of x) turn held →
     FilesAfter w.overwrite (not (is_client x.state.role.side) && has_committed x (end_after x turn held)) x.path (end_after x turn held).stored w.files files →
@@ -64,11 +64,11 @@ pub closed_arrives : (w : WorldState) (k : ℕ) (x : ClosedEnd) (from : Endpoint
     Arrives w from x.address bytes no_report w
 closed_arrives w k x from bytes at = At_closed_end k x at refl (record { tells = refl; is = refl })
 
--- each end has the port of its place
+-- each end has the port of its index
 abbrev pub HasPorts : WorldState → Type 0
 HasPorts w = (k : ℕ) (x : WorldEnd) → slice_get w.ends k ≡ Some x → (end_address x).port ≡ 1024 + k
 
--- where no end has the port
+-- if no end has the port
 pub none_arrives : (w : WorldState) (from to : Endpoint) (bytes : List ℕ) → HasPorts w → to ≢ request_port → (to.port < 1024) ⊎ (1024 + length w.ends ≤ to.port) →
     Arrives w from to bytes no_report w
 none_arrives w from to bytes ports away none = At_nobody away nobody (record { tells = refl; is = refl }) where
@@ -79,7 +79,7 @@ none_arrives w from to bytes ports away none = At_nobody away nobody (record { t
   nobody : (k : ℕ) (x : WorldEnd) → slice_get w.ends k ≡ Some x → end_address x ≢ to
   nobody k x e same = outside k (slice_get_within w.ends k x e) (ap (λ (a : Endpoint). a.port) (sym same) ∙ ports k x e) none
 
--- where the end with the port is at the other host
+-- if the end with the port is at the other host
 pub other_arrives : (w : WorldState) (from to : Endpoint) (bytes : List ℕ) (k : ℕ) (x : WorldEnd) → HasPorts w → to ≢ request_port → slice_get w.ends k ≡ Some x → to.port ≡ 1024 + k →
     end_address x ≢ to → Arrives w from to bytes no_report w
 other_arrives w from to bytes k x ports away there port differs = At_nobody away nobody (record { tells = refl; is = refl }) where

@@ -41,7 +41,7 @@ none_garbled : (b : Bool) → (b && false) ≡ false
 none_garbled true = refl
 none_garbled false = refl
 
--- a packet from where it may come is handled as what it is
+-- a packet from a known sender is handled as what it is
 near : (e : EndState) (from : Endpoint) (bytes : List ℕ) (packet : Packet) → is_stranger (terms_of e.position.phase) e.position.last_sent_to from ≡ false →
     datagram_action e from bytes (Some packet) ≡ packet_action e from (Some packet) e.position.phase
 near e from bytes packet known =
@@ -162,7 +162,7 @@ module _ (text : List ℕ) (size : ℕ) (positive : 0 < size) (fits : Fits text 
       let short = block_last n last in
       omega (arith, short, full)
 
-  -- behind a short block nothing is left
+  -- after a short block nothing is left
   pub last_rest : (n : ℕ) → nat_lt (length (block text size (n + 1))) size ≡ true → drop ((n + 1) * size) text ≡ []
   last_rest n e =
       let short = ltb-true (length (block text size (n + 1))) size e in

@@ -1,4 +1,5 @@
--- A run without loss completes: what the request, the server's answer and the client's first datagram come to.
+-- A run without loss completes: the results of the request, the server's answer and the client's
+-- first datagram.
 use Rattle.std.proofs.Common.{◌≡◌, ◌≢◌, ℕ, ◌+◌, ◌*◌, ◌/◌, ◌^◌, ◌<◌, ◌≤◌, Bool, true, false, List, [], ◌∷◌, ◌++◌, length, take, drop, Some, None, refl, sym, ap, ◌∙◌, subst, arith}
 use Rattle.std.specs.Prelude.{if◌then◌else◌, slice_get}
 use Rattle.std.proofs.lemmas.Bool.{lt-ltb, le-leb}

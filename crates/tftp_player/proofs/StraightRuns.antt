@@ -42,7 +42,7 @@ pub deliver_may : (strangers : Bool) (i : ℕ) → MayHappen strangers (Deliver 
 deliver_may true i = tt
 deliver_may false i = tt
 
--- ---- what a run has to say of its stores where it does not read: of a client that reads it follows
+-- ---- the premise on the stores of a run that does not read: for a client that reads it follows
 abbrev pub UnlessReads : Bool → Type 0 → Type 0
 UnlessReads true claim = ⊤
 UnlessReads false claim = claim
@@ -55,7 +55,7 @@ said_then : (reads : Bool) (A B : Type 0) → UnlessReads reads (A × B) → Unl
 said_then true A B s = tt
 said_then false A B s = s.1
 
--- a client that reads was not told to refuse
+-- a client that reads was not set to refuse
 abbrev pub IsWilling : Bool → OpenEnd → Type 0
 IsWilling true x = (is_client x.state.role.side ≡ true) × (x.refuses ≡ false)
 IsWilling false x = ⊤
@@ -74,7 +74,7 @@ pub record GoesOn (reads : Bool) (w : WorldState) (i : ℕ) (v : WorldState) : T
   pub taken : UnlessReads reads (TookAll report.closed)
   pub left : IsLeft reads mid (i + 1) v
 
--- both ends are complete at these places, and so many datagrams were sent
+-- both ends are complete at these indices, and `count` datagrams were sent
 pub record IsOver (v : WorldState) (one other count : ℕ) : Type 0 where
   pub x : WorldEnd
   pub y : WorldEnd
@@ -84,7 +84,8 @@ pub record IsOver (v : WorldState) (one other count : ℕ) : Type 0 where
   pub y_done : IsComplete y
   pub counted : length v.sent ≡ count
 
--- where so many deliveries, the datagrams from place i on, complete both ends at these places, and so many of them were made
+-- `rest` deliveries, of the datagrams from index i on, complete both ends at these indices, and
+-- `made` of them were made
 pub record Reaches (v : WorldState) (one other i made rest : ℕ) : Type 0 where
   pub few : made ≤ rest
   pub goes_on : made < rest → length v.sent ≡ i + made + 1
@@ -125,7 +126,7 @@ walks reads w v one other i rest more l then_on = by l.reports l.settles l.taken
             subst (λ (c : ℕ). IsOver v one other c) e (r.over n);
       }
 
--- where none is on its way the run is at its end
+-- if no datagram is left to deliver the run is at its end
 pub ends_here : (reads : Bool) (w v : WorldState) (one other i : ℕ) → IsOver w one other i → (l : IsLeft reads w i v) → Reaches v one other i (length l.reports) 0
 ends_here reads w v one other i over l = by l.reports l.settles where
   by : (reports : List Report) → Settles w i reports v → Reaches v one other i (length reports) 0
@@ -189,7 +190,7 @@ module _ (strangers : Bool) (ks kr : ℕ) (apart : kr ≢ ks) (sa ra : Endpoint)
     pub file_is : x.file ≡ file
     pub mode_is : x.state.role.mode ≡ mode
 
-  -- a receiver that has so many blocks, and stores the next one
+  -- a receiver that has n blocks, and stores the next one
   pub record AwaitsAt (reads : Bool) (w : WorldState) (n : ℕ) : Type 0 where
     pub x : OpenEnd
     pub there : slice_get w.ends kr ≡ Some (Open_end x)
@@ -272,7 +273,7 @@ module _ (strangers : Bool) (ks kr : ℕ) (apart : kr ≢ ks) (sa ra : Endpoint)
       from_peer x.state (Receiving rt n) rt sa (data_bytes (n + 1) (piece n)) (Data (n + 1) (piece n)) phase refl receiver_peer
       ∙ (data_next x.state.role.mode x.state.position.held rt n (piece n) ∙ next_is_stored x n f l mode_is received)
 
-  -- a receiver that takes this phase with what it has
+  -- a receiver that enters this phase with what it has
   pub awaits_now : (reads : Bool) (w : WorldState) (x : OpenEnd) (n : ℕ) → IsFit → n + 1 ≤ blocks → slice_get w.ends kr ≡ Some (Open_end x) → x.address ≡ ra → x.state.position.phase ≡ Receiving rt n → is_sender x.state.role.side ≡ false → IsWilling reads x →
       x.state.role.mode ≡ mode → wire_text x.state.role.mode x.stored ++ x.state.position.held ≡ take (n * st.size) text → HeldFits x.state.role.mode x.state.position.held → AwaitsAt reads w n
   awaits_now reads w x n f l there address phase receiver willing mode_is received holds = record {
@@ -287,7 +288,7 @@ module _ (strangers : Bool) (ks kr : ℕ) (apart : kr ≢ ks) (sa ra : Endpoint)
     stores = receiving_stores x n f l phase mode_is received;
   }
 
-  -- ---- DATA comes to the receiver
+  -- ---- DATA arrives at the receiver
   module _ (reads : Bool) (w v : WorldState) (i n : ℕ) (report : Report) (ready : IsReady strangers w i (data_at n)) (s : SendsAt w (n + 1)) (r : AwaitsAt reads w n) (l : n + 1 ≤ blocks)
       (step : WorldStep w (Deliver i) report v) (taken : UnlessReads reads (TookAll report.closed)) where
     fit : IsFit
@@ -297,7 +298,7 @@ module _ (strangers : Bool) (ks kr : ℕ) (apart : kr ≢ ks) (sa ra : Endpoint)
     handled = delivered w v i kr r.x sa (data_bytes (n + 1) (piece n)) report (ports_of strangers w ready.ok)
         (ready.newest ∙ ap (λ (a : Endpoint). Some (datagram sa a (data_bytes (n + 1) (piece n)))) (sym r.address)) r.there step
 
-    -- what a client that was not told to refuse makes of it
+    -- the step of a client that was not set to refuse
     taken_by : is_client r.x.state.role.side ≡ true → r.x.refuses ≡ false → TookAll report.closed × (is_told handled.held ≡ false)
     taken_by client untold =
         takes_data w v kr r.x sa (data_bytes (n + 1) (piece n)) report handled rt (n + 1) (piece n) client untold (spelled_at n fit l) r.stores r.receiver
@@ -347,7 +348,7 @@ module _ (strangers : Bool) (ks kr : ℕ) (apart : kr ≢ ks) (sa ra : Endpoint)
           done = ap is_complete (stored.1.phase ∙ stored_last_phase rt (n + 1) (length (piece n)) short);
         }
 
-  -- ---- an ACK comes to the sender
+  -- ---- an ACK arrives at the sender
   module _ (w v : WorldState) (i n : ℕ) (report : Report) (ready : IsReady strangers w i (ack_at n)) (s : SendsAt w n) (small : n ≤ blocks)
       (step : WorldStep w (Deliver i) report v) where
     way : IsUnderWay s.x st n
@@ -414,7 +415,7 @@ module _ (strangers : Bool) (ks kr : ℕ) (apart : kr ≢ ks) (sa ra : Endpoint)
         counted = let e = ap length is_done.2 in let f = length-append w.sent [] in let c = ready.count in omega (arith, e, f, c);
       }
 
-  -- ---- the rest of the run, from DATA n + 1 on its way, behind which so many blocks are left
+  -- ---- the rest of the run, from DATA n + 1 on, after which m blocks are left
   pub from_data : (reads : Bool) (m i n : ℕ) (w v : WorldState) → n + 1 + m ≡ blocks → IsReady strangers w i (data_at n) → SendsAt w (n + 1) → AwaitsAt reads w n → (l : IsLeft reads w i v) →
       Reaches v ks kr i (length l.reports) (2 + 2 * m)
   from_data reads zero i n w v is ready s r left =

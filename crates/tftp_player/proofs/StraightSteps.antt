@@ -1,4 +1,4 @@
--- What the delivery of a datagram does at the open end for which it is, where that sends, stores or is complete.
+-- The delivery of a datagram at the open end that it is for, if that sends, stores or is complete.
 use Rattle.std.proofs.Common.{◌≡◌, ℕ, ◌+◌, ◌*◌, Bool, true, false, List, [], ◌∷◌, ◌++◌, length, drop, Option, Some, None, Result, Ok, Err, refl, sym, ap, ◌∙◌, subst, arith}
 use Rattle.std.specs.Prelude.{◌≢◌, if◌then◌else◌, nat_lt, slice_get, slice_set, IfErr}
 use Rattle.std.proofs.lemmas.Bool.{true≢false}
@@ -46,7 +46,7 @@ use Rattle.tftp_player.proofs.SourceMoves.{sends_from, block_sent}
 use Rattle.tftp_player.proofs.StepLemmas.{HasPorts}
 use Rattle.tftp_player.proofs.WorldTurns.{view_at}
 
--- the end at place k of a world has port 1024 + k
+-- the end at index k of a world has port 1024 + k
 pub ports_of : (strangers : Bool) (w : WorldState) → IsOk strangers w → HasPorts w
 ports_of strangers w ok k x e = (ok.shown.1.1.ends k _ (view_at w.ends k x e)).1
 
@@ -110,8 +110,8 @@ abbrev pub stored_phase : Terms → ℕ → Bool → Phase
 stored_phase terms number true = Dallying terms number Fresh
 stored_phase terms number false = Receiving terms number
 
--- ---- a client that was not told to refuse
--- a sink was told to refuse its next call
+-- ---- a client that was not set to refuse
+-- a sink was set to refuse its next call
 abbrev pub is_told : Files (List ℕ) Holding → Bool
 is_told (Source left) = false
 is_told (Sink holding) = holding.refuses
@@ -126,7 +126,7 @@ append_taken before after bytes (Err faults.Full) untold h may memory = absurd (
 append_taken before after bytes (Err faults.Io) untold h may memory = absurd may
 append_taken before after bytes (Err faults.Memory) untold h may memory = absurd (memory refl)
 
--- its sink takes what is appended, and is not told to refuse then
+-- its sink accepts what is appended, and is not set to refuse then
 piece_taken : (before after : Holding) (bytes : List ℕ) (answer : Result Done StoreFault) (refuses_commit : Holding → StoreFault → Type 0) → before.refuses ≡ false →
     Appended (world_sink refuses_commit) bytes before after answer → answer ≢ Err faults.Memory → (answer ≡ Ok tt) × (after.refuses ≡ false)
 piece_taken before after [] answer refuses_commit untold h memory = (h.0, ap (λ (z : Holding). z.refuses) h.1 ∙ untold)
@@ -237,7 +237,7 @@ module _ (w v : WorldState) (k : ℕ) (x : OpenEnd) (from : Endpoint) (bytes : L
         refl,
       )
 
-  -- ---- a receiver stores a block that its store takes
+  -- ---- a receiver stores a block that its store accepts
   -- the end has this block and what it had before
   pub record HasStored (terms : Terms) (number : ℕ) (piece : List ℕ) (y : OpenEnd) : Type 0 where
     pub phase : y.state.position.phase ≡ stored_phase terms number (nat_lt (length piece) terms.size)
@@ -254,7 +254,7 @@ module _ (w v : WorldState) (k : ℕ) (x : OpenEnd) (from : Endpoint) (bytes : L
       let s = subst (λ (bs : List ℕ). StoresIn memory_source (world_sink refuses_commit) terms number from bs x.state (files_of x) h.turn h.held) (sym (data_of number a.0 bytes a.1) ∙ data_of number piece bytes spelled) a.2 in
       stores_in (is_sender x.state.role.side) receiver refuses_commit terms number from piece x.state x.left (holding_of x) h.turn h.held s
 
-  -- a client that was not told to refuse takes the block, and is not told to then
+  -- a client that was not set to refuse stores the block, and is not set to afterwards
   module _ (terms : Terms) (number : ℕ) (piece : List ℕ) (client : is_client x.state.role.side ≡ true) where
     abbrev closed_by : Turn → Option (ℕ × Outcome)
     closed_by turn = closed_at x.address (outcome_of turn.position.phase)

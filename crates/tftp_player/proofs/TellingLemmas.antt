@@ -1,4 +1,4 @@
--- What a world tells of the end at a port, and an end that is told to refuse.
+-- What a world returns of the end at a port.
 use Rattle.std.proofs.Common.{◌≡◌, ℕ, ◌+◌, ◌-◌, ◌<◌, ◌≤◌, Bool, true, false, List, length, Option, Some, None, refl, sym, ap, ◌∙◌, subst, arith, inl, inr}
 use Rattle.std.specs.Prelude.{◌⊎◌, not, is_some, nat_lt, if◌then◌else◌, unwrap_or, slice_get, slice_index_or, option_map, option_and_then}
 use Rattle.std.proofs.lemmas.Bool.{true≢false}
@@ -80,7 +80,7 @@ none_is ends port (inr high) =
     ap (λ (b : Bool). if b then None else slice_get ends (port - 1024)) test ∙ slice_get_past ends (port - 1024) past
 
 module _ (config : Config) (sent : List Datagram) (server : PlayedServer) (ps : List Player) (records : List (ℕ × Record)) (old : WorldState) (view : world_of config sent server ps ≡ old) (staged : IsStaged server ps records) (port : ℕ) where
-  -- what is told where an end is
+  -- what is returned if there is an end
   module _ (place : ℕ) (p : Player) (within : place < length ps) (is : port ≡ 1024 + place) (reads : p ≡ slice_index_or ps place p) where
     here : slice_get ps place ≡ Some p
     here = list_get ps place p within reads
@@ -100,7 +100,7 @@ module _ (config : Config) (sent : List Datagram) (server : PlayedServer) (ps : 
         ∙ (commits_is (1024 + place) server.held p
         ∙ (sym (ap (λ (o : Option WorldEnd). unwrap_or (option_map end_committed o) false) found) ∙ ap (λ (w : WorldState). committed_at w.ends port) view))
 
-  -- and where none is
+  -- and if there is no end
   module _ (count : ℕ) (counts : count ≡ length ps) (none : (port < 1024) ⊎ (1024 + count ≤ port)) where
     outside : (port < 1024) ⊎ (1024 + count ≤ port) → (port < 1024) ⊎ (1024 + length (ends_of server ps) ≤ port)
     outside (inl low) = inl low

@@ -63,7 +63,7 @@ agreed_size (Blksize n ∷ known) h = let l = h.0.0 in (omega arith, h.0.1)
 agreed_size (Timeout n ∷ known) h = agreed_size known h.1
 agreed_size (Tsize n ∷ known) h = agreed_size known h.1
 
--- and of one that a client took
+-- and of one that a client accepted
 pub taken_size : (asked : Asked) (kind : Kind) (options : List RawOption) (mode : Mode) (limit : ℕ) (known : List Known) → IsAskable asked → agreement asked kind mode options limit ≡ Ok known →
     (0 < size known) × (size known ≤ MAX_BLOCK)
 taken_size asked kind options mode limit known askable e =
@@ -92,7 +92,7 @@ module _ (first : List Rule) (views : List EndView) (messages : List Message) (k
   refusal_acts refusals.NotAsked = refuse_waiter replies.OptionRefused (outcomes.Refused refusals.NotAsked)
   refusal_acts refusals.BadValue = refuse_waiter replies.OptionRefused (outcomes.Refused refusals.BadValue)
 
-  -- a reader takes an OACK
+  -- a reader handles an OACK
   accept_acts : is_sender x0.state.role.side ≡ false → (options : List RawOption) (known : List Known) → Contains messages (message from x0.address (Says_oack (oack_size options))) →
       agreement asked kinds.Read x0.state.role.mode options limit ≡ Ok known → Answers (Respond (Accept (agreed_terms from known)))
   accept_acts reader options known come e turn held h =

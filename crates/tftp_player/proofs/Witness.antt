@@ -32,7 +32,7 @@ bytes_below [] e k = omega arith
 bytes_below (b ∷ bytes) e zero = ltb-true b 256 (first_of (nat_lt b 256) (all_bytes bytes) e)
 bytes_below (b ∷ bytes) e (suc k) = bytes_below bytes (second_of (nat_lt b 256) (all_bytes bytes) e) k
 
--- where one client is, its request is the first
+-- with one client, its request is the first
 pub first_request : (from : Endpoint) (packet : Packet) (x : OpenEnd) → is_client x.state.role.side ≡ true → IsRepeated false from (Some packet) (Open_end x ∷ [])
 first_request from packet x client = (
   λ f. absurd (true≢false (sym f)),
@@ -42,7 +42,7 @@ first_request from packet x client = (
   ],
 )
 
--- an open end took a datagram
+-- an open end handled a datagram
 pub takes : (w : WorldState) (i k : ℕ) (d : Datagram) (x : OpenEnd) (turn : Turn) (held : Files (List ℕ) Holding) (files : List StoredFile) →
     slice_get w.sent i ≡ Some d → slice_get w.ends k ≡ Some (Open_end x) → x.address ≡ d.to →
     EndStep (is_client x.state.role.side) (in_the_way w.overwrite (file_at w.files x.path)) d.from d.bytes x.state (files_of x) turn held →

@@ -254,7 +254,7 @@ module _ (first : List Rule) (strangers : Bool) (w v : WorldState) (from : Endpo
       (λ some. valid_oack kinds.Write mode 0 w.limits options agreed (omega arith) ok.max_block e some))
   taking_served path mode options (Some file) agreed come e = refused FileExists
 
-  -- what comes of what the port asks
+  -- the result of what the port asks
   abbrev Kept_asking : Ask → Type 0
   Kept_asking ask = Kept_by (served w ask)
 

@@ -66,7 +66,7 @@ says_spelled bytes (Some q) s p e = subst (λ (z : WirePacket). Spells z bytes) 
 says_spelled bytes None s p e = absurd (let f : None ≡ Some p = e in cc)
 
 module _ (first : List Rule) (strangers : Bool) (w v : WorldState) (ok : IsOkAt first strangers w) (report : Report) where
-  -- an open end stands among all that is shown
+  -- an open end is among all that is shown
   stands : (k : ℕ) (x : OpenEnd) → slice_get w.ends k ≡ Some (Open_end x) → Stands first (map view_of_end w.ends) ok.messages k (open_view x)
   stands k x at = record {
     shown = ok.shown;
@@ -84,7 +84,7 @@ module _ (first : List Rule) (strangers : Bool) (w v : WorldState) (ok : IsOkAt 
       (λ p e. come p (spelled p e)) old x.state.position.phase (stands k x at) here.kept (ap is_some here.still) h.turn h.held h.steps.acts in
       turn_keeps first strangers w v ok k x h.turn h.held report at goes_now h.turns
 
-  -- a datagram that came keeps the world
+  -- a datagram that arrived keeps the world
   pub arrives_keeps : (from to : Endpoint) (bytes : List ℕ) → ((p : WirePacket) → Spells p bytes → Contains ok.messages (message from to (said p))) →
       Arrives w from to bytes report v → IsOkWithin 3 first strangers v
   arrives_keeps from to bytes come (At_request_port here port decoded says repeated same served) =
@@ -106,7 +106,7 @@ module _ (first : List Rule) (strangers : Bool) (w v : WorldState) (ok : IsOkAt 
       turn_keeps first strangers w v ok k x (timeout_turn x.state) (files_of x) report at
       (from_response first (map view_of_end w.ends) ok.messages k x (timeout_response x.state.position.retries_left x.state.position.phase) x.state.position.last_sent_to (timeout_turn x.state) (files_of x) g (refl, refl)) t
 
--- what is to be refused has no part in what an end tells
+-- what is to be refused is not shown of an end
 told_open : (b : Bool) (x : OpenEnd) → view_of_end (Open_end (if b then x else record x { refuses = true })) ≡ view_of_end (Open_end x)
 told_open true x = refl
 told_open false x = refl
@@ -146,12 +146,12 @@ end_told : (w : WorldState) (x : WorldEnd) → IsKeptIn w x → IsKeptIn w (told
 end_told w (Open_end x) h = told_kept w (is_sender x.state.role.side) x h
 end_told w (Closed_end x) h = h
 
--- the other ends of the world have no part in what is kept of one
+-- what holds of one end does not depend on the others
 same_kept : (w : WorldState) (ends : List WorldEnd) (x : WorldEnd) → IsKeptIn w x → IsKeptIn (record w { ends = ends }) x
 same_kept w ends (Open_end x) h = record { stands = record { still = h.stands.still; kept = h.stands.kept; last_sent = h.stands.last_sent }; stored = h.stored }
 same_kept w ends (Closed_end x) h = record { stands = h.stands; stored = h.stored }
 
--- who is told to refuse keeps the world
+-- an end that is set to refuse keeps the world
 told_keeps : (first : List Rule) (strangers : Bool) (w : WorldState) (ok : IsOkAt first strangers w) (k : ℕ) (x : WorldEnd) → slice_get w.ends k ≡ Some x →
     IsOkWithin 3 first strangers (record w { ends = set w.ends k (told_end x) })
 told_keeps first strangers w ok k x at =

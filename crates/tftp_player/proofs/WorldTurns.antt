@@ -72,11 +72,11 @@ home_not_elsewhere : (b : Bool) → home b ≢ Elsewhere
 home_not_elsewhere true e = cc
 home_not_elsewhere false e = cc
 
--- what stands at a place is an end that is shown there
+-- the end at an index is shown there
 pub view_at : (ends : List WorldEnd) (k : ℕ) (x : WorldEnd) → slice_get ends k ≡ Some x → slice_get (map view_of_end ends) k ≡ Some (view_of_end x)
 view_at ends k x e = slice_get-map view_of_end ends k ∙ ap (option_map view_of_end) e
 
--- a machine that keeps its facts shows a world that is kept
+-- a machine that keeps its invariant shows a world that keeps its own
 pub world_machine : (first : List Rule) (strangers : Bool) (w : WorldState) (ok : IsOkAt first strangers w) → (m : Machine) × Holds m × AreRecorded m × Shows (map view_of_end w.ends) ok.messages m
 world_machine first strangers w ok = shown_by (map view_of_end w.ends) ok.messages (first, ok.shown)
 
@@ -92,7 +92,7 @@ same_place : (x : OpenEnd) (held : Files (List ℕ) Holding) → ((with_files x 
 same_place x (Source left) = (refl, refl, refl)
 same_place x (Sink holding) = (refl, refl, refl)
 
--- the files stay where they are
+-- the files stay under their paths
 files_stay : (overwrite b : Bool) (path bytes : List ℕ) (old new : List StoredFile) → FilesAfter overwrite b path bytes old new → overwrite ≡ false → (q c : List ℕ) → file_at old q ≡ Some c → file_at new q ≡ Some c
 files_stay overwrite true path bytes old new h kept q c e =
     h.others q (λ same.
@@ -100,7 +100,7 @@ files_stay overwrite true path bytes old new h kept q c e =
     let f : None ≡ Some c = sym free ∙ (ap (file_at old) (sym same) ∙ e) in cc) ∙ e
 files_stay overwrite false path bytes old new h kept q c e = ap (λ (files : List StoredFile). file_at files q) h ∙ e
 
--- an end that changed nothing is kept when the world goes on
+-- what holds of an unchanged end holds after more was sent
 still_stands : (w v : WorldState) (added : List Datagram) (x : WorldEnd) → v.sent ≡ w.sent ++ added → StandsIn w x → StandsIn v x
 still_stands w v added (Open_end x) more h = record {
   still = h.still;

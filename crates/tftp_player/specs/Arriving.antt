@@ -1,4 +1,4 @@
--- What a datagram does to the ends of a world and the server, whatever was sent before.
+-- The effect of a datagram on the ends of a world and the server, for every list of sent datagrams.
 use Rattle.std.specs.Prelude.{ℕ, ◌≡◌, ◌+◌, ◌<◌, ⊤, List, ◌++◌, length}
 use Rattle.tftp_player.specs.Effect.{said_by, report_by}
 use Rattle.tftp_machine.specs.Machine.{Endpoint, host_of, request_port}
@@ -21,16 +21,21 @@ ArrivalRefuses w to NoPort = LacksPort w to
 ArrivalRefuses w to Memory = LacksPort w to → ⊥
 ArrivalRefuses w to fault = ⊥
 
--- what came of a datagram for the request port, whatever was sent before
-abbrev pub StageAsks : Endpoint → List ℕ → PlayedServer → PlayedServer → List Player → List Player → Effect → Type 0
+-- the result of a datagram at the request port, for every list of sent datagrams
+abbrev pub StageAsks : Endpoint → List ℕ → PlayedServer → PlayedServer → List Player → List Player
+    → Effect → Type 0
 StageAsks from bytes before after players players' effect =
-    (sent : List Datagram) → Arrives (world_of before.config sent before players) from request_port bytes (report_by sent effect)
+    (sent : List Datagram)
+    → Arrives (world_of before.config sent before players) from request_port bytes
+    (report_by sent effect)
     (world_of before.config (sent ++ said_by effect.from effect.to effect.bytes) after players')
 
--- what came of a datagram, whatever was sent before
-abbrev pub StageArrives : Endpoint → Endpoint → List ℕ → PlayedServer → PlayedServer → List Player → List Player → Effect → Type 0
+-- the result of a datagram, for every list of sent datagrams
+abbrev pub StageArrives : Endpoint → Endpoint → List ℕ → PlayedServer → PlayedServer → List Player
+    → List Player → Effect → Type 0
 StageArrives from to bytes before after players players' effect =
-    (sent : List Datagram) → Arrives (world_of before.config sent before players) from to bytes (report_by sent effect)
+    (sent : List Datagram)
+    → Arrives (world_of before.config sent before players) from to bytes (report_by sent effect)
     (world_of before.config (sent ++ said_by effect.from effect.to effect.bytes) after players')
 
 -- no port is left for an end that the datagram could open
@@ -43,7 +48,7 @@ StageRefuses to players NoPort = StageLacksPort to players
 StageRefuses to players Memory = StageLacksPort to players → ⊥
 StageRefuses to players fault = ⊥
 
--- what can be played: a stray comes from neither host
+-- the event can be played: the sender of a stray is at neither host
 abbrev pub IsPlayable : Event → Type 0
 IsPlayable (Stray from to bytes) = host_of from ≡ Far
 IsPlayable event = ⊤

@@ -1,5 +1,6 @@
--- What a client of a world does, by what the struct that plays it keeps of it.
-use Rattle.std.specs.Prelude.{ℕ, ◌≡◌, true, false, if◌then◌else◌, is_some, List, [], Option, Some, None, ⊤}
+-- The client of a world, as the struct that plays the world holds it.
+use Rattle.std.specs.Prelude.{ℕ, ◌≡◌, true, false, if◌then◌else◌, is_some, List, [], Option, Some}
+use Rattle.std.specs.Prelude.{None, ⊤}
 use Rattle.tftp_wire.specs.Spelling.{canonical}
 use Rattle.tftp_wire.specs.declared.mode.Mode.{Mode}
 use Rattle.tftp_wire.specs.declared.packet.Packet.TheVariants.{Read, Write}
@@ -22,7 +23,7 @@ use Rattle.tftp_player.specs.declared.effect.Effect.{Effect}
 use Rattle.tftp_player.specs.declared.fault.WorldFault.{WorldFault}
 use Rattle.tftp_player.specs.declared.fault.WorldFault.TheVariants.{BadRequest, Memory}
 
--- an end of a client, or of the server
+-- the endpoint of a client's end, and of the server's
 abbrev pub client_at : ℕ → Endpoint
 client_at port = record { ip = client_ip; port = port }
 
@@ -43,59 +44,72 @@ abbrev pub holding_in : Files (List ℕ) Holding → Holding
 holding_in (Source left) = no_holding
 holding_in (Sink holding) = holding
 
--- a client made a turn, and its file is this now
-pub record ClientTurns (port : ℕ) (old new : PlayedClient) (turn : Turn) (files : Files (List ℕ) Holding) (effect : Effect) (r : Record) : Type 0 where
+-- a client made this turn; `files` is its file after it
+pub record ClientTurns (port : ℕ) (old new : PlayedClient) (turn : Turn)
+    (files : Files (List ℕ) Holding) (effect : Effect) (r : Record) : Type 0 where
   pub effects : effect ≡ effect_of (client_at port) turn
   pub recorded : r ≡ record_of (after_turn old.end turn)
   pub client : new ≡ record old { end = after_turn old.end turn; files = files }
 
--- a client took a datagram
-pub record ClientDatagramStep (port : ℕ) (from : Endpoint) (bytes : List ℕ) (old new : PlayedClient) (effect : Effect) (r : Record) : Type 0 where
+-- a client handled a datagram
+pub record ClientDatagramStep (port : ℕ) (from : Endpoint) (bytes : List ℕ) (old new : PlayedClient)
+    (effect : Effect) (r : Record) : Type 0 where
   pub turn : Turn
   pub steps : EndStep true None from bytes old.end old.files turn new.files
   pub kind : AreSame (λ (a b : List ℕ). ⊤) (λ (a b : Holding). ⊤) old.files new.files
   pub turns : ClientTurns port old new turn new.files effect r
 
--- a client that has asked to read
+-- a client that has sent a read request
 abbrev pub asking_client : EndState → PlayedClient
 asking_client end = record { end = end; files = Sink no_holding; file = [] }
 
 -- its request
 abbrev pub asking_effect : ℕ → List ℕ → Mode → Asked → Effect
 asking_effect port name mode asked =
-    record { from = client_at port; to = Some request_port; bytes = canonical (Read (request_of name mode asked)); closed = None }
+    record {
+      from = client_at port;
+      to = Some request_port;
+      bytes = canonical (Read (request_of name mode asked));
+      closed = None;
+    }
 
--- a client that has asked to write this file, of which this is left
+-- a client that has sent a write request for this file, with this text left
 abbrev pub sending_client : EndState → List ℕ → List ℕ → PlayedClient
 sending_client end left file = record { end = end; files = Source left; file = file }
 
 -- its request
 abbrev pub sending_effect : ℕ → List ℕ → Mode → Asked → Effect
 sending_effect port name mode asked =
-    record { from = client_at port; to = Some request_port; bytes = canonical (Write (request_of name mode asked)); closed = None }
+    record {
+      from = client_at port;
+      to = Some request_port;
+      bytes = canonical (Write (request_of name mode asked));
+      closed = None;
+    }
 
 -- what a receiver has stored
 abbrev pub stored_by : Files (List ℕ) Holding → Option (List ℕ)
 stored_by (Source left) = None
 stored_by (Sink holding) = Some holding.bytes
 
--- the files, told to refuse the next append or commit
+-- the files, set to refuse the next append or commit
 abbrev pub told_files : Files (List ℕ) Holding → Files (List ℕ) Holding
 told_files (Source left) = Source left
 told_files (Sink holding) = Sink (record holding { refuses = true })
 
--- the client, told so while it is open
+-- the client, set to refuse while it is open
 abbrev pub told_client : PlayedClient → PlayedClient
-told_client c = if is_some (outcome_of c.end.position.phase) then c else record c { files = told_files c.files }
+told_client c =
+    if is_some (outcome_of c.end.position.phase) then c else record c { files = told_files c.files }
 
--- why the world has no new client
+-- why no client was opened
 abbrev pub open_fault : OpenFault → WorldFault
 open_fault opening.BadRequest = BadRequest
 open_fault opening.TooLarge = BadRequest
 open_fault opening.SourceFault = BadRequest
 open_fault opening.Memory = Memory
 
--- why a client does not ask: it cannot, or else for want of memory
+-- why a client does not open: the request is not possible, or it is out of memory
 abbrev pub AskRefuses : Type 0 → WorldFault → Type 0
 AskRefuses can BadRequest = can → ⊥
 AskRefuses can Memory = can

@@ -3,16 +3,17 @@ use Rattle.std.specs.Prelude.{◌≡◌, ℕ, true, List, [], ◌∷◌, Some, N
 use Rattle.tftp_negotiate.specs.declared.asked.Asked.{Asked}
 use Rattle.tftp_ends.specs.End.{is_sender}
 use Rattle.tftp_server.specs.declared.config.Config.{Config}
-use Rattle.tftp_player.specs.World.{WorldState, WorldEnd, end_record, end_address, end_file, end_stored, StoredFile, new_world}
+use Rattle.tftp_player.specs.World.{WorldState, WorldEnd, end_record, end_address, end_file}
+use Rattle.tftp_player.specs.World.{end_stored, StoredFile, new_world}
 use Rattle.tftp_player.specs.WorldRuns.{Runs}
 use Rattle.tftp_player.specs.WorldSafety.{IsIn, IsReceiver, HasPeer, IsComplete}
 use Rattle.tftp_player.specs.declared.event.Event.{Event}
 
--- no option is asked
+-- a request without options
 abbrev pub nothing_asked : Asked
 nothing_asked = record { blksize = None; timeout = None; tsize = None }
 
--- blocks of 8 bytes are asked
+-- a request for blocks of 8 bytes
 abbrev pub blocks_of_8 : Asked
 blocks_of_8 = record { blksize = Some 8; timeout = None; tsize = None }
 
@@ -21,9 +22,10 @@ abbrev pub two_blocks : List ℕ
 two_blocks = 65 ∷ 66 ∷ 67 ∷ 68 ∷ 69 ∷ 70 ∷ 71 ∷ 72 ∷ 73 ∷ []
 
 abbrev pub three_blocks : List ℕ
-three_blocks = 65 ∷ 66 ∷ 67 ∷ 68 ∷ 69 ∷ 70 ∷ 71 ∷ 72 ∷ 73 ∷ 74 ∷ 75 ∷ 76 ∷ 77 ∷ 78 ∷ 79 ∷ 80 ∷ 81 ∷ []
+three_blocks =
+    65 ∷ 66 ∷ 67 ∷ 68 ∷ 69 ∷ 70 ∷ 71 ∷ 72 ∷ 73 ∷ 74 ∷ 75 ∷ 76 ∷ 77 ∷ 78 ∷ 79 ∷ 80 ∷ 81 ∷ []
 
--- two ends are each other's peers and complete, and the receiver has stored the sender's file, which is this
+-- two complete ends are each other's peers, and the receiver has stored the sender's file, `bytes`
 pub record IsTransferred (w : WorldState) (bytes : List ℕ) : Type 0 where
   pub sender : WorldEnd
   pub receiver : WorldEnd
@@ -38,7 +40,7 @@ pub record IsTransferred (w : WorldState) (bytes : List ℕ) : Type 0 where
   pub file : end_file sender ≡ bytes
   pub stored : end_stored receiver ≡ bytes
 
--- some events, of which this is the first, transfer these bytes in some world
+-- some events, the first of which is `opening`, transfer these bytes in some world
 abbrev pub Transfers : Event → List ℕ → Type 0
 Transfers opening bytes =
     (files : List StoredFile) × (config : Config) × (events : List Event) × (w : WorldState)

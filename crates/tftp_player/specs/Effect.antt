@@ -1,4 +1,4 @@
--- What an event came to, before it is written into the world.
+-- The result of an event, before it is recorded in the world.
 use Rattle.std.specs.Prelude.{ℕ, List, [], ◌∷◌, length, Option, Some, None, option_map}
 use Rattle.tftp_ends.specs.End.{outcome_of}
 use Rattle.tftp_ends.specs.Step.{Turn, Reply, reply_bytes}
@@ -8,25 +8,31 @@ use Rattle.tftp_player.specs.declared.datagram.Datagram.{Datagram}
 use Rattle.tftp_player.specs.declared.effect.Effect.{Effect}
 use Rattle.tftp_player.specs.declared.report.Report.{Report}
 
--- what a turn of the end there comes to
+-- the result of a turn of the end there
 abbrev pub effect_of : Endpoint → Turn → Effect
 effect_of at turn =
-    record { from = at; to = option_map (λ (r : Reply). r.to) turn.reply; bytes = reply_bytes turn.reply; closed = outcome_of turn.position.phase }
+    record {
+      from = at;
+      to = option_map (λ (r : Reply). r.to) turn.reply;
+      bytes = reply_bytes turn.reply;
+      closed = outcome_of turn.position.phase;
+    }
 
--- nothing comes of it
+-- no datagram is sent, and no end closes
 abbrev pub no_effect : Endpoint → Effect
 no_effect at = record { from = at; to = None; bytes = []; closed = None }
 
--- the datagram that goes out from there, if one does
+-- the datagram that is sent from there, if any
 abbrev pub said_by : Endpoint → Option Endpoint → List ℕ → List Datagram
 said_by from None bytes = []
 said_by from (Some to) bytes = datagram from to bytes ∷ []
 
--- its place behind all that was sent
+-- its index in all that was sent
 abbrev pub place_behind : List Datagram → Option Endpoint → Option ℕ
 place_behind sent None = None
 place_behind sent (Some to) = Some (length sent)
 
--- what is reported of it
+-- the report of it
 abbrev pub report_by : List Datagram → Effect → Report
-report_by sent effect = record { added = place_behind sent effect.to; closed = closed_at effect.from effect.closed }
+report_by sent effect =
+    record { added = place_behind sent effect.to; closed = closed_at effect.from effect.closed }

@@ -6,13 +6,14 @@ use Rattle.tftp_player.specs.declared.datagram.Datagram.{Datagram}
 use Rattle.tftp_player.specs.declared.event.Event.{Event}
 use Rattle.tftp_player.specs.declared.report.Report.{Report}
 
--- one datagram at most was added behind all that was sent, of which nothing is taken off
+-- at most one datagram was appended to all that was sent, and none was removed
 pub record AddsOneAtMost (old new : WorldState) : Type 0 where
   pub said : List Datagram
   pub few : length said ≤ 1
   pub sent : new.sent ≡ old.sent ++ said
 
--- so does each event
+-- each event adds one at most
 abbrev pub EventsAddOneAtMost : Type 0
 EventsAddOneAtMost =
-    (old new : WorldState) (event : Event) (report : Report) → WorldStep old event report new → AddsOneAtMost old new
+    (old new : WorldState) (event : Event) (report : Report) → WorldStep old event report new
+    → AddsOneAtMost old new

@@ -1,4 +1,4 @@
--- How the ends of a world open: by the openings of an end, with what the world keeps beside them.
+-- How the ends of a world open: the openings of an end, and the state that the world adds.
 use Rattle.std.specs.Prelude.{ℕ, false, List, [], ◌∷◌, length, drop}
 use Rattle.tftp_negotiate.specs.declared.limits.TheConstants.{DEFAULT_BLOCK}
 use Rattle.tftp_wire.specs.declared.mode.Mode.{Mode}
@@ -7,11 +7,12 @@ use Rattle.tftp_negotiate.specs.declared.known.Known.{Known}
 use Rattle.tftp_file.specs.Block.{block}
 use Rattle.tftp_file.specs.Netascii.{wire_text}
 use Rattle.tftp_ends.specs.End.{EndState}
-pub use Rattle.tftp_ends.specs.Opening.{request_of, getting, putting, serving_read, serving_write, MayGet, MayPut}
+pub use Rattle.tftp_ends.specs.Opening.{request_of, getting, putting, serving_read, serving_write}
+pub use Rattle.tftp_ends.specs.Opening.{MayGet, MayPut}
 use Rattle.tftp_machine.specs.Machine.{Endpoint, request_port}
 use Rattle.tftp_player.specs.World.{WorldState, OpenEnd, next_port, ip_of}
 
--- an end as it opens at the next port, for what was requested so, of a file at a path, with this left of it
+-- an end as it opens at the next port, for this request and the file at a path, with this text left
 abbrev pub opening : WorldState → EndState → List ℕ → List ℕ → List ℕ → List ℕ → OpenEnd
 opening w state request path file left =
     record {
@@ -28,23 +29,30 @@ opening w state request path file left =
 
 -- a client that reads
 abbrev pub reading_client : WorldState → List ℕ → Mode → Asked → OpenEnd
-reading_client w name mode asked = opening w (getting request_port name mode asked w.limits.max_file w.retries) [] [] [] (wire_text mode [])
+reading_client w name mode asked =
+    opening w (getting request_port name mode asked w.limits.max_file w.retries) [] [] []
+    (wire_text mode [])
 
 -- a client that writes
 abbrev pub writing_client : WorldState → List ℕ → Mode → Asked → List ℕ → OpenEnd
 writing_client w name mode asked file =
-    opening w (putting request_port name mode asked (length (wire_text mode file)) w.limits.max_file w.retries) [] [] file (wire_text mode file)
+    opening w (putting request_port name mode asked (length (wire_text mode file)) w.limits.max_file
+    w.retries) [] [] file (wire_text mode file)
 
--- what the server's end has left of a text once it has opened: DATA 1 was taken off, where no option is agreed
+-- the text that the server's end has left after it opened: without options DATA 1 was read
 abbrev pub left_at_first : List Known → List ℕ → List ℕ
 left_at_first [] text = drop DEFAULT_BLOCK text
 left_at_first (known ∷ agreed) text = text
 
--- the server sends a file, which was requested so
-abbrev pub sending_end : WorldState → Endpoint → List ℕ → Mode → List ℕ → List ℕ → List Known → OpenEnd
+-- the server sends a file, for this request
+abbrev pub sending_end : WorldState → Endpoint → List ℕ → Mode → List ℕ → List ℕ → List Known
+    → OpenEnd
 sending_end w peer request mode path file agreed =
-    opening w (serving_read agreed peer mode (length (wire_text mode file)) w.retries (block (wire_text mode file) DEFAULT_BLOCK 1)) request path file (left_at_first agreed (wire_text mode file))
+    opening w (serving_read agreed peer mode (length (wire_text mode file)) w.retries
+    (block (wire_text mode file) DEFAULT_BLOCK 1)) request path file
+    (left_at_first agreed (wire_text mode file))
 
--- the server takes a file, as it was requested so
+-- the server receives a file, for this request
 abbrev pub receiving_end : WorldState → Endpoint → List ℕ → Mode → List ℕ → List Known → OpenEnd
-receiving_end w peer request mode path agreed = opening w (serving_write agreed peer mode w.retries) request path [] []
+receiving_end w peer request mode path agreed =
+    opening w (serving_write agreed peer mode w.retries) request path [] []

@@ -1,5 +1,6 @@
--- The ends of a world by what the struct that plays it keeps of them.
-use Rattle.std.specs.Prelude.{ℕ, ◌≡◌, ◌+◌, Bool, true, false, not, List, [], ◌∷◌, Option, Some, None, is_some, option_map}
+-- The ends of a world, as the struct that plays the world holds them.
+use Rattle.std.specs.Prelude.{ℕ, ◌≡◌, ◌+◌, Bool, true, false, not, List, [], ◌∷◌, Option, Some}
+use Rattle.std.specs.Prelude.{None, is_some, option_map}
 use Rattle.tftp_negotiate.specs.declared.limits.TheConstants.{DEFAULT_BLOCK}
 use Rattle.tftp_ends.specs.declared.outcome.Outcome.TheVariants.{TimedOut}
 use Rattle.tftp_ends.specs.declared.record.Record.{Record}
@@ -10,10 +11,13 @@ use Rattle.tftp_ends.specs.Step.{timeout_turn}
 use Rattle.tftp_server.specs.State.{at, draft_of, draft_at}
 use Rattle.tftp_store.specs.Store.{Drafted, new_draft}
 use Rattle.tftp_machine.specs.Machine.{Endpoint}
-use Rattle.tftp_player.specs.Clients.{client_at, server_at, left_in, holding_in, ClientTurns, ClientDatagramStep, stored_by, told_client}
+use Rattle.tftp_player.specs.Clients.{client_at, server_at, left_in, holding_in, ClientTurns}
+use Rattle.tftp_player.specs.Clients.{ClientDatagramStep, stored_by, told_client}
 use Rattle.tftp_player.specs.PlayedClient.{PlayedClient}
-use Rattle.tftp_player.specs.Serving.{PlayedServer, Transfer, ServedKept, ServedTimeoutStep, ServedDatagramStep}
-use Rattle.tftp_player.specs.World.{OpenEnd, ClosedEnd, WorldEnd, Open_end, Closed_end, end_record, standing}
+use Rattle.tftp_player.specs.Serving.{PlayedServer, Transfer, ServedKept, ServedTimeoutStep}
+use Rattle.tftp_player.specs.Serving.{ServedDatagramStep}
+use Rattle.tftp_player.specs.World.{OpenEnd, ClosedEnd, WorldEnd, Open_end, Closed_end, end_record}
+use Rattle.tftp_player.specs.World.{standing}
 use Rattle.tftp_player.specs.declared.effect.Effect.{Effect}
 use Rattle.tftp_player.specs.declared.player.Player.{Player}
 use Rattle.tftp_player.specs.declared.player.Player.TheVariants.{Client, Server}
@@ -39,7 +43,7 @@ abbrev pub draft_or_new : Option Drafted → Drafted
 draft_or_new None = new_draft
 draft_or_new (Some draft) = draft
 
--- an end of the server, in that state, with that left of its file or stored in its draft
+-- an end of the server in this state, with its text left or its draft
 abbrev pub served_as : ℕ → Served → EndState → List ℕ → Option Drafted → List ℕ → OpenEnd
 served_as port s state left draft request =
     record {
@@ -54,9 +58,18 @@ served_as port s state left draft request =
       request = request;
     }
 
--- a record of an end that nobody holds: of no end of a world, since the server holds each open end of its own (`HangTogether`)
+-- the record of an end that the server does not hold; no end of a world has it (`HangTogether`)
 abbrev pub unheld : Record
-unheld = record { side = ServerRead; peer = None; size = DEFAULT_BLOCK; timeout = None; number = 0; complete = false; outcome = Some TimedOut }
+unheld =
+    record {
+      side = ServerRead;
+      peer = None;
+      size = DEFAULT_BLOCK;
+      timeout = None;
+      number = 0;
+      complete = false;
+      outcome = Some TimedOut;
+    }
 
 -- a closed end of the server, with this draft and this record
 abbrev pub served_closed : ℕ → Served → Option Drafted → Record → ClosedEnd
@@ -71,10 +84,11 @@ served_closed port s draft r =
       recorded = r;
     }
 
--- the end of the server, by how it ended, or else by what the server holds
+-- the end of the server: closed if it has a record, else as the server holds it
 abbrev pub served_end : ℕ → Served → Option Record → Option Transfer → WorldEnd
 served_end port s (Some r) held = Closed_end (served_closed port s s.draft r)
-served_end port s None (Some h) = Open_end (served_as port s h.end (left_in h.files) (draft_of h.files) h.request)
+served_end port s None (Some h) =
+    Open_end (served_as port s h.end (left_in h.files) (draft_of h.files) h.request)
 served_end port s None None = Closed_end (served_closed port s None unheld)
 
 -- the end at this port
@@ -87,7 +101,7 @@ abbrev pub ends_from : ℕ → List (ℕ × Transfer) → List Player → List W
 ends_from port held [] = []
 ends_from port held (p ∷ players) = end_at port held p ∷ ends_from (port + 1) held players
 
--- what is recorded of them
+-- the records of the ends
 abbrev pub records_from : ℕ → List WorldEnd → List (ℕ × Record)
 records_from port [] = []
 records_from port (x ∷ ends) = (port, end_record x) ∷ records_from (port + 1) ends
@@ -98,49 +112,56 @@ pub record ServedEnded (s : Served) (r : Record) : Type 0 where
   pub side : is_client r.side ≡ false
   pub draft : is_some s.draft ≡ not (is_sender r.side)
 
--- what holds of an end of the server, by how it ended
+-- what holds of an end of the server, closed or open
 abbrev pub IsServed : ℕ → Served → Option Record → List (ℕ × Transfer) → Type 0
 IsServed port s (Some r) held = ServedEnded s r
 IsServed port s None held = ServedKept port s held
 
 -- what holds of an end
 abbrev pub PlayerKept : ℕ → List (ℕ × Transfer) → Player → Type 0
-PlayerKept port held (Client c) = (is_client c.end.role.side ≡ true) × AreFilesOf c.end.role.side c.files
+PlayerKept port held (Client c) =
+    (is_client c.end.role.side ≡ true) × AreFilesOf c.end.role.side c.files
 PlayerKept port held (Server s) = IsServed port s s.ended held
 
--- of each
+-- of each end
 abbrev pub AllKept : ℕ → List (ℕ × Transfer) → List Player → Type 0
 AllKept port held [] = Unit {0}
 AllKept port held (p ∷ players) = PlayerKept port held p × AllKept (port + 1) held players
 
--- a timeout did that
-abbrev pub PlayerTimeoutStep : ℕ → Player → Player → PlayedServer → PlayedServer → Effect → Record → Type 0
-PlayerTimeoutStep port (Client c) (Client c') before after effect r = ClientTurns port c c' (timeout_turn c.end) c.files effect r × (after ≡ before)
-PlayerTimeoutStep port (Server s) (Server s') before after effect r = ServedTimeoutStep port s s' before after effect r
+-- the step of a timeout
+abbrev pub PlayerTimeoutStep : ℕ → Player → Player → PlayedServer → PlayedServer → Effect → Record
+    → Type 0
+PlayerTimeoutStep port (Client c) (Client c') before after effect r =
+    ClientTurns port c c' (timeout_turn c.end) c.files effect r × (after ≡ before)
+PlayerTimeoutStep port (Server s) (Server s') before after effect r =
+    ServedTimeoutStep port s s' before after effect r
 PlayerTimeoutStep port _ _ before after effect r = ⊥
 
--- a datagram did
-abbrev pub PlayerDatagramStep : ℕ → Endpoint → List ℕ → Player → Player → PlayedServer → PlayedServer → Effect → Record → Type 0
-PlayerDatagramStep port from bytes (Client c) (Client c') before after effect r = ClientDatagramStep port from bytes c c' effect r × (after ≡ before)
-PlayerDatagramStep port from bytes (Server s) (Server s') before after effect r = ServedDatagramStep port from bytes s s' before after effect r
+-- the step of a datagram
+abbrev pub PlayerDatagramStep : ℕ → Endpoint → List ℕ → Player → Player → PlayedServer
+    → PlayedServer → Effect → Record → Type 0
+PlayerDatagramStep port from bytes (Client c) (Client c') before after effect r =
+    ClientDatagramStep port from bytes c c' effect r × (after ≡ before)
+PlayerDatagramStep port from bytes (Server s) (Server s') before after effect r =
+    ServedDatagramStep port from bytes s s' before after effect r
 PlayerDatagramStep port from bytes _ _ before after effect r = ⊥
 
--- an end takes events no more
+-- the end is closed
 abbrev pub has_ended : Player → Bool
 has_ended (Client c) = is_some (outcome_of c.end.position.phase)
 has_ended (Server s) = is_some s.ended
 
--- where it is
+-- its endpoint
 abbrev pub address_of : ℕ → Player → Endpoint
 address_of port (Client c) = client_at port
 address_of port (Server s) = server_at port
 
--- the end of the server, told to refuse its next append or commit, if it is an open receiver
+-- the end of the server, set to refuse its next append or commit if it is an open receiver
 abbrev pub told_served : Option Drafted → Served → Served
 told_served None s = s
 told_served (Some draft) s = record s { refuses = true }
 
--- the same, by how it ended or what the server holds
+-- the same, by its record or by what the server holds
 abbrev pub told_by : Option Record → Option Transfer → Served → Served
 told_by (Some r) held s = s
 told_by None held s = told_served (draft_at held) s
@@ -148,12 +169,12 @@ told_by None held s = told_served (draft_at held) s
 abbrev pub told_served_end : ℕ → List (ℕ × Transfer) → Served → Served
 told_served_end port held s = told_by s.ended (at port held) s
 
--- an end that is told so
+-- the end, set to refuse
 abbrev pub told_player : ℕ → List (ℕ × Transfer) → Player → Player
 told_player port held (Client c) = Client (told_client c)
 told_player port held (Server s) = Server (told_served_end port held s)
 
--- the draft of an end of the server, by how it ended, or else by what the server holds
+-- the draft of an end of the server: its own if it is closed, else the server's
 abbrev pub served_draft : Served → Option Record → Option Transfer → Option Drafted
 served_draft s (Some r) held = s.draft
 served_draft s None held = draft_at held
@@ -161,7 +182,8 @@ served_draft s None held = draft_at held
 -- what a receiver has stored
 abbrev pub stored_of : ℕ → List (ℕ × Transfer) → Player → Option (List ℕ)
 stored_of port held (Client c) = stored_by c.files
-stored_of port held (Server s) = option_map (λ (d : Drafted). d.bytes) (served_draft s s.ended (at port held))
+stored_of port held (Server s) =
+    option_map (λ (d : Drafted). d.bytes) (served_draft s s.ended (at port held))
 
 -- whether it is committed
 abbrev pub committed_of : ℕ → List (ℕ × Transfer) → Player → Bool

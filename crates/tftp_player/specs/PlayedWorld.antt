@@ -1,4 +1,4 @@
--- What the struct that plays a world keeps.
+-- What the struct that plays a world holds.
 use Rattle.std.specs.Prelude.{◌≡◌, ◌≤◌, length, Bool, true, false, ◌||◌}
 use Rattle.tftp_player.specs.World.{WorldState}
 use Rattle.tftp_player.specs.WorldKept.{IsOk}
@@ -24,11 +24,10 @@ is_stray event = false
 abbrev pub strayed_after : Bool → Event → Bool
 strayed_after strayed event = strayed || is_stray event
 
--- without strays every peer is at one of the two hosts, so that what is claimed of such peers is
--- claimed of every peer
+-- without strays every peer is at one of the two hosts, so that each claim holds of every peer
 abbrev pub IsHome : PlayedWorld → Type 0
 IsHome w = w.strayed ≡ false → HasPeersAtHome w.state
 
--- a world that was played: what the laws on worlds ask of one
+-- a world that was played: the premise of the laws on worlds
 abbrev pub WasPlayed : PlayedWorld → Type 0
 WasPlayed w = IsOk w.strayed w.state

@@ -1,4 +1,4 @@
--- A request that repeats that of an open transfer opens no other (RFC 1350, section 4).
+-- A request that repeats that of an open transfer opens no end (RFC 1350, section 4).
 use Rattle.std.specs.Prelude.{◌≡◌, ◌<◌, ℕ, Bool, false, List, length, slice_get, Some}
 use Rattle.tftp_wire.specs.Spelling.{Spells}
 use Rattle.tftp_wire.specs.declared.packet.Packet.{Packet}
@@ -17,15 +17,17 @@ AsksForTransfer (Read request) = Unit {0}
 AsksForTransfer (Write request) = Unit {0}
 AsksForTransfer packet = ⊥
 
--- the request port ignores a request by which an open end of the server was asked for from the same endpoint: nothing is
--- sent, and no end opens or changes
+-- the request port ignores a request that opened a transfer still open, from the same endpoint:
+-- nothing is sent, and no end opens or changes
 abbrev pub RepeatsOpenNothing : Type 0
 RepeatsOpenNothing =
-    (strangers : Bool) (old new : WorldState) (from : Endpoint) (packet : Packet) (bytes : List ℕ) (report : Report) →
-    IsOk strangers old → AsksForTransfer packet → Spells packet bytes → AnyRepeats from packet old.ends →
+    (strangers : Bool) (old new : WorldState) (from : Endpoint) (packet : Packet) (bytes : List ℕ)
+    (report : Report) →
+    IsOk strangers old → AsksForTransfer packet → Spells packet bytes →
+    AnyRepeats from packet old.ends →
     Arrives old from request_port bytes report new → (report ≡ no_report) × (new ≡ old)
 
--- the datagram is a request to the request port: no open end was asked for by it from there before, and one is now
+-- a request to the request port: it repeats that of no open end before, and that of one after
 pub record IsNewRequest (from to : Endpoint) (bytes : List ℕ) (old new : WorldState) : Type 0 where
   pub packet : Packet
   pub asks : AsksForTransfer packet
@@ -38,11 +40,13 @@ pub record IsNewRequest (from to : Endpoint) (bytes : List ℕ) (old new : World
 abbrev pub OnlyNewRequestsOpen : Type 0
 OnlyNewRequestsOpen =
     (old new : WorldState) (from to : Endpoint) (bytes : List ℕ) (report : Report) →
-    Arrives old from to bytes report new → length old.ends < length new.ends → IsNewRequest from to bytes old new
+    Arrives old from to bytes report new → length old.ends < length new.ends →
+    IsNewRequest from to bytes old new
 
--- what repeats the request of an end repeats it after each event, while the end is open
+-- a repeat of the request of an end remains one after each event, while the end is open
 abbrev pub RequestsLast : Type 0
 RequestsLast =
-    (old new : WorldState) (event : Event) (report : Report) (from : Endpoint) (packet : Packet) (k : ℕ) (x y : WorldEnd) →
+    (old new : WorldState) (event : Event) (report : Report) (from : Endpoint) (packet : Packet)
+    (k : ℕ) (x y : WorldEnd) →
     WorldStep old event report new → slice_get old.ends k ≡ Some x → Repeats from packet x →
     slice_get new.ends k ≡ Some y → is_closed y ≡ false → Repeats from packet y

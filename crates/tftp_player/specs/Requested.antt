@@ -1,5 +1,6 @@
--- What a datagram to the request port asks for, as far as the world needs to know it.
-use Rattle.std.specs.Prelude.{ℕ, ◌≡◌, ◌⊎◌, Bool, false, List, [], length, Option, Some, None, Result, Ok, Err, option_map}
+-- The end that a datagram to the request port asks for.
+use Rattle.std.specs.Prelude.{ℕ, ◌≡◌, ◌⊎◌, Bool, false, List, [], length, Option, Some, None}
+use Rattle.std.specs.Prelude.{Result, Ok, Err, option_map}
 use Rattle.tftp_wire.specs.declared.mode.Mode.{Mode}
 use Rattle.tftp_wire.specs.declared.packet.Packet.{Packet}
 use Rattle.tftp_wire.specs.declared.packet.Packet.TheVariants.{Read, Write}
@@ -15,9 +16,10 @@ use Rattle.tftp_player.specs.declared.served.Served.{Served}
 
 -- an end of the server as it opens, for the file at a path
 abbrev pub new_served : Mode → List ℕ → List ℕ → Served
-new_served mode path file = record { mode = mode; path = path; file = file; refuses = false; draft = None; ended = None }
+new_served mode path file =
+    record { mode = mode; path = path; file = file; refuses = false; draft = None; ended = None }
 
--- the end that sends the file at a path, if there is one
+-- the end that sends the file at a path, if there is such a file
 abbrev pub sender_at : FileList → Mode → Result (List ℕ) PathFault → Option Served
 sender_at files mode (Err fault) = None
 sender_at files mode (Ok path) = option_map (λ file. new_served mode path file) (file_at path files)
@@ -35,15 +37,20 @@ requested_by files _ = None
 
 -- the end that a datagram asks for
 abbrev pub IsRequested : FileList → List ℕ → Option Served → Type 0
-IsRequested files bytes requested_end = (decoded : Option Packet) × Decodes bytes decoded × (requested_end ≡ requested_by files decoded)
+IsRequested files bytes requested_end =
+    (decoded : Option Packet) × Decodes bytes decoded × (requested_end ≡ requested_by files decoded)
 
--- by its tests that ask no store the request port opens no end
+-- the request port opens no end, by its tests that need no store
 abbrev pub OpensNone : PlayedServer → Endpoint → List ℕ → Type 0
 OpensNone server from bytes =
-    (decoded : Option Packet) × (repeated : Bool) × Decodes bytes decoded × IsRepeated repeated from decoded server.held
-    × (asks_store (asks server.config.cap (length server.held) repeated server.config.limits bytes decoded) ≡ false)
+    (decoded : Option Packet) × (repeated : Bool) × Decodes bytes decoded
+    × IsRepeated repeated from decoded server.held
+    × (asks_store
+    (asks server.config.cap (length server.held) repeated server.config.limits bytes decoded)
+    ≡ false)
 
--- the end that a datagram from there asks for, or none where the port opens none
+-- the end that a datagram from there asks for, or none if the port opens none
 abbrev pub IsAdmitted : PlayedServer → Endpoint → List ℕ → Option Served → Type 0
 IsAdmitted server from bytes admitted =
-    IsRequested server.store.files bytes admitted ⊎ ((admitted ≡ None) × OpensNone server from bytes)
+    IsRequested server.store.files bytes admitted
+    ⊎ ((admitted ≡ None) × OpensNone server from bytes)

@@ -1,5 +1,6 @@
--- What the request port of a world's server does: the server's tests, over the world's files.
-use Rattle.std.specs.Prelude.{ℕ, ◌≡◌, ◌⊎◌, ◌↔◌, IsTrue, Bool, false, not, List, [], ◌∷◌, count_by, Option, Some, None, Result, Ok, Err}
+-- The request port of a world's server: the server's tests, over the world's files.
+use Rattle.std.specs.Prelude.{ℕ, ◌≡◌, ◌⊎◌, ◌↔◌, IsTrue, Bool, false, not, List, [], ◌∷◌, count_by}
+use Rattle.std.specs.Prelude.{Option, Some, None, Result, Ok, Err}
 use Rattle.tftp_wire.specs.declared.mode.Mode.{Mode}
 use Rattle.tftp_wire.specs.Spelling.{Spells}
 use Rattle.tftp_wire.specs.declared.packet.Packet.{Packet}
@@ -9,7 +10,8 @@ use Rattle.tftp_ends.specs.End.{is_client}
 use Rattle.tftp_server.specs.Port.{Ask, Service, answered, asks}
 use Rattle.tftp_store.specs.Store.{measured}
 use Rattle.tftp_machine.specs.Machine.{Endpoint}
-use Rattle.tftp_player.specs.World.{WorldState, OpenEnd, WorldEnd, Open_end, Closed_end, file_at, in_the_way, peer_of}
+use Rattle.tftp_player.specs.World.{WorldState, OpenEnd, WorldEnd, Open_end, Closed_end, file_at}
+use Rattle.tftp_player.specs.World.{in_the_way, peer_of}
 
 -- an open end of the server
 abbrev pub is_transfer : WorldEnd → Bool
@@ -20,38 +22,40 @@ is_transfer (Closed_end x) = false
 abbrev pub open_transfers : List WorldEnd → ℕ
 open_transfers ends = count_by is_transfer ends
 
--- the length of the file that is opened, as it is counted, which a program stops counting where no block size could carry
--- the file
+-- the measured length of the opened file; measuring stops at a length that no block size could
+-- carry
 abbrev pub opened_of : Mode → Option (List ℕ) → Result ℕ StoreFault
 opened_of mode None = Err Missing
 opened_of mode (Some file) = Ok (measured mode file)
 
--- a draft is begun where no file is in its way
+-- a draft begins if no file is in its way
 abbrev pub begun_of : Option (List ℕ) → Result (Unit {0}) StoreFault
 begun_of None = Ok tt
 begun_of (Some file) = Err Exists
 
--- what comes of what the port asks of its store
+-- the service for what the port asks of its store
 abbrev pub served : WorldState → Ask → Service
 served w ask =
-    answered w.limits (λ path mode. opened_of mode (file_at w.files path)) (λ path. begun_of (in_the_way w.overwrite (file_at w.files path))) ask
+    answered w.limits (λ path mode. opened_of mode (file_at w.files path))
+    (λ path. begun_of (in_the_way w.overwrite (file_at w.files path))) ask
 
--- what comes of a datagram, whether it repeats the request of an open transfer or not
+-- the service for a datagram, by whether it repeats the request of an open transfer
 abbrev pub service : WorldState → Bool → List ℕ → Option Packet → Service
-service w repeated bytes decoded = served w (asks w.cap (open_transfers w.ends) repeated w.limits bytes decoded)
+service w repeated bytes decoded =
+    served w (asks w.cap (open_transfers w.ends) repeated w.limits bytes decoded)
 
--- an end of the server was asked for from there by a datagram that spells this packet
+-- an end of the server was requested from there by a datagram that spells this packet
 pub record WasAskedBy (from : Endpoint) (packet : Packet) (x : OpenEnd) : Type 0 where
   pub server : is_client x.state.role.side ≡ false
   pub peer : peer_of x.state.position.phase ≡ Some from
   pub same : Spells packet x.request
 
--- it is open
+-- the same of an end that is open
 abbrev pub Repeats : Endpoint → Packet → WorldEnd → Type 0
 Repeats from packet (Open_end x) = WasAskedBy from packet x
 Repeats from packet (Closed_end x) = ⊥
 
--- one of the ends was
+-- the same of one of the ends
 abbrev pub AnyRepeats : Endpoint → Packet → List WorldEnd → Type 0
 AnyRepeats from packet [] = ⊥
 AnyRepeats from packet (x ∷ ends) = Repeats from packet x ⊎ AnyRepeats from packet ends

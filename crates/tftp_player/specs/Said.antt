@@ -1,8 +1,11 @@
--- What the guarded machine sees of a packet.
-use Rattle.std.specs.Prelude.{ℕ, true, false, List, [], ◌∷◌, ◌++◌, Option, Some, None, option_to_list}
+-- A packet as the guarded machine sees it.
+use Rattle.std.specs.Prelude.{ℕ, true, false, List, [], ◌∷◌, ◌++◌, Option, Some, None}
+use Rattle.std.specs.Prelude.{option_to_list}
 use Rattle.tftp_wire.specs.declared.options.RawOption.{RawOption}
 use Rattle.tftp_wire.specs.declared.packet.Packet.{Packet as WirePacket}
-use Rattle.tftp_wire.specs.declared.packet.Packet.TheVariants.{Read, Write, Data as WireData, Ack as WireAck, Error as WireError, Oack as WireOack}
+use Rattle.tftp_wire.specs.declared.packet.Packet.TheVariants.{Read, Write, Data as WireData}
+use Rattle.tftp_wire.specs.declared.packet.Packet.TheVariants.{Ack as WireAck, Error as WireError}
+use Rattle.tftp_wire.specs.declared.packet.Packet.TheVariants.{Oack as WireOack}
 use Rattle.tftp_negotiate.specs.declared.known.Known.{Known}
 use Rattle.tftp_negotiate.specs.declared.known.Known.TheVariants as known
 use Rattle.tftp_negotiate.specs.declared.name.Name.{Name}
@@ -17,7 +20,7 @@ known_as Blksize n = known.Blksize n
 known_as Timeout n = known.Timeout n
 known_as Tsize n = known.Tsize n
 
--- what an option tells, if its name is known and its value is a number
+-- the known option, if its name is known and its value is a number
 abbrev pub told_as : Option Name → Option ℕ → Option Known
 told_as None value = None
 told_as (Some name) None = None
@@ -26,14 +29,15 @@ told_as (Some name) (Some n) = Some (known_as name n)
 -- the known options of a list, in their order
 abbrev pub told_options : List RawOption → List Known
 told_options [] = []
-told_options (o ∷ options) = option_to_list (told_as (name_of o.name) (number_of o.value)) ++ told_options options
+told_options (o ∷ options) =
+    option_to_list (told_as (name_of o.name) (number_of o.value)) ++ told_options options
 
--- the block size that an OACK gives: 512 where it tells none
--- (RFC 2347, "Negotiation Protocol"; RFC 2348, "Blocksize Option Specification")
+-- the block size of an OACK: 512 without the option (RFC 2347, "Negotiation Protocol"; RFC 2348,
+-- "Blocksize Option Specification")
 abbrev pub oack_size : List RawOption → ℕ
 oack_size options = size (told_options options)
 
--- the packet, as far as the machine goes
+-- the packet of the machine
 abbrev pub said : WirePacket → Packet
 said (Read request) = Request false request
 said (Write request) = Request true request

@@ -1,4 +1,4 @@
--- What an end of a world's server does, by what is kept of it beside the server.
+-- An end of a world's server, by what the world holds of it beside the server.
 use Rattle.std.specs.Prelude.{ℕ, ◌≡◌, Bool, true, false, is_some, List, Option, Some, None, ⊤}
 use Rattle.tftp_file.specs.Memory.{memory_source}
 use Rattle.tftp_file.specs.declared.files.Files.{Files}
@@ -28,16 +28,16 @@ PlayedServer = ServerState Stored (List ℕ) Drafted
 abbrev pub Transfer : Type 0
 Transfer = HeldTransfer (List ℕ) Drafted
 
--- the server, with its store told to refuse or not
+-- the server, with its store set to refuse or not
 abbrev pub server_told : PlayedServer → Bool → PlayedServer
 server_told server told = record server { store = with_told server.store told }
 
--- a draft is not committed while its end is not complete
+-- a draft is not committed before its end is complete
 abbrev pub CommitsLast : Files (List ℕ) Drafted → Phase → Type 0
 CommitsLast (Source left) phase = Unit {0}
 CommitsLast (Sink draft) phase = is_complete phase ≡ false → draft.committed ≡ false
 
--- an open end of the server: it is held, in the mode and for the path that are kept of it
+-- an open end of the server: the server holds its transfer, with the same mode and path
 pub record ServedKept (port : ℕ) (s : Served) (held : List (ℕ × Transfer)) : Type 0 where
   pub transfer : Transfer
   pub found : at port held ≡ Some transfer
@@ -58,40 +58,53 @@ abbrev pub concluded_held : Bool → ℕ → List (ℕ × Transfer) → List (�
 concluded_held true port held = without port held
 concluded_held false port held = held
 
--- an end of the server, which was so, made a turn: its transfer is this now, and the store that
-pub record ServedTurns (port : ℕ) (old new : Served) (before after : PlayedServer) (e : EndState) (turn : Turn) (next : Transfer) (refuses : Bool) (store : Stored) (effect : Effect) (r : Record) : Type 0 where
+-- an end of the server made this turn from `e`: its transfer is `next`, and the store `store`
+pub record ServedTurns (port : ℕ) (old new : Served) (before after : PlayedServer) (e : EndState)
+    (turn : Turn) (next : Transfer) (refuses : Bool) (store : Stored) (effect : Effect)
+    (r : Record) : Type 0 where
   pub end : next.end ≡ after_turn e turn
   pub effects : effect ≡ effect_of (server_at port) turn
   pub recorded : r ≡ record_of (after_turn e turn)
-  pub served : new ≡ concluded_served (is_some (outcome_of turn.position.phase)) r (draft_of next.files) (record old { refuses = refuses })
-  pub server : after ≡ record before { store = store; held = concluded_held (is_some (outcome_of turn.position.phase)) port (with_next port next before.held) }
+  pub served : new ≡ concluded_served (is_some (outcome_of turn.position.phase)) r
+      (draft_of next.files) (record old { refuses = refuses })
+  pub server : after ≡ record before {
+    store = store;
+    held = concluded_held (is_some (outcome_of turn.position.phase)) port
+        (with_next port next before.held);
+  }
 
--- a timeout did
-abbrev pub ServedTimeoutStep : ℕ → Served → Served → PlayedServer → PlayedServer → Effect → Record → Type 0
+-- the step of a timeout
+abbrev pub ServedTimeoutStep : ℕ → Served → Served → PlayedServer → PlayedServer → Effect → Record
+    → Type 0
 ServedTimeoutStep port old new before after effect r =
     (h : Transfer) × (at port before.held ≡ Some h)
-    × ServedTurns port old new before after h.end (timeout_turn h.end) (with_end (after_turn h.end (timeout_turn h.end)) h) old.refuses before.store effect r
+    × ServedTurns port old new before after h.end (timeout_turn h.end)
+    (with_end (after_turn h.end (timeout_turn h.end)) h) old.refuses before.store effect r
 
--- a datagram did: while it was handled the store was told what the end is told
-pub record ServedDatagramStep (port : ℕ) (from : Endpoint) (bytes : List ℕ) (old new : Served) (before after : PlayedServer) (effect : Effect) (r : Record) : Type 0 where
+-- the step of a datagram: while it is handled the store is set to refuse as the end is
+pub record ServedDatagramStep (port : ℕ) (from : Endpoint) (bytes : List ℕ) (old new : Served)
+    (before after : PlayedServer) (effect : Effect) (r : Record) : Type 0 where
   pub transfer : Transfer
   pub next : Transfer
   pub turn : Turn
   pub store : Stored
   pub found : at port before.held ≡ Some transfer
-  pub steps : StepIn memory_meaning memory_source from bytes transfer.end (files_in (with_told before.store old.refuses) transfer.path before.config.overwrite transfer.files) turn (files_in store next.path before.config.overwrite next.files)
+  pub steps : StepIn memory_meaning memory_source from bytes transfer.end
+      (files_in (with_told before.store old.refuses) transfer.path before.config.overwrite
+      transfer.files) turn (files_in store next.path before.config.overwrite next.files)
   pub stays : KeepsStore transfer.files (with_told before.store old.refuses) store
   pub kind : AreSame (λ (a b : List ℕ). ⊤) (λ (a b : Drafted). ⊤) transfer.files next.files
   pub path : next.path ≡ transfer.path
   pub request : next.request ≡ transfer.request
-  pub turns : ServedTurns port old new before after transfer.end turn next store.refuses (with_told store false) effect r
+  pub turns : ServedTurns port old new before after transfer.end turn next store.refuses
+      (with_told store false) effect r
 
--- how the transfer has closed, as its step told
+-- the outcome of the transfer, if it has closed
 abbrev pub ClosesAs : Option Outcome → Option Transfer → Type 0
 ClosesAs closed None = ⊥
 ClosesAs closed (Some h) = closed ≡ outcome_of h.end.position.phase
 
--- it was taken out with its record and its draft, if it has closed
+-- the transfer was removed with its record and its draft, if it has closed
 abbrev pub Concludes : ℕ → Option Transfer → Served → Served → PlayedServer → PlayedServer → Type 0
 Concludes port None old new before after = ⊥
 Concludes port (Some h) old new before after =

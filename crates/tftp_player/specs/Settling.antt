@@ -6,7 +6,7 @@ use Rattle.tftp_player.specs.declared.event.Event.TheVariants.{Deliver}
 use Rattle.tftp_player.specs.declared.fault.WorldFault.{WorldFault}
 use Rattle.tftp_player.specs.declared.report.Report.{Report}
 
--- so many were delivered: as many as were wanted, or all that there are
+-- `count` were delivered: `most` of them, or all that there are
 pub record Settled (old : WorldState) (from most count : ℕ) (new : WorldState) : Type 0 where
   pub reports : List Report
   pub delivered : Settles old from reports new
@@ -14,8 +14,9 @@ pub record Settled (old : WorldState) (from most count : ℕ) (new : WorldState)
   pub bounded : count ≤ most
   pub all : (count ≡ most) ⊎ (length new.sent ≤ from + count)
 
--- some were delivered, fewer than were wanted, and the next one, which was left, was refused
-pub record StopsAt (old : WorldState) (from most : ℕ) (fault : WorldFault) (new : WorldState) : Type 0 where
+-- fewer than `most` were delivered, and the next one was refused
+pub record StopsAt (old : WorldState) (from most : ℕ) (fault : WorldFault)
+    (new : WorldState) : Type 0 where
   pub reports : List Report
   pub delivered : Settles old from reports new
   pub fewer : length reports < most

@@ -1,6 +1,9 @@
--- The ends of a world and the server that plays some of them, together, and what an event does there.
+-- The ends of a world with the server that plays some of them, and the effect of an event.
 use Rattle.std.specs.List.{AllByRecursion}
-use Rattle.std.specs.Prelude.{ℕ, ◌+◌, ◌<◌, length, ◌≡◌, ◌≢◌, ◌⊎◌, ◌&&◌, not, ◌-◌, nat_lt, if◌then◌else◌, Bool, true, false, List, [], ◌∷◌, ◌++◌, slice_get, slice_set, Option, Some, None, is_some, option_map, option_and_then, unwrap_or}
+use Rattle.std.specs.Prelude.{ℕ, ◌+◌, ◌<◌, length, ◌≡◌, ◌≢◌, ◌⊎◌, ◌&&◌, not, ◌-◌, nat_lt}
+use Rattle.std.specs.Prelude.{if◌then◌else◌, Bool, true, false, List, [], ◌∷◌, ◌++◌, slice_get}
+use Rattle.std.specs.Prelude.{slice_set, Option, Some, None, is_some, option_map, option_and_then}
+use Rattle.std.specs.Prelude.{unwrap_or}
 use Rattle.tftp_file.specs.declared.files.Files.{Files}
 use Rattle.tftp_file.specs.Sink.{Holding}
 use Rattle.tftp_ends.specs.declared.record.Record.{Record}
@@ -12,7 +15,10 @@ use Rattle.tftp_player.specs.PlayedClient.{PlayedClient}
 use Rattle.tftp_player.specs.Serving.{PlayedServer, Transfer}
 use Rattle.tftp_player.specs.Requests.{open_transfers}
 use Rattle.tftp_machine.specs.Machine.{Endpoint}
-use Rattle.tftp_player.specs.World.{WorldState, OpenEnd, ClosedEnd, WorldEnd, Open_end, Closed_end, end_record, end_address, end_stored, end_committed, StoredFile, file_at, in_the_way, files_of, end_after, has_committed, standing}
+use Rattle.tftp_player.specs.World.{WorldState, OpenEnd, ClosedEnd, WorldEnd, Open_end, Closed_end}
+use Rattle.tftp_player.specs.World.{end_record, end_address, end_stored, end_committed, StoredFile}
+use Rattle.tftp_player.specs.World.{file_at, in_the_way, files_of, end_after, has_committed}
+use Rattle.tftp_player.specs.World.{standing}
 use Rattle.tftp_player.specs.WorldSteps.{EndStep, FilesAfter}
 use Rattle.tftp_server.specs.declared.config.Config.{Config}
 use Rattle.tftp_player.specs.declared.datagram.Datagram.{Datagram}
@@ -27,7 +33,7 @@ use Rattle.tftp_player.specs.declared.served.Served.{Served}
 abbrev pub ends_of : PlayedServer → List Player → List WorldEnd
 ends_of server players = ends_from 1024 server.held players
 
--- the end at the port is an open one of the server
+-- the end at the port is an open end of the server
 pub record IsOwned (players : List Player) (port : ℕ) : Type 0 where
   pub place : ℕ
   pub is : port ≡ 1024 + place
@@ -40,29 +46,31 @@ abbrev pub IsRising : {T : Type 0} → List (ℕ × T) → Type 0
 IsRising [] = Unit {0}
 IsRising {T = T} (e ∷ held) = AllByRecursion (λ (f : ℕ × T). e.0 < f.0) held × IsRising held
 
--- the ends, the server and what is recorded agree
-pub record IsStaged (server : PlayedServer) (players : List Player) (records : List (ℕ × Record)) : Type 0 where
+-- the ends, the server and the records are consistent
+pub record IsStaged (server : PlayedServer) (players : List Player)
+    (records : List (ℕ × Record)) : Type 0 where
   pub kept : AllKept 1024 server.held players
   pub recorded : records ≡ records_from 1024 (ends_of server players)
-  -- the server holds transfers of these ends alone, and as many as are open
+  -- the server holds the transfers of the open ends alone
   pub below : AllByRecursion (λ (e : ℕ × Transfer). e.0 < 1024 + length players) server.held
   pub count : length server.held ≡ open_transfers (ends_of server players)
   pub owned : AllByRecursion (λ (e : ℕ × Transfer). IsOwned players e.0) server.held
-  -- each in one place
+  -- in the order of their ports
   pub rising : IsRising server.held
-  -- between two events the store is told to refuse nothing
+  -- between two events the store is not set to refuse
   pub quiet : server.store.refuses ≡ false
 
--- so do those of the struct that has them
+-- the same of the struct that holds them
 abbrev pub HangTogether : Ends → Type 0
 HangTogether ends = IsStaged ends.server ends.players.items ends.records.items
 
--- nothing has changed there but what room there is
+-- nothing but the reserved capacity has changed
 abbrev pub AreAsBefore : Ends → Ends → Type 0
 AreAsBefore old new = (new.server ≡ old.server) × (new.players.items ≡ old.players.items)
 
--- the end at this place made a turn
-pub record EndTurns (place : ℕ) (x : OpenEnd) (turn : Turn) (held : Files (List ℕ) Holding) (ends ends' : List WorldEnd) (effect : Effect) : Type 0 where
+-- the end at this index made a turn
+pub record EndTurns (place : ℕ) (x : OpenEnd) (turn : Turn) (held : Files (List ℕ) Holding)
+    (ends ends' : List WorldEnd) (effect : Effect) : Type 0 where
   pub effects : effect ≡ effect_of x.address turn
   pub next : ends' ≡ slice_set ends place (standing (end_after x turn held))
 
@@ -71,18 +79,20 @@ pub record EndStays (x : ClosedEnd) (ends ends' : List WorldEnd) (effect : Effec
   pub effects : effect ≡ no_effect x.address
   pub next : ends' ≡ ends
 
--- the end at this place took a timeout, unless it is closed
+-- the end at this index handled a timeout, unless it is closed
 abbrev pub EndTimesOut : ℕ → WorldEnd → List WorldEnd → List WorldEnd → Effect → Type 0
-EndTimesOut place (Open_end x) ends ends' effect = EndTurns place x (timeout_turn x.state) (files_of x) ends ends' effect
+EndTimesOut place (Open_end x) ends ends' effect =
+    EndTurns place x (timeout_turn x.state) (files_of x) ends ends' effect
 EndTimesOut place (Closed_end x) ends ends' effect = EndStays x ends ends' effect
 
--- the server has the same files, and is set to the same
+-- the configuration and the store are unchanged
 pub record SameStore (before after : PlayedServer) : Type 0 where
   pub config : after.config ≡ before.config
   pub store : after.store ≡ before.store
 
--- of all ends and the server, that came of a timeout of the end at this place
-pub record StageTimeoutStep (place : ℕ) (before after : PlayedServer) (players players' : List Player) (effect : Effect) : Type 0 where
+-- a timeout of the end at this index: all ends and the server after it
+pub record StageTimeoutStep (place : ℕ) (before after : PlayedServer)
+    (players players' : List Player) (effect : Effect) : Type 0 where
   pub end : WorldEnd
   pub found : slice_get (ends_of before players) place ≡ Some end
   pub times_out : EndTimesOut place end (ends_of before players) (ends_of after players') effect
@@ -103,12 +113,12 @@ stored_at ends port = option_and_then stored_in (opened_at ends port)
 abbrev pub committed_at : List WorldEnd → ℕ → Bool
 committed_at ends port = unwrap_or (option_map end_committed (opened_at ends port)) false
 
--- what is recorded is that the end is closed
+-- the record is that of a closed end
 abbrev pub record_closed : Option (ℕ × Record) → Bool
 record_closed None = true
 record_closed (Some r) = is_some r.1.outcome
 
--- the world that is played so
+-- the world that is played by these
 abbrev pub world_of : Config → List Datagram → PlayedServer → List Player → WorldState
 world_of config sent server players =
     record {
@@ -121,38 +131,53 @@ world_of config sent server players =
       overwrite = config.overwrite;
     }
 
--- a client more, at this port, and what it sent
-pub record Enters (old : WorldState) (port : ℕ) (c : PlayedClient) (effect : Effect) (report : Report) (new : WorldState) : Type 0 where
+-- another client opened, at this port, and sent this
+pub record Enters (old : WorldState) (port : ℕ) (c : PlayedClient) (effect : Effect)
+    (report : Report) (new : WorldState) : Type 0 where
   pub tells : report ≡ report_by old.sent effect
   pub is : new ≡ record old {
     sent = old.sent ++ said_by effect.from effect.to effect.bytes;
     ends = old.ends ++ standing (client_end port c) ∷ [];
   }
 
--- a datagram came to an end of this place and was taken; the server's files were these, and are those
-pub record DatagramAt (place : ℕ) (x : OpenEnd) (from : Endpoint) (bytes : List ℕ) (overwrite : Bool) (files files' : List StoredFile) (ends ends' : List WorldEnd) (effect : Effect) : Type 0 where
+-- a datagram was handled by the open end at this index; `files` and `files'` are the server's
+-- before and after it
+pub record DatagramAt (place : ℕ) (x : OpenEnd) (from : Endpoint) (bytes : List ℕ)
+    (overwrite : Bool) (files files' : List StoredFile) (ends ends' : List WorldEnd)
+    (effect : Effect) : Type 0 where
   pub turn : Turn
   pub held : Files (List ℕ) Holding
-  pub steps : EndStep (is_client x.state.role.side) (in_the_way overwrite (file_at files x.path)) from bytes x.state (files_of x) turn held
-  pub commits : FilesAfter overwrite (not (is_client x.state.role.side) && has_committed x (end_after x turn held)) x.path (end_after x turn held).stored files files'
+  pub steps : EndStep (is_client x.state.role.side) (in_the_way overwrite (file_at files x.path))
+      from bytes x.state (files_of x) turn held
+  pub commits : FilesAfter overwrite
+      (not (is_client x.state.role.side) && has_committed x (end_after x turn held)) x.path
+      (end_after x turn held).stored files files'
   pub turns : EndTurns place x turn held ends ends' effect
 
--- nothing came of it
-pub record LostAt (to : Endpoint) (files files' : List StoredFile) (ends ends' : List WorldEnd) (effect : Effect) : Type 0 where
+-- the datagram was lost
+pub record LostAt (to : Endpoint) (files files' : List StoredFile) (ends ends' : List WorldEnd)
+    (effect : Effect) : Type 0 where
   pub effects : effect ≡ no_effect to
   pub next : ends' ≡ ends
   pub stays : files' ≡ files
 
--- of the end at this place, by whether it is open
-abbrev pub EndTakes : ℕ → WorldEnd → Endpoint → Endpoint → List ℕ → Bool → List StoredFile → List StoredFile → List WorldEnd → List WorldEnd → Effect → Type 0
-EndTakes place (Open_end x) from to bytes overwrite files files' ends ends' effect = DatagramAt place x from bytes overwrite files files' ends ends' effect
-EndTakes place (Closed_end x) from to bytes overwrite files files' ends ends' effect = LostAt to files files' ends ends' effect
+-- a datagram at the end at this index, open or closed
+abbrev pub EndTakes : ℕ → WorldEnd → Endpoint → Endpoint → List ℕ → Bool → List StoredFile
+    → List StoredFile → List WorldEnd → List WorldEnd → Effect → Type 0
+EndTakes place (Open_end x) from to bytes overwrite files files' ends ends' effect =
+    DatagramAt place x from bytes overwrite files files' ends ends' effect
+EndTakes place (Closed_end x) from to bytes overwrite files files' ends ends' effect =
+    LostAt to files files' ends ends' effect
 
--- of all ends and the server, that came of a datagram for the end at this place
-pub record StageDatagramStep (place : ℕ) (from to : Endpoint) (bytes : List ℕ) (before after : PlayedServer) (players players' : List Player) (effect : Effect) : Type 0 where
+-- a datagram for the end at this index: all ends and the server after it
+pub record StageDatagramStep (place : ℕ) (from to : Endpoint) (bytes : List ℕ)
+    (before after : PlayedServer) (players players' : List Player) (effect : Effect) : Type 0 where
   pub end : WorldEnd
   pub found : slice_get (ends_of before players) place ≡ Some end
-  pub comes : ((end_address end ≢ to) × LostAt to before.store.files after.store.files (ends_of before players) (ends_of after players') effect)
+  pub comes : ((end_address end ≢ to)
+      × LostAt to before.store.files after.store.files (ends_of before players)
+      (ends_of after players') effect)
       ⊎ ((end_address end ≡ to)
-      × EndTakes place end from to bytes before.config.overwrite before.store.files after.store.files (ends_of before players) (ends_of after players') effect)
+      × EndTakes place end from to bytes before.config.overwrite before.store.files
+      after.store.files (ends_of before players) (ends_of after players') effect)
   pub config : after.config ≡ before.config

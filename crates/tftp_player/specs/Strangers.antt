@@ -1,4 +1,4 @@
--- What a datagram of neither host leaves of the ends of a world (RFC 1350, section 4).
+-- What a datagram of neither host leaves unchanged (RFC 1350, section 4).
 use Rattle.std.specs.Prelude.{◌≡◌, ◌≢◌, ℕ, Bool, true, List, slice_get, Some}
 use Rattle.tftp_ends.specs.End.{is_client}
 use Rattle.tftp_machine.specs.Machine.{Endpoint, At_server, Elsewhere, host_of}
@@ -13,19 +13,22 @@ use Rattle.tftp_player.specs.declared.report.Report.{Report}
 abbrev pub HasNoStranger : WorldEnd → Type 0
 HasNoStranger x = (p : Endpoint) → HasPeer x p → host_of p ≢ Elsewhere
 
--- the end at place k is recorded as before
+-- the record of the end at index k is unchanged
 abbrev pub IsRecordedSo : WorldState → ℕ → WorldEnd → Type 0
 IsRecordedSo w k x = (y : WorldEnd) × (slice_get w.ends k ≡ Some y) × (end_record y ≡ end_record x)
 
--- a stray changes no record, but of an end that a stranger's own request opened
+-- a stray changes no record, except of an end that a stranger's own request opened
 abbrev pub StraysChangeNoRecord : Type 0
 StraysChangeNoRecord =
-    (strangers : Bool) (old new : WorldState) (from to : Endpoint) (bytes : List ℕ) (report : Report) (k : ℕ) (x : WorldEnd) →
-    IsOk strangers old → WorldStep old (Stray from to bytes) report new → slice_get old.ends k ≡ Some x → HasNoStranger x →
+    (strangers : Bool) (old new : WorldState) (from to : Endpoint) (bytes : List ℕ)
+    (report : Report) (k : ℕ) (x : WorldEnd) →
+    IsOk strangers old → WorldStep old (Stray from to bytes) report new →
+    slice_get old.ends k ≡ Some x → HasNoStranger x →
     IsRecordedSo new k x
 
--- a client's peer is at the server: no stranger is
+-- a client's peer is at the server, so it is no stranger
 abbrev pub ClientsHaveServers : Type 0
 ClientsHaveServers =
     (strangers : Bool) (w : WorldState) (x : WorldEnd) (p : Endpoint) →
-    IsOk strangers w → IsIn w x → is_client (end_record x).side ≡ true → HasPeer x p → host_of p ≡ At_server
+    IsOk strangers w → IsIn w x → is_client (end_record x).side ≡ true → HasPeer x p →
+    host_of p ≡ At_server

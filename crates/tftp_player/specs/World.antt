@@ -1,5 +1,6 @@
 -- The world: all that was sent, the server's files, and every end that was ever opened.
-use Rattle.std.specs.Prelude.{ℕ, ◌+◌, ◌&&◌, not, Bool, true, false, if◌then◌else◌, List, [], ◌∷◌, ◌++◌, length, slice_set, Option, Some, None, option_map}
+use Rattle.std.specs.Prelude.{ℕ, ◌+◌, ◌&&◌, not, Bool, true, false, if◌then◌else◌, List, [], ◌∷◌}
+use Rattle.std.specs.Prelude.{◌++◌, length, slice_set, Option, Some, None, option_map}
 use Rattle.std.specs.BTreeMap.{is_at}
 use Rattle.std.specs.Cmp.Lexicographic.{slice_cmp}
 use Rattle.std.specs.Map.{lookup}
@@ -13,7 +14,8 @@ use Rattle.tftp_file.specs.Netascii.{wire_text}
 use Rattle.tftp_file.specs.Sink.{Holding}
 use Rattle.tftp_ends.specs.declared.outcome.Outcome.{Outcome}
 use Rattle.tftp_ends.specs.declared.phase.Phase.{Phase}
-use Rattle.tftp_ends.specs.declared.phase.Phase.TheVariants.{Waiting, Sending, Receiving, Dallying, Closed}
+use Rattle.tftp_ends.specs.declared.phase.Phase.TheVariants.{Waiting, Sending, Receiving, Dallying}
+use Rattle.tftp_ends.specs.declared.phase.Phase.TheVariants.{Closed}
 use Rattle.tftp_ends.specs.declared.record.Record.{Record}
 use Rattle.tftp_ends.specs.declared.side.Side.{Side}
 use Rattle.tftp_ends.specs.End.{EndState, is_sender, is_client, terms_of, outcome_of, record_of}
@@ -27,11 +29,11 @@ use Rattle.tftp_player.specs.declared.report.Report.{Report}
 abbrev pub StoredFile : Type 0
 StoredFile = List ℕ × List ℕ
 
--- what stands under a path
+-- the file under a path
 abbrev pub file_at : List StoredFile → List ℕ → Option (List ℕ)
 file_at files path = lookup (is_at (slice_cmp nat_cmp path)) files
 
--- the file that a write finds in its way: none where it may replace one
+-- the file in the way of a write: none if it may be replaced
 abbrev pub in_the_way : Bool → Option (List ℕ) → Option (List ℕ)
 in_the_way true there = None
 in_the_way false there = there
@@ -42,19 +44,19 @@ pub record OpenEnd : Type 0 where
   pub state : EndState
   -- the path of a server's end
   pub path : List ℕ
-  -- what a sender sends, as its host keeps it
+  -- the file of a sender, as its host stores it
   pub file : List ℕ
   -- the wire text that a sender's source has left
   pub left : List ℕ
-  -- what a receiver has stored, as its host keeps it
+  -- what a receiver has stored, as its host stores it
   pub stored : List ℕ
   pub committed : Bool
   -- a receiver's next append or commit is to be refused
   pub refuses : Bool
-  -- the datagram that asked for an end of the server
+  -- the request that opened an end of the server
   pub request : List ℕ
 
--- an end that has closed: where it was, its file or what it stored, and its record
+-- a closed end: its endpoint, its file or what it stored, and its record
 pub record ClosedEnd : Type 0 where
   pub address : Endpoint
   pub mode : Mode
@@ -69,12 +71,12 @@ pub data WorldEnd : Type 0 where
   Open_end : OpenEnd → WorldEnd
   Closed_end : ClosedEnd → WorldEnd
 
--- what is recorded of it
+-- its record
 abbrev pub end_record : WorldEnd → Record
 end_record (Open_end x) = record_of x.state
 end_record (Closed_end x) = x.recorded
 
--- where it is
+-- its endpoint
 abbrev pub end_address : WorldEnd → Endpoint
 end_address (Open_end x) = x.address
 end_address (Closed_end x) = x.address
@@ -89,7 +91,7 @@ abbrev pub end_path : WorldEnd → List ℕ
 end_path (Open_end x) = x.path
 end_path (Closed_end x) = x.path
 
--- what a sender sends
+-- the file of a sender
 abbrev pub end_file : WorldEnd → List ℕ
 end_file (Open_end x) = x.file
 end_file (Closed_end x) = x.file
@@ -104,12 +106,12 @@ abbrev pub end_committed : WorldEnd → Bool
 end_committed (Open_end x) = x.committed
 end_committed (Closed_end x) = x.committed
 
--- it takes no event any more
+-- it handles no more events
 abbrev pub is_closed : WorldEnd → Bool
 is_closed (Open_end x) = false
 is_closed (Closed_end x) = true
 
--- all of the world; the end at place k has port 1024 + k
+-- a world; the end at index k has port 1024 + k
 pub record WorldState : Type 0 where
   -- all that was ever sent
   pub sent : List Datagram
@@ -119,9 +121,9 @@ pub record WorldState : Type 0 where
   -- the limits of both hosts, and the retries of every end
   pub limits : Limits
   pub retries : ℕ
-  -- how many transfers the server holds at most
+  -- the server's limit of transfers
   pub cap : ℕ
-  -- a write may replace a file that is there
+  -- a write may replace an existing file
   pub overwrite : Bool
 
 -- a world in which nothing has happened
@@ -141,15 +143,14 @@ new_world files config =
 abbrev pub next_port : WorldState → ℕ
 next_port w = 1024 + length w.ends
 
--- the address of an end of that host
+-- the address of the host of that side
 abbrev pub ip_of : Side → List ℕ
 ip_of side = if is_client side then client_ip else server_ip
 
--- a datagram
 abbrev pub datagram : Endpoint → Endpoint → List ℕ → Datagram
 datagram from to bytes = record { from = from; to = to; bytes = bytes }
 
--- the datagram that an answer is, from there
+-- the datagram of a reply, from there
 abbrev pub replied : Endpoint → Option Reply → List Datagram
 replied from None = []
 replied from (Some reply) = datagram from reply.to reply.bytes ∷ []
@@ -158,14 +159,15 @@ replied from (Some reply) = datagram from reply.to reply.bytes ∷ []
 abbrev pub holding_of : OpenEnd → Holding
 holding_of x = record { bytes = x.stored; committed = x.committed; refuses = x.refuses }
 
--- the file that an end works on
+-- the file of an end
 abbrev pub files_of : OpenEnd → Files (List ℕ) Holding
 files_of x = if is_sender x.state.role.side then Source x.left else Sink (holding_of x)
 
--- the end, with what is left of its source or held by its sink
+-- the end, with these bytes left of its source or held by its sink
 abbrev pub with_files : OpenEnd → Files (List ℕ) Holding → OpenEnd
 with_files x (Source left) = record x { left = left }
-with_files x (Sink holding) = record x { stored = holding.bytes; committed = holding.committed; refuses = holding.refuses }
+with_files x (Sink holding) =
+    record x { stored = holding.bytes; committed = holding.committed; refuses = holding.refuses }
 
 -- the end in another state
 abbrev pub in_state : EndState → OpenEnd → OpenEnd
@@ -175,7 +177,7 @@ in_state state x = record x { state = state }
 abbrev pub end_after : OpenEnd → Turn → Files (List ℕ) Holding → OpenEnd
 end_after x turn files = with_files (in_state (after_turn x.state turn) x) files
 
--- the record of an end that closes, and what is kept beside it
+-- the record of an end that closes, with the state that is kept
 abbrev pub closed_end : OpenEnd → ClosedEnd
 closed_end x =
     record {
@@ -188,21 +190,22 @@ closed_end x =
       recorded = record_of x.state;
     }
 
--- an end by how it ended, if it did
+-- an end, closed if it has an outcome
 abbrev pub by_outcome : Option Outcome → OpenEnd → WorldEnd
 by_outcome None x = Open_end x
 by_outcome (Some outcome) x = Closed_end (closed_end x)
 
--- the end as it stands after a turn: open, or closed with its record
+-- the end after a turn: open, or closed with its record
 abbrev pub standing : OpenEnd → WorldEnd
 standing x = by_outcome (outcome_of x.state.position.phase) x
 
--- the end has committed what it stored, and had not before
+-- the turn has committed what the end stored
 abbrev pub has_committed : OpenEnd → OpenEnd → Bool
 has_committed x y = not x.committed && y.committed
 
--- the world, after a turn of the end x at place k
-abbrev pub world_after : WorldState → ℕ → OpenEnd → Turn → Files (List ℕ) Holding → List StoredFile → WorldState
+-- the world after a turn of the end x at index k
+abbrev pub world_after : WorldState → ℕ → OpenEnd → Turn → Files (List ℕ) Holding → List StoredFile
+    → WorldState
 world_after w k x turn held files =
     record w {
       sent = w.sent ++ replied x.address turn.reply;
@@ -210,7 +213,7 @@ world_after w k x turn held files =
       ends = slice_set w.ends k (standing (end_after x turn held));
     }
 
--- the place of the datagram that was sent, if one was
+-- the index of the datagram that was sent, if any
 abbrev pub added_at : WorldState → Option Reply → Option ℕ
 added_at w None = None
 added_at w (Some reply) = Some (length w.sent)
@@ -220,19 +223,26 @@ abbrev pub closed_at : Endpoint → Option Outcome → Option (ℕ × Outcome)
 closed_at at None = None
 closed_at at (Some outcome) = Some (at.port, outcome)
 
--- what is reported of a turn of an open end
+-- the report of a turn of an open end
 abbrev pub report_of : WorldState → OpenEnd → Turn → Report
 report_of w x turn =
-    record { added = added_at w turn.reply; closed = closed_at x.address (outcome_of turn.position.phase) }
+    record {
+      added = added_at w turn.reply;
+      closed = closed_at x.address (outcome_of turn.position.phase);
+    }
 
 -- nothing was sent, and no end closed
 abbrev pub no_report : Report
 no_report = record { added = None; closed = None }
 
--- the world, after an end opened and sent its first datagram
+-- the world after an end opened and sent its first datagram
 abbrev pub opened_in : WorldState → OpenEnd → WorldState
 opened_in w x =
-    record w { sent = w.sent ++ datagram x.address x.state.position.last_sent_to x.state.position.last_sent ∷ []; ends = w.ends ++ Open_end x ∷ [] }
+    record w {
+      sent = w.sent
+          ++ datagram x.address x.state.position.last_sent_to x.state.position.last_sent ∷ [];
+      ends = w.ends ++ Open_end x ∷ [];
+    }
 
 -- a datagram was sent, and no end changed
 abbrev pub said_in : WorldState → Datagram → WorldState
@@ -242,7 +252,7 @@ said_in w d = record w { sent = w.sent ++ d ∷ [] }
 abbrev pub sent_report : WorldState → Report
 sent_report w = record { added = Some (length w.sent); closed = None }
 
--- it goes on: neither complete nor closed
+-- neither complete nor closed
 abbrev pub goes_on : Phase → Bool
 goes_on (Waiting asked limit) = true
 goes_on (Sending terms number) = true
@@ -250,24 +260,28 @@ goes_on (Receiving terms number) = true
 goes_on (Dallying terms number dally) = false
 goes_on (Closed terms number complete outcome) = false
 
--- what a receiver has of its peer's text: what it stored, as it travels, and the text held back
+-- what a receiver has of its peer's text: what it stored, as wire text, and the text held back
 abbrev pub received_text : OpenEnd → List ℕ
 received_text x =
-    if goes_on x.state.position.phase then wire_text x.state.role.mode x.stored ++ x.state.position.held else wire_text x.state.role.mode x.stored
+    if goes_on x.state.position.phase
+    then wire_text x.state.role.mode x.stored ++ x.state.position.held
+    else wire_text x.state.role.mode x.stored
 
 -- a sender's text, or what a receiver has of its peer's
 abbrev pub text_of : OpenEnd → List ℕ
-text_of x = if is_sender x.state.role.side then wire_text x.state.role.mode x.file else received_text x
+text_of x =
+    if is_sender x.state.role.side then wire_text x.state.role.mode x.file else received_text x
 
--- the same of a closed end, which holds no text back
+-- the same of a closed end, which holds back no text
 abbrev pub closed_text : ClosedEnd → List ℕ
-closed_text x = if is_sender x.recorded.side then wire_text x.mode x.file else wire_text x.mode x.stored
+closed_text x =
+    if is_sender x.recorded.side then wire_text x.mode x.file else wire_text x.mode x.stored
 
 abbrev pub end_text : WorldEnd → List ℕ
 end_text (Open_end x) = text_of x
 end_text (Closed_end x) = closed_text x
 
--- the datagram that asked for an open end of the server
+-- the request that opened an open end of the server
 abbrev pub end_request : WorldEnd → List ℕ
 end_request (Open_end x) = x.request
 end_request (Closed_end x) = []
@@ -276,7 +290,7 @@ end_request (Closed_end x) = []
 abbrev pub peer_of : Phase → Option Endpoint
 peer_of phase = option_map (λ t. t.peer) (terms_of phase)
 
--- what is to be told of an end of the world: it has failed if it is closed and not complete
+-- an end as the machine shows it: it has failed if it is closed and not complete
 abbrev pub view_of_end : WorldEnd → EndView
 view_of_end x =
     record {

@@ -1,5 +1,6 @@
--- What every world keeps, and what makes it safe.
-use Rattle.std.specs.Prelude.{◌≡◌, ◌≢◌, ℕ, ◌*◌, ◌<◌, ◌≤◌, ◌⊎◌, Bool, true, false, List, [], map, length, drop, slice_get, Some, None}
+-- The invariant of every world, which makes it safe.
+use Rattle.std.specs.Prelude.{◌≡◌, ◌≢◌, ℕ, ◌*◌, ◌<◌, ◌≤◌, ◌⊎◌, Bool, true, false, List, [], map}
+use Rattle.std.specs.Prelude.{length, drop, slice_get, Some, None}
 use Rattle.std.specs.List.{Contains}
 use Rattle.tftp_wire.specs.declared.limits.TheConstants.{MAX_BLOCK}
 use Rattle.tftp_wire.specs.declared.mode.Mode.{Mode}
@@ -11,21 +12,24 @@ use Rattle.tftp_negotiate.specs.Ranges.{IsBlockSize}
 use Rattle.tftp_file.specs.Block.{block_count, Fits}
 use Rattle.tftp_file.specs.Netascii.{wire_text}
 use Rattle.tftp_ends.specs.declared.phase.Phase.{Phase}
-use Rattle.tftp_ends.specs.declared.phase.Phase.TheVariants.{Waiting, Sending, Receiving, Dallying, Closed}
+use Rattle.tftp_ends.specs.declared.phase.Phase.TheVariants.{Waiting, Sending, Receiving, Dallying}
+use Rattle.tftp_ends.specs.declared.phase.Phase.TheVariants.{Closed}
 use Rattle.tftp_ends.specs.declared.phase.Terms.{Terms}
 use Rattle.tftp_ends.specs.End.{is_sender, is_client, is_complete, outcome_of}
 use Rattle.tftp_machine.specs.Machine.{Endpoint, Elsewhere, host_of, request_port, Message}
 use Rattle.tftp_machine.specs.Rules.{Rule, message}
 use Rattle.tftp_player.specs.Said.{said}
 use Rattle.tftp_machine.specs.Shows.{EndView, IsShownAt, IsShown, IsShownWithin}
-use Rattle.tftp_player.specs.World.{WorldState, OpenEnd, ClosedEnd, WorldEnd, Open_end, Closed_end, end_record, end_path, end_stored, file_at, datagram, view_of_end}
+use Rattle.tftp_player.specs.World.{WorldState, OpenEnd, ClosedEnd, WorldEnd, Open_end, Closed_end}
+use Rattle.tftp_player.specs.World.{end_record, end_path, end_stored, file_at, datagram}
+use Rattle.tftp_player.specs.World.{view_of_end}
 use Rattle.tftp_player.specs.declared.datagram.Datagram.{Datagram}
 
 -- the wire text of a sender's file
 abbrev pub sent_text : OpenEnd → List ℕ
 sent_text x = wire_text x.state.role.mode x.file
 
--- a sender whose newest block is this one: its source has left what the text holds behind it
+-- a sender at this block: its source has left the text after it
 pub record IsUnderWay (x : OpenEnd) (terms : Terms) (number : ℕ) : Type 0 where
   pub sender : is_sender x.state.role.side ≡ true
   pub positive : 0 < terms.size
@@ -40,12 +44,15 @@ pub record IsUnderWay (x : OpenEnd) (terms : Terms) (number : ℕ) : Type 0 wher
 -- what holds of an end in this phase
 abbrev pub PhaseKept : OpenEnd → Phase → Type 0
 PhaseKept x (Waiting asked limit) =
-    (is_client x.state.role.side ≡ true) × IsAskable asked × (x.state.position.last_sent_to ≡ request_port) × (x.left ≡ sent_text x)
+    (is_client x.state.role.side ≡ true) × IsAskable asked
+    × (x.state.position.last_sent_to ≡ request_port) × (x.left ≡ sent_text x)
     × (is_sender x.state.role.side ≡ false → x.state.position.held ≡ [])
     × (is_sender x.state.role.side ≡ true → x.state.role.length ≡ length (sent_text x))
 PhaseKept x (Sending terms number) = IsUnderWay x terms number
-PhaseKept x (Receiving terms number) = (is_sender x.state.role.side ≡ false) × (x.state.position.last_sent_to ≡ terms.peer)
-PhaseKept x (Dallying terms number dally) = (is_sender x.state.role.side ≡ false) × (x.state.position.last_sent_to ≡ terms.peer)
+PhaseKept x (Receiving terms number) =
+    (is_sender x.state.role.side ≡ false) × (x.state.position.last_sent_to ≡ terms.peer)
+PhaseKept x (Dallying terms number dally) =
+    (is_sender x.state.role.side ≡ false) × (x.state.position.last_sent_to ≡ terms.peer)
 PhaseKept x (Closed terms number complete outcome) = Unit {0}
 
 -- in octet no text is held back
@@ -53,19 +60,21 @@ abbrev pub HeldFits : Mode → List ℕ → Type 0
 HeldFits Octet held = held ≡ []
 HeldFits Netascii held = Unit {0}
 
--- what holds of an end, whatever was sent
+-- what holds of an end, for every list of sent datagrams
 pub record EndKept (x : OpenEnd) : Type 0 where
   pub phase : PhaseKept x x.state.position.phase
   pub held : HeldFits x.state.role.mode x.state.position.held
   -- a receiver has committed what it stored exactly if it is complete
-  pub committed : is_sender x.state.role.side ≡ false → x.committed ≡ is_complete x.state.position.phase
+  pub committed : is_sender x.state.role.side ≡ false
+      → x.committed ≡ is_complete x.state.position.phase
 
 -- what holds of an open end in its world
 pub record IsOpenIn (w : WorldState) (x : OpenEnd) : Type 0 where
   pub still : outcome_of x.state.position.phase ≡ None
   pub kept : EndKept x
   -- its last datagram was sent
-  pub last_sent : Contains w.sent (datagram x.address x.state.position.last_sent_to x.state.position.last_sent)
+  pub last_sent : Contains w.sent
+      (datagram x.address x.state.position.last_sent_to x.state.position.last_sent)
 
 -- a closed receiver has committed what it stored exactly if it is complete
 abbrev pub ClosedKept : ClosedEnd → Type 0
@@ -79,29 +88,31 @@ StandsIn w (Closed_end x) = ClosedKept x
 -- what holds of an end in its world
 pub record IsKeptIn (w : WorldState) (x : WorldEnd) : Type 0 where
   pub stands : StandsIn w x
-  -- what a complete receiver stored stands under its path at the server, where no write replaces it
-  pub stored : w.overwrite ≡ false → is_client (end_record x).side ≡ false → is_sender (end_record x).side ≡ false → (end_record x).complete ≡ true →
+  -- what a complete receiver stored is under its path at the server, unless writes may replace
+  -- files
+  pub stored : w.overwrite ≡ false → is_client (end_record x).side ≡ false →
+      is_sender (end_record x).side ≡ false → (end_record x).complete ≡ true →
       file_at w.files (end_path x) ≡ Some (end_stored x)
 
--- the datagram says this
+-- the datagram carries this message
 pub record SaysSo (d : Datagram) (m : Message) : Type 0 where
   pub packet : WirePacket
   pub spells : Spells packet d.bytes
   pub says : m ≡ message d.from d.to (said packet)
 
--- who may have spoken: a stranger only where strangers are
+-- who may have sent: a stranger only if there are strangers
 abbrev pub MaySpeak : Bool → Endpoint → Type 0
 MaySpeak strangers a = strangers ≡ false → host_of a ≢ Elsewhere
 
--- the guarded machine shows the world's ends and what was sent, in this way; `strangers` says that
--- somebody at neither host may have spoken
+-- the guarded machine shows the world's ends and what was sent, as `IsShownSo` says; `strangers`
+-- says that an endpoint at neither host may have sent
 pub record IsOkBy (IsShownSo : List EndView → List Message → Type 0) (strangers : Bool)
     (w : WorldState) : Type 0 where
   pub messages : List Message
   pub shown : IsShownSo (map view_of_end w.ends) messages
-  -- what was sent is there
+  -- each datagram that was sent is a message
   pub sent : (d : Datagram) → Contains w.sent d → (m : Message) × SaysSo d m × Contains messages m
-  -- and what is there was sent, or a stranger said it
+  -- and each message was sent, or is a stranger's
   pub only : (m : Message) → Contains messages m →
       ((d : Datagram) × Contains w.sent d × SaysSo d m) ⊎ (host_of m.from ≡ Elsewhere)
   pub speakers : (m : Message) → Contains messages m → MaySpeak strangers m.from
@@ -112,10 +123,10 @@ pub record IsOkBy (IsShownSo : List EndView → List Message → Type 0) (strang
 abbrev pub IsOk : Bool → WorldState → Type 0
 IsOk strangers w = IsOkBy IsShown strangers w
 
--- it is after these
+-- it is shown after these rules
 abbrev pub IsOkAt : List Rule → Bool → WorldState → Type 0
 IsOkAt rules strangers w = IsOkBy (IsShownAt rules) strangers w
 
--- it is after these and so many more at most
+-- it is shown after these and `most` more at most
 abbrev pub IsOkWithin : ℕ → List Rule → Bool → WorldState → Type 0
 IsOkWithin most rules strangers w = IsOkBy (IsShownWithin most rules) strangers w

@@ -10,17 +10,18 @@ use Rattle.tftp_player.specs.declared.event.Event.{Event}
 use Rattle.tftp_player.specs.declared.event.Event.TheVariants.{Stray}
 use Rattle.tftp_player.specs.declared.report.Report.{Report}
 
--- the events happened one after another; one that was refused is none of them, as it changed nothing
+-- the events happened one after another; a refused event changes nothing and is not listed
 abbrev pub Runs : WorldState → List Event → WorldState → Type 0
 Runs old [] new = new ≡ old
-Runs old (event ∷ events) new = (mid : WorldState) × (report : Report) × WorldStep old event report mid × Runs mid events new
+Runs old (event ∷ events) new =
+    (mid : WorldState) × (report : Report) × WorldStep old event report mid × Runs mid events new
 
 -- the event may happen, by whether there are strangers
 abbrev pub MayHappen : Bool → Event → Type 0
 MayHappen false (Stray from to bytes) = ⊥
 MayHappen strangers event = Unit {0}
 
--- so may each of them
+-- each of them may happen
 abbrev pub MayAllHappen : Bool → List Event → Type 0
 MayAllHappen strangers [] = Unit {0}
 MayAllHappen strangers (event ∷ events) = MayHappen strangers event × MayAllHappen strangers events
@@ -35,34 +36,36 @@ WorldsAreSafe =
 abbrev pub PeersStayHome : Type 0
 PeersStayHome =
     (files : List StoredFile) (config : Config) (events : List Event) (w : WorldState) →
-    IsBlockSize config.limits.max_block → MayAllHappen false events → Runs (new_world files config) events w → HasPeersAtHome w
+    IsBlockSize config.limits.max_block → MayAllHappen false events →
+    Runs (new_world files config) events w → HasPeersAtHome w
 
--- what every world keeps holds of one in which nothing has happened
+-- the invariant holds of a world in which nothing has happened
 abbrev pub NewWorldsBegin : Type 0
 NewWorldsBegin =
     (strangers : Bool) (files : List StoredFile) (config : Config) →
     IsBlockSize config.limits.max_block → IsOk strangers (new_world files config)
 
--- a step keeps what every world keeps
+-- a step keeps the invariant
 abbrev pub StepsKeep : Type 0
 StepsKeep =
     (strangers : Bool) (old new : WorldState) (event : Event) (report : Report) →
-    MayHappen strangers event → IsOk strangers old → WorldStep old event report new → IsOk strangers new
+    MayHappen strangers event → IsOk strangers old → WorldStep old event report new →
+    IsOk strangers new
 
--- how many rules of the guarded machine an event is at most: a waiting reader takes its peer,
--- stores a part of DATA 1 and says that it gives up; a stranger speaks before
+-- the most rules of the guarded machine that an event is: a waiting reader learns its peer, stores
+-- a part of DATA 1 and gives up; a stranger sends before
 abbrev pub most_rules : Event → ℕ
 most_rules (Stray from to bytes) = 4
 most_rules event = 3
 
--- a step is so many at most: they go on, each by its guard, where the world was shown, and lead to
--- where it is shown now
+-- a step is that many rules at most: each by its guard, from the machine that showed the old world
+-- to one that shows the new
 abbrev pub StepsAreRules : Type 0
 StepsAreRules =
     (strangers : Bool) (old new : WorldState) (event : Event) (report : Report) →
     MayHappen strangers event → (ok : IsOk strangers old) → WorldStep old event report new →
     IsOkWithin (most_rules event) ok.shown.0 strangers new
 
--- what every world keeps makes it safe
+-- the invariant makes a world safe
 abbrev pub KeptIsSafe : Type 0
 KeptIsSafe = (strangers : Bool) (w : WorldState) → IsOk strangers w → IsSafe w

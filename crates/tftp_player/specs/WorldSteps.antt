@@ -1,5 +1,7 @@
--- How an event handles a world, and when it is refused.
-use Rattle.std.specs.Prelude.{ℕ, ◌≡◌, ◌≢◌, ◌+◌, ◌<◌, ◌≤◌, Bool, true, false, not, if◌then◌else◌, List, [], ◌∷◌, length, slice_get, slice_set, Option, Some, None, ⊤, ◌⊎◌, ◌&&◌}
+-- The effect of an event on a world, and when it is refused.
+use Rattle.std.specs.Prelude.{ℕ, ◌≡◌, ◌≢◌, ◌+◌, ◌<◌, ◌≤◌, Bool, true, false, not, if◌then◌else◌}
+use Rattle.std.specs.Prelude.{List, [], ◌∷◌, length, slice_get, slice_set, Option, Some, None, ⊤}
+use Rattle.std.specs.Prelude.{◌⊎◌, ◌&&◌}
 use Rattle.tftp_wire.specs.declared.packet.Packet.{Packet}
 use Rattle.tftp_file.specs.declared.fault.StoreFault.{StoreFault}
 use Rattle.tftp_file.specs.declared.fault.StoreFault.TheVariants as faults
@@ -11,31 +13,38 @@ use Rattle.tftp_ends.specs.End.{EndState, is_sender, is_client}
 use Rattle.tftp_ends.specs.Action.{Decodes}
 use Rattle.tftp_ends.specs.Step.{Turn, DatagramStep, timeout_turn, error_bytes}
 use Rattle.tftp_machine.specs.Machine.{Endpoint, Elsewhere, host_of, request_port}
-use Rattle.tftp_player.specs.World.{StoredFile, file_at, in_the_way, OpenEnd, ClosedEnd, WorldEnd, Open_end, Closed_end, end_address, WorldState, next_port, datagram, files_of, end_after, has_committed, world_after, report_of, no_report, opened_in, said_in, sent_report}
-use Rattle.tftp_player.specs.Openings.{reading_client, writing_client, MayGet, MayPut, sending_end, receiving_end}
+use Rattle.tftp_player.specs.World.{StoredFile, file_at, in_the_way, OpenEnd, ClosedEnd, WorldEnd}
+use Rattle.tftp_player.specs.World.{Open_end, Closed_end, end_address, WorldState, next_port}
+use Rattle.tftp_player.specs.World.{datagram, files_of, end_after, has_committed, world_after}
+use Rattle.tftp_player.specs.World.{report_of, no_report, opened_in, said_in, sent_report}
+use Rattle.tftp_player.specs.Openings.{reading_client, writing_client, MayGet, MayPut, sending_end}
+use Rattle.tftp_player.specs.Openings.{receiving_end}
 use Rattle.tftp_server.specs.Port.{Service, Silent, Refused, Sends, Takes}
 use Rattle.tftp_player.specs.Requests.{IsRepeated, service}
 use Rattle.tftp_player.specs.declared.datagram.Datagram.{Datagram}
 use Rattle.tftp_player.specs.declared.event.Event.{Event}
-use Rattle.tftp_player.specs.declared.event.Event.TheVariants.{Get, Put, Deliver, Timeout, RefuseStore, Stray}
+use Rattle.tftp_player.specs.declared.event.Event.TheVariants.{Get, Put, Deliver, Timeout}
+use Rattle.tftp_player.specs.declared.event.Event.TheVariants.{RefuseStore, Stray}
 use Rattle.tftp_player.specs.declared.report.Report.{Report}
 use Rattle.tftp_player.specs.declared.fault.WorldFault.{WorldFault}
-use Rattle.tftp_player.specs.declared.fault.WorldFault.TheVariants.{NoSuchDatagram, NoSuchEnd, NoPort, BadRequest, Memory}
+use Rattle.tftp_player.specs.declared.fault.WorldFault.TheVariants.{NoSuchDatagram, NoSuchEnd}
+use Rattle.tftp_player.specs.declared.fault.WorldFault.TheVariants.{NoPort, BadRequest, Memory}
 
--- an append is refused only as it was told, or when out of memory
+-- an append is refused only if it is set to be, or out of memory
 abbrev pub may_refuse_append : Holding → List ℕ → StoreFault → Type 0
 may_refuse_append holding bytes faults.Full = holding.refuses ≡ true
 may_refuse_append holding bytes faults.Memory = ⊤
 may_refuse_append holding bytes fault = ⊥
 
--- a commit at a client is refused only as it was told; at the server also when out of memory, or where a file is in its way
+-- a commit is refused only if it is set to be; at the server also out of memory, or if a file is in
+-- its way
 abbrev pub may_refuse_commit : Bool → Option (List ℕ) → Holding → StoreFault → Type 0
 may_refuse_commit true there holding faults.Full = holding.refuses ≡ true
 may_refuse_commit false there holding faults.Full = (holding.refuses ≡ true) ⊎ (there ≡ None)
 may_refuse_commit false there holding faults.Exists = (holding.refuses ≡ false) × (there ≢ None)
 may_refuse_commit client there holding fault = ⊥
 
--- the meaning of a sink of the world whose commit may answer these faults: it does no more than what it holds tells
+-- the model of a sink of the world whose commit may return these faults; it has no other state
 abbrev pub world_sink : (Holding → StoreFault → Type 0) → SinkMeaning Holding
 world_sink may_commit =
     record {
@@ -45,13 +54,16 @@ world_sink may_commit =
       becomes = λ before after committed. ⊤;
     }
 
--- what an open end does at a datagram with its file, where this stands in the way of what it stores
-abbrev pub EndStep : Bool → Option (List ℕ) → Endpoint → List ℕ → EndState → Files (List ℕ) Holding → Turn → Files (List ℕ) Holding → Type 0
+-- the step of an open end at a datagram with its file; `there` is in the way of what it stores
+abbrev pub EndStep : Bool → Option (List ℕ) → Endpoint → List ℕ → EndState → Files (List ℕ) Holding
+    → Turn → Files (List ℕ) Holding → Type 0
 EndStep client there from bytes e files turn files' =
-    DatagramStep memory_source (world_sink (may_refuse_commit client there)) from bytes e files turn files'
+    DatagramStep memory_source (world_sink (may_refuse_commit client there)) from bytes e files turn
+    files'
 
--- the file now stands under a path where none was in the way, and the others stand where they stood
-pub record IsStored (overwrite : Bool) (path bytes : List ℕ) (old new : List StoredFile) : Type 0 where
+-- the bytes are under the path, where no file was in the way, and the other files are unchanged
+pub record IsStored (overwrite : Bool) (path bytes : List ℕ)
+    (old new : List StoredFile) : Type 0 where
   pub free : in_the_way overwrite (file_at old path) ≡ None
   pub here : file_at new path ≡ Some bytes
   pub others : (q : List ℕ) → q ≢ path → file_at new q ≡ file_at old q
@@ -61,10 +73,13 @@ abbrev pub FilesAfter : Bool → Bool → List ℕ → List ℕ → List StoredF
 FilesAfter overwrite true path bytes old new = IsStored overwrite path bytes old new
 FilesAfter overwrite false path bytes old new = new ≡ old
 
--- the end at place k has made this turn of an event, and its file is this now
-pub record Turns (old : WorldState) (k : ℕ) (x : OpenEnd) (turn : Turn) (held : Files (List ℕ) Holding) (report : Report) (new : WorldState) : Type 0 where
+-- the end at index k has made this turn of an event; `held` is its file after it
+pub record Turns (old : WorldState) (k : ℕ) (x : OpenEnd) (turn : Turn)
+    (held : Files (List ℕ) Holding) (report : Report) (new : WorldState) : Type 0 where
   pub files : List StoredFile
-  pub stored : FilesAfter old.overwrite (not (is_client x.state.role.side) && has_committed x (end_after x turn held)) x.path (end_after x turn held).stored old.files files
+  pub stored : FilesAfter old.overwrite
+      (not (is_client x.state.role.side) && has_committed x (end_after x turn held)) x.path
+      (end_after x turn held).stored old.files files
   pub tells : report ≡ report_of old x turn
   pub is : new ≡ world_after old k x turn held files
 
@@ -74,7 +89,8 @@ pub record Stays (old : WorldState) (report : Report) (new : WorldState) : Type 
   pub is : new ≡ old
 
 -- an end opened, and sent its first datagram
-pub record Opens (old : WorldState) (x : OpenEnd) (report : Report) (new : WorldState) : Type 0 where
+pub record Opens (old : WorldState) (x : OpenEnd) (report : Report)
+    (new : WorldState) : Type 0 where
   pub tells : report ≡ sent_report old
   pub is : new ≡ opened_in old x
 
@@ -82,63 +98,76 @@ pub record Opens (old : WorldState) (x : OpenEnd) (report : Report) (new : World
 abbrev pub HasPort : WorldState → Type 0
 HasPort w = next_port w ≤ 65535
 
--- what the server's request port did at a datagram of these bytes
+-- the effect of this service on a datagram at the request port
 abbrev pub Serves : Service → WorldState → Endpoint → List ℕ → Report → WorldState → Type 0
 Serves Silent old from bytes report new = Stays old report new
 Serves (Refused reply) old from bytes report new =
-    (report ≡ sent_report old) × (new ≡ said_in old (datagram request_port from (error_bytes reply)))
+    (report ≡ sent_report old)
+    × (new ≡ said_in old (datagram request_port from (error_bytes reply)))
 Serves (Sends path mode length agreed) old from bytes report new =
-    (file : List ℕ) × (file_at old.files path ≡ Some file) × Opens old (sending_end old from bytes mode path file agreed) report new
-Serves (Takes path mode agreed) old from bytes report new = Opens old (receiving_end old from bytes mode path agreed) report new
+    (file : List ℕ) × (file_at old.files path ≡ Some file)
+    × Opens old (sending_end old from bytes mode path file agreed) report new
+Serves (Takes path mode agreed) old from bytes report new =
+    Opens old (receiving_end old from bytes mode path agreed) report new
 
--- a datagram came to an open end
-pub record OnDatagram (old : WorldState) (k : ℕ) (x : OpenEnd) (from : Endpoint) (bytes : List ℕ) (report : Report) (new : WorldState) : Type 0 where
+-- a datagram arrived at an open end
+pub record OnDatagram (old : WorldState) (k : ℕ) (x : OpenEnd) (from : Endpoint) (bytes : List ℕ)
+    (report : Report) (new : WorldState) : Type 0 where
   pub turn : Turn
   pub held : Files (List ℕ) Holding
-  pub steps : EndStep (is_client x.state.role.side) (in_the_way old.overwrite (file_at old.files x.path)) from bytes x.state (files_of x) turn held
+  pub steps : EndStep (is_client x.state.role.side)
+      (in_the_way old.overwrite (file_at old.files x.path)) from bytes x.state (files_of x) turn
+      held
   pub turns : Turns old k x turn held report new
 
--- what a datagram did where it came to
-pub data Arrives (old : WorldState) (from to : Endpoint) (bytes : List ℕ) (report : Report) (new : WorldState) : Type 0 where
+-- the effect of a datagram at its destination
+pub data Arrives (old : WorldState) (from to : Endpoint) (bytes : List ℕ) (report : Report)
+    (new : WorldState) : Type 0 where
   -- at the request port
-  At_request_port : (to ≡ request_port) → HasPort old → (decoded : Option Packet) → Decodes bytes decoded →
+  At_request_port : (to ≡ request_port) → HasPort old → (decoded : Option Packet) →
+      Decodes bytes decoded →
       (repeated : Bool) → IsRepeated repeated from decoded old.ends →
-      Serves (service old repeated bytes decoded) old from bytes report new → Arrives old from to bytes report new
+      Serves (service old repeated bytes decoded) old from bytes report new →
+      Arrives old from to bytes report new
   -- at an open end
   At_open_end : (k : ℕ) (x : OpenEnd) → slice_get old.ends k ≡ Some (Open_end x) → x.address ≡ to →
       OnDatagram old k x from bytes report new → Arrives old from to bytes report new
   -- at a closed end
-  At_closed_end : (k : ℕ) (x : ClosedEnd) → slice_get old.ends k ≡ Some (Closed_end x) → x.address ≡ to →
+  At_closed_end : (k : ℕ) (x : ClosedEnd) → slice_get old.ends k ≡ Some (Closed_end x) →
+      x.address ≡ to →
       Stays old report new → Arrives old from to bytes report new
-  -- where nobody is
-  At_nobody : (to ≢ request_port) → ((k : ℕ) (x : WorldEnd) → slice_get old.ends k ≡ Some x → end_address x ≢ to) →
+  -- at no end
+  At_nobody : (to ≢ request_port) →
+      ((k : ℕ) (x : WorldEnd) → slice_get old.ends k ≡ Some x → end_address x ≢ to) →
       Stays old report new → Arrives old from to bytes report new
 
--- what a timeout does to the end at place k
+-- the effect of a timeout on the end at index k
 abbrev pub TimesOut : WorldState → ℕ → WorldEnd → Report → WorldState → Type 0
-TimesOut old k (Open_end x) report new = Turns old k x (timeout_turn x.state) (files_of x) report new
+TimesOut old k (Open_end x) report new =
+    Turns old k x (timeout_turn x.state) (files_of x) report new
 TimesOut old k (Closed_end x) report new = Stays old report new
 
--- a receiver was told to refuse its next append or commit; a sender cannot be told
+-- a receiver, set to refuse its next append or commit; a sender is unchanged
 abbrev pub told_to_refuse : OpenEnd → OpenEnd
 told_to_refuse x = if is_sender x.state.role.side then x else record x { refuses = true }
 
--- an end was told so; a closed one cannot be told
+-- an end, set to refuse; a closed one is unchanged
 abbrev pub told_end : WorldEnd → WorldEnd
 told_end (Open_end x) = Open_end (told_to_refuse x)
 told_end (Closed_end x) = Closed_end x
 
--- the end at this port, whose place is k
+-- the end at this port, with its index k
 pub record IsAtPort (w : WorldState) (port k : ℕ) (x : WorldEnd) : Type 0 where
   pub is : port ≡ 1024 + k
   pub there : slice_get w.ends k ≡ Some x
 
--- how an event that is not refused handles a world
+-- the effect of an event that is not refused
 abbrev pub WorldStep : WorldState → Event → Report → WorldState → Type 0
 WorldStep old (Get name mode asked) report new =
     HasPort old × MayGet name mode asked × Opens old (reading_client old name mode asked) report new
 WorldStep old (Put name mode asked bytes) report new =
-    HasPort old × MayPut name mode asked (length (wire_text mode bytes)) × Opens old (writing_client old name mode asked bytes) report new
+    HasPort old × MayPut name mode asked (length (wire_text mode bytes))
+    × Opens old (writing_client old name mode asked bytes) report new
 WorldStep old (Deliver i) report new =
     (d : Datagram) × (slice_get old.sent i ≡ Some d) × Arrives old d.from d.to d.bytes report new
 WorldStep old (Timeout port) report new =
@@ -146,9 +175,10 @@ WorldStep old (Timeout port) report new =
 WorldStep old (RefuseStore port) report new =
     (k : ℕ) × (x : WorldEnd) × IsAtPort old port k x
     × (report ≡ no_report) × (new ≡ record old { ends = slice_set old.ends k (told_end x) })
-WorldStep old (Stray from to bytes) report new = (host_of from ≡ Elsewhere) × Arrives old from to bytes report new
+WorldStep old (Stray from to bytes) report new =
+    (host_of from ≡ Elsewhere) × Arrives old from to bytes report new
 
--- the event finds a datagram of this place
+-- no datagram has this index
 abbrev pub FindsNone : List Datagram → ℕ → Type 0
 FindsNone sent i = length sent ≤ i
 
@@ -160,20 +190,23 @@ LacksPort w to = (to ≡ request_port) × (65535 < next_port w)
 abbrev pub NoneAt : WorldState → ℕ → Type 0
 NoneAt w port = (port < 1024) ⊎ (next_port w ≤ port)
 
--- why an event is refused, memory aside: the first reason that holds, in the order of their numbers
+-- why an event is refused, except lack of memory: the first fault that applies, in the order of
+-- their numbers
 abbrev pub EventRefuses : WorldState → Event → WorldFault → Type 0
 EventRefuses w (Deliver i) NoSuchDatagram = FindsNone w.sent i
 EventRefuses w (Timeout port) NoSuchEnd = NoneAt w port
 EventRefuses w (RefuseStore port) NoSuchEnd = NoneAt w port
 EventRefuses w (Get name mode asked) NoPort = 65535 < next_port w
 EventRefuses w (Put name mode asked bytes) NoPort = 65535 < next_port w
-EventRefuses w (Deliver i) NoPort = (d : Datagram) × (slice_get w.sent i ≡ Some d) × LacksPort w d.to
+EventRefuses w (Deliver i) NoPort =
+    (d : Datagram) × (slice_get w.sent i ≡ Some d) × LacksPort w d.to
 EventRefuses w (Stray from to bytes) NoPort = LacksPort w to
 EventRefuses w (Get name mode asked) BadRequest = HasPort w × (MayGet name mode asked → ⊥)
-EventRefuses w (Put name mode asked bytes) BadRequest = HasPort w × (MayPut name mode asked (length (wire_text mode bytes)) → ⊥)
+EventRefuses w (Put name mode asked bytes) BadRequest =
+    HasPort w × (MayPut name mode asked (length (wire_text mode bytes)) → ⊥)
 EventRefuses w event fault = ⊥
 
--- want of memory is the last reason: it refuses where no other does
+-- lack of memory is the last fault: it is returned if no other applies
 abbrev pub MemoryLast : (WorldFault → Type 0) → WorldFault → Type 0
 MemoryLast reason Memory = (fault : WorldFault) → reason fault → ⊥
 MemoryLast reason fault = reason fault
@@ -182,8 +215,9 @@ MemoryLast reason fault = reason fault
 abbrev pub WorldRefuses : WorldState → Event → WorldFault → Type 0
 WorldRefuses w event fault = MemoryLast (EventRefuses w event) fault
 
--- the datagrams from this place on were delivered one after another, so many of them
+-- the datagrams from this index on were delivered one after another, one for each report
 abbrev pub Settles : WorldState → ℕ → List Report → WorldState → Type 0
 Settles old from [] new = new ≡ old
 Settles old from (report ∷ reports) new =
-    (mid : WorldState) × WorldStep old (Deliver from) report mid × Settles mid (from + 1) reports new
+    (mid : WorldState) × WorldStep old (Deliver from) report mid
+    × Settles mid (from + 1) reports new

@@ -28,7 +28,7 @@ use tftp_wire::{Bytes, Mode};
 pub(crate) struct Client {
     end: End,
     files: Files<MemSource, Shelf>,
-    /// The file that it sends, as its host keeps it; empty for one that receives.
+    /// The file that it sends, as its host stores it; empty for one that receives.
     file: SharedBytes,
 }
 
@@ -127,14 +127,14 @@ impl Client {
         }
     }
 
-    /// How far it came.
+    /// Its record.
     pub(crate) fn record(&self) -> Record
         ensures { result ≡ record_of self.now.end }
     {
         self.end.record()
     }
 
-    /// It takes a datagram from there, while it is open.
+    /// Handles a datagram, while it is open.
     pub(crate) fn on_datagram(
         &mut self,
         alloc: Global,
@@ -156,7 +156,7 @@ impl Client {
         }
     }
 
-    /// It takes a timeout, while it is open.
+    /// Handles a timeout, while it is open.
     pub(crate) fn on_timeout(
         &mut self,
         alloc: Global,
@@ -176,7 +176,7 @@ impl Client {
         }
     }
 
-    /// Its next append or commit is to be refused, if it is an open receiver.
+    /// Sets its next append or commit to be refused, if it is an open receiver.
     pub(crate) fn refuse_next(&mut self)
         ensures { self.new ≡ told_client self.old }
     {
@@ -209,7 +209,7 @@ impl Client {
     }
 }
 
-/// What the world says where a client was not opened.
+/// The world's fault if a client was not opened.
 fn open_fault(fault: OpenFault) -> WorldFault
     ensures { result ≡ open_fault fault }
 {

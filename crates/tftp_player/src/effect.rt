@@ -1,4 +1,4 @@
-//! What an event came to, before it is written into the world.
+//! The result of an event, before it is recorded in the world.
 
 ghost use Rattle.std.specs.Prelude.{◌≡◌, ◌<◌, ◌++◌, vec_len, vec_capacity};
 ghost use Rattle.tftp_player.specs.Effect.{no_effect, said_by, report_by};
@@ -10,20 +10,20 @@ use std::alloc::Global;
 use tftp_ends::{Endpoint, Outcome, Step};
 use tftp_wire::Bytes;
 
-/// What an event came to: a datagram that goes out, and an end that closed.
+/// The result of an event: a datagram to send, and an end that closed.
 #[derive(Drop)]
 pub(crate) struct Effect {
-    /// Where it goes out from; the end that closed is there.
+    /// The sender; the end that closed is there.
     pub(crate) from: Endpoint,
-    /// Where the datagram goes; none goes out if there is none.
+    /// The destination of the datagram; none if nothing is sent.
     pub(crate) to: Option<Endpoint>,
-    /// Its bytes.
+    /// The bytes of the datagram.
     pub(crate) bytes: Bytes,
     /// How the end closed.
     pub(crate) closed: Option<Outcome>,
 }
 
-/// What a step of the end there came to, which has appended this.
+/// The result of a step of the end there, which appended these bytes.
 pub(crate) fn effect_of(from: Endpoint, step: Step, out: Vec<u8>) -> Effect
     ensures { result ≡ record {
       from = from;
@@ -40,7 +40,7 @@ pub(crate) fn effect_of(from: Endpoint, step: Step, out: Vec<u8>) -> Effect
     }
 }
 
-/// Nothing comes of it.
+/// Nothing is sent, and no end closes.
 pub(crate) fn no_effect(alloc: Global, from: Endpoint) -> Effect
     ensures { result ≡ no_effect from }
 {
@@ -62,7 +62,7 @@ fn closed_at(at: Endpoint, closed: Option<Outcome>) -> Option<(u16, Outcome)>
     }
 }
 
-/// Puts what goes out behind all that was sent before, and reports it.
+/// Appends the datagram to all that was sent before, and reports it.
 pub(crate) fn write_down(sent: &mut Vec<Datagram>, effect: Effect) -> Report
     requires { vec_len sent.old < vec_capacity sent.old }
     ensures sent { sent.new.items ≡ sent.old.items ++ said_by effect.from effect.to effect.bytes }

@@ -17,7 +17,7 @@ use std::alloc::Global;
 use tftp_ends::Record;
 use tftp_server::{MemStore, Server};
 
-/// The server, every end that was opened, and how far each came.
+/// The server, every end that was opened, and the record of each.
 #[derive(Drop)]
 pub(crate) struct Ends {
     pub(crate) alloc: Global,
@@ -30,7 +30,7 @@ pub(crate) struct Ends {
 const FIRST_PORT: u16 = 1024;
 
 impl Ends {
-    /// The port of the next end, if there are so many ports.
+    /// The port of the next end, if one is left.
     pub(crate) fn next_port(&self) -> Option<u16>
         ensures some { IfSome result (λ port. port ≡ 1024 + length self.now.players.items) }
         ensures fits { IfSome result (λ port. port < 65536) }
@@ -43,7 +43,7 @@ impl Ends {
         Some(place as u16 + FIRST_PORT)
     }
 
-    /// The place of the end at this port, if one has it.
+    /// The index of the end at this port, if there is one.
     pub(crate) fn place_of(&self, port: u16) -> Option<usize>
         ensures some { IfSome result (λ place.
             (port ≡ 1024 + place) × (place < length self.now.players.items)) }
@@ -61,7 +61,7 @@ impl Ends {
         }
     }
 
-    /// A client more, at the next port.
+    /// Adds a client at the next port.
     pub(crate) fn enter(&mut self, port: u16, client: Client) -> Result<(), WorldFault>
         requires staged { HangTogether self.old }
         requires port { port ≡ 1024 + length (ends_of self.old.server self.old.players.items) }
@@ -84,7 +84,7 @@ impl Ends {
         Ok(())
     }
 
-    /// The end at this place takes a timeout, unless it is closed.
+    /// The end at this index handles a timeout, unless it is closed.
     pub(crate) fn on_timeout(&mut self, place: usize, port: u16) -> Result<Effect, WorldFault>
         requires staged { HangTogether self.old }
         requires place { (place < length self.old.players.items) × (port ≡ 1024 + place) }
@@ -109,7 +109,7 @@ impl Ends {
     }
 }
 
-/// Whether the end at this place is recorded as closed.
+/// Whether the record at this index is that of a closed end.
 pub(crate) fn is_recorded_closed(records: &Vec<(u16, Record)>, place: usize) -> bool
     ensures { result ≡ record_closed (slice_get records.now.items place) }
 {

@@ -7,10 +7,10 @@ use tftp_ends::Endpoint;
 use tftp_negotiate::Asked;
 use tftp_wire::{Bytes, Mode};
 
-/// One thing that happens. Whoever plays the world chooses it, and so what the network does.
+/// An event, which the player of the world chooses, and with it what the network does.
 #[derive(Debug, Drop)]
 pub enum Event {
-    /// A client asks for the server's file of this name.
+    /// A client reads the server's file of this name.
     Get {
         /// The name in the request.
         name: Bytes,
@@ -19,7 +19,7 @@ pub enum Event {
         /// The options of the request.
         asked: Asked,
     },
-    /// A client sends a file to the server, under this name.
+    /// A client writes a file to the server, under this name.
     Put {
         /// The name in the request.
         name: Bytes,
@@ -27,14 +27,14 @@ pub enum Event {
         mode: Mode,
         /// The options of the request.
         asked: Asked,
-        /// The file, as the host keeps it.
+        /// The file, as the host stores it.
         bytes: Bytes,
     },
-    /// The datagram at this place of all that was sent arrives, counted from 0.
+    /// The datagram at this index of all that was sent arrives, counted from 0.
     Deliver(usize),
-    /// The end at this port has waited long enough.
+    /// A timeout at the end of this port.
     Timeout(u16),
-    /// The next append or commit of the receiver at this port is to be refused for want of room.
+    /// Sets the receiver at this port to refuse its next append or commit, as a full store does.
     RefuseStore(u16),
     /// A datagram of these bytes arrives from the first endpoint, which is at neither host, at the
     /// second.
@@ -42,7 +42,7 @@ pub enum Event {
 }
 
 impl Event {
-    /// Whether a datagram of neither host has arrived once this event happened.
+    /// Whether a datagram of neither host has arrived after this event.
     pub(crate) fn strayed_after(&self, strayed: bool) -> bool
         ensures { result ≡ strayed_after strayed self.now }
     {

@@ -6,19 +6,20 @@ ghost use Rattle.tftp_player.specs.Fault.{world_fault_number};
 use std::alloc::{AllocError, AllocFailed};
 use thiserror::Error;
 
-/// Why an event did not happen. Of the first four the least that holds is answered.
+/// Why an event did not happen. Of the first four the least that applies is returned, before
+/// `Memory`.
 #[derive(Clone, Copy, Debug, PartialEq, Eq, Error)]
 pub enum WorldFault {
-    /// No datagram was sent that has this place.
+    /// No datagram has this index.
     #[error("no such datagram")]
     NoSuchDatagram = 1,
     /// No end was opened at this port.
     #[error("no such end")]
     NoSuchEnd = 2,
-    /// Every port has been taken.
+    /// Every port has been used.
     #[error("no port is left")]
     NoPort = 3,
-    /// The client refuses to ask this.
+    /// The client refuses this request.
     #[error("bad request")]
     BadRequest = 4,
     /// Out of memory.

@@ -1,4 +1,4 @@
-//! Where the ends of a world are.
+//! The endpoints of the ends of a world.
 
 ghost use Rattle.std.specs.Prelude.{◌≡◌};
 ghost use Rattle.tftp_player.specs.Clients.{client_at, server_at};
@@ -6,7 +6,7 @@ ghost use Rattle.tftp_player.specs.Clients.{client_at, server_at};
 use tftp_ends::Endpoint;
 use tftp_machine::{CLIENT_IP, SERVER_IP};
 
-/// Where the server takes requests (RFC 1350, section 4).
+/// The server's request port (RFC 1350, section 4).
 pub(crate) const REQUEST_PORT: Endpoint = Endpoint {
     ip: SERVER_IP,
     port: 69,

@@ -1,6 +1,6 @@
-//! What every run of a world keeps, over the definitions alone.
+//! The laws of every run of a world, over the definitions alone.
 //!
-//! Where a law asks that a world is kept (`IsOk`), the clauses `played` of `World`'s calls say it.
+//! The premise `IsOk` of a law holds by the clauses `played` of `World`'s calls.
 
 ghost use Rattle.std.specs.Prelude.{[], ◌∷◌};
 ghost use Rattle.tftp_wire.specs.declared.mode.Mode.TheVariants.{Octet, Netascii};
@@ -21,17 +21,17 @@ ghost use Rattle.tftp_player.specs.WorldRuns.{NewWorldsBegin};
 
 /// After every list of events, from a world in which nothing has happened: the ends of an
 /// established transfer have one block size, what a receiver stored is a beginning of its peer's
-/// file, a receiver that is complete has stored and committed all of it, and when a sender is
-/// complete so is its peer. Of a peer at neither host nothing is claimed; without strangers every
-/// peer is at one of the two.
+/// file, a receiver that is complete has stored and committed all of it, and a complete sender has
+/// a complete peer. Nothing is claimed of a peer at neither host; without strangers every peer is
+/// at one of the two.
 pub fn every_world_is_safe()
     ensures safe { WorldsAreSafe }
     ensures home { PeersStayHome }
 {}
 
 /// The definitions are not empty: in a world some events transfer a file of one byte by a read and
-/// by a write in octet, by a read in netascii, where it is a line end, and by a read in blocks of 8
-/// bytes. Both ends are complete then, and the receiver has the file.
+/// by a write in octet, by a read in netascii, of a line end, and by a read in blocks of 8 bytes.
+/// Both ends are then complete, and the receiver has the file.
 pub fn some_worlds_transfer()
     ensures read { Transfers (Get (97 ∷ []) Octet nothing_asked) (65 ∷ []) }
     ensures write { Transfers (Put (97 ∷ []) Octet nothing_asked (65 ∷ [])) (65 ∷ []) }
@@ -39,9 +39,9 @@ pub fn some_worlds_transfer()
     ensures options { Transfers (Get (97 ∷ []) Octet blocks_of_8) (65 ∷ []) }
 {}
 
-/// What makes a world safe holds of a new one, and is kept by each event, in both modes, for reads
-/// and for writes. An event is three rules of the guarded machine at most, or four for a stranger's
-/// datagram, which go on where the old world was shown and lead to where the new one is.
+/// The invariant that makes a world safe holds of a new one, and each event keeps it. An event is
+/// at most three rules of the guarded machine, or four for a stranger's datagram, from the machine
+/// that showed the old world to one that shows the new.
 pub fn a_step_keeps_a_world()
     ensures begins { NewWorldsBegin }
     ensures kept { StepsKeep }
@@ -49,25 +49,25 @@ pub fn a_step_keeps_a_world()
     ensures safe { KeptIsSafe }
 {}
 
-/// Each event adds one datagram at most behind all that was sent, and takes none off; with that so
-/// does each call of `World::apply`.
+/// Each event appends at most one datagram to all that was sent, and removes none; so does each
+/// call of `World::apply`.
 pub fn an_event_sends_one_datagram_at_most()
     ensures events { EventsAddOneAtMost }
 {}
 
-/// A datagram of neither host changes no record, but of an end whose peer is a stranger: an end
-/// that a stranger's own request opened. A client's peer is at the server.
+/// A datagram of neither host changes no record, except of an end whose peer is a stranger, which a
+/// stranger's own request opened. A client's peer is at the server.
 pub fn a_stray_changes_no_record()
     ensures records { StraysChangeNoRecord }
     ensures clients { ClientsHaveServers }
 {}
 
 /// A run without loss, of a request that both ends accept, and of a write that the server's store
-/// takes, ends: it has no more than `1 + 2N` deliveries for a read that is answered by DATA 1,
-/// `3 + 2N` for one that is answered by an OACK, and `2 + 2N` for a write, where the text has `N`
-/// blocks of the agreed size (RFC 1350, section 2; RFC 2347, "Negotiation Protocol"). Before the
-/// last of them a datagram is on its way; behind it both ends are complete, and none is. A
-/// `World::settle` that wants more delivers just so many.
+/// accepts, ends: it has at most `1 + 2N` deliveries for a read answered by DATA 1, `3 + 2N` for
+/// one answered by an OACK, and `2 + 2N` for a write, where the text has `N` blocks of the agreed
+/// size (RFC 1350, section 2; RFC 2347, "Negotiation Protocol"). Before the last of them a datagram
+/// is to be delivered; after it both ends are complete, and none is. A `World::settle` with at
+/// least that limit delivers that many.
 ///
 /// There are such runs: of a read and of a write without options, of a read in netascii, of a read
 /// of three blocks and of a write of two in blocks of 8 bytes.
@@ -76,7 +76,7 @@ pub fn a_straight_run_completes()
     ensures writes { WritesComplete }
     ensures reads_settle { ReadsSettle }
     ensures writes_settle { WritesSettle }
-    // and there are some
+    // there are some
     ensures read { SomeReadIsStraight Octet nothing_asked (65 ∷ []) [] }
     ensures write { SomeWriteIsStraight Octet nothing_asked (65 ∷ []) [] }
     ensures netascii { SomeReadIsStraight Netascii nothing_asked (10 ∷ []) [] }
@@ -85,8 +85,8 @@ pub fn a_straight_run_completes()
 {}
 
 /// At the request port a request that repeats that of an open transfer is ignored: nothing is sent,
-/// and no end opens or changes (RFC 1350, section 4). A datagram that opens an end repeats none
-/// before, and the same datagram again repeats it as long as that end is open.
+/// and no end opens or changes (RFC 1350, section 4). A datagram that opens an end repeats no
+/// request before, and the same datagram repeats it while that end is open.
 pub fn a_repeat_opens_nothing()
     ensures ignored { RepeatsOpenNothing }
     ensures anew { OnlyNewRequestsOpen }

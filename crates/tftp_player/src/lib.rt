@@ -1,8 +1,9 @@
-//! A lossy network between one TFTP server and its clients, and what every run of it keeps.
+//! A lossy network between one TFTP server and its clients, and what holds of every run of it.
 //!
 //! It opens no socket, reads no clock and touches no file.
 //!
-//! Begin with [`World`]: each [`Event`] is one call, and what was sent stays there to be delivered.
+//! Begin with [`World`]: each [`Event`] is one call, and each datagram that was sent can be
+//! delivered.
 #![tactic(auto)]
 
 mod client;

@@ -1,4 +1,4 @@
-//! An end of a world, by whoever plays it.
+//! An end of a world, a client or the server's.
 
 ghost use Rattle.std.specs.Prelude.{◌≡◌, false, option_map, IfOk, IfErr, OnErr};
 ghost use Rattle.tftp_player.specs.Played.{PlayerKept, PlayerTimeoutStep, PlayerDatagramStep};
@@ -24,7 +24,7 @@ pub(crate) enum Player {
 }
 
 impl Player {
-    /// Where it is, by its port.
+    /// Its endpoint.
     pub(crate) fn address(&self, port: u16) -> Endpoint
         ensures { result ≡ address_of port self.now }
     {
@@ -34,7 +34,7 @@ impl Player {
         }
     }
 
-    /// It takes a timeout, while it is open.
+    /// Handles a timeout, while it is open.
     pub(crate) fn on_timeout(
         &mut self,
         alloc: Global,
@@ -54,7 +54,7 @@ impl Player {
         }
     }
 
-    /// It takes a datagram from there, while it is open.
+    /// Handles a datagram, while it is open.
     pub(crate) fn on_datagram(
         &mut self,
         alloc: Global,
@@ -78,7 +78,7 @@ impl Player {
         }
     }
 
-    /// Its next append or commit is to be refused, if it is an open receiver.
+    /// Sets its next append or commit to be refused, if it is an open receiver.
     pub(crate) fn refuse_next(&mut self, server: &Server<MemStore>, port: u16)
         requires { PlayerKept port server.now.held self.old }
         ensures { self.new ≡ told_player port server.now.held self.old }

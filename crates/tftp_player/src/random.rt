@@ -1,4 +1,4 @@
-//! What random words draw.
+//! Events drawn at random.
 
 ghost use Rattle.std.specs.Prelude.{◌≡◌, IfSome};
 ghost use Rattle.rand_pcg.specs.Pcg.{pcg32};
@@ -13,8 +13,8 @@ use rand_pcg::Pcg32;
 /// Draws an event: in six cases of eight the delivery of any datagram that was sent, else a timeout
 /// of any end that was opened.
 ///
-/// It takes two words, the second of which chooses the datagram or the end, and no memory. While no
-/// end was opened there is nothing to draw, and it takes no word.
+/// It draws two words, the second of which chooses the datagram or the end. If no end was opened it
+/// returns none, and draws no word. It does not allocate.
 pub fn draw(rng: &mut Pcg32, world: &World) -> Option<Event>
     ensures event { result ≡ drawn world.now.state (pcg32 rng.old).0
         (pcg32 (pcg32 rng.old).1).0 }

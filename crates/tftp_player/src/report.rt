@@ -1,12 +1,12 @@
-//! What an event did.
+//! The report of an event.
 
 use tftp_ends::Outcome;
 
-/// What an event did, as far as it can be seen on the network or at an end.
+/// The effect of an event on the network and on the ends.
 #[derive(Clone, Copy, Debug, PartialEq, Eq)]
 pub struct Report {
-    /// The place of the datagram that was sent, if one was; an event sends one at most.
+    /// The index of the datagram that was sent, if any; an event sends at most one.
     pub added: Option<usize>,
-    /// The port of the end that the event closed, and how it ended.
+    /// The port of the end that the event closed, and its outcome.
     pub closed: Option<(u16, Outcome)>,
 }

@@ -1,4 +1,4 @@
-//! What a world keeps of a server's end, beside the server that plays it.
+//! A server's end, as the world holds it beside the server that plays it.
 
 ghost use Rattle.std.specs.Prelude.{◌≡◌, false, Some, Ok, option_copied, option_map, IfOk, IfErr};
 ghost use Rattle.std.specs.Prelude.{OnErr};
@@ -21,8 +21,8 @@ use tftp_file::{Path, PathFault, SharedBytes, path_of};
 use tftp_server::{MemDraft, MemStore, Server, ServerFault};
 use tftp_wire::{Mode, PacketRef, decode_ref};
 
-/// A server's end: what it was asked for, and how it ended once it is closed. While it is open the
-/// server holds it under its port.
+/// A server's end: its request, and its record once it is closed. While it is open the server holds
+/// it under its port.
 #[derive(Drop)]
 pub(crate) struct Served {
     pub(crate) mode: Mode,
@@ -51,7 +51,7 @@ impl Served {
         }
     }
 
-    /// It takes a timeout, while it is open.
+    /// Handles a timeout, while it is open.
     pub(crate) fn on_timeout(
         &mut self,
         alloc: Global,
@@ -78,7 +78,7 @@ impl Served {
         }
     }
 
-    /// It takes a datagram from there, while it is open.
+    /// Handles a datagram, while it is open.
     pub(crate) fn on_datagram(
         &mut self,
         alloc: Global,
@@ -111,7 +111,7 @@ impl Served {
         }
     }
 
-    /// Its next append or commit is to be refused, if it is an open receiver.
+    /// Sets its next append or commit to be refused, if it is an open receiver.
     pub(crate) fn refuse_next(&mut self, server: &Server<MemStore>, port: u16)
         requires { IsServed port self.old self.old.ended server.now.held }
         ensures { self.new ≡ told_served_end port server.now.held self.old }
@@ -143,7 +143,7 @@ impl Served {
         }
     }
 
-    /// What it stores in: the server has it while it is open.
+    /// Its draft: the server has it while it is open.
     fn draft<'a>(&'a self, server: &'a Server<MemStore>, port: u16) -> Option<&'a MemDraft>
         ensures { option_copied result ≡ served_draft self.now self.now.ended
             (at port server.now.held) }
@@ -154,7 +154,7 @@ impl Served {
         }
     }
 
-    /// Takes it from the server, if its step has closed it there.
+    /// Takes its record and its draft from the server, if its step has closed it there.
     fn conclude(&mut self, server: &mut Server<MemStore>, port: u16, closed: Option<Outcome>)
         requires { ClosesAs closed (at port server.old.held) }
         ensures { Concludes port (at port server.old.held) self.old self.new server.old
@@ -171,15 +171,15 @@ impl Served {
     }
 }
 
-/// Tells the server's store to refuse its next append or commit, or takes that back.
+/// Sets the server's store to refuse its next append or commit, or not to.
 fn tell_store(server: &mut Server<MemStore>, told: bool)
     ensures { server.new ≡ server_told server.old told }
 {
     server.store_mut().refuse_next(told);
 }
 
-/// What a datagram to the request port asks for, where the port's tests that ask no store let it
-/// pass: only then the file is looked up.
+/// The end that a datagram to the request port asks for, if it passes the port's tests that need no
+/// store: only then the file is looked up.
 pub(crate) fn admitted_end(
     alloc: Global,
     server: &Server<MemStore>,
@@ -195,7 +195,7 @@ pub(crate) fn admitted_end(
     }
 }
 
-/// What a datagram asks for: the end that may open, with the file that it sends.
+/// The end that a datagram asks for, with the file that it sends.
 fn requested_end(
     alloc: Global,
     store: &MemStore,

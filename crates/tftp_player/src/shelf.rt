@@ -1,11 +1,11 @@
-//! Where a client puts what it receives.
+//! The sink of a client.
 
 use std::alloc::Global;
 use std::marker::Model;
 use tftp_file::{MemSink, Sink, StoreFault};
 
-/// A sink in memory with room for every file, which refuses only as it was told or for want of
-/// memory. Contracts see what it holds.
+/// A sink in memory without a limit, which refuses only if it is set to or is out of memory. Its
+/// content has a model.
 #[derive(Drop)]
 pub(crate) struct Shelf {
     sink: MemSink,
@@ -25,7 +25,7 @@ impl Model for Shelf {
 impl Shelf {
     ghost use Rattle.std.specs.Prelude.{◌≡◌, true, false, []};
 
-    /// An empty one. It takes no memory.
+    /// An empty one. It does not allocate.
     pub(crate) fn new(alloc: Global) -> Shelf
         ensures { result ≡ record { bytes = []; committed = false; refuses = false } }
     {
@@ -48,7 +48,7 @@ impl Shelf {
         self.sink.is_committed()
     }
 
-    /// Its next append or commit is to be refused.
+    /// Sets its next append or commit to be refused.
     pub(crate) fn refuse_next(&mut self)
         ensures { self.new ≡ record self.old { refuses = true } }
     {

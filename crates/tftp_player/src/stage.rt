@@ -25,7 +25,7 @@ use tftp_ends::Record;
 use tftp_file::Path;
 use tftp_server::{Config, MemStore, Server};
 
-/// The server, the clients, their records and what was sent, which hang together.
+/// The server, the clients, their records and what was sent, which are consistent.
 #[derive(Drop)]
 pub(crate) struct Stage {
     alloc: Global,
@@ -89,7 +89,7 @@ impl Stage {
         self.sent.as_slice()
     }
 
-    /// Every end that was ever opened, by its port, and how far it came; in order of opening.
+    /// The record of every end that was ever opened, with its port, in order of opening.
     pub(crate) fn records(&self) -> &[(u16, Record)]
         ensures { result.now ≡ records_from 1024 self.now.ends }
     {
@@ -123,7 +123,7 @@ impl Stage {
         self.ends.server.store().file(path)
     }
 
-    /// Makes the step of an event.
+    /// Plays an event.
     pub(crate) fn step(&mut self, event: Event) -> Result<Report, WorldFault>
         requires { IsPlayable event }
         ensures steps { IfOk result (λ report. WorldStep self.old event report self.new) }
@@ -145,7 +145,7 @@ impl Stage {
         }
     }
 
-    /// The end at this port takes a timeout.
+    /// The end at this port handles a timeout.
     fn timeout(&mut self, port: u16) -> Result<Report, WorldFault>
         ensures steps { IfOk result (λ report. WorldStep self.old (Timeout port) report self.new) }
         ensures refused { IfErr result (WorldRefuses self.old (Timeout port)) }
@@ -163,7 +163,7 @@ impl Stage {
         }
     }
 
-    /// The receiver at this port is to refuse its next append or commit.
+    /// Sets the receiver at this port to refuse its next append or commit.
     fn refuse_store(&mut self, port: u16) -> Result<Report, WorldFault>
         ensures steps { IfOk result (λ report.
             WorldStep self.old (RefuseStore port) report self.new) }

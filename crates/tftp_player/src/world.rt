@@ -28,15 +28,15 @@ use tftp_server::Config;
 
 /// One server, its clients, and a network that keeps all that was ever sent.
 ///
-/// Whoever plays it chooses each event ([`World::apply`]), and so what the network does: a datagram
-/// may be delivered never, once or often, in any order and at any time. The server is 10.0.0.1 with
-/// request port 69, the clients are at 10.0.0.2, and every end that opens takes the next port from
+/// The caller chooses each event ([`World::apply`]), and so what the network does: a datagram may
+/// be delivered never, once or often, in any order and at any time. The server is 10.0.0.1 with
+/// request port 69, the clients are at 10.0.0.2, and every end that opens has the next port from
 /// 1,024 on.
 ///
 /// It is safe at all times: the two ends of an established transfer have one block size, what a
 /// receiver stored is a beginning of its peer's file and all of it once it is complete, and a
-/// sender is complete only after its receiver. What `laws` say of a world that was played they say
-/// of any `World` (`WasPlayed`).
+/// sender is complete only after its receiver. The laws on a world that was played (`WasPlayed`)
+/// hold of any `World`.
 #[derive(Drop)]
 pub struct World {
     stage: Stage,
@@ -56,8 +56,8 @@ impl Model for World {
 }
 
 impl World {
-    /// A world in which nothing has happened, whose server has these files. It fails for want of
-    /// memory alone.
+    /// A world in which nothing has happened, whose server has these files. It fails only if it is
+    /// out of memory.
     pub fn new(
         alloc: Global,
         files: Vec<(Path, Vec<u8>)>,
@@ -94,8 +94,7 @@ impl World {
         self.stage.sent()
     }
 
-    /// Every end that was ever opened, by its port, and how far it came; in order of opening. The
-    /// world is safe, and the laws on worlds speak of it.
+    /// The record of every end that was ever opened, with its port, in order of opening.
     pub fn records(&self) -> &[(u16, Record)]
         ensures records { result.now ≡ records_from 1024 self.now.state.ends }
         ensures safe { IsSafe self.now.state }
@@ -125,16 +124,17 @@ impl World {
         self.stage.file(path)
     }
 
-    /// Plays an event. After a refusal nothing has changed.
+    /// Plays an event. A refused event changes nothing.
     ///
-    /// `NoSuchDatagram` and `NoSuchEnd` where an event names what was never sent or opened;
-    /// `NoPort` where an end could open and no port is left; `BadRequest` where the client refuses
-    /// to ask this, as an option that its transfer has no use for, or a file too long for its
-    /// blocks to be numbered. The sender of a stray is foreign ([`World::is_foreign`]).
+    /// `NoSuchDatagram` and `NoSuchEnd` if an event names what was never sent or opened; `NoPort`
+    /// if an end could open and no port is left; `BadRequest` if the client refuses the request, as
+    /// one with an option that its transfer cannot use, or with a file too long for its blocks to
+    /// be numbered; `Memory` if it is out of memory. The sender of a stray is foreign
+    /// ([`World::is_foreign`]).
     ///
-    /// It copies a datagram's bytes once, since an end keeps the last one that it sent; its
-    /// look-ups take a time that grows with the logarithm of the open transfers. A file is never
-    /// copied: the server and the ends that send it share its bytes.
+    /// It copies a datagram's bytes once, since an end retains the last one that it sent; a look-up
+    /// takes a time logarithmic in the open transfers. A file is never copied: the server and the
+    /// ends that send it share its bytes.
     pub fn apply(&mut self, event: Event) -> Result<Report, WorldFault>
         requires { IsPlayable event }
         // the step of the event
@@ -143,7 +143,7 @@ impl World {
         ensures strayed { OnOk result (self.new.strayed ≡ strayed_after self.old.strayed event) }
         ensures refused { IfErr result (WorldRefuses self.old.state event) }
         ensures err { OnErr result (self.new ≡ self.old) }
-        // what it leaves is safe, and without strays every peer is at one of the two hosts
+        // the world after it is safe, and without strays every peer is at one of the two hosts
         ensures safe { IsSafe self.new.state }
         ensures home { IsHome self.new }
         ensures played { WasPlayed self.new }
@@ -158,19 +158,19 @@ impl World {
         }
     }
 
-    /// Delivers the datagram at this place and each one behind it once, also those that are sent on
-    /// the way, until none is left or so many were delivered, and answers how many.
+    /// Delivers the datagram at this index and each one after it once, also those that are sent
+    /// meanwhile, until none is left or `most` were delivered, and returns how many.
     ///
-    /// A refusal stops it, and the deliveries before it stand. It is that many calls of
+    /// A refusal stops it, and the deliveries before it remain. It is that many calls of
     /// [`World::apply`].
     pub fn settle(&mut self, from: usize, most: usize) -> Result<usize, WorldFault>
-        // so many deliveries
+        // that many deliveries
         ensures settles { IfOk result (λ count.
             Settled self.old.state from most count self.new.state) }
         ensures stops { IfErr result (λ fault.
             StopsAt self.old.state from most fault self.new.state) }
         ensures strayed { self.new.strayed ≡ self.old.strayed }
-        // what they leave is safe, and without strays every peer is at one of the two hosts
+        // the world after them is safe, and without strays every peer is at one of the two hosts
         ensures safe { IsSafe self.new.state }
         ensures home { IsHome self.new }
         ensures played { WasPlayed self.new }

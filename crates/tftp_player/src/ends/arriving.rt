@@ -1,4 +1,4 @@
-//! What a datagram does where it comes to.
+//! What a datagram does at its destination.
 
 ghost use Rattle.std.specs.Prelude.{◌≡◌, ◌≢◌, true, false, ◌<◌, ◌+◌, length, IfOk, IfErr, OnErr};
 ghost use Rattle.tftp_negotiate.specs.Ranges.{IsBlockSize};
@@ -30,7 +30,7 @@ impl Ends {
         }
     }
 
-    /// The request port or an end takes a datagram; where nobody is, it is lost.
+    /// The request port or an end handles a datagram; without one it is lost.
     pub(crate) fn take(
         &mut self,
         from: Endpoint,
@@ -56,7 +56,7 @@ impl Ends {
         }
     }
 
-    /// The end at this place takes a datagram, unless it is closed or on the other host.
+    /// The end at this index handles a datagram, unless it is closed or on the other host.
     fn on_datagram(
         &mut self,
         place: usize,
@@ -90,7 +90,7 @@ impl Ends {
         }
     }
 
-    /// The request port takes a datagram, and may open an end at the next port.
+    /// The request port handles a datagram, and may open an end at the next port.
     fn ask(&mut self, from: Endpoint, bytes: &[u8]) -> Result<Effect, WorldFault>
         requires staged { HangTogether self.old }
         requires block { IsBlockSize self.old.server.config.limits.max_block }
@@ -143,7 +143,7 @@ impl Ends {
     }
 }
 
-/// Whether these are two endpoints.
+/// Whether two endpoints differ.
 fn differs(a: Endpoint, b: Endpoint) -> bool
     ensures differs { result ≡ true → a ≢ b }
     ensures same { result ≡ false → a ≡ b }

@@ -1,4 +1,4 @@
-//! What a datagram does where it comes to.
+//! What a datagram does at its destination.
 
 ghost use Rattle.std.specs.Prelude.{◌≡◌, IfOk, IfErr, OnErr};
 ghost use Rattle.tftp_machine.specs.Machine.{host_of, Elsewhere};
@@ -13,7 +13,7 @@ use tftp_ends::Endpoint;
 use tftp_wire::Bytes;
 
 impl Stage {
-    /// The datagram at this place of all that was sent arrives.
+    /// The datagram at this index of all that was sent arrives.
     pub(super) fn deliver(&mut self, place: usize) -> Result<Report, WorldFault>
         ensures steps { IfOk result (λ report. WorldStep self.old (Deliver place) report self.new) }
         ensures refused { IfErr result (WorldRefuses self.old (Deliver place)) }

@@ -17,7 +17,7 @@ use tftp_negotiate::Asked;
 use tftp_wire::{Bytes, Mode};
 
 impl Stage {
-    /// A client asks for a file.
+    /// A client sends a read request.
     pub(super) fn get(
         &mut self,
         name: &[u8],
@@ -42,7 +42,7 @@ impl Stage {
         }
     }
 
-    /// A client asks to write a file.
+    /// A client sends a write request.
     pub(super) fn put(
         &mut self,
         name: &[u8],
@@ -68,7 +68,7 @@ impl Stage {
         }
     }
 
-    /// A client more, at the next port, and its request.
+    /// Adds a client at the next port, and its request.
     fn enter(&mut self, port: u16, client: Client, effect: Effect) -> Result<Report, WorldFault>
         requires port { port ≡ next_port self.old }
         requires client { is_client client.end.role.side ≡ true }

@@ -1,4 +1,4 @@
--- Two words draw an event, and none where no end was opened.
+-- Two words draw an event, and none is drawn if no end was opened.
 use Rattle.std.proofs.Common.{ℕ, ◌≡◌, ◌≤◌, length, ap, ◌∙◌, arith, rules}
 use Rattle.std.specs.Prelude.{◌%◌}
 use Rattle.rand_pcg.specs.Lcg.{Lcg}

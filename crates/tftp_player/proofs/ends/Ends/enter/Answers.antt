@@ -1,4 +1,4 @@
--- A client more hangs together with the others.
+-- The ends with another client are consistent.
 use Rattle.std.proofs.Common.{subst}
 use Rattle.tftp_ends.specs.Files.{AreFilesOf}
 use Rattle.tftp_player.specs.PlayedClient.{PlayedClient}

@@ -1,4 +1,4 @@
--- A datagram is a step of the end at its place, a client's or the server's.
+-- A datagram is a step of the end at its index, a client's or the server's.
 use Rattle.std.proofs.Common.{◌<◌, length, rules}
 use Rattle.tftp_player.proofs.PlayLemmas.{read_kept, read_open, records_within}
 use Rattle.tftp_player.proofs.DatagramLemmas.{step_away, step_closed, step_open, step_keeps_stage}

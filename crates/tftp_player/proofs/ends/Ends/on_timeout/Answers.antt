@@ -1,4 +1,4 @@
--- A timeout is a step of the end at its place, a client's or the server's.
+-- A timeout is a step of the end at its index, a client's or the server's.
 use Rattle.std.proofs.Common.{◌<◌, length, rules}
 use Rattle.tftp_player.proofs.PlayLemmas.{read_kept, read_open, records_within, stays_staged, times_out_staged, times_out_keeps}
 use Rattle.tftp_player.proofs.ends.Ends.on_timeout.Goals as goal

@@ -1,4 +1,4 @@
--- A step of the server's transfer is one of the end, which keeps what it tells at its close.
+-- A step of the server's transfer is one of the end, which retains its record when it closes.
 use Rattle.std.proofs.Common.{◌∙◌, refl, sym, ap, subst}
 use Rattle.tftp_server.specs.State.{at}
 use Rattle.tftp_player.specs.Serving.{PlayedServer, ClosesAs}

@@ -1,4 +1,4 @@
--- A timeout of the server's transfer is one of the end, which keeps what it tells at its close.
+-- A timeout of the server's transfer is one of the end, which retains its record when it closes.
 use Rattle.std.proofs.Common.{◌∙◌, sym}
 use Rattle.tftp_player.proofs.ServingLemmas.{times_out_closes, is_recorded, served_times_out}
 use Rattle.tftp_player.proofs.served.Served.on_timeout.Goals as goal

@@ -1,4 +1,5 @@
--- Stated here, since a search over the room, which is a numeral of twenty digits, takes half a minute.
+-- Stated here, since a search over `room`, which is a numeral of twenty digits, takes half a
+-- minute.
 use Rattle.std.proofs.Common.{ap, ◌∙◌}
 use Rattle.tftp_file.specs.Sink.{Holding}
 use Rattle.tftp_player.proofs.shelf.Shelf.is_committed.Goals as goal

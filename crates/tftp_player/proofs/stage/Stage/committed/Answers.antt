@@ -1,4 +1,4 @@
--- Whether the end at the port has committed, where there is one.
+-- Whether the end at the port has committed, if there is one.
 use Rattle.std.proofs.Common.{refl, ◌∙◌}
 use Rattle.tftp_player.proofs.TellingLemmas.{committed_here, committed_nowhere}
 use Rattle.tftp_player.proofs.stage.Stage.committed.Goals as goal

@@ -1,4 +1,4 @@
--- The end at the port is told to refuse, or there is none.
+-- The end at the port is set to refuse, if there is one.
 use Rattle.std.proofs.Common.{refl, sym, subst}
 use Rattle.std.specs.Prelude.{slice_set}
 use Rattle.tftp_player.specs.Stage.{IsStaged, world_of}

@@ -1,4 +1,4 @@
--- What the end at the port has stored, where there is one.
+-- What the end at the port has stored, if there is one.
 use Rattle.std.proofs.Common.{refl, ◌∙◌}
 use Rattle.tftp_player.proofs.TellingLemmas.{stored_here, stored_nowhere}
 use Rattle.tftp_player.proofs.stage.Stage.stored.Goals as goal

@@ -1,4 +1,4 @@
--- A timeout of the end at the port is its step, or there is none.
+-- A timeout of the end at the port is its step, if there is one.
 use Rattle.std.proofs.Common.{refl, subst}
 use Rattle.tftp_player.specs.World.{WorldState}
 use Rattle.tftp_player.specs.WorldSteps.{NoneAt}

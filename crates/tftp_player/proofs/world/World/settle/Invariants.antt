@@ -1,4 +1,4 @@
--- So many deliveries were made, and the world is safe behind each.
+-- `count` deliveries were made, and the world is safe after each.
 use Rattle.std.proofs.Common.{◌≡◌, ◌-◌, ◌≤◌, List, length}
 use Rattle.tftp_player.specs.PlayedWorld.{IsHome, WasPlayed}
 use Rattle.tftp_player.specs.WorldSafety.{IsSafe}
