@@ -1,4 +1,4 @@
--- The files of a script: one is found as a search finds it, and no path stands twice behind a new one.
+-- The files of a script: a file is found as a search finds it, and a new path keeps them distinct.
 use Rattle.std.proofs.Common.{◌≡◌, ℕ, Bool, true, false, ◌||◌, List, [], ◌∷◌, ◌++◌, cond, refl, sym, ap, ◌∙◌, nat_eq}
 use Rattle.std.specs.Prelude.{not, ◌&&◌, Option, Some, None, is_some}
 use Rattle.std.specs.List.{list_any}
@@ -29,7 +29,7 @@ equal_from_is_eq Less h = absurd (cc)
 equal_from_is_eq Equal h = refl
 equal_from_is_eq Greater h = absurd (cc)
 
--- of two paths that are not found to be one, neither is the other
+-- of two paths that are not found equal, neither is the other
 apart : (b : Bool) (path other : List ℕ) → is_at (path_cmp other) path ≡ b → is_at (path_cmp path) other ≡ false → b ≡ false
 apart false path other here there = refl
 apart true path other here there =
@@ -45,7 +45,7 @@ module _ {A : Type 0} where
       ∙ ap (λ b. is_at (path_cmp path) f.0 || b) (list_any-file path files)
       ∙ some_or (is_at (path_cmp path) f.0) f.1.items (file_at path (contents files))
 
-  -- a file behind the others is found where it is looked for
+  -- a file after the others is found by its path
   absent-push : (path : List ℕ) (files : List (List ℕ × Vec ℕ A)) (e : List ℕ × Vec ℕ A) → is_some (file_at path (contents files)) ≡ false → is_at (path_cmp path) e.0 ≡ false → is_some (file_at path (contents (files ++ e ∷ []))) ≡ false
   absent-push path [] e absent other = sym (some_or (is_at (path_cmp path) e.0) e.1.items None) ∙ ap (λ b. b || false) other
   absent-push path (f ∷ files) e absent other =

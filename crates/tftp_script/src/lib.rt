@@ -1,6 +1,6 @@
-//! The script of `tftp-play`: its lines are read whole, before anything is played.
+//! The script of `tftp-play`: its lines are parsed before anything is played.
 //!
-//! Begin with [`Script::parse`]. It knows no world, plays nothing and prints nothing.
+//! Begin with [`Script::parse`]. It plays nothing and prints nothing.
 #![tactic(auto)]
 
 mod script;

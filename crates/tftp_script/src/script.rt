@@ -1,4 +1,4 @@
-//! The script of `tftp-play`: the lines that it may have, and what they say.
+//! The script of `tftp-play`: its lines and their meaning.
 
 ghost use Rattle.std.specs.Prelude.{◌≡◌, ◌≢◌, true, IfErr};
 ghost use Rattle.tftp_script.specs.declared.script.ScriptFault.TheVariants.{Line};
@@ -16,14 +16,14 @@ use std::alloc::Global;
 use tftp_file::Path;
 use tftp_server::Config;
 
-/// What a script says: how the server is set, which files it has, and what then happens.
+/// A script: the configuration, the server's files, and the statements.
 #[derive(Drop)]
 pub struct Script {
-    /// What the server and the clients are set to.
+    /// The configuration of the server and the clients.
     pub config: Config,
     /// The server's files, each with its bytes.
     pub files: Vec<(Path, Vec<u8>)>,
-    /// What happens, in order.
+    /// The statements, in order.
     pub statements: Vec<Statement>,
     ghost valid: { IsConfig config },
     ghost distinct: { has_distinct_paths (contents files.items) ≡ true },
@@ -39,10 +39,10 @@ pub enum ScriptFault {
 }
 
 impl Script {
-    /// Reads a whole script: lines that end in LF, each of words that are parted by one space.
-    /// Empty lines and lines that begin with `#` say nothing.
+    /// Parses a whole script: lines that end in LF, each of words that are separated by one space.
+    /// Empty lines and lines that begin with `#` are ignored.
     ///
-    /// `Line` names the first line that is none of the language's, or that no LF ends.
+    /// `Line` names the first line that is not one of the language, or that no LF ends.
     pub fn parse(alloc: Global, text: &[u8]) -> Result<Script, ScriptFault>
         ensures counted { IfErr result (λ fault. fault ≢ Line 0) }
     {

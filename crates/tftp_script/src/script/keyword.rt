@@ -3,22 +3,22 @@
 use crate::script::line::LineFault;
 use crate::script::word::text;
 
-/// The first word of a line, which decides what its other words are.
+/// The first word of a line, which decides what its other words mean.
 #[derive(Clone, Copy)]
 pub(crate) enum Keyword {
     /// A number of the configuration.
     Set,
     /// A file of the server.
     File,
-    /// A client that asks for a file.
+    /// A client that reads a file.
     Get,
-    /// A client that sends a file.
+    /// A client that writes a file.
     Put,
     /// A datagram that arrives.
     Deliver,
-    /// An end that has waited long enough.
+    /// A timeout of an end.
     Timeout,
-    /// A receiver whose store is to refuse.
+    /// A receiver that is set to refuse.
     Refuse,
     /// Datagrams that arrive one after another.
     Settle,

@@ -1,4 +1,4 @@
-//! What one line of a script says.
+//! The parser of one line of a script.
 
 ghost use Rattle.std.specs.Prelude.{◌≡◌, ◌≢◌, is_some};
 ghost use Rattle.tftp_script.specs.declared.script.line.LineFault.TheVariants.{Faulty, Memory};
@@ -17,14 +17,14 @@ use tftp_file::{Path, PathFault, path_of};
 /// Why a line is refused.
 #[derive(Clone, Copy)]
 pub(crate) enum LineFault {
-    /// It is no line of the language, or stands where it may not.
+    /// It is not a line of the language, or is not allowed here.
     Faulty,
     /// An allocation failed; the line is not at fault.
     Memory,
 }
 
 impl Script {
-    /// Reads one line with its line feed, and adds what it says.
+    /// Parses one line with its line feed, and adds its statement or setting.
     pub(crate) fn parse_line(&mut self, alloc: Global, line: &[u8]) -> Result<(), LineFault> {
         match line {
             [b'\n'] | [b'#', .., b'\n'] => Ok(()),
@@ -36,7 +36,7 @@ impl Script {
         }
     }
 
-    /// Reads the words of a line, of which none may be empty.
+    /// Parses the words of a line, none of which may be empty.
     fn parse_words(&mut self, alloc: Global, words: &[&[u8]]) -> Result<(), LineFault> {
         let [first, arguments @ ..] = words else {
             return Err(LineFault::Faulty);
@@ -88,7 +88,7 @@ impl Script {
         self.add_file(path_of(alloc, name)?, content(alloc, bytes)?)
     }
 
-    /// Adds a file of the server, at a path that no other has.
+    /// Adds a file of the server, at a path that no other file has.
     fn add_file(&mut self, path: Path, bytes: Vec<u8>) -> Result<(), LineFault> {
         if has_path(self.files.as_slice(), &path) {
             return Err(LineFault::Faulty);
@@ -114,7 +114,7 @@ where
     }
 }
 
-/// Whether one of the files stands at the path.
+/// Whether one of the files has the path.
 fn has_path(files: &[(Path, Vec<u8>)], path: &Path) -> bool
     ensures { result ≡ is_some (file_at path.now (contents files.now)) }
 {

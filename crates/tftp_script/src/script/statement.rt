@@ -1,4 +1,4 @@
-//! The lines of a script on which something happens.
+//! The statements of a script.
 
 ghost use Rattle.std.specs.Prelude.{◌≡◌};
 ghost use Rattle.tftp_machine.specs.Machine.{host_of, Elsewhere};
@@ -11,12 +11,12 @@ use tftp_machine::is_foreign;
 use tftp_negotiate::Asked;
 use tftp_wire::{Bytes, Mode};
 
-/// A line on which something happens: an `Event` of `tftp_player`, or two things that stand for
-/// many of these, [`Statement::Settle`] and [`Statement::Random`]. The crate of scripts does not use
-/// that of the world, so that the two are proved side by side.
+/// A line on which something happens: an `Event` of `tftp_player`, or one of two statements for a
+/// sequence of events, [`Statement::Settle`] and [`Statement::Random`]. This crate does not use
+/// `tftp_player`, so that both are proved in parallel.
 #[derive(Drop)]
 pub enum Statement {
-    /// A client asks for the server's file of this name.
+    /// A client reads the server's file of this name.
     Get {
         /// The name in the request.
         name: Bytes,
@@ -25,7 +25,7 @@ pub enum Statement {
         /// The options of the request.
         asked: Asked,
     },
-    /// A client sends a file to the server, under this name.
+    /// A client writes a file to the server, under this name.
     Put {
         /// The name in the request.
         name: Bytes,
@@ -33,39 +33,39 @@ pub enum Statement {
         mode: Mode,
         /// The options of the request.
         asked: Asked,
-        /// The file, as the client's host keeps it.
+        /// The file, as the client's host stores it.
         bytes: Bytes,
     },
-    /// The datagram at this place of all that was sent arrives, counted from 0.
+    /// The datagram at this index of all that was sent arrives, counted from 0.
     Deliver(usize),
-    /// The end at this port has waited long enough.
+    /// A timeout of the end at this port.
     Timeout(u16),
-    /// The next append or commit of the receiver at this port is refused for want of room.
+    /// The receiver at this port is set to refuse its next append or commit, as a full store does.
     Refuse(u16),
     /// A datagram of neither host arrives.
     Stray(StrayDatagram),
-    /// The datagram at this place arrives, then the next, and so on, new ones too.
+    /// The datagram at this index arrives, then the next, and so on, new ones too.
     Settle(usize),
-    /// So many events are drawn, by the generator of this seed.
+    /// `count` events are drawn, by the generator of this seed.
     Random {
         seed: u64,
         count: u64,
     },
 }
 
-/// A datagram that comes from neither host.
+/// A datagram whose sender is at neither host.
 #[derive(Drop)]
 pub struct StrayDatagram {
-    /// Where it comes from.
+    /// The sender.
     pub from: Endpoint,
-    /// Where it arrives, if an end is there.
+    /// The destination, at which there may be no end.
     pub to: Endpoint,
     /// Its bytes.
     pub bytes: Bytes,
     ghost foreign: { host_of from ≡ Elsewhere },
 }
 
-/// `get NAME MODE OPTIONS`: a client asks for a file.
+/// `get NAME MODE OPTIONS`: a client reads a file.
 pub(crate) fn get(alloc: Global, arguments: &[&[u8]]) -> Result<Statement, LineFault> {
     let [name, word, options @ ..] = arguments else {
         return Err(LineFault::Faulty);
@@ -76,7 +76,7 @@ pub(crate) fn get(alloc: Global, arguments: &[&[u8]]) -> Result<Statement, LineF
     Ok(Statement::Get { name, mode, asked })
 }
 
-/// `put NAME MODE CONTENT OPTIONS`: a client sends a file.
+/// `put NAME MODE CONTENT OPTIONS`: a client writes a file.
 pub(crate) fn put(alloc: Global, arguments: &[&[u8]]) -> Result<Statement, LineFault> {
     let [name, word, file, options @ ..] = arguments else {
         return Err(LineFault::Faulty);
@@ -108,7 +108,7 @@ pub(crate) fn stray(alloc: Global, arguments: &[&[u8]]) -> Result<Statement, Lin
     Ok(Statement::Stray(StrayDatagram { from, to, bytes }))
 }
 
-/// `random SEED COUNT`: so many events are drawn.
+/// `random SEED COUNT`: that many events are drawn.
 pub(crate) fn random(arguments: &[&[u8]]) -> Result<Statement, LineFault> {
     let [seed, count] = arguments else {
         return Err(LineFault::Faulty);

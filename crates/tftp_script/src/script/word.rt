@@ -1,4 +1,4 @@
-//! What single words of a script mean.
+//! The parsers of single words of a script.
 
 ghost use Rattle.std.specs.Prelude.{◌≡◌, ◌≢◌, ◌≤◌, IfOk, vec_len};
 ghost use Rattle.hex.specs.declared.error.FromHexError.TheVariants as hex_faults;
@@ -15,7 +15,7 @@ use tftp_ends::Endpoint;
 use tftp_negotiate::Asked;
 use tftp_wire::{Bytes, Mode};
 
-/// Most bytes of a file.
+/// The most bytes of a file.
 const MAX_CONTENT: usize = 100_000_000;
 
 /// A decimal number without leading zeros that fits its type.
@@ -42,7 +42,7 @@ pub(crate) fn mode(word: &[u8]) -> Result<Mode, LineFault>
 }
 
 /// The options of a request: `blksize=N`, `timeout=N` and `tsize`, each at most once and in its
-/// range; `tsize` stands for this length, in bytes.
+/// range; the value of `tsize` is this length, in bytes.
 pub(crate) fn asked(options: &[&[u8]], length: u64) -> Result<Asked, LineFault>
     ensures { IfOk result IsAskable }
 {
@@ -81,7 +81,7 @@ pub(crate) fn content(alloc: Global, word: &[u8]) -> Result<Vec<u8>, LineFault>
     }
 }
 
-/// What the digits stand for, this many times: at least one byte.
+/// The bytes of the digits, this many times: at least one byte.
 fn repeated(alloc: Global, digits: &str, count: usize) -> Result<Vec<u8>, LineFault>
     ensures { IfOk result (λ bytes. vec_len bytes ≤ MAX_CONTENT) }
 {
@@ -91,7 +91,7 @@ fn repeated(alloc: Global, digits: &str, count: usize) -> Result<Vec<u8>, LineFa
         return Err(LineFault::Faulty);
     }
     match bytes.as_slice() {
-        // One byte fills a file at once.
+        // `resize` fills a file of one byte faster.
         [byte] => {
             let byte = *byte;
             bytes.resize(length, byte)?;
@@ -101,7 +101,7 @@ fn repeated(alloc: Global, digits: &str, count: usize) -> Result<Vec<u8>, LineFa
     }
 }
 
-/// The bytes that hexadecimal digits stand for.
+/// The bytes of hexadecimal digits.
 pub(crate) fn bytes(alloc: Global, word: &[u8]) -> Result<Bytes, LineFault> {
     Ok(Bytes::from(hex::decode(alloc, text(word)?)?))
 }
@@ -116,7 +116,7 @@ pub(crate) fn endpoint(word: &[u8]) -> Result<Endpoint, LineFault> {
     })
 }
 
-/// The word `yes`, which turns on what is off without it.
+/// The word `yes`, which turns a setting on.
 pub(crate) fn yes(word: &[u8]) -> Result<bool, LineFault> {
     match text(word)? {
         "yes" => Ok(true),

@@ -1,4 +1,4 @@
--- A file whose path none has leaves the paths distinct.
+-- A file whose path no other has leaves the paths distinct.
 use Rattle.std.proofs.Common.{rules, ◌≡◌, is_some, is_ok, false}
 use Rattle.tftp_store.specs.Memory.{contents}
 use Rattle.tftp_store.specs.Store.{file_at}
