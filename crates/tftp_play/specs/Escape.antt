@@ -1,4 +1,4 @@
--- Text in a picture, as XML has it (XML 1.0, sections 2.2, 2.4 and 4.6).
+-- Text in a picture, as in XML (XML 1.0, sections 2.2, 2.4 and 4.6).
 use Rattle.std.specs.Prelude.{ℕ, ◌==◌, ◌&&◌, not, nat_lt, Bool, if◌then◌else◌, List, [], ◌∷◌, codes}
 use Rattle.std.specs.List.{flat_map}
 
@@ -6,7 +6,7 @@ use Rattle.std.specs.List.{flat_map}
 abbrev pub is_visible : ℕ → Bool
 is_visible b = nat_lt 31 b && nat_lt b 127
 
--- a byte of text: `<` for `&lt;`, and so on; what is not visible is a question mark
+-- a byte of text: `&lt;` for `<`, and so on; a question mark for what is not visible
 abbrev pub escaped_byte : ℕ → List ℕ
 escaped_byte b =
     if b == 60 then codes "&lt;"
@@ -19,6 +19,7 @@ escaped_byte b =
 abbrev pub escaped : List ℕ → List ℕ
 escaped text = flat_map escaped_byte text
 
--- a byte that ends neither an element's text nor the value of an attribute: visible, and not `<`, `>` or `"`
+-- a byte that ends neither an element's text nor the value of an attribute: visible, and not `<`,
+-- `>` or `"`
 abbrev pub is_text_byte : ℕ → Bool
 is_text_byte b = is_visible b && not (b == 60) && not (b == 62) && not (b == 34)

@@ -1,8 +1,9 @@
--- What `tftp-play` prints on standard error where a script is not played to its end (own).
+-- The messages of `tftp-play` on standard error if a script is not played to its end.
 use Rattle.std.specs.Prelude.{ℕ, List, ◌++◌, codes}
 use Rattle.std.specs.Fmt.{decimal}
 use Rattle.tftp_play.specs.declared.play.fault.PlayFault.{PlayFault}
-use Rattle.tftp_play.specs.declared.play.fault.PlayFault.TheVariants.{Unreadable, Line, Unwritable, Undrawn, Memory}
+use Rattle.tftp_play.specs.declared.play.fault.PlayFault.TheVariants.{Unreadable, Line, Unwritable}
+use Rattle.tftp_play.specs.declared.play.fault.PlayFault.TheVariants.{Undrawn, Memory}
 use Rattle.tftp_script.specs.declared.script.ScriptFault.{ScriptFault}
 use Rattle.tftp_script.specs.declared.script.ScriptFault.TheVariants as script_faults
 
@@ -14,7 +15,7 @@ fault_text Unwritable = codes "output: unwritable"
 fault_text Undrawn = codes "svg: unwritable"
 fault_text Memory = codes "out of memory"
 
--- the fault of a run whose script has this one
+-- the fault of a run for a script with this fault
 abbrev pub play_fault_of : ScriptFault → PlayFault
 play_fault_of (script_faults.Line number) = Line number
 play_fault_of script_faults.Memory = Memory

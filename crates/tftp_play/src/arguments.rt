@@ -24,13 +24,12 @@ pub fn play_command<R: Runtime + AllocGlobal, E: Write + Drop>(rt: &R, errors: E
     }
 }
 
-/// Runs `tftp-play` as a command line says, and returns its status. The first word is the program's
+/// Runs `tftp-play` with a command line, and returns its status. The first word is the program's
 /// name. The script is the file that the second names, or standard input; `errors` is standard
 /// error.
 ///
-/// `--help` and `--version` print and return 0. A command line that is not understood and a script
-/// that cannot be opened or read are reported on standard error with status 2. Out of memory is
-/// status 2 too.
+/// `--help` and `--version` print and return 0. A faulty command line and a script that cannot be
+/// opened or read are reported on standard error with status 2. Out of memory is status 2 too.
 pub fn play_words<R: Runtime + AllocGlobal, S: AsStr, E: Write + Drop>(
     rt: &R,
     words: &[S],
@@ -84,7 +83,7 @@ fn play_script<R: Runtime + AllocGlobal, E: Write + Drop>(
     }
 }
 
-/// Plays a script on standard output, and draws the run into the file at the path, if there is one.
+/// Plays a script on standard output, and draws the run into the file at the path, if any.
 fn play_source<R: Runtime + AllocGlobal, S: Read + Drop, E: Write + Drop>(
     rt: &R,
     script: S,

@@ -1,7 +1,7 @@
 //! The picture of a run: a sequence diagram, as SVG.
 //!
-//! What happens is recorded while the run goes on ([`Recording`]), then laid out on the plane
-//! ([`Layout`]), and then written ([`svg_text`]).
+//! Events are recorded during the run ([`Recording`]), then laid out ([`Layout`]), and then written
+//! ([`svg_text`]).
 
 mod escape;
 mod ink;

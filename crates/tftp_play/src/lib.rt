@@ -1,7 +1,6 @@
-//! `tftp-play`: a script of TFTP transfers is played in a world of its own, and what happens is
-//! printed.
+//! `tftp-play`: plays a script of TFTP transfers in a world of its own, and prints the events.
 //!
-//! Begin with [`play_run`]. It opens no socket; a program's `main` only hands in the system.
+//! Begin with [`play_run`]. It opens no socket; a program's `main` only passes the system.
 #![tactic(auto)]
 
 mod arguments;

@@ -1,4 +1,4 @@
-//! `tftp-play`: a script in, a line for each thing that happens out.
+//! `tftp-play`: reads a script, and prints a line for each event.
 
 ghost use Rattle.std.specs.Prelude.{◌≡◌, ◌≤◌, ◌⊎◌, false, IfErr, IfOk, IfSome, OnOk};
 ghost use Rattle.tftp_play.specs.declared.play.fault.PlayFault.TheVariants.{Memory, Undrawn};
@@ -15,8 +15,8 @@ use std::alloc::Global;
 use std::io::{self, Read, Write};
 use tftp_script::Script;
 
-/// Plays a script in a world of its own, and writes what each event did, and at the end how far
-/// each end came.
+/// Plays a script in a world of its own, and writes the effect of each event, and at the end the
+/// record of each end.
 ///
 /// The status is 0 if every client is complete, and 1 if not. It is 2, with a message on `errors`,
 /// if the script cannot be read or has a faulty line, and then nothing is played; and if writing
@@ -36,8 +36,8 @@ pub fn play_run<R: Read + Drop, W: Write + Drop, E: Write + Drop>(
     }
 }
 
-/// As [`play_run`], and draws the run: a sequence diagram as SVG, on what `picture` opens once the
-/// run is over.
+/// As [`play_run`], and draws the run: a sequence diagram as SVG, on the writer that `picture`
+/// opens after the run.
 ///
 /// What is written on `output` is the same. The status is 2, with a message on `errors`, also if
 /// the picture cannot be opened or written, or an allocation for it fails.
@@ -64,7 +64,7 @@ where
     }
 }
 
-/// Plays a script and draws the run, and answers whether every client is complete.
+/// Plays a script and draws the run, and returns whether every client is complete.
 fn draw<R, W, P, F>(alloc: Global, script: R, output: W, picture: F) -> Result<bool, PlayFault>
 where
     R: Read + Drop,
@@ -112,7 +112,7 @@ fn write_picture<P: Write + Drop>(mut file: P, svg: &str) -> Result<(), PlayFaul
     }
 }
 
-/// Plays a script, and answers whether every client is complete, and what was recorded.
+/// Plays a script, and returns whether every client is complete, and the recording.
 fn play<R: Read + Drop, W: Write + Drop>(
     alloc: Global,
     script: R,

@@ -1,4 +1,4 @@
-//! Text in a picture: what XML has a use for is escaped.
+//! Text in a picture, escaped for XML.
 
 ghost use Rattle.std.specs.Prelude.{◌≡◌, ◌++◌, true, OnOk};
 ghost use Rattle.std.specs.List.{list_all};

@@ -1,9 +1,9 @@
-//! The colours of a diagram, and whose they are.
+//! The colours of a diagram.
 
 use tftp_ends::Endpoint;
 use tftp_machine::{CLIENT_IP, SERVER_IP};
 
-/// A colour, named for what it stands for.
+/// A colour, named for what it marks.
 #[derive(Clone, Copy, PartialEq, Eq)]
 pub(crate) enum Ink {
     /// The clients' host.
@@ -12,13 +12,13 @@ pub(crate) enum Ink {
     Server,
     /// Any other host.
     Stranger,
-    /// What went well.
+    /// A success.
     Complete,
-    /// What was lost, or went wrong.
+    /// A loss or a failure.
     Lost,
-    /// What waited.
+    /// A timeout.
     Timeout,
-    /// What only explains.
+    /// An explanation.
     Quiet,
 }
 

@@ -1,4 +1,4 @@
-//! Where everything of a diagram stands, in pixels: lanes from left to right, time downwards.
+//! The positions of a diagram's parts, in pixels: lanes from left to right, time downwards.
 
 ghost use Rattle.std.specs.Prelude.{◌≡◌, ◌+◌, ◌*◌};
 
@@ -18,7 +18,7 @@ use std::alloc::{AllocError, Global};
 const ROW_HEIGHT: u32 = 40;
 /// The first row.
 const FIRST_ROW: u32 = 136;
-/// From where a datagram arrives to where the answer is sent: room for a label.
+/// From where a datagram arrives to where the answer is sent: space for a label.
 const ANSWER: u32 = 16;
 /// From where a datagram arrives to where an end closes.
 const CLOSE: u32 = 22;
@@ -94,11 +94,11 @@ pub(crate) struct Sign {
 pub(crate) enum SignKind {
     /// A datagram was lost.
     Cross,
-    /// An end has waited long enough.
+    /// A timeout of an end.
     Clock,
     /// An end closed.
     Bar,
-    /// A store is to refuse.
+    /// A store is set to refuse.
     Square,
 }
 
@@ -112,7 +112,7 @@ pub(crate) struct Text {
     pub(crate) text: String,
 }
 
-/// Which part of a text stands at its point.
+/// The part of a text that is at its point.
 #[derive(Clone, Copy)]
 pub(crate) enum Anchor {
     Start,
@@ -125,7 +125,7 @@ pub(crate) enum Anchor {
 pub(crate) enum Font {
     /// The words of packets and ports.
     Code,
-    /// What explains.
+    /// Explanations.
     Plain,
     /// The title.
     Title,
@@ -154,8 +154,7 @@ impl Layout {
         Ok(layout)
     }
 
-    /// Adds a text beside a lane, of which this is the middle of the line, and hides what is behind
-    /// it.
+    /// Adds a text beside a lane, with the middle of its line here, and hides the lines below it.
     fn add_beside(
         &mut self,
         lane: u32,
@@ -231,7 +230,7 @@ fn foot_of(recording: &Recording) -> u32 {
     arrival_of(recording.rows)
 }
 
-/// The width of a text in the font for code, where a letter has 7.25 pixels; one of 255 letters and
+/// The width of a text in the font for code, whose letters have 7.25 pixels; one of 255 letters and
 /// more is as wide as one of 255.
 fn width_of(text: &str) -> u32 {
     text.len().min(255) as u32 * 29 / 4

@@ -1,4 +1,4 @@
-//! What is recorded of a run, so that it can be drawn.
+//! The record of a run, to be drawn.
 
 use std::alloc::{AllocError, Global};
 use tftp_ends::{Endpoint, Outcome, Record, Side};
@@ -6,16 +6,16 @@ use tftp_machine::{CLIENT_IP, SERVER_IP};
 use tftp_player::{Event, Report, World};
 use tftp_wire::show_datagram;
 
-/// Most rows of a diagram. Later events are counted, and not drawn.
+/// The most rows of a diagram. Later events are counted, and not drawn.
 pub(crate) const MAX_ROWS: u16 = 200;
 
-/// Most letters of a label. A longer one is cut, and ends in two dots.
+/// The most letters of a label. A longer one is cut, and ends in two dots.
 const MAX_LABEL: usize = 96;
 
 /// A row of a diagram: a moment of its time, counted from 0.
 pub(crate) type Row = u16;
 
-/// A run, as far as it is drawn.
+/// The part of a run that is drawn.
 #[derive(Drop)]
 pub(crate) struct Recording {
     alloc: Global,
@@ -25,11 +25,11 @@ pub(crate) struct Recording {
     pub(crate) flights: Vec<Flight>,
     /// What happened at the ends, in order.
     pub(crate) marks: Vec<Mark>,
-    /// How many rows there are, at most `MAX_ROWS`.
+    /// The number of rows, at most `MAX_ROWS`.
     pub(crate) rows: Row,
-    /// How many events have no row.
+    /// The number of events without a row.
     pub(crate) left_out: u64,
-    /// An allocation failed, so that what was recorded is not whole.
+    /// An allocation failed, so the recording is incomplete.
     pub(crate) is_broken: bool,
 }
 
@@ -37,65 +37,65 @@ pub(crate) struct Recording {
 #[derive(Clone, Copy)]
 pub(crate) struct Lane {
     pub(crate) at: Endpoint,
-    /// Which end it is; none for the request port, and for what is no end of the world.
+    /// The side of the end there; none for the request port, and for an endpoint without an end.
     pub(crate) side: Option<Side>,
 }
 
-/// A datagram under way.
+/// A datagram that was sent.
 #[derive(Drop)]
 pub(crate) struct Flight {
-    /// Its place among all that was sent; none for a stray.
+    /// Its index in all that was sent; none for a stray.
     pub(crate) place: Option<usize>,
     pub(crate) from: Endpoint,
     pub(crate) to: Endpoint,
     /// Its number and its line, without the endpoints.
     pub(crate) label: String,
-    /// Where the request arrived that a new end answers by it.
+    /// The destination of the request that a new end answers with this.
     pub(crate) opened_at: Option<Endpoint>,
     /// The row in which it was sent.
     pub(crate) sent: Row,
     /// The rows in which it arrived.
     pub(crate) arrivals: Vec<Row>,
-    /// It arrived behind the last row, too.
+    /// It arrived after the last row, too.
     pub(crate) arrives_later: bool,
 }
 
-/// Something that happened at an end.
+/// A mark: an event at an end.
 #[derive(Clone, Copy)]
 pub(crate) struct Mark {
     pub(crate) at: Endpoint,
     pub(crate) row: Row,
     pub(crate) kind: MarkKind,
-    /// Where the datagram went that the end sent then.
+    /// The destination of the datagram that the end sent then.
     pub(crate) reply_to: Option<Endpoint>,
 }
 
-/// What happened at an end.
+/// The kind of a mark.
 #[derive(Clone, Copy)]
 pub(crate) enum MarkKind {
-    /// It has waited long enough.
+    /// A timeout.
     Timeout,
-    /// Its store is to refuse.
+    /// Its store is set to refuse.
     Refusal,
     /// It closed.
     Closed(Outcome),
 }
 
-/// Why something happened.
+/// The cause of a row.
 #[derive(Clone, Copy)]
 pub(crate) enum Cause {
     /// A client opened.
     Opening,
     /// The flight at this index arrived; none if it has no row.
     Arrival(Option<usize>),
-    /// The end at this port has waited long enough.
+    /// A timeout of the end at this port.
     Timeout(u16),
-    /// The store of the end at this port is to refuse.
+    /// The store of the end at this port is set to refuse.
     Refusal(u16),
 }
 
 impl Recording {
-    /// Nothing has happened.
+    /// An empty recording.
     pub(crate) fn new(alloc: Global) -> Recording {
         Recording {
             alloc,
@@ -108,7 +108,7 @@ impl Recording {
         }
     }
 
-    /// The cause that an event is, before it happens. A stray is sent then.
+    /// The cause of an event, before it happens. A stray is sent then.
     pub(crate) fn cause_of(&mut self, event: &Event) -> Cause {
         match event {
             Event::Get { .. } | Event::Put { .. } => Cause::Opening,
@@ -121,14 +121,14 @@ impl Recording {
         }
     }
 
-    /// Records what an event did.
+    /// Records the report of an event.
     pub(crate) fn add(&mut self, cause: Cause, report: &Report, world: &World) {
         if self.try_add(cause, report, world).is_err() {
             self.is_broken = true;
         }
     }
 
-    /// Records which ends the lanes are.
+    /// Records the sides of the lanes' ends.
     pub(crate) fn name_sides(&mut self, records: &[(u16, Record)]) {
         for lane in self.lanes.iter_mut() {
             lane.side = side_at(records, lane.at);
@@ -162,7 +162,7 @@ impl Recording {
         Ok(())
     }
 
-    /// The next row, while there is one.
+    /// The next row, if one is left.
     fn next_row(&mut self) -> Option<Row> {
         if self.rows >= MAX_ROWS {
             return None;
@@ -182,7 +182,7 @@ impl Recording {
         }
     }
 
-    /// Records a cause, and returns where it happened.
+    /// Records a cause, and returns its endpoint.
     fn happen(
         &mut self,
         cause: Cause,
@@ -202,7 +202,7 @@ impl Recording {
         }
     }
 
-    /// Records that a flight arrived, and returns where.
+    /// Records that a flight arrived, and returns its destination.
     fn arrive(&mut self, index: Option<usize>, row: Row) -> Result<Option<Endpoint>, AllocError> {
         let Some(index) = index else {
             return Ok(None);
@@ -214,7 +214,7 @@ impl Recording {
         Ok(Some(flight.to))
     }
 
-    /// Records what happened at an end, and returns where that is.
+    /// Records a mark, and returns its endpoint.
     fn mark(
         &mut self,
         at: Option<Endpoint>,
@@ -278,7 +278,7 @@ impl Recording {
         Ok(())
     }
 
-    /// The index of the flight of this place.
+    /// The index of the flight of this datagram.
     fn flight_of(&self, place: usize) -> Option<usize> {
         self.flights
             .iter()
@@ -309,7 +309,7 @@ fn label_of(alloc: Global, place: Option<usize>, bytes: &[u8]) -> Result<String,
     Ok(short)
 }
 
-/// Where the end of this port is.
+/// The endpoint of the end at this port.
 fn end_at(records: &[(u16, Record)], port: u16) -> Option<Endpoint> {
     let (_, record) = records.iter().find(|(at, _)| *at == port)?;
     let ip = if record.side.is_client() {
@@ -320,7 +320,7 @@ fn end_at(records: &[(u16, Record)], port: u16) -> Option<Endpoint> {
     Some(Endpoint { ip, port })
 }
 
-/// Which end is there, if one is.
+/// The side of the end there, if there is one.
 fn side_at(records: &[(u16, Record)], at: Endpoint) -> Option<Side> {
     if end_at(records, at.port) != Some(at) {
         return None;

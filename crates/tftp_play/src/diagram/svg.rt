@@ -8,8 +8,8 @@ use crate::diagram::layout::{
 use crate::diagram::recording::Recording;
 use std::alloc::{AllocError, Global};
 
-/// The colours, the fonts and the heads of arrows. The picture has a background of its own, so that
-/// it reads on light and dark pages.
+/// The colours, the fonts and the heads of arrows. The picture has its own background, so that it
+/// is legible on light and dark pages.
 const STYLE: &str = "\
 <style>
 .page,.frame{fill:#fdfdfb}

@@ -6,7 +6,7 @@ use tftp_ends::Endpoint;
 use tftp_player::Datagram;
 use tftp_wire::show_datagram;
 
-/// The line of a datagram: one buffer, that each line is made in.
+/// The line of a datagram, in one buffer for all lines.
 #[derive(Drop)]
 pub(crate) struct DatagramLine {
     text: String,
@@ -22,7 +22,7 @@ impl DatagramLine {
         }
     }
 
-    /// The line of the datagram that was sent at this place, with the newline.
+    /// The line of the datagram with this index in all that was sent, with the newline.
     pub(crate) fn show(&mut self, place: usize, datagram: &Datagram) -> Result<&[u8], AllocError> {
         self.text.clear();
         self.text.push('#')?;
@@ -37,8 +37,8 @@ impl DatagramLine {
         Ok(self.text.as_bytes())
     }
 
-    /// Appends an endpoint as its `Display` writes it, and faster: there are two in each line, and
-    /// few of them are at another address than those of the two hosts.
+    /// Appends an endpoint as its `Display` writes it, and faster: there are two in each line,
+    /// mostly at the addresses of the two hosts.
     fn push_endpoint(&mut self, endpoint: Endpoint) -> Result<(), AllocError> {
         match endpoint.ip {
             [10, 0, 0, 1] => self.text.push_str("10.0.0.1:")?,
@@ -48,7 +48,7 @@ impl DatagramLine {
         self.push_number(usize::from(endpoint.port))
     }
 
-    /// Appends an address and the colon in front of its port.
+    /// Appends an address and the colon before its port.
     fn push_address(&mut self, [a, b, c, d]: [u8; 4]) -> Result<(), AllocError> {
         self.push_number(usize::from(a))?;
         for byte in [b, c, d] {

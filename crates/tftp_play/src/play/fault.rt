@@ -1,4 +1,4 @@
-//! Why a script is not played to its end, and what is printed then.
+//! Why a script is not played to its end, and the message for it.
 
 ghost use Rattle.std.specs.Prelude.{◌≡◌, ◌≢◌, ◌⊎◌, IsTrue, ◌↔◌};
 ghost use Rattle.std.specs.IoError.{error_kind};
@@ -28,7 +28,7 @@ pub(crate) enum PlayFault {
 }
 
 impl PlayFault {
-    /// The fault where opening or reading a script gave this error.
+    /// The fault for this error of opening or reading a script.
     pub(crate) fn of_reading(error: &io::Error) -> PlayFault
         ensures memory { error_kind error.now ≡ ErrorKind.OutOfMemory → result ≡ Memory }
         ensures unreadable { error_kind error.now ≢ ErrorKind.OutOfMemory → result ≡ Unreadable }
@@ -41,7 +41,7 @@ impl PlayFault {
         }
     }
 
-    /// The fault where opening or writing a picture gave this error.
+    /// The fault for this error of opening or writing a picture.
     pub(crate) fn of_drawing(error: &io::Error) -> PlayFault
         ensures memory { error_kind error.now ≡ ErrorKind.OutOfMemory → result ≡ Memory }
         ensures undrawn { error_kind error.now ≢ ErrorKind.OutOfMemory → result ≡ Undrawn }
@@ -99,7 +99,7 @@ impl From<AllocError> for PlayFault {
     }
 }
 
-/// The fault where writing gave this error.
+/// The fault for this error of writing.
 impl From<io::Error> for PlayFault {
     ghost from_gives = { λ error fault.
         (error_kind error ≡ error_kinds.OutOfMemory → fault ≡ Memory)

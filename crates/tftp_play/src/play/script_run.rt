@@ -1,4 +1,4 @@
-//! The run of a script: its statements are events of a world, and what they did is printed.
+//! The run of a script: its statements are events of a world, and their effects are printed.
 
 ghost use Rattle.std.specs.Prelude.{◌≡◌, true};
 ghost use Rattle.tftp_player.specs.Arriving.{IsPlayable};
@@ -18,16 +18,16 @@ use tftp_player::{Event, Report, World, WorldFault, draw};
 use tftp_script::{Statement, StrayDatagram};
 use tftp_server::Config;
 
-/// Most deliveries of one settling.
+/// The most deliveries of one `settle`.
 const MAX_SETTLED: usize = 1_000_000;
 
-/// A script that runs: its world, and the output that says what happened in it.
+/// A script that runs: its world, and the output for its events.
 #[derive(Drop)]
 pub(crate) struct ScriptRun<W: Write + Drop> {
     world: World,
     line: DatagramLine,
     output: BufWriter<W>,
-    /// What is recorded for a picture, if there is to be one.
+    /// The recording for a picture, if there is to be one.
     recording: Option<Recording>,
 }
 
@@ -51,7 +51,7 @@ impl<W: Write + Drop> ScriptRun<W> {
         })
     }
 
-    /// Executes a statement, and writes what it did.
+    /// Executes a statement, and writes its effect.
     pub(crate) fn execute(&mut self, statement: Statement) -> Result<(), PlayFault> {
         match statement {
             Statement::Get { name, mode, asked } => self.play(Event::Get { name, mode, asked }),
@@ -77,7 +77,7 @@ impl<W: Write + Drop> ScriptRun<W> {
         }
     }
 
-    /// Plays an event, and writes what it did.
+    /// Plays an event, and writes its effect.
     fn play(&mut self, event: Event) -> Result<(), PlayFault>
         requires { IsPlayable event }
     {
@@ -85,7 +85,7 @@ impl<W: Write + Drop> ScriptRun<W> {
         self.write_effect(effect)
     }
 
-    /// Plays an event, and records what it did if there is to be a picture.
+    /// Plays an event, and records its effect if there is to be a picture.
     fn apply(&mut self, event: Event) -> Result<Report, WorldFault>
         requires { IsPlayable event }
     {
@@ -100,7 +100,7 @@ impl<W: Write + Drop> ScriptRun<W> {
         effect
     }
 
-    /// Plays so many events that the generator of this seed draws, none while no end was opened.
+    /// Plays `count` events that the generator of this seed draws, none if no end was opened.
     fn play_drawn(&mut self, seed: u64, count: u64) -> Result<(), PlayFault> {
         let mut rng = Pcg32::seed_from_u64(seed);
         for _ in 0..count {
@@ -111,8 +111,8 @@ impl<W: Write + Drop> ScriptRun<W> {
         Ok(())
     }
 
-    /// Writes how far each end came, and answers whether every client is complete, and what was
-    /// recorded.
+    /// Writes the record of each end, and returns whether every client is complete, and the
+    /// recording.
     pub(crate) fn finish(mut self) -> Result<(bool, Option<Recording>), PlayFault> {
         for (port, record) in self.world.records() {
             write_end(&mut self.output, *port, record)?;
@@ -131,7 +131,7 @@ impl<W: Write + Drop> ScriptRun<W> {
             .all(|(_, record)| record.complete || !record.side.is_client())
     }
 
-    /// Delivers the datagrams from this place on, until none is left or one is refused.
+    /// Delivers the datagrams from this index on, until none is left or one is refused.
     fn settle(&mut self, from: usize) -> Result<(), PlayFault> {
         for place in from..from.saturating_add(MAX_SETTLED) {
             match self.apply(Event::Deliver(place)) {
@@ -172,7 +172,7 @@ impl<W: Write + Drop> ScriptRun<W> {
     }
 }
 
-/// Writes how far an end came.
+/// Writes the record of an end.
 fn write_end<W: Write>(output: &mut W, port: u16, record: &Record) -> Result<(), PlayFault> {
     let side = side_word(record.side);
     write!(output, "end {port} {side} peer=")?;

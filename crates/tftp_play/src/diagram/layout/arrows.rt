@@ -12,7 +12,7 @@ use std::alloc::AllocError;
 const SHORT: u32 = 40;
 /// How far below the start of its line.
 const FALL: u32 = 10;
-/// From the middle of a label to where the line below it begins.
+/// From the middle of a label to the start of the line below it.
 const ABOVE: u32 = 8;
 
 impl Layout {

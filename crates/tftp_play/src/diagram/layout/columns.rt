@@ -1,4 +1,4 @@
-//! How far apart the lanes stand: as far as what is written between them needs.
+//! The distances of the lanes: as wide as the texts between them need.
 
 use crate::diagram::ink::Ink;
 use crate::diagram::layout::notes::Note;
@@ -7,14 +7,14 @@ use crate::diagram::recording::{Flight, Lane, Recording};
 use std::alloc::{AllocError, Global};
 use tftp_ends::Endpoint;
 
-/// The picture is as wide at least.
+/// The least width of the picture.
 const LEAST_WIDTH: u32 = 480;
-/// Two lanes stand as far apart at least.
+/// The least distance of two lanes.
 const LEAST_GAP: u32 = 132;
-/// A lane is as far from the edge at least.
+/// The least distance of a lane from the edge.
 const LEAST_MARGIN: u32 = 84;
 
-/// The lanes from left to right, and where they stand.
+/// The lanes from left to right, and their positions.
 #[derive(Drop)]
 pub(crate) struct Columns {
     pub(crate) lanes: Vec<Lane>,
@@ -22,7 +22,7 @@ pub(crate) struct Columns {
     stops: Vec<u32>,
 }
 
-/// Two stops that stand as far apart at least.
+/// Two stops and their least distance.
 #[derive(Clone, Copy)]
 struct Need {
     left: usize,
@@ -58,12 +58,12 @@ impl Columns {
         Ok(())
     }
 
-    /// Where the lane of an endpoint is.
+    /// The position of an endpoint's lane.
     pub(crate) fn x_of(&self, at: Endpoint) -> u32 {
         self.x_at(self.stop_of(at))
     }
 
-    /// How wide the picture is.
+    /// The width of the picture.
     pub(crate) fn width(&self) -> u32 {
         self.x_at(self.last_stop())
     }
@@ -96,7 +96,7 @@ impl Columns {
         self.stops.get(stop).copied().unwrap_or(0)
     }
 
-    /// Where a stop is, behind those on its left.
+    /// The position of a stop, after those on its left.
     fn place(&self, stop: usize, needs: &[Need]) -> u32 {
         let mut x = 0;
         for need in needs {
@@ -107,7 +107,7 @@ impl Columns {
         x
     }
 
-    /// How far apart the stops have to be.
+    /// The distances that the stops need.
     fn needs(
         &self,
         alloc: Global,
@@ -133,7 +133,7 @@ impl Columns {
         Ok(needs)
     }
 
-    /// The label of an arrow stands between its lanes, and leaves room for a cross.
+    /// The label of an arrow is between its lanes, with space for a cross.
     fn need_of_flight(&self, flight: &Flight) -> Need {
         let from = self.stop_of(flight.from);
         let to = self.stop_of(flight.to);
@@ -145,7 +145,7 @@ impl Columns {
         }
     }
 
-    /// A note stands between its lane and the next.
+    /// A note is between its lane and the next.
     fn need_of_note(&self, note: &Note) -> Need {
         let stop = self.stop_of(note.at);
         let left = match note.side {
@@ -160,7 +160,7 @@ impl Columns {
     }
 }
 
-/// What each two neighbours need.
+/// The distance that each two neighbours need.
 fn neighbours(left: usize, last: usize) -> Need {
     let right = left.saturating_add(1);
     let width = if left == 0 || right == last {

@@ -1,4 +1,4 @@
-//! What is above and below the lanes: a title, what the run came to, and a legend.
+//! The texts above and below the lanes: a title, the result of the run, and a legend.
 
 use crate::diagram::ink::Ink;
 use crate::diagram::layout::{Anchor, Font, Layout, Point, Text, foot_of};
@@ -42,7 +42,7 @@ impl Layout {
     }
 }
 
-/// What the run came to.
+/// The result of the run.
 fn summary(alloc: Global, recording: &Recording) -> Result<String, AllocError> {
     let flights = &recording.flights;
     let sent = flights.len();

@@ -1,4 +1,4 @@
-//! The lanes: a line for each port, with its name at both ends, and bold while an end is open there.
+//! The lanes: a line for each port, with its name at both ends, and bold while an end is open.
 
 use crate::diagram::ink::Ink;
 use crate::diagram::layout::columns::Columns;

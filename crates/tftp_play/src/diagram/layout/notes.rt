@@ -1,4 +1,4 @@
-//! What is written beside a lane: timeouts, closes and repeats.
+//! The texts beside a lane: timeouts, closes and repeats.
 
 use crate::diagram::ink::Ink;
 use crate::diagram::layout::columns::Columns;
@@ -7,7 +7,7 @@ use crate::diagram::recording::{Flight, Mark, MarkKind, Recording};
 use std::alloc::{AllocError, Global};
 use tftp_ends::{Endpoint, Outcome};
 
-/// How far above its arrow's tip a note on a repeat stands.
+/// The height of a note on a repeat above its arrow's tip.
 const ABOVE: u32 = 6;
 
 /// A text beside a lane.
@@ -123,7 +123,7 @@ fn away_from(at: Endpoint, other: Endpoint, columns: &Columns) -> LaneSide {
     }
 }
 
-/// The side of a lane where its peers are not.
+/// The side of a lane without its peers.
 fn outside(at: Endpoint) -> LaneSide {
     match Ink::of_host(at) {
         Ink::Client => LaneSide::Left,

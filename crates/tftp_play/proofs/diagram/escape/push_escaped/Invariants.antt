@@ -1,4 +1,4 @@
--- The bytes before the place are written.
+-- The bytes before the index are written.
 use Rattle.std.proofs.Common.{◌≡◌, ◌++◌, take}
 use Rattle.std.specs.String.{string_bytes}
 use Rattle.tftp_play.specs.Escape.{escaped}
