@@ -1,4 +1,4 @@
--- What pairs of digits decode to, by arithmetic on the values of the digits.
+-- The bytes that pairs of digits decode to, by arithmetic on the values of the digits.
 use Rattle.std.proofs.Common.{ℕ, suc, ◌≡◌, ◌+◌, ◌-◌, ◌*◌, ◌%◌, ◌<◌, ◌≤◌, Bool, true, false, cond, leb, ltb, ◌&&◌, max, refl, ap, sym, ◌∙◌, arith, append_assoc, append-nil, length-set, List, [], ◌∷◌, ◌++◌, length, get_or, take, drop, set, Option, Some, None, unwrap_or}
 use Rattle.std.specs.declared.result.Result.{Result}
 use Rattle.std.specs.declared.result.Result.TheVariants.{Ok, Err}
@@ -91,7 +91,7 @@ pairs_left ds i h =
     ∙ ap (λ rest. get_or ds (2 * i) 0 ∷ rest) (drop-cons ds (2 * i + 1) 0 (omega arith))
     ∙ ap (λ k. get_or ds (2 * i) 0 ∷ get_or ds (2 * i + 1) 0 ∷ drop k ds) after
 
--- so far: the bytes that stand, with those of the digits that are left, are those of all
+-- so far: the decoded bytes, with those of the digits that are left, are those of all
 pub record PairsSoFar (ds bytes : List ℕ) (i largest : ℕ) : Type 0 where
   pub size : length ds ≡ 2 * length bytes
   pub within : i ≤ length bytes

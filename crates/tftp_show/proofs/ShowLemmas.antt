@@ -1,4 +1,4 @@
--- The lines of an input, taken one by one, and what is printed for them.
+-- The lines of an input, one by one, and what is printed for them.
 use Rattle.std.proofs.Common.{ℕ, suc, ◌≡◌, ◌<◌, ◌-◌, Bool, true, false, cond, ◌&&◌, eqb, refl, ap, sym, subst, ◌∙◌, arith, lt-ltb, List, [], ◌∷◌, ◌++◌, length, append_assoc, Option, Some, None}
 use Rattle.std.specs.Prelude.{⊤, MatchResult, IfOk, IsErrAnd, IfSome}
 use Rattle.std.proofs.Math.Bool.{and_assoc}
@@ -21,7 +21,7 @@ pub is_decoded : (d : Result (List ℕ) FromHexError) (b : Bool) (new : List ℕ
 is_decoded (Ok bytes) b new h e = ap Ok (sym h.1)
 is_decoded (Err f) b new h e = absurd (cc)
 
--- another error in the place of one
+-- another error instead of one
 pub kept_ok : {E D : Type 0} (r : Result Bool E) (s : Result Bool D) (Q : E → D → Type 0) (P : Bool → Type 0) → MatchResult r (λ x. s ≡ Ok x) (λ e. IsErrAnd s (Q e)) → IfOk r P → IfOk s P
 kept_ok (Ok x) s Q P h p = subst (λ t. IfOk t P) (sym h) p
 kept_ok (Err e) (Ok x) Q P h p = absurd h
@@ -41,7 +41,7 @@ cons_cond false x ys zs = refl
 one_less : (n : ℕ) → suc n - 1 ≡ n
 one_less n = omega arith
 
--- a byte in front keeps the end of a line
+-- a byte before it keeps the end of a line
 strip_cons : (x y : ℕ) (t : List ℕ) → strip_last 10 (x ∷ y ∷ t) ≡ x ∷ strip_last 10 (y ∷ t)
 strip_cons x y t =
     rw (lt-ltb 0 (suc (suc (length t))) (omega arith), lt-ltb 0 (suc (length t)) (omega arith), one_less (suc (length t)), one_less (length t)) (cons_cond _ _ _ _)
@@ -72,7 +72,7 @@ Owes None now left all = ⊤
 Owes (Some start) None left all = ⊥
 Owes (Some start) (Some now) left all = now ++ input_shown left ≡ start ++ input_shown all
 
--- so far, where the reader and the writer tell their bytes
+-- so far, if the reader and the writer have a model
 abbrev pub GoesOn : Option (List ℕ) → Option (List ℕ) → Option (List ℕ) → Option (List ℕ) → Bool → Type 0
 GoesOn None left start now packets = ⊤
 GoesOn (Some all) None start now packets = ⊥

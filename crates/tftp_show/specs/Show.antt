@@ -1,22 +1,23 @@
--- What `tftp-show` prints for an input, and its status (own).
-use Rattle.std.specs.Prelude.{ℕ, ◌≡◌, ◌==◌, Bool, true, false, if◌then◌else◌, List, [], ◌∷◌, ◌++◌, codes, is_none, Result, Ok, Err}
+-- The output of `tftp-show` for an input, and its status.
+use Rattle.std.specs.Prelude.{ℕ, ◌≡◌, ◌==◌, Bool, true, false, if◌then◌else◌, List, [], ◌∷◌, ◌++◌}
+use Rattle.std.specs.Prelude.{codes, is_none, Result, Ok, Err}
 use Rattle.std.specs.List.{flat_map, list_all}
 use Rattle.hex.specs.Hex.{decode_of}
 use Rattle.hex.specs.declared.error.FromHexError.{FromHexError}
 use Rattle.tftp_wire.specs.Datagram.{datagram_shown}
 use Rattle.tftp_wire.specs.Reading.{first_fault}
 
--- a byte in front of the first line, or a line of it alone
+-- a byte before the first line, or a line of it alone
 abbrev pub onto_first : ℕ → List (List ℕ) → List (List ℕ)
 onto_first b [] = (b ∷ []) ∷ []
 onto_first b (first ∷ others) = (b ∷ first) ∷ others
 
--- the lines, each without its line feed; what no line feed ends is a line if it isn't empty
+-- the lines, each without its line feed; bytes after the last line feed are a line, too
 abbrev pub lines_of : List ℕ → List (List ℕ)
 lines_of [] = []
 lines_of (b ∷ input) = if b == 10 then [] ∷ lines_of input else onto_first b (lines_of input)
 
--- the line of what digits decode to
+-- the line for decoded digits
 abbrev pub decoded_shown : Result (List ℕ) FromHexError → List ℕ
 decoded_shown (Ok bytes) = datagram_shown bytes (first_fault bytes)
 decoded_shown (Err e) = codes "not hex"
@@ -30,7 +31,7 @@ abbrev pub spells_packet : Result (List ℕ) FromHexError → Bool
 spells_packet (Ok bytes) = is_none (first_fault bytes)
 spells_packet (Err e) = false
 
--- digits are said to be hexadecimal where they decode, and then the bytes are what they decode to
+-- digits are hexadecimal if they decode, and then the bytes are the decoded ones
 abbrev pub DecodesHex : Result (List ℕ) FromHexError → Bool → List ℕ → Type 0
 DecodesHex (Ok decoded) is_hex bytes = (is_hex ≡ true) × (bytes ≡ decoded)
 DecodesHex (Err e) is_hex bytes = is_hex ≡ false
@@ -39,7 +40,7 @@ DecodesHex (Err e) is_hex bytes = is_hex ≡ false
 abbrev pub are_packets : List ℕ → Bool
 are_packets input = list_all (λ digits. spells_packet (decode_of digits)) (lines_of input)
 
--- what is printed for an input: a line for each line
+-- the output for an input: a line for each line
 abbrev pub input_shown : List ℕ → List ℕ
 input_shown input = flat_map (λ digits. line_shown digits ++ 10 ∷ []) (lines_of input)
 

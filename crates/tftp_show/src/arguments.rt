@@ -21,11 +21,11 @@ pub fn show_command<R: Runtime + AllocGlobal>(rt: &R) -> u8
     }
 }
 
-/// Runs `tftp-show` over standard input and output, as a command line says, and returns its status.
-/// The first word is the program's name.
+/// Runs `tftp-show` over standard input and output with a command line, and returns its status. The
+/// first word is the program's name.
 ///
-/// `--help` and `--version` print and return 0. A command line that is not understood is reported
-/// on standard error with status 2. Out of memory is status 2 too.
+/// `--help` and `--version` print and return 0. A faulty command line is reported on standard error
+/// with status 2. Out of memory is status 2 too.
 pub fn show_words<R: Runtime + AllocGlobal, S: AsStr>(rt: &R, words: &[S]) -> u8
     ensures { result ≤ 2 }
 {

@@ -1,7 +1,7 @@
 //! `tftp-show`: TFTP datagrams as text, a line each, from lines of hexadecimal digits.
 //!
-//! Begin with [`show_run`]. It knows packets alone, opens no socket and no file; a program's `main`
-//! only hands in the system.
+//! Begin with [`show_run`]. It opens no socket and no file; a program's `main` only passes the
+//! system.
 #![tactic(auto)]
 
 mod arguments;

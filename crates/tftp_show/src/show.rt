@@ -1,4 +1,4 @@
-//! `tftp-show`: lines of hexadecimal digits in, a line for each datagram out.
+//! `tftp-show`: reads lines of hexadecimal digits, and writes a line for each datagram.
 
 mod digits;
 
@@ -44,9 +44,9 @@ fn show_buffered<R: Read + Drop, W: Write + Drop>(
     show_lines(alloc, &mut input, &mut output)
 }
 
-/// Writes a line for each line of the input, to its end, and answers whether all were packets.
+/// Writes a line for each line of the input, to its end, and returns whether all were packets.
 ///
-/// It fails if reading or writing fails or when out of memory; whole lines may then be written.
+/// It fails if reading or writing fails or if it is out of memory; whole lines may then be written.
 pub fn show_lines<R: BufRead, W: Write>(
     alloc: Global,
     input: &mut R,
@@ -85,8 +85,7 @@ fn without_end(line: &[u8]) -> &[u8]
     }
 }
 
-/// Appends what a line of digits holds, and answers whether that is a packet. The bytes are room to
-/// work in.
+/// Appends the line for a line of digits, and returns whether it is a packet. `bytes` is a buffer.
 fn show_line(digits: &[u8], bytes: &mut Vec<u8>, text: &mut String) -> Result<bool, AllocError>
     ensures is_packet { IfOk result (λ is_packet.
         is_packet ≡ spells_packet (decode_of digits.now)) }

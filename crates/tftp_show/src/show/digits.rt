@@ -1,6 +1,6 @@
-//! Hexadecimal digits, two for a byte, as the crate `hex` reads them.
+//! Hexadecimal digits, two for a byte, as the crate `hex` decodes them.
 //!
-//! The loop has no branch on a digit, so that the compiler can take many at a time.
+//! The loop has no branch on a digit, so that the compiler can vectorize it.
 
 ghost use Rattle.std.specs.Prelude.{◌≡◌, ◌*◌, IfOk, length, unwrap_or};
 ghost use Rattle.hex.specs.Hex.{decode_of, hex_digit_value};
@@ -8,10 +8,10 @@ ghost use Rattle.tftp_show.specs.Show.{DecodesHex};
 
 use std::alloc::AllocError;
 
-/// What stands for a byte that is no digit. It is greater than each digit's value.
+/// The value for a byte that is no digit. It is greater than each digit's value.
 const NO_DIGIT: u8 = 255;
 
-/// Whether the digits are hexadecimal, two for a byte; `bytes` are then what they stand for.
+/// Whether the digits are hexadecimal, two for a byte; `bytes` are then the decoded bytes.
 pub(crate) fn decode_digits(digits: &[u8], bytes: &mut Vec<u8>) -> Result<bool, AllocError>
     ensures { IfOk result (λ is_hex. DecodesHex (decode_of digits.now) is_hex bytes.new.items) }
 {
@@ -22,7 +22,7 @@ pub(crate) fn decode_digits(digits: &[u8], bytes: &mut Vec<u8>) -> Result<bool, 
     Ok(decode_pairs(digits, bytes.as_mut_slice()))
 }
 
-/// Whether all are digits; `bytes` are then what the pairs stand for.
+/// Whether all are digits; `bytes` are then the decoded bytes.
 fn decode_pairs(digits: &[u8], bytes: &mut [u8]) -> bool
     requires { length digits.now ≡ 2 * length bytes.old }
     ensures { DecodesHex (decode_of digits.now) result bytes.new }

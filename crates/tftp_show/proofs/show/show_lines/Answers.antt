@@ -1,4 +1,4 @@
--- One more line goes on from those before it.
+-- One more line follows those before it.
 use Rattle.std.proofs.Common.{◌≡◌, ◌∙◌, ap, subst, ◌++◌, ◌∷◌, [], arith}
 use Rattle.std.specs.Prelude.{IfSome}
 use Rattle.std.specs.String.{string_bytes}

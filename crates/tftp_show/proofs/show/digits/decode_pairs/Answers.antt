@@ -1,4 +1,4 @@
--- One more pair of digits goes on from those before it.
+-- One more pair of digits follows those before it.
 use Rattle.std.proofs.Common.{arith}
 use Rattle.tftp_show.proofs.DigitsLemmas.{pairs_begin, pairs_go_on, pairs_end}
 use Rattle.tftp_show.proofs.show.digits.decode_pairs.Goals as goal

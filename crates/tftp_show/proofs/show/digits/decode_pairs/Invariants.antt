@@ -1,4 +1,4 @@
--- The pairs before the place are decoded, as far as they are digits.
+-- The pairs before the index are decoded, as far as they are digits.
 use Rattle.tftp_show.proofs.DigitsLemmas.{PairsSoFar}
 use Rattle.tftp_show.proofs.show.digits.decode_pairs.Given as goal
 
