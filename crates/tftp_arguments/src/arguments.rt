@@ -1,4 +1,4 @@
-//! The words of a command line, and what is printed where they are not understood.
+//! The words of a command line, and the messages for faulty ones.
 
 ghost use Rattle.std.specs.Prelude.{◌≤◌};
 
@@ -9,8 +9,8 @@ use std::alloc::Global;
 use std::env;
 use std::rt::Runtime;
 
-/// What `--version` prints behind a program's name: the version, and the toolchain that proves and
-/// builds it, as `rt version` prints it.
+/// The text that `--version` prints after a program's name: the version, and the toolchain that
+/// proves and builds it, as `rt version` prints it.
 pub const VERSION: &str = "0.1.0 (rattle-kit-13f logic dac8208d650f15bf)";
 
 /// The words of the program's own command line.
@@ -22,8 +22,7 @@ pub fn own_words<R: Runtime + AllocGlobal>(rt: &R) -> Result<Vec<String>> {
     Ok(words)
 }
 
-/// Prints the help, the version or what is wrong with a command line, and returns the status for
-/// it.
+/// Prints the help, the version or the fault of a command line, and returns the status for it.
 pub fn print_usage<R: Print + Eprint>(rt: &R, error: &clap::Error) -> u8
     ensures { result ≤ 2 }
 {
@@ -34,13 +33,13 @@ pub fn print_usage<R: Print + Eprint>(rt: &R, error: &clap::Error) -> u8
     }
 }
 
-/// A positional word that has to be there.
+/// A required positional word.
 pub fn word<'a>(alloc: Global, name: &'a str, help: &'a str) -> Arg<'a> {
     Arg::new(alloc, name).required(true).help(help)
 }
 
-/// An option `--name N` with a number. Its range stands in the place of its value, so that the help
-/// and each fault name it.
+/// An option `--name N` with a number. Its range is shown as its value, so that the help and each
+/// fault name it.
 pub fn number<'a>(
     alloc: Global,
     name: &'a str,

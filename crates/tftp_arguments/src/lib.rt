@@ -1,7 +1,7 @@
-//! What the command lines of the programs have in common: a program's own words, its arguments, and
-//! what is printed where they are not understood.
+//! Common parts of the programs' command lines: a program's own words, its arguments, and the
+//! messages for faulty ones.
 //!
-//! It knows no program. Begin with [`own_words`] and [`print_usage`].
+//! Begin with [`own_words`] and [`print_usage`].
 #![tactic(auto)]
 
 mod arguments;
