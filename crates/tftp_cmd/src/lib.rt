@@ -1,4 +1,4 @@
-//! What the four TFTP programs do, under one name: `tftp-show` is `tftp_show`'s, `tftp-play` is
+//! The four TFTP programs, under one name: `tftp-show` is `tftp_show`'s, `tftp-play` is
 //! `tftp_play`'s, the client over UDP is `tftp_client`'s and the server `tftp_daemon`'s.
 //!
 //! Begin with [`show_run`], [`play_run`], [`tftp_words`] and [`tftpd_words`].
