@@ -1,5 +1,4 @@
-//! `tftp-play` plays a script of TFTP transfers: a script in, a line for each thing that happens
-//! out.
+//! `tftp-play` plays a script of TFTP transfers: it prints a line for each event.
 #![tactic(auto)]
 
 use std::process::ExitCode;
