@@ -28,7 +28,7 @@ fn a_client_asks_to_write(rt: HostRuntime) {
     expect_equal(&rt, &side, &Side::ClientWrite, "its side");
 }
 
-/// What is drawn where an end was opened can happen.
+/// The event drawn in a world with an end can happen.
 fn draws_an_event(rt: &impl Abort, rng: &mut Pcg32, world: &mut World) {
     let event = draw(rng, world).expect(rt, "an end was opened");
     expect(rt, world.apply(event).is_ok(), "it can happen");
@@ -39,7 +39,7 @@ fn draws_nothing(rt: &impl Abort, rng: &mut Pcg32, world: &World) {
     expect(rt, draw(rng, world).is_none(), "nothing is drawn");
 }
 
-/// Where no end was opened nothing is drawn. What is drawn else can happen.
+/// In a world without ends nothing is drawn. Every other drawn event can happen.
 #[test]
 fn draws_what_can_happen(rt: HostRuntime) {
     let mut rng = Pcg32::seed_from_u64(7);

@@ -1,5 +1,5 @@
-//! Stores that are made to fail, and what the request port then answers. The answers are those of
-//! RFC 1350, section 5 and appendix I.
+//! Stores that are set to fail, and the answers of the request port. The answers are those of RFC
+//! 1350, section 5 and appendix I.
 
 ghost use Rattle.tftp_store.specs.FaultStore.{IsInjected};
 
@@ -22,13 +22,13 @@ fn files(rt: &impl Abort, alloc: Global) -> MemStore {
     store_of(rt, alloc, b"a", b"ABC")
 }
 
-/// What a request that is refused opens: no transfer, and an answer goes to the client.
+/// The result of a refused request: no transfer opens, and the client gets an answer.
 const REFUSED: Opened = Opened {
     tid: None,
     to: Some(CLIENT),
 };
 
-/// A request to read, to the server of that store, is answered by this ERROR and opens no transfer.
+/// A read request, to the server of that store, is answered by this ERROR and opens no transfer.
 fn is_refused(rt: &impl Abort, alloc: Global, store: FaultStore<MemStore>, error: &[u8]) {
     let mut served = Served::new(rt, alloc, Config::default(), store);
     let read = b"\x00\x01a\x00octet\x00";
@@ -36,7 +36,7 @@ fn is_refused(rt: &impl Abort, alloc: Global, store: FaultStore<MemStore>, error
     expect_equal(rt, &opened, &REFUSED, "no transfer, and an answer");
 }
 
-/// Any fault but that there is no such file is an access violation.
+/// Any fault except a missing file is an access violation.
 #[test]
 fn a_file_that_cannot_be_opened(rt: HostRuntime) {
     let violation = b"\x00\x05\x00\x02access violation\x00";
@@ -90,7 +90,7 @@ fn writes(
 /// The calls that write a file.
 const CALLS: [(u64, &str); 3] = [(0, "begin"), (1, "append"), (2, "commit")];
 
-/// The write in which the call falls leaves no file, and the next one does.
+/// The write whose call fails leaves no file, and the next one does.
 fn fails_once(rt: &impl Abort, alloc: Global, at: u64, call: &str, fault: StoreFault)
     requires { IsInjected fault }
 {
@@ -109,8 +109,8 @@ fn one_call_is_refused(rt: HostRuntime) {
     }
 }
 
-/// Three calls write the file. The fourth begins another draft, and gets the store's own fault
-/// before that there is the file.
+/// Three calls write the file. The fourth begins another draft, and returns the injected fault
+/// instead of `Exists`.
 #[test]
 fn the_calls_before_it_are_passed_on(rt: HostRuntime) {
     let store = files(&rt, rt.alloc());
@@ -122,7 +122,7 @@ fn the_calls_before_it_are_passed_on(rt: HostRuntime) {
     writes(&rt, rt.alloc(), &mut store, "the fifth", exists);
 }
 
-/// What was told to be refused below it is refused, too.
+/// A call that the inner store is set to refuse is refused.
 #[test]
 fn the_inner_store_refuses_as_told(rt: HostRuntime) {
     let mut inner = files(&rt, rt.alloc());
@@ -133,7 +133,7 @@ fn the_inner_store_refuses_as_told(rt: HostRuntime) {
     expect(&rt, !store.get_ref().refuses(), "it is told no more");
 }
 
-/// A commit that was told to be refused below it is refused, too, and stores nothing; the next one
+/// A commit that the inner store is set to refuse is refused, and stores nothing; the next one
 /// stores the draft.
 #[test]
 fn the_inner_store_refuses_a_commit_as_told(rt: HostRuntime) {

@@ -17,7 +17,7 @@ fn client(port: u16) -> Endpoint {
     }
 }
 
-/// A server of the file `a` of the three bytes `ABC`, which holds so many transfers at most.
+/// A server of the file `a` of the three bytes `ABC`, with this limit of transfers.
 fn server(rt: &impl Abort, alloc: Global, cap: u8) -> Served<MemStore> {
     let mut config = Config::default();
     config.cap = cap;
@@ -27,7 +27,7 @@ fn server(rt: &impl Abort, alloc: Global, cap: u8) -> Served<MemStore> {
 /// The request for the file, in octet.
 const REQUEST: &[u8] = b"\x00\x01a\x00octet\x00";
 
-/// What comes to the request port, the answer to it, and whether a transfer opens.
+/// A datagram to the request port, the answer to it, and whether a transfer opens.
 type Row = (&'static str, &'static [u8], &'static [u8], bool);
 
 const ROWS: [Row; 15] = [
@@ -113,7 +113,7 @@ const ROWS: [Row; 15] = [
     ),
 ];
 
-/// What comes to the request port has the answer of its row, and opens a transfer or none.
+/// A datagram to the request port has the answer of its row, and opens a transfer or none.
 fn answers_row(rt: &impl Abort, served: &mut Served<MemStore>, row: &Row) {
     let (what, request, answer, opens) = *row;
     let opened = served.answers_request(rt, client(2000), 1025, request, answer);
@@ -129,7 +129,7 @@ fn port_rows(rt: HostRuntime) {
     }
 }
 
-/// The request to a server of this one file opens a transfer or none, and is answered by that.
+/// The request to a server of this one file opens a transfer or none, and has this answer.
 fn opens(
     rt: &impl Abort,
     alloc: Global,
@@ -145,7 +145,7 @@ fn opens(
     expect_equal(rt, &(request, opened.tid), &(request, tid), "a transfer");
 }
 
-/// A name of two segments, behind a slash that does not count.
+/// A name of two segments, after a slash that does not count.
 #[test]
 fn a_file_in_a_folder_is_read(rt: HostRuntime) {
     let path = path(&rt, rt.alloc(), b"/a/b");
@@ -177,7 +177,7 @@ fn two_options_are_answered_in_their_order(rt: HostRuntime) {
 }
 
 /// 65,535 blocks of 8 bytes are the most, and the last of them is short (RFC 1350, section 6): a
-/// file of one byte more than they carry, and no answer but the ERROR.
+/// file of one byte more is refused by an ERROR.
 #[test]
 fn a_file_is_too_large_for_its_blocks(rt: HostRuntime) {
     let bytes = vec![in rt.alloc(); b'x'; 524_280].expect(&rt, "memory");
@@ -186,8 +186,8 @@ fn a_file_is_too_large_for_its_blocks(rt: HostRuntime) {
     opens(&rt, rt.alloc(), b"a", &bytes, request, too_large, None);
 }
 
-/// Reads of the file, and what opens each: an OACK of the options that the server takes, in their
-/// order, or DATA 1 where there are none (RFC 2347, RFC 2348, RFC 2349).
+/// Reads of the file, and the answer that opens each: an OACK of the options that the server
+/// accepts, in their order, or DATA 1 without any (RFC 2347, RFC 2348, RFC 2349).
 const READS: [(&[u8], &[u8]); 8] = [
     (b"\x00\x01a\x00netascii\x00", b"\x00\x03\x00\x01ABC"),
     (
@@ -246,8 +246,8 @@ fn acknowledge(rt: &impl Abort, served: &mut Served<MemStore>, tid: u16) {
     expect_equal(rt, &closed, &Some(Outcome::Complete), "it closes");
 }
 
-/// What comes from the endpoint whose transfer is open, and the answer: a read of another file is
-/// no repeat, and the mode's letters make no difference (RFC 1350, section 5).
+/// A datagram from the endpoint whose transfer is open, and the answer: a read of another file is
+/// no repeat, and the case of the mode's letters makes no difference (RFC 1350, section 5).
 const REPEATS: [(&[u8], &[u8]); 4] = [
     (b"\x00\x01a\x00octet\x00", b""),
     (b"\x00\x01a\x00OcTeT\x00", b""),
@@ -261,7 +261,7 @@ const REPEATS: [(&[u8], &[u8]); 4] = [
     ),
 ];
 
-/// The repeat is answered by that.
+/// The repeat has this answer.
 fn answers_repeat(rt: &impl Abort, alloc: Global, request: &[u8], answer: &[u8]) {
     let mut served = server(rt, alloc, 16);
     open(rt, &mut served, 1025);
@@ -275,7 +275,8 @@ fn a_repeated_request_opens_nothing(rt: HostRuntime) {
     }
 }
 
-/// What comes from a client at this port could open a transfer or not, as far as no store is asked.
+/// Whether a datagram from a client at this port could open a transfer, by the tests that need no
+/// store.
 fn may_open(rt: &impl Abort, served: &Served<MemStore>, port: u16, bytes: &[u8], wanted: bool) {
     let found = (bytes, served.server.may_open(client(port), bytes));
     expect_equal(rt, &found, &(bytes, Ok(wanted)), "whether it may open one");
@@ -290,13 +291,13 @@ fn a_request_opens_anew_behind_the_close(rt: HostRuntime) {
     acknowledge(&rt, &mut served, 1025);
     let opened = served.answers_request(&rt, client(1025), 1026, REQUEST, DATA_1);
     expect_equal(&rt, &opened.tid, &Some(1026), "the transfer was over");
-    // the client has completed, and knows no such transfer
+    // the client has completed, and has no such transfer
     let unknown = b"\x00\x05\x00\x05unknown transfer id\x00";
     let closed = served.answers(&rt, client(1025), 1026, unknown, b"");
     expect_equal(&rt, &closed, &Some(Outcome::PeerError(5)), "it closes");
 }
 
-/// The request of a second client finds no place.
+/// The server is at its limit for the request of a second client.
 fn is_busy(rt: &impl Abort, served: &mut Served<MemStore>) {
     let busy = b"\x00\x05\x00\x00server busy\x00";
     let opened = served.answers_request(rt, client(1026), 1026, REQUEST, busy);
@@ -314,7 +315,7 @@ fn a_full_server_is_busy(rt: HostRuntime) {
     is_busy(&rt, &mut served);
 }
 
-/// A closed transfer has its place until it is taken.
+/// A closed transfer has its slot until it is taken.
 #[test]
 fn a_closed_transfer_counts_until_it_is_taken(rt: HostRuntime) {
     let mut served = server(&rt, rt.alloc(), 1);
@@ -399,8 +400,8 @@ fn open_transfers_are_told(rt: HostRuntime) {
     lists(&rt, rt.alloc(), &served, &[1027, 1030]);
 }
 
-/// What comes to the request port, and whether it could open a transfer, as far as no store is
-/// asked.
+/// A datagram to the request port, and whether it could open a transfer, by the tests that need no
+/// store.
 const MAY_OPEN: [(&[u8], bool); 8] = [
     (b"\x00\x01a\x00octet\x00", true),
     (b"\x00\x01b\x00octet\x00", true),
@@ -420,31 +421,7 @@ fn what_could_open_a_transfer(rt: HostRuntime) {
     }
 }
 
-/// A request, and the block size of the transfer that it may open: 512 bytes without the option
-/// (RFC 1350, section 2), and no more than the limit of 1,428 with it (RFC 2348).
-const BLOCK_SIZES: [(&[u8], Option<u16>); 6] = [
-    (b"\x00\x01a\x00octet\x00", Some(512)),
-    (b"\x00\x01a\x00octet\x00blksize\x001024\x00", Some(1_024)),
-    (b"\x00\x01a\x00octet\x00blksize\x008192\x00", Some(1_428)),
-    (b"\x00\x02n\x00octet\x00blksize\x008\x00", Some(8)),
-    (b"\x00\x01../a\x00octet\x00", None),
-    (b"\x00\x04\x00\x00", None),
-];
-
-#[test]
-fn block_sizes_of_admissions(rt: HostRuntime) {
-    let served = server(&rt, rt.alloc(), 16);
-    for &(bytes, wanted) in &BLOCK_SIZES {
-        let admission = served
-            .server
-            .admit(client(1040), bytes)
-            .expect(&rt, "memory");
-        let found = (bytes, served.server.block_size(&admission));
-        expect_equal(&rt, &found, &(bytes, wanted), "the block size");
-    }
-}
-
-/// The transfer lends these bytes, and an identifier without a transfer none.
+/// The transfer lends these bytes, and an identifier without a transfer lends none.
 fn lends(rt: &impl Abort, served: &Served<MemStore>, outgoing: Outgoing, wanted: &[u8]) {
     let lent = served.server.bytes_of(1025, outgoing);
     expect_bytes(rt, lent.expect(rt, "a transfer"), wanted, "what goes out");

@@ -1,7 +1,7 @@
-//! Random runs of a world, and after each event what makes it safe, by what the world tells.
+//! Random runs of a world, and after each event the safety of the world, by what it returns.
 //!
 //! Two clients read and two write, with block sizes of their own or without options, one of them in
-//! netascii. No byte of a file is that of another file, or of its next block, at the same place.
+//! netascii. No byte of a file is that of another file, or of its next block, at the same offset.
 
 use crate::expect::{expect, expect_equal};
 use crate::stores::path;
@@ -16,10 +16,10 @@ use tftp_player::{Event, World, draw};
 use tftp_server::Config;
 use tftp_wire::{Bytes, Mode};
 
-/// Runs, each of a seed of its own.
+/// The runs, each with a seed of its own.
 const RUNS: u64 = 100;
 
-/// Events of a run.
+/// The events of a run.
 const EVENTS: usize = 2_000;
 
 /// The files of a run.
@@ -30,10 +30,10 @@ struct Files {
     /// The server's `b`, with line feeds and CRs: two blocks of 512 bytes of wire text, of which
     /// the last is short.
     b: Vec<u8>,
-    /// What a client writes under the name `n`: three blocks of 200 bytes and an empty one (RFC
-    /// 1350, section 6).
+    /// The file that a client writes under the name `n`: three blocks of 200 bytes and an empty one
+    /// (RFC 1350, section 6).
     long: Vec<u8>,
-    /// What another writes under that name: one short block.
+    /// The file that another client writes under that name: one short block.
     short: Vec<u8>,
 }
 
@@ -57,7 +57,7 @@ impl Files {
         }
     }
 
-    /// The file that a sender sends: its own if it is a client, else that of the client that asked.
+    /// The file that a sender sends: its own if it is a client, else that of its client.
     fn sent_by(&self, port: u16, record: &Record) -> &[u8] {
         match record.peer {
             Some(peer) if !record.side.is_client() => self.of(peer.port),
@@ -66,7 +66,7 @@ impl Files {
     }
 }
 
-/// So many bytes, each one more than that before it, from this one on; 0 follows 250.
+/// That many bytes, each one more than that before it, from this one on; 0 follows 250.
 fn bytes_from(rt: &impl Abort, alloc: Global, first: u64, length: u64) -> Vec<u8> {
     let mut bytes = Vec::new(alloc);
     for at in 0..length {
@@ -94,7 +94,7 @@ fn world_of_two_files(rt: &impl Abort, alloc: Global, files: &Files) -> World {
     World::new(alloc, files, config).expect(rt, "memory")
 }
 
-/// What a client asks that wants blocks of this size, or has no wish.
+/// The options of a client: blocks of this size, or none.
 fn asked_for(blksize: Option<u16>) -> Asked {
     Asked {
         blksize,
@@ -103,7 +103,7 @@ fn asked_for(blksize: Option<u16>) -> Asked {
     }
 }
 
-/// A client asks for the server's file of this name.
+/// A client reads the server's file of this name.
 fn gets(
     rt: &impl Abort,
     alloc: Global,
@@ -118,7 +118,7 @@ fn gets(
     report.expect(rt, "the request is sent");
 }
 
-/// A client asks to write this file under the name `n`.
+/// A client writes this file under the name `n`.
 fn puts(rt: &impl Abort, alloc: Global, world: &mut World, file: &[u8], blksize: Option<u16>) {
     let report = world.apply(Event::Put {
         name: Bytes::from_slice(alloc, b"n").expect(rt, "memory"),
@@ -129,7 +129,7 @@ fn puts(rt: &impl Abort, alloc: Global, world: &mut World, file: &[u8], blksize:
     report.expect(rt, "the request is sent");
 }
 
-/// A world in which the four have asked, from the ports 1024 to 1027.
+/// A world in which the four have sent their requests, from the ports 1024 to 1027.
 fn asked_world(rt: &impl Abort, alloc: Global, files: &Files) -> World {
     let mut world = world_of_two_files(rt, alloc, files);
     gets(rt, alloc, &mut world, b"a", Mode::Octet, Some(100));
@@ -146,7 +146,7 @@ fn record_at(world: &World, port: u16) -> Option<&Record> {
     Some(record)
 }
 
-/// Where the end at this port is.
+/// The endpoint of the end at this port.
 fn address(port: u16, record: &Record) -> Endpoint {
     let host = if record.side.is_client() { 2 } else { 1 };
     Endpoint {
@@ -196,7 +196,7 @@ fn is_held(rt: &impl Abort, alloc: Global, world: &World, port: u16, file: &[u8]
     );
 }
 
-/// Nothing comes to an end without a peer.
+/// An end without a peer receives nothing.
 fn is_empty(rt: &impl Abort, world: &World, port: u16) {
     let is_empty = world.stored(port).is_none_or(|stored| stored.is_empty());
     expect_equal(rt, &(port, is_empty), &(port, true), "nothing is stored");
@@ -217,7 +217,7 @@ fn is_safe(rt: &impl Abort, alloc: Global, files: &Files, world: &World, port: u
     }
 }
 
-/// An event is drawn and happens, and then all ends are safe.
+/// An event is drawn and played, and then all ends are safe.
 fn steps_safely(rt: &impl Abort, alloc: Global, files: &Files, world: &mut World, rng: &mut Pcg32) {
     let event = draw(rng, world).expect(rt, "an event");
     world.apply(event).expect(rt, "what is drawn can happen");
@@ -226,7 +226,7 @@ fn steps_safely(rt: &impl Abort, alloc: Global, files: &Files, world: &mut World
     }
 }
 
-/// What came about in all runs, so that there was something to be safe.
+/// The counts of all runs, which show that the safety is not empty.
 #[derive(Clone, Copy, Debug, Default)]
 struct Counts {
     /// Clients that have their whole file.
@@ -257,7 +257,7 @@ impl Counts {
         add(&mut self.sizes, end.size != 512);
     }
 
-    /// Each came about in half of the runs at least.
+    /// Each happened in half of the runs at least.
     fn are_many(&self, rt: &impl Abort) {
         expect(rt, self.reads >= RUNS / 2, "whole files of clients");
         expect(rt, self.texts >= RUNS / 2, "whole files by netascii");
@@ -267,7 +267,7 @@ impl Counts {
     }
 }
 
-/// Counts one more where it holds.
+/// Adds one if it holds.
 fn add(count: &mut u64, holds: bool) {
     if holds {
         *count = count.saturating_add(1);

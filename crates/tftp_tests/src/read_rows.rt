@@ -1,5 +1,5 @@
 //! Reads in a world, datagram by datagram. The bytes are written by hand from RFC 1350, sections 2,
-//! 4 and 6; that a repeated ACK brings nothing is of RFC 1123, section 4.2.3.1.
+//! 4 and 6; that a repeated ACK is ignored is from RFC 1123, section 4.2.3.1.
 
 use crate::expect::{expect, expect_bytes, expect_equal};
 use crate::stores::path;
@@ -12,7 +12,7 @@ use tftp_player::{Event, World, WorldFault};
 use tftp_server::Config;
 use tftp_wire::{Bytes, Mode};
 
-/// The datagram at this place has these bytes.
+/// The datagram at this index has these bytes.
 fn has_sent(rt: &impl Abort, world: &World, place: usize, bytes: &[u8]) {
     match world.sent().get(place) {
         Some(datagram) => {
@@ -23,7 +23,7 @@ fn has_sent(rt: &impl Abort, world: &World, place: usize, bytes: &[u8]) {
     }
 }
 
-/// The end of this place has this port and side, and came so far.
+/// The end at this index has this port, side and state.
 fn has_end(rt: &impl Abort, world: &World, place: usize, end: (u16, Side, bool, Option<Outcome>)) {
     match world.records().get(place) {
         Some((port, record)) => {
@@ -34,7 +34,7 @@ fn has_end(rt: &impl Abort, world: &World, place: usize, end: (u16, Side, bool, 
     }
 }
 
-/// The datagram at this place went from the one endpoint to the other.
+/// The datagram at this index went from the one endpoint to the other.
 fn has_gone(rt: &impl Abort, world: &World, place: usize, from: Endpoint, to: Endpoint) {
     match world.sent().get(place) {
         Some(datagram) => {
@@ -57,8 +57,8 @@ fn played(rt: &impl Abort, alloc: Global, file: &[u8], rows: &[Row]) -> World {
     world
 }
 
-/// A world with the file, which a client has asked for by this name, and in which all that is sent
-/// was delivered: so many datagrams.
+/// A world with the file, which a client reads by this name, after the delivery of all that is
+/// sent, `count` datagrams.
 fn settled(rt: &impl Abort, alloc: Global, file: &[u8], name: &[u8], count: usize) -> World {
     let mut world = world_with(rt, alloc, file, Config::default());
     get(&mut world, alloc, name).expect(rt, "the request is sent");
@@ -68,7 +68,7 @@ fn settled(rt: &impl Abort, alloc: Global, file: &[u8], name: &[u8], count: usiz
     world
 }
 
-/// What is sent for an empty file: RRQ, DATA 1, ACK 1.
+/// The datagrams of an empty file: RRQ, DATA 1, ACK 1.
 const EMPTY_FILE: [(usize, &[u8]); 3] = [
     (0, b"\x00\x01a\x00octet\x00"),
     (1, b"\x00\x03\x00\x01"),
@@ -104,7 +104,7 @@ fn an_empty_file_completes_both_ends(rt: HostRuntime) {
 /// A file of one block of 512 bytes, the block size without options.
 const BLOCK: &[u8] = &[b'x'; 512];
 
-/// The file is asked for by a name with a slash.
+/// The file is requested by a name with a slash.
 #[test]
 fn a_full_block_is_followed_by_an_empty_one(rt: HostRuntime) {
     let world = settled(&rt, rt.alloc(), BLOCK, b"/a", 5);
@@ -125,7 +125,7 @@ fn a_full_block_is_stored(rt: HostRuntime) {
     keeps_file(&rt, rt.alloc(), &world, BLOCK);
 }
 
-/// RRQ, DATA 1, ACK 1, DATA 2; then ACK 1 comes again, and again.
+/// RRQ, DATA 1, ACK 1, DATA 2; then ACK 1 arrives again, and again.
 static REPEATED_ACK: [Row; 6] = [
     (Move::Get(b"a"), Some(0), None),
     (Move::Deliver(0), Some(1), None),
@@ -141,8 +141,8 @@ fn a_repeated_ack_brings_nothing(rt: HostRuntime) {
     expect_equal(&rt, &world.sent().len(), &4, "datagrams");
 }
 
-/// RRQ, DATA 1 of 1025, and nothing at the repeat; ACK 1, and 1025 completes. Behind that the
-/// request opens 1026, whose DATA 1 is answered by ERROR 5; what comes to a closed end does
+/// RRQ, DATA 1 of 1025, and nothing at the repeat; ACK 1, and 1025 completes. After that the
+/// request opens 1026, whose DATA 1 is answered by ERROR 5; a datagram for a closed end does
 /// nothing.
 static REPEATED_REQUEST: [Row; 10] = [
     (Move::Get(b"a"), Some(0), None),
@@ -165,7 +165,7 @@ fn a_repeated_request_opens_another_end_behind_the_close(rt: HostRuntime) {
 }
 
 /// RRQ, DATA 1, ACK 1, which is lost; DATA 1 again, ACK 1 again; the client waits, and closes; then
-/// the ACK comes at last.
+/// the ACK arrives at last.
 static LOST_ACK: [Row; 8] = [
     (Move::Get(b"a"), Some(0), None),
     (Move::Deliver(0), Some(1), None),
@@ -205,7 +205,7 @@ fn a_silent_peer_is_given_up(rt: HostRuntime) {
     has_end(&rt, &world, 0, (1024, Side::ClientRead, true, None));
 }
 
-/// Two clients ask: the request of 1024 opens 1026; that of 1025 is refused, and 1025 gives up.
+/// Two clients send requests: that of 1024 opens 1026; that of 1025 is refused, and 1025 gives up.
 static BUSY: [Row; 5] = [
     (Move::Get(b"a"), Some(0), None),
     (Move::Get(b"a"), Some(1), None),
@@ -241,7 +241,7 @@ fn at_client(port: u16) -> Endpoint {
     }
 }
 
-/// A client asks for the file in blocks of 8 bytes (RFC 2348).
+/// A client reads the file in blocks of 8 bytes (RFC 2348).
 fn get_in_eights(rt: &impl Abort, alloc: Global, world: &mut World) {
     let event = Event::Get {
         name: Bytes::from_slice(alloc, b"a").expect(rt, "memory"),
@@ -255,7 +255,7 @@ fn get_in_eights(rt: &impl Abort, alloc: Global, world: &mut World) {
     world.apply(event).expect(rt, "the request is sent");
 }
 
-/// So many bytes, of which those of each block are others than those of the next.
+/// That many bytes, which differ from block to block.
 fn many(rt: &impl Abort, alloc: Global, length: usize) -> Vec<u8> {
     let mut bytes = Vec::new(alloc);
     for at in 0..length {
@@ -264,7 +264,7 @@ fn many(rt: &impl Abort, alloc: Global, length: usize) -> Vec<u8> {
     bytes
 }
 
-/// How far the end of this place came, in blocks of which size, and whether it is complete.
+/// The end at this index has this block number and size, and is complete or not.
 fn has_come(rt: &impl Abort, world: &World, place: usize, wanted: (u16, u16, bool)) {
     let (_, record) = world.records().get(place).expect(rt, "an end");
     let found = (record.number, record.size, record.complete);
@@ -299,13 +299,13 @@ fn a_world_refuses_more_blocks(rt: HostRuntime) {
     has_gone(&rt, &world, 1, at_server(69), at_client(1024));
 }
 
-/// A client reads the file, and its first block is on the way.
+/// A client reads the file, and its first block is to be delivered.
 static READS: [Row; 2] = [
     (Move::Get(b"a"), Some(0), None),
     (Move::Deliver(0), Some(1), None),
 ];
 
-/// Another has asked to write it: ACK 0, DATA 1, and ACK 1 behind the commit.
+/// Another writes it: ACK 0, DATA 1, and ACK 1 after the commit.
 static REPLACES: [Row; 3] = [
     (Move::Deliver(2), Some(3), None),
     (Move::Deliver(3), Some(4), None),
@@ -326,7 +326,7 @@ fn overwriting_world(rt: &impl Abort, alloc: Global) -> World {
     world_with(rt, alloc, &[b'a'; 600], config)
 }
 
-/// A client asks to write the byte `B` under the name of the file.
+/// A client writes the byte `B` under the name of the file.
 fn put_over(rt: &impl Abort, alloc: Global, world: &mut World) {
     let event = Event::Put {
         name: Bytes::from_slice(alloc, b"a").expect(rt, "memory"),
@@ -337,7 +337,7 @@ fn put_over(rt: &impl Abort, alloc: Global, world: &mut World) {
     world.apply(event).expect(rt, "the request is sent");
 }
 
-/// A read goes on with the file that it opened, though another took its place.
+/// A read continues with the file that it opened, though another replaced it.
 #[test]
 fn overwrite_rows(rt: HostRuntime) {
     let mut world = overwriting_world(&rt, rt.alloc());
@@ -413,7 +413,7 @@ fn a_store_refuses_as_told(rt: HostRuntime) {
     expect(&rt, !world.committed(1024), "nothing is committed");
 }
 
-/// Addresses, and whether one is of neither host.
+/// Addresses, and whether each is at neither host.
 const ADDRESSES: [([u8; 4], bool); 4] = [
     ([10, 0, 0, 1], false),
     ([10, 0, 0, 2], false),

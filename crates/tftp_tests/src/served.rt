@@ -14,7 +14,7 @@ pub(crate) struct Served<S: Store> {
 }
 
 impl<S: Store> Served<S> {
-    /// A server of these settings over the store.
+    /// A server with this configuration over the store.
     pub(crate) fn new(rt: &impl Abort, alloc: Global, config: Config, store: S) -> Served<S> {
         expect(rt, config.is_valid(), "the settings of a server");
         let server = Server::new(alloc, config, store).expect(rt, "a server");
@@ -24,7 +24,7 @@ impl<S: Store> Served<S> {
         }
     }
 
-    /// A datagram comes to the request port, and is answered by that. A transfer that it opens gets
+    /// A datagram arrives at the request port, and has this answer. A transfer that it opens gets
     /// the identifier.
     pub(crate) fn answers_request(
         &mut self,
@@ -43,7 +43,8 @@ impl<S: Store> Served<S> {
         opened
     }
 
-    /// A datagram comes to a transfer, which answers it by that: how it closes the transfer.
+    /// A datagram arrives at a transfer, and has this answer. Returns the outcome if the transfer
+    /// closes.
     pub(crate) fn answers(
         &mut self,
         rt: &impl Abort,
@@ -61,7 +62,7 @@ impl<S: Store> Served<S> {
         step.closed
     }
 
-    /// A transfer takes a timeout in silence.
+    /// A transfer handles a timeout and sends nothing.
     pub(crate) fn waits(&mut self, rt: &impl Abort, tid: u16) {
         self.out.clear();
         self.server

@@ -1,6 +1,5 @@
-//! Writes at a server (RFC 1350, sections 2, 4 and 6): what opens them, what they leave in the
-//! store, and stores that fail on the way. The answers are those of RFC 1350, section 5 and
-//! appendix I.
+//! Writes at a server (RFC 1350, sections 2, 4 and 6): the requests, the files in the store, and
+//! stores that fail in a transfer. The answers are those of RFC 1350, section 5 and appendix I.
 
 ghost use Rattle.tftp_store.specs.FaultStore.{IsInjected};
 
@@ -42,8 +41,8 @@ fn replacing_server(rt: &impl Abort, alloc: Global) -> Served<MemStore> {
     Served::new(rt, alloc, config, files(rt, alloc))
 }
 
-/// Requests to write, and what opens each: an OACK of the options that the server takes, or ACK 0
-/// where there are none (RFC 2347, "Negotiation Protocol"; RFC 2348; RFC 2349).
+/// Write requests, and the answer that opens each: an OACK of the options that the server accepts,
+/// or ACK 0 without any (RFC 2347, "Negotiation Protocol"; RFC 2348; RFC 2349).
 const OPENED: [(&[u8], &[u8]); 6] = [
     (WRITE, b"\x00\x04\x00\x00"),
     (b"\x00\x02n\x00NetASCII\x00", b"\x00\x04\x00\x00"),
@@ -65,7 +64,7 @@ const OPENED: [(&[u8], &[u8]); 6] = [
     ),
 ];
 
-/// The request opens a transfer with a draft, and is answered by that.
+/// The request opens a transfer with a draft, and has this answer.
 fn opens(rt: &impl Abort, alloc: Global, request: &[u8], answer: &[u8]) {
     let mut served = server(rt, alloc);
     let opened = served.answers_request(rt, CLIENT, 1025, request, answer);
@@ -83,7 +82,7 @@ fn writes_are_answered_with_their_options(rt: HostRuntime) {
 
 const ACK_0: &[u8] = b"\x00\x04\x00\x00";
 
-/// A request to write opens a transfer.
+/// A write request opens a transfer.
 fn open<S: Store>(rt: &impl Abort, served: &mut Served<S>, from: Endpoint, tid: u16) {
     let opened = served.answers_request(rt, from, tid, WRITE, ACK_0);
     expect_equal(rt, &opened.tid, &Some(tid), "a transfer opens");
@@ -101,7 +100,7 @@ fn is_committed(rt: &impl Abort, served: &Served<MemStore>, tid: u16) {
     expect(rt, draft.is_committed(), "its draft is committed");
 }
 
-/// The file is there once it is committed, and only then the last block is acknowledged.
+/// The file exists once it is committed, and only then the last block is acknowledged.
 #[test]
 fn a_write_makes_a_file(rt: HostRuntime) {
     let mut served = server(&rt, rt.alloc());
@@ -113,7 +112,7 @@ fn a_write_makes_a_file(rt: HostRuntime) {
     is_committed(&rt, &served, 1025);
 }
 
-/// The transfer has closed, and is handed out with a draft of these bytes.
+/// The transfer has closed, and is returned with a draft of these bytes.
 fn hands_out(rt: &impl Abort, served: &mut Served<MemStore>, tid: u16, bytes: &[u8]) {
     let taken = served.server.take_closed(tid);
     let (record, draft) = taken.expect(rt, "a closed transfer");
@@ -123,7 +122,7 @@ fn hands_out(rt: &impl Abort, served: &mut Served<MemStore>, tid: u16, bytes: &[
     expect_bytes(rt, draft.as_bytes(), bytes, "what it holds");
 }
 
-/// It is closed by its second timeout (RFC 1350, section 6), and handed out with its draft.
+/// It is closed by its second timeout (RFC 1350, section 6), and returned with its draft.
 #[test]
 fn a_draft_is_handed_out(rt: HostRuntime) {
     let mut served = server(&rt, rt.alloc());
@@ -138,7 +137,7 @@ fn a_draft_is_handed_out(rt: HostRuntime) {
 
 const FILE_EXISTS: &[u8] = b"\x00\x05\x00\x06file exists\x00";
 
-/// Two writes of one name are open, and the block of the first comes.
+/// Two writes of one name are open, and the block of the first arrives.
 fn open_two(rt: &impl Abort, served: &mut Served<MemStore>) {
     open(rt, served, CLIENT, 1025);
     open(rt, served, OTHER, 1026);
@@ -155,7 +154,7 @@ fn the_first_commit_has_the_name(rt: HostRuntime) {
     has_file(&rt, rt.alloc(), served.server.store(), b"n", b"A");
 }
 
-/// Where files may be replaced, the last commit stands.
+/// If files may be replaced, the last commit counts.
 #[test]
 fn the_last_commit_stands(rt: HostRuntime) {
     let mut served = replacing_server(&rt, rt.alloc());
@@ -164,13 +163,13 @@ fn the_last_commit_stands(rt: HostRuntime) {
     has_file(&rt, rt.alloc(), served.server.store(), b"n", b"B");
 }
 
-/// Makes the file `a` one of 600 letters.
+/// Sets the file `a` to 600 letters.
 fn lengthen(rt: &impl Abort, alloc: Global, store: &mut MemStore) {
     let path = path(rt, alloc, b"a");
     write(store, alloc, &path, &[b'a'; 600], true).expect(rt, "it is written");
 }
 
-/// DATA of this number: so many times this byte.
+/// DATA of this number: this byte, that many times.
 fn data(rt: &impl Abort, alloc: Global, number: u8, byte: u8, count: usize) -> Vec<u8> {
     let mut bytes = Vec::from_slice(alloc, &[0, 3, 0, number]).expect(rt, "memory");
     let block = vec![in alloc; byte; count].expect(rt, "memory");
@@ -178,7 +177,7 @@ fn data(rt: &impl Abort, alloc: Global, number: u8, byte: u8, count: usize) -> V
     bytes
 }
 
-/// A read of a file that a write replaces goes on with the file that it opened.
+/// A read of a file that a write replaces continues with the file that it opened.
 #[test]
 fn a_read_goes_on_with_its_file(rt: HostRuntime) {
     let mut served = replacing_server(&rt, rt.alloc());
@@ -194,14 +193,14 @@ fn a_read_goes_on_with_its_file(rt: HostRuntime) {
     served.answers(&rt, CLIENT, 1025, ACK_1, &rest);
 }
 
-/// The request comes again: this is the answer, and no transfer opens.
+/// The request arrives again: it has this answer, and opens no transfer.
 fn opens_nothing<S: Store>(rt: &impl Abort, served: &mut Served<S>, tid: u16, answer: &[u8]) {
     let opened = served.answers_request(rt, CLIENT, tid, WRITE, answer);
     expect_equal(rt, &opened.tid, &None, "no transfer");
 }
 
-/// A request that comes again opens nothing while its transfer is open, nor in the dally; behind
-/// the close its file is there.
+/// A repeated request opens nothing while its transfer is open, nor in the dally; after the close
+/// its file exists.
 #[test]
 fn a_repeated_write_opens_nothing(rt: HostRuntime) {
     let mut served = server(&rt, rt.alloc());
@@ -231,7 +230,7 @@ fn failing(
     Served::new(rt, alloc, Config::default(), store)
 }
 
-/// The first call of the store, `begin`, fails: this is the answer, and no transfer opens.
+/// The first call of the store, `begin`, fails: the request has this answer, and opens no transfer.
 fn cannot_begin(rt: &impl Abort, alloc: Global, fault: StoreFault, answer: &[u8])
     requires { IsInjected fault }
 {
@@ -251,14 +250,14 @@ fn block(rt: &impl Abort, alloc: Global, number: u8) -> Vec<u8> {
     data(rt, alloc, number, number, count)
 }
 
-/// The block of this number comes, and is acknowledged.
+/// The block of this number arrives, and is acknowledged.
 fn acknowledges<S: Store>(rt: &impl Abort, alloc: Global, served: &mut Served<S>, number: u8) {
     let bytes = block(rt, alloc, number);
     let closed = served.answers(rt, CLIENT, 1025, &bytes, &[0, 4, 0, number]);
     expect_equal(rt, &(number, closed), &(number, None), "it stays open");
 }
 
-/// The block of this number comes, and the store refuses it.
+/// The block of this number arrives, and the store refuses it.
 fn refuses<S: Store>(rt: &impl Abort, alloc: Global, served: &mut Served<S>, number: u8) {
     let bytes = block(rt, alloc, number);
     let closed = served.answers(rt, CLIENT, 1025, &bytes, DISK_FULL);
@@ -266,8 +265,8 @@ fn refuses<S: Store>(rt: &impl Abort, alloc: Global, served: &mut Served<S>, num
     expect_equal(rt, &(number, closed), &wanted, "how it closes");
 }
 
-/// Of a write of five blocks the store refuses the call of this number: the first is `begin`, then
-/// an append for each block, and the commit. So many blocks are acknowledged before.
+/// In a write of five blocks the store refuses the call of this number: the first is `begin`, then
+/// an append for each block, and the commit. `blocks` are acknowledged before.
 fn fails_there(rt: &impl Abort, alloc: Global, at: u64, fault: StoreFault, blocks: u8)
     requires { IsInjected fault }
 {
@@ -281,7 +280,7 @@ fn fails_there(rt: &impl Abort, alloc: Global, at: u64, fault: StoreFault, block
     }
 }
 
-/// The call that is refused, and the blocks before it; the seventh is behind them all.
+/// The call that is refused, and the blocks before it; the seventh is after them all.
 const CALLS: [(u64, u8); 7] = [(1, 0), (2, 1), (3, 2), (4, 3), (5, 4), (6, 4), (7, 5)];
 
 #[test]
@@ -302,7 +301,7 @@ fn keeps_one_block(rt: &impl Abort, alloc: Global, served: &Served<FaultStore<Me
     expect_equal(rt, &draft.as_bytes().len(), &512, "the block");
 }
 
-/// What was refused leaves no file and the blocks before it.
+/// A refused append leaves no file, and the blocks before it.
 #[test]
 fn a_refused_append_keeps_what_was_stored(rt: HostRuntime) {
     let mut served = failing(&rt, rt.alloc(), 2, StoreFault::Full);

@@ -13,7 +13,7 @@ fn empty(rt: &impl Abort, alloc: Global) -> MemStore {
     MemStore::new(alloc, Vec::new(alloc)).expect(rt, "memory")
 }
 
-/// How long the file `/a/b` is on the wire.
+/// The length of the file `/a/b` on the wire.
 fn length(rt: &impl Abort, alloc: Global, store: &MemStore, mode: Mode) -> Result<u64, StoreFault> {
     let path = path(rt, alloc, b"/a/b");
     Ok(store.open(alloc, &path, mode)?.length)
@@ -66,7 +66,7 @@ fn a_name_is_given_once(rt: HostRuntime) {
     writes(&rt, rt.alloc(), &mut store, b"C", false, exists);
 }
 
-/// A store that is told to replace takes a second file of the name, and holds the newer.
+/// A store that is set to replace accepts a second file of the name, and holds the newer.
 #[test]
 fn a_file_is_replaced(rt: HostRuntime) {
     let mut store = written(&rt, rt.alloc());

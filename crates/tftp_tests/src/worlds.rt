@@ -1,4 +1,4 @@
-//! Worlds of the tests, and what happens in them. Clients ask in octet, without options.
+//! Worlds of the tests, and their events. Clients read and write in octet, without options.
 
 use crate::expect::{expect, expect_equal};
 use crate::stores::path;
@@ -13,16 +13,16 @@ use tftp_wire::{Bytes, Mode};
 /// An event that a run chooses.
 #[derive(Clone, Copy, Debug, PartialEq, Eq)]
 pub(crate) enum Move {
-    /// A client asks for the server's file of this name.
+    /// A client reads the server's file of this name.
     Get(&'static [u8]),
-    /// A client asks to write these bytes under the name `n`.
+    /// A client writes these bytes under the name `n`.
     Put(&'static [u8]),
     Deliver(usize),
     Timeout(u16),
     RefuseStore(u16),
 }
 
-/// An event, the place of the datagram that it sends, and the end that it closes.
+/// An event, the index of the datagram that it sends, and the end that it closes.
 pub(crate) type Row = (Move, Option<usize>, Option<(u16, Outcome)>);
 
 /// A world whose server has this file under the path `a`.
@@ -33,7 +33,7 @@ pub(crate) fn world_with(rt: &impl Abort, alloc: Global, file: &[u8], config: Co
     World::new(alloc, files, config).expect(rt, "memory")
 }
 
-/// A client asks for the server's file of this name.
+/// A client reads the server's file of this name.
 pub(crate) fn get(world: &mut World, alloc: Global, name: &[u8]) -> Result<Report, WorldFault> {
     world.apply(Event::Get {
         name: Bytes::from_slice(alloc, name)?,
@@ -42,7 +42,7 @@ pub(crate) fn get(world: &mut World, alloc: Global, name: &[u8]) -> Result<Repor
     })
 }
 
-/// A client asks to write these bytes under the name `n`.
+/// A client writes these bytes under the name `n`.
 pub(crate) fn put(world: &mut World, alloc: Global, bytes: &[u8]) -> Result<Report, WorldFault> {
     world.apply(Event::Put {
         name: Bytes::from_slice(alloc, b"n")?,
@@ -63,7 +63,7 @@ pub(crate) fn happens(world: &mut World, alloc: Global, event: Move) -> Result<R
     }
 }
 
-/// Each row's event happens in turn, and has what the row says.
+/// Each row's event happens in turn, with the report of the row.
 pub(crate) fn runs(rt: &impl Abort, alloc: Global, world: &mut World, rows: &[Row]) {
     for &(event, added, closed) in rows {
         let found = (event, happens(world, alloc, event));
