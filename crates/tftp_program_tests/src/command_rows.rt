@@ -4,7 +4,7 @@ use crate::expect::{expect_bytes, expect_equal};
 use tftp_play::play_words;
 use tftp_show::show_words;
 
-/// A word behind the program's name, and the status: `tftp-show` takes no argument but these two.
+/// A word after the program's name, and the status: `tftp-show` accepts no argument but these two.
 const SHOW: [(&str, u8); 4] = [
     ("--help", 0),
     ("--version", 0),
@@ -41,7 +41,7 @@ fn play_command_lines(rt: HostRuntime) {
     }
 }
 
-/// A script that is not there, and a folder.
+/// A script that does not exist, and a folder.
 const UNREADABLE: [&str; 2] = ["/missing/a.script", "/"];
 
 #[test]

@@ -2,7 +2,7 @@
 
 use std::io::{self, ErrorKind, Read, Write};
 
-/// Gives its bytes, and then fails.
+/// Returns its bytes, and then fails.
 #[derive(Drop)]
 pub(crate) struct Breaks(pub(crate) &'static [u8]);
 
@@ -15,7 +15,7 @@ impl Read for Breaks {
     }
 }
 
-/// Takes nothing.
+/// Accepts nothing.
 #[derive(Drop)]
 pub(crate) struct Full;
 

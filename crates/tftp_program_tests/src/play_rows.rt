@@ -1,4 +1,4 @@
-//! Whole runs of `tftp-play` over memory. What they print is written by hand from RFC 1350,
+//! Whole runs of `tftp-play` over memory. The expected output is written by hand from RFC 1350,
 //! sections 2, 4 and 6, and RFC 1123, section 4.2.3.1.
 
 use crate::expect::{expect, expect_bytes, expect_equal};
@@ -25,7 +25,7 @@ end 1025 server-read peer=1024 size=512 number=1 complete=yes Complete
     )
 }
 
-/// Scripts of reads, with what they print and their status.
+/// Scripts of reads, with their output and their status.
 const READS: [(&str, &str, u8); 5] = [
     // an empty file is one empty block (RFC 1350, section 6)
     (
@@ -55,7 +55,7 @@ end 1025 server-read peer=1024 size=512 number=2 complete=yes Complete
 ",
         0,
     ),
-    // an ACK that comes again sends nothing again (RFC 1123, section 4.2.3.1)
+    // a repeated ACK sends nothing again (RFC 1123, section 4.2.3.1)
     (
         "file blocks 0F*1024\nget blocks octet\ndeliver 0\ndeliver 1\ndeliver 2\ndeliver 2\ndeliver 2\n",
         "\
@@ -88,7 +88,7 @@ end 1025 server-read peer=1024 size=512 number=1 complete=yes Complete
 ",
         0,
     ),
-    // no ACK comes through: five retries, then the sender gives up
+    // no ACK arrives: five retries, then the sender gives up
     (
         "file a 414243\nget a octet\ndeliver 0\ndeliver 1\n\
          timeout 1025\ntimeout 1025\ntimeout 1025\ntimeout 1025\ntimeout 1025\ntimeout 1025\n",
@@ -117,7 +117,7 @@ fn read_rows(rt: HostRuntime) -> Result<(), Fail> {
     Ok(())
 }
 
-/// A request that comes twice opens one transfer, and another behind its close (RFC 1350, section
+/// A request that arrives twice opens one transfer, and another after its close (RFC 1350, section
 /// 4).
 const REPEATS: [(&str, &str, u8); 1] = [(
     "file a 414243\nget a octet\ndeliver 0\ndeliver 0\ndeliver 1\ndeliver 2\n\
@@ -146,7 +146,7 @@ fn repeat_rows(rt: HostRuntime) -> Result<(), Fail> {
     Ok(())
 }
 
-/// Scripts on which little or nothing happens.
+/// Scripts with few events or none.
 const QUIET: [(&str, &str, u8); 6] = [
     ("", "", 0),
     ("# nothing\n\nset retries 0\nfile a 41\n", "", 0),

@@ -1,5 +1,4 @@
-//! Scripts of random events, with transfers of each kind: whatever is drawn, the script runs to its
-//! end.
+//! Scripts of random events, with transfers of each kind: every script runs to its end.
 
 use crate::expect::expect;
 use std::alloc::Global;
@@ -22,7 +21,7 @@ put m octet 43*1024 blksize=8 tsize
 random 7 10000
 ";
 
-/// The same where files may be replaced and there is no retry.
+/// The same if files may be replaced and there is no retry.
 const REPLACED: &str = "\
 set overwrite yes
 set retries 0
@@ -34,7 +33,7 @@ put n octet 43*1024 blksize=8 tsize
 random 11 10000
 ";
 
-/// Each event prints a line at least, and nothing is wrong with the script.
+/// Each event prints a line at least, and the script has no fault.
 fn runs(rt: &impl Abort, alloc: Global, script: &str) -> Result<(), Fail> {
     let mut output = Vec::new(alloc);
     let mut errors = Vec::new(alloc);

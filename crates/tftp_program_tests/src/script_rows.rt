@@ -1,4 +1,4 @@
-//! Which lines a script of `tftp-play` may have.
+//! The lines of a script of `tftp-play`.
 
 use crate::expect::expect_equal;
 use std::alloc::Global;
@@ -80,7 +80,7 @@ const FAULTS: [(&[u8], usize); 83] = [
     (b"put a octet 41*0\n", 1),
     (b"put a octet 41 blksize=65465\n", 1),
     (b"put a octet 41 tsize=1\n", 1),
-    // stores that refuse
+    // receivers that refuse
     (b"refuse\n", 1),
     (b"refuse 65536\n", 1),
     // drawn events
@@ -131,7 +131,7 @@ fn script_faults(rt: HostRuntime) -> Result<(), Fail> {
     Ok(())
 }
 
-/// Each form of line, at the ends of its ranges.
+/// Each form of line, at the limits of its ranges.
 const WHOLE: &[u8] = b"\
 # a comment
 
@@ -149,7 +149,7 @@ timeout 65535
 settle 9
 ";
 
-/// In netascii no `tsize` is sent, and beyond the last datagram nothing is settled.
+/// In netascii no `tsize` is sent, and after the last datagram nothing is settled.
 const WHOLE_OUTPUT: &str = "\
 #0 10.0.0.2:1024 > 10.0.0.1:69 RRQ %ff%3d netascii blksize=65464 timeout=255
 refused NoSuchDatagram
@@ -188,7 +188,7 @@ fn whole_scripts(rt: HostRuntime) -> Result<(), Fail> {
     plays(&rt, rt.alloc(), WHOLE, WHOLE_OUTPUT, 1)
 }
 
-/// What the lines before the first event set, as far as it shows in a run.
+/// The settings before the first event, as far as a run shows them.
 const SETTINGS: [(&[u8], &str, u8); 4] = [
     // the last line of a setting counts
     (
@@ -202,7 +202,7 @@ end 1024 client-read peer=none size=512 number=0 complete=no TimedOut
 ",
         1,
     ),
-    // a server with room for one transfer is busy at the second
+    // a server with a limit of one transfer is busy at the second
     (
         b"set cap 64\nset cap 1\nfile a -\nget a octet\nget a octet\ndeliver 0\ndeliver 1\n",
         "\

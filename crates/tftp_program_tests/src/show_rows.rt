@@ -7,8 +7,8 @@ use std::process::Abort;
 use std::test::Fail;
 use tftp_show::{show_lines, show_run};
 
-/// Datagrams as hexadecimal digits, and what is printed for them; written by hand from RFC 1350,
-/// section 5, and RFC 2347, "Packet Formats".
+/// Datagrams as hexadecimal digits, and their lines; written by hand from RFC 1350, section 5, and
+/// RFC 2347, "Packet Formats".
 const VECTORS: [(&str, &str); 20] = [
     (
         "00026120253d006e6574415343494900",
@@ -65,8 +65,8 @@ fn vectors_show(rt: HostRuntime) -> Result<(), Fail> {
     Ok(())
 }
 
-/// Inputs, what is printed and the status: 0 if all lines were packets, else 1. A last line needs
-/// no line feed.
+/// Inputs, their output and the status: 0 if all lines were packets, else 1. A last line needs no
+/// line feed.
 const INPUTS: [(&[u8], &str, u8); 7] = [
     (b"", "", 0),
     (b"00040000", "ACK 0\n", 0),
@@ -113,7 +113,7 @@ fn packet_rows(rt: HostRuntime) {
     }
 }
 
-/// How many letters follow the opcode of a read request that no zero byte ends, and its line: a
+/// The number of letters after the opcode of a read request that no zero byte ends, and its line: a
 /// request has 512 bytes at most (RFC 2347, "Packet Formats").
 const LONG: [(usize, &str); 2] = [
     (510, "fault Unterminated 2\n"),
@@ -146,7 +146,7 @@ fn failures_are_two(rt: HostRuntime) {
     expect_equal(&rt, &status, &2, "a writer that fails");
 }
 
-/// The lines alone, for a reader and a writer that the caller keeps.
+/// The lines alone, for a reader and a writer that the caller owns.
 #[test]
 fn lines_are_appended(rt: HostRuntime) -> Result<(), Fail> {
     let mut output = Vec::from_slice(rt.alloc(), b"old\n")?;

@@ -1,11 +1,10 @@
-//! Datagrams of neither host, in scripts of `tftp-play`. A stranger to a transfer is told so by
-//! ERROR 5 and changes nothing (RFC 1350, section 4); nobody answers an ERROR (RFC 1350, section
-//! 7).
+//! Datagrams of neither host, in scripts of `tftp-play`. A stranger to a transfer gets ERROR 5 and
+//! changes nothing (RFC 1350, section 4); an ERROR is not answered (RFC 1350, section 7).
 
 use crate::playing::plays;
 use std::test::Fail;
 
-/// Scripts, what they print, and their status.
+/// Scripts, their output, and their status.
 const ROWS: [(&str, &str, u8); 3] = [
     // it is no answer to the client, whose transfer then completes
     (
@@ -27,7 +26,7 @@ end 1025 server-read peer=1024 size=512 number=1 complete=yes Complete
 ",
         0,
     ),
-    // what begins as an ERROR is not answered
+    // a malformed ERROR is not answered
     (
         "file a 414243\nget a octet\nstray 10.0.0.9:5000 10.0.0.2:1024 0005\n",
         "\

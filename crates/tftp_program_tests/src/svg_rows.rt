@@ -1,4 +1,4 @@
-//! Runs of `tftp-play` with a picture. What it shows is read off the scripts by hand.
+//! Runs of `tftp-play` with a picture. The expected parts are derived from the scripts by hand.
 
 use crate::expect::{expect, expect_bytes, expect_equal};
 use crate::faulty_streams::Full;
@@ -9,13 +9,13 @@ use std::process::Abort;
 use std::test::Fail;
 use tftp_play::play_drawn;
 
-/// The read of 600 bytes of the tour: DATA 2 and the first ACK 2 are lost, RRQ and ACK 1 come twice,
-/// and each end waits twice.
+/// The read of 600 bytes of the tour: DATA 2 and the first ACK 2 are lost, RRQ and ACK 1 arrive
+/// twice, and each end waits twice.
 const LOSSY: &str = "set retries 2\nfile boot.img 4142*300\nget boot.img octet\n\
     deliver 0\ndeliver 0\ndeliver 1\ndeliver 2\ndeliver 2\ntimeout 1025\ndeliver 4\n\
     timeout 1025\ndeliver 6\ndeliver 7\ntimeout 1024\ntimeout 1024\n";
 
-/// Parts of its picture, and in how many of its lines they stand.
+/// Parts of its picture, and the number of its lines that have each.
 const LOSSY_PARTS: [(&str, usize); 17] = [
     (">#0 RRQ boot.img octet<", 1),
     (">#1 DATA 1 512<", 1),
@@ -45,8 +45,8 @@ fn a_lossy_read(rt: HostRuntime) -> Result<(), Fail> {
     Ok(())
 }
 
-/// A stray has a label without a number, and its sender has a lane; the ERROR that goes back is
-/// never delivered.
+/// A stray has a label without a number, and its sender has a lane; the ERROR to it is never
+/// delivered.
 #[test]
 fn a_stranger(rt: HostRuntime) -> Result<(), Fail> {
     let script = b"get a octet\nstray 10.0.0.9:5000 10.0.0.2:1024 0003000141\n".as_slice();
@@ -58,8 +58,8 @@ fn a_stranger(rt: HostRuntime) -> Result<(), Fail> {
     Ok(())
 }
 
-/// What XML has a use for is written as its entities (XML 1.0, section 4.6); the bytes of a name
-/// that are not visible ASCII are digits already.
+/// The special characters of XML are written as its entities (XML 1.0, section 4.6); the bytes of a
+/// name that are not visible ASCII are digits already.
 #[test]
 fn a_name_of_any_bytes(rt: HostRuntime) -> Result<(), Fail> {
     let svg = draws(&rt, rt.alloc(), b"get <&\">'\x01\xff octet\n".as_slice())?;
@@ -91,7 +91,7 @@ fn a_long_run(rt: HostRuntime) -> Result<(), Fail> {
     Ok(())
 }
 
-/// Where the picture cannot be opened, all is printed as without it.
+/// If the picture cannot be opened, the output is that without it.
 #[test]
 fn no_picture(rt: HostRuntime) {
     let mut output = Vec::new(rt.alloc());
@@ -118,7 +118,7 @@ fn no_picture(rt: HostRuntime) {
     );
 }
 
-/// Where the picture takes nothing, all is printed as without it.
+/// If writing the picture fails, the output is that without it.
 #[test]
 fn a_full_picture(rt: HostRuntime) {
     let mut output = Vec::new(rt.alloc());
@@ -140,7 +140,7 @@ fn a_full_picture(rt: HostRuntime) {
     );
 }
 
-/// So many lines of the picture have this part.
+/// That many lines of the picture have this part.
 fn expect_lines(rt: &impl Abort, svg: &str, part: &str, count: usize) {
     let mut found = 0usize;
     for line in svg.lines() {

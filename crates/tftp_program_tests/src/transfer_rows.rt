@@ -1,13 +1,13 @@
-//! Whole reads in scripts of `tftp-play`: options and netascii. What they print is written by hand
-//! from RFC 1350, sections 2, 4 and 6, and from RFC 2347 to 2349.
+//! Whole reads in scripts of `tftp-play`: options and netascii. The expected output is written by
+//! hand from RFC 1350, sections 2, 4 and 6, and from RFC 2347 to 2349.
 
 use crate::playing::plays;
 use std::test::Fail;
 
-/// A script, what it prints, and its status.
+/// A script, its output, and its status.
 type Row = (&'static str, &'static str, u8);
 
-/// CR and LF travel as two bytes each (RFC 764), and blocks are cut from what travels.
+/// CR and LF are two bytes each on the wire (RFC 764), and blocks are cut from the wire text
 const NETASCII: [Row; 3] = [
     (
         "file a 0D0A41\nget a netascii\nsettle 0\n",
@@ -59,7 +59,7 @@ fn netascii_rows(rt: HostRuntime) -> Result<(), Fail> {
 }
 
 const OPTIONS: [Row; 2] = [
-    // a block size that is asked is answered by an OACK, and that by ACK 0 (RFC 2347, "Negotiation
+    // a requested block size is answered by an OACK, and that by ACK 0 (RFC 2347, "Negotiation
     // Protocol")
     (
         "file a 00*512\nget a octet blksize=512\nsettle 0\n",

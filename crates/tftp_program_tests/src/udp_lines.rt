@@ -1,4 +1,4 @@
-//! What the programs over UDP print, as lines.
+//! The lines that the programs over UDP print.
 
 use crate::expect::{expect_equal, expect_text};
 use std::fmt::Display;
@@ -14,7 +14,8 @@ fn prints<R: AllocGlobal + Abort, D: Display>(rt: &R, value: &D, wanted: &str) -
     Ok(())
 }
 
-/// How `tftp` ends: 0 for a complete transfer, 1 for one that failed, and 2 where none was opened.
+/// The last line of `tftp`, and its status: 0 for a complete transfer, 1 for one that failed, and 2
+/// if none was opened.
 #[test]
 fn client_ends(rt: HostRuntime) -> Result<(), Fail> {
     prints(&rt, &ClientOutcome::Complete(3), "complete 3")?;
@@ -46,7 +47,7 @@ fn client_ends(rt: HostRuntime) -> Result<(), Fail> {
     Ok(())
 }
 
-/// What `tftpd` prints: where it listens, and each transfer that closed.
+/// The lines of `tftpd`: the address that it listens on, and each transfer that closed.
 #[test]
 fn server_lines(rt: HostRuntime) -> Result<(), Fail> {
     let listen = Endpoint {
@@ -62,7 +63,7 @@ fn server_lines(rt: HostRuntime) -> Result<(), Fail> {
     prints(&rt, &closed, "40000 2000 Complete")
 }
 
-/// How far a transfer came: a megabyte in 80 ms is 12.5 MB/s.
+/// The progress of a transfer: a megabyte in 80 ms is 12.5 MB/s.
 #[test]
 fn progress_lines(rt: HostRuntime) -> Result<(), Fail> {
     let line = |bytes: u64, total: Option<u64>, millis: u64| ProgressLine {
@@ -109,7 +110,7 @@ const PEER: Endpoint = Endpoint {
     port: 1024,
 };
 
-/// The lines of a log of what came to the request port.
+/// The lines of a log of datagrams at the request port.
 #[test]
 fn log_lines(rt: HostRuntime) -> Result<(), Fail> {
     let opened = LogLine::Opened {

@@ -1,4 +1,4 @@
-//! How long the programs wait, and when a transfer is tried again without options.
+//! The waiting times of the programs, and when a transfer is tried again without options.
 
 use crate::expect::{expect, expect_equal};
 use tftp_ends::Outcome;
@@ -6,7 +6,7 @@ use tftp_host::{Port, Watch, deadline, fallback, is_due, place_of, wait_for};
 use tftp_negotiate::Asked;
 
 /// Readings of a clock, from 5,000 on, and the time in milliseconds: a wait counts for a second at
-/// most, and a clock that goes back for nothing.
+/// most, and a clock that goes back counts for nothing.
 const READINGS: [(u64, u64); 5] = [
     (5_200, 200),
     (5_200, 200),
@@ -28,16 +28,17 @@ fn a_watch_goes_on(rt: HostRuntime) {
     }
 }
 
-/// An interval in seconds, and when a transfer of the time 700 is due.
-const DEADLINES: [(u8, u64); 2] = [(1, 1_700), (255, 255_700)];
+/// The agreed timeout in seconds, and when a transfer of the time 700 is due: after a second if
+/// none is agreed.
+const DEADLINES: [(Option<u8>, u64); 3] = [(None, 1_700), (Some(1), 1_700), (Some(255), 255_700)];
 
 #[test]
 fn a_transfer_is_due(rt: HostRuntime) {
-    for &(seconds, want) in &DEADLINES {
+    for &(agreed, want) in &DEADLINES {
         expect_equal(
             &rt,
-            &(seconds, deadline(700, seconds)),
-            &(seconds, want),
+            &(agreed, deadline(700, agreed)),
+            &(agreed, want),
             "when it is due",
         );
     }
@@ -69,7 +70,7 @@ fn the_nearest_deadline_is_waited_for(rt: HostRuntime) {
     expect_equal(&rt, &place_of(1040, &ports), &None, "no such port");
 }
 
-/// Outcomes, whether a block size was asked, and whether the transfer is tried again.
+/// Outcomes, whether a block size was requested, and whether the transfer is tried again.
 const OUTCOMES: [(Outcome, Option<u16>, bool); 4] = [
     (Outcome::PeerError(8), Some(8), true),
     (Outcome::PeerError(8), None, false),

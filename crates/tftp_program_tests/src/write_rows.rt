@@ -1,10 +1,10 @@
-//! Whole writes in scripts of `tftp-play`. What they print is written by hand from RFC 1350,
+//! Whole writes in scripts of `tftp-play`. The expected output is written by hand from RFC 1350,
 //! sections 2, 4 to 7, and RFC 2347 to 2349.
 
 use crate::playing::plays;
 use std::test::Fail;
 
-/// A script, what it prints, and its status.
+/// A script, its output, and its status.
 type Row = (&'static str, &'static str, u8);
 
 const WRITES: [Row; 5] = [
@@ -21,7 +21,7 @@ end 1025 server-write peer=1024 size=512 number=1 complete=yes open
 ",
         0,
     ),
-    // an OACK stands for ACK 0 (RFC 2347, "Negotiation Protocol")
+    // an OACK replaces ACK 0 (RFC 2347, "Negotiation Protocol")
     (
         "put n octet 414243 blksize=8 tsize\nsettle 0\n",
         "\
@@ -35,7 +35,7 @@ end 1025 server-write peer=1024 size=8 number=1 complete=yes open
 ",
         0,
     ),
-    // what was written is read again; in netascii three bytes are five on their way (RFC 764)
+    // what was written is read again; in netascii three bytes are five on the wire (RFC 764)
     (
         "put n netascii 0D0A41\nsettle 0\nget n octet\nsettle 4\n",
         "\
@@ -107,8 +107,8 @@ fn write_rows(rt: HostRuntime) -> Result<(), Fail> {
     Ok(())
 }
 
-/// Writes that may replace a file: the last commit stands, and a read goes on with the file that it
-/// opened.
+/// Writes that may replace a file: the last commit counts, and a read continues with the file that
+/// it opened.
 const OVERWRITES: [Row; 2] = [
     (
         "set overwrite yes\nput n octet 41\ndeliver 0\nput n octet 4242\ndeliver 2\ndeliver 1\n\
@@ -167,7 +167,7 @@ fn overwrite_rows(rt: HostRuntime) -> Result<(), Fail> {
     Ok(())
 }
 
-/// A store that refuses an append, and one that refuses the commit behind an empty block.
+/// A receiver that refuses an append, and one that refuses the commit after an empty block.
 const REFUSED: [Row; 2] = [
     (
         "put n octet 00*20 blksize=8\ndeliver 0\ndeliver 1\ndeliver 2\ndeliver 3\ndeliver 4\n\
@@ -219,8 +219,8 @@ fn fault_rows(rt: HostRuntime) -> Result<(), Fail> {
     Ok(())
 }
 
-/// A request to write that comes again while its transfer is open, also in the dally, opens
-/// nothing; behind the close the name is there.
+/// A repeated write request opens nothing while its transfer is open, also in the dally; after the
+/// close the name is taken.
 const REPEATED: [Row; 1] = [(
     "put n octet 41\ndeliver 0\ndeliver 0\ndeliver 1\ndeliver 2\ndeliver 0\n\
      timeout 1025\ntimeout 1025\ndeliver 0\ndeliver 4\ndeliver 3\n",
@@ -250,7 +250,7 @@ fn repeat_rows(rt: HostRuntime) -> Result<(), Fail> {
     Ok(())
 }
 
-/// Requests to write that open nothing (RFC 1350, appendix I; RFC 2349, "Transfer Size Option
+/// Write requests that open nothing (RFC 1350, appendix I; RFC 2349, "Transfer Size Option
 /// Specification").
 const UNOPENED: [Row; 4] = [
     (
