@@ -127,7 +127,6 @@ impl Client {
         }
     }
 
-    /// Its record.
     pub(crate) fn record(&self) -> Record
         ensures { result ≡ record_of self.now.end }
     {

@@ -17,7 +17,6 @@ pub(crate) struct Effect {
     pub(crate) from: Endpoint,
     /// The destination of the datagram; none if nothing is sent.
     pub(crate) to: Option<Endpoint>,
-    /// The bytes of the datagram.
     pub(crate) bytes: Bytes,
     /// How the end closed.
     pub(crate) closed: Option<Outcome>,

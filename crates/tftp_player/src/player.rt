@@ -24,7 +24,6 @@ pub(crate) enum Player {
 }
 
 impl Player {
-    /// Its endpoint.
     pub(crate) fn address(&self, port: u16) -> Endpoint
         ensures { result ≡ address_of port self.now }
     {

@@ -34,14 +34,12 @@ impl Shelf {
         }
     }
 
-    /// The bytes that it holds.
     pub(crate) fn as_bytes(&self) -> &[u8]
         ensures { result.now ≡ self.now.bytes }
     {
         self.sink.as_bytes()
     }
 
-    /// Whether they are committed.
     pub(crate) fn is_committed(&self) -> bool
         ensures { result ≡ self.now.committed }
     {

@@ -82,21 +82,18 @@ impl Stage {
         })
     }
 
-    /// All that was ever sent, in order.
     pub(crate) fn sent(&self) -> &[Datagram]
         ensures { result.now ≡ self.now.sent }
     {
         self.sent.as_slice()
     }
 
-    /// The record of every end that was ever opened, with its port, in order of opening.
     pub(crate) fn records(&self) -> &[(u16, Record)]
         ensures { result.now ≡ records_from 1024 self.now.ends }
     {
         self.ends.records.as_slice()
     }
 
-    /// What the receiver at this port has stored.
     pub(crate) fn stored(&self, port: u16) -> Option<&[u8]>
         ensures { option_map (λ bytes. bytes.now) result ≡ stored_at self.now.ends port }
     {
@@ -106,7 +103,6 @@ impl Stage {
         }
     }
 
-    /// Whether the receiver at this port has committed what it stored.
     pub(crate) fn committed(&self, port: u16) -> bool
         ensures { result ≡ committed_at self.now.ends port }
     {
@@ -116,14 +112,12 @@ impl Stage {
         }
     }
 
-    /// The server's file of this path, as it is now.
     pub(crate) fn file(&self, path: &Path) -> Option<&[u8]>
         ensures { option_map (λ bytes. bytes.now) result ≡ file_at self.now.files path.now }
     {
         self.ends.server.store().file(path)
     }
 
-    /// Plays an event.
     pub(crate) fn step(&mut self, event: Event) -> Result<Report, WorldFault>
         requires { IsPlayable event }
         ensures steps { IfOk result (λ report. WorldStep self.old event report self.new) }

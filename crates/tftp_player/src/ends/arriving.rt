@@ -143,7 +143,6 @@ impl Ends {
     }
 }
 
-/// Whether two endpoints differ.
 fn differs(a: Endpoint, b: Endpoint) -> bool
     ensures differs { result ≡ true → a ≢ b }
     ensures same { result ≡ false → a ≡ b }
