@@ -1,4 +1,4 @@
--- Each act of an end, each opening and each datagram of a world is shown again.
+-- Each act of an end, each opening and each datagram of a world is shown.
 use Rattle.std.proofs.Common.{◌≡◌, ℕ, ◌+◌, ◌<◌, ◌≤◌, Bool, true, false, List, [], ◌∷◌, ◌++◌, length, set, Some, None, sym, refl, ◌∙◌, subst, arith}
 use Rattle.std.specs.Prelude.{slice_get, nat_lt, if◌then◌else◌}
 use Rattle.std.specs.List.{Contains}
@@ -188,7 +188,7 @@ module _ (first : List Rule) (views : List EndView) (messages : List Message) (k
       let a = goes_cut (Fails e.address ∷ []) (omega arith) t g.1 ((refl, (refl, g.0, g.1), tt)) refl g.0 b same in
       subst (λ (ds : List Message). IsShownWithin 3 first (set views k (record e { failed = true; text = t })) ds) (append-nil messages) a
 
-  -- an end gives up and says so
+  -- an end gives up and sends an ERROR
   pub refuses : (to : Endpoint) (t : List ℕ) → IsGoing e → IsBeginningOf t e.text → (e.sender ≡ true → e.text ≡ t) →
       IsShownWithin 3 first (set views k (record e { failed = true; text = t })) (messages ++ says e to Error)
   refuses to t g b same =
@@ -206,7 +206,7 @@ repeats first views messages h old c = one_more first _ _ (shown_speaks first vi
 pub says_error : (first : List Rule) (views : List EndView) (messages : List Message) → IsShownAt first views messages → (from to : Endpoint) → IsShownWithin 3 first views (messages ++ message from to Error ∷ [])
 says_error first views messages h from to = one_more first _ _ (shown_speaks first views messages (Says_error from to) h tt tt)
 
--- a stranger says what he likes
+-- a stranger sends any message
 pub strays : (first : List Rule) (views : List EndView) (messages : List Message) → IsShownAt first views messages → (stray : Message) → host_of stray.from ≡ Elsewhere → IsShownWithin 1 first views (messages ++ stray ∷ [])
 strays first views messages h stray o = shown_speaks first views messages (Strays stray) h tt o
 

@@ -1,4 +1,4 @@
--- How the request port handles a world, from what the server did.
+-- The effect of a request on a world, from what the server did.
 use Rattle.std.proofs.Common.{◌≡◌, ◌≢◌, ℕ, Bool, ◌+◌, ◌<◌, ◌≤◌, true, false, List, [], ◌∷◌, ◌++◌, length, get_or, Option, Some, None, refl, sym, ap, ◌∙◌, subst, arith, inl, inr, length-append}
 use Rattle.std.specs.Prelude.{◌⊎◌, ◌↔◌, IsTrue, is_some, not, option_map}
 use Rattle.std.proofs.lemmas.Bool.{true≢false}

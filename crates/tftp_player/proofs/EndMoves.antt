@@ -157,7 +157,7 @@ text_sent : (b g : Bool) (f w h : List ℕ) → b ≡ true → (if b then f else
 text_sent true g f w h e = refl
 text_sent false g f w h e = absurd (true≢false (sym e))
 
--- how many retries are left has no part in it
+-- the retries that are left do not matter
 phase_retries : (phase : Phase) (x : OpenEnd) (r : ℕ) → PhaseKept x phase → PhaseKept (in_state (with_position (record x.state.position { retries_left = r }) x.state) x) phase
 phase_retries (Waiting asked limit) x r h = h
 phase_retries (Sending terms number) x r h = record {
@@ -246,7 +246,7 @@ module _ (first : List Rule) (views : List EndView) (messages : List Message) (k
       EndKept (in_state (with_position (after (Refuse terms UnknownTransferId outcome) x.address x.state) x.state) x)
   closed_kept terms outcome = record { phase = tt; held = kept.held; committed = kept.committed }
 
-  -- it gives up in silence
+  -- it closes without a reply
   pub gives_up : (outcome : Outcome) (from : Endpoint) → goes_on x.state.position.phase ≡ true →
       Goes first views messages k x (response_turn (Close outcome) from x.state) (in_state (with_position (after (Close outcome) from x.state) x.state) x)
   gives_up outcome from going =
@@ -269,7 +269,7 @@ module _ (first : List Rule) (views : List EndView) (messages : List Message) (k
         stored = λ _. refl;
       }
 
-  -- it gives up, and says so
+  -- it gives up, and sends an ERROR
   pub refuses_now : (reply : ErrorReply) (outcome : Outcome) (from : Endpoint) → goes_on x.state.position.phase ≡ true →
       Goes first views messages k x (response_turn (Refuse (terms_of x.state.position.phase) reply outcome) from x.state) (in_state (with_position (after (Refuse (terms_of x.state.position.phase) reply outcome) from x.state) x.state) x)
   refuses_now reply outcome from going =

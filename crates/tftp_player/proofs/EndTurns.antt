@@ -104,7 +104,7 @@ module _ (first : List Rule) (views : List EndView) (messages : List Message) (k
       (gives_up first views messages k x s kept outcomes.TimedOut x0.state.position.last_sent_to going)
       (retries first views messages k x s kept x0.state.position.last_sent_to o old)
 
-  -- a dally goes on, or ends
+  -- a dally continues, or ends
   dally_turns : (terms : Terms) (n : ℕ) (dally : Dally) → Stands first views messages k (open_view (placed (Dallying terms n dally) x0)) → EndKept (placed (Dallying terms n dally) x0) →
       Turns_at (placed (Dallying terms n dally) x0) (timeout_response x0.state.position.retries_left (Dallying terms n dally))
   dally_turns terms n Fresh s kept = record {

@@ -30,7 +30,7 @@ module _ (path bytes : List ℕ) where
   put_here Equal e files more order rest = ap (λ (o : Ordering). cond (is_eq o) (Some bytes) (file_at files path)) order
   put_here Greater e files more order rest = ap (λ (o : Ordering). cond (is_eq o) (Some e.1) (file_at more path)) order ∙ rest
 
-  -- the file that was put in
+  -- the file that was added
   here : (files : FileList) → file_at (with_file files path bytes) path ≡ Some bytes
   here [] = ap (λ (b : Bool). cond b (Some bytes) None) (at_itself path)
   here (e ∷ files) = put_here (path_cmp path e.0) e files (with_file files path bytes) refl (here files)

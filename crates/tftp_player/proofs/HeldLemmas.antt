@@ -87,7 +87,7 @@ module _ {T : Type 0} where
       out_other other e held (without tid held) (is_at (nat_cmp tid) e.0)
       (λ h. at_other other e.0 (λ f. n (sym f ∙ same_at tid e.0 h))) (at-without_other tid other held n)
 
-  -- how many they are
+  -- the number of transfers
   next_length : (next : T) (e : ℕ × T) (held more : List (ℕ × T)) (b : Bool) → length more ≡ length held → length (cond b ((e.0, next) ∷ held) (e ∷ more)) ≡ length (e ∷ held)
   next_length next e held more true rest = refl
   next_length next e held more false rest = ap suc rest

@@ -9,7 +9,7 @@ use Rattle.tftp_wire.specs.declared.mode.Mode.TheVariants.{Octet, Netascii}
 use Rattle.tftp_file.specs.Block.{IsBeginningOf}
 use Rattle.tftp_file.specs.Netascii.{wire_byte, netascii_text, wire_text}
 
--- how a byte travels
+-- the wire text of a byte
 data ByteForm (x : ℕ) : Type 0 where
   Line : x ≡ 10 → wire_byte x ≡ 13 ∷ 10 ∷ [] → ByteForm x
   Return : x ≡ 13 → wire_byte x ≡ 13 ∷ 0 ∷ [] → ByteForm x
@@ -87,12 +87,12 @@ both_beginnings xs ys a b =
     let e : a.0 ≡ [] = nil_from_length a.0 z in
     sym (append-nil xs) ∙ (ap (λ (zs : List ℕ). xs ++ zs) (sym e) ∙ a.1)
 
--- two files that travel alike are the same
+-- two files with one wire text are the same
 pub wire_same : (mode : Mode) (xs ys : List ℕ) → wire_text mode xs ≡ wire_text mode ys → xs ≡ ys
 wire_same mode xs ys e =
     both_beginnings xs ys (wire_beginning mode xs ys ([], append-nil (wire_text mode xs) ∙ e)) (wire_beginning mode ys xs ([], append-nil (wire_text mode ys) ∙ sym e))
 
--- a block goes on with what is stored of it and the text that is held back then
+-- a block continues with what is stored of it and the text that is held back then
 pub stored_more : (mode : Mode) (stored held bytes more after : List ℕ) → held ++ bytes ≡ wire_text mode more ++ after →
     (wire_text mode stored ++ held) ++ bytes ≡ wire_text mode (stored ++ more) ++ after
 stored_more mode stored held bytes more after e =

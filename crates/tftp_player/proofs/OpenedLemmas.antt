@@ -52,7 +52,7 @@ records_push port (y ∷ ends) x =
 length_push : (ps : List Player) (p : Player) → length (ps ++ p ∷ []) ≡ suc (length ps)
 length_push ps p = omega (arith, length-append ps (p ∷ []))
 
--- a client more
+-- another client
 pub client_staged : (server : PlayedServer) (ps : List Player) (records : List (ℕ × Record)) (c : PlayedClient) (port : ℕ) (r : Record) →
     IsStaged server ps records → port ≡ 1024 + length ps → r ≡ record_of c.end → is_client c.end.role.side ≡ true → AreFilesOf c.end.role.side c.files →
     IsStaged server (ps ++ Client c ∷ []) (records ++ (port, r) ∷ [])
@@ -128,7 +128,7 @@ module _ (config : Config) (sent : List Datagram) (server : PlayedServer) (ps : 
   has : HasPort old
   has = let p = at in omega (arith, p, fits)
 
-  -- a client asked to read
+  -- a client sent a read request
   pub got : MayGet name mode asked → c ≡ asking_client (getting request_port name mode asked config.limits.max_file config.retries) → effect ≡ asking_effect port name mode asked →
       Enters old port c effect report new → WorldStep old (Get name mode asked) report new
   got can client effects e =
@@ -141,7 +141,7 @@ module _ (config : Config) (sent : List Datagram) (server : PlayedServer) (ps : 
       opens_so old (Get name mode asked) c effect port report new x is (effects ∙ ap (λ (n : ℕ). asking_effect n name mode asked) at) e
       (get_step old name mode asked has can)
 
-  -- a client asked to write
+  -- a client sent a write request
   pub has_put : (file : List ℕ) → MayPut name mode asked (length (wire_text mode file)) →
       c ≡ sending_client (putting request_port name mode asked (length (wire_text mode file)) config.limits.max_file config.retries) (wire_text mode file) file →
       effect ≡ sending_effect port name mode asked → Enters old port c effect report new → WorldStep old (Put name mode asked file) report new

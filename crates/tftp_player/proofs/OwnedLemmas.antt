@@ -52,7 +52,7 @@ pub client_owned : (ps : List Player) (place : ℕ) (c : PlayedClient) (p' : Pla
 client_owned ps place c p' held there all =
     AllKeys-weaker (IsOwned ps) (IsOwned (slice_set ps place p')) held (λ k o. owned_elsewhere ps place p' k (not_a_client ps place c k there o) o) all
 
--- an end of the server that is open still
+-- an end of the server that is still open
 pub server_owned : (ps : List Player) (place : ℕ) (p : Player) (s' : Served) (held : List (ℕ × Transfer)) → slice_get ps place ≡ Some p → s'.ended ≡ None → AllOwned ps held →
     AllOwned (slice_set ps place (Server s')) held
 server_owned ps place p s' held there lives all =
@@ -78,7 +78,7 @@ same_owned ps place s s' held there e all =
           owned_here ps place (Server s) s' k there (e ∙ (ap (λ (q : Served). q.ended) (sym (same_end ps place s k there is o)) ∙ o.lives)) is
       by k o false t = owned_elsewhere ps place (Server s') k (λ f. true≢false (sym (at_same (1024 + place) k f) ∙ t)) o
 
--- and one that was taken out of it
+-- and one that was removed from it
 pub closed_owned : (ps : List Player) (port place : ℕ) (p' : Player) (held : List (ℕ × Transfer)) → port ≡ 1024 + place → IsRising held → AllOwned ps held → AllOwned (slice_set ps place p') (without port held)
 closed_owned ps port place p' held is rising all =
     all_both (λ (e : ℕ × Transfer). e.0 ≢ port) (λ (e : ℕ × Transfer). IsOwned ps e.0) (λ (e : ℕ × Transfer). IsOwned (slice_set ps place p') e.0) (without port held)

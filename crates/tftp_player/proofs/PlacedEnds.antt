@@ -43,7 +43,7 @@ module _ {P T X : Type 0} (told_at : ℕ → List (ℕ × T) → P → X) (told_
       ∙ ap (λ (xs : List X). xs ++ told_at (port + suc (length ps)) held p ∷ []) (sym (first port held q ps))))
 
   module _ (by_port : (port : ℕ) (held held' : List (ℕ × T)) (p : P) → at port held' ≡ at port held → told_at port held' p ≡ told_at port held p) where
-    -- what is held elsewhere has no part in it
+    -- what is held elsewhere does not matter
     pub told-same : (port : ℕ) (held held' : List (ℕ × T)) (ps : List P) → ((other : ℕ) → port ≤ other → other < port + length ps → at other held' ≡ at other held) →
         told_from port held' ps ≡ told_from port held ps
     told-same port held held' [] same = empty port held' ∙ sym (empty port held)

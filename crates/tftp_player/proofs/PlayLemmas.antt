@@ -159,7 +159,7 @@ player_times_out port (Server s) (Server s') before after effect r kept open_now
 player_times_out port (Client c) (Server s') before after effect r kept open_now t = absurd t
 player_times_out port (Server s) (Client c') before after effect r kept open_now t = absurd t
 
--- and leaves the server's store as it was
+-- and leaves the server's store unchanged
 keeps_store : (port : ℕ) (p p' : Player) (before after : PlayedServer) (effect : Effect) (r : Record) → PlayerTimeoutStep port p p' before after effect r → SameStore before after
 keeps_store port (Client c) (Client c') before after effect r t = record {
   config = ap (λ (s : PlayedServer). s.config) t.1;

@@ -18,7 +18,7 @@ add_0 n = omega arith
 shifted : (from n : ℕ) → from + suc n ≡ (from + 1) + n
 shifted from n = omega arith
 
--- a world that no stranger spoke in is also one in which somebody may have spoken
+-- a world without strangers is also one in which strangers may have sent
 kept_anyway : (w : WorldState) → IsOk false w → IsOk true w
 kept_anyway w ok =
     record {
@@ -45,14 +45,14 @@ played_keeps false w v (Stray from to bytes) report ok s = step_keeps true w v (
 pub home_of : (strayed : Bool) (w : WorldState) → IsOk strayed w → strayed ≡ false → HasPeersAtHome w
 home_of strayed w ok e = ok_at_home w (subst (λ (b : Bool). IsOk b w) e ok)
 
--- one delivery more
+-- one more delivery
 pub delivered_more : (old mid new : WorldState) (from : ℕ) (reports : List Report) (report : Report) → Settles old from reports mid → WorldStep mid (Deliver (from + length reports)) report new → Settles old from (reports ++ report ∷ []) new
 delivered_more old mid new from [] report d s =
     (new, subst (λ (w : WorldState). WorldStep w (Deliver from) report new) d (subst (λ (n : ℕ). WorldStep mid (Deliver n) report new) (add_0 from) s), refl)
 delivered_more old mid new from (r ∷ reports) report d s =
     (d.0, d.1, delivered_more d.0 mid new (from + 1) reports report d.2 (subst (λ (n : ℕ). WorldStep mid (Deliver n) report new) (shifted from (length reports)) s))
 
--- a run of deliveries goes on
+-- a run of deliveries continues
 pub delivers_on : (old mid new : WorldState) (from count : ℕ) (report : Report) → ((reports : List Report) × Settles old from reports mid × (length reports ≡ count)) → WorldStep mid (Deliver (from + count)) report new →
     (reports : List Report) × Settles old from reports new × (length reports ≡ count + 1)
 delivers_on old mid new from count report d s = (

@@ -1,4 +1,4 @@
--- What can be seen of what the server's request port did.
+-- What is visible of what the server's request port did.
 use Rattle.std.proofs.Common.{◌≡◌, ℕ, Bool, true, false, List, [], ◌∷◌, Option, Some, None, Result, Ok, Err, refl, sym, ap, ◌∙◌, inl, inr}
 use Rattle.std.specs.Prelude.{◌⊎◌, ◌*◌, if◌then◌else◌, nat_lt, nat_le, option_map}
 use Rattle.tftp_wire.specs.declared.mode.Mode.{Mode}
@@ -191,7 +191,7 @@ new_receiver w from bytes mode path (known ∷ agreed) = record {
 
 -- ---- what the port did, by what it returned
 module _ (w : WorldState) (asking : PortAsking) (result : PortLeft) where
-  -- a transfer opened: the end that the world says, and its first datagram went to whoever asked
+  -- a transfer opened: the end that the world has, and its first datagram went to the client
   pub record PortOpened (what : Service) : Type 0 where
     pub mode : Mode
     pub path : List ℕ
@@ -206,7 +206,7 @@ module _ (w : WorldState) (asking : PortAsking) (result : PortLeft) where
     pub new : result.new ≡ record asking.old { held = with_new asking.tid transfer asking.old.held }
     pub serves : Serves what w asking.from asking.bytes (sent_report w) (opened_in w end)
 
-  -- an ERROR went out from the request port, and nothing opened
+  -- an ERROR was sent from the request port, and nothing opened
   pub record PortRefused (what : Service) : Type 0 where
     pub tid : result.opened.tid ≡ None
     pub to : result.opened.to ≡ Some asking.from

@@ -100,7 +100,7 @@ served_told_kept : (port : ℕ) (s : Served) (o : Option Record) (held : List (�
 served_told_kept port s (Some r) held k = k
 served_told_kept port s None held k = told_kept port s (draft_at (at port held)) held k
 
--- it has ended as it had
+-- its record is unchanged
 drafts_ended : (draft : Option Drafted) (s : Served) → (told_served draft s).ended ≡ s.ended
 drafts_ended None s = refl
 drafts_ended (Some draft) s = refl
@@ -119,7 +119,7 @@ player_told port held (Server s) k =
       subst (λ (o : Option Record). IsServed port t o held) (sym same) (served_told_kept port s s.ended held k),
     )
 
--- and owns what it owned
+-- and it owns the same transfers
 told_owned : (port place : ℕ) (held : List (ℕ × Transfer)) (ps : List Player) (p : Player) → slice_get ps place ≡ Some p → AllOwned ps held → AllOwned (slice_set ps place (told_player port held p)) held
 told_owned port place held ps (Client c) there all = client_owned ps place c (told_player port held (Client c)) held there all
 told_owned port place held ps (Server s) there all = same_owned ps place s (told_served_end port held s) held there (told_ended s.ended (at port held) s) all

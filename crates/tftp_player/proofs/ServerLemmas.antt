@@ -1,4 +1,4 @@
--- What the server's request port did is what the world says of it, for a store in memory.
+-- What the server's request port did is what the world has of it, for a store in memory.
 use Rattle.std.proofs.Common.{◌≡◌, ◌≢◌, ℕ, ◌*◌, ◌<◌, Bool, true, false, List, [], ◌∷◌, length, get_or, take, drop, min, Option, Some, None, Result, Ok, Err, refl, sym, ap, ◌∙◌, subst, arith, inl, inr}
 use Rattle.std.specs.Prelude.{◌&&◌, not, is_some, IfErr, if◌then◌else◌, nat_lt}
 use Rattle.std.proofs.lemmas.Bool.{true≢false, ltb-true, eq-eqb}
@@ -88,7 +88,7 @@ cannot_be_short text m after piece e (Ok k) fills short memory read =
 cannot_be_short text m after piece e (Err file_faults.Read) fills short memory read = read refl
 cannot_be_short text m after piece e (Err file_faults.Memory) fills short memory read = memory refl
 
--- a read that is served opens the end that the world says
+-- a read that is served opens the end that the world has
 pub read_end : (w : WorldState) (peer : Endpoint) (request : List ℕ) (mode : Mode) (path file : List ℕ) (agreed : List Known) (m retries : ℕ) (rest : List ℕ) (e : EndState) →
     m ≡ length (wire_text mode file) → retries ≡ w.retries → ServesRead memory_source agreed peer mode m retries (wire_text mode file) rest e →
     (e ≡ (sending_end w peer request mode path file agreed).state) × (rest ≡ (sending_end w peer request mode path file agreed).left)
@@ -148,7 +148,7 @@ PortDid w (Sends path mode count agreed) asking result =
 PortDid w (Takes path mode agreed) asking result =
     result ≡ port_left (A_transfer (held_receiver (receiving_end w asking.from asking.bytes mode path agreed)) asking.old.store) asking
 
--- the server is set to what the world is, holds its files and as many transfers
+-- the server's configuration, its files and the number of its transfers are the world's
 pub record IsServerOf (w : WorldState) (server : PlayedServer) : Type 0 where
   pub files : server.store.files ≡ w.files
   pub limits : server.config.limits ≡ w.limits
@@ -198,7 +198,7 @@ module _ (w : WorldState) (asking : PortAsking) (came : PortCame) (s : IsServerO
             | inr changed ↦ let c = changed.1 in absurd (cannot_be_short (wire_text mode file) m c.after c.piece whole c.answer c.reads.fills c.short c.reads.memory c.reads.read)
           ]
 
-  -- the file was opened, or is not there
+  -- the file was opened, or does not exist
   by_store : (path : List ℕ) (mode : Mode) (options : List RawOption) (file : Result (Opening (List ℕ)) StoreFault) (there : Option (List ℕ)) → file_at w.files path ≡ there →
       Opens memory_source (Some asking.old.store) path mode file → IfErr file (MayRefuseOpen asking.old.store path) → file ≢ Err store_faults.Memory →
       Sent memory_meaning memory_source asking.old asking.from asking.bytes (by_file asking.old.config.limits path mode options (opened_length file)) file came → Did (by_file w.limits path mode options (opened_of mode there))
@@ -252,7 +252,7 @@ module _ (w : WorldState) (asking : PortAsking) (came : PortCame) (s : IsServerO
   port_did (Reads path mode options) h = by_store path mode options h.file (file_at w.files path) refl h.opens h.refused h.memory h.goes_on
   port_did (Writes path mode agreed) h = by_begun path mode agreed h.store h.draft (in_the_way w.overwrite (file_at w.files path)) (is_in_the_way path) h.begins h.refused h.goes_on
 
--- the port did at a datagram as the world's server does
+-- the port's step at a datagram is that of the world's server
 pub request_did : (w : WorldState) (asking : PortAsking) (result : PortLeft) (s : IsServerOf w asking.old) (max : IsBlockSize w.limits.max_block) (decoded : Option Packet) → Decodes asking.bytes decoded →
     (h : RequestStep memory_meaning memory_source asking.old asking.from asking.bytes asking.tid result) → PortDid w (service w h.repeated asking.bytes decoded) asking result
 request_did w asking result s max decoded says h =

@@ -36,7 +36,7 @@ closes_as port h next held held' turn step found e is tells =
 pub times_out_closes : (port : ℕ) (old new : List (ℕ × Transfer)) (step : Step) (before after : List ℕ) → TimesOut port old new step before after → ClosesAs step.closed (at port new)
 times_out_closes port old new step before after t = closes_as port t.transfer (with_end t.end t.transfer) old new (timeout_turn t.transfer.end) step t.found t.held t.carries.state t.tells
 
--- and is held still
+-- and is still held
 pub is_recorded : (closed : Option Outcome) (o : Option Transfer) (r : Option Record) → ClosesAs closed o → r ≡ option_map (λ (h : Transfer). record_of h.end) o → r ≢ None
 is_recorded closed None r c e none = c
 is_recorded closed (Some h) r c e none = let f : Some (record_of h.end) ≡ None = sym e ∙ none in cc

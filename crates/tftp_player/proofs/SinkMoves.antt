@@ -102,7 +102,7 @@ none_held Netascii held piece more after h d e = elim d.0 [
       absurd (true≢false (sym t ∙ f))
 ]
 
--- a block goes on with what is stored of it and held back then
+-- a block continues with what is stored of it and held back then
 pub goes_on_with : (mode : Mode) (held piece more after : List ℕ) → HeldFits mode held → Decoded mode held piece more after → held ++ piece ≡ wire_text mode more ++ after
 goes_on_with Octet held piece more after h d =
     ap (λ (z : List ℕ). z ++ piece) h ∙ (sym d.0 ∙ (sym (append-nil more) ∙ ap (λ (z : List ℕ). more ++ z) (sym (d.1 ∙ h))))

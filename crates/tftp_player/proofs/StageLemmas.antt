@@ -1,4 +1,4 @@
--- How a turn of one player handles the ends of a world.
+-- The effect of a turn of one player on the ends of a world.
 use Rattle.std.proofs.Common.{◌≡◌, ◌≢◌, ℕ, suc, ◌+◌, ◌<◌, length, inl, inr, Bool, true, false, List, [], Option, Some, None, refl, sym, ap, ◌∙◌, subst}
 use Rattle.std.specs.Prelude.{◌⊎◌, ◌&&◌, not, is_some, if◌then◌else◌, slice_get, slice_set}
 use Rattle.std.proofs.lemmas.Bool.{true≢false}
@@ -52,7 +52,7 @@ pub kept_by_port : (port : ℕ) (held held' : List (ℕ × Transfer)) (p : Playe
 kept_by_port port held held' (Client c) e k = k
 kept_by_port port held held' (Server s) e k = served_by_port port s s.ended held held' e k
 
--- how a turn of the player at this port handles its end, x before, and of the rest
+-- the effect of a turn of the player at this port on its end, x before, and on the rest
 pub record Stepped (port : ℕ) (p : Player) (x : OpenEnd) (p' : Player) (before after : PlayedServer) (turn : Turn) (held : Files (List ℕ) Holding) (effect : Effect) (r : Record) : Type 0 where
   pub was : end_at port before.held p ≡ Open_end x
   pub effects : effect ≡ effect_of x.address turn

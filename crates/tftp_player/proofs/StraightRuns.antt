@@ -1,4 +1,4 @@
--- A run without loss, from the first DATA or the first ACK that is on its way.
+-- A run without loss, from the first DATA or the first ACK that is to be delivered.
 use Rattle.std.proofs.Common.{◌≡◌, ◌≢◌, ℕ, ◌+◌, ◌*◌, ◌/◌, ◌<◌, ◌≤◌, suc, zero, Bool, true, false, List, [], ◌∷◌, ◌++◌, length, take, drop, Some, refl, sym, ap, ◌∙◌, subst, arith, length-append}
 use Rattle.std.specs.Prelude.{nat_lt, slice_get, slice_set, ⊤}
 use Rattle.std.proofs.lemmas.Bool.{lt-ltb, le-ltb}
@@ -66,7 +66,7 @@ pub record IsLeft (reads : Bool) (w : WorldState) (i : ℕ) (v : WorldState) : T
   pub settles : Settles w i reports v
   pub taken : UnlessReads reads (AllTaken reports)
 
--- a datagram that is on its way is delivered next
+-- a datagram that is to be delivered is delivered next
 pub record GoesOn (reads : Bool) (w : WorldState) (i : ℕ) (v : WorldState) : Type 0 where
   pub mid : WorldState
   pub report : Report
@@ -94,7 +94,7 @@ pub record Reaches (v : WorldState) (one other i made rest : ℕ) : Type 0 where
 more_few : (made rest : ℕ) → made ≤ rest → suc made ≤ rest + 1
 more_few made rest h = omega (arith, h)
 
--- the run stops before a datagram that is on its way, or that is delivered
+-- the run stops before a datagram that is to be delivered, or that is delivered
 pub walks : (reads : Bool) (w v : WorldState) (one other i rest : ℕ) → length w.sent ≡ i + 1 → (l : IsLeft reads w i v) →
     ((g : GoesOn reads w i v) → Reaches v one other (i + 1) (length g.left.reports) rest) → Reaches v one other i (length l.reports) (rest + 1)
 walks reads w v one other i rest more l then_on = by l.reports l.settles l.taken where
@@ -137,7 +137,7 @@ ends_here reads w v one other i over l = by l.reports l.settles where
   }
   by (report ∷ reports) s = absurd (let within = slice_get_within w.sent i s.1.0 s.1.1 in let none = over.counted in omega (arith, within, none))
 
--- ---- a world in which this datagram is the only one on its way
+-- ---- a world in which this datagram is the only one to be delivered
 pub record IsReady (strangers : Bool) (w : WorldState) (i : ℕ) (d : Datagram) : Type 0 where
   pub ok : IsOk strangers w
   pub newest : slice_get w.sent i ≡ Some d
@@ -208,7 +208,7 @@ module _ (strangers : Bool) (ks kr : ℕ) (apart : kr ≢ ks) (sa ra : Endpoint)
     pub there : slice_get w.ends kr ≡ Some x
     pub done : IsComplete x
 
-  -- what holds of a sender, in words of its text
+  -- what holds of a sender, by its text
   pub record IsFit : Type 0 where
     pub positive : 0 < st.size
     pub small : st.size ≤ MAX_BLOCK

@@ -50,7 +50,7 @@ use Rattle.tftp_player.proofs.WorldTurns.{view_at}
 pub ports_of : (strangers : Bool) (w : WorldState) → IsOk strangers w → HasPorts w
 ports_of strangers w ok k x e = (ok.shown.1.1.ends k _ (view_at w.ends k x e)).1
 
--- a delivery at an open end had it make this turn
+-- a delivery at an open end is this turn of it
 pub record Handles (w : WorldState) (k : ℕ) (x : OpenEnd) (from : Endpoint) (bytes : List ℕ) (report : Report) (v : WorldState) : Type 0 where
   pub turn : Turn
   pub held : Files (List ℕ) Holding
@@ -246,7 +246,7 @@ module _ (w v : WorldState) (k : ℕ) (x : OpenEnd) (from : Endpoint) (bytes : L
     pub told : y.refuses ≡ is_told h.held
     pub becomes : Becomes y (datagram x.address from (ack_bytes number) ∷ [])
 
-  -- what it did with its sink
+  -- the effect on its sink
   stores_here : (terms : Terms) (number : ℕ) (piece : List ℕ) → Spells (Data number piece) bytes → datagram_action x.state from bytes (Some (Data number piece)) ≡ Store terms number → is_sender x.state.role.side ≡ false →
       (sink : Holding) × (h.held ≡ Sink sink) × Stores (world_sink refuses_commit) terms number from piece x.state (holding_of x) h.turn sink
   stores_here terms number piece spelled is receiver =

@@ -1,4 +1,4 @@
--- What a datagram of neither host leaves of the ends of a world.
+-- What a datagram of neither host leaves unchanged.
 use Rattle.std.proofs.Common.{◌≡◌, ◌≢◌, ℕ, Bool, true, false, List, map, set, Some, refl, sym, ap, ◌∙◌, subst, inl, inr}
 use Rattle.std.specs.Prelude.{◌⊎◌, not, is_some, is_none, ◌&&◌, if◌then◌else◌, slice_get}
 use Rattle.std.proofs.lemmas.Bool.{true≢false}
@@ -54,7 +54,7 @@ is_strange (Dallying terms n dally) x0 from kept far home o =
     fails (same_endpoint terms.peer from) (λ e. home terms.peer refl (ap host_of (same_endpoints terms.peer from e) ∙ far))
 is_strange (Closed terms n complete outcome) x0 from kept far home o = absurd (true≢false o)
 
--- such an end is as it was
+-- such an end is unchanged
 module _ (w : WorldState) (k : ℕ) (x : OpenEnd) (from : Endpoint) (bytes : List ℕ) (report : Report) (v : WorldState) (t : OnDatagram w k x from bytes report v) where
   abbrev Acts_at : Action → Type 0
   Acts_at action = Acts memory_source (world_sink (may_refuse_commit (is_client x.state.role.side) (in_the_way w.overwrite (file_at w.files x.path)))) action from bytes x.state (files_of x) t.turn t.held
@@ -69,7 +69,7 @@ module _ (w : WorldState) (k : ℕ) (x : OpenEnd) (from : Endpoint) (bytes : Lis
       stays_by (has_error_opcode bytes)
       (subst (λ (b : Bool). Acts_at (if b then (if has_error_opcode bytes then Respond Ignore else Respond Stranger) else near)) strange t.steps.acts)
 
--- what is recorded of an end whose state stayed
+-- the record of an end whose state is unchanged
 after_state : (x : OpenEnd) (turn : Turn) (held : Files (List ℕ) Holding) → turn.position ≡ x.state.position → end_record (standing (end_after x turn held)) ≡ record_of x.state
 after_state x turn (Source left) same = standing_record (end_after x turn (Source left)) ∙ ap (λ (p : Position). record_of (with_position p x.state)) same
 after_state x turn (Sink holding) same = standing_record (end_after x turn (Sink holding)) ∙ ap (λ (p : Position). record_of (with_position p x.state)) same

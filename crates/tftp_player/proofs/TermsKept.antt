@@ -1,4 +1,4 @@
--- What was agreed on stays, whatever an end does afterwards.
+-- The agreed terms stay, for all later steps of an end.
 use Rattle.std.proofs.Common.{◌≡◌, ℕ, Bool, true, false, List, Option, Some, None, Result, Ok, Err, refl, sym, ap, ◌∙◌, subst}
 use Rattle.std.specs.Prelude.{◌==◌, ◌+◌, ◌/◌, nat_lt, length, is_none, ◌&&◌, if◌then◌else◌}
 use Rattle.std.proofs.lemmas.Option.{same_Some}

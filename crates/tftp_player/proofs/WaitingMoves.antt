@@ -116,7 +116,7 @@ module _ (first : List Rule) (views : List EndView) (messages : List Message) (k
   accept_cases reader options come (Ok known) e = accept_acts reader options known come e
   accept_cases reader options come (Err refusal) e = refusal_acts refusal
 
-  -- a reader gets DATA 1
+  -- a reader receives DATA 1
   first_acts : is_sender x0.state.role.side ≡ false → (piece : List ℕ) → length piece ≤ DEFAULT_BLOCK → Spells (Data 1 piece) bytes → Contains messages (message from x0.address (Says_data 1 piece)) →
       Answers (receiver_action true x0.state.role.mode [] (default_terms from) 0 (Some (Data 1 piece)))
   first_acts reader piece l spelled come =

@@ -173,7 +173,7 @@ told_keeps first strangers w ok k x at =
       ];
     }
 
--- a stranger has spoken
+-- a stranger has sent
 stray_ok : (first : List Rule) (w : WorldState) (ok : IsOkAt first true w) (from to : Endpoint) (p : WirePacket) → host_of from ≡ Elsewhere → IsOkWithin 1 first true w
 stray_ok first w ok from to p far =
     let m = message from to (said p) in
@@ -190,7 +190,7 @@ stray_ok first w ok from to p far =
       ends = ok.ends;
     }
 
--- the world with what a stranger said
+-- the world with a stranger's message
 pub record Strayed (first : List Rule) (w : WorldState) (from to : Endpoint) (bytes : List ℕ) : Type 0 where
   pub more : List Rule
   pub few : length more ≤ 1

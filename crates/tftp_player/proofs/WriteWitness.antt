@@ -111,7 +111,7 @@ sends = takes w2 1 0 d1 client turn3 (Source []) [] refl refl refl
       again = tt;
     }) refl
 
--- no other path has got a file
+-- no other path has a file
 pub no_file : (content : List ℕ) (b : Bool) (q : List ℕ) → is_at (path_cmp q) name ≡ b → q ≢ name → cond b (Some content) None ≡ None
 no_file content true q e n = absurd (n (same_text q name (sym e ∙ is_eq-slice_cmp q name)))
 no_file content false q e n = refl

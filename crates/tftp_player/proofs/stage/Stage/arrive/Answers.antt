@@ -1,4 +1,4 @@
--- What is sent is written down, and the event adds just that.
+-- What is sent is recorded, and the event adds just that.
 use Rattle.tftp_player.specs.declared.fault.WorldFault.TheVariants.{NoPort, Memory}
 use Rattle.tftp_player.proofs.ArrivalLemmas.{arrives_told, arrival_refused}
 use Rattle.tftp_player.proofs.stage.Stage.arrive.Goals as goal

@@ -1,4 +1,4 @@
--- A client more and its request are the step of an opening.
+-- Another client and its request are the step of an opening.
 use Rattle.std.proofs.Common.{ap, ◌∙◌, sym}
 use Rattle.tftp_player.specs.World.{next_port}
 use Rattle.tftp_player.proofs.OpenedLemmas.{entered}

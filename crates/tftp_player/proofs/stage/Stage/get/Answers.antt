@@ -1,4 +1,4 @@
--- A client that asks for a file opens, or has its least reason to be refused.
+-- A client that reads a file opens, or returns the first fault that applies.
 use Rattle.std.proofs.Common.{refl, ◌≡◌, subst, sym}
 use Rattle.std.proofs.lemmas.Result.{IfOk-weaker, IfErr-weaker}
 use Rattle.tftp_ends.specs.Opening.{MayGet}

@@ -1,4 +1,4 @@
--- A client that sends a file opens, or has its least reason to be refused.
+-- A client that writes a file opens, or returns the first fault that applies.
 use Rattle.std.proofs.Common.{refl, ◌≡◌, length, subst, sym}
 use Rattle.std.proofs.lemmas.Result.{IfOk-weaker, IfErr-weaker}
 use Rattle.tftp_file.specs.Netascii.{wire_text}

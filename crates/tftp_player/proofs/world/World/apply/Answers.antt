@@ -1,4 +1,4 @@
--- What an event leaves is kept, and so it is safe.
+-- A world keeps its invariant after an event, and so it is safe.
 use Rattle.std.proofs.Common.{Bool, subst, sym}
 use Rattle.tftp_player.specs.World.{WorldState}
 use Rattle.tftp_player.specs.WorldKept.{IsOk}

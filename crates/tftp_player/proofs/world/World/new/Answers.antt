@@ -1,4 +1,4 @@
--- A world in which nothing has happened is kept.
+-- A world in which nothing has happened has the invariant.
 use Rattle.std.proofs.Common.{false, subst, sym, arith}
 use Rattle.tftp_store.specs.Memory.{contents, in_path_order}
 use Rattle.tftp_player.specs.World.{WorldState}
