@@ -7,7 +7,7 @@ use tftp_ends::Endpoint;
 use tftp_negotiate::Asked;
 use tftp_wire::{Bytes, Mode};
 
-/// An event, which the player of the world chooses, and with it what the network does.
+/// An event. The caller chooses it, and so what the network does.
 #[derive(Debug, Drop)]
 pub enum Event {
     /// A client reads the server's file of this name.

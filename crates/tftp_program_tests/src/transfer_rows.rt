@@ -7,7 +7,7 @@ use std::test::Fail;
 /// A script, its output, and its status.
 type Row = (&'static str, &'static str, u8);
 
-/// CR and LF are two bytes each on the wire (RFC 764), and blocks are cut from the wire text
+/// CR and LF are two bytes each on the wire (RFC 764), and blocks are cut from the wire text.
 const NETASCII: [Row; 3] = [
     (
         "file a 0D0A41\nget a netascii\nsettle 0\n",

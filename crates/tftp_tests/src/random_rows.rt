@@ -226,7 +226,7 @@ fn steps_safely(rt: &impl Abort, alloc: Global, files: &Files, world: &mut World
     }
 }
 
-/// The counts of all runs, which show that the safety is not empty.
+/// Counts over all runs, which show that the tests of safety are not vacuous.
 #[derive(Clone, Copy, Debug, Default)]
 struct Counts {
     /// Clients that have their whole file.
