@@ -36,8 +36,10 @@ reading_client w name mode asked =
 -- a client that writes
 abbrev pub writing_client : WorldState → List ℕ → Mode → Asked → List ℕ → OpenEnd
 writing_client w name mode asked file =
-    opening w (putting request_port name mode asked (length (wire_text mode file)) w.limits.max_file
-    w.retries) [] [] file (wire_text mode file)
+    opening w
+    (putting request_port name mode asked (length (wire_text mode file)) w.limits.max_file
+    w.retries)
+    [] [] file (wire_text mode file)
 
 -- the text that the server's end has left after it opened: without options DATA 1 was read
 abbrev pub left_at_first : List Known → List ℕ → List ℕ
@@ -48,9 +50,10 @@ left_at_first (known ∷ agreed) text = text
 abbrev pub sending_end : WorldState → Endpoint → List ℕ → Mode → List ℕ → List ℕ → List Known
     → OpenEnd
 sending_end w peer request mode path file agreed =
-    opening w (serving_read agreed peer mode (length (wire_text mode file)) w.retries
-    (block (wire_text mode file) DEFAULT_BLOCK 1)) request path file
-    (left_at_first agreed (wire_text mode file))
+    opening w
+    (serving_read agreed peer mode (length (wire_text mode file)) w.retries
+    (block (wire_text mode file) DEFAULT_BLOCK 1))
+    request path file (left_at_first agreed (wire_text mode file))
 
 -- the server receives a file, for this request
 abbrev pub receiving_end : WorldState → Endpoint → List ℕ → Mode → List ℕ → List Known → OpenEnd

@@ -91,7 +91,8 @@ pub record ServedDatagramStep (port : ℕ) (from : Endpoint) (bytes : List ℕ) 
   pub found : at port before.held ≡ Some transfer
   pub steps : StepIn memory_meaning memory_source from bytes transfer.end
       (files_in (with_told before.store old.refuses) transfer.path before.config.overwrite
-      transfer.files) turn (files_in store next.path before.config.overwrite next.files)
+      transfer.files)
+      turn (files_in store next.path before.config.overwrite next.files)
   pub stays : KeepsStore transfer.files (with_told before.store old.refuses) store
   pub kind : AreSame (λ (a b : List ℕ). ⊤) (λ (a b : Drafted). ⊤) transfer.files next.files
   pub path : next.path ≡ transfer.path

@@ -60,8 +60,8 @@ pub record IsAccepted (w : WorldState) (x : OpenEnd) (accepts : Service) : Type 
 abbrev pub TakesAnswer : Asked → Kind → Mode → ℕ → List Known → Type 0
 TakesAnswer asked kind mode limit [] = ⊤
 TakesAnswer asked kind mode limit (known ∷ agreed) =
-    (taken : List Known) × (agreement asked kind mode (agreed_options (known ∷ agreed)) limit
-    ≡ Ok taken)
+    (taken : List Known)
+    × (agreement asked kind mode (agreed_options (known ∷ agreed)) limit ≡ Ok taken)
 
 -- the number of datagrams of a read of that many blocks, by its first answer: DATA 1, or an OACK
 -- (RFC 1350, section 2; RFC 2347, "Negotiation Protocol")

@@ -47,8 +47,7 @@ pub record IsSafe (w : WorldState) : Type 0 where
   pub unique : (x y : WorldEnd) → IsIn w x → IsIn w y → end_address x ≡ end_address y → x ≡ y
   -- an established transfer has one block size
   pub same_size : (x y : WorldEnd) → IsIn w x → IsIn w y → HasPeer x (end_address y) →
-      HasPeer y (end_address x) →
-      (end_record x).size ≡ (end_record y).size
+      HasPeer y (end_address x) → (end_record x).size ≡ (end_record y).size
   -- a receiver without a peer has stored nothing
   pub is_empty : (x : WorldEnd) → IsIn w x → IsReceiver x → (end_record x).peer ≡ None
       → end_stored x ≡ []
@@ -65,8 +64,7 @@ pub record IsSafe (w : WorldState) : Type 0 where
       × (host_of p ≢ Elsewhere → (y : WorldEnd) × IsSenderAt w p y × (end_stored x ≡ end_file y))
   -- at the server it is under its path, unless writes may replace files
   pub is_at_path : w.overwrite ≡ false → (x : WorldEnd) → IsIn w x → IsReceiver x → IsComplete x →
-      is_client (end_record x).side ≡ false →
-      file_at w.files (end_path x) ≡ Some (end_stored x)
+      is_client (end_record x).side ≡ false → file_at w.files (end_path x) ≡ Some (end_stored x)
   -- a complete sender has a peer, whose peer it is and which is complete
   pub sender_last : (x : WorldEnd) → IsIn w x → is_sender (end_record x).side ≡ true →
       IsComplete x →

@@ -58,8 +58,8 @@ world_sink may_commit =
 abbrev pub EndStep : Bool → Option (List ℕ) → Endpoint → List ℕ → EndState → Files (List ℕ) Holding
     → Turn → Files (List ℕ) Holding → Type 0
 EndStep client there from bytes e files turn files' =
-    DatagramStep memory_source (world_sink (may_refuse_commit client there)) from bytes e files turn
-    files'
+    DatagramStep memory_source (world_sink (may_refuse_commit client there))
+    from bytes e files turn files'
 
 -- the bytes are under the path, where no file was in the way, and the other files are unchanged
 pub record IsStored (overwrite : Bool) (path bytes : List ℕ)
@@ -116,16 +116,16 @@ pub record OnDatagram (old : WorldState) (k : ℕ) (x : OpenEnd) (from : Endpoin
   pub turn : Turn
   pub held : Files (List ℕ) Holding
   pub steps : EndStep (is_client x.state.role.side)
-      (in_the_way old.overwrite (file_at old.files x.path)) from bytes x.state (files_of x) turn
-      held
+      (in_the_way old.overwrite (file_at old.files x.path))
+      from bytes x.state (files_of x) turn held
   pub turns : Turns old k x turn held report new
 
 -- the effect of a datagram at its destination
 pub data Arrives (old : WorldState) (from to : Endpoint) (bytes : List ℕ) (report : Report)
     (new : WorldState) : Type 0 where
   -- at the request port
-  At_request_port : (to ≡ request_port) → HasPort old → (decoded : Option Packet) →
-      Decodes bytes decoded →
+  At_request_port : (to ≡ request_port) → HasPort old →
+      (decoded : Option Packet) → Decodes bytes decoded →
       (repeated : Bool) → IsRepeated repeated from decoded old.ends →
       Serves (service old repeated bytes decoded) old from bytes report new →
       Arrives old from to bytes report new
@@ -134,8 +134,7 @@ pub data Arrives (old : WorldState) (from to : Endpoint) (bytes : List ℕ) (rep
       OnDatagram old k x from bytes report new → Arrives old from to bytes report new
   -- at a closed end
   At_closed_end : (k : ℕ) (x : ClosedEnd) → slice_get old.ends k ≡ Some (Closed_end x) →
-      x.address ≡ to →
-      Stays old report new → Arrives old from to bytes report new
+      x.address ≡ to → Stays old report new → Arrives old from to bytes report new
   -- at no end
   At_nobody : (to ≢ request_port) →
       ((k : ℕ) (x : WorldEnd) → slice_get old.ends k ≡ Some x → end_address x ≢ to) →
