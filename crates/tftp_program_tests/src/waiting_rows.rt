@@ -28,17 +28,16 @@ fn a_watch_goes_on(rt: HostRuntime) {
     }
 }
 
-/// The agreed timeout in seconds, and when a transfer of the time 700 is due: after a second if
-/// none is agreed.
-const DEADLINES: [(Option<u8>, u64); 3] = [(None, 1_700), (Some(1), 1_700), (Some(255), 255_700)];
+/// A timeout interval in seconds, and when a transfer of the time 700 is due.
+const DEADLINES: [(u8, u64); 2] = [(1, 1_700), (255, 255_700)];
 
 #[test]
 fn a_transfer_is_due(rt: HostRuntime) {
-    for &(agreed, want) in &DEADLINES {
+    for &(seconds, want) in &DEADLINES {
         expect_equal(
             &rt,
-            &(agreed, deadline(700, agreed)),
-            &(agreed, want),
+            &(seconds, deadline(700, seconds)),
+            &(seconds, want),
             "when it is due",
         );
     }

@@ -421,6 +421,28 @@ fn what_could_open_a_transfer(rt: HostRuntime) {
     }
 }
 
+/// A request, and the block size of the transfer that it may open: 512 bytes without the option
+/// (RFC 1350, section 2), and no more than the limit of 1,428 with it (RFC 2348).
+const BLOCK_SIZES: [(&[u8], Option<u16>); 6] = [
+    (b"\x00\x01a\x00octet\x00", Some(512)),
+    (b"\x00\x01a\x00octet\x00blksize\x001024\x00", Some(1_024)),
+    (b"\x00\x01a\x00octet\x00blksize\x008192\x00", Some(1_428)),
+    (b"\x00\x02n\x00octet\x00blksize\x008\x00", Some(8)),
+    (b"\x00\x01../a\x00octet\x00", None),
+    (b"\x00\x04\x00\x00", None),
+];
+
+#[test]
+fn block_sizes_of_admissions(rt: HostRuntime) {
+    let served = server(&rt, rt.alloc(), 16);
+    for &(bytes, wanted) in &BLOCK_SIZES {
+        let admission = served.server.admit(client(1040), bytes);
+        let admission = admission.expect(&rt, "memory");
+        let found = (bytes, served.server.block_size(&admission));
+        expect_equal(&rt, &found, &(bytes, wanted), "the block size");
+    }
+}
+
 /// The transfer lends these bytes, and an identifier without a transfer lends none.
 fn lends(rt: &impl Abort, served: &Served<MemStore>, outgoing: Outgoing, wanted: &[u8]) {
     let lent = served.server.bytes_of(1025, outgoing);
