@@ -14,7 +14,7 @@ pub options_first : (bytes name after value rest : List ℕ) → IsText name × 
 options_first bytes name after value rest n v =
     rw (n.1, texts_first name after n.0, v.1, texts_first value rest v.0) refl
 
--- what is left after the first option of options is options
+-- the bytes after the first option are options
 pub options_rest : (bytes name after value rest : List ℕ) → IsText name × (bytes ≡ zero_ended name ++ after) → IsText value × (after ≡ zero_ended value ++ rest) → AreOptions bytes → AreOptions rest
 options_rest bytes name after value rest n v o =
     let first = options_first bytes name after value rest n v in

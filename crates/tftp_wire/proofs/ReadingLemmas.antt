@@ -1,4 +1,4 @@
--- What the first fault of a datagram is, text by text.
+-- The first fault of a datagram, text by text.
 use Rattle.std.proofs.Common.{ℕ, ◌≡◌, ◌≢◌, ◌+◌, ◌-◌, ◌≤◌, Bool, true, false, cond, not, eqb, ltb, ⊎_elim, refl, ap, sym, ◌∙◌, arith, List, [], ◌∷◌, ◌++◌, length, drop, Option, Some, None, MatchOption}
 use Rattle.std.specs.Borrow.{Bor}
 use Rattle.std.specs.Option.{ok_or}
@@ -17,7 +17,7 @@ use Rattle.tftp_wire.specs.Reading.{options_fault, texts_fault, mode_fault, mode
 use Rattle.tftp_wire.specs.Parts.{bytes_fault, request_of, BeginsWith, SplitsText}
 use Rattle.tftp_wire.proofs.TextsLemmas.{texts_first, texts_none, unended_rest, unended_all}
 
--- what the first zero byte parts, as a reader answers it
+-- the two parts at the first zero byte, as a reader returns them
 pub text_split : (at : ℕ) (bytes : List ℕ) (r : Option (Bor (List ℕ) × Bor (List ℕ))) → MatchOption r (IsText bytes) (λ parts. IsText parts.0.now × (bytes ≡ zero_ended parts.0.now ++ parts.1.now)) → SplitsText at bytes (ok_or r (record { kind = Unterminated; at = at }))
 text_split at bytes None h = (texts_none bytes h, unended_all bytes h, refl)
 text_split at bytes (Some parts) h = (
@@ -58,7 +58,7 @@ first_joined : (b : ℕ) (ts : List (List ℕ)) (u : List ℕ) → flat_map zero
 first_joined b [] u = refl
 first_joined b (t ∷ ts) u = refl
 
--- the texts, each with its zero byte, and what no zero byte ends are all of the bytes
+-- the texts, each with its zero byte, and the bytes that no zero byte ends are all of the bytes
 pub texts_joined : (bs : List ℕ) → flat_map zero_ended (texts bs) ++ unended bs ≡ bs
 texts_joined [] = refl
 texts_joined (b ∷ bs) = ⊎_elim
@@ -70,7 +70,7 @@ first_texts : (b : ℕ) (ts : List (List ℕ)) → b ≢ 0 → AllByRecursion Is
 first_texts b [] n h = tt
 first_texts b (t ∷ ts) n h = ((n, h.0), h.1)
 
--- no text holds a zero byte
+-- no text contains a zero byte
 pub texts_each : (bs : List ℕ) → AllByRecursion IsText (texts bs)
 texts_each [] = tt
 texts_each (b ∷ bs) = ⊎_elim
@@ -110,7 +110,7 @@ pub nothing_left : (at : ℕ) (bytes : List ℕ) → length bytes ≡ 0 → byte
 nothing_left at [] h = refl
 nothing_left at (b ∷ bytes) h = absurd (omega arith)
 
--- ---- what a test rules out
+-- ---- the cases that a test excludes
 
 pub guard_none : (b : Bool) (e : PacketFault) (y : Option PacketFault) → cond b (Some e) y ≡ None → (b ≡ false) × (y ≡ None)
 guard_none true e y h = cc
@@ -122,7 +122,7 @@ text_left text [] (b ∷ u) rest e h = refl
 text_left text (t ∷ ts) [] rest e h = refl
 text_left text (t ∷ ts) (b ∷ u) rest e h = refl
 
--- what stands after a packet
+-- the bytes after a packet
 trailing_is : (b : Bool) (x fault : PacketFault) → cond (not b) (Some x) None ≡ Some fault → (b ≡ false) × (Some x ≡ Some fault)
 trailing_is true x fault h = cc
 trailing_is false x fault h = (refl, h)

@@ -1,4 +1,4 @@
--- What is spelled has no fault and reads back; what has no fault is spelled.
+-- Bytes that spell a packet have no fault and decode to it; bytes without a fault spell a packet.
 use Rattle.std.proofs.Common.{ℕ, ◌≡◌, ◌≢◌, ◌+◌, ◌/◌, ◌%◌, ◌<◌, ◌≤◌, ◌^◌, ◌⊎◌, Bool, true, false, cond, eqb, ltb, ⊎_elim, inl, inr, refl, ap, sym, ◌∙◌, arith, List, [], ◌∷◌, ◌++◌, length, get_or, drop, Some, None, is_none, unwrap_or, codes, rules, Result, Ok, Err, IfOk, IfErr, IsOkAnd, MatchResult}
 use Rattle.std.specs.List.{AllByRecursion, flat_map}
 use Rattle.std.specs.Char.{to_ascii_lowercase}
@@ -61,7 +61,7 @@ word_of_mode word h = ⊎_elim
     (λ q. rw (q.0, q.1) (same_bytes _ _ q.1))
     (is_mode (str_eq_ignore_ascii_case word (codes "octet")) (str_eq_ignore_ascii_case word (codes "netascii")) h)
 
--- ---- what is spelled has no fault, and reads back
+-- ---- bytes that spell a packet have no fault, and decode to it
 
 nonempty : (xs : List ℕ) → xs ≢ [] → length xs ≢ 0
 nonempty [] h e = h refl
@@ -135,7 +135,7 @@ oack_spelled os v =
     let more : length all ≢ 2 = λ e. longer (omega arith) in
     (rw (le-ltb MAX_REQUEST (length all) v.2, ne_eqb (length all) 2 more) o.0, o.1)
 
--- what is spelled has no fault, and the bytes hold that packet
+-- bytes that spell a packet have no fault, and `packet_in` computes it
 spelled_holds : (p : Packet) (bytes : List ℕ) → Spells p bytes → (first_fault bytes ≡ None) × (packet_in bytes ≡ p)
 spelled_holds (Read r) bytes s =
     let q = requests_spelled 1 s.word r s.valid.0 s.valid.1 s.mode in
@@ -170,7 +170,7 @@ spelled_is_found p bytes s = (spelled_holds p bytes s).1
 pub one_meaning : OneMeaning
 one_meaning p q bytes s t = sym (spelled_is_found p bytes s) ∙ spelled_is_found q bytes t
 
--- ---- what has no fault is spelled
+-- ---- bytes without a fault spell a packet
 
 chosen : {X : Type 0} (b : Bool) (x y z : X) → cond b x y ≡ z → ((b ≡ true) × (x ≡ z)) ⊎ ((b ≡ false) × (y ≡ z))
 chosen true x y z h = inl (refl, h)
@@ -312,7 +312,7 @@ fault_where_nothing bytes h f =
     let g = guard_none (ltb (length bytes) 2) _ _ f in
     opcode_whole (big_number 2 bytes) bytes (number_back bytes (ltb-false _ _ g.0) h) h g.1
 
--- ---- what a reader of packets owes
+-- ---- the clauses of `decode_ref`
 
 pub found_spells : (bytes : List ℕ) (r : Result PacketRef PacketFault) → ((k : ℕ) → get_or bytes k 0 < 256) → Reads owned (packet_in bytes) (first_fault bytes) r → IfOk r (λ p. Spells (owned p) bytes)
 found_spells bytes (Ok p) h e = rw e.1 (fault_where_nothing bytes h e.0)
@@ -322,7 +322,7 @@ pub only_spelled : (bytes : List ℕ) (r : Result PacketRef PacketFault) (p : Pa
 only_spelled bytes (Ok q) p s e = e.1 ∙ spelled_is_found p bytes s
 only_spelled bytes (Err f) p s e = let n = spelled_has_no_fault p bytes s in absurd (cc)
 
--- ---- what a reader owes that copies the packet
+-- ---- the clauses of `decode`
 
 pub copied_only : (r : Result Packet PacketFault) (q p : Packet) → IfOk r (λ x. x ≡ q) → IfErr r (λ e. e ≡ out_of_memory) → q ≡ p → MatchResult r (λ x. x ≡ p) (λ e. e ≡ out_of_memory)
 copied_only (Ok x) q p h k e = h ∙ e

@@ -1,4 +1,4 @@
--- Where a text ends, and what follows it.
+-- The end of a text, and the bytes after it.
 use Rattle.std.proofs.Common.{ℕ, suc, ◌≡◌, ◌+◌, ◌-◌, ◌<◌, ◌≤◌, Bool, true, false, cond, eqb, ltb, refl, ap, sym, ◌∙◌, arith, List, [], ◌∷◌, ◌++◌, length, get_or, take, drop, Some, None, add-one}
 use Rattle.std.proofs.lemmas.Bool.{ltb-false, eqb-false, eqb-true, ne_eqb}
 use Rattle.std.proofs.lemmas.List.{take-append-drop, append_assoc, get_or-take, length-take-le, take_rest}
@@ -16,14 +16,14 @@ text_from_places : (bs : List ℕ) → ((k : ℕ) → k < length bs → is_zero 
 text_from_places [] h = tt
 text_from_places (b ∷ bs) h = (eqb-false b 0 (h 0 (omega arith)), text_from_places bs (λ k l. h (suc k) (omega arith)))
 
--- where no place is found, there is none
+-- without a zero byte, the bytes are a text
 pub text_from_none : (bs : List ℕ) → position is_zero bs ≡ None → IsText bs
 text_from_none bs h = text_from_places bs (λ k l. fails_before_first is_zero bs k 0 (past (ltb (position_or_len is_zero bs) (length bs)) refl h k l)) where
   past : (b : Bool) → ltb (position_or_len is_zero bs) (length bs) ≡ b → cond b (Some (position_or_len is_zero bs)) None ≡ None → (k : ℕ) → k < length bs → k < position_or_len is_zero bs
   past true e n k l = absurd (cc)
   past false e n k l = let m : length bs ≤ position_or_len is_zero bs = ltb-false _ _ e in omega arith
 
--- the place that is found parts the bytes
+-- the index of the first zero byte splits the bytes
 pub text_from_some : (bs : List ℕ) (n : ℕ) → position is_zero bs ≡ Some n → IsText (take n bs) × (bs ≡ zero_ended (take n bs) ++ take (length bs - (n + 1)) (drop (n + 1) bs))
 text_from_some bs n h =
     let p = position-Some is_zero bs n 0 h in
@@ -39,17 +39,17 @@ pub texts_first : (text rest : List ℕ) → IsText text → texts (zero_ended t
 texts_first [] rest h = refl
 texts_first (b ∷ text) rest h = rw (ne_eqb b 0 h.0) (ap (with_first b) (texts_first text rest h.1))
 
--- a text alone has no zero byte that ends it
+-- a text alone has no zero byte
 pub texts_none : (text : List ℕ) → IsText text → texts text ≡ []
 texts_none [] h = refl
 texts_none (b ∷ text) h = rw (ne_eqb b 0 h.0) (ap (with_first b) (texts_none text h.1))
 
--- what stands after the last zero byte, past a text
+-- the bytes after the last zero byte, after a text
 pub unended_rest : (text rest : List ℕ) → IsText text → unended (zero_ended text ++ rest) ≡ unended rest
 unended_rest [] rest h = refl
 unended_rest (b ∷ text) rest h = rw (ne_eqb b 0 h.0) (rw (texts_first text rest h.1) (unended_rest text rest h.1))
 
--- what stands after the last zero byte, where there is none
+-- the bytes after the last zero byte, if no byte is zero
 pub unended_all : (text : List ℕ) → IsText text → unended text ≡ text
 unended_all [] h = refl
 unended_all (b ∷ text) h = rw (ne_eqb b 0 h.0, texts_none text h.1) (ap (λ bs. b ∷ bs) (unended_all text h.1))

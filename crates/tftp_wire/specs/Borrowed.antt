@@ -1,10 +1,11 @@
--- What is borrowed from a datagram, as the value that owns the same bytes.
+-- A borrowed value as the owned value with the same bytes.
 use Rattle.tftp_wire.specs.declared.options.RawOption.{RawOption}
 use Rattle.tftp_wire.specs.declared.options.OptionRef.{OptionRef}
 use Rattle.tftp_wire.specs.declared.packet.Packet.{Packet}
 use Rattle.tftp_wire.specs.declared.packet.Packet.TheVariants as owns
 use Rattle.tftp_wire.specs.declared.packet.PacketRef.{PacketRef}
-use Rattle.tftp_wire.specs.declared.packet.PacketRef.TheVariants.{Read, Write, Data, Ack, Error, Oack}
+use Rattle.tftp_wire.specs.declared.packet.PacketRef.TheVariants.{Read, Write, Data, Ack, Error}
+use Rattle.tftp_wire.specs.declared.packet.PacketRef.TheVariants.{Oack}
 use Rattle.tftp_wire.specs.declared.packet.Request.{Request}
 use Rattle.tftp_wire.specs.declared.packet.RequestRef.{RequestRef}
 

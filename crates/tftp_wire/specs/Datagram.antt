@@ -1,4 +1,4 @@
--- A datagram as a line of text (own).
+-- A datagram as a line of text (our own format).
 use Rattle.std.specs.Prelude.{ℕ, List, ◌∷◌, ◌++◌, codes, Option, Some, None}
 use Rattle.std.specs.Fmt.{decimal}
 use Rattle.tftp_wire.specs.declared.fault.PacketFault.{PacketFault}
@@ -7,7 +7,7 @@ use Rattle.tftp_wire.specs.Faults.{kind_name}
 use Rattle.tftp_wire.specs.Line.{line}
 use Rattle.tftp_wire.specs.Parts.{packet_in}
 
--- the line of a fault, by name and place
+-- the line of a fault, by name and offset
 abbrev pub fault_line : PacketFaultKind → ℕ → List ℕ
 fault_line kind at = codes "fault " ++ (kind_name kind ++ (32 ∷ decimal at))
 

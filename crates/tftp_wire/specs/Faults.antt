@@ -1,8 +1,12 @@
--- The numbers and names of the faults, and which of them is out of memory (own).
+-- The numbers and names of the faults, and the fault for out of memory (our own).
 use Rattle.std.specs.Prelude.{ℕ, ◌≡◌, List, codes, Option, Some, None}
 use Rattle.tftp_wire.specs.declared.fault.PacketFault.{PacketFault}
 use Rattle.tftp_wire.specs.declared.fault.PacketFaultKind.{PacketFaultKind}
-use Rattle.tftp_wire.specs.declared.fault.PacketFaultKind.TheVariants.{Short, Opcode, Unterminated, EmptyName, Mode, NoValue, EmptyOption, Trailing, TooLong, BlockZero, EmptyOack, Memory}
+use Rattle.tftp_wire.specs.declared.fault.PacketFaultKind.TheVariants.{Short, Opcode, Unterminated}
+use Rattle.tftp_wire.specs.declared.fault.PacketFaultKind.TheVariants.{EmptyName, Mode, NoValue}
+use Rattle.tftp_wire.specs.declared.fault.PacketFaultKind.TheVariants.{EmptyOption, Trailing}
+use Rattle.tftp_wire.specs.declared.fault.PacketFaultKind.TheVariants.{TooLong, BlockZero}
+use Rattle.tftp_wire.specs.declared.fault.PacketFaultKind.TheVariants.{EmptyOack, Memory}
 
 -- the number of a kind
 abbrev pub kind_number : PacketFaultKind → ℕ
@@ -34,11 +38,11 @@ kind_name BlockZero = codes "BlockZero"
 kind_name EmptyOack = codes "EmptyOack"
 kind_name Memory = codes "Memory"
 
--- out of memory, which is no fault of the bytes
+-- out of memory, which is not a fault of the bytes
 abbrev pub out_of_memory : PacketFault
 out_of_memory = record { kind = Memory; at = 0 }
 
--- why a reader that takes memory gives up: the first fault, or out of memory where there is none
+-- the error of a decoder that allocates: the first fault, or out of memory if no fault exists
 abbrev pub IsFailure : Option PacketFault → PacketFault → Type 0
 IsFailure None e = e ≡ out_of_memory
 IsFailure (Some fault) e = e ≡ fault

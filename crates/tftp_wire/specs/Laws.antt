@@ -13,7 +13,7 @@ use Rattle.tftp_wire.specs.Reading.{first_fault}
 abbrev pub OneMeaning : Type 0
 OneMeaning = (p q : Packet) (bytes : List ℕ) → Spells p bytes → Spells q bytes → p ≡ q
 
--- bytes without a fault spell the packet that is found in them
+-- bytes without a fault spell the packet that `packet_in` computes
 abbrev pub FaultWhereNothing : Type 0
 FaultWhereNothing =
     (bytes : List ℕ) → ((k : ℕ) → get_or bytes k 0 < 256) → first_fault bytes ≡ None
@@ -23,7 +23,7 @@ FaultWhereNothing =
 abbrev pub SpelledHasNoFault : Type 0
 SpelledHasNoFault = (p : Packet) (bytes : List ℕ) → Spells p bytes → first_fault bytes ≡ None
 
--- what bytes spell is what the reader's definition finds in them
+-- `packet_in` computes the packet that bytes spell
 abbrev pub SpelledIsFound : Type 0
 SpelledIsFound = (p : Packet) (bytes : List ℕ) → Spells p bytes → packet_in bytes ≡ p
 
@@ -31,12 +31,14 @@ SpelledIsFound = (p : Packet) (bytes : List ℕ) → Spells p bytes → packet_i
 abbrev pub beginning : Request → Request
 beginning r = default_request r.name r.mode
 
--- the options of a packet stand behind the packet without them
+-- the options of a packet follow the packet without them
 pub record OptionsFollow : Type 0 where
-  pub read : (r : Request) → canonical (Read r) ≡ canonical (Read (beginning r)) ++ options_bytes r.options
-  pub write : (r : Request) → canonical (Write r) ≡ canonical (Write (beginning r)) ++ options_bytes r.options
+  pub read : (r : Request) →
+      canonical (Read r) ≡ canonical (Read (beginning r)) ++ options_bytes r.options
+  pub write : (r : Request) →
+      canonical (Write r) ≡ canonical (Write (beginning r)) ++ options_bytes r.options
   pub oack : (os : List RawOption) → canonical (Oack os) ≡ canonical (Oack []) ++ options_bytes os
 
--- a valid packet's own bytes spell it
+-- the canonical bytes of a valid packet spell it
 abbrev pub CanonicalSpells : Type 0
 CanonicalSpells = (p : Packet) → IsValid p → Spells p (canonical p)

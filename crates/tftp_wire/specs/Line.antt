@@ -1,5 +1,6 @@
--- A packet as a line of text (own).
-use Rattle.std.specs.Prelude.{ℕ, ◌+◌, ◌/◌, ◌%◌, ◌==◌, ◌&&◌, ◌||◌, not, nat_lt, Bool, if◌then◌else◌, List, [], ◌∷◌, ◌++◌, length, codes}
+-- A packet as a line of text (our own format).
+use Rattle.std.specs.Prelude.{ℕ, ◌+◌, ◌/◌, ◌%◌, ◌==◌, ◌&&◌, ◌||◌, not, nat_lt, Bool, if◌then◌else◌}
+use Rattle.std.specs.Prelude.{List, [], ◌∷◌, ◌++◌, length, codes}
 use Rattle.std.specs.List.{flat_map}
 use Rattle.std.specs.Fmt.{decimal}
 use Rattle.tftp_wire.specs.declared.options.RawOption.{RawOption}
@@ -36,11 +37,11 @@ shown bytes = flat_map shown_byte bytes
 abbrev pub option_words : RawOption → List ℕ
 option_words o = 32 ∷ (shown o.name ++ (61 ∷ shown o.value))
 
--- what follows the name of a request's packet
+-- the words of a request after `RRQ` or `WRQ`
 abbrev pub request_words : Request → List ℕ
 request_words r = shown r.name ++ (32 ∷ mode_word r.mode) ++ flat_map option_words r.options
 
--- the line, without its end
+-- the line, without a line end
 abbrev pub line : Packet → List ℕ
 line (Read r) = codes "RRQ " ++ request_words r
 line (Write r) = codes "WRQ " ++ request_words r

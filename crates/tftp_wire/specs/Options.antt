@@ -4,7 +4,7 @@ use Rattle.std.specs.List.{AllByRecursion, flat_map}
 use Rattle.tftp_wire.specs.declared.options.RawOption.{RawOption}
 use Rattle.tftp_wire.specs.Texts.{IsText, zero_ended, texts}
 
--- the name isn't empty, and neither text holds a zero byte
+-- the name is not empty, and neither text contains a zero byte
 pub record IsOption (o : RawOption) : Type 0 where
   pub named : o.name ≢ []
   pub name : IsText o.name
@@ -14,7 +14,7 @@ pub record IsOption (o : RawOption) : Type 0 where
 abbrev pub option_bytes : RawOption → List ℕ
 option_bytes o = zero_ended o.name ++ zero_ended o.value
 
--- options one after the other
+-- options as bytes, in order
 abbrev pub options_bytes : List RawOption → List ℕ
 options_bytes os = flat_map option_bytes os
 
@@ -24,7 +24,7 @@ paired [] = []
 paired (name ∷ []) = []
 paired (name ∷ value ∷ others) = record { name = name; value = value } ∷ paired others
 
--- the options that stand in these bytes
+-- the options in these bytes
 abbrev pub options_in : List ℕ → List RawOption
 options_in bytes = paired (texts bytes)
 

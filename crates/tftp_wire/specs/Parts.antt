@@ -1,5 +1,6 @@
--- The packet that a datagram without a fault holds.
-use Rattle.std.specs.Prelude.{ℕ, ◌≡◌, ◌+◌, ◌-◌, ◌<◌, length, ◌==◌, if◌then◌else◌, List, [], ◌∷◌, drop, Option, Some, None, unwrap_or, Result, Ok, Err}
+-- The packet in a datagram without a fault.
+use Rattle.std.specs.Prelude.{ℕ, ◌≡◌, ◌+◌, ◌-◌, ◌<◌, length, ◌==◌, if◌then◌else◌, List, [], ◌∷◌}
+use Rattle.std.specs.Prelude.{drop, Option, Some, None, unwrap_or, Result, Ok, Err}
 use Rattle.std.specs.Borrow.{Bor}
 use Rattle.byteorder.specs.Endian.{big_number}
 use Rattle.tftp_wire.specs.declared.fault.PacketFault.{PacketFault}
@@ -38,12 +39,12 @@ packet_of opcode bytes =
 abbrev pub packet_in : List ℕ → Packet
 packet_in bytes = packet_of (big_number 2 bytes) bytes
 
--- a reader answers the value, as it is seen, where there is no fault, and else the fault
+-- a reader returns the value, as `view` shows it, if there is no fault, and else the fault
 abbrev pub Reads : {T U E : Type 0} → (T → U) → U → Option E → Result T E → Type 0
 Reads view value fault (Ok x) = (fault ≡ None) × (view x ≡ value)
 Reads view value fault (Err e) = fault ≡ Some e
 
--- the first fault of options that begin at a place
+-- the first fault of options that begin at an offset
 abbrev pub bytes_fault : ℕ → List ℕ → Option PacketFault
 bytes_fault at bytes = options_fault at (texts bytes) (unended bytes)
 
@@ -53,13 +54,13 @@ BeginsWith bytes text rest =
     (texts bytes ≡ text ∷ texts rest) × (unended bytes ≡ unended rest)
     × (length bytes ≡ length text + 1 + length rest)
 
--- the first text of the bytes and what follows it, or that there is none
+-- the first text of the bytes and the bytes after it, or the fault that no text ends
 abbrev pub SplitsText : ℕ → List ℕ → Result (Bor (List ℕ) × Bor (List ℕ)) PacketFault → Type 0
 SplitsText at bytes (Ok parts) = BeginsWith bytes parts.0.now parts.1.now
 SplitsText at bytes (Err e) =
     (texts bytes ≡ []) × (unended bytes ≡ bytes) × (e ≡ record { kind = Unterminated; at = at })
 
--- the bytes after an option have the first fault of all, or it stands in the option
+-- the first fault is that of the bytes after the option, or is in the option
 abbrev pub GoesOn : ℕ → List ℕ → Result (Bor (List ℕ)) PacketFault → Type 0
 GoesOn at bytes (Ok rest) =
     (bytes_fault at bytes ≡ bytes_fault (at + (length bytes - length rest.now)) rest.now)

@@ -1,6 +1,7 @@
--- The first fault of a datagram from the left, and where it stands (own; the layouts are those of
+-- The first fault of a datagram from the left, and its offset (our own; the layouts are those of
 -- RFC 1350, section 5, and RFC 2347, "Packet Formats").
-use Rattle.std.specs.Prelude.{ℕ, ◌+◌, ◌==◌, ◌&&◌, nat_lt, Bool, false, if◌then◌else◌, List, [], ◌∷◌, length, drop, Option, Some, None, is_none, codes}
+use Rattle.std.specs.Prelude.{ℕ, ◌+◌, ◌==◌, ◌&&◌, nat_lt, Bool, false, if◌then◌else◌, List, [], ◌∷◌}
+use Rattle.std.specs.Prelude.{length, drop, Option, Some, None, is_none, codes}
 use Rattle.std.specs.Str.{str_eq_ignore_ascii_case}
 use Rattle.byteorder.specs.Endian.{big_number}
 use Rattle.tftp_wire.specs.declared.fault.PacketFault.{PacketFault}
@@ -11,17 +12,17 @@ use Rattle.tftp_wire.specs.declared.mode.Mode.{Mode}
 use Rattle.tftp_wire.specs.declared.mode.Mode.TheVariants.{Octet, Netascii}
 use Rattle.tftp_wire.specs.Texts.{texts, unended}
 
--- a fault of this kind at this place
+-- a fault of this kind at this offset
 abbrev pub fault_at : PacketFaultKind → ℕ → Option PacketFault
 fault_at kind at = Some (record { kind = kind; at = at })
 
--- a row of a table of faults: where the test holds, this is wrong, at this place
+-- a row of a table of faults: if the test holds, the fault has this kind and this offset
 pub record Row : Type 0 where
   pub test : Bool
   pub kind : PacketFaultKind
   pub at : ℕ
 
--- the first row whose test holds counts, and where none holds what else is to be found
+-- the fault of the first row whose test holds, or the last argument if none holds
 abbrev pub first_row : List Row → Option PacketFault → Option PacketFault
 first_row [] others = others
 first_row (row ∷ rows) others = if row.test then fault_at row.kind row.at else first_row rows others
@@ -30,11 +31,11 @@ first_row (row ∷ rows) others = if row.test then fault_at row.kind row.at else
 abbrev pub row : Bool → PacketFaultKind → ℕ → Row
 row test kind at = record { test = test; kind = kind; at = at }
 
--- longer than its kind may be
+-- longer than the maximum of its kind
 abbrev pub too_long : ℕ → List ℕ → Row
 too_long most bytes = row (nat_lt most (length bytes)) kinds.TooLong most
 
--- no second number
+-- the second number is missing
 abbrev pub too_short : List ℕ → Row
 too_short bytes = row (nat_lt (length bytes) 4) kinds.Short 2
 
@@ -45,7 +46,7 @@ mode_in word =
     else if str_eq_ignore_ascii_case word (codes "netascii") then Some Netascii
     else None
 
--- of options, by their texts from a place on and what no zero byte ends
+-- of options, by their texts from an offset on and the bytes that no zero byte ends
 abbrev pub options_fault : ℕ → List (List ℕ) → List ℕ → Option PacketFault
 options_fault at [] [] = None
 options_fault at [] (b ∷ rest) = fault_at kinds.Unterminated at
@@ -56,7 +57,7 @@ options_fault at ((c ∷ name) ∷ []) (b ∷ rest) =
 options_fault at ((c ∷ name) ∷ value ∷ others) rest =
     options_fault (at + (length (c ∷ name) + 1) + (length value + 1)) others rest
 
--- of what follows the file name of a request, which begins at a place
+-- of the part of a request after its file name, which begins at an offset
 abbrev pub mode_fault : ℕ → List (List ℕ) → List ℕ → Option PacketFault
 mode_fault at [] rest = fault_at kinds.Unterminated at
 mode_fault at (word ∷ others) rest =
@@ -135,7 +136,7 @@ first_fault bytes = first_row (
     row (nat_lt (length bytes) 2) kinds.Short 0
     ∷ []) (opcode_fault (big_number 2 bytes) bytes)
 
--- the datagram begins as an ERROR does
+-- the datagram begins with the opcode of ERROR
 abbrev pub has_error_opcode : List ℕ → Bool
 has_error_opcode (high ∷ low ∷ rest) = high == 0 && (low == 5)
 has_error_opcode (high ∷ []) = false

@@ -39,21 +39,22 @@ written word (Ack block) = big_bytes 2 4 ++ big_bytes 2 block
 written word (Error code text) = big_bytes 2 5 ++ (big_bytes 2 code ++ zero_ended text)
 written word (Oack options) = big_bytes 2 6 ++ options_bytes options
 
--- the packet's own bytes: a mode in lower case
+-- the canonical bytes of the packet: its mode is in lower case
 abbrev pub canonical : Packet → List ℕ
 canonical p = written (word_of p) p
 
--- a request has at most 512 bytes (RFC 2347, "Packet Formats"), and by our own choice so have an OACK and an ERROR
+-- a request has at most 512 bytes (RFC 2347, "Packet Formats"); by our own choice an OACK and an
+-- ERROR have the same limit
 abbrev pub IsShort : List ℕ → Type 0
 IsShort bytes = length bytes ≤ MAX_REQUEST
 
--- the file name is a text and not empty, and the options are options
+-- the file name is a text and not empty, and each option is well-formed
 pub record IsRequest (r : Request) : Type 0 where
   pub named : r.name ≢ []
   pub name : IsText r.name
   pub options : AllByRecursion IsOption r.options
 
--- what can be spelled: texts have no zero byte, names aren't empty, and the limits hold
+-- can be encoded: texts contain no zero byte, names are not empty, and the limits hold
 abbrev pub IsValid : Packet → Type 0
 IsValid (Read r) = IsRequest r × IsShort (canonical (Read r))
 IsValid (Write r) = IsRequest r × IsShort (canonical (Write r))
@@ -63,7 +64,7 @@ IsValid (Error code text) = (code < 2 ^ 16) × IsText text × IsShort (canonical
 IsValid (Oack options) =
     (options ≢ []) × AllByRecursion IsOption options × IsShort (canonical (Oack options))
 
--- the bytes spell the packet: they are its own, but for the case of the mode's letters
+-- the bytes spell the packet: they are its canonical bytes, except for the case of the mode
 pub record Spells (p : Packet) (bytes : List ℕ) : Type 0 where
   pub valid : IsValid p
   pub word : List ℕ

@@ -2,7 +2,7 @@
 use Rattle.std.specs.Prelude.{ℕ, ◌≢◌, ◌==◌, if◌then◌else◌, List, [], ◌∷◌, ◌++◌}
 use Rattle.std.specs.List.{AllByRecursion}
 
--- holds no zero byte
+-- contains no zero byte
 abbrev pub IsText : List ℕ → Type 0
 IsText bytes = AllByRecursion (λ b. b ≢ 0) bytes
 
@@ -10,7 +10,7 @@ IsText bytes = AllByRecursion (λ b. b ≢ 0) bytes
 abbrev pub zero_ended : List ℕ → List ℕ
 zero_ended text = text ++ 0 ∷ []
 
--- a byte in front of the first text, where there is one
+-- the byte before the first text, if there is one
 abbrev pub with_first : ℕ → List (List ℕ) → List (List ℕ)
 with_first b [] = []
 with_first b (text ∷ others) = (b ∷ text) ∷ others
@@ -20,12 +20,12 @@ abbrev pub texts : List ℕ → List (List ℕ)
 texts [] = []
 texts (b ∷ bytes) = if b == 0 then [] ∷ texts bytes else with_first b (texts bytes)
 
--- a byte and what follows it, where no text ends there
+-- the byte and the rest, if no text ends after it
 abbrev pub unended_with : ℕ → List ℕ → List (List ℕ) → List ℕ
 unended_with b rest [] = b ∷ rest
 unended_with b rest (text ∷ others) = rest
 
--- what stands after the last zero byte
+-- the bytes after the last zero byte
 abbrev pub unended : List ℕ → List ℕ
 unended [] = []
 unended (b ∷ bytes) = if b == 0 then unended bytes else unended_with b (unended bytes) (texts bytes)

@@ -1,8 +1,8 @@
 //! Appends packets from borrowed parts, each in its canonical spelling.
 //!
-//! Each call appends all of its bytes or none. It fails only when out of memory, and never where
-//! the room that it needs was reserved before. A request or an OACK is begun by one call, and each
-//! of its options follows by another.
+//! Each call appends all of its bytes or none. It fails only when out of memory, and never if the
+//! capacity that it needs is reserved. One call begins a request or an OACK, and a further call
+//! appends each option.
 
 ghost use Rattle.std.specs.Prelude.{◌≡◌, ◌≤◌, ◌+◌, ◌++◌, [], ◌∷◌, length, IsOk, OnOk, OnErr};
 ghost use Rattle.std.specs.Prelude.{vec_len, vec_capacity};
@@ -30,7 +30,7 @@ pub fn append_ack(out: &mut Vec<u8>, block: u16) -> Result<(), AllocError>
     out.extend_from_slice(&header(ACK, block))
 }
 
-/// Appends a DATA without the bytes of its file, which are to follow.
+/// Appends the header of a DATA. The caller appends the bytes of the block.
 pub fn append_data_header(out: &mut Vec<u8>, block: u16) -> Result<(), AllocError>
     ensures ok { OnOk result (out.new.items ≡ out.old.items ++ canonical (Data block [])) }
     ensures err { OnErr result (out.new.items ≡ out.old.items) }
@@ -68,7 +68,7 @@ pub fn append_error(out: &mut Vec<u8>, code: u16, text: &[u8]) -> Result<(), All
     Ok(())
 }
 
-/// Appends a request to read, without options: they are to follow.
+/// Appends a read request without options. [`append_option`] appends each option.
 pub fn append_read(out: &mut Vec<u8>, name: &[u8], mode: Mode) -> Result<(), AllocError>
     ensures ok { OnOk result
         (out.new.items ≡ out.old.items ++ canonical (Read (default_request name.now mode))) }
@@ -80,7 +80,7 @@ pub fn append_read(out: &mut Vec<u8>, name: &[u8], mode: Mode) -> Result<(), All
     append_request(out, READ, name, mode)
 }
 
-/// Appends a request to write, without options: they are to follow.
+/// Appends a write request without options. [`append_option`] appends each option.
 pub fn append_write(out: &mut Vec<u8>, name: &[u8], mode: Mode) -> Result<(), AllocError>
     ensures ok { OnOk result
         (out.new.items ≡ out.old.items ++ canonical (Write (default_request name.now mode))) }
@@ -101,7 +101,7 @@ fn append_request(out: &mut Vec<u8>, opcode: u16, name: &[u8], mode: Mode) -> Re
     ensures capacity { vec_capacity out.old ≤ vec_capacity out.new }
 {
     let word = mode.word().as_bytes();
-    // An opcode and two zero bytes stand round the texts.
+    // The opcode has two bytes, and a zero byte ends each of the two texts.
     out.reserve(name.len() + word.len() + 4)?;
     put_number(out, opcode);
     put_text(out, name);
@@ -109,7 +109,7 @@ fn append_request(out: &mut Vec<u8>, opcode: u16, name: &[u8], mode: Mode) -> Re
     Ok(())
 }
 
-/// Appends the opcode of an OACK, without options: they are to follow.
+/// Appends the opcode of an OACK. [`append_option`] appends each option.
 pub fn append_oack_header(out: &mut Vec<u8>) -> Result<(), AllocError>
     ensures ok { OnOk result (out.new.items ≡ out.old.items ++ canonical (Oack [])) }
     ensures err { OnErr result (out.new.items ≡ out.old.items) }
@@ -136,7 +136,6 @@ pub fn append_option(out: &mut Vec<u8>, name: &[u8], value: &[u8]) -> Result<(),
     Ok(())
 }
 
-/// Two numbers of two bytes each.
 fn header(opcode: u16, number: u16) -> [u8; 4]
     ensures { result ≡ big_bytes 2 opcode ++ big_bytes 2 number }
 {
@@ -167,7 +166,6 @@ fn put_text(out: &mut Vec<u8>, text: &[u8])
     put(out, &[0]);
 }
 
-/// Appends bytes for which there is room.
 fn put(out: &mut Vec<u8>, bytes: &[u8])
     requires { vec_len out.old + length bytes.now ≤ vec_capacity out.old }
     ensures items { out.new.items ≡ out.old.items ++ bytes.now }

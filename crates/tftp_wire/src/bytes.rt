@@ -1,4 +1,4 @@
-//! Owned bytes, which contracts see as a list.
+//! Owned bytes, with a list as their model.
 
 ghost use Rattle.std.specs.Prelude.{◌≡◌, IfOk, nat_eq};
 ghost use Rattle.std.specs.Cmp.{partial_equiv_from_equiv};
@@ -9,7 +9,7 @@ use std::marker::Model;
 
 /// Bytes in memory: a file name, the data of a block, the text of an error.
 ///
-/// It is made from a `Vec`, and gives it back, without taking memory.
+/// Conversion from and into a `Vec` allocates no memory.
 #[derive(Debug, Drop)]
 pub struct Bytes {
     items: Vec<u8>,

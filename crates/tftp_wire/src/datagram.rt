@@ -12,13 +12,13 @@ use crate::laws;
 use crate::line::{put_number, put_str, show_ref};
 use crate::reader::decode_ref;
 
-/// What the line of a fault has at most, in bytes.
+/// The maximum length of the line of a fault, in bytes.
 const FAULT_LINE: usize = 40;
 
-/// Appends the line of a datagram, without a line end, and returns whether it is a packet: the
-/// packet's line as [`show_ref`] writes it, or `fault KIND AT`.
+/// Appends the line of a datagram, without a line end: the packet's line as [`show_ref`] writes it,
+/// or `fault KIND AT`. Returns whether the datagram is a packet.
 ///
-/// It fails only when out of memory, and `out` is then as before.
+/// It fails only when out of memory, and the content of `out` is then unchanged.
 pub fn show_datagram(bytes: &[u8], out: &mut String) -> Result<bool, PacketFault>
     ensures is_packet { IfOk result (λ is_packet. is_packet ≡ is_none (first_fault bytes.now)) }
     ensures appended { OnOk result (string_bytes out.new
@@ -28,7 +28,7 @@ pub fn show_datagram(bytes: &[u8], out: &mut String) -> Result<bool, PacketFault
 {
     match decode_ref(bytes) {
         Ok(packet) => {
-            // What is spelled has no fault, and is what the definition of a packet finds.
+            // Bytes that spell a packet have no fault, and `packet_in` computes that packet.
             laws::fault_or_packet();
             laws::spelled_is_found();
             show_ref(&packet, out)?;
@@ -41,7 +41,6 @@ pub fn show_datagram(bytes: &[u8], out: &mut String) -> Result<bool, PacketFault
     }
 }
 
-/// Appends the line of a fault.
 fn show_fault(kind: PacketFaultKind, at: usize, out: &mut String) -> Result<(), PacketFault>
     ensures ok { OnOk result (string_bytes out.new ≡ string_bytes out.old ++ fault_line kind at) }
     ensures err { IfErr result (λ e.

@@ -1,4 +1,4 @@
-//! Why bytes are no packet.
+//! The faults of bytes that are not a packet.
 
 ghost use Rattle.std.specs.Prelude.{◌≡◌};
 ghost use Rattle.tftp_wire.specs.Faults.{kind_name, kind_number, out_of_memory};
@@ -6,7 +6,7 @@ ghost use Rattle.tftp_wire.specs.Faults.{kind_name, kind_number, out_of_memory};
 use std::alloc::AllocError;
 use thiserror::Error;
 
-/// What is wrong with a datagram, or that a call was out of memory.
+/// A fault of a datagram, or out of memory.
 #[derive(Clone, Copy, Debug, PartialEq, Eq, Error)]
 pub enum PacketFaultKind {
     /// The datagram ends before its opcode or its number does.
@@ -24,19 +24,19 @@ pub enum PacketFaultKind {
     /// The mode is neither `netascii` nor `octet`.
     #[error("the mode is neither netascii nor octet")]
     Mode = 5,
-    /// The datagram ends behind an option's name.
+    /// The datagram ends after an option's name.
     #[error("an option has no value")]
     NoValue = 6,
     /// An option's name is empty.
     #[error("an option has no name")]
     EmptyOption = 7,
-    /// Bytes stand after the packet.
+    /// Bytes follow the packet.
     #[error("bytes stand after the packet")]
     Trailing = 8,
-    /// The datagram is longer than its kind may be.
+    /// The datagram is longer than the maximum of its kind.
     #[error("the datagram is too long")]
     TooLong = 9,
-    /// A DATA has the number 0.
+    /// A DATA has the block number 0.
     #[error("a DATA has the number 0")]
     BlockZero = 10,
     /// An OACK holds no option.
@@ -55,7 +55,7 @@ impl PacketFaultKind {
         self as u8
     }
 
-    /// The name of the kind, as it is spelled here.
+    /// The name of the kind: the identifier of its variant.
     pub fn name(self) -> &'static str
         ensures { result.now ≡ kind_name self }
     {
@@ -76,11 +76,11 @@ impl PacketFaultKind {
     }
 }
 
-/// The first fault of a datagram, and where it stands.
+/// The first fault of a datagram, and its offset.
 #[derive(Clone, Copy, Debug, PartialEq, Eq, Error)]
 #[error("{kind}, at byte {at}")]
 pub struct PacketFault {
-    /// What is wrong.
+    /// The kind of the fault.
     pub kind: PacketFaultKind,
     /// The offset in the datagram, in bytes from 0. It is 0 for `Memory`.
     pub at: usize,

@@ -1,4 +1,4 @@
-//! What holds of the definitions of the bytes of packets, whatever code reads or writes them.
+//! Laws of the definitions of packets and their bytes, independent of the code.
 
 ghost use Rattle.tftp_wire.specs.Laws.{OneMeaning, FaultWhereNothing, SpelledHasNoFault};
 ghost use Rattle.tftp_wire.specs.Laws.{SpelledIsFound, CanonicalSpells, OptionsFollow};
@@ -8,24 +8,23 @@ pub fn one_meaning()
     ensures { OneMeaning }
 {}
 
-/// A first fault exists exactly where nothing is spelled, so each datagram has an answer.
+/// Bytes have a first fault exactly if they spell no packet.
 pub fn fault_or_packet()
     ensures nothing { FaultWhereNothing }
     ensures spelled { SpelledHasNoFault }
 {}
 
-/// What bytes spell is found in them by the definition that computes a packet from bytes, and so
-/// `packet_in` is the packet of bytes without a fault.
+/// `packet_in` computes the packet that bytes spell.
 pub fn spelled_is_found()
     ensures { SpelledIsFound }
 {}
 
-/// The canonical bytes of a valid packet spell it: what is encoded is decoded to the same packet.
+/// The canonical bytes of a valid packet spell it: an encoded packet decodes to itself.
 pub fn canonical_spells()
     ensures { CanonicalSpells }
 {}
 
-/// A request or an OACK is its beginning and then its options, one after the other.
+/// A request or an OACK is the packet without options, followed by its options in order.
 pub fn options_follow()
     ensures { OptionsFollow }
 {}

@@ -1,11 +1,11 @@
-//! The packets of TFTP revision 2 and their bytes (RFC 1350, section 5; RFC 2347).
+//! Encodes and decodes the packets of TFTP revision 2 (RFC 1350, section 5; RFC 2347).
 //!
-//! It opens no socket, reads no clock and touches no file. It is strict: what is not spelled to the
-//! letter is a fault, with its kind and its place.
+//! It opens no socket, reads no clock and accesses no file. It is strict: each deviation from the
+//! format is a fault, with its kind and its offset.
 //!
-//! Begin with [`decode_ref`], which takes no memory, or with [`decode`]: a packet exactly if the
-//! bytes spell it, and else the first fault from the left. [`encode`] and the `append` calls write
-//! packets.
+//! Begin with [`decode_ref`], which allocates no memory, or with [`decode`]. They return the packet
+//! that the bytes spell, or else the first fault from the left. [`encode`] and the `append` calls
+//! write packets.
 #![tactic(auto)]
 
 mod append;

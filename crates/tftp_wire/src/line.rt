@@ -1,6 +1,6 @@
-//! A packet as one line of text, for people.
+//! A packet as one human-readable line of text.
 //!
-//! The room that a line needs at most is reserved first, and then nothing can fail.
+//! The capacity that a line needs at most is reserved first. After that no call can fail.
 
 ghost use Rattle.std.specs.Prelude.{◌≡◌, ◌≤◌, ◌+◌, ◌-◌, ◌*◌, ◌^◌, ◌++◌, ◌∷◌, [], ◌<◌, length, min};
 ghost use Rattle.std.specs.Prelude.{OnOk, IfErr};
@@ -22,13 +22,14 @@ use crate::packet::{Packet, PacketRef};
 use crate::writer::{canonical_len, canonical_len_ref};
 use itoa::Buffer;
 
-/// What a line has at most beside three bytes for each byte of the packet.
+/// The bytes that a line has at most, beyond three for each byte of the packet.
 const WORDS: usize = 40;
 
 /// Appends the packet as one line, without a line end.
 ///
-/// It fails only when out of memory, and `out` is then as before. A byte that is not visible ASCII,
-/// and `%` and `=`, is shown as `%` and two hexadecimal digits.
+/// `%`, `=` and each byte that is not visible ASCII are shown as `%` and two hexadecimal digits,
+/// except spaces and `=` in the text of an ERROR. It fails only when out of memory, and the content
+/// of `out` is then unchanged.
 pub fn show(packet: &Packet, out: &mut String) -> Result<(), PacketFault>
     ensures ok { OnOk result (string_bytes out.new ≡ string_bytes out.old ++ line packet.now) }
     ensures err { IfErr result (λ e.
@@ -51,7 +52,7 @@ pub fn show_ref(packet: &PacketRef<'_>, out: &mut String) -> Result<(), PacketFa
     Ok(())
 }
 
-/// Room that is enough for the line of a packet, or the greatest `usize`.
+/// A capacity that is enough for the line of a packet, or the greatest `usize`.
 fn line_room(packet: &Packet) -> usize
     ensures { min (length (line packet.now)) (2 ^ 64 - 1) ≤ result }
 {
@@ -97,7 +98,7 @@ fn line_room_ref(packet: &PacketRef<'_>) -> usize
     }
 }
 
-/// Room for the line of a packet of so many bytes.
+/// The capacity for the line of a packet of `len` bytes.
 fn shown_room(len: usize) -> usize
     ensures { result ≡ min (3 * len + WORDS) (2 ^ 64 - 1) }
 {
@@ -270,7 +271,7 @@ fn put_percent(out: &mut String, byte: u8)
     put_char(out, hex_digit(byte % 16));
 }
 
-/// A digit below 16, in lower case.
+/// A hexadecimal digit, in lower case.
 fn hex_digit(digit: u8) -> char
     requires { digit < 16 }
     ensures { result ≡ hex digit }
@@ -297,7 +298,6 @@ fn put_char(out: &mut String, ch: char)
     out.push(ch).unwrap();
 }
 
-/// Appends text for which there is room.
 pub(crate) fn put_str(out: &mut String, text: &str)
     requires { HasRoom text.now out.old }
     ensures { Puts text.now out.old out.new }

@@ -1,14 +1,14 @@
-//! The two transfer modes that are carried.
+//! The two transfer modes that are supported.
 
 ghost use Rattle.std.specs.Prelude.{◌≡◌};
 ghost use Rattle.tftp_wire.specs.Modes.{mode_word};
 
-/// How a file's bytes travel (RFC 1350, section 1). The mode `mail` is refused.
+/// How the bytes of a file are sent (RFC 1350, section 1). The mode `mail` is not supported.
 #[derive(Clone, Copy, Debug, PartialEq, Eq)]
 pub enum Mode {
-    /// Each byte as itself.
+    /// Each byte is sent unchanged.
     Octet,
-    /// Lines that end in CR LF, and CR NUL for a lone CR (RFC 764).
+    /// Lines end in CR LF, and a lone CR is sent as CR NUL (RFC 764).
     Netascii,
 }
 

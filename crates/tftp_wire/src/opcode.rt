@@ -1,4 +1,4 @@
-//! The first number of a packet, which says what it is (RFC 1350, section 5; RFC 2347, "Packet
+//! The first number of a packet, which is its type (RFC 1350, section 5; RFC 2347, "Packet
 //! Formats").
 
 ghost use Rattle.std.specs.Prelude.{◌≡◌};
@@ -16,7 +16,7 @@ pub(crate) const ERROR: u16 = 5;
 
 pub(crate) const OACK: u16 = 6;
 
-/// Whether a datagram begins as an ERROR does, if the rest of it be one or not.
+/// Whether a datagram begins with the opcode of ERROR. It may still be malformed.
 pub fn has_error_opcode(bytes: &[u8]) -> bool
     ensures { result ≡ has_error_opcode bytes.now }
 {

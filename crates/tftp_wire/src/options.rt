@@ -1,4 +1,4 @@
-//! Options as they stand in a request or an OACK: pairs of a name and a value, in order.
+//! The options of a request or an OACK: pairs of a name and a value, in order.
 
 ghost use Rattle.std.specs.Prelude.{◌≡◌, ◌==◌, ◌↔◌, length, IfOk, IsTrue};
 ghost use Rattle.tftp_wire.specs.Borrowed.{owned_option};
@@ -10,10 +10,10 @@ use crate::text::split_text;
 use std::alloc::{AllocError, Global};
 use std::marker::Model;
 
-/// An option as text: nothing is said of whether it is known or its value a number.
+/// An option as text. It need not be a known option, nor its value a number.
 #[derive(Debug, Drop, PartialEq, Eq)]
 pub struct RawOption {
-    /// The name, in the case that was sent.
+    /// The name, in its original case.
     pub name: Bytes,
     /// The value, which may be empty.
     pub value: Bytes,
@@ -31,7 +31,7 @@ impl RawOption {
     }
 }
 
-/// Options in their order. It is made from a `Vec`, and gives it back, without taking memory.
+/// Options, in order. Conversion from and into a `Vec` allocates no memory.
 #[derive(Debug, Drop)]
 pub struct RawOptions {
     items: Vec<RawOption>,
@@ -73,13 +73,13 @@ impl From<Vec<RawOption>> for RawOptions {
 /// An option of a datagram, borrowed from it.
 #[derive(Clone, Copy, Debug, PartialEq, Eq)]
 pub struct OptionRef<'a> {
-    /// The name, in the case that was sent.
+    /// The name, in its original case.
     pub name: &'a [u8],
     /// The value, which may be empty.
     pub value: &'a [u8],
 }
 
-/// The options of a datagram, borrowed from it and known to be well formed.
+/// The options of a datagram, well-formed and borrowed from it.
 #[derive(Debug, Drop)]
 pub struct OptionsRef<'a> {
     bytes: &'a [u8],
@@ -98,7 +98,7 @@ impl<'a> Model for OptionsRef<'a> {
 }
 
 impl<'a> OptionsRef<'a> {
-    /// The options that the bytes are known to spell.
+    /// The options that the bytes spell.
     pub(crate) fn new(bytes: &'a [u8]) -> OptionsRef<'a>
         requires { AreOptions bytes.now }
         ensures { result ≡ options_in bytes.now }
@@ -106,21 +106,21 @@ impl<'a> OptionsRef<'a> {
         OptionsRef { bytes }
     }
 
-    /// How many bytes the options take.
+    /// The length of the options in the datagram, in bytes.
     pub(crate) fn bytes_len(&self) -> usize
         ensures { result ≡ length (options_bytes self.now) }
     {
         self.bytes.len()
     }
 
-    /// Whether the other is the same options, in the same order.
+    /// Whether both have the same options, in the same order.
     pub fn is_same(&self, other: &OptionsRef<'_>) -> bool
         ensures { IsTrue result ↔ (self.now ≡ other.now) }
     {
         self.bytes == other.bytes
     }
 
-    /// The options, from the first.
+    /// An iterator over the options, in order.
     pub fn iter(&self) -> OptionsIter<'a>
         ensures { result ≡ self.now }
     {
@@ -140,7 +140,7 @@ impl<'a> IntoIterator for &OptionsRef<'a> {
     }
 }
 
-/// The options of a datagram that are left to go through.
+/// An iterator over the options of a datagram.
 #[derive(Debug, Drop)]
 pub struct OptionsIter<'a> {
     rest: &'a [u8],

@@ -16,8 +16,8 @@ use std::alloc::{AllocError, Global};
 
 /// The packet that the bytes spell.
 ///
-/// If they spell none, the error is their first fault from the left, with its place. It is `Memory`
-/// only for bytes that spell a packet.
+/// If they spell none, the error is their first fault from the left, with its offset. The error is
+/// `Memory` only for bytes that spell a packet.
 pub fn decode(alloc: Global, bytes: &[u8]) -> Result<Packet, PacketFault>
     ensures found { IfOk result (λ p. Spells p bytes.now) }
     ensures only { (p : Packet) → Spells p bytes.now

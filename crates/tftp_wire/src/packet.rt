@@ -1,14 +1,12 @@
 //! The six packets, owned and borrowed.
 //!
-//! A number has two bytes, the high one first. A text is bytes without a zero byte, and one zero
-//! byte ends it.
+//! A number has two bytes, the high byte first. A text has no zero byte, and a zero byte ends it.
 
 use crate::bytes::Bytes;
 use crate::mode::Mode;
 use crate::options::{OptionsRef, RawOptions};
 
-/// What a read or a write request asks for (RFC 1350, section 5; options: RFC 2347, "Packet
-/// Formats").
+/// A read or write request (RFC 1350, section 5; options: RFC 2347, "Packet Formats").
 ///
 /// ```text
 ///  2 bytes   text  1  text  1  text  1  text   1
@@ -21,7 +19,7 @@ use crate::options::{OptionsRef, RawOptions};
 pub struct Request {
     /// The file name, not empty.
     pub name: Bytes,
-    /// How the file is to travel.
+    /// The transfer mode.
     pub mode: Mode,
     /// The options, in the order in which they were sent.
     pub options: RawOptions,
@@ -30,13 +28,13 @@ pub struct Request {
 /// A packet of TFTP (RFC 1350, section 5; RFC 2347, "Packet Formats").
 #[derive(Debug, Drop)]
 pub enum Packet {
-    /// RRQ, opcode 1: asks for a file (RFC 1350, section 5).
+    /// RRQ, opcode 1: requests a file (RFC 1350, section 5).
     ///
     /// ```text
     /// | 00 01 | name | 00 | mode | 00 | options .. |
     /// ```
     Read(Request),
-    /// WRQ, opcode 2: asks to store a file (RFC 1350, section 5).
+    /// WRQ, opcode 2: requests to store a file (RFC 1350, section 5).
     ///
     /// ```text
     /// | 00 02 | name | 00 | mode | 00 | options .. |
@@ -53,10 +51,10 @@ pub enum Packet {
     Data {
         /// The number of the block, from 1.
         block: u16,
-        /// The bytes of the block; fewer than the block size in the last one.
+        /// The bytes of the block; fewer than the block size if it is the last.
         bytes: Bytes,
     },
-    /// ACK, opcode 4: a block was received, or, with 0, a write request or an OACK (RFC 1350,
+    /// ACK, opcode 4: acknowledges a block, or, with 0, a write request or an OACK (RFC 1350,
     /// section 5).
     ///
     /// ```text
@@ -69,7 +67,7 @@ pub enum Packet {
         /// The number of the block that is acknowledged.
         block: u16,
     },
-    /// ERROR, opcode 5: the transfer ends (RFC 1350, section 5).
+    /// ERROR, opcode 5: ends the transfer (RFC 1350, section 5).
     ///
     /// ```text
     ///  2 bytes 2 bytes   text  1
@@ -78,9 +76,9 @@ pub enum Packet {
     /// +-------+-------+------+----+
     /// ```
     Error {
-        /// What went wrong, as a number (RFC 1350, appendix; 8: RFC 2347).
+        /// The error code (RFC 1350, appendix; 8: RFC 2347).
         code: u16,
-        /// The same for people, which may be empty.
+        /// The human-readable message, which may be empty.
         text: Bytes,
     },
     /// OACK, opcode 6: the options that the server agrees to, at least one (RFC 2347, "Packet
@@ -100,7 +98,7 @@ pub enum Packet {
 pub struct RequestRef<'a> {
     /// The file name, not empty.
     pub name: &'a [u8],
-    /// How the file is to travel.
+    /// The transfer mode.
     pub mode: Mode,
     /// The options, in the order in which they were sent.
     pub options: OptionsRef<'a>,
@@ -109,27 +107,27 @@ pub struct RequestRef<'a> {
 /// A packet that borrows its bytes from the datagram. The layouts are those of [`Packet`].
 #[derive(Debug, Drop)]
 pub enum PacketRef<'a> {
-    /// RRQ: asks for a file.
+    /// RRQ: requests a file.
     Read(RequestRef<'a>),
-    /// WRQ: asks to store a file.
+    /// WRQ: requests to store a file.
     Write(RequestRef<'a>),
     /// DATA: a block of the file.
     Data {
         /// The number of the block, from 1.
         block: u16,
-        /// The bytes of the block; fewer than the block size in the last one.
+        /// The bytes of the block; fewer than the block size if it is the last.
         bytes: &'a [u8],
     },
-    /// ACK: a block was received, or, with 0, a write request or an OACK.
+    /// ACK: acknowledges a block, or, with 0, a write request or an OACK.
     Ack {
         /// The number of the block that is acknowledged.
         block: u16,
     },
-    /// ERROR: the transfer ends.
+    /// ERROR: ends the transfer.
     Error {
-        /// What went wrong, as a number.
+        /// The error code.
         code: u16,
-        /// The same for people, which may be empty.
+        /// The human-readable message, which may be empty.
         text: &'a [u8],
     },
     /// OACK: the options that the server agrees to, at least one.

@@ -1,4 +1,4 @@
-//! Reads a datagram, once for the owned and the borrowed packets, and finds its first fault.
+//! Decodes a datagram, for owned and borrowed packets, and finds its first fault.
 
 ghost use Rattle.std.specs.Prelude.{◌≡◌, ◌≤◌, ◌+◌, ◌-◌, ◌<◌, ◌^◌, ◌==◌, ◌∷◌, [], not, None, length};
 ghost use Rattle.std.specs.Prelude.{drop, IfOk, IfErr, MatchResult, IsOkAnd, IsTrue, ◌↔◌};
@@ -24,9 +24,9 @@ use crate::packet::{PacketRef, RequestRef};
 use crate::text::split_text;
 use byteorder::{BigEndian, ByteOrder};
 
-/// The packet that the bytes spell, borrowed from them. It takes no memory.
+/// The packet that the bytes spell, borrowed from them. Allocates no memory.
 ///
-/// If they spell none, the error is their first fault from the left, with its place; it is never
+/// If they spell none, the error is their first fault from the left, with its offset. It is never
 /// `Memory`.
 pub fn decode_ref(bytes: &[u8]) -> Result<PacketRef<'_>, PacketFault>
     ensures found { IfOk result (λ p. Spells (owned p) bytes.now) }
@@ -53,7 +53,7 @@ fn read_packet(bytes: &[u8]) -> Result<PacketRef<'_>, PacketFault>
     }
 }
 
-/// What follows the opcode of a request: a file name, a mode and options.
+/// The file name, mode and options after the opcode of a request.
 fn read_request(bytes: &[u8]) -> Result<RequestRef<'_>, PacketFault>
     requires { 2 ≤ length bytes.now }
     ensures { Reads owned_request (request_of (texts (drop 2 bytes.now)))
@@ -78,7 +78,6 @@ fn read_request(bytes: &[u8]) -> Result<RequestRef<'_>, PacketFault>
     })
 }
 
-/// The number and the bytes of a DATA.
 fn read_data(bytes: &[u8]) -> Result<PacketRef<'_>, PacketFault>
     requires { 2 ≤ length bytes.now }
     ensures { Reads owned (packet_of 3 bytes.now) (data_fault bytes.now) result }
@@ -96,7 +95,6 @@ fn read_data(bytes: &[u8]) -> Result<PacketRef<'_>, PacketFault>
     })
 }
 
-/// The number of an ACK.
 fn read_ack(bytes: &[u8]) -> Result<PacketRef<'_>, PacketFault>
     requires { 2 ≤ length bytes.now }
     ensures { Reads owned (packet_of 4 bytes.now) (ack_fault bytes.now) result }
@@ -108,7 +106,6 @@ fn read_ack(bytes: &[u8]) -> Result<PacketRef<'_>, PacketFault>
     }
 }
 
-/// The code and the text of an ERROR.
 fn read_error(bytes: &[u8]) -> Result<PacketRef<'_>, PacketFault>
     requires { 2 ≤ length bytes.now }
     ensures { Reads owned (packet_of 5 bytes.now) (error_fault bytes.now) result }
@@ -125,7 +122,6 @@ fn read_error(bytes: &[u8]) -> Result<PacketRef<'_>, PacketFault>
     }
 }
 
-/// The options of an OACK.
 fn read_oack(bytes: &[u8]) -> Result<PacketRef<'_>, PacketFault>
     requires { 2 ≤ length bytes.now }
     ensures { Reads owned (packet_of 6 bytes.now) (oack_fault bytes.now) result }
@@ -140,7 +136,7 @@ fn read_oack(bytes: &[u8]) -> Result<PacketRef<'_>, PacketFault>
     Ok(PacketRef::Oack(read_options(body, 2)?))
 }
 
-/// The fault of bytes after a packet, which begin at `at` in the datagram.
+/// The fault of bytes after a packet, which begin at offset `at` in the datagram.
 fn trailing(rest: &[u8], at: usize) -> Option<PacketFault>
     ensures { result ≡ first_row (row (not (length rest.now == 0)) Trailing at ∷ []) None }
 {
@@ -162,7 +158,7 @@ fn read_number(bytes: &[u8]) -> Result<u16, PacketFault>
     Ok(BigEndian::read_u16(&bytes[2..]))
 }
 
-/// The mode of a word, whose letters may be in either case.
+/// The mode of a word, in any case.
 fn mode_of(word: &[u8]) -> Option<Mode>
     ensures { result ≡ mode_in word.now }
 {
@@ -175,14 +171,14 @@ fn mode_of(word: &[u8]) -> Option<Mode>
     }
 }
 
-/// The text that begins at `at` in the datagram, and the bytes after its zero byte.
+/// The text that begins at offset `at` in the datagram, and the bytes after its zero byte.
 fn read_text(bytes: &[u8], at: usize) -> Result<(&[u8], &[u8]), PacketFault>
     ensures { SplitsText at bytes.now result }
 {
     split_text(bytes).ok_or(fault_at(PacketFaultKind::Unterminated, at))
 }
 
-/// The options that begin at `at` in the datagram and go on to its end.
+/// The options that begin at offset `at` in the datagram and extend to its end.
 fn read_options(bytes: &[u8], at: usize) -> Result<OptionsRef<'_>, PacketFault>
     requires { at + length bytes.now < 2 ^ 64 }
     ensures { Reads (λ options. options) (options_in bytes.now) (bytes_fault at bytes.now) result }
@@ -194,14 +190,14 @@ fn read_options(bytes: &[u8], at: usize) -> Result<OptionsRef<'_>, PacketFault>
     Ok(OptionsRef::new(bytes))
 }
 
-/// Whether an option is left: no option is empty.
+/// Whether another option follows: an option always has bytes.
 fn has_more(rest: &[u8]) -> bool
     ensures { IsTrue result ↔ (0 < length rest.now) }
 {
     !rest.is_empty()
 }
 
-/// The bytes after the option that begins at `at` in the datagram.
+/// The bytes after the option that begins at offset `at` in the datagram.
 fn skip_option(bytes: &[u8], at: usize) -> Result<&[u8], PacketFault>
     requires some { 0 < length bytes.now }
     requires place { at + length bytes.now < 2 ^ 64 }

@@ -1,4 +1,4 @@
-//! Whether two datagrams say the same.
+//! Compares packets with packets, and packets with datagrams.
 
 ghost use Rattle.std.specs.Prelude.{◌≡◌, ◌↔◌, IsTrue};
 ghost use Rattle.tftp_wire.specs.Borrowed.{owned, owned_request};
@@ -8,7 +8,7 @@ use crate::packet::{PacketRef, RequestRef};
 use crate::reader::decode_ref;
 
 impl<'a> RequestRef<'a> {
-    /// Whether the other asks for the same: the same name, mode and options.
+    /// Whether both have the same name, mode and options.
     pub fn is_same(&self, other: &RequestRef<'_>) -> bool
         ensures { IsTrue result ↔ (owned_request self.now ≡ owned_request other.now) }
     {
@@ -17,7 +17,7 @@ impl<'a> RequestRef<'a> {
 }
 
 impl<'a> PacketRef<'a> {
-    /// Whether the other is the same packet.
+    /// Whether both are the same packet.
     pub fn is_same(&self, other: &PacketRef<'_>) -> bool
         ensures { IsTrue result ↔ (owned self.now ≡ owned other.now) }
     {

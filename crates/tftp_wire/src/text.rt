@@ -1,9 +1,9 @@
-//! Texts of a datagram: they hold no zero byte, and one ends them.
+//! The texts of a datagram, each ended by a zero byte.
 
 ghost use Rattle.std.specs.Prelude.{◌≡◌, ◌==◌, ◌++◌, ◌↔◌, IsTrue, MatchOption, position};
 ghost use Rattle.tftp_wire.specs.Texts.{IsText, zero_ended};
 
-/// The first text of some bytes, and the bytes after its zero byte; `None` if no byte is zero.
+/// The first text of the bytes, and the bytes after its zero byte; `None` if no byte is zero.
 pub fn split_text(bytes: &[u8]) -> Option<(&[u8], &[u8])>
     ensures { MatchOption result (IsText bytes.now) (λ parts.
         IsText parts.0.now × (bytes.now ≡ zero_ended parts.0.now ++ parts.1.now)) }
@@ -19,8 +19,7 @@ fn first_zero(bytes: &[u8]) -> Option<usize>
     bytes.iter().position(|b| *b == 0)
 }
 
-/// Whether the bytes can be a file name, a part of an option or the text of an ERROR: they hold no
-/// zero byte.
+/// Whether the bytes are a text: they contain no zero byte.
 pub fn is_text(bytes: &[u8]) -> bool
     ensures { IsTrue result ↔ IsText bytes.now }
 {

@@ -1,4 +1,4 @@
-//! Writes packets as bytes, each in its canonical spelling, and says which packets can be written.
+//! Encodes packets in their canonical spelling, and decides which packets are valid.
 
 ghost use Rattle.std.specs.Prelude.{◌≡◌, ◌≤◌, ◌+◌, ◌-◌, ◌^◌, ◌++◌, ◌↔◌, ◌≢◌, List, [], length, min};
 ghost use Rattle.std.specs.Prelude.{OnOk, IfErr, IsTrue, vec_len, vec_capacity, ℕ};
@@ -19,8 +19,8 @@ use crate::options::RawOption;
 use crate::packet::{Packet, PacketRef, Request, RequestRef};
 use crate::text::is_text;
 
-/// Whether the packet can be spelled: its texts hold no zero byte, its names are not empty, its
-/// number is not 0 if it is a DATA, it has an option if it is an OACK, and its limits hold.
+/// Whether the packet can be encoded: its texts contain no zero byte, its names are not empty, the
+/// number of a DATA is not 0, an OACK has an option, and the length limits hold.
 pub fn is_valid(packet: &Packet) -> bool
     ensures { IsTrue result ↔ IsValid packet.now }
 {
@@ -64,7 +64,7 @@ fn is_option(option: &RawOption) -> bool
     !name.is_empty() && is_text(name) && is_text(option.value.as_slice())
 }
 
-/// How many bytes the packet takes, or the greatest `usize` where they are more.
+/// The length of the packet in bytes, saturated at the greatest `usize`.
 pub(crate) fn canonical_len(packet: &Packet) -> usize
     ensures { result ≡ min (length (canonical packet.now)) (2 ^ 64 - 1) }
 {
@@ -127,7 +127,7 @@ fn options_len(options: &[RawOption]) -> usize
 
 /// Appends the canonical spelling of the packet, with a mode in lower case.
 ///
-/// It fails only when out of memory, and `out` is then as before.
+/// It fails only when out of memory, and the content of `out` is then unchanged.
 pub fn encode(packet: &Packet, out: &mut Vec<u8>) -> Result<(), PacketFault>
     requires { IsValid packet.now }
     ensures ok { OnOk result (out.new.items ≡ out.old.items ++ canonical packet.now) }
@@ -138,7 +138,6 @@ pub fn encode(packet: &Packet, out: &mut Vec<u8>) -> Result<(), PacketFault>
     Ok(())
 }
 
-/// Appends a packet for which there is room.
 fn put_packet(out: &mut Vec<u8>, packet: &Packet)
     requires { vec_len out.old + length (canonical packet.now) ≤ vec_capacity out.old }
     ensures { out.new.items ≡ out.old.items ++ canonical packet.now }
@@ -162,7 +161,6 @@ fn put_packet(out: &mut Vec<u8>, packet: &Packet)
     }
 }
 
-/// Appends options for which there is room.
 fn put_options(out: &mut Vec<u8>, options: &[RawOption])
     requires { vec_len out.old + length (options_bytes options.now) ≤ vec_capacity out.old }
     ensures { out.new.items ≡ out.old.items ++ options_bytes options.now }

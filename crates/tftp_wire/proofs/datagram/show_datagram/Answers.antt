@@ -1,4 +1,4 @@
--- What is spelled is found in the bytes, and so is its line.
+-- `packet_in` computes the packet that the bytes spell, and so its line.
 use Rattle.std.proofs.Common.{ℕ, ◌≡◌, List, None, ap, sym, ◌∙◌, ◌++◌}
 use Rattle.std.specs.String.{string_bytes}
 use Rattle.tftp_wire.specs.declared.packet.Packet.{Packet}
@@ -9,7 +9,7 @@ use Rattle.tftp_wire.specs.Parts.{packet_in}
 use Rattle.tftp_wire.specs.Reading.{first_fault}
 use Rattle.tftp_wire.proofs.datagram.show_datagram.Goals as goal
 
--- the line of bytes without a fault is that of the packet that is found in them
+-- the line of bytes without a fault is that of the packet that `packet_in` computes
 packet_shown : (p : Packet) (bytes : List ℕ) → first_fault bytes ≡ None → packet_in bytes ≡ p → line p ≡ datagram_shown bytes (first_fault bytes)
 packet_shown p bytes none found = sym (ap (datagram_shown bytes) none ∙ ap line found)
 

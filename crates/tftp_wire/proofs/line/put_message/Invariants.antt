@@ -1,4 +1,4 @@
--- The bytes before the place are written, and there is room for the others.
+-- The bytes before the index are written, and the capacity is enough for the others.
 use Rattle.std.proofs.Common.{◌≡◌, ◌≤◌, ◌+◌, ◌++◌, length, take, drop}
 use Rattle.std.specs.List.{flat_map}
 use Rattle.std.specs.String.{string_bytes, string_len, string_capacity}

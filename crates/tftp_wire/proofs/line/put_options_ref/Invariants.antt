@@ -1,4 +1,4 @@
--- What is written and what the options that are left give are the whole, for which there is room.
+-- The text written and the text of the options left are the whole, and it fits the capacity.
 use Rattle.std.proofs.Common.{◌≡◌, ◌≤◌, ◌+◌, ◌++◌, length}
 use Rattle.std.specs.List.{flat_map}
 use Rattle.std.specs.String.{string_bytes, string_len, string_capacity}

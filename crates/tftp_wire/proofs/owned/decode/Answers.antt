@@ -1,4 +1,4 @@
--- A copy of what was read is what the bytes spell, and it fails only when out of memory.
+-- The bytes spell the copy, and copying fails only when out of memory.
 use Rattle.tftp_wire.proofs.SpellingLemmas.{copied_only, copied_fault}
 use Rattle.tftp_wire.proofs.owned.decode.Goals as goal
 

@@ -1,4 +1,4 @@
--- What the definition finds is what the bytes spell.
+-- The bytes spell the packet that `packet_in` computes.
 use Rattle.std.proofs.Common.{arith}
 use Rattle.tftp_wire.proofs.SpellingLemmas.{found_spells, only_spelled}
 use Rattle.tftp_wire.proofs.reader.decode_ref.Goals as goal

@@ -1,4 +1,4 @@
--- Bytes behind the text of an ERROR are its first fault.
+-- Bytes after the text of an ERROR are its first fault.
 use Rattle.std.proofs.Common.{arith, sym, length-drop, ◌∙◌}
 use Rattle.tftp_wire.proofs.ReadingLemmas.{error_trailing}
 use Rattle.tftp_wire.proofs.reader.read_error.Goals as goal

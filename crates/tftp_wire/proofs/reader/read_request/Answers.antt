@@ -1,4 +1,4 @@
--- Behind a name and a mode without a fault, the first fault is that of the options.
+-- After a name and a mode without a fault, the first fault is that of the options.
 use Rattle.std.proofs.Common.{arith, sym, ◌∙◌, length-drop}
 use Rattle.std.proofs.lemmas.Bool.{eqb-false}
 use Rattle.std.proofs.lemmas.Result.{err_from_is_err_and}

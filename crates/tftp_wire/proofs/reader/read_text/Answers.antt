@@ -1,4 +1,4 @@
--- A text is split off where its zero byte stands.
+-- A text is split off at its zero byte.
 use Rattle.tftp_wire.proofs.ReadingLemmas.{text_split}
 use Rattle.tftp_wire.proofs.reader.read_text.Goals as goal
 

@@ -1,4 +1,4 @@
--- Behind an option without a fault, the first fault is that of the rest.
+-- After an option without a fault, the first fault is that of the rest.
 use Rattle.std.proofs.Common.{arith, sym}
 use Rattle.std.proofs.lemmas.Bool.{eqb-false}
 use Rattle.tftp_wire.proofs.ReadingLemmas.{option_skipped}

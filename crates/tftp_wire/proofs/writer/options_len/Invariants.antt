@@ -1,4 +1,4 @@
--- The length of the options before the place, as far as a number holds it.
+-- The length of the options before the index, saturated at the greatest `usize`.
 use Rattle.std.proofs.Common.{◌≡◌, ◌-◌, ◌^◌, min, length, take}
 use Rattle.tftp_wire.specs.Options.{options_bytes}
 use Rattle.tftp_wire.proofs.writer.options_len.Given as goal

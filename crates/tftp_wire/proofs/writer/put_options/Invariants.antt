@@ -1,4 +1,4 @@
--- The options before the place are written, and there is room for the others.
+-- The options before the index are written, and the capacity is enough for the others.
 use Rattle.std.proofs.Common.{◌≡◌, ◌≤◌, ◌+◌, ◌++◌, length, take, drop, vec_len, vec_capacity}
 use Rattle.tftp_wire.specs.Options.{options_bytes}
 use Rattle.tftp_wire.proofs.writer.put_options.Given as goal

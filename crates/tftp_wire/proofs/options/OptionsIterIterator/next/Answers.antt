@@ -1,4 +1,4 @@
--- The first option of the rest is next, and what stands behind it is options.
+-- The first option of the rest is next, and the bytes after it are options.
 use Rattle.std.proofs.Common.{arith, sym, ◌∙◌, ap, length}
 use Rattle.tftp_wire.proofs.OptionsLemmas.{options_name, options_first, options_rest}
 use Rattle.tftp_wire.proofs.options.OptionsIterIterator.next.Goals as goal

@@ -1,4 +1,4 @@
--- What is copied and what is left are all options.
+-- The options copied and the options left are all options.
 use Rattle.std.proofs.Common.{◌≡◌, ◌++◌}
 use Rattle.tftp_wire.proofs.options.OptionsRef.to_options.Given as goal
 

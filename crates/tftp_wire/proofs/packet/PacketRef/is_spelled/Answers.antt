@@ -1,4 +1,4 @@
--- Bytes spell a packet exactly if it is the one that is read from them.
+-- Bytes spell a packet exactly if it is the packet decoded from them.
 use Rattle.std.proofs.Common.{subst}
 use Rattle.tftp_wire.specs.declared.packet.Packet.{Packet}
 use Rattle.tftp_wire.specs.Borrowed.{owned}
