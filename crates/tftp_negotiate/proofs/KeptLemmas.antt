@@ -1,4 +1,4 @@
--- A negotiation drops no option: what is judged good is kept, unless the whole is refused for one of them.
+-- A negotiation drops no option: each agreed option is in the result, unless one is refused.
 use Rattle.std.proofs.Common.{◌≡◌, ◌⊎◌, inl, inr, ℕ, ◌^◌, ◌<◌, ◌≤◌, Bool, true, false, cond, min, nat_le, ◌==◌, ◌&&◌, List, [], ◌∷◌, ◌++◌, Option, Some, None, Result, Ok, Err, IsSome, Contains, decimal, bytes_eq, refl, sym, ◌∙◌, ap, subst, arith, eq-eqb}
 use Rattle.std.specs.List.{AllByRecursion}
 use Rattle.std.specs.Str.{str_to_ascii_lowercase}
@@ -43,7 +43,7 @@ cases x y ys h = elim (Contains-append_cases (y ∷ []) ys x h) [ inl one ↦ on
   only : Contains (y ∷ []) x → (y ≡ x) ⊎ Contains ys x
   only one = elim (Contains-push_cases [] y x one) [ inl none ↦ absurd (none_of_none x none) | inr same ↦ inl same ]
 
--- what is kept of an option is in the list
+-- the result of an option is in the list
 abbrev Kept : List Known → Result (Option Known) Refusal → Type 0
 Kept ks (Err e) = ⊥
 Kept ks (Ok None) = Unit {0}
@@ -55,7 +55,7 @@ kept_more k ks (Ok None) h = h
 kept_more k ks (Ok (Some j)) h = tail j k ks h
 
 module _ (judgement : RawOption → Result (Option Known) Refusal) where
-  -- each option is kept, or the whole is refused for one of them
+  -- each option is in the result, or one of them is refused
   abbrev KeepsAll : List RawOption → Result (List Known) Refusal → Type 0
   KeepsAll os (Err e) = (o : RawOption) × Contains os o × (judgement o ≡ Err e)
   KeepsAll os (Ok ks) = (o : RawOption) → Contains os o → Kept ks (judgement o)
@@ -79,7 +79,7 @@ named_by t = cond (bytes_eq t (name_text name.Blksize)) (Some name.Blksize)
     (cond (bytes_eq t (name_text name.Timeout)) (Some name.Timeout)
     (cond (bytes_eq t (name_text name.Tsize)) (Some name.Tsize) None))
 
--- an option that says so is read so
+-- an option with this name and number is read as such
 named : (text : List ℕ) (one : Name) → str_to_ascii_lowercase text ≡ name_text one → name_of text ≡ Some one
 unfolding name_of
 named text name.Blksize h = ap named_by h
@@ -101,7 +101,7 @@ taken-reads asked kind mode limit o one n s =
     ap (λ a. taken asked kind mode limit a (number_of o.value)) (named o.name one s.name)
     ∙ ap (taken asked kind mode limit (Some one)) (numbered o.value n s.value s.fits)
 
--- which way a test went that gave an `Err`
+-- the outcome of a test that gave an `Err`
 cond_err : {A E : Type 0} (b : Bool) (x : A) (e f : E) → cond b (Ok x) (Err e) ≡ Err f → (b ≡ false) × (e ≡ f)
 cond_err true x e f h = cc
 cond_err false x e f h = (refl, cc)
@@ -113,7 +113,7 @@ either_way false x e = inr refl
 above : (n m : ℕ) → nat_le n m ≡ false → m < n
 above n m h = grind (arith, nat_tests)
 
--- why a server refuses an option
+-- the reason that a server refuses an option
 abbrev IsTooLong : Kind → Mode → Limits → Option Name → Option ℕ → Refusal → Type 0
 IsTooLong kind mode limits one value e = (e ≡ TooLarge) × (kind ≡ Write) × (mode ≡ Octet)
     × (one ≡ Some name.Tsize) × (n : ℕ) × (value ≡ Some n) × (limits.max_file < n)
@@ -184,7 +184,7 @@ too_large_for_writes options kind mode length limits h =
     let why = too_long-option kind mode length limits one.0 TooLarge one.2 in
     (why.1, why.2, why.4, (one.0, one.1, why.3, why.5), why.6)
 
--- what is taken of an answer within what was asked
+-- the agreement on an answer within the request
 takes-tsize : (asked : Option ℕ) (kind : Kind) (limit n : ℕ) → TakesLength asked kind limit n → taken_tsize asked kind limit (Some n) ≡ Ok (Some (Tsize n))
 takes-tsize None Read limit n h = let some = h.0 in cc
 takes-tsize None Write limit n h = cc
@@ -199,7 +199,7 @@ takes asked kind mode limit name.Blksize n h = ap (λ a. taken_blksize a (Some n
 takes asked kind mode limit name.Timeout n h = ap (λ a. taken_timeout a (Some n)) h ∙ cond-true _ _ _ (eq-eqb n n refl)
 takes asked kind mode limit name.Tsize n h = takes-tsize (asked_value mode asked name.Tsize) kind limit n h
 
--- an option says one thing
+-- an option has one name and one number
 says_one : (o : RawOption) (one other : Name) (n m : ℕ) → Says o one n → Says o other m → known_of one n ≡ known_of other m
 says_one o one other n m s t =
     let a : Some one ≡ Some other = sym (named o.name one s.name) ∙ named o.name other t.name in
@@ -208,7 +208,7 @@ says_one o one other n m s t =
     let d : n ≡ m = cc in
     ap (λ a. known_of a n) c ∙ ap (known_of other) d
 
--- what is taken of an OACK that repeats no name
+-- the agreement on an OACK that repeats no name
 agrees : (asked : Asked) (kind : Kind) (mode : Mode) (options : List RawOption) (limit : ℕ) (r : Result (List Known) Refusal) → agreement asked kind mode options limit ≡ r → KeepsAll (taken_option asked kind mode limit) options r → AllByRecursion (AnswersAsked asked kind mode limit) options
     → (known : List Known) × (agreement asked kind mode options limit ≡ Ok known)
     × ((one : Name) (n : ℕ) → HasOption options one n → Contains known (known_of one n))

@@ -36,7 +36,7 @@ pub numbers_are_printed : NumbersArePrinted
 numbers_are_printed text n =
     (λ h. decimal-number_of text n h, λ h. ap number_of h.0 ∙ number_of-decimal n h.1)
 
--- each of a list, by what each tells
+-- a weaker property of each element of a list
 AllByRecursion-weaker : {X : Type 0} (P Q : X → Type 0) → ((x : X) → P x → Q x) → (xs : List X) → AllByRecursion P xs → AllByRecursion Q xs
 AllByRecursion-weaker P Q f [] h = tt
 AllByRecursion-weaker P Q f (x ∷ xs) h = (f x h.0, AllByRecursion-weaker P Q f xs h.1)
@@ -52,7 +52,7 @@ negotiated_ok judgement os ks h = chosen (repeats os) (each_judged judgement os)
   chosen true r js h = cc
   chosen false r js h = (refl, h)
 
--- where a kept option comes from
+-- the option that a result is from
 abbrev ComesFrom : (RawOption → Result (Option Known) Refusal) → List RawOption → Known → Type 0
 ComesFrom judgement os k = (o : RawOption) × Contains os o × (judgement o ≡ Ok (Some k))
 
@@ -73,7 +73,7 @@ module _ (judgement : RawOption → Result (Option Known) Refusal) where
       subst (AllByRecursion (ComesFrom judgement (o ∷ os))) same
       ((o, Contains-head o os, is), AllByRecursion-weaker (ComesFrom judgement os) (ComesFrom judgement (o ∷ os)) (λ k w. (w.0, Contains-tail o w.0 os w.1, w.2)) js (below js refl))
 
-  -- each kept option comes from an option of the list
+  -- each result is from an option of the list
   comes : (os : List RawOption) (ks : List Known) → each_judged judgement os ≡ Ok ks → AllByRecursion (ComesFrom judgement os) ks
   comes [] ks h = let same : [] ≡ ks = cc in subst (AllByRecursion (ComesFrom judgement [])) same tt
   comes (o ∷ os) ks h = comes-cons o os (judgement o) (each_judged judgement os) ks refl (comes os) h
@@ -89,7 +89,7 @@ module _ (judgement : RawOption → Result (Option Known) Refusal) where
   kept [] ks h = tt
   kept (o ∷ os) ks h = kept-cons o os (judgement o) (each_judged judgement os) ks refl (kept os) h
 
--- what is answered to an option is within the request
+-- the answer to an option is within the request
 within-tsize : (options : List RawOption) (mode : Mode) (kind : Kind) (length n : ℕ) (limits : Limits) (k : Known) → Requests options name.Tsize n → answered_tsize mode kind length limits.max_file n ≡ Ok (Some k) → IsWithinRequest options kind length limits k
 within-tsize options Netascii kind length n limits k r h = cc
 within-tsize options Octet Read length n limits k r h =
@@ -125,7 +125,7 @@ answers_within_request options kind mode length limits known h =
     (λ k w. within-request options kind mode length limits (name_of w.0.name) (number_of w.0.value) k (λ nm n a b. (w.0, w.1, a, b)) w.2)
     known (comes (answered_option kind mode length limits) options known ok.1)
 
--- what is taken was asked
+-- an accepted option was requested
 asked-blksize : (asked : Option ℕ) (value : Option ℕ) (v : Option Known) → taken_blksize asked value ≡ Ok v → IsSome asked
 asked-blksize None value v h = cc
 asked-blksize (Some most) value v h = refl
@@ -144,7 +144,7 @@ was-asked asked kind mode limit (Some name.Blksize) value v h = (name.Blksize, r
 was-asked asked kind mode limit (Some name.Timeout) value v h = (name.Timeout, refl, asked-timeout asked.timeout value v h)
 was-asked asked kind mode limit (Some name.Tsize) value v h = (name.Tsize, refl, asked-tsize (asked_tsize mode asked) kind limit value v h)
 
--- what is taken does not exceed what was asked
+-- an accepted option does not exceed the request
 taken-blksize : (asked : Asked) (kind : Kind) (mode : Mode) (limit : ℕ) (a : Option ℕ) (value : Option ℕ) (k : Known) → asked.blksize ≡ a → taken_blksize a value ≡ Ok (Some k) → IsWithinAsked asked kind mode limit k
 taken-blksize asked kind mode limit None value k e h = cc
 taken-blksize asked kind mode limit (Some most) None k e h = cc
@@ -197,14 +197,14 @@ takes_nothing_unasked asked kind mode options limit known h =
           known (comes (taken_option asked kind mode limit) options known ok.1),
     )
 
--- a name as it is spelled means itself
+-- a name as it is sent is read as itself
 name_of-name_text : (nm : Name) → name_of (name_text nm) ≡ Some nm
 unfolding name_of
 name_of-name_text name.Blksize = refl
 name_of-name_text name.Timeout = refl
 name_of-name_text name.Tsize = refl
 
--- an option as it is spelled is read as what it says
+-- an option as it is sent is read as its name and number
 answered-reads : (kind : Kind) (mode : Mode) (length : ℕ) (limits : Limits) (nm : Name) (n : ℕ) → n < 2 ^ 64 → answered_option kind mode length limits (option_of nm n) ≡ answered kind mode length limits (Some nm) (Some n)
 unfolding answered_option
 answered-reads kind mode length limits nm n fits =
@@ -217,7 +217,7 @@ taken-reads asked kind mode limit nm n fits =
     ap (λ a. taken asked kind mode limit a (number_of (decimal n))) (name_of-name_text nm)
     ∙ ap (taken asked kind mode limit (Some nm)) (number_of-decimal n fits)
 
--- the client takes the answer to one option that it asked
+-- the client accepts the answer to an option that it requested
 abbrev Takes : Asked → Kind → Mode → ℕ → Known → Type 0
 Takes asked kind mode limit k = taken_option asked kind mode limit (known_option k) ≡ Ok (Some k)
 
@@ -251,7 +251,7 @@ takes-one asked kind mode client_length length limit limits name.Timeout n k t m
     (taken-reads asked kind mode limit name.Timeout n fits ∙ (ap (λ a. taken_timeout a (Some n)) e ∙ cond-true _ _ _ (eq-eqb n n refl)))
 takes-one asked kind mode client_length length limit limits name.Tsize n k t max fits e h = takes-tsize asked kind mode client_length length limit n limits k t fits e h
 
--- an option that a client's request spells
+-- an option of a client's request
 abbrev IsRequested : Asked → Mode → RawOption → Type 0
 IsRequested asked mode o = (nm : Name) × (n : ℕ) × (asked_value mode asked nm ≡ Some n) × (o ≡ option_of nm n)
 
@@ -279,7 +279,7 @@ asked_fits asked kind mode client_length name.Tsize n ok h e =
     let is : n ≡ request_tsize kind client_length = subst (λ v. IfSome v (λ m. m ≡ request_tsize kind client_length)) e ok.tsize in
     subst (λ m. m < 2 ^ 64) (sym is) (request_fits kind client_length h)
 
--- what each option of a list is judged to be is what the list is judged to be
+-- the judgement of a list is the judgements of its options
 judged-spelled : (judgement : RawOption → Result (Option Known) Refusal) (ks : List Known) → AllByRecursion (λ k. judgement (known_option k) ≡ Ok (Some k)) ks → each_judged judgement (agreed_options ks) ≡ Ok ks
 judged-spelled judgement [] h = refl
 judged-spelled judgement (k ∷ ks) h =
@@ -334,7 +334,7 @@ ends_agree asked kind mode client_length length limit limits known ok t max h =
     known (comes server options known given.1) in
     cond-false _ _ _ (repeats_none (agreed_options known) (agreed-once known rule)) ∙ judged-spelled client known each
 
--- a list repeats no name where its negotiation gives something, so what it gives may be agreed
+-- a list that is agreed repeats no name, so its result may be agreed
 may_be_agreed : (judgement : RawOption → Result (Option Known) Refusal) → Keeps judgement → (options : List RawOption) (known : List Known) → negotiated judgement options ≡ Ok known → IsAgreement known
 may_be_agreed judgement keeps options known h =
     let ok = negotiated_ok judgement options known h in

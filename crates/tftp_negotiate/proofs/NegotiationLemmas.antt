@@ -1,4 +1,4 @@
--- What is known of a negotiation after each of its options.
+-- The state of a negotiation after each of its options.
 use Rattle.std.proofs.Common.{◌≡◌, ℕ, ◌+◌, ◌<◌, ◌≤◌, Bool, true, false, not, ◌||◌, cond, nat_lt, zero-add, add-zero, length, get_or, take, drop, List, [], ◌∷◌, ◌++◌, Option, Some, None, Result, Ok, Err, IfOk, refl, sym, ◌∙◌, ap, subst, arith}
 use Rattle.std.specs.List.{AllByRecursion}
 use Rattle.std.proofs.lemmas.Bool.{cond-true, cond-false, ltb-true, ltb-false, lt-ltb}
@@ -59,7 +59,7 @@ each_judged-push judgement [] o = join_first (judgement o)
 each_judged-push judgement (x ∷ xs) o =
     ap (kept_before (judgement x)) (each_judged-push judgement xs o) ∙ join_assoc (judgement x) (each_judged judgement xs) (judgement o)
 
--- what is kept of an option bears its name, and a value that may be agreed
+-- the result of an option has its name, and a value that may be agreed
 pub record Keeps (judgement : RawOption → Result (Option Known) Refusal) : Type 0 where
   pub names : (o : RawOption) (k : Known) → judgement o ≡ Ok (Some k) → name_of o.name ≡ Some (name_of_known k)
   pub values : (o : RawOption) (k : Known) → judgement o ≡ Ok (Some k) → IsAgreeable k
@@ -100,7 +100,7 @@ module _ (judgement : RawOption → Result (Option Known) Refusal) (keeps : Keep
       let whole = ap (count_of name) same in
       omega (arith, b, c, p, here, whole)
 
-  -- what is kept stands in as many places as in the list, or fewer
+  -- a name occurs in the result at most as often as in the list
   pub counts : (name : Name) (os : List RawOption) (ks : List Known) → each_judged judgement os ≡ Ok ks → count_of name ks ≤ places_of name os
   counts name [] ks h = let same : [] ≡ ks = cc in let whole = ap (count_of name) same in omega (arith, whole)
   counts name (o ∷ os) ks h = counts-cons name o os (judgement o) (each_judged judgement os) ks refl (counts name os) h
@@ -117,14 +117,14 @@ module _ (judgement : RawOption → Result (Option Known) Refusal) (keeps : Keep
   values [] ks h = let same : [] ≡ ks = cc in subst (AllByRecursion IsAgreeable) same tt
   values (o ∷ os) ks h = values-cons o (judgement o) (each_judged judgement os) ks refl (values os) h
 
-  -- what is kept of options without a repeated name is an agreement
+  -- the result of options without a repeated name is an agreement
   pub IsAgreement-from_judged : (os : List RawOption) (outcome : Result (List Known) Refusal) → AreOnce os → outcome ≡ each_judged judgement os → IfOk outcome IsAgreement
   IsAgreement-from_judged os (Err e) once h = tt
   IsAgreement-from_judged os (Ok ks) once h =
       let c : (name : Name) → count_of name ks ≤ 1 = λ name. let k = counts name os ks (sym h) in let o = once name in omega arith in
       record { values = values os ks (sym h); once = none_twice _ _ _ (c Blksize) (c Timeout) (c Tsize) }
 
--- the state of a negotiation after these options: the names that came, none of them twice, and the outcome
+-- the state of a negotiation after these options: the names seen, none repeated, and the outcome
 pub record Reads (judgement : RawOption → Result (Option Known) Refusal) (os : List RawOption) (seen : Names) (outcome : Result (List Known) Refusal) : Type 0 where
   pub came : (name : Name) → has seen name ≡ nat_lt 0 (places_of name os)
   pub once : AreOnce os
@@ -205,7 +205,7 @@ module _ (judgement : RawOption → Result (Option Known) Refusal) where
   pub Reads-all : (os : List RawOption) (seen : Names) (outcome : Result (List Known) Refusal) → Reads judgement os seen outcome → outcome ≡ negotiated judgement os
   Reads-all os seen outcome reads = reads.judged ∙ sym (cond-false _ _ _ (repeats_none os reads.once))
 
-  -- where a name comes again
+  -- if a name is repeated
   pub Reads-again : (os : List RawOption) (seen : Names) (outcome : Result (List Known) Refusal) (o : RawOption) (others : List RawOption) → Reads judgement os seen outcome → has_name seen (name_of o.name) ≡ true → negotiated judgement ((os ++ o ∷ []) ++ others) ≡ Err Repeated
   Reads-again os seen outcome o others reads old =
       let w = again seen (name_of o.name) old in
@@ -215,16 +215,16 @@ module _ (judgement : RawOption → Result (Option Known) Refusal) where
       let q = places_of-append w.0 (os ++ o ∷ []) others in
       cond-true _ _ _ (repeats_some w.0 ((os ++ o ∷ []) ++ others) (omega (arith, before, here, p, q)))
 
-  -- what stands so far is an agreement
+  -- the outcome so far is an agreement
   pub Reads-rule : Keeps judgement → (os : List RawOption) (seen : Names) (outcome : Result (List Known) Refusal) → Reads judgement os seen outcome → IfOk outcome IsAgreement
   Reads-rule keeps os seen outcome reads = IsAgreement-from_judged judgement keeps os outcome reads.once reads.judged
 
--- a name that was new was not there
+-- a new name was not in the set
 pub was_new : (b r : Bool) → r ≡ not b → r ≡ true → b ≡ false
 was_new true r h t = cc
 was_new false r h t = refl
 
--- a name that was not new was there
+-- a name that is not new was in the set
 pub was_there : (b r : Bool) → r ≡ not b → r ≡ false → b ≡ true
 was_there true r h t = refl
 was_there false r h t = cc

@@ -1,4 +1,4 @@
--- A name by its letters, and a number by its printing.
+-- A name by its letters, and a number by its decimal digits.
 use Rattle.std.proofs.Common.{◌≡◌, ℕ, ◌^◌, ◌<◌, ◌↔◌, Bool, true, false, ◌&&◌, cond, List, Some, None, Ok, Err, Result, MatchResult, IsTrue, decimal, nat_lt, bytes_eq, refl, sym, ◌∙◌, ap, subst, arith}
 use Rattle.std.specs.Str.{str_to_ascii_lowercase, IsUtf8}
 use Rattle.std.specs.Result.{result_ok}
@@ -44,13 +44,13 @@ pub both_parts : (a b : Bool) → (a && b) ≡ true → (a ≡ true) × (b ≡ t
 both_parts true b h = (refl, h)
 both_parts false b h = (h, cc)
 
--- the printing of a number is that number
+-- the decimal digits of a number are that number
 pub number_of-decimal : (n : ℕ) → n < 2 ^ 64 → number_of (decimal n) ≡ Some n
 number_of-decimal n small =
     number_by (decimal n) n (decimal_is_IsNumeral n small).1
     ∙ cond-true _ _ _ (both_true ((bytes_eq-Decides (decimal n) (decimal n)).1 refl) (grind (arith, nat_tests)))
 
--- a text that is a number is the number's printing
+-- a text that is a number is the number's decimal digits
 pub decimal-number_of : (text : List ℕ) (n : ℕ) → number_of text ≡ Some n → (text ≡ decimal n) × (n < 2 ^ 64)
 decimal-number_of text n h =
     let s = cond_some (bytes_eq (decimal (digits_value 10 text)) text && nat_lt (digits_value 10 text) (2 ^ 64)) (digits_value 10 text) n (sym (number_by text (digits_value 10 text) refl) ∙ h) in
@@ -58,7 +58,7 @@ decimal-number_of text n h =
     let e : text ≡ decimal (digits_value 10 text) = sym ((bytes_eq-Decides (decimal (digits_value 10 text)) text).0 p.0) in
     (e ∙ ap decimal s.1, let m = p.1 in let k = s.1 in grind (arith, nat_tests))
 
--- what is the printing of no number is no number
+-- a text that is not the decimal digits of a number is not a number
 pub number_of_none : (text : List ℕ) → ((n : ℕ) → n < 2 ^ 64 → text ≡ decimal n → ⊥) → None ≡ number_of text
 number_of_none text none =
     let v = digits_value 10 text in
@@ -67,21 +67,21 @@ number_of_none text none =
     let is = decimal-number_of text v (e ∙ cond-true _ _ _ t) in none v is.1 is.0) in
     sym (e ∙ cond-false _ _ _ no)
 
--- the printing of a number is text
+-- the decimal digits of a number are UTF-8
 pub IsUtf8-from_decimal : (text : List ℕ) (n : ℕ) → n < 2 ^ 64 → text ≡ decimal n → IsUtf8 text
 IsUtf8-from_decimal text n small e = IsUtf8-from_ascii text (rw e (IsAscii-decimal n small))
 
--- what failed says why
+-- the fact that a failed call gives
 pub why_none : {X E : Type 0} (r : Result X E) (P : X → Type 0) (Q : E → Type 0) (U : Type 0) → MatchResult r P (λ e. ¬ U × Q e) → result_ok r ≡ None → U → ⊥
 why_none (Ok x) P Q U h none = cc
 why_none (Err e) P Q U h none = h.0
 
--- what came says what it is
+-- the fact that a successful call gives
 pub what_some : {X E : Type 0} (r : Result X E) (P : X → Type 0) (Q : E → Type 0) (x : X) → MatchResult r P Q → Some x ≡ result_ok r → P x
 what_some (Ok y) P Q x h some = let e : y ≡ x = cc in subst P e h
 what_some (Err e) P Q x h some = cc
 
--- what was parsed fits
+-- a parsed number fits 64 bits
 pub parsed_small : {E : Type 0} (bytes : List ℕ) (r : Result ℕ E) (n : ℕ) → ParsesUnsigned 64 10 bytes r → Some n ≡ result_ok r → n < 2 ^ 64
 parsed_small bytes (Ok m) n h some = let e : m ≡ n = cc in let small = h.0.1 in let same = h.1 in omega arith
 parsed_small bytes (Err e) n h some = cc

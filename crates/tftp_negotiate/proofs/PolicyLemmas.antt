@@ -1,4 +1,4 @@
--- What either side keeps of an option.
+-- The results of either side for an option.
 use Rattle.std.proofs.Common.{◌≡◌, ℕ, Bool, true, false, cond, min, nat_le, ◌==◌, ◌&&◌, Option, Some, None, Ok, Err, IfSome, refl, sym, subst, arith}
 use Rattle.std.proofs.lemmas.Option.{cond_some}
 use Rattle.std.proofs.lemmas.Bool.{eqb-true}
@@ -30,12 +30,12 @@ block_size_from_test n h = (grind (arith, nat_tests), grind (arith, nat_tests))
 pub timeout_from_test : (n : ℕ) → is_in timeouts n ≡ true → IsTimeout n
 timeout_from_test n h = (grind (arith, nat_tests), grind (arith, nat_tests))
 
--- which way a test went that gave an `Ok`
+-- the outcome of a test that gave an `Ok`
 pub cond_ok : {A E : Type 0} (b : Bool) (x y : A) (e : E) → cond b (Ok x) (Err e) ≡ Ok y → (b ≡ true) × (x ≡ y)
 cond_ok true x y e h = (refl, cc)
 cond_ok false x y e h = cc
 
--- the option bears this name, and its value may be agreed
+-- the option has this name, and its value may be agreed
 abbrev Bears : Option Name → Known → Type 0
 Bears one k = (one ≡ Some (name_of_known k)) × IsAgreeable k
 
@@ -122,7 +122,7 @@ taken_option-Keeps asked kind mode limit ok = record {
   values = λ o k h. (taken-Bears asked kind mode limit (name_of o.name) (number_of o.value) k ok h).1;
 }
 
--- either side keeps options under their names, with values that may be agreed
+-- the results of either side have the names of the options, and values that may be agreed
 pub judged-Keeps : (policy : Policy) → IsSoundPolicy policy → Keeps (judged policy)
 judged-Keeps (Server kind mode length limits) ok = answered_option-Keeps kind mode length limits ok
 judged-Keeps (Client asked kind mode limit) ok = taken_option-Keeps asked kind mode limit ok

@@ -1,4 +1,4 @@
--- Known options as they are spelled are options of a packet.
+-- Known options as they are sent are options of a packet.
 use Rattle.std.proofs.Common.{◌≡◌, ℕ, ◌+◌, ◌^◌, ◌<◌, ◌≤◌, List, [], ◌∷◌, ◌++◌, length, map, Option, Some, None, IfSome, decimal, sym, ap, ◌∙◌, subst, arith, inl, inr}
 use Rattle.std.specs.Prelude.{◌≢◌}
 use Rattle.std.specs.List.{AllByRecursion}
@@ -19,7 +19,7 @@ use Rattle.tftp_negotiate.specs.Asked.{asked_tsize, option_of, option_if, reques
 use Rattle.tftp_negotiate.specs.Laws.{HasWord, KnownAreOptions, AskedAreOptions}
 use Rattle.tftp_negotiate.specs.Options.{name_text}
 
--- the digits of a number are no zero bytes
+-- the digits of a number are not zero bytes
 digits_text : (digits : List ℕ) → IsText (map (λ d. 48 + d) digits)
 digits_text [] = tt
 digits_text (d ∷ digits) = ((let z : 48 + d ≢ 0 = omega arith in z), digits_text digits)
@@ -35,7 +35,7 @@ name_is Blksize = ((λ e. cc), (omega arith, (omega arith, (omega arith, (omega 
 name_is Timeout = ((λ e. cc), (omega arith, (omega arith, (omega arith, (omega arith, (omega arith, (omega arith, (omega arith, tt))))))), omega arith)
 name_is Tsize = ((λ e. cc), (omega arith, (omega arith, (omega arith, (omega arith, (omega arith, tt))))), omega arith)
 
--- an option that is spelled with its number
+-- an option as it is sent with its number
 record Spelled (o : RawOption) : Type 0 where
   pub option : IsOption o
   pub short : length (option_bytes o) ≤ 29
@@ -65,12 +65,12 @@ known_are_options (k ∷ ks) h =
     let c = others.1 in
     ((one.option, others.0), omega (arith, a, b, c))
 
--- where there is a number, it fits 64 bits
+-- the number, if there is one, fits 64 bits
 word_if : (P : ℕ → Type 0) → ((n : ℕ) → P n → n < 2 ^ 64) → (value : Option ℕ) → IfSome value P → IfSome value (λ n. n < 2 ^ 64)
 word_if P fits None h = tt
 word_if P fits (Some n) h = fits n h
 
--- options where there is a number, and others behind them
+-- an option, if there is a number, and others after it
 options_if : (name : Name) (value : Option ℕ) (others : List RawOption) → IfSome value (λ n. n < 2 ^ 64) → AllByRecursion IsOption others → AllByRecursion IsOption (option_if name value ++ others)
 options_if name None others h rest = rest
 options_if name (Some n) others h rest = (let s = spelled_option name n h in s.option, rest)

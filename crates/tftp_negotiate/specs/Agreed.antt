@@ -1,4 +1,4 @@
--- The options that both ends hold to.
+-- The options that both ends agree on.
 use Rattle.std.specs.Prelude.{ℕ, ◌≡◌, false, List, [], ◌∷◌, Option, Some, None, map}
 use Rattle.std.specs.List.{AllByRecursion}
 use Rattle.tftp_wire.specs.declared.options.RawOption.{RawOption}
@@ -29,16 +29,16 @@ IsAgreeable (Blksize n) = IsBlockSize n
 IsAgreeable (Timeout n) = IsTimeout n
 IsAgreeable (Tsize n) = Unit {0}
 
--- in how many places of an agreement a name stands
+-- how often a name occurs in an agreement
 abbrev pub count_of : Name → List Known → ℕ
 count_of name known = places (λ k. Some (name_of_known k)) name known
 
--- each value may be agreed, and no name stands twice
+-- each value may be agreed, and no name is repeated
 pub record IsAgreement (known : List Known) : Type 0 where
   pub values : AllByRecursion IsAgreeable known
   pub once : stands_twice (λ name. count_of name known) ≡ false
 
--- the block size of a transfer, in data bytes: the default where none is agreed
+-- the block size of a transfer, in data bytes: the default if none is agreed
 -- (RFC 1350, section 2; RFC 2348)
 abbrev pub size : List Known → ℕ
 size [] = DEFAULT_BLOCK
@@ -46,14 +46,14 @@ size (Blksize n ∷ others) = n
 size (Timeout n ∷ others) = size others
 size (Tsize n ∷ others) = size others
 
--- the agreed time to wait, in seconds
+-- the agreed timeout, in seconds
 abbrev pub timeout_of : List Known → Option ℕ
 timeout_of [] = None
 timeout_of (Blksize n ∷ others) = timeout_of others
 timeout_of (Timeout n ∷ others) = Some n
 timeout_of (Tsize n ∷ others) = timeout_of others
 
--- a known option as this project spells it
+-- a known option as it is sent
 abbrev pub known_option : Known → RawOption
 known_option (Blksize n) = option_of name.Blksize n
 known_option (Timeout n) = option_of name.Timeout n

@@ -1,4 +1,4 @@
--- What a client asks, and how its request spells it (RFC 2347, "Packet Formats").
+-- The options that a client requests, and how they are sent (RFC 2347, "Packet Formats").
 use Rattle.std.specs.Prelude.{ℕ, ◌≡◌, List, [], ◌∷◌, ◌++◌, Option, Some, None, IfSome, decimal}
 use Rattle.tftp_wire.specs.declared.options.RawOption.{RawOption}
 use Rattle.tftp_wire.specs.declared.mode.Mode.{Mode}
@@ -12,12 +12,12 @@ use Rattle.tftp_negotiate.specs.declared.name.Name.TheVariants.{Blksize, Timeout
 use Rattle.tftp_negotiate.specs.Options.{name_text}
 use Rattle.tftp_negotiate.specs.Ranges.{IsBlockSize, IsTimeout}
 
--- the tsize that counts as asked: in netascii there is none
+-- the tsize that is requested: none in netascii
 abbrev pub asked_tsize : Mode → Asked → Option ℕ
 asked_tsize Octet asked = asked.tsize
 asked_tsize Netascii asked = None
 
--- the value that counts as asked under a name
+-- the value that is requested under a name
 abbrev pub asked_value : Mode → Asked → Name → Option ℕ
 asked_value mode asked Blksize = asked.blksize
 asked_value mode asked Timeout = asked.timeout
@@ -29,21 +29,21 @@ abbrev pub request_tsize : Kind → ℕ → ℕ
 request_tsize Read length = 0
 request_tsize Write length = length
 
--- blksize and timeout, where they are there, may be asked
+-- blksize and timeout, if present, may be requested
 pub record IsAskable (asked : Asked) : Type 0 where
   pub blksize : IfSome asked.blksize IsBlockSize
   pub timeout : IfSome asked.timeout IsTimeout
 
--- what is asked fits a transfer of this kind and mode, and a file of this length
+-- the request fits a transfer of this kind and mode, and a file of this length
 pub record IsFor (asked : Asked) (kind : Kind) (mode : Mode) (length : ℕ) : Type 0 where
   pub askable : IsAskable asked
   pub tsize : IfSome (asked_tsize mode asked) (λ n. n ≡ request_tsize kind length)
 
--- an option as this project spells it: the name in lower case, the value in decimal
+-- an option as it is sent: the name in lower case, the value in decimal
 abbrev pub option_of : Name → ℕ → RawOption
 option_of name n = record { name = name_text name; value = decimal n }
 
--- the option, where there is a value
+-- the option, if there is a value
 abbrev pub option_if : Name → Option ℕ → List RawOption
 option_if name None = []
 option_if name (Some n) = option_of name n ∷ []
@@ -53,7 +53,7 @@ abbrev pub known_if : Option Known → List Known
 known_if None = []
 known_if (Some known) = known ∷ []
 
--- the options of a client's request, in the order in which this project sends them
+-- the options of a client's request, in the order in which they are sent
 abbrev pub asked_options : Asked → Mode → List RawOption
 asked_options asked mode = option_if Blksize asked.blksize
     ++ (option_if Timeout asked.timeout ++ option_if Tsize (asked_tsize mode asked))

@@ -4,18 +4,18 @@ use Rattle.tftp_negotiate.specs.declared.name.Names.{Names}
 use Rattle.tftp_negotiate.specs.declared.name.Name.{Name}
 use Rattle.tftp_negotiate.specs.declared.name.Name.TheVariants.{Blksize, Timeout, Tsize}
 
--- the set holds the name
+-- the set has the name
 abbrev pub has : Names → Name → Bool
 has names Blksize = names.blksize
 has names Timeout = names.timeout
 has names Tsize = names.tsize
 
--- there is a name, and the set holds it
+-- there is a name, and the set has it
 abbrev pub has_name : Names → Option Name → Bool
 has_name names None = false
 has_name names (Some name) = has names name
 
--- the set and this name, where there is one
+-- the set with this name, if there is one
 abbrev pub with_name : Names → Option Name → Names
 with_name names None = names
 with_name names (Some Blksize) = record names { blksize = true }

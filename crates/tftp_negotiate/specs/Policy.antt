@@ -1,4 +1,4 @@
--- By which side's rules an option is judged.
+-- The rules of each side for an option.
 use Rattle.std.specs.Prelude.{Result, Option}
 use Rattle.tftp_wire.specs.declared.options.RawOption.{RawOption}
 use Rattle.tftp_negotiate.specs.declared.known.Known.{Known}
@@ -10,7 +10,7 @@ use Rattle.tftp_negotiate.specs.Agreement.{taken_option}
 use Rattle.tftp_negotiate.specs.Asked.{IsAskable}
 use Rattle.tftp_negotiate.specs.Ranges.{IsBlockSize}
 
--- what becomes of an option
+-- the judgement of an option
 abbrev pub judged : Policy → RawOption → Result (Option Known) Refusal
 judged (Server kind mode length limits) = answered_option kind mode length limits
 judged (Client asked kind mode limit) = taken_option asked kind mode limit

@@ -3,7 +3,7 @@ use Rattle.std.specs.Prelude.{ℕ, ◌≤◌, Bool, ◌&&◌, nat_le}
 use Rattle.tftp_wire.specs.declared.limits.TheConstants.{MAX_BLOCK}
 use Rattle.tftp_negotiate.specs.declared.limits.TheConstants.{MIN_BLOCK, MIN_TIMEOUT, MAX_TIMEOUT}
 
--- the numbers from the one bound to the other, both included
+-- the numbers between two bounds, both included
 pub record Range : Type 0 where
   pub least : ℕ
   pub most : ℕ
@@ -16,7 +16,7 @@ IsIn range n = (range.least ≤ n) × (n ≤ range.most)
 abbrev pub is_in : Range → ℕ → Bool
 is_in range n = nat_le range.least n && nat_le n range.most
 
--- the block sizes up to one, in data bytes
+-- the block sizes up to a maximum, in data bytes
 abbrev pub block_sizes_to : ℕ → Range
 block_sizes_to most = record { least = MIN_BLOCK; most = most }
 
@@ -28,10 +28,10 @@ block_sizes = block_sizes_to MAX_BLOCK
 abbrev pub timeouts : Range
 timeouts = record { least = MIN_TIMEOUT; most = MAX_TIMEOUT }
 
--- a size of a block
+-- a block size
 abbrev pub IsBlockSize : ℕ → Type 0
 IsBlockSize n = IsIn block_sizes n
 
--- a time to wait
+-- a timeout
 abbrev pub IsTimeout : ℕ → Type 0
 IsTimeout n = IsIn timeouts n

@@ -1,7 +1,8 @@
 -- The numbers of the refusals.
 use Rattle.std.specs.Prelude.{ℕ}
 use Rattle.tftp_negotiate.specs.declared.refusal.Refusal.{Refusal}
-use Rattle.tftp_negotiate.specs.declared.refusal.Refusal.TheVariants.{Repeated, TooLarge, NotAsked, BadValue}
+use Rattle.tftp_negotiate.specs.declared.refusal.Refusal.TheVariants.{Repeated, TooLarge, NotAsked}
+use Rattle.tftp_negotiate.specs.declared.refusal.Refusal.TheVariants.{BadValue}
 
 -- the number of a refusal
 abbrev pub refusal_number : Refusal → ℕ

@@ -1,4 +1,4 @@
-//! The options that both ends of a transfer hold to.
+//! The options that both ends of a transfer agree on.
 
 ghost use Rattle.std.specs.Prelude.{◌≡◌, ◌↔◌, [], ◌∷◌, ◌++◌, IsTrue, IfSome};
 ghost use Rattle.tftp_negotiate.specs.Agreed.{IsAgreement, size, timeout_of};
@@ -9,9 +9,9 @@ use crate::limits::DEFAULT_BLOCK;
 use arrayvec::ArrayVec;
 use std::marker::Model;
 
-/// The options that are agreed, in the order of the request, each at most once and with a value in
-/// its range (RFC 2347, "Negotiation Protocol"). Without any, the transfer has the defaults of RFC
-/// 1350. Contracts see the list.
+/// The agreed options, in the order of the packet that they were agreed from, each at most once and
+/// with a value in its range (RFC 2347, "Negotiation Protocol"). Without options, the defaults of
+/// RFC 1350 apply. Its model is the list.
 #[derive(Debug, Drop)]
 pub struct Agreed {
     list: ArrayVec<Known, 3>,
@@ -38,7 +38,7 @@ impl Default for Agreed {
 }
 
 impl Agreed {
-    /// No option: what a transfer without options agrees on.
+    /// The agreement without options.
     pub fn new() -> Agreed
         ensures { result ≡ [] }
     {
@@ -47,7 +47,7 @@ impl Agreed {
         }
     }
 
-    /// The options, in the order of the request.
+    /// The options, in order.
     pub fn as_slice(&self) -> &[Known]
         ensures options { result.now ≡ self.now }
         ensures rule { IsAgreement self.now }
@@ -62,7 +62,7 @@ impl Agreed {
         self.list.as_slice().is_empty()
     }
 
-    /// The size of a block, in data bytes: `blksize`, or `DEFAULT_BLOCK` where it is not agreed
+    /// The size of a block, in data bytes: `blksize`, or `DEFAULT_BLOCK` if it is not agreed
     /// (RFC 2348, "Blocksize Option Specification"; RFC 1350, section 2).
     pub fn block_size(&self) -> u16
         ensures size { result ≡ size self.now }
@@ -76,7 +76,7 @@ impl Agreed {
         DEFAULT_BLOCK
     }
 
-    /// The seconds before a datagram is retransmitted, where they are agreed
+    /// The seconds before a retransmission, if they are agreed
     /// (RFC 2349, "Timeout Interval Option Specification").
     pub fn timeout(&self) -> Option<u8>
         ensures timeout { result ≡ timeout_of self.now }
@@ -90,7 +90,7 @@ impl Agreed {
         None
     }
 
-    /// The options and one more at their end.
+    /// Appends an option.
     pub(crate) fn with(mut self, option: Known) -> Agreed
         requires { IsAgreement (self ++ option ∷ []) }
         ensures { result ≡ self ++ option ∷ [] }

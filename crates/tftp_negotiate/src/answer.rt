@@ -1,4 +1,4 @@
-//! What a server answers to the options of a request.
+//! A server's answer to the options of a request.
 
 ghost use Rattle.std.specs.Prelude.{◌≡◌, IfOk};
 ghost use Rattle.tftp_wire.specs.Borrowed.{owned_option};
@@ -17,12 +17,12 @@ use crate::policy::Policy;
 use crate::refusal::Refusal;
 use tftp_wire::{Mode, OptionRef, OptionsRef, RawOption};
 
-/// What a server answers to the options of a request, in their order (RFC 2347, "Negotiation
-/// Protocol"). `length` is that of the file to be read, in bytes of wire text; a write does not
-/// use it.
+/// A server's answer to the options of a request, in their order (RFC 2347, "Negotiation
+/// Protocol"). `length` is the length of the file to read, in bytes of wire text; a write ignores
+/// it.
 ///
-/// It fails with `Repeated` where a known option stands twice, whatever its values, and with
-/// `TooLarge` where the file of a write is longer than the limits allow.
+/// It fails with `Repeated` if a known option is repeated, whatever its values, and with
+/// `TooLarge` if the file of a write is longer than the limits allow.
 pub fn accept(
     options: &[RawOption],
     kind: Kind,
@@ -68,7 +68,7 @@ pub fn accept_ref(
     )
 }
 
-/// What is answered to an option, or `None` where it is left out.
+/// The answer to an option, or `None` if it is ignored.
 #[tactic(auto, unfolding(crate::specs::Answer::answered_option))]
 pub(crate) fn answered(
     kind: Kind,
@@ -92,7 +92,7 @@ pub(crate) fn answered(
     }
 }
 
-/// The block size that was asked, but no more than the server allows (RFC 2348).
+/// The requested block size, but at most the server's maximum (RFC 2348).
 fn answered_blksize(asked: u64, max_block: u16) -> Option<Known>
     ensures { result ≡ answered_blksize asked max_block }
 {
@@ -103,7 +103,7 @@ fn answered_blksize(asked: u64, max_block: u16) -> Option<Known>
     }
 }
 
-/// The seconds that were asked (RFC 2349).
+/// The requested seconds (RFC 2349).
 fn answered_timeout(asked: u64) -> Option<Known>
     ensures { result ≡ answered_timeout asked }
 {
@@ -114,7 +114,7 @@ fn answered_timeout(asked: u64) -> Option<Known>
     }
 }
 
-/// The length of the file: answered to a read that asks 0, and the one that a write asks
+/// The length of the file for a read that requests 0, and the requested length for a write
 /// (RFC 2349, "Transfer Size Option Specification").
 fn answered_tsize(
     mode: Mode,

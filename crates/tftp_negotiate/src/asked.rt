@@ -1,4 +1,4 @@
-//! What a client asks of a server.
+//! The options that a client requests.
 
 ghost use Rattle.std.specs.Prelude.{◌≡◌, ◌↔◌, ◌++◌, ◌<◌, ◌+◌, IsTrue};
 ghost use Rattle.arrayvec.specs.ArrayVec.{array_vec_len};
@@ -11,24 +11,24 @@ use crate::limits::{is_block_size, is_timeout};
 use arrayvec::ArrayVec;
 use tftp_wire::Mode;
 
-/// The options that a client asks, each with its value. Without any, no option is sent.
+/// The options that a client requests, each with its value. An option that is `None` is not sent.
 #[derive(Clone, Copy, Debug, Default, PartialEq, Eq)]
 pub struct Asked {
-    /// The greatest block size, in data bytes, `MIN_BLOCK` to `MAX_BLOCK`
+    /// The maximum block size, in data bytes, `MIN_BLOCK` to `MAX_BLOCK`
     /// (RFC 2348, "Blocksize Option Specification").
     pub blksize: Option<u16>,
-    /// The seconds before a datagram is retransmitted, 1 to 255
+    /// The seconds before a retransmission, 1 to 255
     /// (RFC 2349, "Timeout Interval Option Specification").
     pub timeout: Option<u8>,
     /// In bytes of wire text: 0 for a read, the file's length for a write
     /// (RFC 2349, "Transfer Size Option Specification"). In netascii it is not sent, since the
-    /// length is not known before the file has been encoded.
+    /// length is not known before the file is encoded.
     pub tsize: Option<u64>,
 }
 
 impl Asked {
-    /// Whether this can be asked for a transfer of this kind and mode. `length` is the file's, in
-    /// bytes of wire text; a read does not use it.
+    /// Whether a transfer of this kind and mode may request this. `length` is the file's, in bytes
+    /// of wire text; a read ignores it.
     pub fn is_for(&self, kind: Kind, mode: Mode, length: u64) -> bool
         ensures { IsTrue result ↔ IsFor self.now kind mode length }
     {
@@ -39,7 +39,7 @@ impl Asked {
         self.is_askable() && self.tsize_in(mode).is_none_or(|n| n == tsize)
     }
 
-    /// Whether `blksize` and `timeout`, where they are asked, are in their ranges.
+    /// Whether `blksize` and `timeout`, if requested, are in their ranges.
     pub fn is_askable(&self) -> bool
         ensures { IsTrue result ↔ IsAskable self.now }
     {
@@ -50,7 +50,7 @@ impl Asked {
                 .is_none_or(|seconds| is_timeout(u64::from(seconds)))
     }
 
-    /// The options that are asked in this mode, in the order in which a request spells them.
+    /// The options requested in this mode, in the order of the request.
     pub fn options(&self, mode: Mode) -> ArrayVec<Known, 3>
         ensures { agreed_options result.items ≡ asked_options self.now mode }
     {
@@ -60,7 +60,7 @@ impl Asked {
         with_option(timed, self.tsize_in(mode).map(Known::Tsize))
     }
 
-    /// The `tsize` that is asked in this mode: in netascii there is none.
+    /// The `tsize` requested in this mode: none in netascii.
     pub fn tsize_in(&self, mode: Mode) -> Option<u64>
         ensures { result ≡ asked_tsize mode self.now }
     {
@@ -71,7 +71,7 @@ impl Asked {
     }
 }
 
-/// The options and one more, if there is one, at their end.
+/// Appends an option, if there is one.
 fn with_option(mut options: ArrayVec<Known, 3>, option: Option<Known>) -> ArrayVec<Known, 3>
     requires { array_vec_len options < 3 }
     ensures items { result.items ≡ options.items ++ known_if option }

@@ -1,11 +1,11 @@
-//! The options that are known, each with its value, and the two kinds of transfer.
+//! The known options, each with its value, and the two kinds of transfer.
 
 ghost use Rattle.std.specs.Prelude.{◌≡◌};
 ghost use Rattle.tftp_negotiate.specs.Agreed.{name_of_known, value_of_known};
 
 use crate::name::Name;
 
-/// Which way the file goes.
+/// The direction of a transfer.
 #[derive(Clone, Copy, Debug, PartialEq, Eq)]
 pub enum Kind {
     /// From the server to the client: the request is an RRQ.
@@ -17,9 +17,9 @@ pub enum Kind {
 /// A known option with its value.
 #[derive(Clone, Copy, Debug, PartialEq, Eq)]
 pub enum Known {
-    /// The data bytes of a full block (RFC 2348, "Blocksize Option Specification").
+    /// The block size, in data bytes (RFC 2348, "Blocksize Option Specification").
     Blksize(u16),
-    /// The seconds before a datagram is retransmitted
+    /// The seconds before a retransmission
     /// (RFC 2349, "Timeout Interval Option Specification").
     Timeout(u8),
     /// The length of the file in bytes of wire text; 0 in the request of a read
@@ -28,7 +28,7 @@ pub enum Known {
 }
 
 impl Known {
-    /// Which option it is.
+    /// The name of the option.
     pub fn name(self) -> Name
         ensures { result ≡ name_of_known self }
     {
@@ -39,7 +39,7 @@ impl Known {
         }
     }
 
-    /// Its value, which a packet spells in decimal digits.
+    /// The value, which a packet has in decimal digits.
     pub fn value(self) -> u64
         ensures { result ≡ value_of_known self }
     {
@@ -57,7 +57,7 @@ impl Default for Known {
 
     ghost is_default = { λ known. known ≡ Tsize 0 };
 
-    /// `tsize` 0, as a read asks it. It fills the places of a list that are not in use.
+    /// `tsize` 0, as a read requests it. It fills the unused elements of a list.
     fn default() -> Known {
         Known::Tsize(0)
     }

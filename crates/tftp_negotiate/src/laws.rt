@@ -1,4 +1,4 @@
-//! Laws of negotiation: their contracts speak of the definitions alone, and their bodies are empty.
+//! Laws of negotiation, stated on the definitions alone.
 
 ghost use Rattle.tftp_negotiate.specs.Laws.{NumbersArePrinted, EndsAgree, AnswersWithinRequest};
 ghost use Rattle.tftp_negotiate.specs.Laws.{TakesNothingUnasked, AnswersMayBeAgreed};
@@ -7,13 +7,13 @@ ghost use Rattle.tftp_negotiate.specs.Laws.{AgreementsHaveBlockSizes, KnownAreOp
 ghost use Rattle.tftp_negotiate.specs.Laws.{AskedAreOptions, AnswersWhatIsKnown};
 ghost use Rattle.tftp_negotiate.specs.Laws.{TooLargeForWrites, TakesWhatWasAsked};
 
-/// A value is a number exactly if it is the number's decimal digits, without a leading zero.
+/// A value is a number exactly if it is the decimal digits of a number below 2^64.
 pub fn numbers_are_printed()
     ensures { NumbersArePrinted }
 {}
 
-/// What a server answers to what a client asked, that client takes, option by option. So the two
-/// ends agree on one list, and with it on one block size and one time to wait.
+/// A client accepts the server's answer to its request, option by option. So both ends agree on one
+/// list, and with it on one block size and one timeout.
 pub fn ends_agree()
     ensures { EndsAgree }
 {}
@@ -23,23 +23,23 @@ pub fn answers_within_request()
     ensures { AnswersWithinRequest }
 {}
 
-/// An OACK that is taken holds no option that was not asked, and no value beyond what was asked.
+/// An accepted OACK has no option that was not requested, and no value beyond the requested one.
 pub fn takes_nothing_unasked()
     ensures { TakesNothingUnasked }
 {}
 
-/// A server answers each known option of a request that stands once and has a value in its range,
-/// unless it refuses a write as too large; and a client takes an OACK of nothing but answers to
-/// what it asked, option by option. So neither end drops an option.
+/// If no option is repeated, a server answers each known option that the request may have, unless
+/// it refuses a write as too large. A client accepts an OACK of answers within its request, with
+/// each of them. So neither end drops an option.
 pub fn drops_nothing()
     ensures answered { AnswersWhatIsKnown }
     ensures too_large { TooLargeForWrites }
     ensures taken { TakesWhatWasAsked }
 {}
 
-/// What a server answers, and what a client takes of an OACK, is an agreement: its values are in
-/// their ranges, and no name stands twice (RFC 2347, "Negotiation Protocol"), so that it has three
-/// options at most, and a block size in its range.
+/// A server's answer and a client's result are agreements: their values are in range, and no name
+/// is repeated (RFC 2347, "Negotiation Protocol"). An agreement has at most three options, and a
+/// block size in range.
 pub fn agreements()
     ensures answered { AnswersMayBeAgreed }
     ensures taken { TakenMayBeAgreed }
@@ -47,8 +47,8 @@ pub fn agreements()
     ensures sized { AgreementsHaveBlockSizes }
 {}
 
-/// Known options are options of a packet, three of which take 87 bytes at most; and so are those
-/// that a client may ask (RFC 2347, "Packet Formats").
+/// Known options, and those that a client may request, are valid options of a packet; a known
+/// option has at most 29 bytes (RFC 2347, "Packet Formats").
 pub fn options_are_spelled()
     ensures known { KnownAreOptions }
     ensures asked { AskedAreOptions }

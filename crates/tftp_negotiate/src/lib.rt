@@ -1,11 +1,11 @@
-//! Which options the two ends of a transfer agree on (RFC 2347; RFC 2348; RFC 2349).
+//! Negotiates the options of a transfer (RFC 2347; RFC 2348; RFC 2349).
 //!
-//! It reads and writes no packet, opens no socket and takes no memory. It knows the three options
-//! `blksize`, `timeout` and `tsize`; any other is unknown to it, and never an error of a request.
+//! It encodes and decodes no packet, opens no socket and allocates no memory. It supports the
+//! options `blksize`, `timeout` and `tsize`. Any other option is never an error of a request.
 //!
-//! Begin with [`accept`], what a server answers to a request, and [`check_oack`], what a client
-//! takes of that answer. What the one answers to what the other asked, the other takes, and both
-//! then have one block size.
+//! Begin with [`accept`], a server's answer to a request, and [`check_oack`], a client's check of
+//! that answer. A client accepts the server's answer to its request, and both then have one block
+//! size.
 #![tactic(auto)]
 
 mod agreed;

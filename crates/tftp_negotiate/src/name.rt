@@ -1,4 +1,4 @@
-//! Which known option a name means.
+//! The names of the known options.
 
 ghost use Rattle.std.specs.Prelude.{◌≡◌, not, false};
 ghost use Rattle.tftp_negotiate.specs.Options.{name_of, name_text};
@@ -18,7 +18,7 @@ pub enum Name {
 }
 
 impl Name {
-    /// The name as this project spells it, in lower case.
+    /// The name in lower case, as it is sent.
     pub fn text(self) -> &'static str
         ensures { result.now ≡ name_text self }
     {
@@ -29,8 +29,7 @@ impl Name {
         }
     }
 
-    /// The known option that a name means, whatever the case of its letters
-    /// (RFC 2347, "Packet Formats").
+    /// The known option of this name, in any case (RFC 2347, "Packet Formats").
     pub fn of(text: &[u8]) -> Option<Name>
         ensures { result ≡ name_of text.now }
     {
@@ -55,7 +54,7 @@ pub(crate) struct Names {
 }
 
 impl Names {
-    /// The set that holds no name.
+    /// The empty set.
     pub(crate) fn new() -> Names
         ensures none { (name : Name) → has result name ≡ false }
     {
@@ -66,8 +65,7 @@ impl Names {
         }
     }
 
-    /// Adds the name of a known option, and returns whether it was not there before. An option that
-    /// is not known is always new.
+    /// Adds a name, and returns whether the set did not have it. An unknown name is always new.
     pub(crate) fn insert(&mut self, name: Option<Name>) -> bool
         ensures new { result ≡ not (has_name self.old name) }
         ensures added { self.new ≡ with_name self.old name }

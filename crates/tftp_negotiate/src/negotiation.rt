@@ -1,5 +1,5 @@
-//! The one negotiation: options are judged from the left, and a repeated name outranks every
-//! judgement.
+//! The negotiation of both ends: options are judged from the left, and a repeated name precedes
+//! every other refusal.
 
 ghost use Rattle.std.specs.Prelude.{◌≡◌, IfOk, List};
 ghost use Rattle.std.specs.Iterator.{AlwaysYields, IsFinite};
@@ -16,7 +16,7 @@ use crate::policy::Policy;
 use crate::refusal::Refusal;
 use tftp_wire::{OptionRef, RawOption};
 
-/// What is agreed under the policy, of the options that the iterator yields.
+/// The agreement under the policy on the options that the iterator yields.
 pub(crate) fn negotiate<'a, I: Iterator<Item = OptionRef<'a>> + Drop>(
     options: I,
     policy: &Policy,
@@ -39,7 +39,7 @@ pub(crate) fn negotiate<'a, I: Iterator<Item = OptionRef<'a>> + Drop>(
     outcome
 }
 
-/// As [`negotiate`], of options that are owned.
+/// As [`negotiate`], for owned options.
 pub(crate) fn negotiate_slice(options: &[RawOption], policy: &Policy) -> Result<Agreed, Refusal>
     requires { IsSoundPolicy policy.now }
     ensures agreed { result ≡ negotiated (judged policy.now) options.now }
@@ -52,7 +52,7 @@ pub(crate) fn negotiate_slice(options: &[RawOption], policy: &Policy) -> Result<
     negotiate(borrowed, policy)
 }
 
-/// The outcome so far and the judgement of one more option: the first refusal stays.
+/// Adds the judgement of an option to the outcome: the first refusal stays.
 fn kept_after(
     outcome: Result<Agreed, Refusal>,
     judgement: Result<Option<Known>, Refusal>,

@@ -1,4 +1,4 @@
-//! Which number an option's value is.
+//! The number of an option's value.
 
 ghost use Rattle.std.specs.Prelude.{◌≡◌, ◌↔◌, IsTrue};
 ghost use Rattle.std.specs.Fmt.{decimal};
@@ -7,7 +7,7 @@ ghost use Rattle.tftp_negotiate.specs.Options.{number_of};
 use itoa::Buffer;
 
 /// The number below 2^64 whose decimal digits are this text: no sign, no space, and no leading zero
-/// but that of `0`. The RFCs only say that values are ASCII; this project takes one spelling.
+/// except in `0`. The RFCs require only ASCII; by our own choice one spelling is valid.
 pub(crate) fn number_of(text: &[u8]) -> Option<u64>
     ensures { result ≡ number_of text.now }
 {
@@ -19,7 +19,6 @@ pub(crate) fn number_of(text: &[u8]) -> Option<u64>
     }
 }
 
-/// Whether the text is the number's decimal digits.
 fn is_digits_of(text: &[u8], number: u64) -> bool
     ensures { IsTrue result ↔ (text.now ≡ decimal number) }
 {

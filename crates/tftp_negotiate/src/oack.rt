@@ -1,4 +1,4 @@
-//! What a client takes of the options of an OACK.
+//! A client's check of the options of an OACK.
 
 ghost use Rattle.std.specs.Prelude.{◌≡◌, IfOk};
 ghost use Rattle.tftp_wire.specs.Borrowed.{owned_option};
@@ -20,13 +20,13 @@ use crate::policy::Policy;
 use crate::refusal::Refusal;
 use tftp_wire::{Mode, OptionRef, OptionsRef, RawOption};
 
-/// What a client that asked this agrees to of an OACK (RFC 2347, "Negotiation Protocol"). `limit`
-/// is the longest file that it reads, in bytes of wire text; a write does not use it.
+/// The agreement of a client that requested this, on an OACK (RFC 2347, "Negotiation Protocol").
+/// `limit` is the maximum length of a file to read, in bytes of wire text; a write ignores it.
 ///
-/// It fails with `Repeated` where a known option stands twice, whatever its values. Else the first
-/// option from the left that is wrong decides: `NotAsked` for one that was not asked, unknown ones
-/// among them, `TooLarge` for the length of a file above the limit, `BadValue` for any other value
-/// that the request does not allow.
+/// It fails with `Repeated` if a known option is repeated, whatever its values. Otherwise the first
+/// wrong option from the left decides: `NotAsked` if it was not requested or is unknown, `TooLarge`
+/// if it is the length of a file above the limit, `BadValue` if it has any other value that the
+/// request does not allow.
 pub fn check_oack(
     asked: &Asked,
     kind: Kind,
@@ -73,8 +73,8 @@ pub fn check_oack_ref(
 }
 
 /// The length of the file that an OACK states, in bytes of wire text, if it states one
-/// (RFC 2349, "Transfer Size Option Specification"). It judges nothing: whether the OACK is taken
-/// is what [`check_oack_ref`] answers.
+/// (RFC 2349, "Transfer Size Option Specification"). It does not check the OACK as
+/// [`check_oack_ref`] does.
 pub fn stated_tsize(options: &OptionsRef<'_>) -> Option<u64>
     ensures { result ≡ stated_tsize options.now }
 {
@@ -86,7 +86,7 @@ pub fn stated_tsize(options: &OptionsRef<'_>) -> Option<u64>
     None
 }
 
-/// Whether a name is there, and is `tsize`.
+/// Whether the name is `tsize`.
 fn is_tsize(known: Option<Name>) -> bool
     ensures { result ≡ is_name name.Tsize known }
 {
@@ -98,7 +98,7 @@ fn is_tsize(known: Option<Name>) -> bool
     }
 }
 
-/// What is taken of an option, or why it is wrong.
+/// The agreed option, or its refusal.
 #[tactic(auto, unfolding(crate::specs::Agreement::taken_option))]
 pub(crate) fn taken(
     asked: &Asked,
@@ -118,7 +118,7 @@ pub(crate) fn taken(
     }
 }
 
-/// A block size of 8 up to what was asked (RFC 2348).
+/// A block size from 8 to the requested one (RFC 2348).
 fn taken_blksize(asked: Option<u16>, number: Option<u64>) -> Result<Option<Known>, Refusal>
     ensures { result ≡ taken_blksize asked number }
 {
@@ -131,7 +131,7 @@ fn taken_blksize(asked: Option<u16>, number: Option<u64>) -> Result<Option<Known
     }
 }
 
-/// The seconds that were asked (RFC 2349).
+/// The requested seconds (RFC 2349).
 fn taken_timeout(asked: Option<u8>, number: Option<u64>) -> Result<Option<Known>, Refusal>
     ensures { result ≡ taken_timeout asked number }
 {
@@ -142,8 +142,8 @@ fn taken_timeout(asked: Option<u8>, number: Option<u64>) -> Result<Option<Known>
     }
 }
 
-/// The length of the file to be read, up to the limit, or of the file to be written, as it was
-/// asked (RFC 2349, "Transfer Size Option Specification").
+/// The length of the file to read, up to the limit, or the requested length of the file to write
+/// (RFC 2349, "Transfer Size Option Specification").
 fn taken_tsize(
     asked: Option<u64>,
     kind: Kind,

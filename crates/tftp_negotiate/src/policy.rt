@@ -1,4 +1,4 @@
-//! By which side's rules an option is judged.
+//! The rules of each side for an option.
 
 ghost use Rattle.std.specs.Prelude.{◌≡◌};
 ghost use Rattle.tftp_wire.specs.Borrowed.{owned_option};
@@ -12,19 +12,19 @@ use crate::oack::taken;
 use crate::refusal::Refusal;
 use tftp_wire::{Mode, OptionRef};
 
-/// The rules of one side of a negotiation, with what they depend on.
+/// The rules of one side of a negotiation, with their parameters.
 #[derive(Clone, Copy)]
 pub(crate) enum Policy {
-    /// The server, which answers a request. `length` is that of the file to be read, in bytes
-    /// of wire text.
+    /// The server, which answers a request. `length` is the length of the file to read, in bytes of
+    /// wire text.
     Server {
         kind: Kind,
         mode: Mode,
         length: u64,
         limits: Limits,
     },
-    /// The client, which checks an OACK. `limit` is the longest file that it reads, in bytes of
-    /// wire text.
+    /// The client, which checks an OACK. `limit` is the maximum length of a file that it reads, in
+    /// bytes of wire text.
     Client {
         asked: Asked,
         kind: Kind,
@@ -34,7 +34,7 @@ pub(crate) enum Policy {
 }
 
 impl Policy {
-    /// What becomes of an option: it is agreed, with the value that counts, left out or refused.
+    /// Judges an option: it is agreed with a value, ignored or refused.
     pub(crate) fn judge(&self, option: OptionRef<'_>) -> Result<Option<Known>, Refusal>
         ensures { result ≡ judged self.now (owned_option option.entry) }
     {

@@ -1,23 +1,23 @@
-//! Why a negotiation fails.
+//! The refusals of a negotiation.
 
 ghost use Rattle.std.specs.Prelude.{◌≡◌};
 ghost use Rattle.tftp_negotiate.specs.Refusal.{refusal_number};
 
 use thiserror::Error;
 
-/// Why a request or an OACK is refused.
+/// The reason to refuse a request or an OACK.
 #[derive(Clone, Copy, Debug, PartialEq, Eq, Error)]
 pub enum Refusal {
-    /// A known option stands twice (RFC 2347: "an option may only be specified once").
+    /// A known option is repeated (RFC 2347: "an option may only be specified once").
     #[error("a known option stands twice")]
     Repeated = 1,
-    /// The file is longer than this end takes.
+    /// The file is longer than this end accepts.
     #[error("the file is too large")]
     TooLarge = 2,
-    /// An OACK holds an option that was not asked.
+    /// An OACK has an option that was not requested.
     #[error("an option was not asked")]
     NotAsked = 3,
-    /// An OACK answers an option with a value that the request does not allow.
+    /// An OACK has a value that the request does not allow.
     #[error("an option has a value that was not asked")]
     BadValue = 4,
 }

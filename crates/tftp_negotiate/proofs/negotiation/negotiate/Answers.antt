@@ -1,4 +1,4 @@
--- One more option keeps the invariant, and a name that comes again decides.
+-- One more option keeps the invariant, and a repeated name decides.
 use Rattle.std.proofs.Common.{◌≡◌, ◌∷◌, [], Ok, map, length, false, true, refl, sym, ◌∙◌, ap, subst}
 use Rattle.std.proofs.lemmas.Iterator.{YieldsList}
 use Rattle.std.proofs.lemmas.Iterator.Consumers.{YieldsList-at, YieldsList-turn, YieldsList-so_far, YieldsList-end}

@@ -1,4 +1,4 @@
--- A text is a number exactly if it is what the number prints.
+-- A text is a number exactly if it is the number's decimal digits.
 use Rattle.std.proofs.Common.{◌≡◌, ℕ, ◌^◌, ◌<◌, Ok, decimal, sym, ◌∙◌, ap}
 use Rattle.std.specs.Result.{result_ok}
 use Rattle.std.specs.Str.{IsUtf8}
@@ -9,18 +9,18 @@ use Rattle.tftp_negotiate.proofs.OptionsLemmas.{number_of_none, number_of-decima
 use Rattle.tftp_negotiate.proofs.number.number_of.Goals as goal
 use Rattle.tftp_negotiate.proofs.number.number_of.Goals.{After-parse}
 
--- what is no UTF-8 is no printing of a number
+-- bytes that are not UTF-8 are not the decimal digits of a number
 pub returns-in_err-ok : goal.returns-in_err-ok
 returns-in_err-ok c =
     c.from_residual.ensures ∙ number_of_none c.args.text.now (λ n small e.
     why_none c.from_utf8.result _ _ (IsUtf8 c.args.text.now) c.from_utf8.ensures.cases (sym c.ok.ensures.value ∙ c.in_err-ok.was)
     (IsUtf8-from_decimal c.args.text.now n small e))
 
--- the text is what is parsed
+-- the text is the parsed one
 same_text : (c : After-parse) → c.in_ok-ok.field-0.now ≡ c.args.text.now
 same_text c = (what_some c.from_utf8.result _ _ c.in_ok-ok.field-0 c.from_utf8.ensures.cases c.in_ok-ok.ensures.value).0
 
--- the printing of a number parses to it
+-- the decimal digits of a number parse to it
 parses : (c : After-parse) (n : ℕ) → n < 2 ^ 64 → c.args.text.now ≡ decimal n → c.parse.result ≡ Ok n
 parses c n small e = parse-decimal 64 n c.in_ok-ok.field-0.now c.parse.result small small (same_text c ∙ e) c.parse.ensures.value.0
 

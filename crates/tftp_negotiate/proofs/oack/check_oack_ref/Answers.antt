@@ -1,4 +1,4 @@
--- The options of a datagram come as the list that they stand for.
+-- The iterator yields the options of the datagram's list.
 use Rattle.std.proofs.lemmas.Iterator.Consumers.{YieldsList-from_first}
 use Rattle.tftp_wire.specs.Borrowed.{owned_option}
 use Rattle.tftp_negotiate.proofs.oack.check_oack_ref.Goals as goal

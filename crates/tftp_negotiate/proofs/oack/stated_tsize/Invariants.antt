@@ -1,4 +1,4 @@
--- The options passed so far are no tsize.
+-- No option so far is a tsize.
 use Rattle.std.proofs.Common.{◌≡◌}
 use Rattle.tftp_negotiate.specs.Agreement.{stated_tsize}
 use Rattle.tftp_negotiate.proofs.oack.stated_tsize.Given as goal

@@ -1,4 +1,4 @@
--- The options passed so far are no block size.
+-- No option so far is a block size.
 use Rattle.std.proofs.Common.{◌≡◌, drop}
 use Rattle.tftp_negotiate.specs.Agreed.{size}
 use Rattle.tftp_negotiate.proofs.agreed.Agreed.block_size.Given as goal

@@ -1,4 +1,4 @@
--- The options passed so far are no timeout.
+-- No option so far is a timeout.
 use Rattle.std.proofs.Common.{◌≡◌, drop}
 use Rattle.tftp_negotiate.specs.Agreed.{timeout_of}
 use Rattle.tftp_negotiate.proofs.agreed.Agreed.timeout.Given as goal

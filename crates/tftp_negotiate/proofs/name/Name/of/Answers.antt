@@ -1,4 +1,4 @@
--- A text is the name whose letters it has, and else no name.
+-- A text is the name whose letters it has, or else no name.
 use Rattle.std.proofs.Common.{sym, ◌∙◌}
 use Rattle.tftp_negotiate.specs.declared.name.Name.TheVariants.{Blksize, Timeout, Tsize}
 use Rattle.tftp_negotiate.proofs.OptionsLemmas.{means_is, name_of-blksize, name_of-timeout, name_of-tsize, name_of-none}
