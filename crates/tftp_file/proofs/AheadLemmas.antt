@@ -1,4 +1,4 @@
--- What is given of what was read ahead, and then of what the source below has left.
+-- Fills from the bytes read ahead, and then from the source below.
 use Rattle.std.proofs.Common.{◌≡◌, ℕ, ◌+◌, ◌-◌, ◌≤◌, ◌⊎◌, Bool, true, false, List, [], ◌++◌, length, take, drop, Option, Some, None, Result, Ok, Err, refl, sym, ap, subst, ◌∙◌, inl, inr, arith, append_assoc, length-append, length-take-le, IfOk, IfErr, OnOk, OnErr}
 use Rattle.std.specs.Io.KnownBytes.{prepend_known}
 use Rattle.std.proofs.lemmas.List.{take_at, drop_at, take-append-le, drop-append-le, take_rest}
@@ -8,17 +8,17 @@ use Rattle.tftp_file.specs.declared.fault.FileFault.TheVariants.{Read, Memory}
 use Rattle.tftp_file.specs.Source.{SourceMeaning, Fills, StaysKnown, ReadsAhead}
 use Rattle.tftp_file.specs.Ahead.{AheadState, MayFailLater, ahead_meaning}
 
--- where nothing was read ahead, the source below has all that is left
+-- with nothing read ahead, the source below has all the text that is left
 pub nothing_held : (left : Option (List ℕ)) → prepend_known [] left ≡ left
 nothing_held None = refl
 nothing_held (Some left) = refl
 
--- where nothing was read ahead, a fill is one of the source below
+-- with nothing read ahead, a fill is one of the source below
 pub fills_below : (held : List ℕ) (a b : Option (List ℕ)) (want : ℕ) (old new : List ℕ) (r : Result ℕ FileFault) → held ≡ [] → Fills a b want old new r
     → Fills (prepend_known held a) (prepend_known held b) want old new r
 fills_below held a b want old new r empty fills = rw (empty, nothing_held a, nothing_held b) fills
 
--- what was read ahead is as much as is wanted, or more
+-- the bytes read ahead are at least as many as are requested
 pub fills_held : (held : List ℕ) (a : Option (List ℕ)) (want k : ℕ) (old new rest : List ℕ) → want ≤ length held → k ≡ want → new ≡ old ++ take want held → rest ≡ drop want held
     → Fills (prepend_known held a) (prepend_known rest a) want old new (Ok k)
 fills_held held None want k old new rest enough count given left = record {
@@ -33,7 +33,7 @@ fills_held held (Some a) want k old new rest enough count given left = record {
   rest = ap Some (ap (λ l. l ++ a) left ∙ sym (drop-append-le want held a enough) ∙ ap (λ n. drop n (held ++ a)) (sym count));
 }
 
--- where as much as is wanted was read ahead, that is given, or out of memory nothing has changed
+-- enough bytes were read ahead and are given, or out of memory nothing has changed
 pub fills_or_keeps : (held : List ℕ) (a : Option (List ℕ)) (want : ℕ) (old new rest : List ℕ) (r : Result ℕ FileFault) → want ≤ length held
     → IfOk r (λ k. k ≡ want) → OnOk r (new ≡ old ++ take want held) → OnOk r (rest ≡ drop want held)
     → OnErr r (new ≡ old) → OnErr r (rest ≡ held) → IfErr r (λ fault. fault ≡ Memory)
@@ -42,7 +42,7 @@ fills_or_keeps held a want old new rest (Ok k) enough count given left err kept 
 fills_or_keeps held a want old new rest (Err Read) enough count given left err kept fault = err
 fills_or_keeps held a want old new rest (Err Memory) enough count given left err kept fault = record { kept = err; rest = ap (λ l. prepend_known l a) kept }
 
--- what was read ahead is given, and then the source below gives what is still wanted
+-- the bytes read ahead are given, and then the source below gives the others
 pub fills_behind : (held : List ℕ) (a b : Option (List ℕ)) (want k : ℕ) (old mid new : List ℕ) → length held ≤ want → mid ≡ old ++ held → Fills a b (want - length held) mid new (Ok k)
     → Fills (prepend_known held a) b want old new (Ok (length held + k))
 fills_behind held None b want k old mid new short begun fills = record {
@@ -59,7 +59,7 @@ fills_behind held (Some a) b want k old mid new short begun fills = record {
   rest = fills.rest ∙ ap Some (sym (drop-append-add held a k));
 }
 
--- the rest of a buffer is what was read ahead
+-- the rest of a buffer is the bytes read ahead
 pub fills_rest : (items all : List ℕ) (at : ℕ) (a b : Option (List ℕ)) (want : ℕ) (old new : List ℕ) (r : Result ℕ FileFault) → items ≡ all
     → Fills (prepend_known (take (length items - at) (drop at items)) a) (prepend_known (take (length items - at) (drop at items)) b) want old new r
     → Fills (prepend_known (drop at all) a) (prepend_known (drop at all) b) want old new r
@@ -82,7 +82,7 @@ module _ {S : Type 0} (sources : SourceMeaning S) (is_same : S → S → Type 0)
   left_or_failed before after true is empty left = inr (λ want. inl is)
   left_or_failed before after false is empty left = inl (rw (empty, nothing_held (sources.left before.source)) (left is))
 
-  -- a block was read ahead of a source of which nothing was, or that read has failed
+  -- a block was read ahead of a source with nothing read ahead, or that read has failed
   pub reads_ahead : (before after : AheadState S) (size : ℕ) → before.failed ≡ false → before.held ≡ [] → is_same before.source after.source
       → (after.failed ≡ false → StaysKnown (sources.left before.source) (prepend_known after.held (sources.left after.source)))
       → (after.failed ≡ true → sources.may_fail before.source size)

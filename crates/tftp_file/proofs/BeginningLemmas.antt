@@ -1,4 +1,4 @@
--- Beginnings of host's bytes and of their wire text.
+-- Beginnings of host bytes and of their wire text.
 use Rattle.std.proofs.Common.{◌≡◌, ℕ, List, [], ◌∷◌, ◌++◌, sym, refl, ap, ◌∙◌, append_assoc}
 use Rattle.tftp_wire.specs.declared.mode.Mode.{Mode}
 use Rattle.tftp_wire.specs.declared.mode.Mode.TheVariants.{Octet, Netascii}
@@ -16,11 +16,11 @@ netascii_begins (x ∷ xs) (y ∷ ys) rest e =
     let h = netascii_begins xs ys rest n.1 in
     (h.0, ap (λ (k : ℕ). k ∷ (xs ++ h.0)) n.0 ∙ ap (λ (t : List ℕ). y ∷ t) h.1)
 
--- a beginning on the wire comes from a beginning of the host's bytes
+-- a beginning of the wire text is that of a beginning of the host bytes
 pub host_begins : (mode : Mode) (xs ys : List ℕ) → IsBeginningOf (wire_text mode xs) (wire_text mode ys) → IsBeginningOf xs ys
 host_begins Octet xs ys h = h
 host_begins Netascii xs ys h = netascii_begins xs ys h.0 h.1
 
--- and travels as one
+-- the wire text of a beginning is a beginning
 pub wire_begins : (mode : Mode) (xs ys : List ℕ) → IsBeginningOf xs ys → IsBeginningOf (wire_text mode xs) (wire_text mode ys)
 wire_begins mode xs ys h = (wire_text mode h.0, sym (wire-append mode xs h.0) ∙ ap (λ (t : List ℕ). wire_text mode t) h.1)

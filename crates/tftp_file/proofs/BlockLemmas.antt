@@ -33,7 +33,7 @@ module _ (text : List ℕ) (size : ℕ) (some : 0 < size) where
   last_place : (block_count text size - 1) * size ≡ length text / size * size
   last_place = ap (λ (k : ℕ). k * size) (let e : block_count text size - 1 ≡ length text / size = omega arith in e)
 
-  -- the last block has what the others leave
+  -- the last block has the remaining bytes
   pub length-last : length (block text size (block_count text size)) ≡ length text % size
   length-last =
       length-take size (drop ((block_count text size - 1) * size) text)

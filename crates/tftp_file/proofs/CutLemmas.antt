@@ -31,7 +31,7 @@ pieces_join held (piece ∷ pieces) bytes after h t =
     subst (λ (l : List ℕ). DecodesPiece held (piece ++ concat pieces) l after) (sym t.5)
     (decodes_joined held piece t.1 (concat pieces) after t.0 t.2 t.3 (pieces_join t.1 pieces t.2 after t.3.0 t.4))
 
--- a text is right where its pieces are
+-- a text is right if its pieces are
 begins_cut : (held text bytes after : List ℕ) → DecodesPiece held text bytes after → BeginsWireText (held ++ text)
 begins_cut held text bytes after d = (bytes, after, d)
 
@@ -57,7 +57,7 @@ whole_taken held (piece ∷ pieces) bytes after h d = elim (read (held ++ piece)
   ]
 ]
 
--- where the first wrong byte stands
+-- the first wrong byte is within the text
 pub wrong_within : (text : List ℕ) (at : ℕ) (fault : NetFault) → FirstWrong text at fault → at < length text
 wrong_within text at LoneCr h = omega (arith, h.place, ap length h.split, length-append (netascii_text h.bytes) (13 ∷ h.byte ∷ h.rest))
 wrong_within text at LoneLf h = omega (arith, h.place, ap length h.split, length-append (netascii_text h.bytes) (10 ∷ h.rest))
@@ -75,7 +75,7 @@ lf_behind : (bytes piece rest : List ℕ) → 13 ∷ piece ≡ netascii_text byt
 lf_behind [] piece rest e = absurd (let g : ◌≡◌ {A = ℕ} 13 10 = cc in omega arith)
 lf_behind (x ∷ xs) piece rest e = some_wire x xs
 
--- and that it is not what was held back
+-- the first wrong byte is not a byte held back
 wrong_behind_held : (held piece : List ℕ) (at : ℕ) (fault : NetFault) → IsHeld held → FirstWrong (held ++ piece) at fault → length held ≤ at
 wrong_behind_held held piece at LoneCr h w = elim h [ inl e ↦ omega (arith, ap length e) | inr e ↦ omega (arith, ap length e, w.place) ]
 wrong_behind_held held piece at LoneLf h w = elim h [
@@ -85,7 +85,7 @@ wrong_behind_held held piece at LoneLf h w = elim h [
 wrong_behind_held held piece at EndsInCr h w = absurd w
 wrong_behind_held held piece at Memory h w = absurd w
 
--- a text has one first wrong byte, and it is wrong in one way
+-- a text has one first wrong byte, with one fault
 pub wrong_once : (text : List ℕ) (at other : ℕ) (fault wrong : NetFault) → FirstWrong text at fault → FirstWrong text other wrong → (at ≡ other) × (fault ≡ wrong)
 wrong_once text at other LoneCr LoneCr h k =
     let o = one_way h.bytes k.bytes (13 ∷ h.byte ∷ h.rest) (13 ∷ k.byte ∷ k.rest) (stop_lone_cr h.byte h.rest h.no_lf h.no_nul) (stop_lone_cr k.byte k.rest k.no_lf k.no_nul) (sym h.split ∙ k.split) in
@@ -106,11 +106,11 @@ wrong_once text at other LoneCr Memory h k = absurd k
 wrong_once text at other LoneLf EndsInCr h k = absurd k
 wrong_once text at other LoneLf Memory h k = absurd k
 
--- where the text begins a wire text, nothing is wrong, and else its first wrong byte is
+-- a text begins a wire text, or it has a first wrong byte
 pub either : (text : List ℕ) → BeginsWireText text ⊎ ((at : ℕ) × (fault : NetFault) × FirstWrong text at fault)
 either text = elim (read text) [ Begins b ↦ inl b | Wrong fault w ↦ inr (w.0, fault, w.1) ]
 
--- what stands in front of a text that begins a wire text begins one, too
+-- each beginning of a text that begins a wire text begins one, too
 pub begins_front : (text rest : List ℕ) → BeginsWireText (text ++ rest) → BeginsWireText text
 begins_front text rest b = elim (read text) [
   | Begins h ↦ h

@@ -1,4 +1,4 @@
--- What a text begins with, and where it is wrong.
+-- The wire text that a text begins, or its first wrong byte.
 use Rattle.std.proofs.Common.{◌≡◌, ◌≢◌, ℕ, ◌+◌, ◌≤◌, List, [], ◌∷◌, ◌++◌, sym, refl, ap, ◌∙◌, subst, arith, inl, inr, append_assoc, length, get_or}
 use Rattle.std.proofs.lemmas.List.{append-nil, length-append, nil_from_length}
 use Rattle.std.proofs.lemmas.Bool.{cases_eq}
@@ -16,12 +16,12 @@ lone_cr : (byte : ℕ) (rest : List ℕ) → byte ≢ 10 → byte ≢ 0 → IsWr
 lone_cr byte rest a b =
     (1, record { bytes = []; byte = byte; rest = rest; no_lf = a; no_nul = b; split = refl; place = refl })
 
--- an LF at the front
+-- an LF at the start
 lone_lf : (byte : ℕ) (rest : List ℕ) → byte ≡ 10 → IsWrong (byte ∷ rest) LoneLf
 lone_lf byte rest e =
     (0, record { bytes = []; rest = rest; split = ap (λ (n : ℕ). n ∷ rest) e; place = refl })
 
--- the byte behind a held CR makes no pair
+-- the byte after a held CR makes no pair
 pub wrong_pair : (piece : List ℕ) → 1 ≤ length piece → get_or piece 0 0 ≢ 10 → get_or piece 0 0 ≢ 0 → IsWrong (13 ∷ piece) LoneCr
 wrong_pair [] l a b = absurd (omega arith)
 wrong_pair (x ∷ xs) l a b = lone_cr x xs a b
@@ -37,14 +37,14 @@ wrong_front (x ∷ y ∷ rest) h = (
   λ l e a b. elim h [ inl p ↦ absurd (e p) | inr p ↦ subst (λ (n : ℕ). IsWrong (n ∷ y ∷ rest) LoneCr) (sym p) (lone_cr y rest a b) ],
 )
 
--- host's bytes in front of a text
+-- host bytes before a text
 pub front_joins : (front bytes rest : List ℕ) → netascii_text front ++ (netascii_text bytes ++ rest) ≡ netascii_text (front ++ bytes) ++ rest
 front_joins front bytes rest = sym (ap (λ (t : List ℕ). t ++ rest) (netascii-append front bytes) ∙ append_assoc (netascii_text front) (netascii_text bytes) rest)
 
 length_joins : (front bytes : List ℕ) → length (netascii_text (front ++ bytes)) ≡ length (netascii_text front) + length (netascii_text bytes)
 length_joins front bytes = ap length (netascii-append front bytes) ∙ length-append (netascii_text front) (netascii_text bytes)
 
--- move a wrong byte behind host's bytes
+-- a wrong byte after host bytes
 pub first_wrong_behind : (front text : List ℕ) (at : ℕ) (fault : NetFault) → FirstWrong text at fault → FirstWrong (netascii_text front ++ text) (length (netascii_text front) + at) fault
 first_wrong_behind front text at LoneCr h = record {
   bytes = front ++ h.bytes;
@@ -67,7 +67,7 @@ first_wrong_behind front text at Memory h = h
 pub wrong_behind : (front text : List ℕ) (fault : NetFault) → IsWrong text fault → IsWrong (netascii_text front ++ text) fault
 wrong_behind front text fault h = (length (netascii_text front) + h.0, first_wrong_behind front text h.0 fault h.1)
 
--- and bytes behind a wrong one change nothing
+-- bytes after a wrong one change nothing
 append_tail : (text front rest behind : List ℕ) → text ≡ front ++ rest → text ++ behind ≡ front ++ (rest ++ behind)
 append_tail text front rest behind e = ap (λ (t : List ℕ). t ++ behind) e ∙ append_assoc front rest behind
 
@@ -93,7 +93,7 @@ first_wrong_before text behind at Memory h = h
 pub begins_behind : (front text : List ℕ) → BeginsWireText text → BeginsWireText (netascii_text front ++ text)
 begins_behind front text h = (front ++ h.0, h.1, (h.2.0, ap (λ (t : List ℕ). netascii_text front ++ t) h.2.1 ∙ front_joins front h.0 h.1))
 
--- a text at which no byte of the host travels begins
+-- a text that begins with the wire text of no byte
 abbrev pub Stop : List ℕ → Type 0
 Stop text = (x : ℕ) (rest : List ℕ) → wire_byte x ++ rest ≡ text → ⊥
 
@@ -175,7 +175,7 @@ begins_or_wrong text LoneLf h w =
 begins_or_wrong text EndsInCr h w = w.1
 begins_or_wrong text Memory h w = w.1
 
--- what a text begins with, or its first wrong byte
+-- the wire text that a text begins, or its first wrong byte
 pub data Reading (text : List ℕ) : Type 0 where
   Begins : BeginsWireText text → Reading text
   Wrong : (fault : NetFault) → IsWrong text fault → Reading text
@@ -205,19 +205,19 @@ read_on (x ∷ xs) =
 pub read : (text : List ℕ) → Reading text
 read text = (read_on text).0
 
--- a run of unescaped bytes and a pair further on
+-- after a run of unescaped bytes and a pair
 pub pair_taken : (text left run rest behind bytes : List ℕ) (byte : ℕ) → text ≡ netascii_text bytes ++ left → left ≡ run ++ rest → netascii_text run ≡ run → rest ≡ wire_byte byte ++ behind → text ≡ netascii_text (bytes ++ (run ++ byte ∷ [])) ++ behind
 pair_taken text left run rest behind bytes byte e p n r =
     let pair : netascii_text (byte ∷ []) ++ behind ≡ rest = ap (λ (t : List ℕ). t ++ behind) (append-nil (wire_byte byte)) ∙ sym r in
     let line : netascii_text (run ++ byte ∷ []) ++ behind ≡ left = sym (front_joins run (byte ∷ []) behind) ∙ (ap (λ (t : List ℕ). netascii_text run ++ t) pair ∙ (ap (λ (t : List ℕ). t ++ rest) n ∙ sym p)) in
     e ∙ (ap (λ (t : List ℕ). netascii_text bytes ++ t) (sym line) ∙ front_joins bytes (run ++ byte ∷ []) behind)
 
--- a run of unescaped bytes further on
+-- after a run of unescaped bytes
 pub run_taken : (text left run rest bytes : List ℕ) → text ≡ netascii_text bytes ++ left → left ≡ run ++ rest → netascii_text run ≡ run → text ≡ netascii_text (bytes ++ run) ++ rest
 run_taken text left run rest bytes e p n =
     e ∙ (ap (λ (t : List ℕ). netascii_text bytes ++ t) (p ∙ ap (λ (t : List ℕ). t ++ rest) (sym n)) ∙ front_joins bytes run rest)
 
--- a wrong byte behind a run of unescaped bytes
+-- a wrong byte after a run of unescaped bytes
 pub wrong_taken : (text left run rest bytes : List ℕ) (fault : NetFault) → text ≡ netascii_text bytes ++ left → left ≡ run ++ rest → netascii_text run ≡ run → IsWrong rest fault → IsWrong text fault
 wrong_taken text left run rest bytes fault e p n w =
     subst (λ (t : List ℕ). IsWrong t fault) (sym (run_taken text left run rest bytes e p n)) (wrong_behind (bytes ++ run) rest fault w)
@@ -229,7 +229,7 @@ wrong_refuses text LoneLf h = h
 wrong_refuses text EndsInCr h = h.1
 wrong_refuses text Memory h = absurd h.1
 
--- two readings of one text are the same
+-- two decodings of one text are the same
 pub decoded_once : (text bytes after more_bytes more_after : List ℕ) → DecodesPiece [] text bytes after → DecodesPiece [] text more_bytes more_after → (bytes ≡ more_bytes) × (after ≡ more_after)
 decoded_once text bytes after more_bytes more_after h k = one_way bytes more_bytes after more_after (stop_held after h.0) (stop_held more_after k.0) (sym h.1 ∙ k.1)
 

@@ -1,9 +1,9 @@
--- What is moved from the front of a text, where only its first bytes are given.
+-- The bytes moved from the start of a text, if only its first bytes are given.
 use Rattle.std.proofs.Common.{◌≡◌, ℕ, ◌+◌, ◌-◌, ◌≤◌, min, List, ◌++◌, length, take, drop, Some, sym, ap, ◌∙◌, arith, length-take-le}
 use Rattle.std.proofs.lemmas.List.{take-take, drop-take}
 use Rattle.tftp_file.specs.Source.{Moved}
 
--- a fill of no more than is given moves the same from the front as from the whole
+-- a fill within the given bytes moves the same from the first bytes as from the whole
 pub moved_front : (whole after : List ℕ) (left want n k : ℕ) (old new : List ℕ) → left ≤ length whole → n ≡ min want left
     → Moved whole (Some after) n old new k → Moved (take left whole) (Some (take (left - k) after)) want old new k
 moved_front whole after left want n k old new within least moved =

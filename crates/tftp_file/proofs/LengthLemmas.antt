@@ -5,7 +5,7 @@ use Rattle.tftp_wire.specs.declared.mode.Mode.TheVariants.{Octet, Netascii}
 use Rattle.tftp_file.specs.Netascii.{wire_text}
 use Rattle.tftp_file.proofs.NetasciiLemmas.{netascii-append}
 
--- where a reader's bytes are known, those that it gave have this length on the wire
+-- if a reader's bytes are known, those that it returned have this length on the wire
 abbrev pub Leaves : Mode → Option (List ℕ) → Option (List ℕ) → ℕ → Type 0
 Leaves mode None now total = Unit {0}
 Leaves mode (Some all) None total = ⊥

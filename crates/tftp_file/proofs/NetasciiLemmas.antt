@@ -10,7 +10,7 @@ use Rattle.std.proofs.lemmas.List.Sums.{prefix_len-le-length, sum_by-cons}
 use Rattle.tftp_file.specs.Netascii.{wire_byte, netascii_text}
 use Rattle.tftp_file.specs.Lines.{is_line_byte, EndsAtLine}
 
--- LF, CR or another byte, and how each travels
+-- LF, CR or another byte, and the wire text of each
 pub data ByteForm (x : ℕ) : Type 0 where
   Line : x ≡ 10 → wire_byte x ≡ 13 ∷ 10 ∷ [] → is_line_byte x ≡ true → ByteForm x
   Return : x ≡ 13 → wire_byte x ≡ 13 ∷ 0 ∷ [] → is_line_byte x ≡ true → ByteForm x
@@ -30,7 +30,7 @@ byte_form x = elim (cases_eq x 10) [
 pub netascii-append : (xs ys : List ℕ) → netascii_text (xs ++ ys) ≡ netascii_text xs ++ netascii_text ys
 netascii-append xs ys = flat_map-append wire_byte xs ys
 
--- the bytes before the first CR or LF travel as themselves
+-- the bytes before the first CR or LF are sent unchanged
 pub unescaped_front : (xs : List ℕ) → netascii_text (take (position_or_len is_line_byte xs) xs) ≡ take (position_or_len is_line_byte xs) xs
 unescaped_front [] = refl
 unescaped_front (x ∷ xs) = elim (byte_form x) [
@@ -39,7 +39,7 @@ unescaped_front (x ∷ xs) = elim (byte_form x) [
   | Itself _ _ w t ↦ rw (t, one-add) (rw w (ap (λ (zs : List ℕ). x ∷ zs) (unescaped_front xs)))
 ]
 
--- and behind them is the end, a CR or an LF
+-- after them is the end, a CR or an LF
 pub run_ends : (xs : List ℕ) → EndsAtLine (drop (position_or_len is_line_byte xs) xs)
 run_ends [] = tt
 run_ends (x ∷ xs) = elim (byte_form x) [
@@ -48,7 +48,7 @@ run_ends (x ∷ xs) = elim (byte_form x) [
   | Itself _ _ _ t ↦ rw (t, one-add) (run_ends xs)
 ]
 
--- the place that `position` gives, or else the length
+-- the index that `position` returns, or else the length
 pub first_place : (xs : List ℕ) (r : Option ℕ) → r ≡ cond (ltb (position_or_len is_line_byte xs) (length xs)) (Some (position_or_len is_line_byte xs)) None → unwrap_or r (length xs) ≡ position_or_len is_line_byte xs
 first_place xs r e =
     let p = position_or_len is_line_byte xs in
@@ -66,7 +66,7 @@ length-wire_byte x = elim (byte_form x) [
   | Itself _ _ w t ↦ rw (w, t)
 ]
 
--- each CR and LF takes one byte more
+-- each CR and LF has one more byte
 pub length-netascii : (xs : List ℕ) → length (netascii_text xs) ≡ length xs + count_by is_line_byte xs
 length-netascii [] = refl
 length-netascii (x ∷ xs) = omega (arith, length-append (wire_byte x) (netascii_text xs), length-wire_byte x, length-netascii xs, sum_by-cons (λ (n : ℕ). cond (is_line_byte n) 1 0) x xs)

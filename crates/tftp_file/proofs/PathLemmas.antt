@@ -1,4 +1,4 @@
--- When a name is a path, and what its faults are.
+-- The names that are paths, and the faults of the others.
 use Rattle.std.proofs.Common.{◌≡◌, ◌≢◌, ℕ, ◌<◌, ◌≤◌, Bool, true, false, cond, List, [], ◌∷◌, sym, refl, ap, ◌∙◌, subst, arith, inl, inr, length, get_or, Result, Ok, Err}
 use Rattle.std.specs.Prelude.{◌==◌, ◌&&◌, not, nat_lt, nat_le, count_by}
 use Rattle.std.specs.List.{list_all, slice_split, join_with_byte, All}
@@ -14,7 +14,7 @@ and_no : (a b : Bool) → (a && false && b) ≡ false
 and_no true b = refl
 and_no false b = refl
 
--- the answers for a segment that is empty, begins with a dot, is too long, or is told by its bytes
+-- the cases of a segment: it is empty, begins with a dot, is too long, or depends on its bytes
 pub segment_cases : (part : List ℕ) → (nat_le (length part) 64 ≡ nat_le (length part) 64)
     × (length part ≡ 0 → is_segment part ≡ false)
     × (1 ≤ length part → get_or part 0 0 ≡ 46 → is_segment part ≡ false)
@@ -60,7 +60,7 @@ module _ (path : List ℕ) (some : (length path == 0) ≡ false) (short : length
         },
       )
 
--- a slash is no name byte
+-- a slash is not a name byte
 no_slash : (byte : ℕ) → is_name_byte byte ≡ true → (byte == 47) ≡ false
 no_slash byte h = elim (cases_eq byte 47) [
   | inl e ↦ let f : is_name_byte 47 ≡ true = subst (λ (n : ℕ). is_name_byte n ≡ true) e h in cc
@@ -117,7 +117,7 @@ negated : (b : Bool) → not b ≡ false → b ≡ true
 negated true h = refl
 negated false h = cc
 
--- what passes every test is a path
+-- a name that passes every test is a path
 passes_path : (path answer : List ℕ) → checked_path path ≡ Ok answer → IsPath answer × (path ≡ answer)
 passes_path path answer h =
     let parts = slice_split (λ byte. byte == 47) path in

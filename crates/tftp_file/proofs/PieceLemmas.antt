@@ -1,4 +1,4 @@
--- One element more from the front of a list.
+-- One more element from the start of a list.
 use Rattle.std.proofs.Common.{◌≡◌, ℕ, ◌+◌, ◌≤◌, List, [], ◌∷◌, ◌++◌, length, take, drop, ap, sym, ◌∙◌, arith, length-drop}
 use Rattle.std.proofs.lemmas.List.{drop-drop}
 use Rattle.std.proofs.Math.Seq.{take-add}
@@ -9,7 +9,7 @@ pub record OneMore (n : ℕ) (xs : List ℕ) (b : ℕ) (rest : List ℕ) : Type 
   pub front : take (n + 1) xs ≡ take n xs ++ b ∷ []
   pub back : drop (n + 1) xs ≡ rest
 
--- what comes next is the first of what is left
+-- the next element is the first of the rest
 pub one_more : (n : ℕ) (xs : List ℕ) (b : ℕ) (rest : List ℕ) → drop n xs ≡ b ∷ rest → OneMore n xs b rest
 one_more n xs b rest left = record {
   within = omega (arith, length-drop n xs, ap length left);

@@ -1,17 +1,17 @@
--- A read behind what was read before.
+-- A read after earlier reads.
 use Rattle.std.proofs.Common.{◌≡◌, ℕ, ◌+◌, ◌-◌, ◌≤◌, List, ◌++◌, length, take, drop, Option, sym, ap, ◌∙◌, subst, arith}
 use Rattle.std.specs.Io.KnownBytes.{Consumes}
 use Rattle.std.proofs.KnownBytes.{Consumes-trans}
 use Rattle.std.proofs.lemmas.List.{take-take, drop-take, drop-drop}
 use Rattle.std.proofs.Math.Seq.{take-add}
 
--- what stands in front of an earlier place stays
+-- the bytes before an earlier offset are unchanged
 pub front_stays : (start at : ℕ) (old new first : List ℕ) → start ≤ at → take at new ≡ take at old
     → take start old ≡ take start first → take start new ≡ take start first
 front_stays start at old new first after same front =
     sym (take-take start at new after) ∙ ap (take start) same ∙ take-take start at old after ∙ front
 
--- what stands between two places that both lie in front stays
+-- the bytes between two earlier offsets are unchanged
 between_stays : (start at : ℕ) (old new : List ℕ) → start ≤ at → take at new ≡ take at old
     → take (at - start) (drop start new) ≡ take (at - start) (drop start old)
 between_stays start at old new after same =
@@ -20,7 +20,7 @@ between_stays start at old new after same =
     λ xs. ap (λ k. drop start (take k xs)) (sym whole) ∙ drop-take start (at - start) xs in
     sym (inside new) ∙ ap (drop start) same ∙ inside old
 
--- a read at a place adds to what was read from the start up to it
+-- a read at an offset adds to the bytes read from the start up to it
 pub read_more : (a b c : Option (List ℕ)) (start at n : ℕ) (old new : List ℕ) → start ≤ at
     → at ≤ length old → at + n ≤ length new → take at new ≡ take at old
     → Consumes a b (take (at - start) (drop start old)) → Consumes b c (take n (drop at new))
@@ -35,7 +35,7 @@ read_more a b c start at n old new after within fits same before read =
     ∙ ap (λ l. take (at - start) (drop start old) ++ l) rest in
     subst (Consumes a c) (sym joined) (Consumes-trans a b c _ _ before read)
 
--- a read that gives nothing adds nothing
+-- a read of no bytes adds nothing
 pub read_none : (a b c : Option (List ℕ)) (start at n : ℕ) (old new : List ℕ) → n ≡ 0 → start ≤ at
     → at ≤ length old → at + n ≤ length new → take at new ≡ take at old
     → Consumes a b (take (at - start) (drop start old)) → Consumes b c (take n (drop at new))

@@ -1,4 +1,4 @@
--- From what a reader gave to what a source gave.
+-- From the bytes of a reader to the text of a source.
 use Rattle.std.proofs.Common.{◌≡◌, ℕ, ◌+◌, ◌*◌, ◌≤◌, ◌<◌, min, List, [], ◌++◌, length, take, drop, Option, Some, None, option_to_list, option_map, Result, Ok, Err, IfOk, IfErr, sym, ap, ◌∙◌, arith, append_assoc, append-nil, length-append, length-drop, length-take-le, take-append-drop, drop_of_length-le, add-zero}
 use Rattle.std.specs.Result.{result_unwrap_or}
 use Rattle.std.specs.Io.KnownBytes.{Consumes, IsAtEnd}
@@ -21,13 +21,13 @@ moved_all left rest old new piece want n split given count bound end = record {
   rest = ap Some (sym (ap (drop n) split ∙ drop_at piece rest n count));
 }
 
--- a piece as long as was wanted, or up to the end, is what a fill moves
+-- a fill moves a piece of the requested length, or up to the end
 pub fills_from_gives : (a b : Option (List ℕ)) (want : ℕ) (old new : List ℕ) (n : ℕ) → Gives a b old new n → n ≤ want → (n < want → IsAtEnd b) → Fills a b want old new (Ok n)
 fills_from_gives None b want old new n g bound end = record { piece = g.piece; given = g.given; count = g.count; bound = bound }
 fills_from_gives (Some left) None want old new n g bound end = absurd g.consumed
 fills_from_gives (Some left) (Some rest) want old new n g bound end = moved_all left rest old new g.piece want n g.consumed g.given g.count bound end
 
--- what was read in place behind the old bytes, and cut off behind it, is what a fill moves
+-- a fill moves the bytes read in place after the old ones, and truncated after them
 pub fills_in_place : (a b : Option (List ℕ)) (want : ℕ) (old : List ℕ) (start : ℕ) (full : List ℕ) (r : Result ℕ FileFault) (kept : ℕ) (new : List ℕ)
     → start ≡ length old → length full ≡ start + want → take start full ≡ old
     → IfOk r (λ n. start + n ≤ length full) → IfOk r (λ n. Consumes a b (take n (drop start full)))
@@ -46,13 +46,13 @@ fills_in_place a b want old start full (Err Read) kept new at long front within 
     cut ∙ ap (λ k. take (start + k) full) count ∙ ap (λ k. take k full) (add-zero start) ∙ front
 fills_in_place a b want old start full (Err Memory) kept new at long front within consumed end fault count cut = absurd cc
 
--- what stands in front of zeros that were put behind it, and of a read behind it
+-- the bytes before appended zeros, and before a read after them
 pub front_kept : (old zeros : List ℕ) (start end : ℕ) (resized lent full : List ℕ) → start ≡ length old → start ≤ end → resized ≡ take end old ++ zeros
     → lent ≡ resized → take start full ≡ take start lent → take start full ≡ old
 front_kept old zeros start end resized lent full at within items same kept =
     kept ∙ ap (take start) (same ∙ items) ∙ ap (λ l. take start (l ++ zeros)) (take_all end old (omega arith)) ∙ take_at old zeros start (sym at)
 
--- what was cut off
+-- the truncated bytes
 pub cut_at : (n : ℕ) (items full new : List ℕ) → items ≡ full → new ≡ take n items → new ≡ take n full
 cut_at n items full new same cut = cut ∙ ap (take n) same
 
@@ -79,7 +79,7 @@ encoded_consumes (Some x) None chunk piece held consumed split = absurd consumed
 encoded_consumes (Some x) (Some y) chunk piece held consumed split =
     ap netascii_text consumed ∙ flat_map-append wire_byte chunk y ∙ ap (λ l. l ++ netascii_text y) split ∙ append_assoc piece (option_to_list held) (netascii_text y)
 
--- a chunk that was read, and encoded in a room that lacks one byte at most
+-- a chunk that was read, and encoded in a capacity that lacks at most one byte
 pub gives_encoded : (a b : Option (List ℕ)) (chunk : List ℕ) (held : Option ℕ) (room taken count : ℕ) (old new : List ℕ) → Consumes a b chunk → 2 * length chunk ≤ room + 1
     → taken ≤ length chunk → Moved (netascii_left None chunk) (Some (netascii_left held (drop taken chunk))) room old new count
     → Gives (option_map (netascii_left None) a) (option_map (netascii_left held) b) old new count

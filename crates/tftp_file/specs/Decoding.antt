@@ -1,4 +1,4 @@
--- What a decoder of netascii takes from the pieces of a text, and where it refuses one (RFC 764).
+-- The bytes that a netascii decoder gives for the pieces of a text, and its faults (RFC 764).
 use Rattle.std.specs.Prelude.{◌≡◌, refl, ◌≢◌, ℕ, ◌+◌, ◌<◌, ◌≤◌, ◌⊎◌, List, [], ◌∷◌, ◌++◌, length}
 use Rattle.std.specs.List.{concat}
 use Rattle.tftp_file.specs.Netascii.{netascii_text}
@@ -14,12 +14,12 @@ net_fault_number LoneLf = 2
 net_fault_number EndsInCr = 3
 net_fault_number Memory = 4
 
--- the wire bytes that a decoder keeps between two pieces
+-- the wire bytes that a decoder holds back between two pieces
 abbrev pub held_bytes : HeldText → List ℕ
 held_bytes Nothing = []
 held_bytes CarriageReturn = 13 ∷ []
 
--- and what they stand for
+-- the state with these bytes held back
 abbrev pub held_of : List ℕ → HeldText
 held_of [] = Nothing
 held_of (b ∷ bytes) = CarriageReturn
@@ -32,16 +32,17 @@ held_again CarriageReturn = refl
 abbrev pub IsHeld : List ℕ → Type 0
 IsHeld held = (held ≡ []) ⊎ (held ≡ 13 ∷ [])
 
--- with what was held back before it, a piece travels as the host's bytes and what is held back after it
+-- the bytes held back before a piece, and the piece, are the wire text of the host bytes and the
+-- bytes held back after it
 abbrev pub DecodesPiece : List ℕ → List ℕ → List ℕ → List ℕ → Type 0
 DecodesPiece held piece bytes after = IsHeld after × (held ++ piece ≡ netascii_text bytes ++ after)
 
--- some host's bytes as they travel, and a CR at most
+-- the wire text of some host bytes, and at most a CR
 abbrev pub BeginsWireText : List ℕ → Type 0
 BeginsWireText text = (bytes : List ℕ) × (after : List ℕ) × DecodesPiece [] text bytes after
 
--- behind some host's bytes as they travel stands a CR, and behind it, at this place, a byte that is
--- neither LF nor NUL
+-- the wire text of some host bytes, then a CR, and then, at this offset, a byte that is neither LF
+-- nor NUL
 pub record LoneCrAt (text : List ℕ) (at : ℕ) : Type 0 where
   pub bytes : List ℕ
   pub byte : ℕ
@@ -51,14 +52,14 @@ pub record LoneCrAt (text : List ℕ) (at : ℕ) : Type 0 where
   pub split : text ≡ netascii_text bytes ++ (13 ∷ byte ∷ rest)
   pub place : at ≡ length (netascii_text bytes) + 1
 
--- behind some host's bytes as they travel stands, at this place, an LF
+-- the wire text of some host bytes, and then, at this offset, an LF
 pub record LoneLfAt (text : List ℕ) (at : ℕ) : Type 0 where
   pub bytes : List ℕ
   pub rest : List ℕ
   pub split : text ≡ netascii_text bytes ++ (10 ∷ rest)
   pub place : at ≡ length (netascii_text bytes)
 
--- the byte at this place is the first that no wire text has there
+-- the byte at this offset is the first that no wire text has there
 abbrev pub FirstWrong : List ℕ → ℕ → NetFault → Type 0
 FirstWrong text at LoneCr = LoneCrAt text at
 FirstWrong text at LoneLf = LoneLfAt text at
@@ -69,21 +70,23 @@ FirstWrong text at Memory = ⊥
 abbrev pub IsWrong : List ℕ → NetFault → Type 0
 IsWrong text fault = (at : ℕ) × FirstWrong text at fault
 
--- why a push refuses a text: its first wrong byte, or out of memory for a text without one
+-- the fault of a push: the first wrong byte, or out of memory for a text without one
 abbrev pub Refuses : List ℕ → NetFault → Type 0
 Refuses text LoneCr = IsWrong text LoneCr
 Refuses text LoneLf = IsWrong text LoneLf
 Refuses text EndsInCr = ⊥
 Refuses text Memory = BeginsWireText text
 
--- the pieces are taken one after another: the host's bytes that they give, and what is held back behind them
+-- the pieces are decoded in order: the host bytes that they give, and the bytes held back after all
 abbrev pub TakesAll : List ℕ → List (List ℕ) → List ℕ → List ℕ → Type 0
 TakesAll held [] bytes after = (bytes ≡ []) × (after ≡ held)
 TakesAll held (piece ∷ pieces) bytes after = (first : List ℕ) × (between : List ℕ) × (rest : List ℕ)
-    × DecodesPiece held piece first between × TakesAll between pieces rest after × (bytes ≡ first ++ rest)
+    × DecodesPiece held piece first between × TakesAll between pieces rest after
+    × (bytes ≡ first ++ rest)
 
--- the pieces before one are taken, and that one, which holds this place of the whole, is refused
-pub record RefusesAt (held : List ℕ) (pieces : List (List ℕ)) (at : ℕ) (fault : NetFault) : Type 0 where
+-- the pieces before one are decoded, and that one, which has this offset of the whole, is refused
+pub record RefusesAt (held : List ℕ) (pieces : List (List ℕ)) (at : ℕ)
+    (fault : NetFault) : Type 0 where
   pub before : List (List ℕ)
   pub piece : List ℕ
   pub behind : List (List ℕ)

@@ -1,4 +1,4 @@
--- The bytes that netascii writes as pairs, and where a run of other bytes ends (RFC 764).
+-- The bytes that netascii sends as pairs, and the end of a run of other bytes (RFC 764).
 use Rattle.std.specs.Prelude.{◌≡◌, ℕ, Bool, ◌||◌, ◌==◌, ◌⊎◌, List, [], ◌∷◌}
 
 -- LF and CR

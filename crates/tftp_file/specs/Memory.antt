@@ -1,11 +1,11 @@
--- What a source and a sink in memory are, and when the sink refuses.
+-- A source and a sink in memory, and the calls that the sink refuses.
 use Rattle.std.specs.Prelude.{ℕ, ◌≡◌, ◌+◌, ◌<◌, Bool, true, false, List, [], length, Some, ◌⊎◌, ⊤}
 use Rattle.tftp_file.specs.declared.fault.StoreFault.{StoreFault}
 use Rattle.tftp_file.specs.declared.fault.StoreFault.TheVariants.{Full, Memory}
 use Rattle.tftp_file.specs.Source.{SourceMeaning}
 use Rattle.tftp_file.specs.Sink.{Holding, SinkMeaning}
 
--- what a sink holds, how many bytes it has room for, and whether it was made to refuse its commit
+-- the content of a sink, its capacity, and whether it is set to refuse each commit
 pub record MemSinkState : Type 0 where
   pub holding : Holding
   pub room : ℕ
@@ -19,27 +19,27 @@ new_mem_sink room refuses_commit = record {
   refuses_commit = refuses_commit;
 }
 
--- the sink, told to refuse its next call or told no more
+-- the sink, set to refuse its next call or not
 abbrev pub with_told : MemSinkState → Bool → MemSinkState
 with_told sink told = record sink { holding = record sink.holding { refuses = told } }
 
--- the room is all held
+-- the sink is full
 abbrev pub IsFull : MemSinkState → Type 0
 IsFull sink = length sink.holding.bytes ≡ sink.room
 
--- an append answers Full as it was told or past the room, and else fails with Memory alone
+-- an append returns Full if set to or beyond the capacity, and otherwise fails only with Memory
 abbrev pub MayRefuseAppend : MemSinkState → List ℕ → StoreFault → Type 0
 MayRefuseAppend sink piece Full =
     (sink.holding.refuses ≡ true) ⊎ (sink.room < length sink.holding.bytes + length piece)
 MayRefuseAppend sink piece Memory = ⊤
 MayRefuseAppend sink piece fault = ⊥
 
--- a commit answers Full as it was told or as it was made, and fails in no other way
+-- a commit returns Full if set to, and fails in no other way
 abbrev pub MayRefuseCommit : MemSinkState → StoreFault → Type 0
 MayRefuseCommit sink Full = (sink.holding.refuses ≡ true) ⊎ (sink.refuses_commit ≡ true)
 MayRefuseCommit sink fault = ⊥
 
--- the meaning of a sink in memory
+-- the model of a sink in memory
 abbrev pub memory_sink : SinkMeaning MemSinkState
 memory_sink =
     record {
@@ -49,6 +49,7 @@ memory_sink =
       becomes = λ before after committed. ⊤;
     }
 
--- the meaning of a source in memory: its wire text is known, and it never fails to read
+-- the model of a source in memory: its wire text is known, and it never fails to read
 abbrev pub memory_source : SourceMeaning (List ℕ)
-memory_source = record { left = λ text. Some text; may_fail = λ text want. ⊥; fails = λ text want. ⊥ }
+memory_source =
+    record { left = λ text. Some text; may_fail = λ text want. ⊥; fails = λ text want. ⊥ }

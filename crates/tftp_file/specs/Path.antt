@@ -1,10 +1,13 @@
--- Which names of a request are paths (our own choice: RFC 1350 leaves the names of files open).
-use Rattle.std.specs.Prelude.{◌≡◌, ℕ, ◌≤◌, Bool, false, not, ◌==◌, ◌&&◌, ◌||◌, nat_le, nat_lt, if◌then◌else◌, List, [], ◌∷◌, length, IsOk, Result, Ok, Err, All, IsTrue}
+-- The path of a request's file name (our own choice: RFC 1350 leaves the names of files open).
+use Rattle.std.specs.Prelude.{◌≡◌, ℕ, ◌≤◌, Bool, false, not, ◌==◌, ◌&&◌, ◌||◌, nat_le, nat_lt}
+use Rattle.std.specs.Prelude.{if◌then◌else◌, List, [], ◌∷◌, length, IsOk, Result, Ok, Err, All}
+use Rattle.std.specs.Prelude.{IsTrue}
 use Rattle.std.specs.List.{list_all, slice_split, join_with_byte}
 use Rattle.tftp_file.specs.declared.path.PathFault.{PathFault}
-use Rattle.tftp_file.specs.declared.path.PathFault.TheVariants.{Empty, Segment, Depth, Length, Memory}
+use Rattle.tftp_file.specs.declared.path.PathFault.TheVariants.{Empty, Segment, Depth, Length}
+use Rattle.tftp_file.specs.declared.path.PathFault.TheVariants.{Memory}
 
--- the number of a path's fault
+-- the number of a path fault
 abbrev pub path_fault_number : PathFault → ℕ
 path_fault_number Empty = 1
 path_fault_number Segment = 2
@@ -17,7 +20,7 @@ abbrev pub is_name_byte : ℕ → Bool
 is_name_byte byte = (nat_le 65 byte && nat_le byte 90) || (nat_le 97 byte && nat_le byte 122)
     || (nat_le 48 byte && nat_le byte 57) || byte == 46 || byte == 95 || byte == 45
 
--- 1 to 64 name bytes, the first of which is no dot
+-- 1 to 64 name bytes, the first of which is not a dot
 abbrev pub is_segment : List ℕ → Bool
 is_segment [] = false
 is_segment (first ∷ rest) = not (first == 46) && nat_le (length (first ∷ rest)) 64
@@ -50,7 +53,7 @@ checked_path path =
 abbrev pub path_of_name : List ℕ → Result (List ℕ) PathFault
 path_of_name name = checked_path (without_slash name)
 
--- the answer is the definition's, or out of memory where that is a path
+-- the result is that of the definition, or out of memory if that is a path
 abbrev pub AnswersPath : Result (List ℕ) PathFault → Result (List ℕ) PathFault → Type 0
 AnswersPath expected (Ok path) = expected ≡ Ok path
 AnswersPath expected (Err Empty) = expected ≡ Err Empty

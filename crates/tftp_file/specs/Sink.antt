@@ -1,33 +1,33 @@
--- What a sink means to its caller, and what an append and a commit leave of it. A sink is told to refuse a call, and
--- is told so no more.
-use Rattle.std.specs.Prelude.{ℕ, ◌≡◌, Bool, true, false, List, ◌++◌, Option, Some, None, Result, Ok, Err, ⊤}
+-- The model of a sink, and the effect of an append and a commit on it. A sink that is set to refuse
+-- a call clears the setting when it does.
+use Rattle.std.specs.Prelude.{ℕ, ◌≡◌, Bool, true, false, List, ◌++◌, Option, Some, None, Result, Ok}
+use Rattle.std.specs.Prelude.{Err, ⊤}
 use Rattle.std.specs.Borrow.{MutBor}
 use Rattle.tftp_file.specs.declared.fault.StoreFault.{StoreFault}
 use Rattle.tftp_file.specs.declared.fault.StoreFault.TheVariants.{Full, Memory}
 use Rattle.tftp_file.specs.Block.{IsBeginningOf}
 use Rattle.tftp_file.specs.Source.{StaysKnown}
 
--- what a sink holds: its bytes, whether they are committed, and whether it was told to refuse
--- its next call
+-- the content of a sink: its bytes, whether they are committed, and whether it is set to refuse its
+-- next call
 pub record Holding : Type 0 where
   pub bytes : List ℕ
   pub committed : Bool
   pub refuses : Bool
 
--- the meaning of sinks of one type
+-- the model of the sinks of one type
 pub record SinkMeaning (K : Type 0) : Type 1 where
-  -- the bytes held, whether they are committed and whether the sink was told to refuse its next call, or None where
-  -- that is not known
+  -- the content, or None if it is not known
   pub held : K → Option Holding
-  -- an append of these bytes may answer this fault
+  -- an append of these bytes may return this fault
   pub may_refuse_append : K → List ℕ → StoreFault → Type 0
-  -- a commit may answer this fault
+  -- a commit may return this fault
   pub may_refuse_commit : K → StoreFault → Type 0
-  -- what a call makes of all that the sink has beside what it holds: true behind a commit that succeeded, false behind
-  -- every other call
+  -- the effect of a call on the state of the sink besides its content: true after a successful
+  -- commit, false after every other call
   pub becomes : K → K → Bool → Type 0
 
--- the meaning of what stands for a sink
+-- the model of a value that contains a sink
 abbrev pub sink_through : {K L : Type 0} → SinkMeaning L → (K → L) → SinkMeaning K
 sink_through meaning seen =
     record {
@@ -37,15 +37,15 @@ sink_through meaning seen =
       becomes = λ k l committed. meaning.becomes (seen k) (seen l) committed;
     }
 
--- the meaning of a borrow of a sink
+-- the model of a borrow of a sink
 abbrev pub borrowed_sink : {K : Type 0} → SinkMeaning K → SinkMeaning (MutBor K)
 borrowed_sink meaning = sink_through meaning (λ k. k.now)
 
--- the sink after it has refused a call as it was told to
+-- the sink after it has refused a call as set
 abbrev pub told_no_more : Holding → Holding
 told_no_more holding = record holding { refuses = false }
 
--- the sink after an append: what it holds now is not committed
+-- the sink after an append: its content is not committed
 abbrev pub with_piece : Holding → List ℕ → Holding
 with_piece holding piece = record holding { bytes = holding.bytes ++ piece; committed = false }
 
@@ -53,12 +53,13 @@ with_piece holding piece = record holding { bytes = holding.bytes ++ piece; comm
 abbrev pub as_committed : Holding → Holding
 as_committed holding = record holding { committed = true }
 
--- a call was refused as it was told to be: it answers Full, and is told no more
-pub record RefusedAsTold {A : Type 0} (before : Holding) (after : Option Holding) (result : Result A StoreFault) : Type 0 where
+-- a call was refused as set: it returns Full, and clears the setting
+pub record RefusedAsTold {A : Type 0} (before : Holding) (after : Option Holding)
+    (result : Result A StoreFault) : Type 0 where
   pub answer : result ≡ Err Full
   pub leaves : after ≡ Some (told_no_more before)
 
--- a beginning of the piece was kept, or the sink is as it was
+-- a beginning of the piece is appended, or the sink is unchanged
 pub record KeptBeginning (before : Holding) (after : Option Holding) (piece : List ℕ) : Type 0 where
   pub holding : Holding
   pub leaves : after ≡ Some holding
@@ -68,36 +69,41 @@ pub record KeptBeginning (before : Holding) (after : Option Holding) (piece : Li
   pub uncommitted : holding.committed ≡ true → holding ≡ before
   pub refuses : holding.refuses ≡ before.refuses
 
--- what an append left of a sink that was not told to refuse it
-abbrev pub AppendsFreely : {A : Type 0} → Holding → Option Holding → List ℕ → Result A StoreFault → Type 0
+-- the effect of an append on a sink that is not set to refuse it
+abbrev pub AppendsFreely : {A : Type 0} → Holding → Option Holding → List ℕ → Result A StoreFault
+    → Type 0
 AppendsFreely before after piece (Ok done) = after ≡ Some (with_piece before piece)
 AppendsFreely before after piece (Err Memory) = after ≡ Some before
 AppendsFreely before after piece (Err fault) = KeptBeginning before after piece
 
--- what a commit left of a sink that was not told to refuse it
+-- the effect of a commit on a sink that is not set to refuse it
 abbrev pub CommitsFreely : {A : Type 0} → Holding → Option Holding → Result A StoreFault → Type 0
 CommitsFreely before after (Ok done) = after ≡ Some (as_committed before)
 CommitsFreely before after (Err fault) = after ≡ Some before
 
--- what a call left, by whether it was told to be refused
-abbrev pub UnlessTold : {A : Type 0} → Bool → Holding → Option Holding → Result A StoreFault → Type 0 → Type 0
+-- the effect of a call, by whether the sink is set to refuse it
+abbrev pub UnlessTold : {A : Type 0} → Bool → Holding → Option Holding → Result A StoreFault
+    → Type 0 → Type 0
 UnlessTold true before after result freely = RefusedAsTold before after result
 UnlessTold false before after result freely = freely
 
--- what an append left of a sink, by its meaning before and after it
-abbrev pub Appends : {A : Type 0} → Option Holding → Option Holding → List ℕ → Result A StoreFault → Type 0
+-- the effect of an append on a sink, by its model before and after it
+abbrev pub Appends : {A : Type 0} → Option Holding → Option Holding → List ℕ → Result A StoreFault
+    → Type 0
 Appends None after piece result = ⊤
 Appends (Some before) after piece result =
     UnlessTold before.refuses before after result (AppendsFreely before after piece result)
 
--- what a commit left of a sink, by its meaning before and after it
+-- the effect of a commit on a sink, by its model before and after it
 abbrev pub Commits : {A : Type 0} → Option Holding → Option Holding → Result A StoreFault → Type 0
 Commits None after result = ⊤
 Commits (Some before) after result =
     UnlessTold before.refuses before after result (CommitsFreely before after result)
 
--- what is held stays, and no more calls may be refused
+-- the content is unchanged, and no more calls may be refused
 pub record WritesBehind {K : Type 0} (sinks : SinkMeaning K) (before after : K) : Type 0 where
   pub held : StaysKnown (sinks.held before) (sinks.held after)
-  pub may_refuse_append : (bytes : List ℕ) (fault : StoreFault) → sinks.may_refuse_append after bytes fault → sinks.may_refuse_append before bytes fault
-  pub may_refuse_commit : (fault : StoreFault) → sinks.may_refuse_commit after fault → sinks.may_refuse_commit before fault
+  pub may_refuse_append : (bytes : List ℕ) (fault : StoreFault)
+      → sinks.may_refuse_append after bytes fault → sinks.may_refuse_append before bytes fault
+  pub may_refuse_commit : (fault : StoreFault)
+      → sinks.may_refuse_commit after fault → sinks.may_refuse_commit before fault

@@ -1,5 +1,6 @@
--- What a source over a reader and a sink over a writer stand for, where the bytes of those are known.
-use Rattle.std.specs.Prelude.{ℕ, ◌≡◌, Bool, false, List, [], ◌++◌, length, Option, option_to_list, option_map, Result, Ok, Err}
+-- The model of a source over a reader and of a sink over a writer, if the bytes of those are known.
+use Rattle.std.specs.Prelude.{ℕ, ◌≡◌, Bool, false, List, [], ◌++◌, length, Option, option_to_list}
+use Rattle.std.specs.Prelude.{option_map, Result, Ok, Err}
 use Rattle.std.specs.Io.KnownBytes.{Consumes, Appends as Grows}
 use Rattle.tftp_file.specs.declared.fault.StoreFault.{StoreFault}
 use Rattle.tftp_file.specs.declared.encoding.Encoding.{Encoding}
@@ -14,7 +15,7 @@ use Rattle.tftp_file.specs.Sink.{Holding}
 abbrev pub source_reader : {R : Type 0} → ReadSource R → R
 source_reader source = source.reader
 
--- how the bytes of a source travel, and what it holds back
+-- the encoding of a source, with the byte that it holds back
 abbrev pub source_encoding : {R : Type 0} → ReadSource R → Encoding
 source_encoding source = source.encoding
 
@@ -23,9 +24,10 @@ abbrev pub text_held : Encoding → List ℕ
 text_held Octet = []
 text_held (Netascii held) = option_to_list held
 
--- the wire text that a source has left, where its reader's bytes are known
+-- the wire text that a source has left, if its reader's bytes are known
 abbrev pub source_left : {R : Type 0} → (R → Option (List ℕ)) → ReadSource R → Option (List ℕ)
-source_left remaining source = option_map (text_left (source_encoding source)) (remaining (source_reader source))
+source_left remaining source =
+    option_map (text_left (source_encoding source)) (remaining (source_reader source))
 
 -- the writer of a sink
 abbrev pub sink_writer : {W : Type 0} → WriteSink W → W
@@ -35,26 +37,27 @@ sink_writer sink = sink.writer
 abbrev pub sink_committed : {W : Type 0} → WriteSink W → Bool
 sink_committed sink = sink.is_committed
 
--- what a sink holds, where its writer's bytes are known
+-- the content of a sink, if its writer's bytes are known
 abbrev pub sink_holding : {W : Type 0} → (W → Option (List ℕ)) → WriteSink W → Option Holding
 sink_holding contents sink =
     option_map (λ bytes. record { bytes = bytes; committed = sink_committed sink; refuses = false })
     (contents (sink_writer sink))
 
--- n bytes came to the end of the buffer, and they are those that are gone from the front of what was left
+-- n bytes are moved from the start of the text to the end of the buffer
 pub record Gives (before after : Option (List ℕ)) (old new : List ℕ) (n : ℕ) : Type 0 where
   pub piece : List ℕ
   pub given : new ≡ old ++ piece
   pub count : length piece ≡ n
   pub consumed : Consumes before after piece
 
--- what was held grew by a beginning of the piece
+-- the content grew by a beginning of the piece
 pub record GrowsByBeginning (before after : Option (List ℕ)) (piece : List ℕ) : Type 0 where
   pub kept : List ℕ
   pub beginning : IsBeginningOf kept piece
   pub grown : Grows before after kept
 
--- all of a piece was written, or a beginning of it
-abbrev pub Writes : {A : Type 0} → Option (List ℕ) → Option (List ℕ) → List ℕ → Result A StoreFault → Type 0
+-- all of a piece is written, or a beginning of it
+abbrev pub Writes : {A : Type 0} → Option (List ℕ) → Option (List ℕ) → List ℕ → Result A StoreFault
+    → Type 0
 Writes before after piece (Ok done) = Grows before after piece
 Writes before after piece (Err fault) = GrowsByBeginning before after piece

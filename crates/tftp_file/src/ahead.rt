@@ -13,23 +13,23 @@ use std::marker::Model;
 use std::mem;
 use tftp_wire::HEADER;
 
-/// A source over another, which can be read ahead: while the peer is busy with a block the next
-/// one is read, and not while the peer waits for it.
+/// A source over another source, which can be read ahead: the next block is read while the peer
+/// handles the current one, and not while the peer waits for it.
 ///
-/// What is left is what was read ahead, and then what the source below has left. It reads as many
-/// bytes ahead as the last fill requested. After a read ahead that failed each fill answers `Read`.
-/// Where a fill requests just what was read ahead, and its buffer holds the head of a datagram, two
-/// buffers are exchanged, and no byte of the block is copied.
+/// Its text is the bytes read ahead, followed by the text of the source below. It reads ahead as
+/// many bytes as the last fill requested. After a failed read ahead each fill returns `Read`. If a
+/// fill requests exactly the bytes read ahead, and its buffer holds the header of a datagram, the
+/// two buffers are exchanged, and no byte of the block is copied.
 ///
-/// Contracts see the source below, what was read ahead, and whether a read ahead failed.
+/// Its model is the source below, the bytes read ahead, and whether a read ahead failed.
 #[derive(Drop)]
 pub struct Ahead<S> {
     source: S,
-    /// Room for the head of a datagram, and then what was read ahead.
+    /// Space for the header of a datagram, followed by the bytes read ahead.
     buffer: Vec<u8>,
-    /// Where in the buffer that begins which was not given yet.
+    /// The offset in the buffer of the bytes that no fill has moved yet.
     at: usize,
-    /// The bytes that the last fill requested.
+    /// The number of bytes that the last fill requested.
     size: usize,
     failed: bool,
 }
@@ -50,7 +50,7 @@ impl<S> Model for Ahead<S> {
 }
 
 impl<S> Ahead<S> {
-    /// A source over another, of which nothing was read ahead. It takes no memory.
+    /// A source over another, with nothing read ahead. Allocates no memory.
     pub fn new(alloc: Global, source: S) -> Ahead<S>
         ensures { result ≡ new_ahead source }
     {
@@ -63,7 +63,7 @@ impl<S> Ahead<S> {
         }
     }
 
-    /// The source below. What was read ahead is lost.
+    /// The source below. The bytes read ahead are lost.
     pub fn into_inner(self) -> S
         ensures { result ≡ self.source }
     {
@@ -99,7 +99,7 @@ impl<S: Source> Source for Ahead<S> {
     }
 }
 
-/// Fills from what the buffer holds behind the place, and then from the source.
+/// Fills from the buffer, from offset `at` on, and then from the source.
 fn fill_ahead<S: Source>(
     source: &mut S,
     buffer: &mut Vec<u8>,
@@ -136,8 +136,7 @@ fn fill_ahead<S: Source>(
     }
 }
 
-/// Moves the next bytes that the buffer holds behind the place, of which there are enough, to the
-/// end of `out`.
+/// Moves the next bytes of the buffer, from offset `at` on, to the end of `out`.
 fn take_held(
     buffer: &mut Vec<u8>,
     at: &mut usize,
@@ -169,8 +168,7 @@ fn take_held(
     Ok(want)
 }
 
-/// Puts what `out` holds in front of what the buffer holds behind as many bytes, and exchanges the
-/// two.
+/// Writes the bytes of `out` over the start of the buffer, and exchanges the two.
 fn exchange(buffer: &mut Vec<u8>, out: &mut Vec<u8>)
     requires { length out.old.items ≤ length buffer.old.items }
     ensures items { out.new.items
@@ -182,7 +180,6 @@ fn exchange(buffer: &mut Vec<u8>, out: &mut Vec<u8>)
     mem::swap(buffer, out);
 }
 
-/// Writes the head over the front of the buffer.
 fn put_head(head: &[u8], buffer: &mut [u8])
     requires { length head.now ≤ length buffer.old }
     ensures { buffer.new ≡ head.now ++ drop (length head.now) buffer.old }
@@ -190,7 +187,7 @@ fn put_head(head: &[u8], buffer: &mut [u8])
     buffer[..head.len()].copy_from_slice(head);
 }
 
-/// Fills with all that is held, which is less than is wanted, and then from the source.
+/// Fills with all the held bytes, and then from the source.
 fn fill_behind<S: Source>(
     held: &[u8],
     source: &mut S,
@@ -222,8 +219,8 @@ fn fill_behind<S: Source>(
     }
 }
 
-/// Reads the next bytes, as many as the size, behind room for the head of a datagram, and returns
-/// whether the read failed. Out of memory nothing is read.
+/// Reads the next `size` bytes, after space for the header of a datagram, and returns whether the
+/// read failed. Out of memory nothing is read.
 fn read_block<S: Source>(source: &mut S, buffer: &mut Vec<u8>, at: &mut usize, size: usize) -> bool
     ensures within { at.new ≤ vec_len buffer.new }
     ensures left { result ≡ false → StaysKnown (S.meaning.left source.old)

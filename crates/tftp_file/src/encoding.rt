@@ -1,4 +1,4 @@
-//! Encodes host bytes until so many wire bytes have come, wherever that cuts a pair.
+//! Encodes host bytes as a given number of wire bytes, even if that splits a pair.
 
 ghost use Rattle.std.specs.Prelude.{◌≡◌, ◌+◌, ◌≤◌, ◌++◌, ◌∷◌, length, drop, min, option_to_list};
 ghost use Rattle.std.specs.Prelude.{Some, vec_len, vec_capacity, IfNone, IfOk, OnErr, []};
@@ -10,35 +10,35 @@ use crate::lines::{CR, LF, NUL};
 use std::alloc::AllocError;
 use tftp_wire::Mode;
 
-/// How a source's bytes travel, and what of a split pair it holds back.
+/// The encoding of a source, with the byte of a split pair that it holds back.
 #[derive(Clone, Copy, Debug)]
 pub enum Encoding {
-    /// Each byte as itself.
+    /// Each byte is sent unchanged.
     Octet,
-    /// In netascii, with the second byte of a pair whose first has been given.
+    /// Netascii, with the second byte of a pair whose first byte was appended.
     Netascii {
         /// That byte.
         held: Option<u8>,
     },
 }
 
-/// How far a piece of wire text came.
+/// The result of encoding a piece.
 #[derive(Drop)]
 pub struct Given {
-    /// The wire bytes that were given.
+    /// The number of wire bytes appended.
     pub count: usize,
-    /// The host bytes that were taken.
+    /// The number of host bytes consumed.
     pub taken: usize,
-    /// How the rest goes on.
+    /// The encoding of the rest.
     pub encoding: Encoding,
 }
 
-/// How far a piece of netascii came.
+/// The result of encoding a piece in netascii.
 #[derive(Drop)]
 pub struct Encoded {
-    /// The wire bytes that were given.
+    /// The number of wire bytes appended.
     pub count: usize,
-    /// The host bytes that were taken.
+    /// The number of host bytes consumed.
     pub taken: usize,
     /// The second byte of a pair that was split.
     pub held: Option<u8>,
@@ -87,7 +87,7 @@ fn next_wire_byte(bytes: &[u8], at: &mut usize, held: &mut Option<u8>) -> Option
     Some(first)
 }
 
-/// Gives the next `want` wire bytes, or as many as there are, within the room of `out`.
+/// Appends the next `want` wire bytes, or as many as there are, within the capacity of `out`.
 pub fn encode(bytes: &[u8], held: Option<u8>, want: usize, out: &mut Vec<u8>) -> Encoded
     requires { vec_len out.old + min want (length (netascii_left held bytes.now))
         ≤ vec_capacity out.old }
@@ -108,7 +108,7 @@ pub fn encode(bytes: &[u8], held: Option<u8>, want: usize, out: &mut Vec<u8>) ->
     Encoded { count, taken, held }
 }
 
-/// Gives the next `want` bytes of wire text, or as many as there are. It makes its growth first.
+/// Appends the next `want` bytes of wire text, or as many as there are. It reserves capacity first.
 pub fn give(
     bytes: &[u8],
     encoding: Encoding,

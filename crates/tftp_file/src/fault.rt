@@ -1,4 +1,4 @@
-//! Why a file cannot be read or stored.
+//! The faults of reading and storing a file.
 
 ghost use Rattle.std.specs.Prelude.{◌≡◌};
 ghost use Rattle.tftp_file.specs.Fault.{file_fault_number, store_fault_number};
@@ -6,7 +6,7 @@ ghost use Rattle.tftp_file.specs.Fault.{file_fault_number, store_fault_number};
 use std::alloc::{AllocError, AllocFailed};
 use thiserror::Error;
 
-/// Why a file could not be read.
+/// A fault in reading a file.
 #[derive(Clone, Copy, Debug, PartialEq, Eq, Error)]
 pub enum FileFault {
     /// A read failed.
@@ -48,16 +48,16 @@ impl<T: Drop> From<AllocFailed<T>> for FileFault {
     }
 }
 
-/// Why a file could not be stored.
+/// A fault in storing a file.
 #[derive(Clone, Copy, Debug, PartialEq, Eq, Error)]
 pub enum StoreFault {
-    /// There is no file of that name.
+    /// No file of that name exists.
     #[error("no such file")]
     Missing = 1,
-    /// There is a file of that name.
+    /// A file of that name exists.
     #[error("the file exists")]
     Exists = 2,
-    /// No room is left.
+    /// No space is left.
     #[error("no room is left")]
     Full = 3,
     /// A read, a write or a flush failed.

@@ -1,4 +1,4 @@
-//! A source in memory that ends early, or fails there.
+//! A source in memory that ends early or fails, for fault injection.
 
 ghost use Rattle.std.specs.Prelude.{◌≡◌, IfErr, IfOk};
 ghost use Rattle.tftp_file.specs.Netascii.{wire_text};
@@ -10,10 +10,10 @@ use std::alloc::Global;
 use std::marker::Model;
 use tftp_wire::Mode;
 
-/// A source of bytes in memory that ends before their wire text does, or fails there: what a file
-/// does that was cut, or a disk that cannot be read.
+/// A source of bytes in memory that ends before their wire text does, or fails there, as a
+/// truncated file or an unreadable disk does.
 ///
-/// Contracts see the wire text that is left, and whether a fill fails that requests more than that.
+/// Its model is the wire text that is left, and whether a fill that requests more fails.
 #[derive(Debug, Drop)]
 pub struct FaultSource {
     source: MemSource,
@@ -33,9 +33,9 @@ impl Model for FaultSource {
 }
 
 impl FaultSource {
-    /// A source of the first `give` bytes of the bytes' wire text in the mode, or of all of it
-    /// where it is shorter. It then ends; made to `fail`, it answers `Read` to a fill that requests
-    /// more bytes than are left. It copies the bytes, and fails with `Memory` alone.
+    /// A source of the first `give` bytes of the wire text in the mode, or of all of it if it is
+    /// shorter. Then it ends; if it is set to `fail`, a fill that requests more bytes than are left
+    /// returns `Read`. It copies the bytes, and fails only with `Memory`.
     pub fn new(
         alloc: Global,
         bytes: &[u8],
@@ -67,15 +67,15 @@ impl Source for FaultSource {
       fails = FailsAt;
     } };
 
-    /// It holds no borrow: it stays made to fail, or made not to.
+    /// It holds no borrow: whether it is set to fail does not change.
     ghost is_same = { λ s t. t.fails ≡ s.fails };
 
     ghost stays = { λ _. refl };
 
     ghost joins = { λ _ _ _ p q. q ∙ p };
 
-    /// A fill that requests more than is left of a source that was made to fail answers `Read`, and
-    /// takes no memory.
+    /// If the source is set to fail, a fill that requests more than is left returns `Read`, and
+    /// allocates no memory.
     fn fill(&mut self, want: usize, out: &mut Vec<u8>) -> Result<usize, FileFault>
         ensures fills { Fills (Some self.old.left) (Some self.new.left) want
             out.old.items out.new.items result }

@@ -1,6 +1,6 @@
-//! The file of one transfer, of either direction.
+//! The file of one transfer, in either direction.
 
-/// What an end works on: a sender's source, or a receiver's sink.
+/// The file of an end: a sender's source, or a receiver's sink.
 #[derive(Drop)]
 pub enum Files<S, K> {
     /// The file that is sent.

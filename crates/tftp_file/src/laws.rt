@@ -1,4 +1,4 @@
-//! What holds of the definitions alone: text that is cut anywhere, blocks, beginnings and names.
+//! Laws of the definitions: text that is cut anywhere, blocks, beginnings and names.
 
 ghost use Rattle.std.specs.Prelude.{◌≡◌, ◌+◌, ◌*◌, ◌<◌, ◌≤◌, ◌↔◌, ◌⊎◌, ◌++◌, ℕ, List, [], Ok};
 ghost use Rattle.std.specs.Prelude.{length};
@@ -14,8 +14,7 @@ ghost use Rattle.tftp_file.specs.Decoding.{RefusesAt};
 /// Netascii is decoded in the same way wherever it is cut (RFC 764).
 ///
 /// The pieces of any cut join to the whole. A text that begins no wire text is refused at the piece
-/// that holds its first wrong byte, with the same fault in every cut, and what the pieces before
-/// that one gave stands.
+/// with its first wrong byte, with the same fault in every cut. The pieces before it are decoded.
 pub fn any_cut()
     ensures joined { (held : List ℕ) (pieces : List (List ℕ)) (bytes after : List ℕ) → IsHeld held
         → (TakesAll held pieces bytes after ↔ DecodesPiece held (concat pieces) bytes after) }
@@ -24,9 +23,9 @@ pub fn any_cut()
         → RefusesAt held pieces at fault }
 {}
 
-/// A text begins a wire text, or it has a first wrong byte, and never both; what stands in front of
-/// such a text begins one, too; it gives one list of bytes, and it is wrong at one place and in one
-/// way (RFC 764).
+/// A text begins a wire text or has a first wrong byte, never both. Each beginning of a text that
+/// begins a wire text begins one, too. A text decodes to one list of bytes, and its first wrong
+/// byte has one offset and one fault (RFC 764).
 pub fn one_reading()
     ensures either { (text : List ℕ) → BeginsWireText text
         ⊎ ((at : ℕ) × (fault : NetFault) × FirstWrong text at fault) }
@@ -41,8 +40,8 @@ pub fn one_reading()
         → (at ≡ other) × (fault ≡ wrong) }
 {}
 
-/// The blocks of a text are the text, cut: each but the last has the block size, the last is
-/// shorter, and a text of a multiple of the size ends with an empty one (RFC 1350, section 6).
+/// The blocks of a text join to the text. Each but the last has the block size, the last is
+/// shorter, and a text of a multiple of the size ends with an empty block (RFC 1350, section 6).
 pub fn blocks()
     ensures joined { (text : List ℕ) (size : ℕ) → 0 < size
         → first_blocks text size (block_count text size) ≡ text }
@@ -60,9 +59,8 @@ pub fn beginnings()
         → IsBeginningOf xs ys ↔ IsBeginningOf (wire_text mode xs) (wire_text mode ys) }
 {}
 
-/// A name spells a path exactly if what stands behind its one leading slash, where it has one, is a
-/// path, and it spells that path. It is this project's rule: RFC 1350 leaves the names of files
-/// open.
+/// A name spells a path exactly if the name without its leading slash, if any, is that path. This
+/// is our own rule: RFC 1350 leaves the names of files open.
 pub fn names()
     ensures { (name path : List ℕ)
         → ((path_of_name name ≡ Ok path) ↔ (IsPath path × (without_slash name ≡ path))) }

@@ -1,8 +1,7 @@
-//! How long a file is on the wire.
+//! The length of a file on the wire.
 
 ghost use Rattle.std.specs.Prelude.{◌≡◌, ◌≤◌, ◌+◌, ◌*◌, length, min, IfOk, IfErr, IfSome};
 ghost use Rattle.tftp_file.specs.Netascii.{wire_text};
-ghost use Rattle.tftp_file.specs.Length.{up_to};
 ghost use Rattle.tftp_file.specs.declared.fault.FileFault.TheVariants.{Read as ReadFault};
 
 use crate::fault::FileFault;
@@ -10,56 +9,36 @@ use crate::lines::line_byte_count;
 use std::io::Read;
 use tftp_wire::Mode;
 
-/// The longest wire text that any block size can carry, in bytes: 65,535 blocks of 65,464 bytes,
+/// The maximum length of a wire text at any block size, in bytes: 65,535 blocks of 65,464 bytes,
 /// the last of them one byte short (RFC 2348, "Blocksize Option Specification").
 pub const MAX_WIRE: u64 = 4_290_183_239;
 
 const CHUNK: usize = 8192;
 
-/// The length of the reader's text on the wire, in bytes, or `MAX_WIRE + 1` where it is greater; it
-/// reads no further then. `Read` where reading fails. It takes no memory.
-pub fn wire_length<R: Read + Drop>(reader: R, mode: Mode) -> Result<u64, FileFault>
+/// The length of the reader's text on the wire, in bytes, or `MAX_WIRE + 1` if it is greater; it
+/// then reads no further. It returns `Read` if reading fails. Allocates no memory.
+pub fn wire_length<R: Read + Drop>(mut reader: R, mode: Mode) -> Result<u64, FileFault>
     ensures ok { IfOk result (λ count. IfSome (R.remaining reader)
         (λ bytes. count ≡ min (length (wire_text mode bytes)) (MAX_WIRE + 1))) }
     ensures within { IfOk result (λ count. count ≤ MAX_WIRE + 1) }
     ensures read { IfErr result (λ fault. fault ≡ ReadFault) }
 {
-    match wire_length_up_to(reader, mode, MAX_WIRE) {
-        Ok(Some(count)) => Ok(count),
-        Ok(None) => Ok(MAX_WIRE + 1),
-        Err(fault) => Err(fault),
-    }
-}
-
-/// The length of the reader's text on the wire, in bytes, or `None` where it is greater than `most`
-/// or [`MAX_WIRE`]; it reads no further then. `Read` where reading fails. It takes no memory.
-pub fn wire_length_up_to<R: Read + Drop>(
-    mut reader: R,
-    mode: Mode,
-    most: u64,
-) -> Result<Option<u64>, FileFault>
-    ensures ok { IfOk result (λ found. IfSome (R.remaining reader)
-        (λ bytes. found ≡ up_to (min most MAX_WIRE) (length (wire_text mode bytes)))) }
-    ensures within { IfOk result (λ found. IfSome found (λ count. count ≤ min most MAX_WIRE)) }
-    ensures read { IfErr result (λ fault. fault ≡ ReadFault) }
-{
-    let limit = most.min(MAX_WIRE);
     let mut chunk = [0; CHUNK];
     let mut total = 0;
-    while total <= limit {
+    while total <= MAX_WIRE {
         let Ok(count) = reader.read(&mut chunk) else {
             return Err(FileFault::Read);
         };
         if count == 0 {
-            return Ok(Some(total));
+            return Ok(total);
         }
         total += wire_count(&chunk[..count], mode) as u64;
     }
-    Ok(None)
+    Ok(MAX_WIRE + 1)
 }
 
-/// The length of the bytes' wire text in the mode, in bytes, or `most` where it is greater. It
-/// takes time in the bytes, and no memory.
+/// The length of the wire text of the bytes in the mode, in bytes, or `most` if it is greater. It
+/// takes linear time, and allocates no memory.
 pub fn wire_length_within(bytes: &[u8], mode: Mode, most: u64) -> u64
     ensures { result ≡ min (length (wire_text mode bytes.now)) most }
 {
@@ -72,7 +51,7 @@ pub fn wire_length_within(bytes: &[u8], mode: Mode, most: u64) -> u64
     }
 }
 
-/// The length of the bytes' wire text; there are few enough for it to fit.
+/// The length of the wire text of a chunk.
 fn wire_count(bytes: &[u8], mode: Mode) -> usize
     requires { length bytes.now ≤ CHUNK }
     ensures value { result ≡ length (wire_text mode bytes.now) }

@@ -1,11 +1,11 @@
-//! Files as they travel: netascii, blocks, sources, sinks and names (RFC 1350, section 1; RFC 764).
+//! The files of a transfer: netascii, blocks, sources, sinks and names (RFC 1350, section 1; RFC
+//! 764).
 //!
-//! It opens no file and no socket: a source reads what it is given, and a sink writes to what it is
-//! given. It is strict: a text that is no netascii and a name outside the rules are refused, with
-//! the first fault.
+//! It opens no file and no socket: the caller supplies readers and writers. It is strict: a text
+//! that is not netascii and a name outside the rules are refused, with the first fault.
 //!
-//! Begin with [`Source`] and [`Sink`], by which an end of a transfer reads and writes, and with
-//! [`path_of`]. What a sink holds after a transfer stands for just the bytes that its source gave.
+//! Begin with [`Source`] and [`Sink`], with which an end of a transfer reads and writes, and with
+//! [`path_of`]. After a complete transfer the wire text of the sink's bytes is the source's text.
 #![tactic(auto)]
 
 mod ahead;

@@ -1,17 +1,17 @@
-//! Where the bytes stand that netascii writes as pairs (RFC 764).
+//! Finds the bytes that netascii sends as pairs (RFC 764).
 
 ghost use Rattle.std.specs.Prelude.{◌≡◌, ◌≤◌, ◌++◌, length};
 ghost use Rattle.std.specs.List.{count_by, position_or_len};
 ghost use Rattle.tftp_file.specs.Netascii.{netascii_text};
 ghost use Rattle.tftp_file.specs.Lines.{EndsAtLine, is_line_byte};
 
-/// The line feed, which travels as CR LF.
+/// The line feed, which is sent as CR LF.
 pub(crate) const LF: u8 = b'\n';
 
-/// The carriage return, which travels as CR NUL.
+/// The carriage return, which is sent as CR NUL.
 pub(crate) const CR: u8 = b'\r';
 
-/// The byte behind a CR that stands for itself.
+/// The byte after a CR that is not part of a line end.
 pub(crate) const NUL: u8 = 0;
 
 /// Whether the byte is LF or CR.
@@ -21,14 +21,14 @@ fn is_line_byte(byte: u8) -> bool
     byte == LF || byte == CR
 }
 
-/// How many bytes are LF or CR, each of which takes two bytes of wire text.
+/// The number of bytes that are LF or CR, each of which has two bytes of wire text.
 pub(crate) fn line_byte_count(bytes: &[u8]) -> usize
     ensures { result ≡ count_by is_line_byte bytes.now }
 {
     bytes.iter().filter(|byte| is_line_byte(**byte)).count()
 }
 
-/// The place of the first CR or LF, or else the length.
+/// The index of the first CR or LF, or else the length.
 fn run_length(text: &[u8]) -> usize
     ensures place { result ≡ position_or_len is_line_byte text.now }
     ensures within { result ≤ length text.now }
@@ -37,7 +37,7 @@ fn run_length(text: &[u8]) -> usize
     end.unwrap_or(text.len())
 }
 
-/// The front of the text up to its first CR or LF, which travels as itself, and the rest.
+/// The text before its first CR or LF, which is sent unchanged, and the rest.
 #[tactic(auto, using(crate::proofs::NetasciiLemmas::unescaped_front, crate::proofs::NetasciiLemmas::run_ends))]
 pub(crate) fn split_run(text: &[u8]) -> (&[u8], &[u8])
     ensures parts { text.now ≡ result.0.now ++ result.1.now }

@@ -1,4 +1,4 @@
-//! A source and a sink that hold their file in memory.
+//! A source and a sink with their file in memory.
 
 ghost use Rattle.std.specs.Prelude.{◌≡◌, ◌≤◌, length, IfErr, IfOk};
 ghost use Rattle.tftp_file.specs.Netascii.{wire_text};
@@ -11,8 +11,7 @@ use std::alloc::Global;
 use std::marker::Model;
 use tftp_wire::Mode;
 
-/// A source of bytes in memory, which are encoded as they are given. Contracts see the wire text
-/// that is left.
+/// A source of bytes in memory, which each fill encodes. Its model is the wire text that is left.
 #[derive(Debug, Drop)]
 pub struct MemSource {
     bytes: SharedBytes,
@@ -29,8 +28,8 @@ impl Model for MemSource {
 }
 
 impl MemSource {
-    /// A source of the bytes' wire text in the mode. It copies the bytes, and fails with `Memory`
-    /// alone.
+    /// A source of the wire text of the bytes in the mode. It copies the bytes, and fails only with
+    /// `Memory`.
     pub fn new(alloc: Global, bytes: &[u8], mode: Mode) -> Result<MemSource, FileFault>
         ensures ok { IfOk result (λ source. source ≡ wire_text mode bytes.now) }
         ensures memory { IfErr result (λ fault. fault ≡ FileFault.Memory) }
@@ -39,7 +38,7 @@ impl MemSource {
         Ok(MemSource::of_shared(bytes, mode))
     }
 
-    /// A source of the wire text in the mode of bytes that others hold too. It takes no memory.
+    /// A source of the wire text of shared bytes in the mode. Allocates no memory.
     pub fn of_shared(bytes: SharedBytes, mode: Mode) -> MemSource
         ensures { result ≡ wire_text mode bytes }
     {
@@ -56,7 +55,7 @@ impl Source for MemSource {
 
     ghost meaning = { memory_source };
 
-    /// It holds no borrow: this says nothing.
+    /// It holds no borrow: always true.
     ghost is_same = { λ _ _. ⊤ };
 
     ghost stays = { λ _. tt };
@@ -71,9 +70,9 @@ impl Source for MemSource {
     }
 }
 
-/// A sink that keeps its bytes in memory, up to a room.
+/// A sink that keeps its bytes in memory, up to a capacity.
 ///
-/// Contracts see what it holds, its room, and whether it was made to refuse its commit.
+/// Its model is its content, its capacity, and whether it is set to refuse each commit.
 #[derive(Debug, Drop)]
 pub struct MemSink {
     bytes: Vec<u8>,
@@ -104,8 +103,8 @@ impl Model for MemSink {
 }
 
 impl MemSink {
-    /// An empty sink with room for so many bytes. With `refuse_commit` it is made to refuse each
-    /// commit with `Full`. It takes no memory.
+    /// An empty sink with a capacity of `room` bytes. With `refuse_commit` it is set to refuse each
+    /// commit with `Full`. Allocates no memory.
     pub fn new(alloc: Global, room: u64, refuse_commit: bool) -> MemSink
         ensures { result ≡ new_mem_sink room refuse_commit }
     {
@@ -118,7 +117,7 @@ impl MemSink {
         }
     }
 
-    /// The bytes held, at most as many as it has room for.
+    /// The bytes held, at most as many as its capacity.
     pub fn as_bytes(&self) -> &[u8]
         ensures bytes { result.now ≡ self.now.holding.bytes }
         ensures within { length result.now ≤ self.now.room }
@@ -133,14 +132,14 @@ impl MemSink {
         self.is_committed
     }
 
-    /// Tells the sink to refuse its next append or commit with `Full`, or takes that back.
+    /// Sets whether the sink refuses its next append or commit with `Full`.
     pub fn refuse_next(&mut self, told: bool)
         ensures { self.new ≡ with_told self.old told }
     {
         self.refuses_next = told;
     }
 
-    /// Whether the sink was told to refuse its next append or commit.
+    /// Whether the sink is set to refuse its next append or commit.
     pub fn refuses(&self) -> bool
         ensures { result ≡ self.now.holding.refuses }
     {
@@ -158,7 +157,7 @@ impl Sink for MemSink {
 
     ghost meaning = { memory_sink };
 
-    /// It holds no borrow: its room stays, and whether it was made to refuse its commit.
+    /// It holds no borrow: its capacity, and whether it refuses each commit, do not change.
     ghost is_same = { λ s t. (t.room ≡ s.room) × (t.refuses_commit ≡ s.refuses_commit) };
 
     ghost stays = { λ _. (refl, refl) };
@@ -167,8 +166,8 @@ impl Sink for MemSink {
 
     ghost unmoved = { λ _. tt };
 
-    /// What has room of the bytes is held, and where that is not all of them the answer is `Full`.
-    /// Where none of them has room, it takes no memory.
+    /// Appends the bytes that fit the capacity, and returns `Full` if some do not. If none fits, it
+    /// allocates no memory.
     fn append(&mut self, bytes: &[u8]) -> Result<(), StoreFault>
         ensures appends { Appends (Some self.old.holding) (Some self.new.holding) bytes.now result }
         ensures refused { IfErr result (MayRefuseAppend self.old bytes.now) }

@@ -1,4 +1,4 @@
-//! Netascii on its way out and in: a line end as CR LF, a CR as CR NUL (RFC 764).
+//! Encodes and decodes netascii: a line end as CR LF, a CR as CR NUL (RFC 764).
 
 ghost use Rattle.std.specs.Prelude.{◌≡◌, ◌≢◌, ◌≤◌, ◌+◌, ◌++◌, ◌↔◌, ◌∷◌, [], ℕ, List, length};
 ghost use Rattle.std.specs.Prelude.{option_to_list, vec_len, vec_capacity, IsOk, IfOk, IfErr};
@@ -14,10 +14,10 @@ use std::alloc::AllocError;
 use std::marker::Model;
 use thiserror::Error;
 
-/// Why bytes are no netascii (RFC 764), or that it is out of memory.
+/// A fault of bytes that are not netascii (RFC 764), or out of memory.
 #[derive(Clone, Copy, Debug, PartialEq, Eq, Error)]
 pub enum NetFault {
-    /// A CR stands before a byte other than LF and NUL.
+    /// A CR precedes a byte other than LF and NUL.
     #[error("a CR stands before a byte other than LF and NUL")]
     LoneCr = 1,
     /// An LF has no CR before it.
@@ -51,7 +51,7 @@ impl From<AllocError> for NetFault {
     }
 }
 
-/// Turns the host's bytes into wire text, piece by piece. It keeps nothing between two pieces.
+/// Encodes host bytes as wire text, piece by piece. It keeps no state between pieces.
 #[derive(Debug, Drop)]
 pub struct NetEncoder {}
 
@@ -61,7 +61,7 @@ impl NetEncoder {
         NetEncoder {}
     }
 
-    /// Appends the wire text of the piece to `out`. It fails with `Memory` alone, and then `out` is
+    /// Appends the wire text of the piece to `out`. It fails only with `Memory`, and then `out` is
     /// unchanged.
     pub fn push(&mut self, piece: &[u8], out: &mut Vec<u8>) -> Result<(), NetFault>
         ensures ok { OnOk result (out.new.items ≡ out.old.items ++ netascii_text piece.now) }
@@ -74,7 +74,7 @@ impl NetEncoder {
         Ok(())
     }
 
-    /// Ends the text. It never fails: every text of host bytes ends well.
+    /// Ends the text. It never fails.
     pub fn finish(&self) -> Result<(), NetFault>
         ensures { IsOk result }
     {
@@ -82,19 +82,19 @@ impl NetEncoder {
     }
 }
 
-/// What a decoder keeps between two pieces.
+/// The state of a decoder between two pieces.
 #[derive(Clone, Copy, Debug, PartialEq, Eq)]
 enum HeldText {
-    /// Nothing: the text so far ends behind a whole byte or pair.
+    /// Nothing: the text so far ends after a whole byte or pair.
     Nothing,
     /// The CR that begins a pair.
     CarriageReturn,
 }
 
-/// Turns wire text into the host's bytes, piece by piece, wherever the text is cut.
+/// DecodesPiece wire text to host bytes, piece by piece, wherever the text is cut.
 ///
-/// A contract sees it as the bytes of wire text that it holds back: none, or the CR of a pair whose
-/// second byte is still to come.
+/// Its model is the wire bytes that it holds back: none, or the CR of a pair whose second byte is
+/// in a later piece.
 #[derive(Clone, Copy, Debug)]
 pub struct NetDecoder {
     held: HeldText,
@@ -124,7 +124,7 @@ impl NetDecoder {
         }
     }
 
-    /// How many bytes of wire text are held back, 0 or 1.
+    /// The number of wire bytes that are held back, 0 or 1.
     pub fn held(&self) -> usize
         ensures count { result ≡ length self.now }
         ensures held { IsHeld self.now }
@@ -135,11 +135,11 @@ impl NetDecoder {
         }
     }
 
-    /// Appends to `out` the host's bytes that the piece completes.
+    /// Appends to `out` the host bytes that the piece completes.
     ///
-    /// It is refused at its first wrong byte: `LoneCr` where a byte other than LF and NUL stands
-    /// behind a CR, `LoneLf` where an LF has no CR before it (RFC 764). `Memory` comes only where
-    /// no byte is wrong. After a refusal the decoder and `out` are unchanged.
+    /// It fails at the first wrong byte: `LoneCr` if a byte other than LF and NUL follows a CR,
+    /// `LoneLf` if an LF has no CR before it (RFC 764). It fails with `Memory` only if no byte is
+    /// wrong. After a fault the decoder and `out` are unchanged.
     pub fn push(&mut self, piece: &[u8], out: &mut Vec<u8>) -> Result<(), NetFault>
         ensures ok { OnOk result ((bytes : List ℕ) × DecodesPiece self.old piece.now bytes self.new
             × (out.new.items ≡ out.old.items ++ bytes)) }
@@ -161,10 +161,10 @@ impl NetDecoder {
         Ok(())
     }
 
-    /// What the decoder is behind the piece. It takes no memory, so a piece can be judged before
-    /// there is room for its bytes.
+    /// The decoder after the piece. Allocates no memory, so a piece can be checked before capacity
+    /// for its bytes is reserved.
     ///
-    /// It is refused where a push refuses the piece for a wrong byte.
+    /// It fails if a push fails for a wrong byte of the piece.
     pub fn behind(&self, piece: &[u8]) -> Result<NetDecoder, NetFault>
         ensures ok { IfOk result (λ decoder. (bytes : List ℕ)
             × DecodesPiece self.now piece.now bytes decoder) }
@@ -190,7 +190,6 @@ impl NetDecoder {
     }
 }
 
-/// Appends the wire text of the bytes, for which there is room.
 fn append_wire(bytes: &[u8], out: &mut Vec<u8>)
     requires { vec_len out.old + length (netascii_text bytes.now) ≤ vec_capacity out.old }
     ensures { out.new.items ≡ out.old.items ++ netascii_text bytes.now }
@@ -210,7 +209,7 @@ fn append_wire(bytes: &[u8], out: &mut Vec<u8>)
     }
 }
 
-/// The host's byte that a CR and this second byte make.
+/// The host byte of the pair of a CR and this second byte.
 fn pair_byte(second: u8) -> Option<u8>
     ensures { MatchOption result ((second ≢ 10) × (second ≢ 0))
         (λ byte. wire_byte byte ≡ 13 ∷ second ∷ []) }
@@ -222,7 +221,7 @@ fn pair_byte(second: u8) -> Option<u8>
     }
 }
 
-/// The host's byte that the held CR and the piece's first byte make, if a CR is held, and the rest
+/// The host byte of the pair of a held CR and the piece's first byte, if a CR is held, and the rest
 /// of the piece.
 #[tactic(auto, using(crate::proofs::DecodingLemmas::wrong_pair))]
 fn complete_pair(held: HeldText, piece: &[u8]) -> Result<(Option<u8>, &[u8]), NetFault>
@@ -242,8 +241,8 @@ fn complete_pair(held: HeldText, piece: &[u8]) -> Result<(Option<u8>, &[u8]), Ne
     }
 }
 
-/// The host's byte that the pair at the front makes, and the rest; none at the end of a text, where
-/// a CR may be left.
+/// The host byte of the pair at the start, and the rest; `None` at the end of a text, where a CR
+/// may be left.
 #[tactic(auto, using(crate::proofs::DecodingLemmas::wrong_front))]
 fn split_pair(text: &[u8]) -> Result<Option<(u8, &[u8])>, NetFault>
     requires { EndsAtLine text.now }
@@ -264,7 +263,7 @@ fn split_pair(text: &[u8]) -> Result<Option<(u8, &[u8])>, NetFault>
     }
 }
 
-/// What is held back at the end of a text that begins a wire text; else its first fault.
+/// The state at the end of a text that begins a wire text, or else its first fault.
 fn check(text: &[u8]) -> Result<HeldText, NetFault>
     ensures ok { IfOk result (λ held. (bytes : List ℕ)
         × DecodesPiece [] text.now bytes (held_bytes held)) }
@@ -281,7 +280,7 @@ fn check(text: &[u8]) -> Result<HeldText, NetFault>
     }
 }
 
-/// Appends the host's bytes of a text that begins a wire text, for which there is room.
+/// Appends the host bytes of a text that begins a wire text.
 fn append_host(text: &[u8], out: &mut Vec<u8>)
     requires begins { BeginsWireText text.now }
     requires room { vec_len out.old + length text.now ≤ vec_capacity out.old }

@@ -1,4 +1,4 @@
-//! Which names of a request are paths.
+//! The path of a request's file name.
 
 ghost use Rattle.std.specs.Prelude.{◌≡◌, ◌==◌, ℕ, List, IfOk, IfErr, Some, count_by, refl, nat_eq};
 ghost use Rattle.std.specs.Ordering.{nat_cmp};
@@ -22,20 +22,20 @@ const MAX_DEPTH: usize = 8;
 
 const MAX_SEGMENT: usize = 64;
 
-/// Why a name is no path, or that it is out of memory.
+/// A fault of a name that is not a path, or out of memory.
 #[derive(Clone, Copy, Debug, PartialEq, Eq, Error)]
 pub enum PathFault {
-    /// Nothing is left of the name behind its leading slash.
+    /// The name is empty without its leading slash.
     #[error("the name is empty")]
     Empty = 1,
-    /// A segment is empty, longer than 64 bytes, begins with a dot or has another byte than
+    /// A segment is empty, longer than 64 bytes, begins with a dot or has a byte other than
     /// letters, digits, dot, underscore and dash.
     #[error("a segment of the name is not allowed")]
     Segment = 2,
     /// The name has more than 8 segments.
     #[error("the name has too many segments")]
     Depth = 3,
-    /// The name is longer than 255 bytes behind its leading slash.
+    /// The name is longer than 255 bytes without its leading slash.
     #[error("the name is too long")]
     Length = 4,
     /// Out of memory; the name is not at fault.
@@ -63,8 +63,8 @@ impl From<AllocError> for PathFault {
     }
 }
 
-/// The path of a file below the root of a store: 1 to 8 segments parted by slashes, without a
-/// leading slash. A contract sees it as its bytes. Case counts.
+/// The path of a file below the root of a store: 1 to 8 segments separated by slashes, without a
+/// leading slash. It is case-sensitive. Its model is its bytes.
 #[derive(Debug, Drop)]
 pub struct Path {
     bytes: Vec<u8>,
@@ -93,8 +93,8 @@ impl Path {
 
 /// The path that a request's name spells, without its leading slash.
 ///
-/// The faults are tested in the order `Empty`, `Length`, `Depth`, `Segment`; `Memory` comes only
-/// for a name without a fault.
+/// The faults are tested in the order `Empty`, `Length`, `Depth`, `Segment`. `Memory` is returned
+/// only for a name without a fault.
 pub fn path_of(alloc: Global, name: &[u8]) -> Result<Path, PathFault>
     ensures { AnswersPath (path_of_name name.now) result }
 {
@@ -130,7 +130,6 @@ fn check(path: &[u8]) -> Result<(), PathFault>
     Ok(())
 }
 
-/// How many slashes stand in the path.
 fn slash_count(path: &[u8]) -> usize
     ensures { result ≡ count_by (λ byte. byte == 47) path.now }
 {
@@ -145,7 +144,7 @@ fn has_good_segments(path: &[u8]) -> bool
         .all(|part| is_segment(part))
 }
 
-/// Whether the bytes are a segment: 1 to 64 name bytes, the first of which is no dot.
+/// Whether the bytes are a segment: 1 to 64 name bytes, the first of which is not a dot.
 #[tactic(auto, using(crate::proofs::PathLemmas::segment_cases))]
 fn is_segment(part: &[u8]) -> bool
     ensures { result ≡ is_segment part.now }
@@ -156,14 +155,13 @@ fn is_segment(part: &[u8]) -> bool
     }
 }
 
-/// Whether each byte may stand in a segment.
 fn has_name_bytes(part: &[u8]) -> bool
     ensures { result ≡ list_all is_name_byte part.now }
 {
     part.iter().all(|byte| is_name_byte(*byte))
 }
 
-/// Whether the byte may stand in a segment.
+/// Whether the byte is allowed in a segment.
 fn is_name_byte(byte: u8) -> bool
     ensures { result ≡ is_name_byte byte }
 {

@@ -1,4 +1,4 @@
-//! The bytes of a file in memory: they grow in one place, and are then shared with no copy.
+//! The bytes of a file in memory: they grow in one buffer, and are then shared without a copy.
 
 ghost use Rattle.std.specs.Prelude.{◌≡◌, ◌++◌, [], IfOk, OnOk, OnErr, MatchResult};
 ghost use Rattle.tftp_file.specs.Shared.{kept_bytes};
@@ -8,19 +8,19 @@ use std::alloc::{AllocError, Global};
 use std::marker::Model;
 use std::mem;
 
-/// Who has the bytes of a file.
+/// The bytes of a file, by their owners.
 #[derive(Debug, Drop)]
 pub enum Kept {
-    /// The file alone, which may grow.
+    /// The file alone, which can grow.
     Alone(Vec<u8>),
-    /// Everyone with whom they were shared.
+    /// The file and others.
     Shared(SharedBytes),
 }
 
-/// The bytes of a file that grows at its end. Contracts see them as a list.
+/// The bytes of a file that grows at its end. Its model is the list of bytes.
 ///
-/// They are shared without a copy ([`FileBytes::share`]). What is appended to bytes that were
-/// shared is seen by this file alone: they are copied first.
+/// They are shared without a copy ([`FileBytes::share`]). An append to shared bytes copies them
+/// first, so that it changes this file alone.
 #[derive(Debug, Drop)]
 pub struct FileBytes {
     alloc: Global,
@@ -37,7 +37,7 @@ impl Model for FileBytes {
 }
 
 impl FileBytes {
-    /// An empty file. It takes no memory.
+    /// An empty file. Allocates no memory.
     pub fn new(alloc: Global) -> FileBytes
         ensures { result ≡ [] }
     {
@@ -57,7 +57,7 @@ impl FileBytes {
         }
     }
 
-    /// Puts the bytes at the end. Out of memory nothing has changed.
+    /// Appends the bytes. Out of memory nothing has changed.
     pub fn append(&mut self, bytes: &[u8]) -> Result<(), AllocError>
         ensures ok { OnOk result (self.new ≡ self.old ++ bytes.now) }
         ensures err { OnErr result (self.new ≡ self.old) }
@@ -73,7 +73,7 @@ impl FileBytes {
         }
     }
 
-    /// The bytes, shared with this file. It copies none, and takes memory for a count of owners.
+    /// The bytes, shared with this file. It copies none, and allocates a reference count.
     pub fn share(&mut self) -> Result<SharedBytes, AllocError>
         ensures ok { IfOk result (λ shared. shared ≡ self.old) }
         ensures kept { self.new ≡ self.old }
@@ -93,7 +93,7 @@ impl FileBytes {
     }
 }
 
-/// The bytes as they are shared; out of memory they come back.
+/// The bytes in shared form; out of memory they are returned unchanged.
 fn into_shared(kept: Kept) -> Result<SharedBytes, Kept>
     ensures { MatchResult result (λ shared. shared ≡ kept_bytes kept)
         (λ back. kept_bytes back ≡ kept_bytes kept) }

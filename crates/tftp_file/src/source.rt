@@ -1,29 +1,29 @@
-//! What a sender reads from: wire text that is given in pieces.
+//! The text that a sender reads, in pieces.
 
 ghost use Rattle.std.specs.Prelude.{◌≡◌, ◌≤◌, Err, vec_capacity};
 ghost use Rattle.tftp_file.specs.Source.{Fills, ReadsAhead, SourceMeaning};
 
 use crate::FileFault;
 
-/// Wire text (RFC 1350, section 1), given in pieces from its front.
+/// Wire text (RFC 1350, section 1), read in pieces from its start.
 ///
-/// Of a source over memory a contract knows what is left; of one over a file it does not, and then
-/// `fill` promises only which answers it gives.
+/// A source over memory has a model. A source over a file has none, and then `fill` promises only
+/// which results it returns.
 pub trait Source {
-    /// What is left of it, where that is known (`left`), which fills may answer `Read`
+    /// The text that is left, if it has a model (`left`), which fills may return `Read`
     /// (`may_fail`), and which do (`fails`).
     ghost meaning: { SourceMeaning Self };
 
-    /// The second is the first at a later time: it holds the same borrows. Of a source that holds
-    /// no borrow this says nothing.
+    /// The second is the first at a later time: it holds the same borrows. For a source without
+    /// borrows an implementation may state what never changes, or nothing.
     ghost is_same: { Self → Self → Type 0 };
 
     /// Moves the next `want` bytes of wire text, or as many as are left, to the end of `out`, and
-    /// returns how many.
+    /// returns their number.
     ///
-    /// It fails with `Read` where the file cannot be read; `out` is then unchanged, and the source
-    /// is used no more. It fails with `Memory` where `out` cannot grow, and then nothing has
-    /// changed. The capacity of `out` never shrinks.
+    /// It fails with `Read` if the file cannot be read; `out` is then unchanged, and the source is
+    /// not used again. It fails with `Memory` if `out` cannot grow, and then nothing has changed.
+    /// The capacity of `out` never shrinks.
     fn fill(&mut self, want: usize, out: &mut Vec<u8>) -> Result<usize, FileFault>
         ensures fills { Fills (meaning.left self.old) (meaning.left self.new) want
             out.old.items out.new.items result }
@@ -32,20 +32,20 @@ pub trait Source {
         ensures capacity { vec_capacity out.old ≤ vec_capacity out.new }
         ensures same { is_same self.old self.new };
 
-    /// Reads ahead what the next fill may request, while its caller has nothing else to do. Most
-    /// sources do nothing.
+    /// Reads ahead the bytes that the next fill may request, while its caller is idle. Most sources
+    /// do nothing.
     ///
-    /// What is left stays as it is, and no more fills may fail than before. Where it fails to read,
-    /// each fill from then on answers `Read`.
+    /// The text that is left is unchanged, and no more fills may fail than before. If it fails to
+    /// read, each later fill returns `Read`.
     fn read_ahead(&mut self)
         ensures ahead { ReadsAhead meaning self.old self.new }
         ensures same { is_same self.old self.new }
     {}
 
-    /// Each source is the same as itself.
+    /// `is_same` is reflexive.
     ghost stays: { (a : Self) → is_same a a };
 
-    /// What is the same after one fill and after the next is the same after both.
+    /// `is_same` is transitive.
     ghost joins: { (a b c : Self) → is_same a b → is_same b c → is_same a c };
 }
 

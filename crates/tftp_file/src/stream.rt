@@ -1,4 +1,4 @@
-//! A source over a reader and a sink over a writer: neither keeps the file.
+//! A source over a reader and a sink over a writer: neither keeps the file in memory.
 
 ghost use Rattle.std.specs.Prelude.{◌≡◌, ◌≤◌, ◌<◌, ◌+◌, ◌*◌, false, None, length, take, drop};
 ghost use Rattle.std.specs.Prelude.{vec_len, vec_capacity, option_map, Ok, IfOk, IfErr, OnErr};
@@ -16,14 +16,14 @@ use crate::{FileFault, Sink, Source, StoreFault};
 use std::io::{self, Read, Write};
 use tftp_wire::Mode;
 
-/// The most host bytes that one read asks for in netascii.
+/// The maximum number of host bytes that one read requests in netascii.
 const CHUNK: usize = 512;
 
-/// A source of the wire text of what a reader gives.
+/// A source of the wire text of a reader's bytes.
 ///
-/// In octet the reader writes into the buffer that is filled, by one read a block where it gives as
-/// much as it is asked for. In netascii the source keeps at most one byte of wire text between
-/// calls. A read that fails, for whatever reason, answers `Read`.
+/// In octet the reader writes into the buffer of the fill, with one read per block if it returns as
+/// many bytes as are requested. In netascii the source keeps at most one byte of wire text between
+/// calls. If a read fails, for any reason, the fill returns `Read`.
 #[derive(Debug, Drop)]
 pub struct ReadSource<R> {
     reader: R,
@@ -31,7 +31,7 @@ pub struct ReadSource<R> {
 }
 
 impl<R: Read> ReadSource<R> {
-    /// A source of the wire text in the mode. It takes no memory and reads nothing yet.
+    /// A source of the wire text in the mode. Allocates no memory and reads nothing.
     pub fn new(reader: R, mode: Mode) -> ReadSource<R>
         ensures reader { source_reader result ≡ reader }
         ensures encoding { source_encoding result ≡ encoding_of mode }
@@ -44,7 +44,7 @@ impl<R: Read> ReadSource<R> {
         }
     }
 
-    /// The bytes of wire text that are held back, 0 or 1.
+    /// The number of wire bytes that are held back, 0 or 1.
     pub fn held(&self) -> usize
         ensures count { result ≡ length (text_held (source_encoding self.now)) }
         ensures bound { result ≤ 1 }
@@ -62,7 +62,7 @@ impl<R: Read> ReadSource<R> {
         &self.reader
     }
 
-    /// The reader. A byte that was held back is lost.
+    /// The reader. A byte that is held back is lost.
     pub fn into_inner(self) -> R
         ensures { result ≡ source_reader self }
     {
@@ -80,7 +80,7 @@ impl<R: Read> Source for ReadSource<R> {
       fails = λ _ _. ⊥;
     } };
 
-    /// It says nothing of the reader.
+    /// Always true: it does not constrain the reader.
     ghost is_same = { λ _ _. ⊤ };
 
     ghost stays = { λ _. tt };
@@ -206,7 +206,7 @@ fn give_some<R: Read>(
         return Ok(1);
     }
     let mut chunk = [0; CHUNK];
-    // A host byte has at most two wire bytes, so at most one of them finds no room.
+    // A host byte has at most two wire bytes, so at most one of them does not fit.
     let most = CHUNK.min(room.div_ceil(2));
     let encoded = read_encoded(reader, &mut chunk[..most], room, out)?;
     *held = encoded.held;
@@ -242,8 +242,7 @@ fn fill_netascii<R: Read>(
 
 /// A sink that writes to a writer, and flushes it at the commit.
 ///
-/// A write that fails or takes nothing, for whatever reason, answers `Io`, and so does a flush that
-/// fails.
+/// If a write fails or writes nothing, or if a flush fails, for any reason, the call returns `Io`.
 #[derive(Debug, Drop)]
 pub struct WriteSink<W> {
     writer: W,
@@ -251,7 +250,7 @@ pub struct WriteSink<W> {
 }
 
 impl<W: Write> WriteSink<W> {
-    /// A sink over the writer. It takes no memory.
+    /// A sink over the writer. Allocates no memory.
     pub fn new(writer: W) -> WriteSink<W>
         ensures writer { sink_writer result ≡ writer }
         ensures uncommitted { sink_committed result ≡ false }
@@ -262,7 +261,7 @@ impl<W: Write> WriteSink<W> {
         }
     }
 
-    /// Whether what was written is committed.
+    /// Whether the bytes written are committed.
     pub fn is_committed(&self) -> bool
         ensures { result ≡ sink_committed self.now }
     {
@@ -298,7 +297,7 @@ fn write_pieces<W: Write>(writer: &mut W, bytes: &[u8]) -> Result<(), StoreFault
     Ok(())
 }
 
-/// Commits what was written exactly if the flush behind it has succeeded.
+/// Commits the bytes written exactly if the flush succeeded.
 fn commit_behind(flushed: io::Result<()>, is_committed: &mut bool) -> Result<(), StoreFault>
     ensures answer { is_ok result ≡ is_ok flushed }
     ensures committed { is_committed.new ≡ (is_committed.old || is_ok flushed) }
@@ -325,7 +324,7 @@ impl<W: Write> Sink for WriteSink<W> {
       becomes = λ _ _ _. ⊤;
     } };
 
-    /// It says nothing of the writer.
+    /// Always true: it does not constrain the writer.
     ghost is_same = { λ _ _. ⊤ };
 
     ghost stays = { λ _. tt };

@@ -1,4 +1,4 @@
--- Nothing is held, or enough, or less than is wanted.
+-- No byte is held, or enough bytes, or fewer than are requested.
 use Rattle.std.proofs.Common.{rules, ◌≡◌, Err, length, drop, arith, length-drop}
 use Rattle.std.proofs.lemmas.List.{drop_all, places}
 use Rattle.tftp_file.proofs.AheadLemmas.{fills_below, fills_or_keeps, fills_rest}

@@ -1,4 +1,4 @@
--- What the source gives stands behind what was held.
+-- The bytes of the source are after the held bytes.
 use Rattle.tftp_file.proofs.AheadLemmas.{fills_behind}
 use Rattle.tftp_file.proofs.ahead.fill_behind.Goals as goal
 

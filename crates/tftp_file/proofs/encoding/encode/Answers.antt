@@ -1,4 +1,4 @@
--- One more byte is the first of what is left.
+-- The next byte is the first of the text left.
 use Rattle.std.proofs.Common.{◌∙◌, sym, arith}
 use Rattle.std.proofs.lemmas.Grind.{common_steps}
 use Rattle.tftp_file.specs.Encoding.{netascii_left}

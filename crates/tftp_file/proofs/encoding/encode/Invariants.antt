@@ -1,4 +1,4 @@
--- What was given and what is left are the whole wire text.
+-- The appended text and the text left are the whole wire text.
 use Rattle.std.proofs.Common.{◌-◌, ◌≡◌, ◌+◌, ◌≤◌, ◌++◌, length, take, drop, vec_len, vec_capacity}
 use Rattle.tftp_file.specs.Encoding.{netascii_left}
 use Rattle.tftp_file.proofs.encoding.encode.Given as goal

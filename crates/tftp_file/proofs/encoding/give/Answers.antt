@@ -1,4 +1,4 @@
--- The room that is reserved is enough for what is encoded.
+-- The reserved capacity is enough for the encoded text.
 use Rattle.std.proofs.Common.{arith}
 use Rattle.tftp_file.proofs.NetasciiLength.{length-netascii_left}
 use Rattle.tftp_file.proofs.encoding.give.Goals as goal

@@ -1,4 +1,4 @@
--- Each CR and LF takes one byte more.
+-- Each CR and LF has one more byte.
 use Rattle.std.proofs.Common.{arith}
 use Rattle.tftp_file.proofs.NetasciiLemmas.{length-netascii}
 use Rattle.tftp_file.proofs.length.wire_count.Goals as goal

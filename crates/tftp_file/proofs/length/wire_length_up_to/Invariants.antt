@@ -1,4 +1,4 @@
--- The total is the length of the wire text of what was read.
+-- The total is the length of the wire text of the bytes read.
 use Rattle.std.proofs.Common.{◌+◌, ◌-◌, ◌*◌, ◌≤◌, length, ◌≡◌}
 use Rattle.tftp_file.specs.declared.length.TheConstants.{MAX_WIRE, CHUNK}
 use Rattle.tftp_file.proofs.LengthLemmas.{Leaves}

@@ -1,4 +1,4 @@
--- The place that the search gives is the definition's.
+-- The index that the search returns is that of the definition.
 use Rattle.std.proofs.Common.{rules, tests, ◌∙◌}
 use Rattle.std.proofs.lemmas.Iterator.{YieldsList-from_slice}
 use Rattle.std.proofs.lemmas.Iterator.Search.{position_from_yields_List}

@@ -1,4 +1,4 @@
--- What is appended is what the text so far stands for.
+-- The appended bytes are the host bytes of the text so far.
 use Rattle.std.proofs.Common.{◌≡◌, ◌≤◌, ◌+◌, ◌++◌, ℕ, List, length, vec_len, vec_capacity}
 use Rattle.tftp_file.specs.Netascii.{netascii_text}
 use Rattle.tftp_file.proofs.netascii.append_host.Given as goal

@@ -1,4 +1,4 @@
--- What is appended and what is left give the whole wire text.
+-- The appended text and the text of the rest are the whole wire text.
 use Rattle.std.proofs.Common.{◌≡◌, ◌≤◌, ◌+◌, ◌++◌, length, vec_len, vec_capacity}
 use Rattle.tftp_file.specs.Netascii.{netascii_text}
 use Rattle.tftp_file.proofs.netascii.append_wire.Given as goal

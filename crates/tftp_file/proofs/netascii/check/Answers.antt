@@ -1,4 +1,4 @@
--- A run and a pair are taken, or the text ends, or a byte is wrong.
+-- A run and a pair are decoded, or the text ends, or a byte is wrong.
 use Rattle.std.proofs.Common.{rules, ◌≡◌, ◌++◌, ◌∷◌, [], ℕ, List, length, ap, ◌∙◌, inl, inr, refl, true, false}
 use Rattle.std.proofs.lemmas.Result.{err_from_is_err_and}
 use Rattle.std.proofs.lemmas.List.{nil_from_length}

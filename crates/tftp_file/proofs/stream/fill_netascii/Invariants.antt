@@ -1,4 +1,4 @@
--- What stands behind the start was given, and the rest still has room.
+-- The bytes after the start were given, and the rest fits the capacity.
 use Rattle.std.proofs.Common.{◌-◌, ◌≡◌, ◌≤◌, ◌+◌, vec_len, vec_capacity, option_map}
 use Rattle.tftp_file.specs.Encoding.{netascii_left}
 use Rattle.tftp_file.specs.Stream.{Gives}

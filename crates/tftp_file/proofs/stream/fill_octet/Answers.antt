@@ -1,4 +1,4 @@
--- What was read in place is what a fill moves.
+-- The fill moves the bytes read in place.
 use Rattle.std.proofs.Common.{rules}
 use Rattle.std.proofs.lemmas.List.{with_items_is, places}
 use Rattle.tftp_file.proofs.Streaming.{fills_in_place, front_kept, cut_at}

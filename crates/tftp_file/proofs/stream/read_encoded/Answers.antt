@@ -1,4 +1,4 @@
--- A chunk that was read and encoded is what was consumed.
+-- The consumed bytes are the chunk that was read and encoded.
 use Rattle.std.proofs.Common.{◌+◌, ◌*◌, ◌≤◌, length, take, arith, length-take-le}
 use Rattle.tftp_file.proofs.Streaming.{gives_encoded}
 use Rattle.tftp_file.proofs.stream.read_encoded.Goals as goal

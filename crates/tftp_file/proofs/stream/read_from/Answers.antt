@@ -1,4 +1,4 @@
--- One more read goes on from the place before it.
+-- One more read continues at the offset before it.
 use Rattle.std.proofs.Common.{arith}
 use Rattle.tftp_file.proofs.Reading.{read_more, read_none, front_stays}
 use Rattle.tftp_file.proofs.stream.read_from.Goals as goal

@@ -1,4 +1,4 @@
--- What stands between the start and the place was read.
+-- The bytes between the start and the offset were read.
 use Rattle.std.proofs.Common.{◌≡◌, length, take, drop, ◌-◌, ◌≤◌}
 use Rattle.std.specs.Io.KnownBytes.{Consumes}
 use Rattle.tftp_file.proofs.stream.read_from.Given as goal

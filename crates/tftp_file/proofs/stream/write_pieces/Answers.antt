@@ -1,11 +1,11 @@
--- One more write goes on from the place before it.
+-- One more write continues at the offset before it.
 use Rattle.std.proofs.Common.{◌≡◌, ℕ, ◌-◌, List, ◌++◌, length, take, drop, arith, take-append-drop}
 use Rattle.std.proofs.lemmas.Grind.{common_steps}
 use Rattle.std.proofs.lemmas.List.{take_rest}
 use Rattle.std.proofs.KnownBytes.{Appends-trans}
 use Rattle.tftp_file.proofs.stream.write_pieces.Goals as goal
 
--- n bytes more are done, and the rest begins behind them
+-- n more bytes are written, and the rest begins after them
 cut_later : (all done rest : List ℕ) (n : ℕ) → all ≡ done ++ rest
     → all ≡ (done ++ take n rest) ++ take (length rest - n) (drop n rest)
 cut_later all done rest n split =

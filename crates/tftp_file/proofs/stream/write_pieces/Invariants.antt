@@ -1,4 +1,4 @@
--- What is gone from the rest was written.
+-- The bytes removed from the rest were written.
 use Rattle.std.proofs.Common.{◌≡◌, List, ℕ, ◌++◌, length}
 use Rattle.std.specs.Io.KnownBytes.{Appends}
 use Rattle.tftp_file.proofs.stream.write_pieces.Given as goal

@@ -1,4 +1,4 @@
--- What was read is held, or the read has failed.
+-- The bytes read are held, or the read has failed.
 use Rattle.std.proofs.Common.{rules, ◌≡◌, length, arith}
 use Rattle.std.proofs.lemmas.List.{drop_all, places}
 use Rattle.tftp_file.proofs.AheadLemmas.{reads_ahead}

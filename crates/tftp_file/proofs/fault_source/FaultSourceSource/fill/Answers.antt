@@ -1,4 +1,4 @@
--- What the source in memory gave is the front of what was left.
+-- The bytes from the source in memory are the first of the text left.
 use Rattle.tftp_file.proofs.FrontLemmas.{moved_front}
 use Rattle.tftp_file.proofs.fault_source.FaultSourceSource.fill.Goals as goal
 

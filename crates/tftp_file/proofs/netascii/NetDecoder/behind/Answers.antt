@@ -1,4 +1,4 @@
--- A piece leaves its pairs behind, or is refused.
+-- A piece is decoded, or is refused.
 use Rattle.std.proofs.Common.{◌++◌, option_to_list}
 use Rattle.std.proofs.lemmas.Result.{err_from_is_err_and}
 use Rattle.tftp_file.specs.Decoding.{held_bytes}

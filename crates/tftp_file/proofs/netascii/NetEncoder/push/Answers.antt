@@ -1,4 +1,4 @@
--- The room that is reserved is the length of the wire text.
+-- The reserved capacity is the length of the wire text.
 use Rattle.std.proofs.Common.{arith}
 use Rattle.std.proofs.lemmas.Grind.{common_steps}
 use Rattle.tftp_file.proofs.NetasciiLemmas.{length-netascii}
