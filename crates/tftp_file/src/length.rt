@@ -2,6 +2,7 @@
 
 ghost use Rattle.std.specs.Prelude.{◌≡◌, ◌≤◌, ◌+◌, ◌*◌, length, min, IfOk, IfErr, IfSome};
 ghost use Rattle.tftp_file.specs.Netascii.{wire_text};
+ghost use Rattle.tftp_file.specs.Length.{up_to};
 ghost use Rattle.tftp_file.specs.declared.fault.FileFault.TheVariants.{Read as ReadFault};
 
 use crate::fault::FileFault;
@@ -17,24 +18,44 @@ const CHUNK: usize = 8192;
 
 /// The length of the reader's text on the wire, in bytes, or `MAX_WIRE + 1` if it is greater; it
 /// then reads no further. It returns `Read` if reading fails. Allocates no memory.
-pub fn wire_length<R: Read + Drop>(mut reader: R, mode: Mode) -> Result<u64, FileFault>
+pub fn wire_length<R: Read + Drop>(reader: R, mode: Mode) -> Result<u64, FileFault>
     ensures ok { IfOk result (λ count. IfSome (R.remaining reader)
         (λ bytes. count ≡ min (length (wire_text mode bytes)) (MAX_WIRE + 1))) }
     ensures within { IfOk result (λ count. count ≤ MAX_WIRE + 1) }
     ensures read { IfErr result (λ fault. fault ≡ ReadFault) }
 {
+    match wire_length_up_to(reader, mode, MAX_WIRE) {
+        Ok(Some(count)) => Ok(count),
+        Ok(None) => Ok(MAX_WIRE + 1),
+        Err(fault) => Err(fault),
+    }
+}
+
+/// The length of the reader's text on the wire, in bytes, or `None` if it is greater than `most` or
+/// [`MAX_WIRE`]; it then reads no further. It returns `Read` if reading fails. Allocates no memory.
+pub fn wire_length_up_to<R: Read + Drop>(
+    mut reader: R,
+    mode: Mode,
+    most: u64,
+) -> Result<Option<u64>, FileFault>
+    ensures ok { IfOk result (λ found. IfSome (R.remaining reader)
+        (λ bytes. found ≡ up_to (min most MAX_WIRE) (length (wire_text mode bytes)))) }
+    ensures within { IfOk result (λ found. IfSome found (λ count. count ≤ min most MAX_WIRE)) }
+    ensures read { IfErr result (λ fault. fault ≡ ReadFault) }
+{
+    let limit = most.min(MAX_WIRE);
     let mut chunk = [0; CHUNK];
     let mut total = 0;
-    while total <= MAX_WIRE {
+    while total <= limit {
         let Ok(count) = reader.read(&mut chunk) else {
             return Err(FileFault::Read);
         };
         if count == 0 {
-            return Ok(total);
+            return Ok(Some(total));
         }
         total += wire_count(&chunk[..count], mode) as u64;
     }
-    Ok(MAX_WIRE + 1)
+    Ok(None)
 }
 
 /// The length of the wire text of the bytes in the mode, in bytes, or `most` if it is greater. It
