@@ -1,4 +1,4 @@
-//! A source that is read ahead: what it gives is what the source below it has, in fills of any size.
+//! A source that is read ahead: it gives the bytes of the source below it, in fills of any size.
 
 use crate::calls::{fails, gives_each};
 use crate::expect::expect_equal;
@@ -7,13 +7,13 @@ use std::process::Abort;
 use tftp_file::{Ahead, FaultSource, FileFault, MemSource, Source};
 use tftp_wire::Mode;
 
-/// A source of the letters `A` to `H` that ends behind the first `give` of them, or fails there.
+/// A source of the letters `A` to `H` that ends or fails after the first `give` of them.
 fn letters(rt: &impl Abort, alloc: Global, give: u64, fail: bool) -> Ahead<FaultSource> {
     let source = FaultSource::new(alloc, b"ABCDEFGH", Mode::Octet, give, fail);
     Ahead::new(alloc, source.expect(rt, "memory"))
 }
 
-/// A block is read ahead, and then a fill requests less, more, as much, and more than is left.
+/// After a block is read ahead, a fill requests less, more, as much, and more than is left.
 #[test]
 fn any_fill_goes_on_from_the_one_before(rt: HostRuntime) {
     let mut source = letters(&rt, rt.alloc(), 8, false);
@@ -27,8 +27,8 @@ fn any_fill_goes_on_from_the_one_before(rt: HostRuntime) {
     drop(source);
 }
 
-/// What was read ahead of a source that then fails is given first. A read ahead that fails is told
-/// by each fill behind it.
+/// Bytes that were read ahead before a source fails are given first. After a failed read ahead each
+/// fill fails.
 #[test]
 fn a_read_ahead_that_fails_is_told(rt: HostRuntime) {
     let mut source = letters(&rt, rt.alloc(), 5, true);
@@ -58,7 +58,7 @@ fn a_read_ahead_that_fails_is_told(rt: HostRuntime) {
     drop(source);
 }
 
-/// The next fill, behind the head of a datagram, gives this block behind it.
+/// The next fill appends a block to the header of a datagram, with this result.
 fn gives_behind(rt: &impl Abort, source: &mut Ahead<MemSource>, out: &mut Vec<u8>, wanted: &[u8]) {
     out.truncate(4);
     let filled = source.fill(3, out);
@@ -66,7 +66,7 @@ fn gives_behind(rt: &impl Abort, source: &mut Ahead<MemSource>, out: &mut Vec<u8
     source.read_ahead();
 }
 
-/// A block goes behind the head of a datagram, of four bytes (RFC 1350, section 5).
+/// A block is appended to the header of a datagram, of four bytes (RFC 1350, section 5).
 #[test]
 fn a_block_goes_behind_a_head(rt: HostRuntime) {
     let source = MemSource::new(rt.alloc(), b"ABCDEFGHI", Mode::Octet);

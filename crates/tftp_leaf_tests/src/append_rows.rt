@@ -10,12 +10,12 @@ use tftp_wire::{
     is_text, show_ref,
 };
 
-/// A buffer with something in it.
+/// A buffer that is not empty.
 fn buffer(rt: &impl Abort, alloc: Global) -> Vec<u8> {
     Vec::from_slice(alloc, b"old ").expect(rt, "memory")
 }
 
-/// There was memory for what is appended.
+/// The append did not run out of memory.
 fn is_done(rt: &impl Abort, appended: Result<(), AllocError>) {
     appended.expect(rt, "memory");
 }
@@ -84,7 +84,7 @@ fn a_borrowed_packet_is_shown(rt: HostRuntime) {
     expect_text(&rt, line.as_str(), "OACK blksize=8 tsize=", "its line");
 }
 
-/// Datagrams, and whether each begins as an ERROR does.
+/// Datagrams, and whether each begins as an ERROR.
 const OPCODES: [(&[u8], bool); 5] = [
     (b"\x00\x05", true),
     (b"\x00\x05\x00\x01no\x00", true),

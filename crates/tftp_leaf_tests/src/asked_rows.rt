@@ -1,5 +1,5 @@
-//! What a client may ask (RFC 2348, "Blocksize Option Specification"; RFC 2349, "Timeout Interval
-//! Option Specification" and "Transfer Size Option Specification").
+//! The options that a client may request (RFC 2348, "Blocksize Option Specification"; RFC 2349,
+//! "Timeout Interval Option Specification" and "Transfer Size Option Specification").
 
 use crate::expect::{expect, expect_equal};
 use crate::option_rows::{NETASCII, NOTHING, OCTET, READ, WRITE};
@@ -7,7 +7,7 @@ use std::process::Abort;
 use tftp_negotiate::{Asked, Kind, is_block_size, is_timeout};
 use tftp_wire::Mode;
 
-/// Block sizes, and whether one may be asked (RFC 2348, "Blocksize Option Specification").
+/// Block sizes, and whether each may be requested (RFC 2348, "Blocksize Option Specification").
 const SIZES: [(u16, bool); 6] = [
     (7, false),
     (8, true),
@@ -17,7 +17,7 @@ const SIZES: [(u16, bool); 6] = [
     (65_535, false),
 ];
 
-/// Whether the size is for a read, may be asked at all, and is one.
+/// Whether the block size may be requested in a read, may be requested at all, and is valid.
 fn may_be_asked(rt: &impl Abort, size: u16, want: bool) {
     let asked = Asked {
         blksize: Some(size),
@@ -37,7 +37,8 @@ fn asked_sizes(rt: HostRuntime) {
     }
 }
 
-/// Seconds, and whether they may be asked (RFC 2349, "Timeout Interval Option Specification").
+/// Timeouts in seconds, and whether each may be requested (RFC 2349, "Timeout Interval Option
+/// Specification").
 const SECONDS: [(u8, bool); 3] = [(0, false), (1, true), (255, true)];
 
 #[test]
@@ -54,8 +55,8 @@ fn asked_seconds(rt: HostRuntime) {
     }
 }
 
-/// Lengths, and whether one may be asked of a file of 9 bytes (RFC 2349, "Transfer Size Option
-/// Specification").
+/// Lengths, and whether each may be requested for a file of 9 bytes (RFC 2349, "Transfer Size
+/// Option Specification").
 const ASKED_LENGTHS: [(Kind, Mode, u64, bool); 6] = [
     (READ, OCTET, 0, true),
     (READ, OCTET, 9, false),

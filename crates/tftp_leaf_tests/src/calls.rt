@@ -1,4 +1,4 @@
-//! What a test asks of a source or a sink, through its trait.
+//! Calls of a source or a sink, through its trait.
 
 use crate::expect::expect_equal;
 use std::alloc::Global;
@@ -13,7 +13,7 @@ fn gives<S: Source>(rt: &impl Abort, source: &mut S, want: usize, out: &mut Vec<
     expect_equal(rt, &(filled, out.as_slice()), &wanted, "a piece");
 }
 
-/// The source gives these pieces in turn, in fills of so many bytes.
+/// The source gives these pieces in turn, in fills of `want` bytes.
 pub(crate) fn gives_each<S: Source>(
     rt: &impl Abort,
     alloc: Global,
@@ -27,8 +27,8 @@ pub(crate) fn gives_each<S: Source>(
     }
 }
 
-/// A fill of the source, into a buffer that has these bytes, fails so and leaves the bytes as they
-/// are; `what` says which source it is.
+/// A fill of the source, into a buffer with these bytes, fails with this fault and leaves the bytes
+/// unchanged; `what` names the source.
 pub(crate) fn fails<S: Source>(
     rt: &impl Abort,
     alloc: Global,
@@ -44,7 +44,7 @@ pub(crate) fn fails<S: Source>(
     expect_equal(rt, &(want, failed, out.as_slice()), &wanted, what);
 }
 
-/// The sink answers an append of the bytes so; `what` says what they are.
+/// The sink returns this for an append of the bytes; `what` names them.
 pub(crate) fn appends<K: Sink>(
     rt: &impl Abort,
     sink: &mut K,
@@ -55,7 +55,7 @@ pub(crate) fn appends<K: Sink>(
     expect_equal(rt, &sink.append(bytes), &answer, what);
 }
 
-/// The sink answers a commit so; `what` says which one it is.
+/// The sink returns this for a commit; `what` names the commit.
 pub(crate) fn commits<K: Sink>(
     rt: &impl Abort,
     sink: &mut K,

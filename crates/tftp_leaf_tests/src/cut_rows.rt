@@ -1,4 +1,4 @@
-//! Texts that are drawn, encoded and decoded in pieces that are cut at drawn places (RFC 764).
+//! Random texts, encoded and decoded in pieces that are cut at random offsets (RFC 764).
 
 use crate::expect::expect_equal;
 use rand_core::{Rng, SeedableRng};
@@ -7,10 +7,10 @@ use std::alloc::Global;
 use std::process::Abort;
 use tftp_file::{NetDecoder, NetEncoder};
 
-/// The bytes that netascii treats apart, and a letter.
+/// The bytes that netascii treats specially, and a letter.
 const BYTES: [u8; 4] = [b'\r', b'\n', b'\0', b'A'];
 
-/// A text of 64 such bytes.
+/// A random text of 64 such bytes.
 fn drawn(rt: &impl Abort, alloc: Global, rng: &mut Pcg32) -> Vec<u8> {
     let mut text = Vec::new(alloc);
     for _ in 0..64 {
@@ -20,13 +20,13 @@ fn drawn(rt: &impl Abort, alloc: Global, rng: &mut Pcg32) -> Vec<u8> {
     text
 }
 
-/// The next piece, of six bytes at most, and the rest.
+/// The next piece, of at most six bytes, and the rest.
 fn split<'a>(rng: &mut Pcg32, text: &'a [u8]) -> (&'a [u8], &'a [u8]) {
     let at = rng.next_u32() as usize % 7;
     text.split_at(at.min(text.len()))
 }
 
-/// Encodes the next piece, and gives the rest.
+/// Encodes the next piece, and returns the rest.
 fn encode_piece<'a>(
     rt: &impl Abort,
     rng: &mut Pcg32,
@@ -51,7 +51,7 @@ fn encoded(rt: &impl Abort, alloc: Global, rng: &mut Pcg32, text: &[u8]) -> Vec<
     wire
 }
 
-/// Decodes the next piece, and gives the rest.
+/// Decodes the next piece, and returns the rest.
 fn decode_piece<'a>(
     rt: &impl Abort,
     rng: &mut Pcg32,
@@ -76,7 +76,7 @@ fn decoded(rt: &impl Abort, alloc: Global, rng: &mut Pcg32, wire: &[u8]) -> Vec<
     text
 }
 
-/// The text comes back from its wire text.
+/// Decoding the wire text of a text gives the text again.
 fn is_kept(rt: &impl Abort, alloc: Global, rng: &mut Pcg32, seed: u64, text: &[u8]) {
     let wire = encoded(rt, alloc, rng, text);
     let back = decoded(rt, alloc, rng, wire.as_slice());

@@ -12,11 +12,11 @@ const SHORTENED: [(&[u8], Mode, u64, &[&[u8]]); 5] = [
     (b"ABCDEFGH", Mode::Octet, 4, &[b"ABCD", b""]),
     (b"ABCDEFGH", Mode::Octet, 0, &[b""]),
     (b"ABCDEFGH", Mode::Octet, 99, &[b"ABCD", b"EFGH", b""]),
-    // a line feed travels as CR LF (RFC 764)
+    // a line feed is encoded as CR LF (RFC 764)
     (b"A\nB", Mode::Netascii, 2, &[b"A\r", b""]),
 ];
 
-/// A source that gives so many bytes gives these pieces, in fills of four bytes.
+/// A source that gives `give` bytes gives these pieces, in fills of four bytes.
 fn is_shortened(
     rt: &impl Abort,
     alloc: Global,
@@ -38,14 +38,14 @@ fn a_source_ends_early(rt: HostRuntime) {
     }
 }
 
-/// Two bytes are left behind the first block, and more are wanted.
+/// After the first block two bytes are left, and a fill requests four.
 fn fails_past_its_end(rt: &impl Abort, alloc: Global, source: &mut FaultSource) {
     gives_each(rt, alloc, source, 4, &[b"ABCD"]);
     let fault = FileFault::Read;
     fails(rt, alloc, source, 4, b"ABCD", fault, "two bytes are left");
 }
 
-/// It gives what it has, and fails only where more is wanted.
+/// The source gives the bytes that it has, and fails only if more are requested.
 #[test]
 fn a_source_fails_past_its_end(rt: HostRuntime) {
     let source = FaultSource::new(rt.alloc(), b"ABCDEFGH", Mode::Octet, 6, true);

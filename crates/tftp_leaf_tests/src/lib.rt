@@ -1,7 +1,7 @@
 //! The tests of packets, options and the file layer, over their public calls.
 //!
-//! Where a packet, a path or a source ends, a helper calls `drop`: the end of a scope would spell
-//! the drop of each of its parts in the proof of that helper.
+//! A helper drops a packet, a path or a source by a call of `drop`: at the end of a scope the proof
+//! of the helper would contain the drop of each part.
 #![tactic(auto)]
 
 #[cfg(test)]

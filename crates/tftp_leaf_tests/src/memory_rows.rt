@@ -12,7 +12,7 @@ fn source_of(rt: &impl Abort, alloc: Global, bytes: &[u8], mode: Mode) -> MemSou
     MemSource::new(alloc, bytes, mode).expect(rt, "memory")
 }
 
-/// A line feed travels as CR LF, and a CR as CR NUL (RFC 764): the text in fills of three bytes.
+/// The text in fills of three bytes: a line feed is encoded as CR LF, and a CR as CR NUL (RFC 764).
 const NETASCII: [&[u8]; 3] = [b"\r\0\r", b"\nA", b""];
 
 #[test]
@@ -32,19 +32,19 @@ fn octet_is_given_as_it_is(rt: HostRuntime) {
     drop(source);
 }
 
-/// Appends to the file, which has memory for it.
+/// Appends to the file.
 fn grow(rt: &impl Abort, file: &mut FileBytes, bytes: &[u8]) {
     file.append(bytes).expect(rt, "memory");
 }
 
-/// Shares the file, which has these bytes by then.
+/// Shares the file, which has these bytes.
 fn share(rt: &impl Abort, file: &mut FileBytes, bytes: &[u8]) -> SharedBytes {
     let shared = file.share().expect(rt, "memory");
     expect_bytes(rt, shared.as_slice(), bytes, "as it was shared");
     shared
 }
 
-/// The file of two appends, as it is shared; it goes on alone.
+/// A file that is shared after two appends, and then grows. Returns the shared bytes.
 fn grows_on(rt: &impl Abort, file: &mut FileBytes) -> SharedBytes {
     grow(rt, file, b"A");
     grow(rt, file, b"\n");
@@ -118,7 +118,7 @@ fn a_commit_is_refused_as_made(rt: HostRuntime) {
     expect(rt, !sink.is_committed(), "never");
 }
 
-/// A source gives the one byte `A`, and a sink with room for one takes one.
+/// A source gives the one byte `A`, and a sink with capacity for one byte stores one.
 fn moves_a_byte(rt: &impl Abort, alloc: Global, mut file: Files<MemSource, MemSink>) {
     match &mut file {
         Files::Source(source) => gives_each(rt, alloc, source, 2, &[b"A"]),

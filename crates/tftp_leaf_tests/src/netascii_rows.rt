@@ -9,7 +9,7 @@ use tftp_file::{
 };
 use tftp_wire::Mode;
 
-/// Host bytes and their wire text, by hand: a line feed travels as CR LF, a CR as CR NUL.
+/// Host bytes and their wire text, by hand: a line feed is encoded as CR LF, a CR as CR NUL.
 const TEXTS: [(&[u8], &[u8]); 6] = [
     (b"", b""),
     (b"A", b"A"),
@@ -19,7 +19,7 @@ const TEXTS: [(&[u8], &[u8]); 6] = [
     (b"a\0b\nc\rd", b"a\0b\r\nc\r\0d"),
 ];
 
-/// The decoder stores the piece behind what is stored.
+/// The decoder appends the host bytes of the piece.
 fn store(rt: &impl Abort, decoder: &mut NetDecoder, piece: &[u8], out: &mut Vec<u8>) {
     decoder.push(piece, out).expect(rt, "wire text");
 }
@@ -32,7 +32,7 @@ fn is_sent_as(rt: &impl Abort, alloc: Global, host: &[u8], wire: &[u8]) {
     expect_bytes(rt, sent.as_slice(), wire, "encoded");
 }
 
-/// A decoder stores the host's bytes of a wire text that comes in these pieces.
+/// A decoder stores these host bytes for a wire text in these pieces.
 fn is_stored_as(rt: &impl Abort, alloc: Global, pieces: &[&[u8]], host: &[u8]) {
     let mut stored = Vec::new(alloc);
     let mut decoder = NetDecoder::new();
@@ -55,14 +55,14 @@ fn texts_both_ways(rt: HostRuntime) {
     }
 }
 
-/// Pieces of a wire text in turn, what is stored by then, and how many bytes are held back.
+/// Pieces of a wire text in turn, the bytes stored after each, and how many bytes are held back.
 const PIECES: [(&[u8], &[u8], usize); 3] = [
     (b"\r", b"", 1),
     (b"\0\r", b"\r", 1),
     (b"\nA", b"\r\nA", 0),
 ];
 
-/// A decoder stores the piece, and then has stored and holds back so much.
+/// A decoder stores the piece, and then has stored these bytes and holds back `held` bytes.
 fn stores_and_holds(
     rt: &impl Abort,
     decoder: &mut NetDecoder,
@@ -85,7 +85,7 @@ fn netascii_rows(rt: HostRuntime) {
     expect_equal(&rt, &decoder.finish(), &Ok(()), "the end");
 }
 
-/// A piece of wire text, a next one that begins none, and the fault.
+/// A piece of wire text, a next one that is not valid, and the fault.
 const WRONG: [(&[u8], &[u8], NetFault); 5] = [
     (b"A", b"\n", NetFault::LoneLf),
     (b"A", b"ab\ncd", NetFault::LoneLf),
@@ -94,7 +94,7 @@ const WRONG: [(&[u8], &[u8], NetFault); 5] = [
     (b"A", b"\r\0\rA\n", NetFault::LoneCr),
 ];
 
-/// The decoder, which has stored `A`, refuses the text for this fault, and is as it was.
+/// The decoder, which has stored `A`, refuses the text with this fault, and is unchanged.
 fn refuses(
     rt: &impl Abort,
     decoder: &mut NetDecoder,
@@ -182,7 +182,7 @@ fn lengths_on_the_wire(rt: HostRuntime) {
     }
 }
 
-/// A text, its mode, the most that counts, and the length.
+/// A text, its mode, the limit, and the length.
 const WITHIN: [(&[u8], Mode, u64, u64); 4] = [
     (b"\r\nA", Mode::Octet, 9, 3),
     (b"\r\nA", Mode::Octet, 2, 2),
@@ -198,7 +198,7 @@ fn lengths_within_a_limit(rt: HostRuntime) {
     }
 }
 
-/// A reader that fills every buffer, so many times, and then fails.
+/// A reader that fills the buffer in each of `reads` reads, and then fails.
 #[derive(Drop)]
 struct Failing {
     reads: u64,
@@ -214,8 +214,8 @@ impl Read for Failing {
     }
 }
 
-/// How many reads of 8,192 bytes succeed, and the length: 523,705 of them are the first to be more
-/// than the longest wire text.
+/// How many reads of 8,192 bytes succeed, and the length. 523,705 reads exceed the longest wire
+/// text, and 523,704 do not.
 const READS: [(u64, Mode, Result<u64, FileFault>); 3] = [
     (3, Mode::Netascii, Err(FileFault::Read)),
     (523_704, Mode::Octet, Err(FileFault::Read)),

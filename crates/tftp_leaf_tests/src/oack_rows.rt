@@ -1,5 +1,5 @@
-//! What a client takes of an OACK as it came (RFC 2347, "Packet Formats"), and which length one
-//! states (RFC 2349, "Transfer Size Option Specification").
+//! The options that a client accepts from a received OACK (RFC 2347, "Packet Formats"), and the
+//! length that it states (RFC 2349, "Transfer Size Option Specification").
 
 use crate::expect::{expect, expect_equal};
 use crate::option_rows::{OCTET, READ, comes_out};
@@ -15,7 +15,7 @@ fn oack_options<'a>(rt: &impl Abort, oack: &'a [u8]) -> OptionsRef<'a> {
     }
 }
 
-/// An OACK for a client that asked for more.
+/// An OACK with a smaller block size than the client requested.
 #[test]
 fn a_datagram_is_taken(rt: HostRuntime) {
     let rt = &rt;

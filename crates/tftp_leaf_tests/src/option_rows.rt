@@ -1,7 +1,7 @@
-//! Options of requests and of OACKs, and what becomes of them (RFC 2347; RFC 2348; RFC 2349).
+//! Options of requests and of OACKs, and the results (RFC 2347; RFC 2348; RFC 2349).
 //!
-//! A row writes options as `name=value`, with commas between them, and what becomes of them as the
-//! list that is agreed and the block size, or as the refusal.
+//! A row has the options as `name=value`, separated by commas, and the result: the agreed list and
+//! the block size, or the refusal.
 
 use crate::expect::{expect, expect_equal, expect_text};
 use crate::packet_rows::{bytes_of, read_request};
@@ -29,28 +29,28 @@ pub(crate) const NOTHING: Asked = Asked {
     tsize: None,
 };
 
-/// Asks for a block size alone.
+/// Requests only a block size.
 const SIZE: Asked = Asked {
     blksize: Some(1428),
     timeout: None,
     tsize: None,
 };
 
-/// Asks for a timeout alone.
+/// Requests only a timeout.
 const WAIT: Asked = Asked {
     blksize: None,
     timeout: Some(3),
     tsize: None,
 };
 
-/// Asks for the length of a file that is read.
+/// Requests the length of a file that is read.
 const LENGTH: Asked = Asked {
     blksize: None,
     timeout: None,
     tsize: Some(0),
 };
 
-/// Asks for all three, as a writer of 41 bytes.
+/// Requests all three, for a write of 41 bytes.
 const ALL: Asked = Asked {
     blksize: Some(65_464),
     timeout: Some(255),
@@ -73,8 +73,8 @@ const DIRECTIONS: [(Kind, Mode); 4] = [
     (WRITE, NETASCII),
 ];
 
-/// Values that are no number, whatever the option: the RFCs only say that values are ASCII, and
-/// this project takes a number in one spelling, below 2^64.
+/// Values that are not numbers, for any option. The RFCs only say that values are ASCII; this
+/// project accepts a number in one spelling, below 2^64.
 const NO_NUMBERS: [&str; 14] = [
     "",
     "00",
@@ -122,7 +122,7 @@ fn shown(alloc: Global, outcome: Result<Agreed, Refusal>) -> Result<String, Allo
     }
 }
 
-/// This becomes of the options of a kind and mode; `what` says which options they are.
+/// The options of this kind and mode have this result; `what` names the options.
 pub(crate) fn comes_out(
     rt: &impl Abort,
     alloc: Global,
@@ -135,7 +135,7 @@ pub(crate) fn comes_out(
     expect_equal(rt, &(direction, got.as_str()), &(direction, want), what);
 }
 
-/// A server whose file has 10 bytes answers a request with these options so.
+/// A server with a file of 10 bytes answers a request with these options by this result.
 fn answers(
     rt: &impl Abort,
     alloc: Global,
@@ -151,7 +151,7 @@ fn answers(
     comes_out(rt, alloc, (kind, mode), outcome, want, row);
 }
 
-/// A client takes an OACK with these options so.
+/// A client handles an OACK with these options with this result.
 fn takes(
     rt: &impl Abort,
     alloc: Global,
@@ -167,7 +167,7 @@ fn takes(
     comes_out(rt, alloc, (kind, mode), outcome, want, row);
 }
 
-/// The first two rows are the lists of a request in two orders; the answer keeps the order
+/// The first two rows have the options of a request in two orders; the answer has the same order
 /// (RFC 2347: the order of options has no meaning).
 const LIMITED: [(&str, &str); 10] = [
     ("BLKSIZE=1428,timeout=3", "[Blksize(1428), Timeout(3)] 1428"),
@@ -227,12 +227,12 @@ fn answers_keep_to_ranges(rt: HostRuntime) {
     }
 }
 
-/// The option as a row writes it.
+/// The option in the form of a row.
 fn row_of(rt: &impl Abort, alloc: Global, name: &str, value: &str) -> String {
     format!(in alloc; "{name}={value}").expect(rt, "memory")
 }
 
-/// Each option with each value that is no number is left out of the answer.
+/// The answer omits each option with each value that is not a number.
 fn leaves_out_no_numbers(rt: &impl Abort, alloc: Global, direction: (Kind, Mode), name: &str) {
     for &value in &NO_NUMBERS {
         let row = row_of(rt, alloc, name, value);
@@ -249,8 +249,8 @@ fn answers_leave_out_no_numbers(rt: HostRuntime) {
     }
 }
 
-/// A read asks 0 and is answered by the length, here 10; a write says its length (RFC 2349). In
-/// netascii the option is left out.
+/// A read requests 0 and is answered by the length, here 10. A write states its length (RFC 2349).
+/// In netascii the option is omitted.
 const LENGTHS: [(Kind, Mode, &str, &str); 12] = [
     (READ, OCTET, "tsize=0", "[Tsize(10)] 512"),
     (READ, OCTET, "tsize=1", "[] 512"),
@@ -280,7 +280,7 @@ fn the_largest_length_is_answered(rt: HostRuntime) {
     answers(&rt, rt.alloc(), &ROOMY, (WRITE, OCTET), row, want);
 }
 
-/// OACKs for a client that asked for a block size.
+/// OACKs for a client that requested a block size.
 const SIZE_OACKS: [(&str, &str); 11] = [
     ("blksize=512", "[Blksize(512)] 512"),
     ("BLKSIZE=8", "[Blksize(8)] 8"),
@@ -295,7 +295,7 @@ const SIZE_OACKS: [(&str, &str); 11] = [
     ("windowsize=4,windowsize=4", "NotAsked"),
 ];
 
-/// OACKs for a client that asked for the length of the file.
+/// OACKs for a client that requested the length of the file.
 const LENGTH_OACKS: [(&str, &str); 6] = [
     ("tsize=1000", "[Tsize(1000)] 512"),
     ("tsize=1001", "TooLarge"),
@@ -305,7 +305,7 @@ const LENGTH_OACKS: [(&str, &str); 6] = [
     ("windowsize=4,tsize=1001", "NotAsked"),
 ];
 
-/// OACKs for a client that asked for a timeout.
+/// OACKs for a client that requested a timeout.
 const WAIT_OACKS: [(&str, &str); 4] = [
     ("timeout=3", "[Timeout(3)] 512"),
     ("timeout=4", "BadValue"),
@@ -313,14 +313,14 @@ const WAIT_OACKS: [(&str, &str); 4] = [
     ("timeout=259", "BadValue"),
 ];
 
-/// OACKs for a client that asked for nothing.
+/// OACKs for a client that requested no option.
 const UNASKED_OACKS: [(&str, &str); 3] = [
     ("timeout=3", "NotAsked"),
     ("blksize=512", "NotAsked"),
     ("tsize=0", "NotAsked"),
 ];
 
-/// The client takes each OACK of an octet read so, with files of at most 1,000 bytes.
+/// The client handles each OACK of an octet read with its result, with a limit of 1,000 bytes.
 fn takes_each(rt: &impl Abort, alloc: Global, asked: &Asked, rows: &[(&str, &str)]) {
     for (row, want) in rows {
         takes(rt, alloc, asked, (READ, OCTET), row, 1000, want);
@@ -336,8 +336,8 @@ fn option_rows(rt: HostRuntime) {
     takes_each(rt, rt.alloc(), &NOTHING, &UNASKED_OACKS);
 }
 
-/// The other modes and kinds: a write takes the length that it said alone (RFC 2349), and in
-/// netascii no length counts as asked. Files have at most 39 bytes.
+/// The other modes and kinds: a write accepts only the length that it stated (RFC 2349), and in
+/// netascii no length counts as requested. The limit is 39 bytes.
 const OACK_LENGTHS: [(Kind, Mode, &str, &str); 10] = [
     (WRITE, OCTET, "tsize=41", "[Tsize(41)] 512"),
     (WRITE, OCTET, "tsize=40", "BadValue"),
@@ -368,7 +368,7 @@ fn oack_lengths(rt: HostRuntime) {
     }
 }
 
-/// Each option with each value that is no number is refused in an OACK.
+/// A client refuses an OACK with each option with each value that is not a number.
 fn refuses_no_numbers(rt: &impl Abort, alloc: Global, kind: Kind, name: &str) {
     for &value in &NO_NUMBERS {
         let row = row_of(rt, alloc, name, value);
@@ -384,7 +384,7 @@ fn oacks_hold_numbers(rt: HostRuntime) {
     }
 }
 
-/// So many options are agreed, with this block size and timeout.
+/// `count` options are agreed, with this block size and timeout.
 fn agrees(rt: &impl Abort, agreed: &Agreed, size: u16, timeout: Option<u8>, count: usize) {
     let list = (agreed.is_empty(), agreed.as_slice().len());
     expect_equal(rt, &list, &(count == 0, count), "the options");
@@ -410,7 +410,7 @@ fn default_values(rt: HostRuntime) {
     expect_equal(rt, &Known::default(), &Known::Tsize(0), "what a read asks");
 }
 
-/// The options of a datagram are judged as owned ones are: an RRQ with two options (RFC 2347,
+/// The options of a datagram have the same result as owned ones: an RRQ with two options (RFC 2347,
 /// "Packet Formats").
 #[test]
 fn a_datagram_is_answered(rt: HostRuntime) {
@@ -421,7 +421,7 @@ fn a_datagram_is_answered(rt: HostRuntime) {
     comes_out(&rt, rt.alloc(), (READ, OCTET), answer, want, "the RRQ");
 }
 
-/// Names are compared without regard to the case of their letters (RFC 2347, "Packet Formats").
+/// Option names are case-insensitive (RFC 2347, "Packet Formats").
 const OPTION_NAMES: [(&[u8], Option<Name>); 5] = [
     (b"blksize", Some(Name::Blksize)),
     (b"TIMEOUT", Some(Name::Timeout)),

@@ -9,7 +9,7 @@ use tftp_wire::{
     RawOptions, RequestRef, decode, decode_ref, encode, is_valid, show,
 };
 
-/// Datagrams that spell a packet, and its line.
+/// Datagrams that spell a packet, and the line of the packet.
 const PACKETS: [(&[u8], &str); 12] = [
     (b"\x00\x02a %=\x00netASCII\x00", "WRQ a%20%25%3d netascii"),
     (b"\x00\x02a %=\x00neTASCII\x00", "WRQ a%20%25%3d netascii"),
@@ -31,7 +31,7 @@ const PACKETS: [(&[u8], &str); 12] = [
     (b"\x00\x05\x00\x00\x00", "ERROR 0 ()"),
 ];
 
-/// Datagrams that spell none, with their first fault from the left and its place.
+/// Datagrams that spell no packet, with the first fault and its offset.
 const FAULTS: [(&[u8], PacketFaultKind, usize); 19] = [
     (b"", PacketFaultKind::Short, 0),
     (b"\x00", PacketFaultKind::Short, 0),
@@ -78,8 +78,8 @@ const FAULTS: [(&[u8], PacketFaultKind, usize); 19] = [
     (b"\x00\x06", PacketFaultKind::EmptyOack, 2),
 ];
 
-/// The opcode of a read request and letters that no zero byte ends, by their length: a request has
-/// 512 bytes at most (RFC 2347, "Packet Formats").
+/// Lengths of read requests without a zero byte after the name, and the fault and its offset: a
+/// request has at most 512 bytes (RFC 2347, "Packet Formats").
 const LENGTHS: [(usize, PacketFaultKind, usize); 2] = [
     (512, PacketFaultKind::Unterminated, 2),
     (513, PacketFaultKind::TooLong, 512),
@@ -116,7 +116,7 @@ fn packets_show(rt: HostRuntime) {
     }
 }
 
-/// The borrowed reader finds this fault.
+/// The borrowed reader returns this fault.
 fn has_fault(rt: &impl Abort, bytes: &[u8], fault: PacketFault) {
     let found = decode_ref(bytes).err();
     expect_equal(rt, &(bytes, found), &(bytes, Some(fault)), "the fault");
@@ -129,7 +129,7 @@ fn faults_stand(rt: HostRuntime) {
     }
 }
 
-/// The packet of a datagram, which can be written, is written so.
+/// Encodes the packet of a datagram.
 fn written(rt: &impl Abort, alloc: Global, bytes: &[u8], out: &mut Vec<u8>) {
     let packet = packet_of(rt, alloc, bytes);
     expect(rt, is_valid(&packet), "what is read can be written");
@@ -145,14 +145,14 @@ fn packet_rows(rt: HostRuntime) {
     expect_bytes(&rt, out.as_slice(), lower, "the mode in lower case");
 }
 
-/// The opcode of a read request and letters, with so many bytes in all.
+/// The opcode of a read request and letters, `len` bytes in total.
 fn endless_request(rt: &impl Abort, alloc: Global, len: usize) -> Vec<u8> {
     let mut request = Vec::from_slice(alloc, &[0, 1]).expect(rt, "memory");
     request.resize(len, b'a').expect(rt, "memory");
     request
 }
 
-/// Both readers find this fault.
+/// Both readers return this fault.
 fn is_refused(rt: &impl Abort, alloc: Global, bytes: &[u8], fault: PacketFault) {
     has_fault(rt, bytes, fault);
     match decode(alloc, bytes) {
@@ -169,7 +169,7 @@ fn requests_have_512_bytes_at_most(rt: HostRuntime) {
     }
 }
 
-/// All that a packet holds, as `Debug` writes it.
+/// The `Debug` text of a packet.
 fn text_of(rt: &impl Abort, alloc: Global, packet: &Packet) -> String {
     format!(in alloc; "{packet:?}").expect(rt, "memory")
 }
@@ -182,13 +182,13 @@ fn is_one_packet(rt: &impl Abort, alloc: Global, copy: Packet, owned: Packet) {
     expect_text(rt, copy_text.as_str(), text.as_str(), "the packet");
 }
 
-/// The copy of the packet that the borrowed reader gives.
+/// A copy of the packet that the borrowed reader returns.
 fn copy_of(rt: &impl Abort, alloc: Global, bytes: &[u8]) -> Packet {
     let borrowed = decode_ref(bytes).expect(rt, "a packet");
     borrowed.to_packet(alloc).expect(rt, "memory")
 }
 
-/// The owned and the borrowed reader give one packet, or one fault.
+/// The owned and the borrowed reader return the same packet, or the same fault.
 fn reads_alike(rt: &impl Abort, alloc: Global, bytes: &[u8]) {
     match decode(alloc, bytes) {
         Ok(owned) => is_one_packet(rt, alloc, copy_of(rt, alloc, bytes), owned),
@@ -255,7 +255,7 @@ fn requests_are_copied(rt: HostRuntime) {
     expect_equal(rt, &found, &wanted, "the name and the mode");
 }
 
-/// The option and its copy say the same.
+/// The option equals its copy.
 fn is_copied(rt: &impl Abort, alloc: Global, option: OptionRef<'_>) {
     let copy = option.to_option(alloc).expect(rt, "memory");
     expect_equal(rt, &copy.as_ref(), &option, "an option and its copy");
@@ -286,7 +286,7 @@ fn modes_have_words(rt: HostRuntime) {
     expect_text(rt, Mode::Netascii.word(), "netascii", "of netascii");
 }
 
-/// Bytes that are made of a vector are those of its slice.
+/// Bytes made from a vector equal those made from its slice.
 fn bytes_of_vec(rt: &impl Abort, alloc: Global, bytes: &[u8]) -> Bytes {
     let name = Bytes::from(Vec::from_slice(alloc, bytes).expect(rt, "memory"));
     expect_equal(rt, &name, &bytes_of(rt, alloc, bytes), "the name");

@@ -70,8 +70,9 @@ fn case_counts(rt: HostRuntime) {
     expect_equal(rt, &number, &2, "the number of the fault");
 }
 
-/// How many letters each segment has, and the fault: a segment has 64 at most, a path 8 segments
-/// and 255 bytes, and the length is tested before the depth, the depth before the segments.
+/// How many letters each segment has, and the fault. A segment has at most 64 letters, a path at
+/// most 8 segments and 255 bytes. The length is tested before the depth, the depth before the
+/// segments.
 const LENGTHS: [(&[usize], Option<PathFault>); 7] = [
     (&[1; 8], None),
     (&[1; 9], Some(PathFault::Depth)),
@@ -82,7 +83,7 @@ const LENGTHS: [(&[usize], Option<PathFault>); 7] = [
     (&[1; 128], Some(PathFault::Depth)),
 ];
 
-/// Segments of so many letters `a`, parted by slashes.
+/// Segments of these numbers of letters `a`, separated by slashes.
 fn name_of(rt: &impl Abort, alloc: Global, segments: &[usize]) -> Vec<u8> {
     let mut bytes = Vec::new(alloc);
     for letters in segments {
@@ -90,7 +91,7 @@ fn name_of(rt: &impl Abort, alloc: Global, segments: &[usize]) -> Vec<u8> {
         bytes.resize(end, b'a').expect(rt, "memory");
         bytes.push(b'/').expect(rt, "memory");
     }
-    // no slash behind the last segment
+    // no slash after the last segment
     bytes.pop();
     bytes
 }

@@ -9,7 +9,7 @@ use std::process::Abort;
 use tftp_file::{FileFault, ReadSource, StoreFault, WriteSink};
 use tftp_wire::Mode;
 
-/// A reader of a text that gives so many bytes at a time, and ends, or fails at the end.
+/// A reader that gives at most `at_a_time` bytes of a text at a time, and then ends or fails.
 #[derive(Drop)]
 struct Script {
     text: &'static [u8],
@@ -43,8 +43,8 @@ impl Read for Script {
     }
 }
 
-/// A writer with room for so many bytes, which then takes nothing or fails, and whose first flush
-/// may fail.
+/// A writer with capacity for `room` bytes, which then writes nothing or fails, and whose first
+/// flush may fail.
 #[derive(Drop)]
 struct Tape {
     written: Vec<u8>,
@@ -77,7 +77,7 @@ impl Write for Tape {
 /// bytes the source then holds back.
 const LINE_ENDS: [(&[u8], usize); 3] = [(b"\r\n\r", 1), (b"\n", 0), (b"", 0)];
 
-/// The next fill of three bytes gives this piece, and the source then holds so many bytes back.
+/// The next fill of three bytes gives this piece, and the source then holds back `held` bytes.
 fn gives_and_holds(
     rt: &impl Abort,
     alloc: Global,
@@ -144,7 +144,7 @@ fn a_read_that_fails_leaves_the_buffer(rt: HostRuntime) {
     leaves_the_buffer(&rt, rt.alloc(), Mode::Netascii);
 }
 
-/// More bytes than there is memory for.
+/// More bytes than can be allocated.
 const GREAT: [(Mode, usize); 4] = [
     (Mode::Octet, usize::MAX),
     (Mode::Octet, usize::MAX / 2),
@@ -152,7 +152,7 @@ const GREAT: [(Mode, usize); 4] = [
     (Mode::Netascii, usize::MAX / 2),
 ];
 
-/// Such a fill is refused before anything is read, and the next one gives the text.
+/// A fill of as many bytes fails before anything is read, and the next one gives the text.
 fn reads_nothing(rt: &impl Abort, alloc: Global, mode: Mode, want: usize) {
     let mut source = ReadSource::new(Script::new(b"AB", 2, false), mode);
     let fault = FileFault::Memory;
@@ -168,7 +168,7 @@ fn a_growth_that_is_refused_reads_nothing(rt: HostRuntime) {
     }
 }
 
-/// A writer with room for two bytes holds two of three.
+/// A writer with capacity for two bytes writes two of three.
 fn holds_what_has_room(rt: &impl Abort, alloc: Global, fails: bool) {
     let mut sink = WriteSink::new(Tape {
         written: Vec::new(alloc),
@@ -181,14 +181,14 @@ fn holds_what_has_room(rt: &impl Abort, alloc: Global, fails: bool) {
     expect_bytes(rt, written, b"AB", "what it took");
 }
 
-/// The writer then fails, or takes nothing.
+/// The writer then fails, or writes nothing.
 #[test]
 fn stream_rows_of_a_sink(rt: HostRuntime) {
     holds_what_has_room(&rt, rt.alloc(), true);
     holds_what_has_room(&rt, rt.alloc(), false);
 }
 
-/// A writer with room for nine bytes, whose first flush fails.
+/// A writer with capacity for nine bytes, whose first flush fails.
 fn unflushed(alloc: Global) -> WriteSink<Tape> {
     WriteSink::new(Tape {
         written: Vec::new(alloc),
