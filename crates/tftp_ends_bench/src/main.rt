@@ -1,5 +1,5 @@
-//! One end against another in memory, with no socket and no world: a read is played to its end, and
-//! its count of blocks is printed. `make bench` measures it from outside.
+//! Reads between two ends in memory, without a socket or a world. It prints the number of blocks.
+//! `make bench` measures it.
 #![tactic(auto)]
 
 ghost use Rattle.tftp_ends.specs.Files.{AreFilesOf};
@@ -31,10 +31,10 @@ const CONFIG: EndConfig = EndConfig {
     retries: 0,
 };
 
-/// A file in memory for the server, and nothing that is kept for the client.
+/// A file in memory for the server, and a sink that stores nothing for the client.
 type BenchFiles<'a> = Files<ReadSource<&'a [u8]>, WriteSink<io::Sink>>;
 
-/// Three words: the block size in bytes, how many bytes the file has, and how often it is read.
+/// Three arguments: the block size and the file length, in bytes, and the number of reads.
 fn main(rt: HostRuntime) -> ExitCode {
     match play_words(&rt) {
         Ok(blocks) => {
@@ -47,7 +47,7 @@ fn main(rt: HostRuntime) -> ExitCode {
     }
 }
 
-/// Plays the reads that the command line asks for, and tells their blocks.
+/// Runs the reads of the command line, and returns the number of blocks.
 fn play_words(rt: &HostRuntime) -> Result<u64> {
     let mut words = env::args(rt)?;
     let _ = words.next();
@@ -66,7 +66,7 @@ fn play_words(rt: &HostRuntime) -> Result<u64> {
     Ok(blocks)
 }
 
-/// The number that a word spells.
+/// The number in an argument.
 fn number(word: Option<String>) -> Result<usize> {
     match word.and_then(|word| word.parse().ok()) {
         Some(number) => Ok(number),
@@ -74,7 +74,7 @@ fn number(word: Option<String>) -> Result<usize> {
     }
 }
 
-/// Plays a read of a file at a block size, and tells its blocks.
+/// Runs a read of a file with this block size, and returns the number of blocks.
 fn play(alloc: Global, size: u16, file: &[u8]) -> Result<u16> {
     let length = file.len() as u64;
     let asked = Asked {
@@ -113,7 +113,7 @@ fn play(alloc: Global, size: u16, file: &[u8]) -> Result<u16> {
     converse(server, &mut file, client, &mut copy)
 }
 
-/// What a server agrees to of a request for a file of that length.
+/// The options that a server agrees to for a request, with a file of this length.
 fn answer(request: &[u8], length: u64) -> Result<Agreed> {
     match decode_ref(request) {
         Ok(PacketRef::Read(request)) => Ok(accept_ref(
@@ -127,7 +127,8 @@ fn answer(request: &[u8], length: u64) -> Result<Agreed> {
     }
 }
 
-/// Hands each end what the other lends, until the server's is closed, and tells its blocks.
+/// Delivers to each end the datagram that the other lends, until the server's end is closed.
+/// Returns the number of blocks.
 fn converse<S: Source, K: Sink>(
     mut server: End,
     file: &mut Files<S, K>,
