@@ -1,9 +1,9 @@
-//! Five scenes whose calls ask for memory, each call announced before it is made. It prints what
-//! each call answers and what stands behind it.
+//! Five scenes whose calls allocate memory. It announces each call, and prints its result and the
+//! state after it.
 //!
-//! By itself it plays them with ample memory. `tools/memory_in_turn.py` plays them once for each
-//! request for memory that a call makes, with that one refused: the call then has to answer that it
-//! found no memory and to leave all as before, and the same call again has to give its row.
+//! `tools/memory_in_turn.py` runs the scenes once for each allocation of a call, with that one
+//! refused. The call then has to return that it is out of memory and to leave the state unchanged,
+//! and the same call again has to give its row.
 #![tactic(auto)]
 
 mod netascii_scene;
@@ -21,7 +21,7 @@ fn main(rt: HostRuntime) -> ExitCode {
     }
 }
 
-/// Plays all five.
+/// Runs all five.
 fn play_all(rt: &HostRuntime) -> Result<()> {
     options_scene::play(rt)?;
     netascii_scene::play(rt)?;

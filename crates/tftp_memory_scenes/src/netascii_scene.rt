@@ -1,5 +1,4 @@
-//! A CR, a line feed and a letter on their way as wire text and back, the wire text in three pieces
-//! (RFC 764).
+//! A CR, a line feed and a letter, encoded to wire text and decoded in three pieces (RFC 764).
 
 use crate::printed::{announce, append_bytes, has_returned, was_refused};
 use anyhow::Result;
@@ -9,7 +8,7 @@ use tftp_file::{NetDecoder, NetEncoder, NetFault};
 /// The wire text, cut inside both of its pairs.
 const PIECES: [&[u8]; 3] = [b"\r", b"\0\r", b"\nA"];
 
-/// Plays the scene.
+/// Runs the scene.
 pub(crate) fn play(rt: &HostRuntime) -> Result<()> {
     println!(rt; "netascii in pieces")?;
     encodes(rt)?;
@@ -21,7 +20,7 @@ pub(crate) fn play(rt: &HostRuntime) -> Result<()> {
     Ok(())
 }
 
-/// What was appended, and how many bytes are held back.
+/// The bytes appended, and how many bytes are held back.
 fn seen(alloc: Global, out: &[u8], held: usize) -> Result<String> {
     let mut text = String::new(alloc);
     append_bytes(&mut text, out)?;
@@ -29,7 +28,7 @@ fn seen(alloc: Global, out: &[u8], held: usize) -> Result<String> {
     Ok(text)
 }
 
-/// Encodes the host's bytes.
+/// Encodes the host bytes.
 fn encodes(rt: &HostRuntime) -> Result<()> {
     let mut encoder = NetEncoder::new();
     let mut out = Vec::new(rt.alloc());

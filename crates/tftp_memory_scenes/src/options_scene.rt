@@ -1,5 +1,5 @@
-//! Reads with two options at a server: the OACK has them in the order of the request, their names
-//! in lower case (RFC 2347, "Negotiation Protocol").
+//! Reads with two options at a server: the OACK has them in the order of the request, with their
+//! names in lower case (RFC 2347, "Negotiation Protocol").
 
 use crate::printed::{announce, append_bytes, has_returned, was_refused};
 use anyhow::Result;
@@ -17,7 +17,7 @@ const BLOCK_FIRST: &[u8] = b"\0\x01boot.img\0octet\0BLKSIZE\01428\0timeout\03\0"
 
 const TIMEOUT_FIRST: &[u8] = b"\0\x01boot.img\0octet\0timeout\03\0BLKSIZE\01428\0";
 
-/// A server, and the datagrams that it sends, behind bytes that were there before.
+/// A server, and a buffer for the datagrams that it sends.
 #[derive(Drop)]
 struct Served {
     alloc: Global,
@@ -25,7 +25,7 @@ struct Served {
     out: Vec<u8>,
 }
 
-/// Plays the scene.
+/// Runs the scene.
 pub(crate) fn play(rt: &HostRuntime) -> Result<()> {
     println!(rt; "two options")?;
     let alloc = rt.alloc();
@@ -50,7 +50,7 @@ pub(crate) fn play(rt: &HostRuntime) -> Result<()> {
 }
 
 impl Served {
-    /// What was sent, each transfer with its record, and the file.
+    /// The bytes sent, the record of each transfer, and the file.
     fn seen(&self) -> Result<String> {
         let mut text = String::from_str(self.alloc, "out ")?;
         append_bytes(&mut text, &self.out)?;
@@ -69,7 +69,7 @@ impl Served {
         Ok(text)
     }
 
-    /// A request comes, and opens a transfer of this identifier.
+    /// Delivers a request, for a transfer with this identifier.
     fn takes(&mut self, rt: &HostRuntime, call: &str, tid: u16, request: &[u8]) -> Result<()> {
         self.out = Vec::from_slice(self.alloc, b"old")?;
         let before = self.seen()?;
@@ -86,7 +86,7 @@ impl Served {
         self.tells(rt, opened)
     }
 
-    /// Prints what a request opened, and all that was sent.
+    /// Prints what a request opened, and the bytes sent.
     fn tells(&self, rt: &HostRuntime, opened: Opened) -> Result<()> {
         let mut text = String::new(self.alloc);
         append_bytes(&mut text, &self.out)?;

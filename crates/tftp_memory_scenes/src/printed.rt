@@ -1,23 +1,22 @@
-//! How the scenes print calls, answers and bytes.
+//! How the scenes print calls, results and bytes.
 
 use anyhow::Result;
 use std::alloc::AllocError;
 
-/// Announces the call that is made next. The colon at the end is the mark behind which requests for
-/// memory count.
+/// Announces the next call. Allocations count from the colon at the end.
 pub(crate) fn announce(rt: &HostRuntime, call: &str) -> Result<()> {
     let line = format!(in rt.alloc(); "{call}:\n")?;
     rt.print(line.as_str())?;
     Ok(())
 }
 
-/// Says that the call has returned, which ends the counting, and takes no memory.
+/// Reports that the call has returned, which ends the counting. It allocates no memory.
 pub(crate) fn has_returned(rt: &HostRuntime) -> Result<()> {
     rt.print("= ")?;
     Ok(())
 }
 
-/// Says that a call was out of memory, and whether all is as before.
+/// Reports that a call was out of memory, and whether the state is unchanged.
 pub(crate) fn was_refused(rt: &HostRuntime, before: &str, after: &str) -> Result<()> {
     if before == after {
         println!(rt; "out of memory, all as before")?;
@@ -27,8 +26,8 @@ pub(crate) fn was_refused(rt: &HostRuntime, before: &str, after: &str) -> Result
     Ok(())
 }
 
-/// Appends bytes as hexadecimal digits, more than eight of a kind in a row as `[61*512]`; no bytes as
-/// a dash.
+/// Appends bytes as hexadecimal digits, more than eight equal bytes in a row as `[61*512]`, and no
+/// bytes as a dash.
 pub(crate) fn append_bytes(text: &mut String, bytes: &[u8]) -> Result<(), AllocError> {
     if bytes.is_empty() {
         return text.push('-');
@@ -46,7 +45,7 @@ pub(crate) fn append_bytes(text: &mut String, bytes: &[u8]) -> Result<(), AllocE
     append_run(text, last, count)
 }
 
-/// Appends a byte so many times.
+/// Appends a byte `count` times.
 fn append_run(text: &mut String, byte: u8, count: usize) -> Result<(), AllocError> {
     if count > 8 {
         return write!(text, "[{byte:02x}*{count}]");

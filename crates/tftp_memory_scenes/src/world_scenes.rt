@@ -1,5 +1,5 @@
-//! Scenes of a world: an ACK that comes three times, two writes that race for one name, and a read
-//! that finds the server busy.
+//! Scenes of a world: an ACK that arrives three times, two writes that race for one name, and a
+//! read at a busy server.
 
 ghost use Rattle.std.specs.Prelude.{IfOk, IfSome};
 ghost use Rattle.tftp_player.specs.Arriving.{IsPlayable};
@@ -14,21 +14,21 @@ use tftp_player::{Event, Report, World, WorldFault};
 use tftp_server::Config;
 use tftp_wire::{Bytes, Mode};
 
-/// What a scene does next.
+/// A move of a scene.
 #[derive(Clone, Copy)]
 enum Move {
-    /// A client asks for the file `a`.
+    /// A client requests to read the file `a`.
     Get,
-    /// A client asks to write this byte under the name `n`.
+    /// A client requests to write a file `n` of this byte.
     Put(u8),
-    /// The datagram of this place is delivered.
+    /// The datagram at this index is delivered.
     Deliver(usize),
-    /// The scene shows its file as it is.
+    /// The scene prints its file.
     Look,
 }
 
 impl Move {
-    /// The words that announce it.
+    /// The words that announce the move.
     fn words(self, alloc: Global) -> Result<String, AllocError> {
         match self {
             Move::Get => String::from_str(alloc, "get a"),
@@ -38,7 +38,7 @@ impl Move {
         }
     }
 
-    /// The event that happens, if one does.
+    /// The event of the move, if it has one.
     fn event(self, alloc: Global) -> Result<Option<Event>, AllocError>
         ensures playable { IfOk result (λ found. IfSome found (λ event. IsPlayable event)) }
     {
@@ -60,7 +60,7 @@ impl Move {
     }
 }
 
-/// RRQ, DATA 1, ACK 1, DATA 2; the ACK comes twice more, and brings nothing (RFC 1123, section
+/// RRQ, DATA 1, ACK 1, DATA 2; the ACK arrives twice more, and is ignored (RFC 1123, section
 /// 4.2.3.1).
 static REPEATED_ACK: [Move; 6] = [
     Move::Get,
@@ -71,7 +71,7 @@ static REPEATED_ACK: [Move; 6] = [
     Move::Deliver(2),
 ];
 
-/// Two writes of one name: the first commit has it, and the other is refused (RFC 1350, appendix
+/// Two writes of one name: the first commit succeeds, and the other is refused (RFC 1350, appendix
 /// I).
 static RACE: [Move; 13] = [
     Move::Put(0x41),
@@ -89,7 +89,8 @@ static RACE: [Move; 13] = [
     Move::Look,
 ];
 
-/// Two clients ask a server of one transfer. The second finds it busy, and gives up.
+/// Two clients request a read from a server with one slot. The server refuses the second as busy,
+/// and that client closes.
 static BUSY: [Move; 5] = [
     Move::Get,
     Move::Get,
@@ -98,7 +99,7 @@ static BUSY: [Move; 5] = [
     Move::Deliver(3),
 ];
 
-/// A world, and the name and path of the file that is looked at.
+/// A world, and the name and path of the file that the scene prints.
 #[derive(Drop)]
 struct Played {
     alloc: Global,
@@ -122,14 +123,14 @@ pub(crate) fn play_race(rt: &HostRuntime) -> Result<()> {
     play(rt, 16, bytes, "n", &RACE)
 }
 
-/// Two gets at a server that holds one transfer.
+/// Two gets at a server with one slot.
 pub(crate) fn play_busy(rt: &HostRuntime) -> Result<()> {
     println!(rt; "a busy server")?;
     let bytes = Vec::from_slice(rt.alloc(), b"ABC")?;
     play(rt, 1, bytes, "a", &BUSY)
 }
 
-/// Plays a scene of a world whose file `a` has these bytes, and prints all that then stands.
+/// Runs a scene of a world whose file `a` has these bytes, and prints the state after it.
 fn play(
     rt: &HostRuntime,
     cap: u8,
@@ -158,7 +159,7 @@ fn play(
 }
 
 impl Played {
-    /// What the scene does next is done, and again where it found no memory.
+    /// Makes the next move, and again if it was out of memory.
     fn does(&mut self, rt: &HostRuntime, next: Move) -> Result<()> {
         let Some(event) = next.event(self.alloc)? else {
             let file = self.file()?;
@@ -178,7 +179,7 @@ impl Played {
         }
     }
 
-    /// The same once more.
+    /// Makes the same move again.
     fn does_again(&mut self, rt: &HostRuntime, next: Move) -> Result<()> {
         match next.event(self.alloc)? {
             Some(event) => tells(rt, self.world.apply(event)?),
@@ -186,7 +187,7 @@ impl Played {
         }
     }
 
-    /// The file as it is.
+    /// The file.
     fn file(&self) -> Result<String> {
         let mut text = format!(in self.alloc; "{} ", self.name)?;
         match self.world.file(&self.path) {
@@ -196,7 +197,8 @@ impl Played {
         Ok(text)
     }
 
-    /// All that the world shows: what was sent, each end and what it stored, the file.
+    /// The visible state of the world: the datagrams sent, each end and the bytes that it stored,
+    /// the file.
     fn seen(&self) -> Result<String> {
         let mut text = String::new(self.alloc);
         for (place, sent) in self.world.sent().iter().enumerate() {
@@ -212,7 +214,7 @@ impl Played {
         Ok(text)
     }
 
-    /// Appends an end, and what it stored.
+    /// Appends an end, and the bytes that it stored.
     fn append_end(&self, text: &mut String, port: u16, record: &Record) -> Result<()> {
         write!(text, "{port} {record:?}")?;
         if let Some(stored) = self.world.stored(port) {
@@ -227,7 +229,7 @@ impl Played {
     }
 }
 
-/// Prints what an event did.
+/// Prints the report of an event.
 fn tells(rt: &HostRuntime, report: Report) -> Result<()> {
     match (report.added, report.closed) {
         (Some(place), Some((port, outcome))) => {
