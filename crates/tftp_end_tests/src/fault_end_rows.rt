@@ -38,8 +38,7 @@ const DATA: [&[u8]; 5] = [
     b"\x00\x03\x00\x05eeee",
 ];
 
-/// An end that has agreed on blocks of eight bytes, with a source that gives the first `give` bytes
-/// of the file and then ends or fails.
+/// A server's end with blocks of eight bytes, whose source ends or fails after `give` bytes.
 fn faulty(
     rt: &impl Abort,
     alloc: Global,
@@ -129,7 +128,7 @@ fn a_read_of_twenty_bytes_breaks_off(rt: HostRuntime) {
     breaks_off(&rt, rt.alloc(), &FILE[..20], 2, 16, false);
 }
 
-/// A server's end that has agreed on blocks of eight bytes, and receives.
+/// A server's end that receives blocks of eight bytes.
 fn receiver(rt: &impl Abort, alloc: Global) -> End
     ensures { is_sender result.role.side ≡ false }
 {

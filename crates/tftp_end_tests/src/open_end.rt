@@ -45,7 +45,7 @@ pub(crate) const EIGHT: Asked = Asked {
     tsize: None,
 };
 
-/// The capacity of a sink: more bytes than any file of the tests has.
+/// The capacity of a sink: more than the longest file of the tests.
 const ROOM: u64 = 1_000_000;
 
 /// An end, its file, its last step, and the datagram of that step.
@@ -146,7 +146,7 @@ pub(crate) fn writer<S: Source + Drop>(
     }
 }
 
-/// The options that a server agrees to for a read request, with a file of this length.
+/// The options agreed for a read request, with a file of this length.
 pub(crate) fn agreed_of(rt: &impl Abort, request: &[u8], length: u64) -> Agreed {
     let Some(PacketRef::Read(asks)) = decode_packet(request) else {
         panic!(rt; "a request to read");
@@ -264,17 +264,14 @@ impl<S: Source + Drop> OpenEnd<S> {
         (end, files)
     }
 
-    /// The end.
     pub(crate) fn as_end(&self) -> &End {
         &self.end
     }
 
-    /// The record of the end.
     pub(crate) fn record(&self) -> Record {
         self.end.record()
     }
 
-    /// The last step.
     pub(crate) fn step(&self) -> Step {
         self.step
     }

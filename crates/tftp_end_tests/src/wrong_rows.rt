@@ -143,8 +143,7 @@ fn malformed_each_state(rt: HostRuntime) {
 /// 36 letters: four full blocks of eight bytes, and one of four bytes.
 const LETTERS: &[u8] = b"ABCDEFGHIJKLMNOPQRSTUVWXYZabcdefghij";
 
-/// A client that writes the letters, from a source that gives the first `give` bytes and then ends
-/// or fails.
+/// A client that writes the letters, from a source that ends or fails after `give` bytes.
 fn faulty(rt: &impl Abort, alloc: Global, give: u64, fail: bool) -> OpenEnd<FaultSource> {
     let source = FaultSource::new(alloc, LETTERS, Mode::Octet, give, fail).expect(rt, "memory");
     writer(rt, alloc, &EIGHT, &CONFIG, 36, source)

@@ -14,7 +14,7 @@ use Rattle.tftp_ends.specs.Text.{begins_netascii, ends_in_cr, is_readable}
 use Rattle.tftp_ends.specs.Sound.{HeldFits}
 use Rattle.tftp_ends.specs.Step.{Done}
 
--- a byte that travels as itself
+-- a byte that is encoded as itself
 plain_begins : (b : ℕ) (rest : List ℕ) → (b == 10) ≡ false → (b == 13) ≡ false → begins_netascii (b ∷ rest) ≡ begins_netascii rest
 plain_begins b [] n m = rw n
 plain_begins b (c ∷ rest) n m = rw (m, n)

@@ -25,11 +25,11 @@ use Rattle.tftp_ends.specs.declared.action.Response.TheVariants.{Refuse, Accept}
 use Rattle.tftp_ends.specs.Sender.{peer_error}
 use Rattle.tftp_ends.specs.Receiver.{receiver_action}
 
--- the terms without options: the first answer is DATA 1 or ACK 0
+-- the terms after DATA 1 or ACK 0 as first answer
 abbrev pub default_terms : Endpoint → Terms
 default_terms peer = record { peer = peer; size = DEFAULT_BLOCK; timeout = None; by_oack = false }
 
--- the terms with these options: the first answer is an OACK
+-- the terms after an OACK of these options
 abbrev pub agreed_terms : Endpoint → List Known → Terms
 agreed_terms peer agreed =
     record { peer = peer; size = size agreed; timeout = timeout_of agreed; by_oack = true }

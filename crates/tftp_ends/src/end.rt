@@ -238,14 +238,12 @@ impl End {
         }
     }
 
-    /// Whether the end is closed.
     fn is_closed(&self) -> bool
         ensures { result ≡ is_some (outcome_of self.now.position.phase) }
     {
         self.outcome().is_some()
     }
 
-    /// The phase of the end.
     fn phase(&self) -> Phase
         ensures { result ≡ self.now.position.phase }
     {

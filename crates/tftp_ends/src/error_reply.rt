@@ -22,7 +22,7 @@ pub enum ErrorReply {
     DiskFull,
     /// A packet that is not valid in this state.
     IllegalOperation,
-    /// A datagram from another port than the peer's.
+    /// A datagram from an endpoint other than the peer.
     UnknownTransferId,
     /// A file with this name exists.
     FileExists,

@@ -40,7 +40,7 @@ pub enum Dally {
 ///   serve_write ────────────────────> Receiving                   v
 ///   serve_read ─────────────────────> Sending ──last ACK──────> Closed
 ///
-///   any ──ERROR, timeout, fault──> Closed
+///   any ──ERROR, no retry left, fault──> Closed
 /// ```
 #[derive(Clone, Copy, Debug)]
 pub enum Phase {

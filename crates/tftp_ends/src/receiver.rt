@@ -85,8 +85,7 @@ fn data_action(
     next_action(mode, decoder, terms, number, bytes)
 }
 
-/// How a receiver handles a packet, with `stored` blocks stored and the text that `decoder` holds
-/// back.
+/// How a receiver that has stored `stored` blocks handles a packet.
 pub(crate) fn receiver_action(
     side: Side,
     mode: Mode,

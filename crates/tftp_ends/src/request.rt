@@ -45,8 +45,7 @@ pub(crate) fn may_get(name: &[u8], mode: Mode, asked: &Asked) -> bool
     asked.is_for(Kind::Read, mode, 0) && is_packet(name, mode, asked)
 }
 
-/// Whether this write request is allowed for a file of that length. It does not test whether the
-/// blocks can be numbered.
+/// Whether this write request is allowed. It does not test whether the blocks can be numbered.
 pub(crate) fn may_ask_put(name: &[u8], mode: Mode, asked: &Asked, length: u64) -> bool
     ensures { IsTrue result ↔ MayAskPut name.now mode asked.now length }
 {
@@ -54,7 +53,6 @@ pub(crate) fn may_ask_put(name: &[u8], mode: Mode, asked: &Asked, length: u64) -
     asked.is_for(Kind::Write, mode, length) && is_packet(name, mode, asked)
 }
 
-/// The request to read a file.
 pub(crate) fn read_request(
     alloc: Global,
     name: &[u8],
@@ -71,7 +69,6 @@ pub(crate) fn read_request(
     Ok(bytes)
 }
 
-/// The request to write a file.
 pub(crate) fn write_request(
     alloc: Global,
     name: &[u8],

@@ -27,7 +27,7 @@ pub(crate) fn can_be_numbered(length: u64, size: u16) -> bool
     length < 65_535 * u64::from(size)
 }
 
-/// The terms of a transfer without options: the first answer is DATA 1 or ACK 0.
+/// The terms after DATA 1 or ACK 0 as first answer.
 pub(crate) fn default_terms(peer: Endpoint) -> Terms
     ensures { result ≡ default_terms peer }
 {
@@ -39,7 +39,7 @@ pub(crate) fn default_terms(peer: Endpoint) -> Terms
     }
 }
 
-/// The terms of a transfer with these options: the first answer is an OACK.
+/// The terms after an OACK of these options.
 pub(crate) fn agreed_terms(peer: Endpoint, agreed: &Agreed) -> Terms
     ensures terms { result ≡ agreed_terms peer agreed.now }
     ensures positive { 0 < result.size }

@@ -113,7 +113,7 @@ fn play(alloc: Global, size: u16, file: &[u8]) -> Result<u16> {
     converse(server, &mut file, client, &mut copy)
 }
 
-/// The options that a server agrees to for a request, with a file of this length.
+/// The options agreed for a request, with a file of this length.
 fn answer(request: &[u8], length: u64) -> Result<Agreed> {
     match decode_ref(request) {
         Ok(PacketRef::Read(request)) => Ok(accept_ref(

@@ -17,7 +17,7 @@ const SIZES: [(u16, bool); 6] = [
     (65_535, false),
 ];
 
-/// Whether the block size may be requested in a read, may be requested at all, and is valid.
+/// Whether the block size may be requested, in a read and at all, and is valid.
 fn may_be_asked(rt: &impl Abort, size: u16, want: bool) {
     let asked = Asked {
         blksize: Some(size),

@@ -66,7 +66,7 @@ impl End {
         Outgoing::LastSent
     }
 
-    /// The capacity to reserve for the datagram that an action sends, in bytes.
+    /// The capacity to reserve for an action, in bytes.
     pub(crate) fn room(&self, action: Action) -> usize
         ensures { result ≡ room_of self.now action }
     {
@@ -79,7 +79,7 @@ impl End {
         }
     }
 
-    /// The capacity to reserve for the datagram that a response sends, in bytes.
+    /// The capacity to reserve for a response, in bytes.
     pub(crate) fn response_room(&self, response: Response) -> usize
         ensures { result ≡ response_room self.now response }
     {
@@ -90,8 +90,8 @@ impl End {
         }
     }
 
-    /// Carries out a response, and returns the datagram to send and its destination. It allocates
-    /// no memory.
+    /// Carries out a response. Returns the destination and the datagram to send. It allocates no
+    /// memory.
     pub(crate) fn respond(
         &mut self,
         response: Response,
@@ -138,8 +138,7 @@ impl End {
         }
     }
 
-    /// Carries out an action, and returns the datagram to send and its destination. `files` is used
-    /// only by an action that sends DATA or stores a block.
+    /// Carries out an action. Returns the destination and the datagram to send.
     pub(crate) fn act<S: Source, K: Sink>(
         &mut self,
         action: Action,

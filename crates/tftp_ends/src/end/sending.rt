@@ -79,8 +79,7 @@ pub(crate) fn read_data<S: Source>(
 }
 
 impl End {
-    /// Sends DATA of this number to the peer. If the source does not give the block, it sends an
-    /// ERROR and closes.
+    /// Sends DATA of this number, or an ERROR if the source does not give the block.
     pub(crate) fn send<S: Source>(
         &mut self,
         terms: Terms,

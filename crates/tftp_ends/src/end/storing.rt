@@ -57,7 +57,6 @@ fn commit_reply(fault: StoreFault) -> ErrorReply
     }
 }
 
-/// Commits the file.
 fn commit<K: Sink>(sink: &mut K) -> BlockStored
     ensures takes { StoresLast K.meaning sink.old sink.new result }
     ensures same { K.is_same sink.old sink.new }
@@ -166,8 +165,8 @@ fn store_piece<K: Sink>(
 }
 
 impl End {
-    /// Stores the received data and acknowledges it: the last block only after the file is
-    /// committed. If the sink refuses, it sends an ERROR and closes.
+    /// Stores the received data and acknowledges it: the last block only after the commit. If the
+    /// sink refuses, it sends an ERROR and closes.
     pub(crate) fn store<K: Sink>(
         &mut self,
         terms: Terms,
