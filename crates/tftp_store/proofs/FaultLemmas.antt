@@ -1,4 +1,4 @@
--- What is passed on to the source that a store below opened.
+-- Calls that are passed to the source that the inner store opened.
 use Rattle.std.proofs.Common.{◌≡◌, ℕ, ◌⊎◌, Bool, true, false, refl, inl, inr}
 use Rattle.tftp_file.specs.Source.{SourceMeaning, ReadsAhead}
 use Rattle.tftp_store.specs.FaultStore.{opened_meaning}
@@ -20,7 +20,7 @@ module _ {F : Type 0} (sources : SourceMeaning F) (before after : F) (h : ReadsA
   fails_still true all want = inl refl
   fails_still false all want = inr (h.fails (λ n. below n (all n)) want)
 
-  -- what is read ahead below leaves the source above it as it is
+  -- reading ahead below does not change the source above it
   pub reads_ahead : (fails : Bool) → ReadsAhead (opened_meaning sources) (record { source = before; fails = fails }) (record { source = after; fails = fails })
   reads_ahead fails = record {
     left = left_or_fails fails _ h.left;

@@ -1,4 +1,4 @@
--- What stands in files that were put in one by one.
+-- The content of files that are added one by one.
 use Rattle.std.proofs.Common.{◌≡◌, ℕ, Bool, true, false, List, [], ◌∷◌, ◌++◌, cond, refl, sym, ap, ◌∙◌}
 use Rattle.std.specs.Prelude.{not, ◌&&◌, Option, Some, None, is_some}
 use Rattle.std.proofs.lemmas.Map.Lookups.{exact_bytes}
@@ -16,12 +16,12 @@ equal_from_is_eq Less h = absurd (cc)
 equal_from_is_eq Equal h = refl
 equal_from_is_eq Greater h = absurd (cc)
 
--- a path that a look-up finds is the one that is looked up
+-- a path found by a lookup is the one that is looked up
 same_path : (path k : List ℕ) → is_at (path_cmp path) k ≡ true → path ≡ k
 same_path path k h = exact_bytes path k (equal_from_is_eq (path_cmp path k) h)
 
 module _ {X : Type 0} where
-  -- two answers of a look-up that cannot both be its answer change places
+  -- two results of a lookup that exclude each other can be exchanged
   swapped : (b d : Bool) (u v : X) (o : Option X) → (b ≡ true → d ≡ true → ⊥) → cond b (Some u) (cond d (Some v) o) ≡ cond d (Some v) (cond b (Some u) o)
   swapped true true u v o apart = absurd (apart refl refl)
   swapped true false u v o apart = refl
@@ -50,12 +50,12 @@ module _ {X : Type 0} where
           let both : Greater ≡ Equal = sym order ∙ moved ∙ equal in
           cc
 
-  -- a file that was put in is found at its path, and every other as before
+  -- an added file is found at its path, and every other file as before
   pub lookup-insert_entry : (path k : List ℕ) (v : X) (es : List (List ℕ × X)) → lookup (is_at (path_cmp path)) (insert_entry path_cmp es k v) ≡ cond (is_at (path_cmp path) k) (Some v) (lookup (is_at (path_cmp path)) es)
   lookup-insert_entry path k v [] = refl
   lookup-insert_entry path k v (e ∷ es) = inserted_at (path_cmp k e.0) path k v e es _ refl (lookup-insert_entry path k v es)
 
--- the first of two answers that is there
+-- the first of two results that is a file
 abbrev or_else : Option (List ℕ) → Option (List ℕ) → Option (List ℕ)
 or_else None other = other
 or_else (Some x) other = Some x
@@ -84,7 +84,7 @@ or_nothing : (o : Option (List ℕ)) → or_else o None ≡ o
 or_nothing None = refl
 or_nothing (Some x) = refl
 
--- the files of a list without a path twice are found as in the list
+-- the files of a list without a repeated path are found as in the list
 pub in_path_order-lookup : (path : List ℕ) (files : FileList) → has_distinct_paths files ≡ true → file_at path (in_path_order files) ≡ file_at path files
 in_path_order-lookup path files distinct = put_all-lookup path [] files distinct ∙ or_nothing (file_at path files)
 

@@ -1,15 +1,17 @@
--- A store in memory: how it is made, and when it refuses.
-use Rattle.std.specs.Prelude.{ℕ, ◌≡◌, Bool, true, false, not, ◌&&◌, ◌⊎◌, List, [], ◌∷◌, map, Some, None, is_some, ⊤}
+-- A store in memory: its construction, and the calls that it refuses.
+use Rattle.std.specs.Prelude.{ℕ, ◌≡◌, Bool, true, false, not, ◌&&◌, ◌⊎◌, List, [], ◌∷◌, map, Some}
+use Rattle.std.specs.Prelude.{None, is_some, ⊤}
 use Rattle.std.specs.declared.vec.Vec.{Vec}
 use Rattle.tftp_file.specs.declared.fault.StoreFault.{StoreFault}
 use Rattle.tftp_file.specs.declared.fault.StoreFault.TheVariants.{Missing, Exists, Full, Memory}
-use Rattle.tftp_store.specs.Store.{FileList, Stored, Drafted, StoreMeaning, file_at, is_taken, with_file}
+use Rattle.tftp_store.specs.Store.{FileList, Stored, Drafted, StoreMeaning, file_at, is_taken}
+use Rattle.tftp_store.specs.Store.{with_file}
 
 -- the files of a list, each with its bytes
 abbrev pub contents : {A : Type 0} → List (List ℕ × Vec ℕ A) → FileList
 contents files = map (λ e. (e.0, e.1.items)) files
 
--- the files put in one after the other, each at its place in the paths' order
+-- the files added one after another, each in the order of the paths
 abbrev pub put_all : FileList → FileList → FileList
 put_all held [] = held
 put_all held (e ∷ files) = put_all (with_file held e.0 e.1) files
@@ -18,39 +20,42 @@ put_all held (e ∷ files) = put_all (with_file held e.0 e.1) files
 abbrev pub in_path_order : FileList → FileList
 in_path_order files = put_all [] files
 
--- no path stands twice
+-- no path is repeated
 abbrev pub has_distinct_paths : FileList → Bool
 has_distinct_paths [] = true
 has_distinct_paths (e ∷ files) = not (is_some (file_at e.0 files)) && has_distinct_paths files
 
--- the store, told to refuse its next append or commit or told no more
+-- the store, set to refuse its next append or commit or not
 abbrev pub with_told : Stored → Bool → Stored
 with_told stored told = record stored { refuses = told }
 
--- an opening fails where there is no such file, or when out of memory
+-- an opening fails if there is no such file, or when out of memory
 abbrev pub MayRefuseOpen : Stored → List ℕ → StoreFault → Type 0
 MayRefuseOpen stored path Missing = file_at path stored.files ≡ None
 MayRefuseOpen stored path Memory = ⊤
 MayRefuseOpen stored path _ = ⊥
 
--- a draft is refused where there is such a file, which is not to be replaced
+-- a draft is refused if there is such a file, which is not to be replaced
 abbrev pub MayRefuseBegin : Stored → List ℕ → Bool → StoreFault → Type 0
 MayRefuseBegin stored path replace Exists = is_taken replace path stored.files ≡ true
 MayRefuseBegin stored path replace _ = ⊥
 
--- an append fails as it was told, or when out of memory
+-- an append fails if set to, or when out of memory
 abbrev pub MayRefuseAppend : Stored → Drafted → List ℕ → StoreFault → Type 0
 MayRefuseAppend stored draft bytes Full = stored.refuses ≡ true
 MayRefuseAppend stored draft bytes Memory = stored.refuses ≡ false
 MayRefuseAppend stored draft bytes _ = ⊥
 
--- a commit fails as it was told, where there is such a file, which is not to be replaced, or with Full when out of memory
+-- a commit fails if set to, if there is such a file, which is not to be replaced, or with Full when
+-- out of memory
 abbrev pub MayRefuseCommit : Stored → List ℕ → Drafted → Bool → StoreFault → Type 0
-MayRefuseCommit stored path draft replace Exists = (stored.refuses ≡ false) × (is_taken replace path stored.files ≡ true)
-MayRefuseCommit stored path draft replace Full = (stored.refuses ≡ true) ⊎ (is_taken replace path stored.files ≡ false)
+MayRefuseCommit stored path draft replace Exists =
+    (stored.refuses ≡ false) × (is_taken replace path stored.files ≡ true)
+MayRefuseCommit stored path draft replace Full =
+    (stored.refuses ≡ true) ⊎ (is_taken replace path stored.files ≡ false)
 MayRefuseCommit stored path draft replace _ = ⊥
 
--- what a store in memory tells of itself
+-- the model of a store in memory
 abbrev pub memory_meaning : StoreMeaning Stored Drafted
 memory_meaning =
     record {

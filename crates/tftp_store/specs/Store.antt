@@ -1,5 +1,6 @@
--- What a store and its drafts are, and what their calls leave.
-use Rattle.std.specs.Prelude.{ℕ, ◌≡◌, ◌+◌, min, Bool, true, false, not, ◌&&◌, List, [], length, Option, Some, None, IsSome, is_some, option_map, Result, Ok, Err, ⊤}
+-- The model of a store and its drafts, and the effect of the calls.
+use Rattle.std.specs.Prelude.{ℕ, ◌≡◌, ◌+◌, min, Bool, true, false, not, ◌&&◌, List, [], length}
+use Rattle.std.specs.Prelude.{Option, Some, None, IsSome, is_some, option_map, Result, Ok, Err, ⊤}
 use Rattle.std.specs.Cmp.Lexicographic.{slice_cmp}
 use Rattle.std.specs.Ordering.{nat_cmp}
 use Rattle.std.specs.declared.cmp.Ordering.{Ordering}
@@ -14,43 +15,43 @@ use Rattle.tftp_file.specs.declared.fault.StoreFault.TheVariants.{Missing, Exist
 use Rattle.tftp_file.specs.declared.length.TheConstants.{MAX_WIRE}
 use Rattle.tftp_store.specs.declared.store.Opening.{Opening}
 
--- files by path, in the paths' order
+-- files by path, in the order of the paths
 abbrev pub FileList : Type 0
 FileList = List (List ℕ × List ℕ)
 
--- what a store holds: its files, and whether it was told to refuse its next append or commit
+-- the content of a store: its files, and whether it is set to refuse its next append or commit
 pub record Stored : Type 0 where
   pub files : List (List ℕ × List ℕ)
   pub refuses : Bool
 
--- what a draft holds: its bytes, and whether they are committed
+-- the content of a draft: its bytes, and whether they are committed
 pub record Drafted : Type 0 where
   pub bytes : List ℕ
   pub committed : Bool
 
--- the meaning of stores of one type, whose drafts are of that type
+-- the model of the stores of one type, and of their drafts
 pub record StoreMeaning (S D : Type 0) : Type 1 where
-  -- its files, and whether its next append or commit was told to be refused, where it tells them
+  -- the content of the store, or None if it is not known
   pub stored : S → Option Stored
-  -- what a draft holds, where it tells it
+  -- the content of a draft, or None if it is not known
   pub drafted : D → Option Drafted
-  -- an opening of the path may answer this fault
+  -- an opening of the path may return this fault
   pub may_refuse_open : S → List ℕ → StoreFault → Type 0
   -- a draft of the path, to replace a file or not, may be refused with this fault
   pub may_refuse_begin : S → List ℕ → Bool → StoreFault → Type 0
-  -- what the beginning of a draft leaves of the store: of one that was refused with this fault, or of one that was not
+  -- the effect of the beginning of a draft on the store, if refused with this fault or not refused
   pub begun : S → S → Option StoreFault → Type 0
-  -- an append of these bytes may answer this fault
+  -- an append of these bytes may return this fault
   pub may_refuse_append : S → D → List ℕ → StoreFault → Type 0
-  -- a commit under the path, to replace a file or not, may answer this fault
+  -- a commit under the path, to replace a file or not, may return this fault
   pub may_refuse_commit : S → List ℕ → D → Bool → StoreFault → Type 0
 
--- the fault of an answer that has one
+-- the fault of a result, if any
 abbrev pub fault_in : {A : Type 0} → Result A StoreFault → Option StoreFault
 fault_in (Ok done) = None
 fault_in (Err fault) = Some fault
 
--- a draft as it begins
+-- a draft at its beginning
 abbrev pub new_draft : Drafted
 new_draft = record { bytes = []; committed = false }
 
@@ -70,61 +71,74 @@ with_file files path bytes = insert_entry path_cmp files path bytes
 abbrev pub is_taken : Bool → List ℕ → FileList → Bool
 is_taken replace path files = not replace && is_some (file_at path files)
 
--- how long a file is on the wire, or one more than any block size carries where it is longer
+-- the length of a file on the wire, or MAX_WIRE + 1 if it is longer
 abbrev pub measured : Mode → List ℕ → ℕ
 measured mode bytes = min (length (wire_text mode bytes)) (MAX_WIRE + 1)
 
 -- a store and one of its drafts, as a sink
 abbrev pub holding_of : Option Stored → Option Drafted → Option Holding
-holding_of (Some store) (Some draft) = Some (record { bytes = draft.bytes; committed = draft.committed; refuses = store.refuses })
+holding_of (Some store) (Some draft) =
+    Some (record { bytes = draft.bytes; committed = draft.committed; refuses = store.refuses })
 holding_of (Some store) None = None
 holding_of None draft = None
 
--- the files, where they are told
+-- the files, if they are known
 abbrev pub files_of : Option Stored → Option FileList
 files_of stored = option_map (λ s. s.files) stored
 
 module _ {F : Type 0} (sources : SourceMeaning F) where
-  -- a file was opened: its source has all of its wire text left
+  -- a file is opened: its source has all of its wire text left
   pub record IsOpening (mode : Mode) (bytes : List ℕ) (opening : Opening F) : Type 0 where
     pub source : sources.left opening.source ≡ Some (wire_text mode bytes)
     pub length : opening.length ≡ measured mode bytes
 
-  -- what an opening answers, by what the store holds; out of memory is the last refusal
+  -- the result of an opening, by the content of the store; out of memory is the last refusal
   abbrev pub Opens : Option Stored → List ℕ → Mode → Result (Opening F) StoreFault → Type 0
   Opens None path mode result = ⊤
-  Opens (Some stored) path mode (Ok opening) = (bytes : List ℕ) × (file_at path stored.files ≡ Some bytes) × IsOpening mode bytes opening
+  Opens (Some stored) path mode (Ok opening) =
+      (bytes : List ℕ) × (file_at path stored.files ≡ Some bytes) × IsOpening mode bytes opening
   Opens (Some stored) path mode (Err Missing) = file_at path stored.files ≡ None
   Opens (Some stored) path mode (Err Memory) = IsSome (file_at path stored.files)
   Opens (Some stored) path mode (Err _) = ⊤
 
 module _ {K : Type 0} (drafted : K → Option Drafted) where
-  -- what the beginning of a draft answers, by what the store holds; out of memory is the last refusal
+  -- the result of the beginning of a draft, by the content of the store; out of memory is the last
+  -- refusal
   abbrev pub Begins : Option Stored → Option Stored → List ℕ → Bool → Result K StoreFault → Type 0
   Begins None after path replace result = ⊤
   Begins (Some before) after path replace (Ok draft) =
-      (after ≡ Some before) × (is_taken replace path before.files ≡ false) × (drafted draft ≡ Some new_draft)
-  Begins (Some before) after path replace (Err Exists) = (after ≡ Some before) × (is_taken replace path before.files ≡ true)
-  Begins (Some before) after path replace (Err Memory) = (after ≡ Some before) × (is_taken replace path before.files ≡ false)
+      (after ≡ Some before) × (is_taken replace path before.files ≡ false)
+      × (drafted draft ≡ Some new_draft)
+  Begins (Some before) after path replace (Err Exists) =
+      (after ≡ Some before) × (is_taken replace path before.files ≡ true)
+  Begins (Some before) after path replace (Err Memory) =
+      (after ≡ Some before) × (is_taken replace path before.files ≡ false)
   Begins (Some before) after path replace (Err _) = after ≡ Some before
 
--- what a commit leaves of the files: on success the draft's bytes are the file at the path
-abbrev pub Puts : {A : Type 0} → Option Stored → Option Stored → Option Drafted → List ℕ → Bool → Result A StoreFault → Type 0
+-- the effect of a commit on the files: on success the draft's bytes are the file at the path
+abbrev pub Puts : {A : Type 0} → Option Stored → Option Stored → Option Drafted → List ℕ → Bool
+    → Result A StoreFault → Type 0
 Puts (Some before) after (Some draft) path replace (Ok done) =
-    (files_of after ≡ Some (with_file before.files path draft.bytes)) × (is_taken replace path before.files ≡ false)
+    (files_of after ≡ Some (with_file before.files path draft.bytes))
+    × (is_taken replace path before.files ≡ false)
 Puts before after draft path replace (Ok done) = ⊤
 Puts (Some before) after draft path replace (Err Exists) =
     (files_of after ≡ Some before.files) × (is_taken replace path before.files ≡ true)
 Puts before after draft path replace (Err _) = files_of after ≡ files_of before
 
--- what the store and its draft tell stays, and no more calls may be refused
-pub record WritesBehind {S D : Type 0} (stores : StoreMeaning S D) (before after : S) (draft draft' : D) : Type 0 where
+-- the content of the store and its draft is unchanged, and no more calls may be refused
+pub record WritesBehind {S D : Type 0} (stores : StoreMeaning S D) (before after : S)
+    (draft draft' : D) : Type 0 where
   pub stored : stores.stored after ≡ stores.stored before
   pub drafted : stores.drafted draft' ≡ stores.drafted draft
-  pub may_refuse_open : (path : List ℕ) (fault : StoreFault) → stores.may_refuse_open after path fault → stores.may_refuse_open before path fault
+  pub may_refuse_open : (path : List ℕ) (fault : StoreFault)
+      → stores.may_refuse_open after path fault → stores.may_refuse_open before path fault
   pub may_refuse_begin : (path : List ℕ) (replace : Bool) (fault : StoreFault)
-      → stores.may_refuse_begin after path replace fault → stores.may_refuse_begin before path replace fault
+      → stores.may_refuse_begin after path replace fault
+      → stores.may_refuse_begin before path replace fault
   pub may_refuse_append : (bytes : List ℕ) (fault : StoreFault)
-      → stores.may_refuse_append after draft' bytes fault → stores.may_refuse_append before draft bytes fault
+      → stores.may_refuse_append after draft' bytes fault
+      → stores.may_refuse_append before draft bytes fault
   pub may_refuse_commit : (path : List ℕ) (replace : Bool) (fault : StoreFault)
-      → stores.may_refuse_commit after path draft' replace fault → stores.may_refuse_commit before path draft replace fault
+      → stores.may_refuse_commit after path draft' replace fault
+      → stores.may_refuse_commit before path draft replace fault

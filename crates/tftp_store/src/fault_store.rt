@@ -1,4 +1,4 @@
-//! A store that fails at calls of its maker's choice.
+//! A store that injects faults at calls chosen by the caller.
 
 ghost use Rattle.std.specs.Prelude.{◌≡◌, Err, None, Some};
 ghost use Rattle.tftp_store.specs.FaultStore.{after_call, is_due, IsInjected};
@@ -9,14 +9,14 @@ use std::marker::Model;
 use tftp_file::{FileFault, Path, Source, StoreFault};
 use tftp_wire::Mode;
 
-/// A store over another one that is made to fail: what a full disk or a broken one does.
+/// A store over another one that injects faults, as a full or a broken disk does.
 ///
-/// Of its calls of `begin`, `append` and `commit` it refuses one, and passes on every other to the
-/// inner store. It may refuse every `open`, too, and the sources that it opens may fail. What it
-/// refuses changes neither the inner store nor a draft. A call that finds no memory is not counted.
+/// Of its calls of `begin`, `append` and `commit` it refuses one, and passes every other to the
+/// inner store. It may refuse every `open`, too, and the sources that it opens may fail. A refused
+/// call changes neither the inner store nor a draft. A call that is out of memory is not counted.
 ///
-/// It tells the inner store's files. That the inner store was told to refuse a call it does not
-/// tell: such a refusal is one of the faults that its calls may answer.
+/// Its model is the inner store's files. It does not include whether the inner store is set to
+/// refuse a call: such a refusal is one of the faults that its calls may return.
 #[derive(Drop)]
 pub struct FaultStore<S> {
     inner: S,
@@ -44,9 +44,9 @@ impl<S> Model for FaultStore<S> {
 
 impl<S> FaultStore<S> {
     /// A store over the inner one. Of the calls of `begin`, `append` and `commit` it refuses the
-    /// one numbered `at`, from 0, and no other; made to `refuse_open`, it refuses every `open`. A
-    /// call that it refuses answers `fault`, which is `Full` or `Io`. Made to `fail_fill`, every
-    /// `fill` of a source that it opens answers `Read`.
+    /// one numbered `at`, from 0, and no other. With `refuse_open` it refuses every `open`. A
+    /// refused call returns `fault`, which is `Full` or `Io`. With `fail_fill` every `fill` of a
+    /// source that it opens returns `Read`.
     pub fn new(
         inner: S,
         at: u64,
@@ -99,7 +99,7 @@ fn is_due(calls_left: Option<u64>) -> bool
     }
 }
 
-/// The count after a call that answered this; after the one that is refused nothing is counted.
+/// The count after a call with this result. After the refused call nothing is counted.
 fn after_call<A>(calls_left: Option<u64>, answer: &Result<A, StoreFault>) -> Option<u64>
     ensures { result ≡ after_call calls_left answer.now }
 {
@@ -235,8 +235,8 @@ impl<S: Store> Store for FaultStore<S> {
     }
 }
 
-/// A source that a [`FaultStore`] opened: it gives what the inner store's source gives, or it was
-/// made to fail, and then every `fill` answers `Read`.
+/// A source that a [`FaultStore`] opened: it reads from the inner store's source, or it is set to
+/// fail, and then every `fill` returns `Read`.
 #[derive(Drop)]
 pub struct OpenedSource<F> {
     source: F,
@@ -259,7 +259,7 @@ impl<F: Source> Source for OpenedSource<F> {
 
     ghost meaning = { opened_meaning F.meaning };
 
-    /// It stays made to fail, or made not to, and the inner store's source is the same.
+    /// Whether it is set to fail does not change, and the inner store's source is the same.
     ghost is_same = { λ s t. (t.fails ≡ s.fails) × F.is_same s.source t.source };
 
     ghost stays = { λ a. (refl, F.stays a.source) };

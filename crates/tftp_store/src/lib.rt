@@ -1,7 +1,7 @@
-//! Where a server's files are: a store of files, that are read as sources and written as drafts.
+//! The files of a server: a store, whose files are read as sources and written as drafts.
 //!
-//! Begin with [`Store`]; [`MemStore`] holds its files in memory, and [`FaultStore`] makes another
-//! fail.
+//! Begin with [`Store`]. [`MemStore`] keeps its files in memory, and [`FaultStore`] injects faults
+//! into another store.
 #![tactic(auto)]
 
 mod fault_store;

@@ -1,4 +1,4 @@
-//! A store that holds its files in memory.
+//! A store that keeps its files in memory.
 
 ghost use Rattle.std.specs.Prelude.{◌≡◌, IfOk, IfErr, option_copied, option_map, true, false, List};
 ghost use Rattle.std.specs.Prelude.{ℕ, OnOk, OnErr};
@@ -14,11 +14,10 @@ use tftp_file::{
 };
 use tftp_wire::Mode;
 
-/// A store in memory. Contracts see its files in the order of their paths, and whether it was told
-/// to refuse its next append or commit.
+/// A store in memory. Its model is its files in the order of their paths, and whether it is set to
+/// refuse its next append or commit.
 ///
-/// It holds each file once: the sources that it opens and a draft that was committed share the
-/// bytes of theirs.
+/// It keeps each file once: the sources that it opens and a committed draft share its bytes.
 #[derive(Drop)]
 pub struct MemStore {
     files: BTreeMap<Path, SharedBytes>,
@@ -34,8 +33,7 @@ impl Model for MemStore {
 }
 
 impl MemStore {
-    /// A store of these files, whose paths are distinct. It fails only when out of memory, with
-    /// `Memory`.
+    /// A store of these files, whose paths are distinct. It fails only with `Memory`.
     pub fn new(alloc: Global, files: Vec<(Path, Vec<u8>)>) -> Result<MemStore, StoreFault>
         requires { has_distinct_paths (contents files.items) ≡ true }
         ensures files { IfOk result (λ store. store.files ≡ in_path_order (contents files.items)) }
@@ -67,14 +65,14 @@ impl MemStore {
         }
     }
 
-    /// Tells the store to refuse its next append or commit with `Full`, or takes that back.
+    /// Sets whether the store refuses its next append or commit with `Full`.
     pub fn refuse_next(&mut self, told: bool)
         ensures { self.new ≡ with_told self.old told }
     {
         self.refuses_next = told;
     }
 
-    /// Whether the next append or commit was told to be refused.
+    /// Whether the store is set to refuse its next append or commit.
     pub fn refuses(&self) -> bool
         ensures { result ≡ self.now.refuses }
     {
@@ -82,7 +80,7 @@ impl MemStore {
     }
 }
 
-/// A file that is being written to a [`MemStore`]. Contracts see its bytes and whether they are
+/// A file that is being written to a [`MemStore`]. Its model is its bytes, and whether they are
 /// committed.
 #[derive(Debug, Drop)]
 pub struct MemDraft {
@@ -99,7 +97,7 @@ impl Model for MemDraft {
 }
 
 impl MemDraft {
-    /// The bytes that it holds.
+    /// The bytes of the draft.
     pub fn as_bytes(&self) -> &[u8]
         ensures { result.now ≡ self.now.bytes }
     {
@@ -196,7 +194,6 @@ fn in_path_order(
     Ok(held)
 }
 
-/// Adds a file.
 fn add(
     files: &mut BTreeMap<Path, SharedBytes>,
     path: Path,
@@ -209,7 +206,7 @@ fn add(
     Ok(())
 }
 
-/// Puts the bytes into the files, which share them. After a refusal the files are as before.
+/// Adds the bytes as a file, which shares them. After a fault the files are unchanged.
 fn put(
     files: &mut BTreeMap<Path, SharedBytes>,
     path: &Path,

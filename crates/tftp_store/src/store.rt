@@ -1,4 +1,4 @@
-//! Where a server's files are: they are read as sources, and written as drafts.
+//! The files of a server, which are read as sources and written as drafts.
 
 ghost use Rattle.std.specs.Prelude.{◌≡◌, ◌≢◌, Err, IfErr, IsErrOf};
 ghost use Rattle.tftp_file.specs.Sink.{Appends, Commits};
@@ -9,22 +9,20 @@ use std::alloc::Global;
 use tftp_file::{Path, Source, StoreFault};
 use tftp_wire::Mode;
 
-/// A file that was opened to be read.
+/// A file that is opened for reading.
 #[derive(Drop)]
 pub struct Opening<S> {
-    /// Gives its wire text.
+    /// The source of its wire text.
     pub source: S,
-    /// The length of that text in bytes, or one more than any block size can carry where it is
-    /// longer.
+    /// The length of that text in bytes, or `tftp_file::MAX_WIRE + 1` if it is longer.
     pub length: u64,
 }
 
 /// The files of a server: each is read as a source, or written as a draft and then committed.
 ///
-/// A store over memory tells what it holds; one over real files tells nothing, and then its calls
-/// promise only which answers they give. Some stores can be told to refuse their next append or
-/// commit: it answers `Full`, changes nothing else, and the store is told no more. Only a commit
-/// changes the files.
+/// A store over memory has a model. A store over real files has none, and then its calls promise
+/// only which results they return. Some stores can be set to refuse their next append or commit:
+/// it returns `Full`, clears the setting and changes nothing else. Only a commit changes the files.
 pub trait Store {
     /// A file that is read.
     type Source: Source + Drop;
@@ -32,15 +30,15 @@ pub trait Store {
     /// A file that is written and not yet committed.
     type Draft: Drop;
 
-    /// What it and its drafts hold (`stored`, `drafted`), which faults its calls may answer
-    /// (`may_refuse_open`, `may_refuse_begin`, `may_refuse_append`, `may_refuse_commit`), and what
-    /// the beginning of a draft leaves of it (`begun`).
+    /// The content of the store and of its drafts (`stored`, `drafted`), the faults that its calls
+    /// may return (`may_refuse_open`, `may_refuse_begin`, `may_refuse_append`,
+    /// `may_refuse_commit`), and the effect of the beginning of a draft (`begun`).
     ghost meaning: { StoreMeaning Self Self.Draft };
 
-    /// Opens the file to be read in the mode.
+    /// Opens the file for reading in the mode.
     ///
-    /// `Missing` if there is no such file; `Memory` only where there is one. Any other fault is one
-    /// of the store's own.
+    /// It returns `Missing` if there is no such file, and `Memory` only if there is one. Any other
+    /// fault is specific to the store.
     fn open(
         &self,
         alloc: Global,
@@ -50,10 +48,10 @@ pub trait Store {
         ensures opens { Opens Self.Source.meaning (meaning.stored self.now) path.now mode result }
         ensures refused { IfErr result (meaning.may_refuse_open self.now path.now) };
 
-    /// Begins a draft, which is empty. With `replace` there may be a file at the path.
+    /// Begins an empty draft. With `replace` there may be a file at the path.
     ///
-    /// `Exists` if there is one that is not to be replaced; `Memory` only where that is not so, and
-    /// then the store is as it was.
+    /// It returns `Exists` if there is one that is not to be replaced, and `Memory` only if not;
+    /// then the store is unchanged.
     fn begin(
         &mut self,
         alloc: Global,
@@ -66,10 +64,10 @@ pub trait Store {
         ensures begun { meaning.begun self.old self.new (fault_in result) }
         ensures memory { IsErrOf result StoreFault.Memory → self.new ≡ self.old };
 
-    /// Puts the bytes at the end of a draft.
+    /// Appends the bytes to a draft.
     ///
-    /// After `Memory` nothing has changed. After another fault some first of the bytes may have
-    /// been added, and none before them has gone.
+    /// After `Memory` nothing has changed. After another fault a beginning of the bytes may be
+    /// appended, and no earlier byte is lost.
     fn append(&mut self, draft: &mut Self::Draft, bytes: &[u8]) -> Result<(), StoreFault>
         ensures appends { Appends
             (holding_of (meaning.stored self.old) (meaning.drafted draft.old))
@@ -80,11 +78,12 @@ pub trait Store {
         ensures memory { IsErrOf result StoreFault.Memory → (self.new ≡ self.old)
             × (draft.new ≡ draft.old) };
 
-    /// Makes what a draft holds the file at the path, for good. With `replace` it takes the place
-    /// of one that is there.
+    /// Makes the content of a draft the file at the path, permanently. With `replace` it replaces
+    /// an existing file.
     ///
-    /// `Exists` if there is one by now that is not to be replaced; what the store was told to
-    /// refuse goes before. After a fault no file and no byte has changed. Out of memory is `Full`.
+    /// It returns `Exists` if there is one by now that is not to be replaced; a refusal that the
+    /// store is set to precedes that. Out of memory it returns `Full`. After a fault no file and no
+    /// byte has changed.
     fn commit(
         &mut self,
         path: &Path,
@@ -100,11 +99,10 @@ pub trait Store {
             (meaning.may_refuse_commit self.old path.now draft.old replace) }
         ensures not_memory { result ≢ Err StoreFault.Memory };
 
-    /// Writes what the draft holds back, while its caller has nothing else to do. Most stores do
-    /// nothing.
+    /// Writes the buffered bytes of the draft, while its caller is idle. Most stores do nothing.
     ///
-    /// Neither the files nor the draft change, and no more calls may be refused than before: where
-    /// it fails to write, a later append or commit of the draft is refused.
+    /// Neither the files nor the draft change, and no more calls may be refused than before. If it
+    /// fails to write, a later append or commit of the draft is refused.
     fn write_behind(&mut self, draft: &mut Self::Draft)
         ensures { WritesBehind meaning self.old self.new draft.old draft.new }
     {}

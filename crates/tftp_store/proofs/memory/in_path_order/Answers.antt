@@ -1,4 +1,4 @@
--- One more file is put in its place among those before it.
+-- One more file is inserted among those before it.
 use Rattle.std.proofs.Common.{ap, sym, ◌∙◌}
 use Rattle.tftp_store.specs.Store.{with_file}
 use Rattle.tftp_store.proofs.MemoryLemmas.{in_path_order-push}

@@ -1,4 +1,4 @@
--- The files before the place stand in path order.
+-- The files before the index are in path order.
 use Rattle.std.proofs.Common.{◌≡◌}
 use Rattle.tftp_store.specs.Memory.{contents, in_path_order}
 use Rattle.tftp_store.proofs.memory.in_path_order.Given as goal

@@ -1,4 +1,4 @@
--- What is read ahead below leaves the source above it as it is.
+-- Reading ahead below does not change the source above it.
 use Rattle.tftp_store.proofs.FaultLemmas.{reads_ahead}
 use Rattle.tftp_store.proofs.fault_store.OpenedSourceSource.read_ahead.Goals as goal
 

@@ -1,4 +1,4 @@
--- A file is found among the files in path order as among those handed in.
+-- A file is found among the files in path order as in the given list.
 use Rattle.std.proofs.Common.{ap, ◌∙◌}
 use Rattle.tftp_store.specs.Store.{file_at}
 use Rattle.tftp_store.specs.Memory.{contents}
