@@ -9,7 +9,7 @@ use Rattle.tftp_wire.specs.declared.packet.Packet.TheVariants.{Read, Write, Data
 use Rattle.tftp_wire.specs.declared.packet.Request.{Request}
 use Rattle.tftp_wire.specs.Modes.{mode_word}
 
--- a digit below 16, in lower case
+-- a hexadecimal digit, in lower case
 abbrev pub hex_digit : ℕ → ℕ
 hex_digit d = if nat_lt d 10 then 48 + d else 87 + d
 

@@ -54,7 +54,7 @@ BeginsWith bytes text rest =
     (texts bytes ≡ text ∷ texts rest) × (unended bytes ≡ unended rest)
     × (length bytes ≡ length text + 1 + length rest)
 
--- the first text of the bytes and the bytes after it, or the fault that no text ends
+-- the first text of the bytes and the bytes after it, or the fault if no zero byte ends a text
 abbrev pub SplitsText : ℕ → List ℕ → Result (Bor (List ℕ) × Bor (List ℕ)) PacketFault → Type 0
 SplitsText at bytes (Ok parts) = BeginsWith bytes parts.0.now parts.1.now
 SplitsText at bytes (Err e) =

@@ -46,7 +46,7 @@ mode_in word =
     else if str_eq_ignore_ascii_case word (codes "netascii") then Some Netascii
     else None
 
--- of options, by their texts from an offset on and the bytes that no zero byte ends
+-- the first fault of options, by their texts from an offset on and the bytes after the last zero
 abbrev pub options_fault : ℕ → List (List ℕ) → List ℕ → Option PacketFault
 options_fault at [] [] = None
 options_fault at [] (b ∷ rest) = fault_at kinds.Unterminated at
@@ -57,7 +57,7 @@ options_fault at ((c ∷ name) ∷ []) (b ∷ rest) =
 options_fault at ((c ∷ name) ∷ value ∷ others) rest =
     options_fault (at + (length (c ∷ name) + 1) + (length value + 1)) others rest
 
--- of the part of a request after its file name, which begins at an offset
+-- the first fault of a request after its file name, from an offset on
 abbrev pub mode_fault : ℕ → List (List ℕ) → List ℕ → Option PacketFault
 mode_fault at [] rest = fault_at kinds.Unterminated at
 mode_fault at (word ∷ others) rest =
@@ -65,25 +65,25 @@ mode_fault at (word ∷ others) rest =
     row (is_none (mode_in word)) kinds.Mode at
     ∷ []) (options_fault (at + (length word + 1)) others rest)
 
--- of the texts of a request
+-- the first fault of the texts of a request
 abbrev pub texts_fault : List (List ℕ) → List ℕ → Option PacketFault
 texts_fault [] rest = fault_at kinds.Unterminated 2
 texts_fault ([] ∷ others) rest = fault_at kinds.EmptyName 2
 texts_fault ((c ∷ name) ∷ others) rest = mode_fault (2 + (length (c ∷ name) + 1)) others rest
 
--- of a request
+-- the first fault of a request
 abbrev pub request_fault : List ℕ → Option PacketFault
 request_fault bytes = first_row (
     too_long MAX_REQUEST bytes
     ∷ []) (texts_fault (texts (drop 2 bytes)) (unended (drop 2 bytes)))
 
--- of the number after the opcode
+-- the first fault of the number after the opcode
 abbrev pub number_fault : List ℕ → Option PacketFault
 number_fault bytes = first_row (
     too_short bytes
     ∷ []) None
 
--- of a DATA
+-- the first fault of a DATA
 abbrev pub data_fault : List ℕ → Option PacketFault
 data_fault bytes = first_row (
     too_long MAX_DATA bytes
@@ -91,35 +91,35 @@ data_fault bytes = first_row (
     ∷ row (big_number 2 (drop 2 bytes) == 0) kinds.BlockZero 2
     ∷ []) None
 
--- of an ACK
+-- the first fault of an ACK
 abbrev pub ack_fault : List ℕ → Option PacketFault
 ack_fault bytes = first_row (
     too_short bytes
     ∷ row (nat_lt 4 (length bytes)) kinds.Trailing 4
     ∷ []) None
 
--- of the text of an ERROR
+-- the first fault of the text of an ERROR
 abbrev pub message_fault : List (List ℕ) → List ℕ → Option PacketFault
 message_fault [] rest = fault_at kinds.Unterminated 4
 message_fault (text ∷ []) [] = None
 message_fault (text ∷ []) (b ∷ rest) = fault_at kinds.Trailing (4 + (length text + 1))
 message_fault (text ∷ other ∷ others) rest = fault_at kinds.Trailing (4 + (length text + 1))
 
--- of an ERROR
+-- the first fault of an ERROR
 abbrev pub error_fault : List ℕ → Option PacketFault
 error_fault bytes = first_row (
     too_long MAX_REQUEST bytes
     ∷ too_short bytes
     ∷ []) (message_fault (texts (drop 4 bytes)) (unended (drop 4 bytes)))
 
--- of an OACK
+-- the first fault of an OACK
 abbrev pub oack_fault : List ℕ → Option PacketFault
 oack_fault bytes = first_row (
     too_long MAX_REQUEST bytes
     ∷ row (length bytes == 2) kinds.EmptyOack 2
     ∷ []) (options_fault 2 (texts (drop 2 bytes)) (unended (drop 2 bytes)))
 
--- of a datagram with this opcode
+-- the first fault of a datagram with this opcode
 abbrev pub opcode_fault : ℕ → List ℕ → Option PacketFault
 opcode_fault opcode bytes =
     if opcode == 1 then request_fault bytes
@@ -130,7 +130,7 @@ opcode_fault opcode bytes =
     else if opcode == 6 then oack_fault bytes
     else fault_at kinds.Opcode 0
 
--- of a datagram; none if it spells a packet
+-- the first fault of a datagram; none if it spells a packet
 abbrev pub first_fault : List ℕ → Option PacketFault
 first_fault bytes = first_row (
     row (nat_lt (length bytes) 2) kinds.Short 0

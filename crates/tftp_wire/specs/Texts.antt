@@ -10,7 +10,7 @@ IsText bytes = AllByRecursion (λ b. b ≢ 0) bytes
 abbrev pub zero_ended : List ℕ → List ℕ
 zero_ended text = text ++ 0 ∷ []
 
--- the byte before the first text, if there is one
+-- the byte is prepended to the first text, if there is one
 abbrev pub with_first : ℕ → List (List ℕ) → List (List ℕ)
 with_first b [] = []
 with_first b (text ∷ others) = (b ∷ text) ∷ others
