@@ -149,7 +149,7 @@ abbrev pub AnswersAsked : Asked → Kind → Mode → ℕ → RawOption → Type
 AnswersAsked asked kind mode limit o =
     (one : Name) × (n : ℕ) × Says o one n × IsWithinAsked asked kind mode limit (known_of one n)
 
--- an OACK of such answers only, none of them repeated, is accepted, with each of them
+-- an OACK of such answers only, none of them repeated, is accepted, and each is agreed
 abbrev pub TakesWhatWasAsked : Type 0
 TakesWhatWasAsked = (asked : Asked) (kind : Kind) (mode : Mode) (options : List RawOption)
     (limit : ℕ) → AreOnce options → AllByRecursion (AnswersAsked asked kind mode limit) options

@@ -9,9 +9,9 @@ use crate::limits::DEFAULT_BLOCK;
 use arrayvec::ArrayVec;
 use std::marker::Model;
 
-/// The agreed options, in the order of the packet that they were agreed from, each at most once and
-/// with a value in its range (RFC 2347, "Negotiation Protocol"). Without options, the defaults of
-/// RFC 1350 apply. Its model is the list.
+/// The agreed options, in the order of the request or the OACK, each at most once and with a value
+/// in its range (RFC 2347, "Negotiation Protocol"). Without options the defaults of RFC 1350 apply.
+/// Its model is the list.
 #[derive(Debug, Drop)]
 pub struct Agreed {
     list: ArrayVec<Known, 3>,

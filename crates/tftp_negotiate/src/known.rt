@@ -39,7 +39,7 @@ impl Known {
         }
     }
 
-    /// The value, which a packet has in decimal digits.
+    /// The value, which a packet states in decimal digits.
     pub fn value(self) -> u64
         ensures { result ≡ value_of_known self }
     {

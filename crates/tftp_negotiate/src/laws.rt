@@ -29,8 +29,8 @@ pub fn takes_nothing_unasked()
 {}
 
 /// If no option is repeated, a server answers each known option that the request may have, unless
-/// it refuses a write as too large. A client accepts an OACK of answers within its request, with
-/// each of them. So neither end drops an option.
+/// it refuses a write as too large. A client accepts an OACK of answers within its request, and
+/// agrees to each. So neither end drops an option.
 pub fn drops_nothing()
     ensures answered { AnswersWhatIsKnown }
     ensures too_large { TooLargeForWrites }
