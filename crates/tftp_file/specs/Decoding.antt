@@ -77,7 +77,7 @@ Refuses text LoneLf = IsWrong text LoneLf
 Refuses text EndsInCr = ⊥
 Refuses text Memory = BeginsWireText text
 
--- the pieces are decoded in order: the host bytes that they give, and the bytes held back after all
+-- the pieces are decoded in order: they give the host bytes, and the bytes held back after them
 abbrev pub TakesAll : List ℕ → List (List ℕ) → List ℕ → List ℕ → Type 0
 TakesAll held [] bytes after = (bytes ≡ []) × (after ≡ held)
 TakesAll held (piece ∷ pieces) bytes after = (first : List ℕ) × (between : List ℕ) × (rest : List ℕ)
