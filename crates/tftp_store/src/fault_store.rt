@@ -89,7 +89,7 @@ impl<S> FaultStore<S> {
     }
 }
 
-/// Whether the next call is the one that is refused.
+/// Whether the next call is the refused one.
 fn is_due(calls_left: Option<u64>) -> bool
     ensures { result ≡ is_due calls_left }
 {

@@ -50,8 +50,8 @@ pub trait Store {
 
     /// Begins an empty draft. With `replace` there may be a file at the path.
     ///
-    /// It returns `Exists` if there is one that is not to be replaced, and `Memory` only if not;
-    /// then the store is unchanged.
+    /// It returns `Exists` if there is one that is not to be replaced. Otherwise it may return
+    /// `Memory`, and then the store is unchanged.
     fn begin(
         &mut self,
         alloc: Global,
