@@ -14,7 +14,7 @@ use Rattle.tftp_ends.specs.OtherSinks.{source_step_as, sink_step_as}
 use Rattle.tftp_ends.specs.Step.{Turn, DatagramStep, told}
 use Rattle.tftp_server.specs.Steps.{Gives, MakesStep}
 
--- what is behind a borrowed source, and a borrowed sink, at the end of the borrow
+-- the value of a borrowed source, and of a borrowed sink, at the end of the borrow
 pub source_back : {S K : Type 0} (same : S → S → Type 0) (same_sink : K → K → Type 0) (first second : MutBor S) (files : Files (MutBor S) K) (last : S) →
     files ≡ Source second → AreSame (λ s t. (t.ghost_name ≡ s.ghost_name) × same s.now t.now) same_sink (Source first) files →
     (first.ghost_name ≡ second.ghost_name → last ≡ second.now) → (last ≡ second.now) × same first.now second.now
@@ -32,7 +32,7 @@ sink_back {S = S} same_source same first second files last is h back =
     (back (sym both.0), both.1)
 
 module _ {S K R : Type 0} (sources : SourceMeaning S) (sinks : SinkMeaning K) (step_in : R → Step) (gives : R → Gives) where
-  -- what a call of an end over a borrowed source, or a borrowed sink, ensures where it has taken a datagram
+  -- what a call of an end over a borrowed source, or a borrowed sink, ensures once it has handled a datagram
   abbrev pub StepsOverSource : Endpoint → List ℕ → EndState → EndState → Files (MutBor S) K → Files (MutBor S) K → R → Type 0
   StepsOverSource from bytes e e' files files' r =
       (turn : Turn) × DatagramStep (borrowed_source sources) sinks from bytes e files turn files'
@@ -75,7 +75,7 @@ module _ {S K R : Type 0} (sources : SourceMeaning S) (sinks : SinkMeaning K) (s
         tells = h.3;
       }
 
--- after a fault the borrowed file tells the same
+-- after a fault the borrowed file holds the same
 pub source_kept : {S K R : Type 0} (sources : SourceMeaning S) (sinks : SinkMeaning K) (first second : MutBor S) (files : Files (MutBor S) K) (last : S) (A B : Type 0) (result : Result R EndFault) → files ≡ Source second → last ≡ second.now →
     (A → KeepsFiles (borrowed_source sources) sinks (Source first) files) → (A → sources.left last ≡ sources.left first.now → B) → OnErr result A → OnErr result B
 source_kept sources sinks first second files last A B (Ok r) is same keeps then h = tt

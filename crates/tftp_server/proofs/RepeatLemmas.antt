@@ -1,4 +1,4 @@
--- What repeats a request, by the keys of an index and by the transfers that they lead to.
+-- What repeats a request, by the keys of an index and by the transfers under them.
 use Rattle.std.proofs.Common.{ℕ, List, [], ◌∷◌, map, Option, Some, None, IsSome, inl, inr}
 use Rattle.std.specs.Prelude.{◌⊎◌}
 use Rattle.slab.specs.Slab.{Slab, get}

@@ -40,11 +40,11 @@ use Rattle.tftp_server.specs.Request.{Acts, Admits, CarriesOut, Came, Nothing, A
 use Rattle.tftp_server.specs.State.{HeldTransfer, ServerState, IsRepeated, with_new}
 use Rattle.tftp_store.specs.Store.{StoreMeaning, Opens, Begins}
 
--- what was appended is cut off again
+-- what was appended is truncated
 cut_back : (before sent all cut : List ℕ) (start : ℕ) → start ≡ length before → all ≡ before ++ sent → cut ≡ take start all → cut ≡ before
 cut_back before sent all cut start s a c = c ∙ (ap (λ (n : ℕ). take n all) s ∙ (ap (take (length before)) a ∙ take-append_seam before sent))
 
--- where no draft is begun, nothing has been sent
+-- if no draft is begun, nothing has been sent
 pub refused_bytes : {F D E : Type 0} (reply : ErrorReply) (P : Type 0) (before sent all cut : List ℕ) (start : ℕ) (r : Result (Decision F D) E) → start ≡ length before → all ≡ before ++ sent → cut ≡ take start all →
     IfOk r (λ d. (d ≡ Refuse reply) × P) → IfOk r (λ d. cut ≡ before ++ decided_bytes d)
 refused_bytes reply P before sent all cut start (Err e) s a c h = tt
@@ -55,12 +55,12 @@ pub cut_on_err : {T E : Type 0} (before sent all cut : List ℕ) (start : ℕ) (
 cut_on_err before sent all cut start (Ok d) s a c = tt
 cut_on_err before sent all cut start (Err e) s a c = cut_back before sent all cut start s a c
 
--- where an ERROR is to go out, nothing has been sent so far
+-- before an ERROR is appended, nothing has been sent
 nothing_sent : {F D : Type 0} (was mid : List ℕ) (d : Decision F D) (reply : ErrorReply) → d ≡ Refuse reply → mid ≡ was ++ decided_bytes d → mid ≡ was
 nothing_sent {F = F} {D = D} was mid d reply is sent = sent ∙ ap (λ (x : Decision F D). was ++ decided_bytes x) is ∙ append-nil was
 
 module _ (cap count : ℕ) (limits : Limits) where
-  -- what is asked of the name in a request
+  -- the tests of the name in a request
   abbrev pub named : Kind → Request → Ask
   named kind r = by_name cap count (by_kind kind r.mode r.options limits) (path_of_name r.name)
 
@@ -68,7 +68,7 @@ module _ (cap count : ℕ) (limits : Limits) where
   asked_of repeated None = Refuses IllegalOperation
   asked_of repeated (Some asked) = by_repeat repeated (named asked.0 asked.1)
 
-  -- the port goes on with the name in a request, and refuses every other packet
+  -- the port tests the name of a request, and refuses every other packet
   packet_named : (packet : Option Packet) (repeated : Bool) (asked : Option (Kind × Request)) → IsRequest packet asked →
       by_packet cap count repeated limits packet ≡ asked_of repeated asked
   packet_named (Some (Read request)) repeated asked h = sym (ap (asked_of repeated) h)
@@ -79,13 +79,13 @@ module _ (cap count : ℕ) (limits : Limits) where
   packet_named (Some (Oack options)) repeated asked h = sym (ap (asked_of repeated) h)
   packet_named None repeated asked h = sym (ap (asked_of repeated) h)
 
-  -- what the port asks is what is asked of the name, unless the request is repeated
+  -- the port decides by the tests of the name, unless the request is repeated
   asks_named : (bytes : List ℕ) (asked : Option (Kind × Request)) (decoded : Option Packet) (repeated : Bool) → has_error_opcode bytes ≡ false → IsRequest decoded asked →
       asked_of repeated asked ≡ asks cap count repeated limits bytes decoded
   asks_named bytes asked decoded repeated test is =
       sym (packet_named decoded repeated asked is) ∙ ap (λ (b : Bool). if b then Ignores else by_packet cap count repeated limits decoded) (sym test)
 
--- ---- what is asked of a name is never nothing
+-- ---- a name never makes the port ignore a datagram
 either_acts : (b : Bool) (x y : Ask) → x ≢ Ignores → y ≢ Ignores → (if b then x else y) ≢ Ignores
 either_acts true x y h k = h
 either_acts false x y h k = k
@@ -103,7 +103,7 @@ name_acts cap count next h (Err fault) e = cc
 name_acts cap count next h (Ok path) e = either_acts (nat_le cap count) (Refuses ServerBusy) (next path) (λ e. cc) (h path) e
 
 module _ {S F D : Type 0} (old : ServerState S F D) (from : Endpoint) (bytes : List ℕ) where
-  -- what is asked of the name in a request, as the server stands
+  -- the tests of the name in a request, in this state of the server
   abbrev pub named_now : Kind → Request → Ask
   named_now kind request = named old.config.cap (length old.held) old.config.limits kind request
 
@@ -127,7 +127,7 @@ module _ {S F D : Type 0} (old : ServerState S F D) (from : Endpoint) (bytes : L
   asked_by_name kind request decoded repeated (Ok asked) test says is repeats new h = admits_named kind request decoded repeated (ask_of asked) test says is repeats new h
   asked_by_name kind request decoded repeated (Err fault) test says is repeats new h = tt
 
-  -- and where there is no memory for them, the datagram is not one to be ignored
+  -- and when they are out of memory, the datagram is not one to ignore
   pub acts_by_name : {T E : Type 0} (kind : Kind) (request : Request) (decoded : Option Packet) (repeated : Bool) (r : Result T E) → has_error_opcode bytes ≡ false → Decodes bytes decoded → IsRequest decoded (Some (kind, request)) →
       IsRepeated repeated from decoded old.held → repeated ≡ false → OnErr r (Acts old from bytes)
   acts_by_name kind request decoded repeated (Ok done) test says is repeats new = tt
@@ -139,7 +139,7 @@ module _ {S F D : Type 0} (old : ServerState S F D) (from : Endpoint) (bytes : L
   )
 
 module _ {S F D : Type 0} (meaning : StoreMeaning S D) (sources : SourceMeaning F) (old : ServerState S F D) (from : Endpoint) (bytes : List ℕ) where
-  -- the file was opened, and this was decided of it
+  -- the file was opened, and this was decided
   pub asks_to_read : {E : Type 0} (path : List ℕ) (mode : Mode) (options : List RawOption) (file : Opening F) (r : Result (Decision F D) E) → Opens sources (meaning.stored old.store) path mode (Ok file) →
       IfOk r (λ d. Sent meaning sources old from bytes (by_file old.config.limits path mode options (Ok file.length)) (Ok file) (came_to d old.store)) →
       IfOk r (λ d. AsksToRead meaning sources old from bytes path mode options (came_to d old.store))
@@ -157,7 +157,7 @@ module _ {S F D : Type 0} (meaning : StoreMeaning S D) (sources : SourceMeaning 
       let held-is : held ≡ record { end = serving_write agreed from mode old.config.retries; files = Sink draft; path = path; request = bytes } = rw (← opens, ← copies) is in
       record { store = store; draft = Ok draft; begins = begins; refused = tt; begun = begun; memory = λ e. cc; goes_on = ap (λ (h : HeldTransfer F D). A_transfer h store) held-is }
 
-  -- or none was, which is answered by an ERROR
+  -- or none was, and an ERROR is sent
   pub refused_to_write : {E : Type 0} (path : List ℕ) (mode : Mode) (agreed : List Known) (store : S) (fault : StoreFault) (r : Result (Decision F D) E) → Begins {K = D} meaning.drafted (meaning.stored old.store) (meaning.stored store) path old.config.overwrite (Err fault) →
       meaning.may_refuse_begin old.store path old.config.overwrite fault →
       meaning.begun old.store store (Some fault) →
@@ -167,24 +167,24 @@ module _ {S F D : Type 0} (meaning : StoreMeaning S D) (sources : SourceMeaning 
   refused_to_write path mode agreed store fault (Ok d) begins may begun h =
       record { store = store; draft = Err fault; begins = begins; refused = may; begun = begun; memory = λ e. h.1 (cc); goes_on = ap (λ (d : Decision F D). came_to d store) h.0 }
 
-  -- where no draft was begun for want of memory, nothing has changed
+  -- if no draft was begun for lack of memory, nothing has changed
   pub nothing_begun : {T E : Type 0} (store : S) (fault : StoreFault) (was cut : List ℕ) (r : Result T E) → (IsErrOf {T = D} (Err fault) Memory → store ≡ old.store) → OnErr r (fault ≡ Memory) → OnErr r (cut ≡ was) →
       OnErr r ((record old { store = store } ≡ old) × (cut ≡ was))
   nothing_begun store fault was cut (Ok d) same why back = tt
   nothing_begun store fault was cut (Err e) same why back = (ap (λ (s : S). record old { store = s }) (same (ap Err why)), back)
 
-  -- what was decided is done, and this came of it
+  -- what was decided is done, with this result
   carries : (tid : ℕ) (ask done : Ask) (came : Came S F D) (result : Left S F D) → ask ≡ done →
       Goes meaning sources old from bytes done came → result ≡ left_by came old from tid → CarriesOut meaning sources old from bytes ask tid result
   carries tid ask done came result is goes left =
       record { came = came; goes = subst (λ (a : Ask). Goes meaning sources old from bytes a came) (sym is) goes; left = left }
 
-  -- nothing comes of it
+  -- the datagram is ignored
   pub stays_silent : (tid : ℕ) (ask : Ask) (out : List ℕ) → ask ≡ Ignores →
       (sent : List ℕ) × (out ≡ out ++ sent) × CarriesOut meaning sources old from bytes ask tid (record { new = old; opened = record { tid = None; to = None }; sent = sent })
   stays_silent tid ask out is = ([], sym (append-nil out), carries tid ask Ignores Nothing _ is refl refl)
 
-  -- an ERROR went out
+  -- an ERROR is sent
   pub refuses : (tid : ℕ) (ask : Ask) (reply : ErrorReply) (before after : List ℕ) (r : Result Opened ServerFault) → ask ≡ Refuses reply →
       IfOk r (λ opened. opened ≡ record { tid = None; to = Some from }) → OnOk r (after ≡ before ++ error_bytes reply) →
       IfOk r (λ opened. (sent : List ℕ) × (after ≡ before ++ sent) × CarriesOut meaning sources old from bytes ask tid (record { new = old; opened = opened; sent = sent }))
@@ -204,7 +204,7 @@ module _ {S F D : Type 0} (meaning : StoreMeaning S D) (sources : SourceMeaning 
   goes_on tid ask done before after new (Ok opened) is h = (h.1, h.3, carries tid ask done h.0 _ is h.2 h.4)
   goes_on tid ask done before after new (Err fault) is h = tt
 
-  -- what the port has decided, and what it leaves that does that, is its step
+  -- the decision of the port and its execution are its step
   pub requested : (tid : ℕ) (ask : Ask) (before after : List ℕ) (new : ServerState S F D) (r : Result Opened ServerFault) → Admits old from bytes ask →
       IfOk r (λ opened. (sent : List ℕ) × (after ≡ before ++ sent) × CarriesOut meaning sources old from bytes ask tid (record { new = new; opened = opened; sent = sent })) →
       IfOk r (λ opened. (sent : List ℕ) × (after ≡ before ++ sent) × RequestStep meaning sources old from bytes tid (record { new = new; opened = opened; sent = sent }))
@@ -223,7 +223,7 @@ module _ {S F D : Type 0} (meaning : StoreMeaning S D) (sources : SourceMeaning 
   )
   requested tid ask before after new (Err fault) admits h = tt
 
--- ---- a write, whose table has made room first
+-- ---- a write, for which the table reserved capacity first
 module _ {S F D : Type 0} (meaning : StoreMeaning S D) (sources : SourceMeaning F) (config : Config) (store : S) (held none : List (ℕ × HeldTransfer F D)) (from : Endpoint) (bytes : List ℕ) (path : List ℕ) (mode : Mode) (agreed : List Known) (after : ServerState S F D)
     (config' : Config) (store' : S) (others : List (ℕ × HeldTransfer F D)) (table : List (ℕ × HeldTransfer F D)) where
   abbrev before_write : List (ℕ × HeldTransfer F D) → ServerState S F D
@@ -239,7 +239,7 @@ module _ {S F D : Type 0} (meaning : StoreMeaning S D) (sources : SourceMeaning 
     store_kept : store' ≡ after.store
     store_kept = ap (λ (s : ServerState S F D). s.store) seen
 
-    -- what the store was asked has nothing to do with the other transfers
+    -- the store's answer does not depend on the other transfers
     asked_apart : (came : Came S F D) → AsksToWrite meaning sources (before_write none) from bytes path mode agreed came → AsksToWrite meaning sources (before_write held) from bytes path mode agreed came
     asked_apart came h = record { store = h.store; draft = h.draft; begins = h.begins; refused = h.refused; begun = h.begun; memory = h.memory; goes_on = h.goes_on }
 

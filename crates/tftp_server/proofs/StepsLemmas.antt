@@ -1,4 +1,4 @@
--- How a transfer handles a datagram with its file, and why an event was not taken.
+-- How a transfer handles a datagram with its file, and why an event was not handled.
 use Rattle.std.proofs.Common.{◌≡◌, ◌↔◌, ℕ, Bool, true, false, List, Option, Some, Result, Ok, Err, IfOk, refl, sym, ap, subst, ◌∙◌}
 use Rattle.std.specs.Prelude.{not, IsErrOf}
 use Rattle.std.proofs.lemmas.Map.Steps.{set_value_same}
@@ -34,7 +34,7 @@ use Rattle.tftp_store.specs.Store.{StoreMeaning}
 abbrev pub drafting_of : {S F D : Type 0} → DraftSink S F D → Drafting S D
 drafting_of k = record { store = k.store.now; draft = k.draft.now; path = k.path.now; replace = k.replace }
 
--- behind a call it is a draft of what the store and the draft have become
+-- after a call it is the sink of the new store and the new draft
 pub drafting_now : {S F D : Type 0} (k : DraftSink S F D) (store : S) (path : List ℕ) (replace : Bool) → store ≡ k.store.now → k.path.now ≡ path → k.replace ≡ replace →
     drafting_of k ≡ record { store = store; draft = k.draft.now; path = path; replace = replace }
 drafting_now {S = S} {D = D} k store path replace s p r =
@@ -44,7 +44,7 @@ drafting_now {S = S} {D = D} k store path replace s p r =
     step-1 ∙ step-2 ∙ step-3
 
 module _ {S F D : Type 0} (meaning : StoreMeaning S D) (sources : SourceMeaning F) (gives : Gives) where
-  -- a transfer that reads makes this step, whatever sinks there are
+  -- the step of a transfer over a source, for every sink
   pub takes_from_source : {K : Type 0} (sinks : SinkMeaning K) (replace : Bool) (from : Endpoint) (bytes : List ℕ) (store : S) (e e' : EndState) (s s' : F) (path request : List ℕ) (step : Step) →
       MakesStep sources sinks gives from bytes e e' (Source s) (Source s') step →
       TakesBy meaning sources gives replace from bytes store store (record { end = e; files = Source s; path = path; request = request }) (record { end = e'; files = Source s'; path = path; request = request }) step
@@ -62,7 +62,7 @@ module _ {S F D : Type 0} (meaning : StoreMeaning S D) (sources : SourceMeaning 
         request = refl;
       }
 
-  -- a transfer that stores makes this step, where the sink is a draft of the store
+  -- the step of a transfer over a draft of the store
   pub takes_into_draft : {K : Type 0} (as_drafting : K → Drafting S D) (replace : Bool) (from : Endpoint) (bytes : List ℕ) (store store' : S) (e e' : EndState) (k k' : K) (draft draft' : D) (path request : List ℕ) (step : Step) →
       as_drafting k ≡ record { store = store; draft = draft; path = path; replace = replace } → as_drafting k' ≡ record { store = store'; draft = draft'; path = path; replace = replace } →
       MakesStep sources (sink_through (drafting_sink meaning) as_drafting) gives from bytes e e' (Sink k) (Sink k') step →
@@ -85,7 +85,7 @@ module _ {S F D : Type 0} (meaning : StoreMeaning S D) (sources : SourceMeaning 
       }
 
 module _ {S F D R : Type 0} (meaning : StoreMeaning S D) (sources : SourceMeaning F) (step_in : R → Step) (gives : R → Gives) where
-  -- a call was answered, over a source or over a draft
+  -- the result of a call, over a source or over a draft
   pub source_taken : {K : Type 0} (sinks : SinkMeaning K) (replace : Bool) (from : Endpoint) (bytes : List ℕ) (store : S) (e e' : EndState) (files : Files F D) (s s' : F) (path request : List ℕ) (result : Result R EndFault) → files ≡ Source s →
       IfOk result (λ r. MakesStep sources sinks (gives r) from bytes e e' (Source s) (Source s') (step_in r)) →
       IfOk result (λ r. TakesBy meaning sources (gives r) replace from bytes store store (record { end = e; files = files; path = path; request = request }) (record { end = e'; files = Source s'; path = path; request = request }) (step_in r))
@@ -103,7 +103,7 @@ module _ {S F D R : Type 0} (meaning : StoreMeaning S D) (sources : SourceMeanin
       subst (λ (f : Files F D). TakesBy meaning sources (gives r) replace from bytes store store' (record { end = e; files = f; path = path; request = request }) (record { end = e'; files = Sink draft'; path = path; request = request }) (step_in r)) (sym is)
       (takes_into_draft meaning sources (gives r) drafting_of replace from bytes store store' e e' k k' draft draft' path request (step_in r) was now h)
 
--- ---- why an event was not taken
+-- ---- why an event was not handled
 different : {R : Type 0} (fault : EndFault) → fault ≡ ends.Memory → IsErrOf {T = R} (Err fault) ends.Closed → ⊥
 different {R = R} fault memory e = let both : IsErrOf {T = R} (Err ends.Memory) ends.Closed = subst (λ (f : EndFault). IsErrOf {T = R} (Err f) ends.Closed) memory e in cc
 
@@ -146,7 +146,7 @@ module _ {F D : Type 0} where
         held = ap (λ (t : HeldTransfer F D). with_next tid t table) h.2 ∙ ap (with_next tid (with_end next.end transfer)) same;
       }
 
-  -- a transfer that is written back as it was changes nothing
+  -- writing an unchanged transfer back changes nothing
   pub nothing_written : (tid : ℕ) (table : List (ℕ × HeldTransfer F D)) (transfer next : HeldTransfer F D) → Some transfer ≡ at tid table → next ≡ transfer → with_next tid next table ≡ table
   nothing_written tid table transfer next found same = ap (λ (t : HeldTransfer F D). with_next tid t table) same ∙ set_value_same (is_at (nat_cmp tid)) table transfer (sym found)
 
@@ -154,7 +154,7 @@ of_closed : (fault : EndFault) → of_end fault ≡ faults.NoSuchTid → fault �
 of_closed ends.Closed e = refl
 of_closed ends.Memory e = absurd (cc)
 
--- a datagram that comes to a closed transfer changes nothing of the server
+-- a datagram to a closed transfer changes nothing of the server
 pub leaves_unmoved : {S F D R Q : Type 0} (config : Config) (store store' : S) (tid : ℕ) (table : List (ℕ × HeldTransfer F D)) (transfer next : HeldTransfer F D) (fault : EndFault) (server : ServerFault) → Some transfer ≡ at tid table → server ≡ of_end fault →
     (IsErrOf {T = R} (Err fault) ends.Closed → (next ≡ transfer) × (store' ≡ store)) → IsErrOf {T = Q} (Err server) faults.NoSuchTid →
     ◌≡◌ {A = ServerState S F D} (record { config = config; store = store'; held = with_next tid next table }) (record { config = config; store = store; held = table })

@@ -13,7 +13,7 @@ use Rattle.slab.specs.Slab.{Slab, get, with_value, Updates}
 use Rattle.slab.proofs.SlabLemmas.{Updates-with_value}
 use Rattle.tftp_server.specs.Table.{joined, with_found, IsJoined, IsKeyFor}
 
--- no entry of the index leads to the key
+-- no entry of the index has the key
 abbrev pub IsFree : ℕ → List (ℕ × ℕ) → Type 0
 IsFree key index = AllByRecursion (λ f. f.1 ≢ key) index
 
@@ -43,12 +43,12 @@ IsFree-remove : (test : ℕ → Bool) (index : List (ℕ × ℕ)) (key : ℕ) �
 IsFree-remove test [] key free = tt
 IsFree-remove test (e ∷ index) key free = free-removed (test e.0) key e index _ free (IsFree-remove test index key free.1)
 
--- the key that is removed is free then
+-- a removed key is free
 removed_at : (b : Bool) (key : ℕ) (e : ℕ × ℕ) (index more : List (ℕ × ℕ)) (m : Option ℕ) → IsFree e.1 index → (m ≡ Some key → IsFree key more) → (m ≡ Some key → e.1 ≢ key) → cond b (Some e.1) m ≡ Some key → IsFree key (cond b index (e ∷ more))
 removed_at true key e index more m free rest differs found = let same : e.1 ≡ key = cc in subst (λ (x : ℕ). IsFree x index) same free
 removed_at false key e index more m free rest differs found = (differs found, rest found)
 
--- what holds stands beside an error
+-- what holds holds beside an error
 pub on_err : {A E : Type 0} {P : Type 0} (r : Result A E) → P → OnErr r P
 on_err (Ok a) p = tt
 on_err (Err e) p = p
@@ -104,7 +104,7 @@ module _ {T : Type 0} where
   joined-keys [] slots h = refl
   joined-keys (e ∷ index) slots h = with_found-keys e.0 (get slots e.1) (joined index slots) h.0 ∙ ap (λ ks. e.0 ∷ ks) (joined-keys index slots h.2)
 
-  -- what a look-up finds under an identifier is what the slab holds under its key
+  -- a look-up of an identifier finds what the slab has under its key
   found_there : (b : Bool) (k key : ℕ) (m : Option ℕ) (l : Option T) (slots : Slab T) → (m ≡ Some key → l ≡ get slots key) → cond b (Some k) m ≡ Some key → cond b (get slots k) l ≡ get slots key
   found_there true k key m l slots more found = ap (get slots) (cc)
   found_there false k key m l slots more found = more found
@@ -125,7 +125,7 @@ module _ {T : Type 0} where
       with_found-lookup test e.0 (get slots e.1) (joined index slots) h.0
       ∙ absent_there (test e.0) e.1 (lookup test index) (get slots e.1) (lookup test (joined index slots)) (joined-absent test index slots h.2) found
 
-  -- the list has an identifier as the index has
+  -- the list and the index have the same identifiers
   has_there : (b : Bool) (k : ℕ) (m : Option ℕ) (o l : Option T) → IsSome o → is_some l ≡ is_some m → is_some (cond b o l) ≡ is_some (cond b (Some k) m)
   has_there true k m o l here more = here
   has_there false k m o l here more = more
@@ -140,7 +140,7 @@ module _ {T : Type 0} where
   present_there true k key m slots here more found = let same : k ≡ key = cc in subst (λ (x : ℕ). IsSome (get slots x)) same here
   present_there false k key m slots here more found = more found
 
-  -- a key that the index gives has a value
+  -- a key in the index has a value
   pub joined-present : (test : ℕ → Bool) (index : List (ℕ × ℕ)) (slots : Slab T) (key : ℕ) → IsJoined index slots → lookup test index ≡ Some key → IsSome (get slots key)
   joined-present test [] slots key h found = absurd (cc)
   joined-present test (e ∷ index) slots key h found = present_there (test e.0) e.1 key (lookup test index) slots h.0 (joined-present test index slots key h.2) found
@@ -250,7 +250,7 @@ module _ {T : Type 0} where
       (found_differs test index key e.1 h.1) (λ m. joined-write test index old new key w h.2 m updates) found
       ∙ sym (with_found-set test e.0 (get old e.1) (joined index old) w h.0)
 
-  -- a key that had a value has one
+  -- a key that had a value still has one
   kept_there : (old new : Slab T) (key k : ℕ) (w : T) → Updates old new key (Some w) → IsSome (get old k) → IsSome (get new k)
   kept_there old new key k w updates here =
       elim (cases_eq k key) [
@@ -262,7 +262,7 @@ module _ {T : Type 0} where
   IsJoined-write [] old new key w h updates = tt
   IsJoined-write (e ∷ index) old new key w h updates = (kept_there old new key e.1 w updates h.0, h.1, IsJoined-write index old new key w h.2 updates)
 
-  -- ---- slots that give the same
+  -- ---- slots with equal values
   pub joined-same : (index : List (ℕ × ℕ)) (old new : Slab T) → new.slots ≡ old.slots → joined index new ≡ joined index old
   joined-same [] old new same = refl
   joined-same (e ∷ index) old new same =
@@ -277,7 +277,7 @@ module _ {T : Type 0} where
   pub updates_at : (old new : Slab T) (key at : ℕ) (slot : Option T) → at ≡ key → Updates old new at slot → Updates old new key slot
   updates_at old new key at slot same updates = subst (λ (k : ℕ). Updates old new k slot) same updates
 
-  -- ---- the index has become this list
+  -- ---- the new index as a list
   pub IsJoined-kept : (index after : List (ℕ × ℕ)) (old new : Slab T) → after ≡ index → new.slots ≡ old.slots → IsJoined index old → IsJoined after new
   IsJoined-kept index after old new same slots h = subst (λ (es : List (ℕ × ℕ)). IsJoined es new) (sym same) (IsJoined-same index old new slots h)
 
@@ -310,7 +310,7 @@ module _ {T : Type 0} where
   remove_nothing test [] found = refl
   remove_nothing test (e ∷ es) found = remove_nothing_there (test e.0) e es _ (lookup test es) (remove_nothing test es) found
 
-  -- ---- a write through what is lent, under the key of an identifier, or under a vacant key
+  -- ---- a write through a borrow, under the key of an identifier or under a vacant key
   others_kept : (s : Slab T) (key other : ℕ) (w : T) → other ≢ key → get (with_value s key w) other ≡ get s other
   others_kept s key other w differs = get_or-set_other s.slots key other (Some w) None differs
 
@@ -352,7 +352,7 @@ module _ {T : Type 0} where
   joined-lookup_for test index s key None h looked vacant = vacant ∙ sym (joined-absent test index s h looked)
   joined-lookup_for test index s key (Some found) h looked same = sym (joined-lookup test index s key h (looked ∙ ap Some (sym same)))
 
-  -- ---- room for one more value, at an identifier that holds none
+  -- ---- reserved capacity for a value at an identifier that holds none
   pub index_absent : (test : ℕ → Bool) (index : List (ℕ × ℕ)) (s : Slab T) → IsJoined index s → lookup test (joined index s) ≡ None → lookup test index ≡ None
   index_absent test index s h none = by (lookup test index) refl
     where

@@ -1,4 +1,5 @@
--- What a server may be set to (RFC 2348, "Blocksize Option Specification", for the block sizes; the rest is our choice).
+-- The configurations of a server (RFC 2348, "Blocksize Option Specification", for the block sizes;
+-- the rest is our choice).
 use Rattle.std.specs.Prelude.{◌≤◌, false}
 use Rattle.tftp_file.specs.declared.length.TheConstants.{MAX_WIRE}
 use Rattle.tftp_negotiate.specs.Ranges.{IsBlockSize}
@@ -11,6 +12,6 @@ pub record IsConfig (config : Config) : Type 0 where
   pub some : 1 ≤ config.cap
   pub cap : config.cap ≤ 64
 
--- what a server is set to where nothing else is said
+-- the default configuration
 abbrev pub default_config : Config
 default_config = record { limits = record { max_block = 1428; max_file = MAX_WIRE }; retries = 5; cap = 16; overwrite = false }

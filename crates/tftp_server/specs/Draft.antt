@@ -7,44 +7,48 @@ use Rattle.tftp_file.specs.declared.files.Files.TheVariants.{Source, Sink}
 use Rattle.tftp_ends.specs.Step.{Done}
 use Rattle.tftp_store.specs.Store.{Stored, Drafted, StoreMeaning, holding_of, files_of, Puts}
 
--- what a transfer stores in: the store, its draft, the path under which that is to be committed, and whether it may take
--- the place of a file there
+-- the sink of a transfer: the store, its draft, the path of the commit, and whether the commit may
+-- replace an existing file
 pub record Drafting (S D : Type 0) : Type 0 where
   pub store : S
   pub draft : D
   pub path : List ℕ
   pub replace : Bool
 
--- the files of an end, where what it stores goes into a draft of this store
+-- the files of an end: a source, or a draft of this store
 abbrev pub files_in : {S F D : Type 0} → S → List ℕ → Bool → Files F D → Files F (Drafting S D)
 files_in store path replace (Source source) = Source source
-files_in store path replace (Sink draft) = Sink (record { store = store; draft = draft; path = path; replace = replace })
+files_in store path replace (Sink draft) =
+    Sink (record { store = store; draft = draft; path = path; replace = replace })
 
--- what became of a store's files: a commit that succeeded has made the draft's bytes the file at the path, and nothing else
--- changes them
+-- the effect on a store's files: a commit that succeeds makes the draft's bytes the file at the
+-- path, and nothing else changes them
 abbrev pub FilesBy : Bool → Option Stored → Option Stored → Option Drafted → List ℕ → Bool → Type 0
-FilesBy true before after draft path replace = Puts {A = Done} before after draft path replace (Ok tt)
+FilesBy true before after draft path replace =
+    Puts {A = Done} before after draft path replace (Ok tt)
 FilesBy false before after draft path replace = files_of after ≡ files_of before
 
 module _ {S D : Type 0} (meaning : StoreMeaning S D) where
-  -- what the draft holds, and whether the next append or commit was told to be refused
+  -- what the draft holds, and whether the next append or commit is set to be refused
   abbrev pub drafting_holds : Drafting S D → Option Holding
   drafting_holds d = holding_of (meaning.stored d.store) (meaning.drafted d.draft)
 
-  -- an append, or a commit, may answer this fault
+  -- an append, or a commit, may return this fault
   abbrev pub MayRefuseAppend : Drafting S D → List ℕ → StoreFault → Type 0
   MayRefuseAppend d bytes fault = meaning.may_refuse_append d.store d.draft bytes fault
 
   abbrev pub MayRefuseCommit : Drafting S D → StoreFault → Type 0
   MayRefuseCommit d fault = meaning.may_refuse_commit d.store d.path d.draft d.replace fault
 
-  -- what an append or a commit made of it beside what it holds: the path stays, and the store's files change by a commit alone
+  -- the effect of an append or a commit beside that on the draft: the path stays, and only a commit
+  -- changes the store's files
   pub record DraftingBecomes (before after : Drafting S D) (committed : Bool) : Type 0 where
     pub path : after.path ≡ before.path
     pub replace : after.replace ≡ before.replace
-    pub files : FilesBy committed (meaning.stored before.store) (meaning.stored after.store) (meaning.drafted before.draft) before.path before.replace
+    pub files : FilesBy committed (meaning.stored before.store) (meaning.stored after.store)
+        (meaning.drafted before.draft) before.path before.replace
 
-  -- the meaning of a store with one of its drafts
+  -- the model of a store with one of its drafts
   abbrev pub drafting_sink : SinkMeaning (Drafting S D)
   drafting_sink =
       record {
@@ -54,7 +58,7 @@ module _ {S D : Type 0} (meaning : StoreMeaning S D) where
         becomes = DraftingBecomes;
       }
 
--- a transfer that reads leaves the store as it was
+-- a read transfer does not change the store
 abbrev pub KeepsStore : {S F D : Type 0} → Files F D → S → S → Type 0
 KeepsStore (Source source) before after = after ≡ before
 KeepsStore (Sink draft) before after = Unit {0}

@@ -6,7 +6,7 @@ use Rattle.tftp_ends.specs.declared.fault.EndFault.TheVariants as ends
 use Rattle.tftp_server.specs.declared.fault.ServerFault.{ServerFault}
 use Rattle.tftp_server.specs.declared.fault.ServerFault.TheVariants.{TidInUse, NoSuchTid, Memory}
 
--- what a server says where an end of it did not take an event: a closed one counts as none
+-- the server's fault for the fault of an end: a closed end is not an open transfer
 abbrev pub of_end : EndFault → ServerFault
 of_end Closed = NoSuchTid
 of_end ends.Memory = Memory

@@ -1,5 +1,7 @@
--- How the request port handles a datagram, and what it leaves (RFC 1350, section 4; RFC 2347, "Negotiation Protocol").
-use Rattle.std.specs.Prelude.{ℕ, Bool, ◌≡◌, ◌≢◌, List, [], ◌⊎◌, length, Option, Some, None, Result, Ok, Err, IfErr}
+-- How the request port handles a datagram, and what it leaves (RFC 1350, section 4; RFC 2347,
+-- "Negotiation Protocol").
+use Rattle.std.specs.Prelude.{ℕ, Bool, ◌≡◌, ◌≢◌, List, [], ◌⊎◌, length, Option, Some, None, Result}
+use Rattle.std.specs.Prelude.{Ok, Err, IfErr}
 use Rattle.tftp_wire.specs.declared.mode.Mode.{Mode}
 use Rattle.tftp_wire.specs.declared.options.RawOption.{RawOption}
 use Rattle.tftp_wire.specs.Borrowed.{owned_request}
@@ -28,7 +30,8 @@ use Rattle.tftp_server.specs.declared.server.request.Decision.{Decision}
 use Rattle.tftp_server.specs.declared.server.request.Decision.TheVariants.{Refuse, Open}
 use Rattle.tftp_store.specs.declared.store.Opening.{Opening}
 use Rattle.tftp_server.specs.State.{HeldTransfer, ServerState, IsRepeated, with_new}
-use Rattle.tftp_server.specs.Port.{Ask, Ignores, Refuses, Reads, Writes, Service, Refused, Sends, Takes, asks, by_file, by_draft}
+use Rattle.tftp_server.specs.Port.{Ask, Ignores, Refuses, Reads, Writes, Service, Refused, Sends}
+use Rattle.tftp_server.specs.Port.{Takes, asks, by_file, by_draft}
 use Rattle.tftp_store.specs.Store.{StoreMeaning, Opens, Begins, fault_in}
 
 -- the length of a file that was opened
@@ -36,31 +39,32 @@ abbrev pub opened_length : {F : Type 0} → Result (Opening F) StoreFault → Re
 opened_length (Ok file) = Ok file.length
 opened_length (Err fault) = Err fault
 
--- what came of a datagram to the request port
+-- the result of a datagram to the request port
 pub data Came (S F D : Type 0) : Type 0 where
   -- nothing
   Nothing : Came S F D
-  -- an ERROR goes out; the store has become this
+  -- an ERROR is sent, and this is the new store
   An_error : ErrorReply → S → Came S F D
-  -- a transfer opens; the store has become this
+  -- a transfer opens, and this is the new store
   A_transfer : HeldTransfer F D → S → Came S F D
 
--- a datagram that came to the request port, and what that has decided of it
+-- a datagram to the request port, and what the port decided for it
 pub record AdmissionState : Type 0 where
   pub from : Endpoint
   pub bytes : List ℕ
   pub ask : Ask
 
--- what the request port left: the server, what it tells, and what it sent
+-- what the request port leaves: the server, what it returns, and what it sends
 pub record Left (S F D : Type 0) : Type 0 where
   pub new : ServerState S F D
   pub opened : Opened
   pub sent : List ℕ
 
 module _ {S F D : Type 0} where
-  -- a transfer gets the identifier, and sends from its own port; all else goes out from the request port
+  -- a transfer gets the identifier and sends from its own port; an ERROR leaves the request port
   abbrev pub left_by : Came S F D → ServerState S F D → Endpoint → ℕ → Left S F D
-  left_by Nothing old from tid = record { new = old; opened = record { tid = None; to = None }; sent = [] }
+  left_by Nothing old from tid =
+      record { new = old; opened = record { tid = None; to = None }; sent = [] }
   left_by (An_error reply store) old from tid =
       record {
         new = record old { store = store };
@@ -75,7 +79,7 @@ module _ {S F D : Type 0} where
       }
 
 module _ {S F D : Type 0} (old : ServerState S F D) (from : Endpoint) (bytes : List ℕ) where
-  -- what the request port has decided of a datagram before it asks its store
+  -- what the request port decides for a datagram before it asks its store
   pub record Admits (ask : Ask) : Type 0 where
     pub decoded : Option Packet
     pub says : Decodes bytes decoded
@@ -84,39 +88,46 @@ module _ {S F D : Type 0} (old : ServerState S F D) (from : Endpoint) (bytes : L
     pub asks_for : ask ≡
         asks old.config.cap (length old.held) repeated old.config.limits bytes decoded
 
-  -- the port answers the datagram or asks its store: the datagram is not ignored
+  -- the datagram is not ignored: the port answers it or asks its store
   abbrev pub Acts : Type 0
   Acts = (ask : Ask) × Admits ask × (ask ≢ Ignores)
 
-module _ {S F D : Type 0} (meaning : StoreMeaning S D) (sources : SourceMeaning F) (old : ServerState S F D) (from : Endpoint) (bytes : List ℕ) where
+module _ {S F D : Type 0} (meaning : StoreMeaning S D) (sources : SourceMeaning F)
+    (old : ServerState S F D) (from : Endpoint) (bytes : List ℕ) where
   -- the end of a read opens with DATA 1 or the OACK
-  pub record Serves (path : List ℕ) (mode : Mode) (length : ℕ) (agreed : List Known) (source : F) (came : Came S F D) : Type 0 where
+  pub record Serves (path : List ℕ) (mode : Mode) (length : ℕ) (agreed : List Known) (source : F)
+      (came : Came S F D) : Type 0 where
     pub rest : F
     pub end : EndState
     pub serves : ServesRead sources agreed from mode length old.config.retries source rest end
-    pub opens : came ≡ A_transfer (record { end = end; files = Source rest; path = path; request = bytes }) old.store
+    pub opens : came ≡ A_transfer
+        (record { end = end; files = Source rest; path = path; request = bytes }) old.store
 
-  -- or, where no option is agreed and DATA 1 can't be had, the file has changed
+  -- or the file has changed: no option is agreed, and DATA 1 cannot be read
   abbrev pub Starts : List ℕ → Mode → ℕ → List Known → F → Came S F D → Type 0
   Starts path mode length agreed source came =
       Serves path mode length agreed source came
-      ⊎ ((agreed ≡ []) × CannotStart sources length source × (came ≡ An_error FileChanged old.store))
+      ⊎ ((agreed ≡ []) × CannotStart sources length source
+      × (came ≡ An_error FileChanged old.store))
 
-  -- what comes of a file that was opened, or could not be
+  -- the result for a file that was opened, or could not be
   abbrev pub Sent : Service → Result (Opening F) StoreFault → Came S F D → Type 0
   Sent (Refused reply) file came = came ≡ An_error reply old.store
-  Sent (Sends path mode length agreed) (Ok file) came = Starts path mode length agreed file.source came
+  Sent (Sends path mode length agreed) (Ok file) came =
+      Starts path mode length agreed file.source came
   Sent service file came = ⊥
 
   -- a read: the store is asked for the file
-  pub record AsksToRead (path : List ℕ) (mode : Mode) (options : List RawOption) (came : Came S F D) : Type 0 where
+  pub record AsksToRead (path : List ℕ) (mode : Mode) (options : List RawOption)
+      (came : Came S F D) : Type 0 where
     pub file : Result (Opening F) StoreFault
     pub opens : Opens sources (meaning.stored old.store) path mode file
     pub refused : IfErr file (meaning.may_refuse_open old.store path)
     pub memory : file ≢ Err Memory
-    pub goes_on : Sent (by_file old.config.limits path mode options (opened_length file)) file came
+    pub goes_on : Sent (by_file old.config.limits path mode options (opened_length file)) file
+        came
 
-  -- what comes of a draft that was begun, or could not be
+  -- the result for a draft that was begun, or could not be
   abbrev pub Taken : Service → Result D StoreFault → S → Came S F D → Type 0
   Taken (Refused reply) draft store came = came ≡ An_error reply store
   Taken (Takes path mode agreed) (Ok draft) store came =
@@ -124,23 +135,25 @@ module _ {S F D : Type 0} (meaning : StoreMeaning S D) (sources : SourceMeaning 
   Taken service draft store came = ⊥
 
   -- a write: the store is asked for a draft
-  pub record AsksToWrite (path : List ℕ) (mode : Mode) (agreed : List Known) (came : Came S F D) : Type 0 where
+  pub record AsksToWrite (path : List ℕ) (mode : Mode) (agreed : List Known)
+      (came : Came S F D) : Type 0 where
     pub store : S
     pub draft : Result D StoreFault
-    pub begins : Begins meaning.drafted (meaning.stored old.store) (meaning.stored store) path old.config.overwrite draft
+    pub begins : Begins meaning.drafted (meaning.stored old.store) (meaning.stored store) path
+        old.config.overwrite draft
     pub refused : IfErr draft (meaning.may_refuse_begin old.store path old.config.overwrite)
     pub begun : meaning.begun old.store store (fault_in draft)
     pub memory : draft ≢ Err Memory
     pub goes_on : Taken (by_draft path mode agreed draft) draft store came
 
-  -- what comes of what the port asks
+  -- the result of what the port decided
   abbrev pub Goes : Ask → Came S F D → Type 0
   Goes Ignores came = came ≡ Nothing
   Goes (Refuses reply) came = came ≡ An_error reply old.store
   Goes (Reads path mode options) came = AsksToRead path mode options came
   Goes (Writes path mode agreed) came = AsksToWrite path mode agreed came
 
-  -- what the request port leaves that does what it has decided
+  -- what the request port leaves when it carries out its decision
   pub record CarriesOut (ask : Ask) (tid : ℕ) (result : Left S F D) : Type 0 where
     pub came : Came S F D
     pub goes : Goes ask came
@@ -153,32 +166,33 @@ module _ {S F D : Type 0} (meaning : StoreMeaning S D) (sources : SourceMeaning 
     pub repeated : Bool
     pub repeats : IsRepeated repeated from decoded old.held
     pub came : Came S F D
-    pub goes : Goes (asks old.config.cap (length old.held) repeated old.config.limits bytes decoded) came
+    pub goes : Goes
+        (asks old.config.cap (length old.held) repeated old.config.limits bytes decoded) came
     pub left : result ≡ left_by came old from tid
 
--- a request that came is one of this kind
+-- the packet is a request of this kind, or no request
 abbrev pub IsRequest : Option Packet → Option (Kind × Request) → Type 0
 IsRequest (Some (packets.Read r)) asked = asked ≡ Some (kinds.Read, r)
 IsRequest (Some (packets.Write r)) asked = asked ≡ Some (kinds.Write, r)
 IsRequest packet asked = asked ≡ None
 
--- a kind with a request, as the code has it
+-- a kind and a request, from the values in the code
 abbrev pub kind_and_request : Kind × RequestRef → Kind × Request
 kind_and_request asked = (asked.0, owned_request asked.1)
 
--- what the port asks, as the code has it
+-- what the port decides, from the value in the code
 abbrev pub ask_of : PortAction → Ask
 ask_of asked.Nothing = Ignores
 ask_of (asked.Refuse reply) = Refuses reply
 ask_of (asked.Read path request) = Reads path request.mode request.options
 ask_of (asked.Write path mode agreed) = Writes path mode agreed
 
--- what a decision comes to
+-- the result of a decision
 abbrev pub came_to : {S F D : Type 0} → Decision F D → S → Came S F D
 came_to (Refuse reply) store = An_error reply store
 came_to (Open held) store = A_transfer held store
 
--- what a decision has sent so far
+-- what was sent before a decision
 abbrev pub decided_bytes : {F D : Type 0} → Decision F D → List ℕ
 decided_bytes (Refuse reply) = []
 decided_bytes (Open held) = held.end.position.last_sent

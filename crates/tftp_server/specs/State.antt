@@ -1,5 +1,6 @@
--- The state of a server: what it is set to, its store, and the transfers that it holds.
-use Rattle.std.specs.Prelude.{ℕ, ◌≡◌, ◌⊎◌, ◌↔◌, IsTrue, Bool, false, not, List, [], ◌∷◌, Option, Some, None, is_some, if◌then◌else◌}
+-- The state of a server: its configuration, its store, and the transfers that it holds.
+use Rattle.std.specs.Prelude.{ℕ, ◌≡◌, ◌⊎◌, ◌↔◌, IsTrue, Bool, false, not, List, [], ◌∷◌, Option}
+use Rattle.std.specs.Prelude.{Some, None, is_some, if◌then◌else◌}
 use Rattle.std.specs.BTreeMap.{insert_entry, is_at}
 use Rattle.std.specs.Ordering.{nat_cmp}
 use Rattle.std.specs.Map.{lookup, remove_entry, set_value}
@@ -12,14 +13,15 @@ use Rattle.tftp_ends.specs.declared.record.Record.{Record}
 use Rattle.tftp_ends.specs.End.{EndState, record_of, outcome_of}
 use Rattle.tftp_server.specs.declared.config.Config.{Config}
 
--- a held transfer: its end, its source or draft, the path of the file, and the datagram that asked for it
+-- a held transfer: its end, its source or draft, the path of the file, and the datagram of the
+-- request
 pub record HeldTransfer (F D : Type 0) : Type 0 where
   pub end : EndState
   pub files : Files F D
   pub path : List ℕ
   pub request : List ℕ
 
--- all of a server; the transfers stand in rising order of their identifiers
+-- a server; its transfers are in rising order of identifier
 pub record ServerState (S F D : Type 0) : Type 0 where
   pub config : Config
   pub store : S
@@ -30,7 +32,7 @@ module _ {F D : Type 0} where
   abbrev pub is_closed : HeldTransfer F D → Bool
   is_closed held = is_some (outcome_of held.end.position.phase)
 
-  -- there is a transfer, and it has not closed
+  -- there is a transfer, and it is open
   abbrev pub is_open : Option (HeldTransfer F D) → Bool
   is_open None = false
   is_open (Some held) = not (is_closed held)
@@ -40,7 +42,7 @@ module _ {F D : Type 0} where
   source_of (Source source) = Some source
   source_of (Sink draft) = None
 
-  -- the draft of a transfer that stores, and of one that is held
+  -- the draft of a transfer that stores, from its files and from the transfer
   abbrev pub draft_of : Files F D → Option D
   draft_of (Source source) = None
   draft_of (Sink draft) = Some draft
@@ -49,25 +51,28 @@ module _ {F D : Type 0} where
   draft_at None = None
   draft_at (Some held) = draft_of held.files
 
-  -- the transfers that have not closed, and how far each came
+  -- the identifier and the record of each open transfer
   abbrev pub open_records : List (ℕ × HeldTransfer F D) → List (ℕ × Record)
   open_records [] = []
-  open_records (e ∷ held) = if is_closed e.1 then open_records held else (e.0, record_of e.1.end) ∷ open_records held
+  open_records (e ∷ held) =
+      if is_closed e.1 then open_records held
+      else (e.0, record_of e.1.end) ∷ open_records held
 
-  -- what is handed out of a transfer that is taken
+  -- what taking a transfer returns: nothing unless it is closed
   abbrev pub taken_of : Option (HeldTransfer F D) → Option (Record × Option D)
   taken_of None = None
-  taken_of (Some held) = if is_closed held then Some (record_of held.end, draft_of held.files) else None
+  taken_of (Some held) =
+      if is_closed held then Some (record_of held.end, draft_of held.files) else None
 
 module _ {F D : Type 0} where
-  -- an open transfer was asked for from there by a datagram that spells this packet; the case of the mode's letters is
-  -- no part of a packet
+  -- an open transfer was requested from this endpoint by a datagram that spells this packet; the
+  -- case of the mode's letters is not part of a packet
   pub record Repeats (from : Endpoint) (packet : Packet) (held : HeldTransfer F D) : Type 0 where
     pub still : is_closed held ≡ false
     pub peer : (record_of held.end).peer ≡ Some from
     pub same : Spells packet held.request
 
-  -- one of the transfers was
+  -- one of the transfers was so requested
   abbrev pub AnyRepeats : Endpoint → Packet → List (ℕ × HeldTransfer F D) → Type 0
   AnyRepeats from packet [] = ⊥
   AnyRepeats from packet (e ∷ held) = Repeats from packet e.1 ⊎ AnyRepeats from packet held
@@ -82,11 +87,11 @@ module _ {T : Type 0} where
   abbrev pub at : ℕ → List (ℕ × T) → Option T
   at tid held = lookup (is_at (nat_cmp tid)) held
 
-  -- the transfers with one more
+  -- the transfers with a new one
   abbrev pub with_new : ℕ → T → List (ℕ × T) → List (ℕ × T)
   with_new tid transfer held = insert_entry nat_cmp held tid transfer
 
-  -- the transfers with this in the place of the one at the identifier
+  -- the transfers with this one at the identifier instead
   abbrev pub with_next : ℕ → T → List (ℕ × T) → List (ℕ × T)
   with_next tid transfer held = set_value (is_at (nat_cmp tid)) held transfer
 

@@ -10,7 +10,8 @@ use Rattle.tftp_ends.specs.declared.record.Step.{Step}
 use Rattle.tftp_ends.specs.End.{EndState, record_of}
 use Rattle.tftp_ends.specs.Files.{KeepsFiles, AreSame}
 use Rattle.tftp_ends.specs.Action.{Decodes, datagram_action, timeout_action}
-use Rattle.tftp_ends.specs.Step.{Turn, DatagramStep, Carries, Lends, IsAnswered, UsesFile, timeout_turn, told}
+use Rattle.tftp_ends.specs.Step.{Turn, DatagramStep, Carries, Lends, IsAnswered, UsesFile}
+use Rattle.tftp_ends.specs.Step.{timeout_turn, told}
 use Rattle.tftp_ends.specs.declared.action.Action.{Action}
 use Rattle.tftp_ends.specs.declared.outgoing.Outgoing.{Outgoing}
 use Rattle.tftp_server.specs.declared.fault.ServerFault.{ServerFault}
@@ -19,20 +20,22 @@ use Rattle.tftp_server.specs.Draft.{Drafting, files_in, drafting_sink, KeepsStor
 use Rattle.tftp_server.specs.State.{HeldTransfer, ServerState, at, is_open, is_closed, with_next}
 use Rattle.tftp_store.specs.Store.{StoreMeaning}
 
--- what a call gives of a turn of an end, by the end that it leaves and where the answer goes
+-- what a call returns for a turn of an end, by the end that it leaves and the answer's destination
 abbrev pub Gives : Type 1
 Gives = EndState → Turn → EndState → Option Endpoint → Type 0
 
--- the answer, behind what was there
+-- the answer is appended
 abbrev pub appends : List ℕ → List ℕ → Gives
 appends before after e turn e' to = Carries e turn e' to before after
 
--- the answer, which the end lends
+-- the end lends the answer
 abbrev pub lends : Outgoing → Gives
 lends outgoing e turn e' to = Lends e turn e' to outgoing
 
--- an end with its file makes the step of a datagram, which gives this
-pub record MakesStep {S K : Type 0} (sources : SourceMeaning S) (sinks : SinkMeaning K) (gives : Gives) (from : Endpoint) (bytes : List ℕ) (e e' : EndState) (files files' : Files S K) (step : Step) : Type 0 where
+-- the step of an end with its file at a datagram, and what the call returns
+pub record MakesStep {S K : Type 0} (sources : SourceMeaning S) (sinks : SinkMeaning K)
+    (gives : Gives) (from : Endpoint) (bytes : List ℕ) (e e' : EndState)
+    (files files' : Files S K) (step : Step) : Type 0 where
   pub turn : Turn
   pub steps : DatagramStep sources sinks from bytes e files turn files'
   pub carries : gives e turn e' step.to
@@ -43,8 +46,9 @@ module _ {F D : Type 0} where
   abbrev pub with_end : EndState → HeldTransfer F D → HeldTransfer F D
   with_end e held = record held { end = e }
 
-  -- the transfer at the identifier made the step of a timeout, which gave this, and every other is as before
-  pub record TimesOutBy (gives : Gives) (tid : ℕ) (old new : List (ℕ × HeldTransfer F D)) (step : Step) : Type 0 where
+  -- the step of the transfer at the identifier at a timeout; every other transfer stays
+  pub record TimesOutBy (gives : Gives) (tid : ℕ) (old new : List (ℕ × HeldTransfer F D))
+      (step : Step) : Type 0 where
     pub transfer : HeldTransfer F D
     pub found : at tid old ≡ Some transfer
     pub end : EndState
@@ -52,43 +56,55 @@ module _ {F D : Type 0} where
     pub tells : step ≡ told transfer.end (timeout_turn transfer.end)
     pub held : new ≡ with_next tid (with_end end transfer) old
 
-  -- its datagram was appended, or is lent
-  abbrev pub TimesOut : ℕ → List (ℕ × HeldTransfer F D) → List (ℕ × HeldTransfer F D) → Step → List ℕ → List ℕ → Type 0
+  -- its datagram is appended, or lent
+  abbrev pub TimesOut : ℕ → List (ℕ × HeldTransfer F D) → List (ℕ × HeldTransfer F D) → Step
+      → List ℕ → List ℕ → Type 0
   TimesOut tid old new step before after = TimesOutBy (appends before after) tid old new step
 
-  abbrev pub TimesOutLent : ℕ → List (ℕ × HeldTransfer F D) → List (ℕ × HeldTransfer F D) → Step → Outgoing → Type 0
+  abbrev pub TimesOutLent : ℕ → List (ℕ × HeldTransfer F D) → List (ℕ × HeldTransfer F D) → Step
+      → Outgoing → Type 0
   TimesOutLent tid old new step outgoing = TimesOutBy (lends outgoing) tid old new step
 
-  -- why a timeout was not taken: there is no open transfer, or there is no memory for its datagram
+  -- why a timeout was not handled: there is no open transfer, or no memory for its datagram
   abbrev pub TimeoutFault : Option (HeldTransfer F D) → ServerFault → Type 0
   TimeoutFault transfer NoSuchTid = is_open transfer ≡ false
-  TimeoutFault (Some held) Memory = (is_closed held ≡ false) × IsAnswered (timeout_action held.end.position.retries_left held.end.position.phase)
+  TimeoutFault (Some held) Memory =
+      (is_closed held ≡ false)
+      × IsAnswered (timeout_action held.end.position.retries_left held.end.position.phase)
   TimeoutFault transfer _ = ⊥
 
-  -- why a datagram was not taken: there is no open transfer, or no memory for an action of this kind
-  abbrev pub DatagramFaultBy : (Action → Type 0) → Endpoint → List ℕ → Option (HeldTransfer F D) → ServerFault → Type 0
+  -- why a datagram was not handled: there is no open transfer, or no memory for an action of this
+  -- kind
+  abbrev pub DatagramFaultBy : (Action → Type 0) → Endpoint → List ℕ → Option (HeldTransfer F D)
+      → ServerFault → Type 0
   DatagramFaultBy kind from bytes transfer NoSuchTid = is_open transfer ≡ false
   DatagramFaultBy kind from bytes (Some held) Memory =
-      (is_closed held ≡ false) × (decoded : Option Packet) × Decodes bytes decoded × kind (datagram_action held.end from bytes decoded)
+      (is_closed held ≡ false) × (decoded : Option Packet) × Decodes bytes decoded
+      × kind (datagram_action held.end from bytes decoded)
   DatagramFaultBy kind from bytes transfer _ = ⊥
 
   -- where the answer is appended, or lent
   abbrev pub DatagramFault : Endpoint → List ℕ → Option (HeldTransfer F D) → ServerFault → Type 0
   DatagramFault from bytes transfer fault = DatagramFaultBy IsAnswered from bytes transfer fault
 
-  abbrev pub DatagramFaultLent : Endpoint → List ℕ → Option (HeldTransfer F D) → ServerFault → Type 0
+  abbrev pub DatagramFaultLent : Endpoint → List ℕ → Option (HeldTransfer F D) → ServerFault
+      → Type 0
   DatagramFaultLent from bytes transfer fault = DatagramFaultBy UsesFile from bytes transfer fault
 
 module _ {S F D : Type 0} (meaning : StoreMeaning S D) (sources : SourceMeaning F) where
-  -- what an end does at a datagram with the file of its transfer, which is a source or a draft of the store
-  abbrev pub StepIn : Endpoint → List ℕ → EndState → Files F (Drafting S D) → Turn → Files F (Drafting S D) → Type 0
+  -- the step of an end at a datagram with its file: a source, or a draft of the store
+  abbrev pub StepIn : Endpoint → List ℕ → EndState → Files F (Drafting S D) → Turn
+      → Files F (Drafting S D) → Type 0
   StepIn from bytes e files turn files' =
       DatagramStep sources (drafting_sink meaning) from bytes e files turn files'
 
-  -- the transfer made the step of a datagram, which gave this, and the store has become that
-  pub record TakesBy (gives : Gives) (replace : Bool) (from : Endpoint) (bytes : List ℕ) (store store' : S) (transfer next : HeldTransfer F D) (step : Step) : Type 0 where
+  -- the step of a transfer at a datagram, and its effect on the store
+  pub record TakesBy (gives : Gives) (replace : Bool) (from : Endpoint) (bytes : List ℕ)
+      (store store' : S) (transfer next : HeldTransfer F D) (step : Step) : Type 0 where
     pub turn : Turn
-    pub steps : StepIn from bytes transfer.end (files_in store transfer.path replace transfer.files) turn (files_in store' next.path replace next.files)
+    pub steps : StepIn from bytes transfer.end
+        (files_in store transfer.path replace transfer.files) turn
+        (files_in store' next.path replace next.files)
     pub carries : gives transfer.end turn next.end step.to
     pub tells : step ≡ told transfer.end turn
     pub stays : KeepsStore transfer.files store store'
@@ -96,39 +112,54 @@ module _ {S F D : Type 0} (meaning : StoreMeaning S D) (sources : SourceMeaning 
     pub path : next.path ≡ transfer.path
     pub request : next.request ≡ transfer.request
 
-  -- the transfer at the identifier made the step of a datagram, which gave this, and every other is as before
-  pub record TakesDatagramBy (gives : Gives) (tid : ℕ) (from : Endpoint) (bytes : List ℕ) (old new : ServerState S F D) (step : Step) : Type 0 where
+  -- the step of the transfer at the identifier at a datagram; every other transfer stays
+  pub record TakesDatagramBy (gives : Gives) (tid : ℕ) (from : Endpoint) (bytes : List ℕ)
+      (old new : ServerState S F D) (step : Step) : Type 0 where
     pub transfer : HeldTransfer F D
     pub next : HeldTransfer F D
     pub found : at tid old.held ≡ Some transfer
     pub takes : TakesBy gives old.config.overwrite from bytes old.store new.store transfer next step
     pub held : new.held ≡ with_next tid next old.held
 
-  -- its answer was appended, or is lent
-  abbrev pub TakesIn : Bool → Endpoint → List ℕ → S → S → HeldTransfer F D → HeldTransfer F D → Step → List ℕ → List ℕ → Type 0
-  TakesIn replace from bytes store store' transfer next step before after = TakesBy (appends before after) replace from bytes store store' transfer next step
+  -- its answer is appended, or lent
+  abbrev pub TakesIn : Bool → Endpoint → List ℕ → S → S → HeldTransfer F D → HeldTransfer F D
+      → Step → List ℕ → List ℕ → Type 0
+  TakesIn replace from bytes store store' transfer next step before after =
+      TakesBy (appends before after) replace from bytes store store' transfer next step
 
-  abbrev pub TakesDatagram : ℕ → Endpoint → List ℕ → ServerState S F D → ServerState S F D → Step → List ℕ → List ℕ → Type 0
-  TakesDatagram tid from bytes old new step before after = TakesDatagramBy (appends before after) tid from bytes old new step
+  abbrev pub TakesDatagram : ℕ → Endpoint → List ℕ → ServerState S F D → ServerState S F D
+      → Step → List ℕ → List ℕ → Type 0
+  TakesDatagram tid from bytes old new step before after =
+      TakesDatagramBy (appends before after) tid from bytes old new step
 
-  abbrev pub TakesDatagramLent : ℕ → Endpoint → List ℕ → ServerState S F D → ServerState S F D → Step → Outgoing → Type 0
-  TakesDatagramLent tid from bytes old new step outgoing = TakesDatagramBy (lends outgoing) tid from bytes old new step
+  abbrev pub TakesDatagramLent : ℕ → Endpoint → List ℕ → ServerState S F D → ServerState S F D
+      → Step → Outgoing → Type 0
+  TakesDatagramLent tid from bytes old new step outgoing =
+      TakesDatagramBy (lends outgoing) tid from bytes old new step
 
-  -- and this is how far it then came
-  abbrev pub TakesRecorded : ℕ → Endpoint → List ℕ → ServerState S F D → ServerState S F D → Step → Record → List ℕ → List ℕ → Type 0
+  -- and this is its new record
+  abbrev pub TakesRecorded : ℕ → Endpoint → List ℕ → ServerState S F D → ServerState S F D
+      → Step → Record → List ℕ → List ℕ → Type 0
   TakesRecorded tid from bytes old new step r before after =
-      (taken : TakesDatagram tid from bytes old new step before after) × (r ≡ record_of taken.next.end)
+      (taken : TakesDatagram tid from bytes old new step before after)
+      × (r ≡ record_of taken.next.end)
 
-  -- the transfer is as it was; its file tells the same, and so does the store
-  pub record StaysAs (replace : Bool) (store store' : S) (transfer next : HeldTransfer F D) : Type 0 where
+  -- the transfer stays; what its file and the store hold is the same
+  pub record StaysAs (replace : Bool) (store store' : S)
+      (transfer next : HeldTransfer F D) : Type 0 where
     pub end : next.end ≡ transfer.end
     pub path : next.path ≡ transfer.path
     pub request : next.request ≡ transfer.request
     pub stays : KeepsStore transfer.files store store'
-    pub files : KeepsFiles sources (drafting_sink meaning) (files_in store transfer.path replace transfer.files) (files_in store' next.path replace next.files)
+    pub files : KeepsFiles sources (drafting_sink meaning)
+        (files_in store transfer.path replace transfer.files)
+        (files_in store' next.path replace next.files)
 
-  -- nothing has changed; the file of the transfer at the identifier tells the same, and so does the store
-  abbrev pub KeepsHeld : ℕ → Option (HeldTransfer F D) → ServerState S F D → ServerState S F D → Type 0
+  -- nothing changes; what the file of the transfer at the identifier and the store hold is the same
+  abbrev pub KeepsHeld : ℕ → Option (HeldTransfer F D) → ServerState S F D → ServerState S F D
+      → Type 0
   KeepsHeld tid None old new = new ≡ old
   KeepsHeld tid (Some transfer) old new =
-      (next : HeldTransfer F D) × StaysAs old.config.overwrite old.store new.store transfer next × (new.held ≡ with_next tid next old.held)
+      (next : HeldTransfer F D)
+      × StaysAs old.config.overwrite old.store new.store transfer next
+      × (new.held ≡ with_next tid next old.held)

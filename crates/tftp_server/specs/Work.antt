@@ -1,4 +1,4 @@
--- What the file of a transfer does while the transfer's peer is busy.
+-- The file work of a transfer while its peer is busy.
 use Rattle.std.specs.Prelude.{ℕ, ◌≡◌, Option, Some, None}
 use Rattle.tftp_file.specs.Source.{SourceMeaning, ReadsAhead}
 use Rattle.tftp_file.specs.declared.files.Files.{Files}
@@ -7,7 +7,7 @@ use Rattle.tftp_store.specs.Store.{StoreMeaning, WritesBehind}
 use Rattle.tftp_server.specs.State.{HeldTransfer, ServerState, with_next}
 
 module _ {S F D : Type 0} (meaning : StoreMeaning S D) (sources : SourceMeaning F) where
-  -- a source reads ahead, and the store stays as it is; a draft is written back
+  -- a source reads ahead, and the store stays; a draft is written back
   abbrev pub FilesWork : S → S → Files F D → Files F D → Type 0
   FilesWork store store' (Source source) (Source source') =
       (store' ≡ store) × ReadsAhead sources source source'
@@ -20,9 +20,9 @@ module _ {S F D : Type 0} (meaning : StoreMeaning S D) (sources : SourceMeaning 
     pub files : FilesWork store store' transfer.files next.files
     pub rest : next ≡ record transfer { files = next.files }
 
-  -- the file of the transfer at the identifier works, if one is held, and every other transfer
-  -- stays as it is
-  abbrev pub WorksAt : ℕ → Option (HeldTransfer F D) → ServerState S F D → ServerState S F D → Type 0
+  -- the file of the transfer at the identifier works, if one is held; every other transfer stays
+  abbrev pub WorksAt : ℕ → Option (HeldTransfer F D) → ServerState S F D → ServerState S F D
+      → Type 0
   WorksAt tid None old new = new ≡ old
   WorksAt tid (Some transfer) old new =
       (next : HeldTransfer F D) × Works old.store new.store transfer next

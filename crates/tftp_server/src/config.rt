@@ -1,4 +1,4 @@
-//! What a server is set to.
+//! The configuration of a server.
 
 ghost use Rattle.std.specs.Prelude.{◌↔◌, IsTrue};
 ghost use Rattle.tftp_server.specs.Config.{IsConfig};
@@ -6,22 +6,23 @@ ghost use Rattle.tftp_server.specs.Config.{IsConfig};
 use tftp_file::MAX_WIRE;
 use tftp_negotiate::{Limits, is_block_size};
 
-/// Most retries of an end.
+/// The upper limit of [`Config::retries`].
 const MAX_RETRIES: u8 = 10;
 
-/// Most transfers of a table.
+/// The upper limit of [`Config::cap`].
 const MAX_CAP: u8 = 64;
 
-/// What a server allows its transfers, and how many it holds.
+/// The limits of a server and of each of its transfers.
 #[derive(Clone, Copy, Debug, PartialEq, Eq)]
 pub struct Config {
-    /// The largest block size that it answers and the longest file that it takes.
+    /// The largest block size that it agrees to and the largest `tsize` of a write that it accepts,
+    /// both in bytes.
     pub limits: Limits,
-    /// How often an end sends its last datagram sent again without progress, 0 to 10.
+    /// How often an end retransmits its last datagram without progress, 0 to 10.
     pub retries: u8,
-    /// How many transfers it holds at once, 1 to 64; closed ones count until they are taken.
+    /// How many transfers it holds at once, 1 to 64. A closed one counts until it is taken.
     pub cap: u8,
-    /// Whether a write replaces a file that is there.
+    /// Whether a write replaces an existing file.
     pub overwrite: bool,
 }
 
@@ -43,8 +44,8 @@ impl Default for Config {
 
     ghost is_default = { λ c. c ≡ default_config };
 
-    /// Blocks of 1,428 bytes at most, any file that blocks can carry, 5 retries and 16 transfers;
-    /// no file is replaced.
+    /// Blocks of at most 1,428 bytes, files of any length that blocks can carry, 5 retries and 16
+    /// transfers; no file is replaced.
     fn default() -> Config {
         Config {
             limits: Limits {

@@ -9,16 +9,15 @@ ghost use Rattle.tftp_wire.specs.declared.packet.Packet.{Packet};
 use tftp_file::{Path, Sink, StoreFault};
 use tftp_store::Store;
 
-/// A draft of a store, which is committed under a path.
+/// A draft of a store, to be committed under a path.
 #[derive(Drop)]
 pub(crate) struct DraftSink<'s, 'd, 'p, S: Store> {
-    /// The store.
     pub(crate) store: &'s mut S,
-    /// What is written.
+    /// The file that is written.
     pub(crate) draft: &'d mut S::Draft,
-    /// Where it is to be committed.
+    /// The path of the commit.
     pub(crate) path: &'p Path,
-    /// Whether it may take the place of a file there.
+    /// Whether the commit may replace an existing file.
     pub(crate) replace: bool,
 }
 

@@ -1,4 +1,4 @@
-//! Why a server did not take an event.
+//! Why a server did not handle an event.
 
 ghost use Rattle.std.specs.Prelude.{◌≡◌};
 ghost use Rattle.tftp_server.specs.Fault.{fault_number};
@@ -6,13 +6,13 @@ ghost use Rattle.tftp_server.specs.Fault.{fault_number};
 use tftp_ends::EndFault;
 use thiserror::Error;
 
-/// Why an event was not taken. Nothing has changed.
+/// Why an event was not handled. Nothing has changed.
 #[derive(Clone, Copy, Debug, PartialEq, Eq, Error)]
 pub enum ServerFault {
-    /// A transfer with this identifier is held. This is tested first.
+    /// A transfer with this identifier is held. This is tested before all else.
     #[error("the transfer identifier is in use")]
     TidInUse = 1,
-    /// No open transfer with this identifier is held.
+    /// No open transfer has this identifier.
     #[error("no open transfer has this identifier")]
     NoSuchTid = 2,
     /// Out of memory.

@@ -1,10 +1,10 @@
 //! A TFTP server without IO: its request port and its table of transfers (RFC 1350, section 4;
 //! RFC 2347).
 //!
-//! It opens no socket, reads no clock and touches no file but through its [`Store`].
+//! It opens no socket and reads no clock. It touches files only through its [`Store`].
 //!
-//! Begin with [`Server`]: each datagram that comes to its port of requests, or to the port of one
-//! of its transfers, is one call. No call changes another transfer.
+//! Begin with [`Server`]: each datagram that arrives at the request port, or at the port of a
+//! transfer, is one call. A call changes no other transfer.
 #![tactic(auto)]
 
 mod config;

@@ -1,4 +1,4 @@
-//! An end that takes a datagram, over a file that it borrows.
+//! An end that handles a datagram over a borrowed file.
 
 ghost use Rattle.std.specs.Prelude.{◌≡◌, ◌↔◌, true, false, IfOk, OnErr, IsErrOf, IsSome, Option};
 ghost use Rattle.tftp_ends.specs.Action.{Decodes, datagram_action};
@@ -11,7 +11,7 @@ ghost use Rattle.tftp_server.specs.Steps.{MakesStep, appends, lends};
 use tftp_ends::{End, EndFault, Endpoint, Outgoing, Step};
 use tftp_file::{Files, Sink, Source};
 
-/// An end that sends takes a datagram. The answer is appended to `out`.
+/// A sending end handles a datagram. The answer is appended to `out`.
 pub(crate) fn on_datagram_of_source<S: Source, K: Sink>(
     end: &mut End,
     source: &mut S,
@@ -39,7 +39,7 @@ pub(crate) fn on_datagram_of_source<S: Source, K: Sink>(
     result
 }
 
-/// An end that receives takes a datagram. The answer is appended to `out`.
+/// A receiving end handles a datagram. The answer is appended to `out`.
 pub(crate) fn on_datagram_of_sink<S: Source, K: Sink>(
     end: &mut End,
     sink: &mut K,
@@ -68,7 +68,7 @@ pub(crate) fn on_datagram_of_sink<S: Source, K: Sink>(
     result
 }
 
-/// The same for an end that sends, with what goes out lent by the end.
+/// As [`on_datagram_of_source`], but the end lends the answer.
 pub(crate) fn handle_datagram_of_source<S: Source, K: Sink>(
     end: &mut End,
     source: &mut S,
@@ -95,7 +95,7 @@ pub(crate) fn handle_datagram_of_source<S: Source, K: Sink>(
     result
 }
 
-/// The same for an end that receives, with what goes out lent by the end.
+/// As [`on_datagram_of_sink`], but the end lends the answer.
 pub(crate) fn handle_datagram_of_sink<S: Source, K: Sink>(
     end: &mut End,
     sink: &mut K,

@@ -1,4 +1,4 @@
-//! Goes over the open transfers of a server, by rising identifier.
+//! An iterator over the open transfers of a server.
 
 ghost use Rattle.std.specs.Prelude.{◌≡◌};
 ghost use Rattle.std.specs.Iterator.{YieldsFirst, item_count};
@@ -13,10 +13,10 @@ use std::iter::FusedIterator;
 use std::marker::Model;
 use tftp_ends::Record;
 
-/// The open transfers of a server that are left to go over, by rising identifier: of each its
-/// identifier and how far it came. It takes no memory.
+/// An iterator over the open transfers of a server, in rising order of identifier: the identifier
+/// and the record of each. It does not allocate.
 ///
-/// `F` and `D` are the sources and the drafts of the server's store.
+/// `F` and `D` are the types of the store's sources and drafts.
 #[derive(Drop)]
 pub struct OpenTransfers<'a, F, D> {
     index: Iter<'a, u16, usize>,
@@ -35,7 +35,7 @@ impl<'a, F, D> Model for OpenTransfers<'a, F, D> {
 }
 
 impl<'a, F, D> OpenTransfers<'a, F, D> {
-    /// Those under the keys of the index that are open.
+    /// An iterator over the open transfers in the slots that the index names.
     pub(crate) fn new(
         index: &'a BTreeMap<u16, usize>,
         slots: &'a Slab<Transfer<F, D>>,

@@ -1,13 +1,13 @@
-//! What came of a request.
+//! The result of a request.
 
 use tftp_ends::Endpoint;
 
-/// What came of a datagram to the request port.
+/// The result of a datagram to the request port.
 #[derive(Clone, Copy, Debug, PartialEq, Eq)]
 pub struct Opened {
-    /// The identifier of the transfer that opened. If there is none, an answer goes out from the
-    /// request port; else from the transfer's own.
+    /// The identifier of the transfer that opened, if one did. The datagram is to be sent from its
+    /// port, or from the request port if none opened.
     pub tid: Option<u16>,
-    /// Where the one datagram goes that the call appended; none was appended if there is none.
+    /// The destination of the one datagram that the call appended, if it appended one.
     pub to: Option<Endpoint>,
 }

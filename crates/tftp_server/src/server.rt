@@ -41,9 +41,9 @@ use tftp_negotiate::Agreed;
 use tftp_store::Store;
 use tftp_wire::{Mode, RequestRef};
 
-/// A server: what it is set to, its store and the transfers that it holds.
+/// A server: its configuration, its store and the transfers that it holds.
 ///
-/// Contracts see the transfers in rising order of their identifiers.
+/// Contracts see the transfers in rising order of identifier.
 #[derive(Drop)]
 pub struct Server<S: Store> {
     alloc: Global,
@@ -82,7 +82,7 @@ impl<S: Store> Server<S> {
         })
     }
 
-    /// How far the transfer at the identifier came, closed or not, if one is held.
+    /// The record of the transfer at the identifier, open or closed, if one is held.
     pub fn record(&self, tid: u16) -> Option<Record>
         ensures { result ≡ option_map (λ held. record_of held.end) (at tid self.now.held) }
     {
@@ -92,7 +92,7 @@ impl<S: Store> Server<S> {
         }
     }
 
-    /// The draft of the transfer at the identifier, closed or not, if one is held that stores.
+    /// The draft of the transfer at the identifier, open or closed, if one is held that stores.
     pub fn draft(&self, tid: u16) -> Option<&S::Draft>
         ensures { option_copied result ≡ draft_at (at tid self.now.held) }
     {
@@ -102,11 +102,11 @@ impl<S: Store> Server<S> {
         }
     }
 
-    /// The transfer at the identifier takes a timeout. At most one datagram is appended to `out`,
-    /// for where [`Step::to`] says.
+    /// The transfer at the identifier handles a timeout. At most one datagram is appended to `out`;
+    /// [`Step::to`] is its destination.
     ///
-    /// `NoSuchTid` where no open transfer has the identifier; `Memory` only where a datagram is to
-    /// be sent. After a fault nothing has changed.
+    /// `NoSuchTid` if no open transfer has the identifier; `Memory` only if a datagram is to be
+    /// sent. After a fault nothing has changed.
     pub fn on_timeout(&mut self, tid: u16, out: &mut Vec<u8>) -> Result<Step, ServerFault>
         ensures steps { IfOk result (λ step. TimesOut tid self.old.held self.new.held step
             out.old.items out.new.items) }
@@ -125,11 +125,11 @@ impl<S: Store> Server<S> {
         }
     }
 
-    /// The transfer at the identifier takes a datagram that came from there. At most one datagram
-    /// is appended to `out`, for where [`Step::to`] says.
+    /// The transfer at the identifier handles a datagram from `from`. At most one datagram is
+    /// appended to `out`; [`Step::to`] is its destination.
     ///
-    /// `NoSuchTid` where no open transfer has the identifier; `Memory` only where a datagram is to
-    /// be sent. After a fault nothing has changed.
+    /// `NoSuchTid` if no open transfer has the identifier; `Memory` only if a datagram is to be
+    /// sent. After a fault nothing has changed.
     pub fn on_datagram(
         &mut self,
         tid: u16,
@@ -153,7 +153,8 @@ impl<S: Store> Server<S> {
         }
     }
 
-    /// As [`Server::on_datagram`], and it tells how far the transfer then came: it is found once.
+    /// As [`Server::on_datagram`], and it also returns the new record of the transfer, with one
+    /// look-up for both.
     pub fn on_datagram_recorded(
         &mut self,
         tid: u16,
@@ -183,10 +184,10 @@ impl<S: Store> Server<S> {
         }
     }
 
-    /// The transfer at the identifier takes a timeout, and tells what goes out, without a copy of
-    /// it: [`Server::bytes_of`] lends it, and [`Step::to`] says where it goes.
+    /// The transfer at the identifier handles a timeout. Returns the datagram to send without a
+    /// copy: [`Server::bytes_of`] lends its bytes, and [`Step::to`] is its destination.
     ///
-    /// Its one fault is `NoSuchTid`, where no open transfer has the identifier; then nothing has
+    /// `NoSuchTid`, its one fault, if no open transfer has the identifier; then nothing has
     /// changed.
     pub fn handle_timeout(&mut self, tid: u16) -> Result<(Step, Outgoing), ServerFault>
         ensures steps { IfOk result (λ answer. TimesOutLent tid self.old.held self.new.held answer.0
@@ -206,12 +207,11 @@ impl<S: Store> Server<S> {
         }
     }
 
-    /// The transfer at the identifier takes a datagram that came from there, and tells what goes
-    /// out, without a copy of it: [`Server::bytes_of`] lends it, and [`Step::to`] says where it
-    /// goes.
+    /// The transfer at the identifier handles a datagram from `from`. Returns the datagram to send
+    /// without a copy: [`Server::bytes_of`] lends its bytes, and [`Step::to`] is its destination.
     ///
-    /// `NoSuchTid` where no open transfer has the identifier; `Memory` only where a file is asked
-    /// for a block or given one. After a fault nothing has changed.
+    /// `NoSuchTid` if no open transfer has the identifier; `Memory` only if a block is to be read
+    /// or stored. After a fault nothing has changed.
     pub fn handle_datagram(
         &mut self,
         tid: u16,
@@ -238,7 +238,8 @@ impl<S: Store> Server<S> {
         }
     }
 
-    /// The bytes of what goes out of the transfer at the identifier, until the next call.
+    /// The bytes of the datagram to send for the transfer at the identifier, if one is held. They
+    /// are valid until the next call.
     pub fn bytes_of(&self, tid: u16, outgoing: Outgoing) -> Option<&[u8]>
         ensures { option_map (λ bytes. bytes.now) result ≡ option_map
             (λ held. lent outgoing held.end) (at tid self.now.held) }
@@ -249,9 +250,8 @@ impl<S: Store> Server<S> {
         }
     }
 
-    /// Has the file of the transfer at the identifier work while the transfer's peer is busy: a
-    /// source reads ahead, and a draft is written back. Nothing happens where no transfer has the
-    /// identifier.
+    /// The source of the transfer at the identifier reads ahead, or its draft is written back. To
+    /// be called while the peer is busy. Without effect if no transfer has the identifier.
     pub fn work(&mut self, tid: u16)
         ensures works { WorksAt S.meaning S.Source.meaning tid (at tid self.old.held) self.old
             self.new }
@@ -262,10 +262,10 @@ impl<S: Store> Server<S> {
         }
     }
 
-    /// What the port of requests decides of a datagram that came from there, by the tests that ask
-    /// no store. Whoever has the port of the transfer to bind does that only where
-    /// [`Admission::may_open`], and then [`Server::open`] carries the admission out. It fails only
-    /// when out of memory, and never for a datagram that is ignored.
+    /// What the request port decides for a datagram from `from`, by the tests that ask no store.
+    /// The caller binds the port of the transfer only if [`Admission::may_open`]; then
+    /// [`Server::open`] carries the admission out. `Memory` is its one fault, and never for a
+    /// datagram that is ignored.
     pub fn admit<'a>(&self, from: Endpoint, bytes: &'a [u8]) -> Result<Admission<'a>, ServerFault>
         ensures admits { IfOk result (λ admission. Admits self.now from bytes.now admission.ask) }
         ensures from { IfOk result (λ admission. admission.from ≡ from) }
@@ -279,9 +279,9 @@ impl<S: Store> Server<S> {
         }
     }
 
-    /// Whether a datagram from there to the port of requests could open a transfer, by the tests
-    /// that ask no store: where it could not, [`Server::on_request`] opens none, whatever the
-    /// identifier. It fails as [`Server::admit`] does.
+    /// Whether a datagram from `from` to the request port could open a transfer, by the tests that
+    /// ask no store. If not, [`Server::on_request`] opens none, whatever the identifier. Its faults
+    /// are those of [`Server::admit`].
     pub fn may_open(&self, from: Endpoint, bytes: &[u8]) -> Result<bool, ServerFault>
         ensures asks { IfOk result (λ may. (decoded : Option Packet) × (repeated : Bool)
             × Decodes bytes.now decoded × IsRepeated repeated from decoded self.now.held
@@ -296,8 +296,8 @@ impl<S: Store> Server<S> {
         }
     }
 
-    /// The block size, in bytes, of the transfer that an admission may open, which no length of the
-    /// file changes (RFC 2348). There is none if no transfer opens, also by options that are
+    /// The block size, in bytes, of the transfer that an admission may open, for every length of
+    /// the file (RFC 2348). `None` if no transfer can open, for example because its options are
     /// refused.
     pub fn block_size(&self, admission: &Admission<'_>) -> Option<u16>
         ensures { result ≡ granted_size self.now.config.limits admission.now.ask }
@@ -309,13 +309,13 @@ impl<S: Store> Server<S> {
         }
     }
 
-    /// Carries an admission out. Where a transfer opens, that gets the identifier `tid`, the port
-    /// from which its datagrams go out (RFC 1350, section 4). At most one datagram is appended to
-    /// `out`, for where [`Opened::to`] says.
+    /// Carries an admission out. A transfer that opens gets the identifier `tid`, the port that
+    /// sends its datagrams (RFC 1350, section 4). At most one datagram is appended to `out`;
+    /// [`Opened::to`] is its destination.
     ///
-    /// A request to read has the store open the file; one to write has it begin a draft. `TidInUse`
-    /// where a transfer has the identifier; `Memory`, but never for a datagram that is ignored.
-    /// After a fault nothing has changed.
+    /// For a read the store opens the file; for a write it begins a draft. `TidInUse` if a transfer
+    /// has the identifier; `Memory`, but never for a datagram that is ignored. After a fault
+    /// nothing has changed.
     pub fn open(
         &mut self,
         admission: Admission<'_>,
@@ -352,10 +352,10 @@ impl<S: Store> Server<S> {
         }
     }
 
-    /// A datagram came from there to the port of requests: [`Server::admit`] and [`Server::open`],
-    /// one after the other.
+    /// Handles a datagram from `from` to the request port: [`Server::admit`], then
+    /// [`Server::open`].
     ///
-    /// `TidInUse` where a transfer has the identifier; `Memory`, but never for a datagram that is
+    /// `TidInUse` if a transfer has the identifier; `Memory`, but never for a datagram that is
     /// ignored. After a fault nothing has changed.
     pub fn on_request(
         &mut self,
@@ -381,7 +381,7 @@ impl<S: Store> Server<S> {
         }
     }
 
-    /// Opens a transfer of the file at the path under an identifier that none has.
+    /// Opens a read transfer of the file at the path, under an unused identifier.
     fn read_from(
         &mut self,
         from: Endpoint,
@@ -421,8 +421,8 @@ impl<S: Store> Server<S> {
         }
     }
 
-    /// Opens a transfer that stores under the path, by an identifier that none has. The table makes
-    /// room for it first: a draft that was begun is then never let go for want of memory.
+    /// Opens a write transfer to the path, under an unused identifier. The table reserves capacity
+    /// first, so that no draft is dropped for lack of memory after the store began it.
     fn write_from(
         &mut self,
         from: Endpoint,
@@ -472,8 +472,8 @@ impl<S: Store> Server<S> {
         }
     }
 
-    /// Appends the identifiers of all transfers that are held, in rising order, closed ones among
-    /// them. It fails only when out of memory, and then appends none.
+    /// Appends the identifiers of all transfers that are held, open and closed, in rising order.
+    /// `Memory` is its one fault; then it appends none.
     pub fn tids(&self, out: &mut Vec<u16>) -> Result<(), ServerFault>
         ensures ok { OnOk result (out.new.items ≡ out.old.items ++ keys_of self.now.held) }
         ensures err { OnErr result (out.new.items ≡ out.old.items) }
@@ -485,8 +485,8 @@ impl<S: Store> Server<S> {
         }
     }
 
-    /// The transfers that are open, by rising identifier: of each its identifier and how far it
-    /// came. A closed one that was not taken is left out. It takes no memory.
+    /// An iterator over the open transfers, in rising order of identifier: the identifier and the
+    /// record of each. It does not allocate.
     pub fn open_transfers(&self) -> OpenTransfers<'_, S::Source, S::Draft>
         ensures { result ≡ open_records self.now.held }
     {
@@ -500,7 +500,7 @@ impl<S: Store> Server<S> {
         &self.store
     }
 
-    /// The store, to be changed. No transfer changes.
+    /// The store, mutably. No transfer changes.
     pub fn store_mut(&mut self) -> &mut S
         ensures* writes_back { sem 𝓛 (Lends (the_row S.row S.Source.row S.Draft.row S.Store
             S.Source.Source) S.row self.entry result (λ w. record self.old { store = w })) }
@@ -511,8 +511,8 @@ impl<S: Store> Server<S> {
 }
 
 impl<S: Store + Drop> Server<S> {
-    /// Takes a closed transfer out of the table, with the draft of a write, and hands out how far
-    /// it came. Nothing changes if none with this identifier is held, or it has not closed.
+    /// Removes the closed transfer at the identifier from the table. Returns its record and, for a
+    /// write, its draft. If no closed transfer has the identifier, nothing changes.
     pub fn take_closed(&mut self, tid: u16) -> Option<(Record, Option<S::Draft>)>
         ensures taken { result ≡ taken_of (at tid self.old.held) }
         ensures held { self.new.held ≡ (if is_some result then without tid self.old.held else
@@ -530,7 +530,7 @@ impl<S: Store + Drop> Server<S> {
     }
 }
 
-/// An ERROR goes out from the request port.
+/// Appends an ERROR, to be sent from the request port.
 fn refuse(reply: ErrorReply, from: Endpoint, out: &mut Vec<u8>) -> Result<Opened, ServerFault>
     ensures opened { IfOk result (λ opened. opened ≡ record { tid = None; to = Some from }) }
     ensures ok { OnOk result (out.new.items ≡ out.old.items ++ error_bytes reply) }
@@ -546,7 +546,7 @@ fn refuse(reply: ErrorReply, from: Endpoint, out: &mut Vec<u8>) -> Result<Opened
     })
 }
 
-/// The same, where there is room for it.
+/// As [`refuse`], into reserved capacity.
 fn refuse_in_room(reply: ErrorReply, from: Endpoint, out: &mut Vec<u8>) -> Opened
     requires { length out.old.items + MAX_ERROR ≤ vec_capacity out.old }
     ensures opened { result ≡ record { tid = None; to = Some from } }

@@ -20,15 +20,15 @@ use std::marker::Model;
 use tftp_ends::Endpoint;
 use tftp_wire::PacketRef;
 
-/// Values by identifier. Contracts see the list of them in rising order of identifier.
+/// Values by identifier. Contracts see them as a list in rising order of identifier.
 #[derive(Drop)]
 pub(crate) struct Table<T> {
     slots: Slab<T>,
     index: BTreeMap<u16, usize>,
 }
 
-/// A table with room for one more value: its index has the identifier already, by the key at which
-/// the value will lie.
+/// A table with reserved capacity for one more value: its index already has the identifier, with
+/// the key of the slot to fill.
 #[derive(Drop)]
 pub(crate) struct Spot<T> {
     slots: Slab<T>,
@@ -49,7 +49,7 @@ impl<T> Model for Table<T> {
 impl<T> Table<T> {
     ghost use Rattle.tftp_server.specs.contracts.table.Table.{the_row};
 
-    /// An empty table, which takes no memory.
+    /// An empty table. It does not allocate.
     pub(crate) fn new(alloc: Global) -> Table<T>
         ensures { result ≡ [] }
     {
@@ -59,7 +59,7 @@ impl<T> Table<T> {
         }
     }
 
-    /// How many values it holds.
+    /// The number of values.
     pub(crate) fn len(&self) -> usize
         ensures { result ≡ length self.now }
     {
@@ -76,7 +76,7 @@ impl<T> Table<T> {
         }
     }
 
-    /// Appends the identifiers in rising order. After a refusal none is appended.
+    /// Appends the identifiers in rising order. It appends none when out of memory.
     pub(crate) fn append_tids(&self, out: &mut Vec<u16>) -> Result<(), AllocError>
         ensures ok { OnOk result (out.new.items ≡ out.old.items ++ keys_of self.now) }
         ensures err { OnErr result (out.new.items ≡ out.old.items) }
@@ -103,14 +103,14 @@ impl<T> Table<T> {
 }
 
 impl<F, D> Table<Transfer<F, D>> {
-    /// Those that are open, by rising identifier.
+    /// The open transfers, in rising order of identifier.
     pub(crate) fn open_transfers(&self) -> OpenTransfers<'_, F, D>
         ensures { result ≡ open_records self.now }
     {
         OpenTransfers::new(&self.index, &self.slots)
     }
 
-    /// Whether one of them is open and was asked for from there by this packet.
+    /// Whether one of them is open and was requested from `from` by this packet.
     pub(crate) fn is_repeated(&self, from: Endpoint, decoded: &Option<PacketRef<'_>>) -> bool
         ensures { IsRepeated result from (option_map owned decoded.now) self.now }
     {
@@ -121,7 +121,8 @@ impl<F, D> Table<Transfer<F, D>> {
     }
 }
 
-/// Whether one of the transfers under the keys is open and was asked for from there by this packet.
+/// Whether one of the transfers that the index names is open and was requested from `from` by this
+/// packet.
 fn any_repeats<F, D>(
     index: &BTreeMap<u16, usize>,
     slots: &Slab<Transfer<F, D>>,
@@ -144,8 +145,8 @@ fn any_repeats<F, D>(
 }
 
 impl<T: Drop> Table<T> {
-    /// Makes room for a value at an identifier that holds none. After a refusal the table comes
-    /// back as it was.
+    /// Reserves capacity for a value at an identifier that holds none. When out of memory, it
+    /// returns the unchanged table.
     pub(crate) fn reserve(self, tid: u16) -> Result<Spot<T>, Table<T>>
         requires { lookup (is_at (nat_cmp tid)) self ≡ None }
         ensures spot { IfOk result (λ spot. IsSpot tid self spot.index.entries spot.slots) }
@@ -164,7 +165,7 @@ impl<T: Drop> Table<T> {
         }
     }
 
-    /// Puts a value at an identifier that holds none. After a refusal nothing has changed.
+    /// Puts a value at an identifier that holds none. When out of memory, nothing has changed.
     pub(crate) fn insert(&mut self, tid: u16, value: T) -> Result<(), AllocError>
         requires { lookup (is_at (nat_cmp tid)) self.old ≡ None }
         ensures ok { OnOk result (self.new ≡ insert_entry nat_cmp self.old tid value) }
@@ -176,7 +177,7 @@ impl<T: Drop> Table<T> {
         Ok(())
     }
 
-    /// Takes the value at the identifier out, if it holds one.
+    /// Removes the value at the identifier, if it holds one.
     pub(crate) fn remove(&mut self, tid: u16) -> Option<T>
         ensures value { result ≡ lookup (is_at (nat_cmp tid)) self.old }
         ensures others { self.new ≡ remove_entry (is_at (nat_cmp tid)) self.old }
@@ -189,7 +190,7 @@ impl<T: Drop> Table<T> {
 }
 
 impl<T: Drop> Spot<T> {
-    /// The table with the value at the identifier for which room was made.
+    /// The table with the value at the reserved identifier.
     pub(crate) fn fill(self, value: T) -> Table<T>
         requires { (tid : ℕ) × (held : List (ℕ × T))
             × IsSpot tid held self.index.entries self.slots }
@@ -202,7 +203,7 @@ impl<T: Drop> Spot<T> {
         Table { slots, index }
     }
 
-    /// The table as it was before room was made at the identifier.
+    /// The table as it was before the reservation.
     pub(crate) fn give_up(self, tid: u16) -> Table<T>
         requires { (held : List (ℕ × T)) × IsSpot tid held self.index.entries self.slots }
         ensures { (held : List (ℕ × T)) → IsSpot tid held self.index.entries self.slots
@@ -214,7 +215,7 @@ impl<T: Drop> Spot<T> {
     }
 }
 
-/// Appends the keys in order. After a refusal none is appended.
+/// Appends the keys in order. It appends none when out of memory.
 fn append_keys(index: &BTreeMap<u16, usize>, out: &mut Vec<u16>) -> Result<(), AllocError>
     ensures ok { OnOk result (out.new.items ≡ out.old.items ++ keys_of index.now.entries) }
     ensures err { OnErr result (out.new.items ≡ out.old.items) }
@@ -226,7 +227,7 @@ fn append_keys(index: &BTreeMap<u16, usize>, out: &mut Vec<u16>) -> Result<(), A
     Ok(())
 }
 
-/// The slab's key of an identifier, or a vacant one where the index has none.
+/// The key of the slot of an identifier, or a vacant one if the index has none.
 fn key_at<T>(index: &BTreeMap<u16, usize>, slots: &Slab<T>, tid: u16) -> usize
     ensures { IsKeyFor (lookup (is_at (nat_cmp tid)) index.now.entries) result slots.now }
 {

@@ -1,4 +1,4 @@
-//! A transfer that a server holds: its end, its file, where that file is and what asked for it.
+//! A transfer that a server holds.
 
 ghost use Rattle.std.specs.Prelude.{◌≡◌, ◌↔◌, true, IsTrue, IfOk, OnErr, IsErrOf, Option};
 ghost use Rattle.std.specs.Prelude.{option_copied};
@@ -23,8 +23,8 @@ use tftp_file::{Files, MemSink, Path, Source};
 use tftp_store::Store;
 use tftp_wire::PacketRef;
 
-/// A transfer: an end with its source or its draft, the path of the file, and the datagram that
-/// asked for it.
+/// A transfer: an end with its source or its draft, the path of the file, and the datagram of the
+/// request.
 #[derive(Drop)]
 pub(crate) struct Transfer<F, D> {
     end: End,
@@ -50,7 +50,7 @@ impl<F, D> Model for Transfer<F, D> {
 }
 
 impl<F, D> Transfer<F, D> {
-    /// A transfer of the file at the path, which the datagram asked for.
+    /// A transfer of the file at the path, which the datagram `request` asked for.
     pub(crate) fn new(end: End, files: Files<F, D>, path: Path, request: Vec<u8>) -> Transfer<F, D>
         requires { AreFilesOf end.role.side files }
         ensures { result ≡ record {
@@ -68,7 +68,7 @@ impl<F, D> Transfer<F, D> {
         }
     }
 
-    /// How far its end came.
+    /// The record of its end.
     pub(crate) fn record(&self) -> Record
         ensures { result ≡ record_of self.now.end }
     {
@@ -92,7 +92,7 @@ impl<F, D> Transfer<F, D> {
         }
     }
 
-    /// Whether it is open, and was asked for from there by the same packet.
+    /// Whether it is open and was requested from `from` by the same packet.
     pub(crate) fn repeats(&self, from: Endpoint, packet: &PacketRef<'_>) -> bool
         ensures { IsTrue result ↔ Repeats from (owned packet.now) self.now }
     {
@@ -104,7 +104,7 @@ impl<F, D> Transfer<F, D> {
 }
 
 impl<F, D> Transfer<F, D> {
-    /// Its end takes a timeout. After a fault nothing has changed.
+    /// Its end handles a timeout. After a fault nothing has changed.
     pub(crate) fn on_timeout(&mut self, out: &mut Vec<u8>) -> Result<Step, EndFault>
         ensures steps { IfOk result (λ step. Carries self.old.end (timeout_turn self.old.end)
             self.new.end step.to out.old.items out.new.items
@@ -119,7 +119,7 @@ impl<F, D> Transfer<F, D> {
         self.end.on_timeout(out)
     }
 
-    /// The same, with what goes out lent by [`Transfer::bytes_of`].
+    /// As [`Transfer::on_timeout`], but [`Transfer::bytes_of`] lends the datagram.
     pub(crate) fn handle_timeout(&mut self) -> Result<(Step, Outgoing), EndFault>
         ensures steps { IfOk result (λ answer. Lends self.old.end (timeout_turn self.old.end)
             self.new.end answer.0.to answer.1
@@ -132,7 +132,7 @@ impl<F, D> Transfer<F, D> {
         self.end.handle_timeout()
     }
 
-    /// The bytes of what goes out.
+    /// The bytes of the datagram to send.
     pub(crate) fn bytes_of(&self, outgoing: Outgoing) -> &[u8]
         ensures { result.now ≡ lent outgoing self.now.end }
     {
@@ -141,8 +141,8 @@ impl<F, D> Transfer<F, D> {
 }
 
 impl<F: Source, D> Transfer<F, D> {
-    /// Its end takes a datagram; what it stores goes into its draft of that store. After a fault
-    /// nothing has changed.
+    /// Its end handles a datagram. What it stores is appended to its draft of `store`. After a
+    /// fault nothing has changed.
     pub(crate) fn on_datagram<S: Store<Source = F, Draft = D>>(
         &mut self,
         store: &mut S,
@@ -187,7 +187,7 @@ impl<F: Source, D> Transfer<F, D> {
         }
     }
 
-    /// The same, with what goes out lent by [`Transfer::bytes_of`].
+    /// As [`Transfer::on_datagram`], but [`Transfer::bytes_of`] lends the datagram.
     pub(crate) fn handle_datagram<S: Store<Source = F, Draft = D>>(
         &mut self,
         store: &mut S,
@@ -231,7 +231,7 @@ impl<F: Source, D> Transfer<F, D> {
 }
 
 impl<F: Source, D> Transfer<F, D> {
-    /// Its file works while its peer is busy: a source reads ahead, and a draft is written back.
+    /// A source reads ahead, and a draft is written back. To be called while the peer is busy.
     pub(crate) fn work<S: Store<Source = F, Draft = D>>(&mut self, store: &mut S)
         ensures { Works S.meaning F.meaning store.old store.new self.old self.new }
     {
@@ -243,7 +243,7 @@ impl<F: Source, D> Transfer<F, D> {
 }
 
 impl<F: Drop, D> Transfer<F, D> {
-    /// Its draft, if it stores; the rest is let go.
+    /// Its draft, if it stores; the rest is dropped.
     pub(crate) fn into_draft(self) -> Option<D>
         ensures { result ≡ draft_of self.files }
     {

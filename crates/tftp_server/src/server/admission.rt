@@ -1,4 +1,4 @@
-//! What the request port decides of a datagram before it asks its store.
+//! What the request port decides for a datagram before it asks its store.
 
 ghost use Rattle.std.specs.Prelude.{◌≡◌};
 ghost use Rattle.tftp_server.specs.Port.{asks_store};
@@ -7,12 +7,12 @@ use crate::server::request::PortAction;
 use std::marker::Model;
 use tftp_ends::Endpoint;
 
-/// A datagram that came to the port of requests, with what the tests that ask no store decided of
-/// it: nothing is done, an ERROR is to be sent, or the store is to be asked.
+/// A datagram to the request port, and what the tests that ask no store decided for it: to ignore
+/// it, to send an ERROR, or to ask the store.
 ///
-/// [`Server::admit`] makes it of a server as that stands, and [`Server::open`] carries it out. So
-/// no other call may change the server in between; whoever has the port of the transfer to bind
-/// does that then.
+/// [`Server::admit`] returns it, and [`Server::open`] carries it out. It depends on the state of
+/// the server: make no other call that changes the server in between. The caller binds the port of
+/// the transfer between the two.
 ///
 /// [`Server::admit`]: crate::Server::admit
 /// [`Server::open`]: crate::Server::open
@@ -32,7 +32,7 @@ impl<'a> Model for Admission<'a> {
 }
 
 impl<'a> Admission<'a> {
-    /// Whether the store is to be asked, so that a transfer may open. Where it is not, none opens,
+    /// Whether the store is to be asked, so that a transfer may open. Otherwise none opens,
     /// whatever the identifier.
     pub fn may_open(&self) -> bool
         ensures { result ≡ asks_store self.now.ask }

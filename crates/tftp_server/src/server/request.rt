@@ -1,4 +1,4 @@
-//! The request port: its tests, one after the other.
+//! The tests of the request port, in order.
 
 ghost use Rattle.std.specs.Prelude.{Bool, ◌≡◌, ◌≢◌, ◌*◌, ◌+◌, ◌<◌, ◌≤◌, true, vec_capacity};
 ghost use Rattle.std.specs.Prelude.{IsErrOf, OnOk, ◌++◌, [], Ok, Option, length, option_map, IfOk};
@@ -34,20 +34,20 @@ use tftp_wire::{Mode, PacketRef, RequestRef, has_error_opcode};
 /// What the request port does before it asks its store.
 #[derive(Drop)]
 pub(crate) enum PortAction<'a> {
-    /// Nothing.
+    /// It ignores the datagram.
     Nothing,
-    /// An ERROR goes out.
+    /// It sends an ERROR.
     Refuse(ErrorReply),
-    /// The store is asked for the file at this path, which this request names.
+    /// The store is to open the file at this path, for this request.
     Read(Path, RequestRef<'a>),
-    /// The store is asked for a draft for this path, in this mode and with these options.
+    /// The store is to begin a draft for this path, in this mode and with these agreed options.
     Write(Path, Mode, Agreed),
 }
 
-/// What is to be done at a request.
+/// The decision for a request.
 #[derive(Drop)]
 pub(crate) enum Decision<F, D> {
-    /// An ERROR goes out from the request port.
+    /// An ERROR is sent from the request port.
     Refuse(ErrorReply),
     /// A transfer opens; its first datagram has been appended.
     Open(Transfer<F, D>),
@@ -64,8 +64,8 @@ fn request_of<'a>(decoded: Option<PacketRef<'a>>) -> Option<(Kind, RequestRef<'a
     }
 }
 
-/// The options of a write are answered before the store is asked: the length of the file is then
-/// known by its `tsize` alone (RFC 2349, "Transfer Size Option Specification").
+/// The options of a write are answered before the store is asked: the length of its file is known
+/// from `tsize` alone (RFC 2349, "Transfer Size Option Specification").
 fn by_options<'a>(path: Path, request: RequestRef<'a>, limits: &Limits) -> PortAction<'a>
     requires { IsBlockSize limits.now.max_block }
     ensures { ask_of result ≡ by_options path request.entry.mode
@@ -78,7 +78,7 @@ fn by_options<'a>(path: Path, request: RequestRef<'a>, limits: &Limits) -> PortA
     }
 }
 
-/// A read goes to the store, a write first to its options.
+/// A read asks the store next, a write has its options answered first.
 fn by_kind<'a>(kind: Kind, path: Path, request: RequestRef<'a>, limits: &Limits) -> PortAction<'a>
     requires { IsBlockSize limits.now.max_block }
     ensures { ask_of result ≡ by_kind kind request.entry.mode request.entry.options limits.now
@@ -90,7 +90,7 @@ fn by_kind<'a>(kind: Kind, path: Path, request: RequestRef<'a>, limits: &Limits)
     }
 }
 
-/// The table must have room.
+/// The server must be below its limit of transfers.
 fn by_room<'a>(
     config: &Config,
     count: usize,
@@ -131,7 +131,7 @@ fn by_name<'a>(
     }
 }
 
-/// The block size of a read by this request, in bytes, unless its options are refused.
+/// The block size in bytes of a read by this request, unless its options are refused.
 pub(crate) fn read_block_size(request: &RequestRef<'_>, limits: &Limits) -> Option<u16>
     requires { IsBlockSize limits.now.max_block }
     ensures { result ≡ agreed_size (answer request.now.options Kind.Read request.now.mode 0
@@ -143,7 +143,7 @@ pub(crate) fn read_block_size(request: &RequestRef<'_>, limits: &Limits) -> Opti
     }
 }
 
-/// The ERROR for options that are refused.
+/// The ERROR for refused options.
 fn accept_reply(refusal: Refusal) -> ErrorReply
     ensures { result ≡ accept_reply refusal }
 {
@@ -163,7 +163,7 @@ fn source_in<F, K: Drop>(files: Files<F, K>) -> Option<F>
     }
 }
 
-/// Opens the end of a read over its source, and hands that back.
+/// Opens the end of a read over its source, and returns both.
 fn serve_source<F: Source + Drop>(
     alloc: Global,
     source: F,
@@ -200,8 +200,8 @@ fn serve_source<F: Source + Drop>(
     }
 }
 
-/// The end of a transfer that stores, whose first datagram is appended, and a copy of the datagram
-/// that asked for it. In the place of the first datagram there is room for an ERROR.
+/// The end of a write, whose first datagram is appended, and a copy of the datagram of the request.
+/// `out` has capacity for an ERROR instead of that first datagram.
 fn prepare(
     alloc: Global,
     from: Endpoint,
@@ -230,8 +230,8 @@ fn prepare(
 }
 
 impl<S: Store> Server<S> {
-    /// The tests that ask no store: only a request has a place here, and what begins as an ERROR is
-    /// never answered.
+    /// The tests that ask no store. A datagram with the opcode of ERROR is never answered; every
+    /// other that is not a request is refused.
     pub(crate) fn asked<'a>(
         &self,
         from: Endpoint,
@@ -257,8 +257,8 @@ impl<S: Store> Server<S> {
         }
     }
 
-    /// Opens a transfer of the file with these options, if its blocks can be numbered and, without
-    /// options, the first can be read.
+    /// Opens a read transfer of the file with these options, if its blocks can be numbered and,
+    /// without options, the first block can be read.
     fn open_end(
         &self,
         from: Endpoint,
@@ -297,7 +297,7 @@ impl<S: Store> Server<S> {
         }
     }
 
-    /// Answers the options of a request for a file that was opened.
+    /// Answers the options of a read whose file was opened.
     fn send(
         &self,
         from: Endpoint,
@@ -323,7 +323,7 @@ impl<S: Store> Server<S> {
         }
     }
 
-    /// Opens the file at the path, if there is one and it can be opened.
+    /// Asks the store to open the file at the path, and serves it.
     pub(crate) fn read(
         &self,
         from: Endpoint,
@@ -350,9 +350,9 @@ impl<S: Store> Server<S> {
         }
     }
 
-    /// Begins a draft for the path, which a transfer with these options is to fill. Everything else
-    /// that can want memory comes first, so that no draft is begun in vain; where none is begun,
-    /// there is room for the ERROR that says so.
+    /// Begins a draft for the path, for a write transfer with these options. All else that
+    /// allocates is done first, so that no draft is begun without use. If none is begun, `out` has
+    /// capacity for the ERROR.
     pub(crate) fn write(
         &mut self,
         from: Endpoint,
@@ -389,7 +389,7 @@ impl<S: Store> Server<S> {
     }
 }
 
-/// The ERROR where no draft is begun, or want of memory.
+/// The ERROR for a draft that could not be begun; `Memory` when out of memory.
 fn begin_refused<F, D>(fault: StoreFault) -> Result<Decision<F, D>, ServerFault>
     ensures refused { IfOk result (λ decision. (decision ≡ Decision.Refuse (begin_reply fault))
         × (fault ≢ StoreFault.Memory)) }

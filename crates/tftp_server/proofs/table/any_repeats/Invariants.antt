@@ -1,4 +1,4 @@
--- One of the keys that are left leads to the request exactly if one of all keys does.
+-- A transfer under a key that is left repeats the request exactly if one under any key does.
 use Rattle.std.proofs.Common.{map}
 use Rattle.tftp_wire.specs.Borrowed.{owned}
 use Rattle.tftp_server.specs.Table.{AnyKeyRepeats}

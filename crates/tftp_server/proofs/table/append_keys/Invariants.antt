@@ -1,4 +1,4 @@
--- What was appended and what is left are the keys, and there is room for the rest.
+-- What was appended and what is left are the keys, and there is capacity for the rest.
 use Rattle.std.proofs.Common.{◌≡◌, ◌+◌, ◌≤◌, ◌++◌, length, vec_capacity}
 use Rattle.std.specs.Map.{keys_of}
 use Rattle.tftp_server.proofs.table.append_keys.Given as goal

@@ -1,4 +1,4 @@
--- Only closed transfers were passed over.
+-- Only closed transfers were skipped.
 use Rattle.std.proofs.Common.{◌≡◌, length}
 use Rattle.tftp_server.specs.State.{open_records}
 use Rattle.tftp_server.specs.Table.{joined}

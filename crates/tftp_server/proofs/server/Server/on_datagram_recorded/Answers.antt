@@ -1,4 +1,4 @@
--- A fault comes from the transfer at the identifier, or from there being none.
+-- A fault is that of the transfer at the identifier, or there is no transfer.
 use Rattle.std.proofs.Common.{◌≡◌, ◌∙◌, refl, ap}
 use Rattle.tftp_server.specs.State.{ServerState, at, with_next}
 use Rattle.tftp_ends.specs.Step.{IsAnswered}

@@ -1,4 +1,4 @@
--- A fault comes from the transfer at the identifier, or from there being none.
+-- A fault is that of the transfer at the identifier, or there is no transfer.
 use Rattle.std.proofs.Common.{◌≡◌, ap, ◌∙◌, List, ℕ}
 use Rattle.tftp_server.specs.State.{ServerState, HeldTransfer, at}
 use Rattle.tftp_server.specs.Steps.{appends}

@@ -1,4 +1,4 @@
--- An ERROR is sent where that was decided.
+-- An ERROR is sent if that was decided.
 use Rattle.std.proofs.Common.{ap}
 use Rattle.tftp_server.specs.Request.{ask_of}
 use Rattle.tftp_server.proofs.RequestLemmas.{refuses}

@@ -1,4 +1,4 @@
--- A file that the store opened is read.
+-- A file that the store opened is served.
 use Rattle.std.proofs.Common.{◌≡◌, ap}
 use Rattle.tftp_server.specs.State.{ServerState}
 use Rattle.tftp_server.proofs.RequestLemmas.{asks_to_read}

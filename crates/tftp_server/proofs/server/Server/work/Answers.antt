@@ -1,4 +1,4 @@
--- The file of the transfer at the identifier works, and every other transfer stays as it is.
+-- The file of the transfer at the identifier works; every other transfer stays.
 use Rattle.std.proofs.Common.{refl}
 use Rattle.tftp_server.specs.State.{ServerState, with_next}
 use Rattle.tftp_server.proofs.StepsLemmas.{works_at}

@@ -1,4 +1,4 @@
--- A draft that the store began fills the place that was reserved.
+-- A draft that the store began fills the reserved slot.
 use Rattle.std.proofs.Common.{ap, ◌∙◌}
 use Rattle.std.specs.BTreeMap.{insert_entry}
 use Rattle.std.specs.Ordering.{nat_cmp}

@@ -1,4 +1,4 @@
--- A value in the reserved place joins index and slots.
+-- A value in the reserved slot joins index and slots.
 use Rattle.std.proofs.Common.{refl, sym, ap, ◌∙◌}
 use Rattle.std.specs.BTreeMap.{insert_entry}
 use Rattle.std.specs.Ordering.{nat_cmp}

@@ -1,4 +1,4 @@
--- A request is repeated at a key of the index exactly if it is in the table.
+-- A request is repeated under a key of the index exactly if it is in the table.
 use Rattle.tftp_wire.specs.Borrowed.{owned}
 use Rattle.tftp_server.proofs.RepeatLemmas.{repeats_joined, joined_repeats}
 use Rattle.tftp_server.proofs.table.Table+Transfer+F+D.is_repeated.Goals as goal

@@ -1,4 +1,4 @@
--- A value in a new slot joins index and slots; after a refusal both are as before.
+-- A value in a new slot joins index and slots; when out of memory, both are as before.
 use Rattle.std.proofs.Common.{ap, sym, ◌∙◌}
 use Rattle.std.specs.BTreeMap.{insert_entry}
 use Rattle.std.specs.Ordering.{nat_cmp}

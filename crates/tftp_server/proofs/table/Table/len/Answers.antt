@@ -1,4 +1,4 @@
--- Index and table have one length.
+-- Index and table have the same length.
 use Rattle.std.proofs.Common.{◌∙◌, ap, sym, length}
 use Rattle.tftp_server.proofs.TableLemmas.{joined-length}
 use Rattle.tftp_server.proofs.table.Table.len.Goals as goal

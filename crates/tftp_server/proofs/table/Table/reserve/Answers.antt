@@ -1,4 +1,4 @@
--- A reserved place changes no slot; after a refusal the table is as before.
+-- A reserved slot changes no other; when out of memory, the table is as before.
 use Rattle.std.proofs.Common.{◌≡◌, None, ap, ◌∙◌}
 use Rattle.std.specs.BTreeMap.{insert_entry, is_at}
 use Rattle.std.specs.Map.{lookup}
