@@ -1,4 +1,4 @@
--- When a client tries again without options (RFC 2347).
+-- When a client retries without options (RFC 2347).
 use Rattle.std.specs.Prelude.{◌≡◌, ◌⊎◌, IsSome}
 use Rattle.tftp_negotiate.specs.declared.asked.Asked.{Asked}
 use Rattle.tftp_ends.specs.declared.error_reply.ErrorReply.TheVariants.{OptionRefused}
@@ -10,6 +10,6 @@ use Rattle.tftp_ends.specs.ErrorReply.{code_of}
 abbrev pub AsksSome : Asked → Type 0
 AsksSome asked = IsSome asked.blksize ⊎ (IsSome asked.timeout ⊎ IsSome asked.tsize)
 
--- the peer gave up by the ERROR of a refused option, and some option was asked
+-- the peer sent the ERROR for refused options, and some option was asked
 abbrev pub FallsBack : Outcome → Asked → Type 0
 FallsBack outcome asked = (outcome ≡ PeerError (code_of OptionRefused)) × AsksSome asked

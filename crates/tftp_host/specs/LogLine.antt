@@ -1,4 +1,4 @@
--- What `tftpd --log` prints (own).
+-- The lines of `tftpd --log` (ours).
 use Rattle.std.specs.Prelude.{ℕ, List, [], ◌++◌, codes, Option, Some, None}
 use Rattle.std.specs.Fmt.{decimal}
 use Rattle.tftp_ends.specs.Endpoint.{endpoint_text}
@@ -8,33 +8,41 @@ use Rattle.tftp_host.specs.declared.reason.Reason.{Reason}
 use Rattle.tftp_host.specs.declared.server.log_line.Lost.{Lost as Want}
 use Rattle.tftp_host.specs.declared.server.log_line.Lost.TheVariants as wants
 use Rattle.tftp_host.specs.declared.server.log_line.LogLine.{LogLine}
-use Rattle.tftp_host.specs.declared.server.log_line.LogLine.TheVariants.{Opened, Refused, Ignored, Lost, Closed}
+use Rattle.tftp_host.specs.declared.server.log_line.LogLine.TheVariants.{Opened, Refused, Ignored}
+use Rattle.tftp_host.specs.declared.server.log_line.LogLine.TheVariants.{Lost, Closed}
 use Rattle.tftp_host.specs.Reason.{reason_text}
 
--- for want of what a request is lost
+-- what a lost request lacked
 abbrev pub lost_text : Want → List ℕ
 lost_text wants.Port = codes "no port"
 lost_text wants.Memory = codes "out of memory"
 
--- why, where that is known
+-- the reason, if known
 abbrev pub why_text : Option Reason → List ℕ
 why_text (Some reason) = codes ", " ++ reason_text reason
 why_text None = []
 
--- whence a datagram came, and what it is
+-- the sender of a datagram, and the datagram
 abbrev pub asked_text : Endpoint → List ℕ → List ℕ → List ℕ
 asked_text peer request rest = endpoint_text peer ++ (codes " " ++ (request ++ rest))
 
 -- a line, without its end
 abbrev pub log_text : LogLine → List ℕ
 log_text (Opened port peer request answer) =
-    codes "opened " ++ (decimal port ++ (codes " " ++ asked_text peer request.now (codes ": " ++ answer.now)))
+    codes "opened "
+    ++ (decimal port ++ (codes " " ++ asked_text peer request.now (codes ": " ++ answer.now)))
 log_text (Refused peer request answer reason) =
     codes "refused " ++ asked_text peer request.now (codes ": " ++ (answer.now ++ why_text reason))
-log_text (Ignored peer request) = codes "ignored " ++ (endpoint_text peer ++ (codes " " ++ request.now))
-log_text (Lost peer request lost) = codes "lost " ++ asked_text peer request.now (codes ": " ++ lost_text lost)
+log_text (Ignored peer request) =
+    codes "ignored " ++ (endpoint_text peer ++ (codes " " ++ request.now))
+log_text (Lost peer request lost) =
+    codes "lost " ++ asked_text peer request.now (codes ": " ++ lost_text lost)
 log_text (Closed port peer request answer bytes millis outcome reason) =
     codes "closed "
     ++ (decimal port
     ++ (codes " " ++ asked_text peer request.now (codes ": "
-    ++ (answer.now ++ (codes ", " ++ (decimal bytes ++ (codes " bytes, " ++ (decimal millis ++ (codes " ms, " ++ (outcome_text outcome ++ why_text reason))))))))))
+    ++ (answer.now
+    ++ (codes ", "
+    ++ (decimal bytes
+    ++ (codes " bytes, "
+    ++ (decimal millis ++ (codes " ms, " ++ (outcome_text outcome ++ why_text reason))))))))))

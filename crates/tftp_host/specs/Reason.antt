@@ -1,10 +1,11 @@
--- Why the system refused a call on a file (own).
-use Rattle.std.specs.Prelude.{ℕ, ℤ, unsigned_abs, List, ◌++◌, codes, Option, Some, None, if◌then◌else◌, ◌==◌}
+-- Why the system refused a call on a file (ours).
+use Rattle.std.specs.Prelude.{ℕ, ℤ, unsigned_abs, List, ◌++◌, codes, Option, Some, None}
+use Rattle.std.specs.Prelude.{if◌then◌else◌, ◌==◌}
 use Rattle.std.specs.Fmt.{decimal}
 use Rattle.tftp_host.specs.declared.reason.Reason.{Reason}
 use Rattle.tftp_host.specs.declared.reason.Reason.TheVariants as reasons
 
--- the reason that an error number of Linux is
+-- the reason of an error number of Linux
 abbrev pub reason_of_number : ℕ → Reason
 reason_of_number number =
     if number == 1 then reasons.PermissionDenied else
@@ -19,7 +20,7 @@ reason_of_number number =
     if number == 122 then reasons.QuotaExceeded else
     reasons.System number
 
--- the reason of an error with this number, where it has one
+-- the reason of an error with this number, if it has one
 abbrev pub reason_of : Option ℤ → Reason
 reason_of (Some code) = reason_of_number (unsigned_abs code)
 reason_of None = reasons.Other

@@ -1,22 +1,22 @@
--- The time of a program over UDP, and its deadlines (own; RFC 2349, "Timeout Interval Option
+-- The time of a program over UDP, and its deadlines (ours; RFC 2349, "Timeout Interval Option
 -- Specification").
 use Rattle.std.specs.Prelude.{ℕ, ◌+◌, ◌-◌, ◌*◌, min, List, [], ◌∷◌}
 use Rattle.tftp_host.specs.declared.watch.Watch.{Watch}
 use Rattle.tftp_host.specs.declared.watch.TheConstants.{LONGEST_WAIT, MILLIS_PER_SECOND}
 
--- the greatest time that there is
+-- the greatest time
 abbrev pub last_moment : ℕ
 last_moment = 18446744073709551615
 
--- the time at a new reading: later by what the clock went on, by a second at most
+-- the time at a new reading: it advances as much as the clock, at most by a second
 abbrev pub later_by : Watch → ℕ → ℕ
 later_by watch reading = min (watch.now + min (reading - watch.reading) LONGEST_WAIT) last_moment
 
--- when a transfer is due: these seconds from now
+-- the deadline: these seconds from now
 abbrev pub deadline_of : ℕ → ℕ → ℕ
 deadline_of now seconds = min (now + seconds * MILLIS_PER_SECOND) last_moment
 
--- how long to wait: until the nearest deadline, and a second at most
+-- how long to wait: until the nearest deadline, at most a second
 abbrev pub wait_of : ℕ → List ℕ → ℕ
 wait_of now [] = LONGEST_WAIT
 wait_of now (deadline ∷ deadlines) = min (deadline - now) (wait_of now deadlines)

@@ -1,4 +1,4 @@
-//! Addresses and the size of a datagram, as the programs over UDP use them.
+//! Addresses, and the size of a datagram buffer, for the programs over UDP.
 
 ghost use Rattle.tftp_host.specs.Address.{IsAddressOf, IsEndpointOf, Names};
 
@@ -6,8 +6,9 @@ use std::net::{SocketAddr, SocketAddrV4};
 use tftp_ends::Endpoint;
 use tftp_wire::MAX_DATA;
 
-/// The bytes of a buffer for datagrams: one more than the longest valid one has, so that a longer
-/// one is malformed and never cut to fit (RFC 2348, "Blocksize Option Specification").
+/// The size of a datagram buffer, in bytes: one more than the longest valid datagram. A longer one
+/// is then malformed, and is not truncated to a valid one (RFC 2348, "Blocksize Option
+/// Specification").
 pub const DATAGRAM_BUFFER: usize = MAX_DATA + 1;
 
 /// The socket address of an endpoint.
@@ -17,7 +18,7 @@ pub fn address_of(endpoint: Endpoint) -> SocketAddr
     SocketAddr::V4(SocketAddrV4::from(endpoint))
 }
 
-/// The endpoint of a socket address; there is none in IPv6.
+/// The endpoint of an IPv4 socket address; `None` for IPv6.
 pub fn endpoint_of(address: SocketAddr) -> Option<Endpoint>
     ensures { IsEndpointOf address result }
 {
@@ -27,7 +28,7 @@ pub fn endpoint_of(address: SocketAddr) -> Option<Endpoint>
     }
 }
 
-/// The endpoint that a word `ADDR:PORT` names, with a dotted IPv4 address.
+/// The endpoint that a word `ADDR:PORT` names, with a dotted IPv4 address; `None` for other words.
 pub fn endpoint_in(word: &str) -> Option<Endpoint>
     ensures { Names word.now result }
 {

@@ -1,4 +1,4 @@
-//! A file that is written block by block, behind the acknowledgements of its blocks.
+//! A file that is written block by block, after the blocks are acknowledged.
 
 use crate::error_keeper::ErrorKeeper;
 use std::alloc::Global;
@@ -6,23 +6,23 @@ use std::io::{self, BufWriter, Write};
 use tftp_file::{Sink, WriteSink};
 use tftp_wire::MAX_BLOCK;
 
-/// The most bytes that are held back until they are written: two of the longest blocks.
+/// The capacity of the write buffer, in bytes: two blocks of the greatest size.
 const WRITE_BUFFER: usize = 2 * MAX_BLOCK as usize;
 
-/// Blocks of this size and more are written each after its own acknowledgement.
+/// The size, in bytes, from which on each block is written once it is acknowledged.
 const LONG_BLOCK: usize = 16_384;
 
-/// A file that is written block by block. It holds back what is appended, at most twice the longest
-/// block, until [`BlockWriter::flush`].
+/// A file that is written block by block. It buffers what is appended, at most two blocks of the
+/// greatest size, until [`BlockWriter::flush`].
 #[derive(Drop)]
 pub struct BlockWriter<F: Write + Drop> {
     sink: WriteSink<BufWriter<ErrorKeeper<F>>>,
-    /// The bytes of the newest block.
+    /// The length of the newest block, in bytes.
     newest: usize,
 }
 
 impl<F: Write + Drop> BlockWriter<F> {
-    /// A writer that has written nothing. It fails only when out of memory.
+    /// A writer with an empty buffer. It fails only when out of memory.
     pub fn new(alloc: Global, file: F) -> io::Result<BlockWriter<F>> {
         match BufWriter::with_capacity(alloc, WRITE_BUFFER, ErrorKeeper::new(file)) {
             Ok(writer) => Ok(BlockWriter {
@@ -33,7 +33,7 @@ impl<F: Write + Drop> BlockWriter<F> {
         }
     }
 
-    /// Holds a block to be written.
+    /// Appends a block to the buffer.
     pub fn append(&mut self, bytes: &[u8]) -> io::Result<()> {
         match self.sink.append(bytes) {
             Ok(()) => {
@@ -44,7 +44,7 @@ impl<F: Write + Drop> BlockWriter<F> {
         }
     }
 
-    /// Writes what it holds back.
+    /// Writes the buffer to the file.
     pub fn flush(&mut self) -> io::Result<()> {
         match self.sink.commit() {
             Ok(()) => Ok(()),
@@ -52,8 +52,7 @@ impl<F: Write + Drop> BlockWriter<F> {
         }
     }
 
-    /// Whether what it holds back is to be written: after a long block, and where another of the
-    /// longest blocks may not fit.
+    /// Whether the buffer is to be written: after a long block, and when another block may not fit.
     pub fn is_due(&self) -> bool {
         let writer = self.sink.get_ref();
         self.newest >= LONG_BLOCK || writer.buffer().len() > writer.capacity() / 2
@@ -64,7 +63,7 @@ impl<F: Write + Drop> BlockWriter<F> {
         self.sink.get_ref().get_ref().get_ref()
     }
 
-    /// Why the file was not written.
+    /// The error of the newest write that failed.
     fn error(&self) -> io::Error {
         match self.sink.get_ref().get_ref().error() {
             Some(error) => error,

@@ -1,4 +1,4 @@
-//! What `tftp` alone prints and decides.
+//! What only `tftp` prints and decides.
 
 mod client_outcome;
 mod progress_line;

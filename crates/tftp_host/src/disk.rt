@@ -1,4 +1,4 @@
-//! What a file of the disk is on the wire, and which fault an error of the disk is.
+//! The length of a disk file on the wire, and the faults of disk errors.
 
 ghost use Rattle.std.specs.Prelude.{◌≡◌, ◌≢◌, ◌<◌, ◌≤◌, min, Ok, None, IfOk, IfSome};
 ghost use Rattle.tftp_file.specs.Length.{up_to};
@@ -10,10 +10,11 @@ use std::io::{self, ErrorKind, Read, Seek, SeekFrom};
 use tftp_file::{FileFault, MAX_WIRE, StoreFault, wire_length_up_to};
 use tftp_wire::Mode;
 
-/// The length of a file on the wire, in bytes, or `None` where it is greater than `most` or
-/// `MAX_WIRE`: in octet its length, and in netascii what reading it once counts, after which the
-/// file is at its start again. A wire text is never shorter than its file, so nothing is read where
-/// the file alone is too long, and reading stops where the limit is passed.
+/// The length of a file on the wire, in bytes, or `None` if it is greater than `most` or
+/// `MAX_WIRE`. In octet it is the file's length. In netascii the file is read once, at most until
+/// the limit is passed, and is then at its start again; a file longer than the limit is not read.
+///
+/// `Read` if the file cannot be read.
 pub fn length_on_wire<F: Read + Seek>(
     file: &mut F,
     mode: Mode,
@@ -39,7 +40,7 @@ pub fn length_on_wire<F: Read + Seek>(
     }
 }
 
-/// Why a file was not opened.
+/// The fault for an error at the opening of a file.
 pub fn open_fault(error: &io::Error) -> StoreFault
     ensures { MayNotOpen result }
 {
@@ -50,7 +51,7 @@ pub fn open_fault(error: &io::Error) -> StoreFault
     }
 }
 
-/// Why bytes were not stored.
+/// The fault for an error at a write.
 pub fn write_fault(error: &io::Error) -> StoreFault
     ensures stored { MayNotStore result }
     ensures not_memory { result ≢ Memory }
@@ -64,7 +65,7 @@ pub fn write_fault(error: &io::Error) -> StoreFault
     }
 }
 
-/// Why a draft did not get its name.
+/// The fault for an error at naming a draft; with `replace`, never `Exists`.
 pub fn name_fault(error: &io::Error, replace: bool) -> StoreFault
     ensures named { MayNotName replace result }
     ensures not_memory { result ≢ Memory }

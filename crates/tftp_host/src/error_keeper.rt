@@ -1,4 +1,4 @@
-//! A file that keeps why it failed.
+//! A file that keeps its newest error.
 
 use std::io::{self, Read, Write};
 
@@ -10,7 +10,7 @@ pub struct ErrorKeeper<F> {
 }
 
 impl<F> ErrorKeeper<F> {
-    /// A file that has not failed yet.
+    /// A file without an error.
     pub fn new(file: F) -> ErrorKeeper<F> {
         ErrorKeeper { file, error: None }
     }
@@ -20,7 +20,7 @@ impl<F> ErrorKeeper<F> {
         &self.file
     }
 
-    /// Why it failed last, if it did.
+    /// Its newest error, if it has failed.
     pub fn error(&self) -> Option<io::Error> {
         self.error
     }

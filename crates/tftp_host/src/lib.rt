@@ -1,8 +1,8 @@
-//! What `tftp` and `tftpd` have of their host beside sockets: files of a disk, addresses, the time,
-//! and the lines that they print.
+//! What `tftp` and `tftpd` share beside sockets: disk files, addresses, the time, and the lines
+//! that they print.
 //!
 //! Begin with [`Watch`], a program's time, and [`BlockWriter`], a file that is written block by
-//! block. What one program alone uses is in `client` and `server`.
+//! block. `client` and `server` have what one program uses alone.
 #![tactic(auto)]
 
 mod address;

@@ -1,4 +1,4 @@
-//! Why the system refused a call on a file, as a log says it.
+//! Why the system refused a call on a file, for the log.
 
 ghost use Rattle.std.specs.Prelude.{◌≡◌};
 ghost use Rattle.std.specs.IoError.{raw_os_error};
@@ -17,11 +17,11 @@ pub enum Reason {
     FileTooLarge,
     /// The process or the system has too many open files.
     TooManyOpenFiles,
-    /// The user of the program may not do it.
+    /// The program's user lacks the permission.
     PermissionDenied,
     /// The file system is read-only.
     ReadOnlyFileSystem,
-    /// A file would have its name on another device than its draft.
+    /// The file's name is on another device than its draft.
     AnotherDevice,
     /// The system is out of memory.
     OutOfMemory,
@@ -33,7 +33,7 @@ pub enum Reason {
     Other,
 }
 
-/// Why the system gave this error.
+/// The reason of an error of the system.
 pub fn reason_of(error: &io::Error) -> Reason
     ensures { result ≡ reason_of (raw_os_error error.now) }
 {
@@ -43,7 +43,7 @@ pub fn reason_of(error: &io::Error) -> Reason
     }
 }
 
-/// The reason that an error number of Linux is.
+/// The reason of an error number of Linux.
 fn reason_of_number(number: u32) -> Reason
     ensures { result ≡ reason_of_number number }
 {

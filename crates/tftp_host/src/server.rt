@@ -1,4 +1,4 @@
-//! What `tftpd` alone prints and decides.
+//! What only `tftpd` prints and decides.
 
 mod log_line;
 mod port;

@@ -1,21 +1,20 @@
-//! A program's own time in milliseconds, and when a transfer has waited long enough.
+//! A program's own time in milliseconds, and the deadlines of transfers.
 
 ghost use Rattle.std.specs.Prelude.{◌≡◌, ◌≤◌, ◌↔◌, IsTrue, min};
 ghost use Rattle.tftp_host.specs.Watch.{deadline_of, later_by};
 
 use std::time::Clock;
 
-/// The milliseconds of a second.
 const MILLIS_PER_SECOND: u64 = 1_000;
 
 /// The longest single wait, in milliseconds.
 pub const LONGEST_WAIT: u64 = 1_000;
 
-/// The time of a program, made from readings of a clock, in milliseconds.
+/// The time of a program in milliseconds, from readings of a clock.
 ///
-/// It goes on by as much as the clock did between two readings, and by [`LONGEST_WAIT`] at most. So
-/// a clock that jumps ahead, as after a suspension, makes a transfer older by one wait at most, and
-/// one that goes back makes none younger.
+/// Between two readings it advances as much as the clock, at most by [`LONGEST_WAIT`]. So a clock
+/// that jumps ahead, as after a suspension, ages a transfer by at most one wait. A clock that goes
+/// back does not move it.
 #[derive(Clone, Copy, Debug, PartialEq, Eq)]
 pub struct Watch {
     /// The time since the watch was started.
@@ -32,7 +31,7 @@ impl Watch {
         Watch { now: 0, reading }
     }
 
-    /// Goes on to a new reading, and returns the time.
+    /// Advances to a new reading, and returns the time.
     pub fn advance(&mut self, reading: u64) -> u64
         ensures time { result ≡ later_by self.old reading }
         ensures kept { self.new ≡ record { now = result; reading = reading } }
@@ -45,8 +44,8 @@ impl Watch {
     }
 }
 
-/// When a transfer is due whose newest opening, progress or timeout is of now: after these seconds
-/// (RFC 2349, "Timeout Interval Option Specification").
+/// The deadline, in milliseconds, of a transfer whose newest opening, progress or timeout is at
+/// `now`: `seconds` later (RFC 2349, "Timeout Interval Option Specification").
 pub fn deadline(now: u64, seconds: u8) -> u64
     ensures value { result ≡ deadline_of now seconds }
     ensures later { now ≤ result }
@@ -54,15 +53,15 @@ pub fn deadline(now: u64, seconds: u8) -> u64
     now.saturating_add(u64::from(seconds) * MILLIS_PER_SECOND)
 }
 
-/// Whether a deadline has come.
+/// Whether a deadline is reached.
 pub fn is_due(now: u64, deadline: u64) -> bool
     ensures { IsTrue result ↔ (deadline ≤ now) }
 {
     deadline <= now
 }
 
-/// A reading of the monotonic clock in milliseconds, or the last one where it cannot be read. No
-/// contract says what a clock reads.
+/// A reading of the monotonic clock in milliseconds, or `last` if it cannot be read. A clock has no
+/// model.
 pub fn read_clock(clock: &impl Clock, last: u64) -> u64 {
     match clock.monotonic() {
         Ok(time) => {

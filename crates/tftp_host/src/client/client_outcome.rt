@@ -6,17 +6,17 @@ ghost use Rattle.tftp_host.specs.ClientOutcome.{open_fault_word, status_of};
 use std::fmt;
 use tftp_ends::{OpenFault, Outcome};
 
-/// How a run of `tftp` ended. `{}` writes the line that it prints: a complete transfer on standard
-/// output, and any other on standard error.
+/// How a run of `tftp` ended. `{}` writes its last line, which goes to standard output for a
+/// complete transfer and to standard error otherwise.
 #[derive(Clone, Copy, Debug, PartialEq, Eq)]
 pub enum ClientOutcome {
-    /// The transfer is complete; the bytes of the file on this host.
+    /// The transfer is complete; the length of the local file, in bytes.
     Complete(u64),
-    /// The transfer was opened, and ended otherwise.
+    /// The transfer was opened, and is not complete.
     Failed(Outcome),
-    /// The local file is there already, or cannot be opened.
+    /// The local file exists already, or cannot be opened.
     FileFault,
-    /// There is no socket.
+    /// A socket cannot be opened.
     SocketFault,
     /// The transfer was not opened.
     NotOpened(OpenFault),
@@ -25,8 +25,8 @@ pub enum ClientOutcome {
 }
 
 impl ClientOutcome {
-    /// The status of the program: 0 for a complete transfer, 1 for one that failed, and 2 where
-    /// none was opened.
+    /// The exit status of the program: 0 for a complete transfer, 1 for one that failed, 2 if none
+    /// was opened.
     pub fn status(self) -> u8
         ensures { result ≡ status_of self }
     {
@@ -41,7 +41,7 @@ impl ClientOutcome {
     }
 }
 
-/// The word for a transfer that was not opened.
+/// The word for the fault of an opening.
 fn open_fault_word(fault: OpenFault) -> &'static str
     ensures { result.now ≡ open_fault_word fault }
 {

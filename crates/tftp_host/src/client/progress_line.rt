@@ -1,11 +1,11 @@
-//! How far a client's transfer came, as a line, and when a line is due.
+//! The progress line of a client's transfer, and when one is due.
 
 ghost use Rattle.std.specs.Prelude.{◌≡◌, ◌↔◌, IsTrue, if◌then◌else◌, Some};
 ghost use Rattle.tftp_host.specs.ProgressLine.{IsLineDue, percent_of, tenths_of};
 
 use std::fmt;
 
-/// The least time between two lines, in milliseconds: ten lines a second at most.
+/// The least time between two lines, in milliseconds.
 const LINE_INTERVAL: u64 = 100;
 
 /// When the newest line was written.
@@ -17,7 +17,7 @@ pub struct LineClock {
 
 impl LineClock {
     /// Whether a line is due at this time, in milliseconds: none was written yet, or the newest one
-    /// a tenth of a second ago. A line that is due counts as written.
+    /// at least a tenth of a second ago. A due line counts as written.
     pub fn take_due(&mut self, now: u64) -> bool
         ensures due { IsTrue result ↔ IsLineDue self.old.written_at now }
         ensures taken { self.new.written_at ≡ (if result then Some now else self.old.written_at) }
@@ -31,20 +31,20 @@ impl LineClock {
     }
 }
 
-/// How far a transfer came. `{}` writes its bytes, their share of the whole where that is known,
-/// and their speed.
+/// The progress of a transfer. `{}` writes its bytes, their share of the file if its length is
+/// known, and the speed.
 #[derive(Clone, Copy, Debug, PartialEq, Eq)]
 pub struct ProgressLine {
-    /// The bytes that were transferred.
+    /// The number of bytes transferred.
     pub bytes: u64,
-    /// The bytes of the whole file, where they are known.
+    /// The length of the file in bytes, if known.
     pub total: Option<u64>,
-    /// The time that this took, in milliseconds.
+    /// The time since the start, in milliseconds.
     pub millis: u64,
 }
 
 impl ProgressLine {
-    /// The share of the whole in percent, 100 at most.
+    /// The share of the file in percent, at most 100.
     fn percent(self, total: u64) -> u64
         ensures { result ≡ percent_of self.bytes total }
     {

@@ -1,4 +1,4 @@
-//! Whether a transfer is tried again without options.
+//! Whether to retry a transfer without options.
 
 ghost use Rattle.std.specs.Prelude.{◌≡◌, ◌↔◌, IsTrue};
 ghost use Rattle.tftp_host.specs.Fallback.{FallsBack};
@@ -6,8 +6,8 @@ ghost use Rattle.tftp_host.specs.Fallback.{FallsBack};
 use tftp_ends::{ErrorReply, Outcome};
 use tftp_negotiate::Asked;
 
-/// Whether a transfer that ended so is followed by one without options: the peer refused options by
-/// the ERROR that is for that (RFC 2347), and some were asked.
+/// Whether to retry a transfer that ended so without options: some were asked, and the peer refused
+/// them by ERROR 8 (RFC 2347).
 pub fn fallback(outcome: Outcome, asked: &Asked) -> bool
     ensures { IsTrue result ↔ FallsBack outcome asked.now }
 {

@@ -4,12 +4,12 @@ use crate::reason::Reason;
 use std::fmt;
 use tftp_ends::{Endpoint, Outcome};
 
-/// For want of what a request is lost.
+/// What a lost request lacked.
 #[derive(Clone, Copy, Debug, PartialEq, Eq)]
 pub enum Lost {
-    /// No port can be bound.
+    /// A port: none can be bound.
     Port,
-    /// Out of memory.
+    /// Memory.
     Memory,
 }
 
@@ -27,18 +27,17 @@ impl fmt::Display for Lost {
     }
 }
 
-/// A line of the log of `tftpd`. A datagram stands in it as its packet's line, or as its first
-/// fault.
+/// A line of the log of `tftpd`. A datagram is written as its packet's line, or as its first fault.
 #[derive(Clone, Copy, Debug)]
 pub enum LogLine<'a> {
-    /// A request opened the transfer at this port, which answered so.
+    /// A request opened the transfer at this port; `answer` is its first datagram.
     Opened {
         port: u16,
         peer: Endpoint,
         request: &'a str,
         answer: &'a str,
     },
-    /// A datagram came to the request port, opened no transfer and was answered so; why, where the
+    /// A datagram to the request port opened no transfer and was answered; the reason, if the
     /// system refused a call on a file.
     Refused {
         peer: Endpoint,
@@ -46,20 +45,20 @@ pub enum LogLine<'a> {
         answer: &'a str,
         reason: Option<Reason>,
     },
-    /// A datagram came to the request port, opened no transfer and was not answered.
+    /// A datagram to the request port opened no transfer and was not answered.
     Ignored {
         peer: Endpoint,
         request: &'a str,
     },
-    /// A request came that might have opened a transfer, and is lost.
+    /// A request that might have opened a transfer is lost.
     Lost {
         peer: Endpoint,
         request: &'a str,
         lost: Lost,
     },
-    /// A transfer closed, after so many bytes of DATA and so many milliseconds; why, where the
-    /// system refused a call on its file. `answer` is its first one, which has the options that
-    /// were agreed.
+    /// A transfer closed, after `bytes` bytes of DATA and `millis` milliseconds; the reason, if the
+    /// system refused a call on its file. `answer` is its first datagram, which has the agreed
+    /// options.
     Closed {
         port: u16,
         peer: Endpoint,
@@ -72,7 +71,7 @@ pub enum LogLine<'a> {
     },
 }
 
-/// The end of a line: why, where that is known.
+/// The end of a line: the reason, if known.
 #[derive(Clone, Copy)]
 struct Why(Option<Reason>);
 

@@ -1,4 +1,4 @@
-//! The ports of a server's transfers, and for how long none of them needs anything.
+//! The ports of a server's transfers, and how long to wait for them.
 
 ghost use Rattle.std.specs.Prelude.{◌≡◌, ◌==◌, ◌≤◌, ◌-◌, map, position, All};
 ghost use Rattle.tftp_host.specs.Watch.{wait_of};
@@ -11,15 +11,15 @@ use crate::watch::LONGEST_WAIT;
 pub struct Port<S> {
     /// The identifier of the transfer: the number of its UDP port.
     pub tid: u16,
-    /// When the transfer is due for a timeout.
+    /// The deadline of the transfer's next timeout, in milliseconds.
     pub due: u64,
-    /// A datagram may have come that was not received yet.
+    /// Whether a datagram may have arrived that is not yet received.
     pub is_ready: bool,
     /// The socket that is bound to the port.
     pub socket: S,
 }
 
-/// How long to wait, in milliseconds: until the nearest deadline, and a second at most.
+/// How long to wait, in milliseconds: until the nearest deadline, at most a second.
 pub fn wait_for<S>(now: u64, ports: &[Port<S>]) -> u64
     ensures value { result ≡ wait_of now (map (λ port. port.due) ports.now) }
     ensures longest { result ≤ LONGEST_WAIT }
@@ -31,7 +31,7 @@ pub fn wait_for<S>(now: u64, ports: &[Port<S>]) -> u64
     }
 }
 
-/// The place of the transfer's port.
+/// The index of the port with this identifier.
 pub fn place_of<S>(tid: u16, ports: &[Port<S>]) -> Option<usize>
     ensures { result ≡ position (λ port. port.tid == tid) ports.now }
 {

@@ -6,9 +6,9 @@ use tftp_ends::{Endpoint, Outcome};
 /// A line that `tftpd` prints on standard output.
 #[derive(Clone, Copy, Debug, PartialEq, Eq)]
 pub enum Printed {
-    /// A server waits for requests here.
+    /// The server waits for requests at this endpoint.
     Listening(Endpoint),
-    /// A server's transfer closed: its port, its peer's port and how.
+    /// A transfer closed: its port, its peer's port and its outcome.
     Closed {
         port: u16,
         peer: u16,

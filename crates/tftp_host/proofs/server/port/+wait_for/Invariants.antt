@@ -1,4 +1,4 @@
--- The ports that are left get fewer.
+-- The number of ports left decreases.
 use Rattle.std.proofs.Common.{length}
 use Rattle.tftp_host.proofs.server.port.+wait_for.Given as goal
 
