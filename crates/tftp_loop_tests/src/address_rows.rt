@@ -1,5 +1,5 @@
-//! From which address `tftpd` answers: from the one that it listens at, and with `0.0.0.0` from the
-//! one that the system's route to the client has, whichever was asked.
+//! The source address of `tftpd`'s answers: the address that it listens at; with `0.0.0.0`, that of
+//! the system's route to the client, whatever the destination of the request.
 
 use crate::expect::{expect_bytes, expect_equal};
 use crate::programs::serve;
@@ -9,7 +9,8 @@ use std::net::{Net, SocketAddr};
 use std::process::{self, Abort, Processes};
 use std::rt::Runtime;
 
-/// Where a server listens, at which address it is asked, and from which it answers.
+/// The address that a server listens at, the destination of a request, and the source of the
+/// answer.
 const ADDRESSES: [(&str, &str, &str); 4] = [
     ("127.0.0.1", "127.0.0.1", "127.0.0.1"),
     ("127.0.0.2", "127.0.0.2", "127.0.0.2"),
@@ -17,14 +18,13 @@ const ADDRESSES: [(&str, &str, &str); 4] = [
     ("0.0.0.0", "127.0.0.2", "127.0.0.1"),
 ];
 
-/// An address with a port.
+/// The socket address of an address and a port.
 fn at_port<R: AllocGlobal + Abort>(rt: &R, address: &str, port: u16) -> SocketAddr {
     let text = format!(in rt.alloc(); "{address}:{port}").expect(rt, "memory");
     text.as_str().parse::<SocketAddr>().expect(rt, address)
 }
 
-/// A request to the server, at this address, is answered from that one. Both go on at the
-/// transfer's port.
+/// A request to the address `asked` is answered from the address `wanted`, at the transfer's port.
 fn answers_from<R: Net + AllocGlobal + Abort>(rt: &R, port: u16, asked: &str, wanted: &str) {
     let socket = loopback_socket(rt);
     let mut buffer = [0; 600];
@@ -37,7 +37,7 @@ fn answers_from<R: Net + AllocGlobal + Abort>(rt: &R, port: u16, asked: &str, wa
     send(rt, &socket, &[0, 4, 0, 1], transfer);
 }
 
-/// Serves one client at an address.
+/// Starts a server at the address `listen`, and tests one client.
 fn serves_at<R: Runtime + AllocGlobal + Processes + Net + Abort>(
     rt: &R,
     folder: &str,

@@ -1,5 +1,5 @@
-//! Files that are cut short while they are read, a block ahead of the one that is on its way: no
-//! block is shorter for it, so that none is taken for the last (RFC 1350, section 6).
+//! Files that are truncated while they are read ahead: no short block is sent, which would be
+//! mistaken for the last (RFC 1350, section 6).
 
 use crate::expect::{expect, expect_bytes};
 use crate::loopback::{bytes_of, make_file};
@@ -10,13 +10,13 @@ use std::net::{Net, SocketAddr, UdpSocket};
 use std::process::{self, Abort};
 use std::rt::Runtime;
 
-/// The bytes of a block: as many as a file is read by at once, and more.
+/// The block size, in bytes: at least the length of one read of a file.
 const SIZE: usize = 32_768;
 
-/// The bytes of a file, of six full blocks and a short one.
+/// The length of the file, in bytes: six full blocks and a short one.
 const LENGTH: usize = 200_000;
 
-/// Nothing is repeated within a timeout of 20 seconds.
+/// With a timeout of 20 seconds nothing is retransmitted.
 const REQUEST: &[u8] = b"\0\x01a\0octet\0blksize\032768\0timeout\020\0";
 
 const PUT_REQUEST: &[u8] = b"\0\x02n\0octet\0blksize\032768\0timeout\020\0";
@@ -31,7 +31,7 @@ struct Receiver {
     socket: UdpSocket,
     sender: SocketAddr,
     buffer: Vec<u8>,
-    /// The file, as it is before it is cut short.
+    /// The file before it is truncated.
     file: Vec<u8>,
 }
 
@@ -46,8 +46,8 @@ impl Receiver {
         }
     }
 
-    /// Sends a datagram, and takes the block of this number that answers it, which is whole; or
-    /// returns false where the sender gives up.
+    /// Sends a datagram, and expects the full block of this number as the answer. Returns false if
+    /// the sender gives up instead.
     fn takes(&mut self, rt: &impl Abort, datagram: &[u8], number: u8) -> bool {
         send(rt, &self.socket, datagram, self.sender);
         let (answer, _) = receive(rt, &self.socket, self.buffer.as_mut_slice());
@@ -63,8 +63,8 @@ impl Receiver {
         true
     }
 
-    /// Takes blocks from the first on, for which this datagram asks. Once that is there the file is
-    /// cut short, and the sender gives up before its last block.
+    /// Receives block 1, which answers the datagram `first`, and truncates the file. Expects that
+    /// the sender gives up before its last block.
     fn takes_until_cut<R: Runtime + AllocGlobal + Abort>(
         &mut self,
         rt: &R,
@@ -82,7 +82,7 @@ impl Receiver {
     }
 }
 
-/// A client of the test asks for the file, in blocks of that size.
+/// Requests the file in blocks of `SIZE` bytes, and accepts the OACK.
 fn asks<R: Net + AllocGlobal + Abort>(rt: &R, server: SocketAddr) -> Receiver {
     let socket = loopback_socket(rt);
     let mut buffer = [0; 600];
@@ -114,7 +114,7 @@ fn a_served_file_is_cut(rt: HostRuntime) {
     remove_folder(&rt, folder);
 }
 
-/// A server of the test takes the request of a put.
+/// Receives the request of a put.
 fn is_asked<R: Net + AllocGlobal + Abort>(rt: &R, requests: &UdpSocket) -> Receiver {
     let mut buffer = [0; 600];
     let (request, client) = receive(rt, requests, &mut buffer);

@@ -1,4 +1,4 @@
-//! How `tftpd` is set up: when it ends, and which writes it takes.
+//! Options of `tftpd`: when it ends, and that it refuses writes.
 
 use crate::expect::expect_equal;
 use crate::loopback::has_served;
@@ -12,7 +12,7 @@ use std::rt::Runtime;
 
 const TFTP: &str = "programs::tftp";
 
-/// A client gets the file `a`, of three bytes, to this local file.
+/// A client gets the file `a`, of three bytes, as this local file.
 fn gets<R: Runtime + AllocGlobal + Processes + Abort>(
     rt: &R,
     folder: &str,
@@ -24,7 +24,7 @@ fn gets<R: Runtime + AllocGlobal + Processes + Abort>(
     prints(rt, TFTP, &words, "complete 3\nstatus 0\n");
 }
 
-/// The server ends by no count, and not with the first transfer as it does by default.
+/// No count ends the server. By default it ends with the first transfer.
 #[test]
 fn serves_forever(rt: HostRuntime) {
     let folder = scratch_folder(&rt, process::id(rt.process()), "forever");
@@ -50,7 +50,7 @@ fn is_refused<R: Runtime + AllocGlobal + Processes + Abort>(
     prints(rt, TFTP, &words, "tftp: PeerError(2)\n");
 }
 
-/// A folder has so many entries, hidden ones counted.
+/// A folder has `wanted` entries, hidden ones included.
 fn has_entries<R: Runtime + AllocGlobal + Clone + Drop + Abort>(
     rt: &R,
     folder: &str,
@@ -62,8 +62,8 @@ fn has_entries<R: Runtime + AllocGlobal + Clone + Drop + Abort>(
     expect_equal(rt, &entries.count(), &wanted, "the entries of the folder");
 }
 
-/// A put of a new name and one of a file that is there leave no draft and change no file, and gets
-/// go on.
+/// Puts of a new name and of an existing file leave no draft and change no file; a get still
+/// succeeds.
 #[test]
 fn refuses_writes(rt: HostRuntime) {
     let folder = scratch_folder(&rt, process::id(rt.process()), "read-only");

@@ -1,5 +1,5 @@
-//! A store over a folder, and what it asks of the disk: how often a file is read to be measured,
-//! when bytes and names are brought to the disk, and why a call was refused.
+//! The disk calls of a store over a folder: how often a file is read for its length, when bytes and
+//! names are synced, and why a call was refused.
 
 use crate::expect::{expect, expect_equal};
 use crate::loopback::bytes_of;
@@ -21,7 +21,7 @@ fn path(rt: &impl Abort, alloc: Global, name: &str) -> Path {
     path_of(alloc, name.as_bytes()).expect(rt, name)
 }
 
-/// A store over a folder, and the calls that it makes.
+/// A store over a folder, and the record of its calls.
 fn watched<R: Files + Drop, A: Abort>(
     rt: &A,
     alloc: Global,
@@ -42,8 +42,8 @@ fn length_of<S: Store>(rt: &impl Abort, alloc: Global, store: &S, name: &str) ->
     opening.length
 }
 
-/// A file is read once to be measured, and again once it has changed. One that is too long itself
-/// is not read, and one whose text is too long is read again once a longer one can be sent.
+/// A file is read once for its length, and again once it has changed. A file that is too long is
+/// not read. A file whose text is too long is read again once a longer text is allowed.
 #[test]
 fn a_file_is_measured_once(rt: HostRuntime) {
     let alloc = rt.alloc();
@@ -92,7 +92,7 @@ fn begun<S: Store>(rt: &impl Abort, alloc: Global, store: &mut S, replace: bool)
     store.begin(alloc, &path, replace).expect(rt, "a draft")
 }
 
-/// Appends bytes to a draft, and has it write behind.
+/// Appends bytes to a draft, and writes them behind.
 fn appends<S: Store>(rt: &impl Abort, store: &mut S, draft: &mut S::Draft, bytes: &[u8]) {
     store.append(draft, bytes).expect(rt, "an append");
     store.write_behind(draft);
@@ -109,8 +109,8 @@ fn commits<S: Store>(
     store.commit(&path(rt, alloc, "n"), draft, replace)
 }
 
-/// Two servers with one port, at two addresses, over one folder: neither names the bytes of the
-/// other.
+/// Two servers with the same port, at two addresses, over one folder: neither commits the other's
+/// draft.
 #[test]
 fn two_servers_share_a_folder(rt: HostRuntime) {
     let alloc = rt.alloc();
@@ -143,7 +143,7 @@ fn two_servers_share_a_folder(rt: HostRuntime) {
     remove_folder(&rt, folder);
 }
 
-/// Twelve megabytes are synced three times on their way, and each long block is written by itself.
+/// Twelve megabytes are synced three times before the commit, and each long block is one write.
 #[test]
 fn a_long_put_is_synced_on_its_way(rt: HostRuntime) {
     let alloc = rt.alloc();
@@ -162,7 +162,7 @@ fn a_long_put_is_synced_on_its_way(rt: HostRuntime) {
     remove_folder(&rt, folder);
 }
 
-/// What a commit asks of the disk: the draft is synced, named, and the name is synced.
+/// The disk calls of a commit: the draft is synced and named, and the name is synced.
 #[test]
 fn a_name_is_synced(rt: HostRuntime) {
     let alloc = rt.alloc();
@@ -182,7 +182,7 @@ fn a_name_is_synced(rt: HostRuntime) {
     remove_folder(&rt, folder);
 }
 
-/// Where the file system makes no hard links, a draft is renamed, and never over a file.
+/// On a file system without hard links a draft is renamed, and never over a file.
 #[test]
 fn without_hard_links(rt: HostRuntime) {
     let alloc = rt.alloc();
@@ -214,7 +214,7 @@ fn without_hard_links(rt: HostRuntime) {
     remove_folder(&rt, folder);
 }
 
-/// A write to another device is refused at its beginning, and leaves no draft.
+/// A write to another device is refused when it begins, and leaves no draft.
 #[test]
 fn another_device(rt: HostRuntime) {
     let alloc = rt.alloc();
@@ -243,7 +243,7 @@ fn another_device(rt: HostRuntime) {
     remove_folder(&rt, folder);
 }
 
-/// Errors of the system by their numbers on Linux, the fault of a write, and the reason.
+/// Error numbers of Linux, the fault of a write, and the reason.
 const ERRORS: [(i32, StoreFault, Reason); 4] = [
     (28, StoreFault::Full, Reason::NoSpace),
     (24, StoreFault::Io, Reason::TooManyOpenFiles),
@@ -251,7 +251,7 @@ const ERRORS: [(i32, StoreFault, Reason); 4] = [
     (5, StoreFault::Io, Reason::System(5)),
 ];
 
-/// A call on the file `n` was refused with this fault, and this reason is there once.
+/// A call on the file `n` was refused with this fault, and the reason is returned once.
 fn refused<R: Files + Drop, A: Abort>(
     rt: &A,
     store: &FolderStore<R>,
@@ -264,8 +264,7 @@ fn refused<R: Files + Drop, A: Abort>(
     expect_equal(rt, &store.take_reason(), &None, "no second reason");
 }
 
-/// Each refused open, begin, append and commit has its reason, also where what was refused is what
-/// was written behind.
+/// Each refused open, begin, append and commit has its reason, also if a write behind was refused.
 #[test]
 fn reasons(rt: HostRuntime) {
     let alloc = rt.alloc();

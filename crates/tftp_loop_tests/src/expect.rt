@@ -1,26 +1,26 @@
-//! What a test expects. Each is a function: an `assert_eq!` is proved at its place of use, for two
-//! to three seconds of a processor each.
+//! Assertions of the tests, as functions: each `assert_eq!` in a test would cost two to three
+//! seconds of proof.
 
 ghost use Rattle.std.specs.Prelude.{◌≡◌, true};
 
 use std::fmt::Debug;
 use std::process::Abort;
 
-/// Ends the test unless it holds; `what` says what it is.
+/// Ends the test unless it holds; `what` is the message.
 pub(crate) fn expect(rt: &impl Abort, holds: bool, what: &str)
     ensures { holds ≡ true }
 {
     assert!(rt; holds, "{what}");
 }
 
-/// Ends the test unless the value is the wanted one; `what` says what it is.
+/// Ends the test unless the value is the wanted one; `what` is the message.
 pub(crate) fn expect_equal<T: PartialEq + Debug>(rt: &impl Abort, value: &T, wanted: &T, what: &str)
     ensures { T.eq value.now wanted.now ≡ true }
 {
     assert_eq!(rt; *value, *wanted, "{what}");
 }
 
-/// Ends the test unless the bytes are the wanted ones; `what` says what they are.
+/// Ends the test unless the bytes are the wanted ones; `what` is the message.
 pub(crate) fn expect_bytes(rt: &impl Abort, bytes: &[u8], wanted: &[u8], what: &str)
     ensures { bytes.now ≡ wanted.now }
 {

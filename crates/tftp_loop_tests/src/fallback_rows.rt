@@ -1,4 +1,4 @@
-//! A server of the test that refuses options, and a client that then asks for none.
+//! A server that refuses options, and a client that retries without options.
 
 use crate::expect::expect_bytes;
 use crate::programs::{client, ends_with};
@@ -7,8 +7,7 @@ use crate::test_server::{address_of, loopback_socket, receive_behind, send};
 use std::net::{Net, UdpSocket};
 use std::process::{self, Abort};
 
-/// A request comes that is another than the last, and is answered from a port of the transfer's
-/// own.
+/// Receives a request that differs from the last, and answers it from a new port.
 fn answers<R: Net + Abort>(
     rt: &R,
     requests: &UdpSocket,
@@ -23,7 +22,7 @@ fn answers<R: Net + Abort>(
     send(rt, &transfer, answer, client);
 }
 
-/// Options that are refused by ERROR 8 are left out in a second transfer (RFC 2347).
+/// After ERROR 8 the client retries without options (RFC 2347).
 #[test]
 fn falls_back(rt: HostRuntime) {
     let folder = scratch_folder(&rt, process::id(rt.process()), "fallback");

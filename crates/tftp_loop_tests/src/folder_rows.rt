@@ -1,4 +1,4 @@
-//! A store over a folder: what it opens, and how a file gets its name.
+//! A store over a folder: which files it opens, and when a file gets its name.
 
 use crate::expect::{expect, expect_bytes, expect_equal};
 use crate::scratch::{
@@ -17,7 +17,7 @@ fn path(rt: &impl Abort, alloc: Global, name: &str) -> Path {
     path_of(alloc, name.as_bytes()).expect(rt, name)
 }
 
-/// A file is opened with this wire text, and its length.
+/// A file is opened, with this wire text and its length.
 fn opens<S: Store, R: AllocGlobal + Abort>(
     rt: &R,
     store: &S,
@@ -33,14 +33,14 @@ fn opens<S: Store, R: AllocGlobal + Abort>(
     expect_equal(rt, &opening.length, &(wanted.len() as u64), name);
 }
 
-/// A file is not opened, for this reason.
+/// A file is not opened, with this fault.
 fn refuses<S: Store, R: AllocGlobal + Abort>(rt: &R, store: &S, name: &str, wanted: StoreFault) {
     let path = path(rt, rt.alloc(), name);
     let fault = store.open(rt.alloc(), &path, Mode::Octet).err();
     expect_equal(rt, &fault, &Some(wanted), name);
 }
 
-/// Links of a folder, and where they lead.
+/// Links, and their targets.
 const LINKS: [(&str, &str); 4] = [
     ("served/inner", "sub/b"),
     ("served/outer", "../secret"),
@@ -60,7 +60,7 @@ fn fill_folder<R: Runtime + AllocGlobal + Processes + Abort>(rt: &R, folder: &st
     make_fifo(rt, folder, "served/fifo");
 }
 
-/// Names that are not opened, and why.
+/// Names that are not opened, and the fault.
 const REFUSED: [(&str, StoreFault); 7] = [
     ("none", StoreFault::Missing),
     ("a/b", StoreFault::Missing),
@@ -71,7 +71,7 @@ const REFUSED: [(&str, StoreFault); 7] = [
     ("fifo", StoreFault::Io),
 ];
 
-/// Which names of a folder are opened: regular files in it, through links that stay in it.
+/// Regular files in the folder are opened, also through links that stay in it.
 #[test]
 fn opens_what_is_in_the_folder(rt: HostRuntime) {
     let folder = scratch_folder(&rt, process::id(rt.process()), "opens");
@@ -93,7 +93,7 @@ fn n(rt: &impl Abort, alloc: Global) -> Path {
     path(rt, alloc, "n")
 }
 
-/// Begins a draft that may replace a file, and puts these bytes in it.
+/// Begins a draft, and appends these bytes.
 fn drafted<S: Store>(
     rt: &impl Abort,
     alloc: Global,
@@ -109,7 +109,7 @@ fn drafted<S: Store>(
     draft
 }
 
-/// A file gets its name at the commit alone, and its draft is gone then.
+/// A file gets its name at the commit alone, and its draft is then removed.
 #[test]
 fn names_at_the_commit(rt: HostRuntime) {
     let alloc = rt.alloc();
@@ -134,7 +134,7 @@ fn names_at_the_commit(rt: HostRuntime) {
     remove_folder(&rt, folder);
 }
 
-/// A file takes another's place only where that is told.
+/// A file replaces another only with `replace`.
 #[test]
 fn replaces_where_told(rt: HostRuntime) {
     let alloc = rt.alloc();

@@ -1,5 +1,5 @@
-//! Puts to a `tftpd` whose files may not grow: the client is told that the disk is full, and
-//! nothing is named.
+//! Puts to a `tftpd` with a limit of file sizes: the client receives the ERROR of a full disk, and
+//! no file gets a name.
 
 use crate::expect::{expect, expect_bytes};
 use crate::loopback::make_file;
@@ -10,11 +10,12 @@ use std::net::{Net, SocketAddr};
 use std::process::{self, Abort, OpenProcess, Processes};
 use std::rt::Runtime;
 
-/// How far files may grow, in units of 512 bytes, and the bytes of one that is put. The first is
-/// written out at the commit, the second as it comes; of the third the last bytes alone are refused.
+/// The limit of file sizes in units of 512 bytes, and the length of the file that is put. The first
+/// is written at the commit, the second as it arrives; of the third only the last bytes are
+/// refused.
 const PUTS: [(&str, usize); 3] = [("-f 8", 20_000), ("-f 8", 200_000), ("-f 384", 200_000)];
 
-/// A server whose files may grow so far.
+/// A server with this limit of file sizes.
 fn limited_server<R: Runtime + AllocGlobal + Processes + Abort>(
     rt: &R,
     folder: &str,
@@ -33,7 +34,7 @@ fn limited_server<R: Runtime + AllocGlobal + Processes + Abort>(
     start(rt, &mut command)
 }
 
-/// The transfer has failed, and there is no file of its name.
+/// The transfer failed, and no file has its name.
 fn is_not_named<R: Runtime + AllocGlobal + Abort, P: OpenProcess + Drop>(
     rt: &R,
     folder: &str,
@@ -44,8 +45,8 @@ fn is_not_named<R: Runtime + AllocGlobal + Abort, P: OpenProcess + Drop>(
     lacks(rt, folder, "n");
 }
 
-/// A put of a file that is too long for the server: its last block is not acknowledged, since that
-/// would be a complete transfer to the client.
+/// A put of a file that is too long for the server. Its last block is not acknowledged: the client
+/// would report a complete transfer.
 fn is_refused<R: Runtime + AllocGlobal + Processes + Abort>(
     rt: &R,
     folder: &str,
@@ -71,18 +72,18 @@ fn the_disk_is_full(rt: HostRuntime) {
     remove_folder(&rt, folder.as_str());
 }
 
-/// Nothing is repeated within a timeout of 20 seconds.
+/// With a timeout of 20 seconds nothing is retransmitted.
 const REQUEST: &[u8] = b"\0\x02n\0octet\0blksize\08192\0timeout\020\0";
 
 const AGREEMENT: &[u8] = b"\0\x06blksize\08192\0timeout\020\0";
 
 const DISK_FULL: &[u8] = b"\0\x05\0\x03disk full\0";
 
-/// The full blocks of a file of 204,800 bytes.
+/// The number of full blocks, of 204,800 bytes in all.
 const BLOCKS: u16 = 25;
 
-/// A client of the test puts full blocks until one is answered by the ERROR of a full disk (RFC
-/// 1350, appendix I), each before that by its ACK; returns the number of that block.
+/// Puts full blocks until one is answered by the ERROR of a full disk (RFC 1350, appendix I), and
+/// returns its number. Each block before is acknowledged.
 fn puts<R: Net + AllocGlobal + Abort>(rt: &R, server: SocketAddr) -> u16 {
     let socket = loopback_socket(rt);
     let mut buffer = [0; 600];
@@ -103,8 +104,8 @@ fn puts<R: Net + AllocGlobal + Abort>(rt: &R, server: SocketAddr) -> u16 {
     BLOCKS
 }
 
-/// Where a block is refused that is written behind its acknowledgement, one of the next is answered
-/// by the ERROR, long before the last.
+/// If the write of a block fails after its acknowledgement, a later block is answered by the ERROR,
+/// long before the last.
 #[test]
 fn the_disk_is_full_in_mid_transfer(rt: HostRuntime) {
     let folder = scratch_folder(&rt, process::id(rt.process()), "full-midway");

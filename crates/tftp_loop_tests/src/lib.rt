@@ -1,5 +1,4 @@
-//! Tests of `tftp` and `tftpd` as programs of their own, over the loopback address, and of their
-//! store.
+//! Tests of `tftp` and `tftpd` as separate processes over the loopback address, and of their store.
 #![tactic(auto)]
 
 #[cfg(test)]

@@ -1,4 +1,4 @@
-//! How long `tftp get` stays behind its last block (RFC 1350, section 6).
+//! How long `tftp get` stays after its last block (RFC 1350, section 6).
 
 use crate::expect::{expect, expect_equal};
 use crate::patient_get::{TIMEOUT, start_get};
@@ -20,7 +20,7 @@ fn first_line<R: AllocGlobal + Abort, P: Read + Drop>(rt: &R, printed: P) -> Str
     line
 }
 
-/// The line stands there while the client stays, and acknowledges the last block again.
+/// The line is printed while the client still acknowledges the last block again.
 #[test]
 fn complete_is_printed_at_once(rt: HostRuntime) {
     let folder = scratch_folder(&rt, process::id(rt.process()), "lingers");
@@ -36,7 +36,7 @@ fn complete_is_printed_at_once(rt: HostRuntime) {
     remove_folder(&rt, folder);
 }
 
-/// With `--no-linger` it ends before one of its timeouts is over.
+/// With `--no-linger` the client ends before its first timeout.
 #[test]
 fn no_linger(rt: HostRuntime) {
     let folder = scratch_folder(&rt, process::id(rt.process()), "no-linger");

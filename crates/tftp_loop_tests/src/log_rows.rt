@@ -1,4 +1,4 @@
-//! What `tftpd --log` writes on standard error.
+//! What `tftpd --log` writes to standard error.
 
 use crate::expect::expect;
 use crate::loopback::make_file;
@@ -9,7 +9,7 @@ use std::net::Net;
 use std::process::{self, Abort, Processes, Stdio};
 use std::rt::Runtime;
 
-/// Parts of the log, in its order.
+/// Parts of the log, in order.
 const LINES: [&str; 4] = [
     " RRQ b%20c octet: ERROR 2 (access violation)\n",
     " RRQ a octet: DATA 1 3\n",
@@ -19,12 +19,12 @@ const LINES: [&str; 4] = [
 
 const TFTP: &str = "programs::tftp";
 
-/// What the two clients print: the one whose name is none, and the one that gets its file.
+/// What the two clients print: with an invalid name, and with a file that is served.
 const REFUSED: &str = "status 1\n\ntest result: ok\ntftp: PeerError(2)\n";
 
 const COMPLETE: &str = "complete 3\nstatus 0\n";
 
-/// A name that is none, and a get: a line for each request, and one for the close.
+/// An invalid name, and a get: a line for each request, and one for the close.
 #[test]
 fn log_lines(rt: HostRuntime) {
     let folder = scratch_folder(&rt, process::id(rt.process()), "log");
@@ -45,7 +45,7 @@ fn log_lines(rt: HostRuntime) {
     remove_folder(&rt, folder);
 }
 
-/// The log has the system's reason where a file was not stored.
+/// The log has the system's reason why a file was not stored.
 #[test]
 fn the_log_says_why(rt: HostRuntime) {
     let folder = scratch_folder(&rt, process::id(rt.process()), "log-why");
@@ -63,8 +63,8 @@ fn the_log_says_why(rt: HostRuntime) {
     remove_folder(&rt, folder);
 }
 
-/// Limits of open files, and what the log then says of a request: no port for a transfer can be
-/// bound; there is one, and the file cannot be opened.
+/// Limits of open files, and what the log has of a request: no port can be bound; a port is bound,
+/// and the file cannot be opened.
 const FEW_FILES: [(&str, &str); 2] = [
     ("-n 5", " RRQ a octet: no port\n"),
     (
@@ -90,7 +90,7 @@ fn logs_want<R: Runtime + AllocGlobal + Processes + Net + Abort>(
     expect(rt, log.as_str().contains(wanted), log.as_str());
 }
 
-/// A request that is lost, or refused, for want of open files is in the log.
+/// A request that is lost or refused for lack of open files is in the log.
 #[test]
 fn few_open_files(rt: HostRuntime) {
     let folder = scratch_folder(&rt, process::id(rt.process()), "log-few");

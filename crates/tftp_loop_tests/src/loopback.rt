@@ -9,7 +9,7 @@ use std::rt::Runtime;
 
 const TFTP: &str = "programs::tftp";
 
-/// What a server prints until it ends has so many complete transfers.
+/// Waits until the server ends, and expects that it printed `wanted` complete transfers.
 pub(crate) fn has_served<R: AllocGlobal + Abort, P: OpenProcess + Drop>(
     rt: &R,
     server: Served<P>,
@@ -25,9 +25,9 @@ pub(crate) fn has_served<R: AllocGlobal + Abort, P: OpenProcess + Drop>(
     expect_equal(rt, &count, &wanted, "the complete transfers");
 }
 
-/// A name that is missing, a put of one that is there, a get, and a local file that is there. The
-/// lines are fixed: a client that fails tells its outcome on standard error, with status 1, and a
-/// fault of the local file with status 2.
+/// A missing name, a put of an existing one, a get, and an existing local file. The lines are
+/// fixed: a client that fails prints its outcome on standard error and has status 1, for a fault of
+/// the local file status 2.
 fn tells<R: Runtime + AllocGlobal + Processes + Abort>(rt: &R, folder: &str, address: &str) {
     let local = joined(rt, folder, "local");
     let file = joined(rt, folder, "a");
@@ -73,7 +73,7 @@ const LENGTHS: [(&str, usize); 16] = [
     ("40000", 40_000),
 ];
 
-/// So many bytes.
+/// Test bytes of this length.
 pub(crate) fn bytes_of(rt: &impl Abort, alloc: Global, length: usize) -> Vec<u8> {
     let mut bytes = Vec::new(alloc);
     for at in 0..length {
@@ -82,19 +82,19 @@ pub(crate) fn bytes_of(rt: &impl Abort, alloc: Global, length: usize) -> Vec<u8>
     bytes
 }
 
-/// The local file of a client.
+/// The path of a client's local file.
 fn local_of<R: AllocGlobal + Abort>(rt: &R, folder: &str, name: &str) -> String {
     format!(in rt.alloc(); "{folder}/{name}.local").expect(rt, "memory")
 }
 
-/// Each client has stored its file.
+/// The client has stored its file.
 fn is_stored<R: Runtime + AllocGlobal + Abort>(rt: &R, folder: &str, name: &str, length: usize) {
     let local = format!(in rt.alloc(); "{name}.local").expect(rt, "memory");
     let bytes = bytes_of(rt, rt.alloc(), length);
     has_bytes(rt, folder, local.as_str(), bytes.as_slice());
 }
 
-/// Puts a file of this length into a folder.
+/// Makes a file of this length in a folder.
 pub(crate) fn make_file<R: Runtime + AllocGlobal + Abort>(
     rt: &R,
     folder: &str,

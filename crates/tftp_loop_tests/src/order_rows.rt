@@ -1,5 +1,5 @@
-//! In which order `tftpd` handles datagrams that are there at once: what came to transfers before
-//! what came to the request port, and each soon.
+//! The order in which `tftpd` handles datagrams that wait at the same time: those to transfers
+//! before those to the request port, and each soon.
 
 use crate::expect::{expect, expect_bytes};
 use crate::loopback::has_served;
@@ -9,12 +9,12 @@ use crate::test_server::{loopback_socket, receive, send};
 use std::net::{Net, SocketAddr, UdpSocket};
 use std::process::{self, Abort, OpenProcess, Processes};
 
-/// The first block of each file here, which is its last one (RFC 1350, section 6).
+/// The first block of each file, which is also its last (RFC 1350, section 6).
 const DATA_1: &[u8] = b"\0\x03\0\x01ABC";
 
 const ACK_1: &[u8] = b"\0\x04\0\x01";
 
-/// Requests that follow each other: of the file that was asked for before, and of the other.
+/// Successive requests: of the same file as before, and of the other.
 const REQUESTS: [&[u8]; 4] = [
     b"\0\x01a\0octet\0",
     b"\0\x01a\0octet\0",
@@ -22,7 +22,7 @@ const REQUESTS: [&[u8]; 4] = [
     b"\0\x01b\0octet\0",
 ];
 
-/// A new transfer sends its first block; an older one may repeat its own on a slow host.
+/// Receives the first block of a new transfer. On a slow host an older one may retransmit its own.
 fn first_block<R: Abort>(rt: &R, socket: &UdpSocket, older: SocketAddr) -> SocketAddr {
     let mut buffer = [0; 600];
     for _ in 0..20 {
@@ -35,7 +35,7 @@ fn first_block<R: Abort>(rt: &R, socket: &UdpSocket, older: SocketAddr) -> Socke
     older
 }
 
-/// A client of the test acknowledges its file and asks for the next one, before the server runs on.
+/// While the server is stopped, acknowledges a file and requests the next one.
 fn asks_on<R: AllocGlobal + Processes + Abort, P: OpenProcess + Drop>(
     rt: &R,
     server: &Served<P>,
@@ -49,8 +49,8 @@ fn asks_on<R: AllocGlobal + Processes + Abort, P: OpenProcess + Drop>(
     server.signal(rt, "CONT");
 }
 
-/// A client that fetches one file after the other: first with the server stopped in between, then
-/// as fast as it can.
+/// Gets one file after the other: first with the server stopped in between, then as fast as
+/// possible.
 fn fetches<R: Net + AllocGlobal + Processes + Abort, P: OpenProcess + Drop>(
     rt: &R,
     server: &Served<P>,
@@ -71,7 +71,7 @@ fn fetches<R: Net + AllocGlobal + Processes + Abort, P: OpenProcess + Drop>(
     send(rt, &socket, ACK_1, transfer);
 }
 
-/// A server with one place is never busy for a client that acknowledges before it asks again.
+/// A server with one slot is never busy for a client that acknowledges before it requests again.
 #[test]
 fn a_place_is_freed_first(rt: HostRuntime) {
     let folder = scratch_folder(&rt, process::id(rt.process()), "freed");
@@ -94,7 +94,7 @@ fn a_place_is_freed_first(rt: HostRuntime) {
     remove_folder(&rt, folder);
 }
 
-/// A client that agrees on a timeout of 255 seconds begins, and gives up at once.
+/// Agrees on a timeout of 255 seconds, acknowledges, and gives up at once.
 fn gives_up<R: Net + AllocGlobal + Processes + Abort, P: OpenProcess + Drop>(
     rt: &R,
     server: &Served<P>,
@@ -111,8 +111,8 @@ fn gives_up<R: Net + AllocGlobal + Processes + Abort, P: OpenProcess + Drop>(
     server.signal(rt, "CONT");
 }
 
-/// An ERROR right behind an acknowledgement closes its transfer within a few waits, each of a second
-/// at most.
+/// An ERROR immediately after an acknowledgement closes the transfer within a few waits, each of at
+/// most a second.
 #[test]
 fn an_error_is_seen_soon(rt: HostRuntime) {
     let folder = scratch_folder(&rt, process::id(rt.process()), "soon");

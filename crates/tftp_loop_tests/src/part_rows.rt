@@ -1,5 +1,5 @@
-//! `LOCAL.part`, under which `tftp get` keeps its file until it is whole: what stood there is
-//! replaced and never written to, and nothing but the file that was received gets the name LOCAL.
+//! `LOCAL.part`, the name of a file that `tftp get` is receiving. An existing file of that name is
+//! replaced and never written to, and only the received file gets the name LOCAL.
 
 use crate::patient_get::start_get;
 use crate::programs::ends_with;
@@ -13,7 +13,7 @@ use std::rt::Runtime;
 
 const ACK: &[u8] = b"\0\x04\0\x01";
 
-/// A get of three bytes is complete, and nothing is left of `LOCAL.part`.
+/// A get of three bytes is complete, and `LOCAL.part` is removed.
 fn is_got<R: Runtime + AllocGlobal + Processes + Net + Abort>(rt: &R, folder: &str) {
     let (client, server) = start_get(rt, folder, "--no-linger");
     server.sends(rt, b"\0\x03\0\x01ABC", ACK);
@@ -22,7 +22,7 @@ fn is_got<R: Runtime + AllocGlobal + Processes + Net + Abort>(rt: &R, folder: &s
     lacks(rt, folder, "local.part");
 }
 
-/// A link that somebody planted is removed, and what it leads to is not touched.
+/// A planted link is removed, and its target does not change.
 #[test]
 fn a_link_is_replaced(rt: HostRuntime) {
     let folder = scratch_folder(&rt, process::id(rt.process()), "planted");
@@ -34,7 +34,7 @@ fn a_link_is_replaced(rt: HostRuntime) {
     remove_folder(&rt, folder);
 }
 
-/// What an older transfer left is removed.
+/// The part of an older transfer is removed.
 #[test]
 fn a_left_over_is_replaced(rt: HostRuntime) {
     let folder = scratch_folder(&rt, process::id(rt.process()), "left-over");
@@ -44,7 +44,7 @@ fn a_left_over_is_replaced(rt: HostRuntime) {
     remove_folder(&rt, folder);
 }
 
-/// Where another file takes the place of `LOCAL.part` in the meantime, none is named.
+/// If another file replaces `LOCAL.part` during the transfer, no file gets the name LOCAL.
 #[test]
 fn another_file_is_not_named(rt: HostRuntime) {
     let folder = scratch_folder(&rt, process::id(rt.process()), "exchanged");

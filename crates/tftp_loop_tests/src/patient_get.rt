@@ -1,5 +1,5 @@
-//! A get of `local` in a folder at a server of the test, with timeouts of 20 seconds: nothing is
-//! repeated where the test is slow.
+//! A get from a server of the test, with timeouts of 20 seconds: a slow test causes no
+//! retransmission.
 
 use crate::expect::expect_bytes;
 use crate::programs::client;
@@ -9,13 +9,12 @@ use std::net::{Net, SocketAddr, UdpSocket};
 use std::process::{Abort, Child, Processes};
 use std::rt::Runtime;
 
-/// What the client asks, and what it is answered (RFC 2349, "Timeout Interval Option
-/// Specification").
+/// The client's request and its answer (RFC 2349, "Timeout Interval Option Specification").
 const REQUEST: &[u8] = b"\0\x01a\0octet\0timeout\x0020\0";
 
 const AGREEMENT: &[u8] = b"\0\x06timeout\x0020\0";
 
-/// The seconds of a timeout.
+/// The timeout, in seconds.
 pub(crate) const TIMEOUT: u64 = 20;
 
 /// The server's end of the get.
@@ -25,7 +24,7 @@ pub(crate) struct ServerEnd {
     client: SocketAddr,
 }
 
-/// Starts the get, with another word of the command line, and agrees on its timeout.
+/// Starts the get with one more command-line word, and agrees on its timeout.
 pub(crate) fn start_get<R: Runtime + AllocGlobal + Processes + Net + Abort>(
     rt: &R,
     folder: &str,
@@ -40,7 +39,7 @@ pub(crate) fn start_get<R: Runtime + AllocGlobal + Processes + Net + Abort>(
     (child, agree(rt, &requests))
 }
 
-/// Takes the request, and agrees on its timeout.
+/// Receives the request, and agrees on its timeout.
 fn agree<R: Net + Abort>(rt: &R, requests: &UdpSocket) -> ServerEnd {
     let mut buffer = [0; 600];
     let (request, client) = receive(rt, requests, &mut buffer);
@@ -54,7 +53,7 @@ fn agree<R: Net + Abort>(rt: &R, requests: &UdpSocket) -> ServerEnd {
 }
 
 impl ServerEnd {
-    /// Sends a datagram to the client, which answers it so.
+    /// Sends a datagram to the client, and expects this answer.
     pub(crate) fn sends(&self, rt: &impl Abort, bytes: &[u8], wanted: &[u8]) {
         let mut buffer = [0; 600];
         send(rt, &self.socket, bytes, self.client);

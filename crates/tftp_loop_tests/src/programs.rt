@@ -1,6 +1,6 @@
-//! The programs, started by a test.
+//! The programs as processes that a test starts.
 //!
-//! A test knows of no file but its own program. So that program plays the others: run with the name
+//! A test can run only its own program, so that program is also the two others: run with the name
 //! of one of the first two tests here and further words, it is `tftp` or `tftpd` with these words.
 
 use crate::expect::expect;
@@ -11,7 +11,7 @@ use std::process::{Abort, Child, Command, OpenProcess, Processes, Stdio};
 use std::rt::Runtime;
 use std::test::Fail;
 
-/// The words behind the name of a test.
+/// The words of the command line after the name of the program.
 fn words_of_a_program<R: Runtime + AllocGlobal>(rt: &R) -> Result<Vec<String>, Fail> {
     let mut words = Vec::new(rt.alloc());
     for word in env::args(rt)?.skip(1) {
@@ -20,7 +20,7 @@ fn words_of_a_program<R: Runtime + AllocGlobal>(rt: &R) -> Result<Vec<String>, F
     Ok(words)
 }
 
-/// Is `tftp`, where this program was started as one.
+/// Is `tftp`, if this program was started as `tftp`.
 #[test]
 fn tftp(rt: HostRuntime) -> Result<(), Fail> {
     let words = words_of_a_program(&rt)?;
@@ -31,7 +31,7 @@ fn tftp(rt: HostRuntime) -> Result<(), Fail> {
     Ok(())
 }
 
-/// Is `tftpd`, where this program was started as one.
+/// Is `tftpd`, if this program was started as `tftpd`.
 #[test]
 fn tftpd(rt: HostRuntime) -> Result<(), Fail> {
     let words = words_of_a_program(&rt)?;
@@ -55,7 +55,7 @@ fn append_words(rt: &impl Abort, command: &mut Command, words: &[&str]) {
     }
 }
 
-/// A command that runs this program as the other.
+/// A command that runs this program as `tftp` or `tftpd`.
 pub(crate) fn program<R: Runtime + AllocGlobal + Abort>(
     rt: &R,
     name: &str,
@@ -68,12 +68,11 @@ pub(crate) fn program<R: Runtime + AllocGlobal + Abort>(
     command
 }
 
-/// What a shell runs so that a program has the limit that the first words of `ulimit` say; a file
-/// that would grow beyond one is an error and no signal.
+/// A shell script that runs a program under a limit of `ulimit`. A write beyond a file's limit is
+/// an error and not a signal.
 const LIMITED: &str = "trap '' XFSZ; ulimit $1; shift; exec \"$@\"";
 
-/// A command that runs this program as the other, under a limit: `-f 8` for files of 8 times 512
-/// bytes, `-n 8` for 8 open files.
+/// As [`program`], under a limit: `-f 8` for files of 8 times 512 bytes, `-n 8` for 8 open files.
 pub(crate) fn limited_program<R: Runtime + AllocGlobal + Abort>(
     rt: &R,
     limit: &str,
@@ -113,7 +112,7 @@ pub(crate) fn told_by<R: AllocGlobal + Processes + Abort>(rt: &R, mut command: C
     told
 }
 
-/// A program prints this, among other lines.
+/// Runs a program, and expects this in what it prints.
 pub(crate) fn prints<R: Runtime + AllocGlobal + Processes + Abort>(
     rt: &R,
     name: &str,
@@ -124,7 +123,7 @@ pub(crate) fn prints<R: Runtime + AllocGlobal + Processes + Abort>(
     expect(rt, told.as_str().contains(wanted), told.as_str());
 }
 
-/// Starts a client with these words.
+/// Starts `tftp` with these words.
 pub(crate) fn client<R: Runtime + AllocGlobal + Processes + Abort>(
     rt: &R,
     words: &[&str],
@@ -136,7 +135,7 @@ pub(crate) fn client<R: Runtime + AllocGlobal + Processes + Abort>(
         .expect(rt, "a client starts")
 }
 
-/// What a client has printed at its end.
+/// What a client prints on standard output until it ends.
 pub(crate) fn printed_by<R: AllocGlobal + Abort, P: OpenProcess + Drop>(
     rt: &R,
     client: Child<P>,
@@ -148,7 +147,7 @@ pub(crate) fn printed_by<R: AllocGlobal + Abort, P: OpenProcess + Drop>(
     String::from_str(rt.alloc(), text).expect(rt, "memory")
 }
 
-/// A client has ended, and printed this among other lines.
+/// Waits until a client ends, and expects this in what it printed.
 pub(crate) fn ends_with<R: AllocGlobal + Abort, P: OpenProcess + Drop>(
     rt: &R,
     client: Child<P>,
@@ -163,11 +162,11 @@ pub(crate) fn ends_with<R: AllocGlobal + Abort, P: OpenProcess + Drop>(
 pub(crate) struct Served<P: OpenProcess + Drop> {
     process: Child<P>,
     printed: BufReader<P::Stdout>,
-    /// Where it listens.
+    /// The address that it listens at.
     pub(crate) address: String,
 }
 
-/// Starts a server with these words.
+/// Starts `tftpd` with these words.
 pub(crate) fn serve<R: Runtime + AllocGlobal + Processes + Abort>(
     rt: &R,
     words: &[&str],
@@ -176,7 +175,7 @@ pub(crate) fn serve<R: Runtime + AllocGlobal + Processes + Abort>(
     start(rt, &mut command)
 }
 
-/// What a shell runs that ends a server after a minute, or once the test has ended, however it did.
+/// A shell script that ends a server after a minute, or once the test has ended, in any way.
 const BOUNDED: &str = "\
 left=60
 while [ $left -gt 0 ] && kill -0 \"$1\" && kill -0 $PPID; do
@@ -185,7 +184,7 @@ while [ $left -gt 0 ] && kill -0 \"$1\" && kill -0 $PPID; do
 done
 kill -9 \"$1\"";
 
-/// Has a shell run this beside the test, with a word.
+/// Runs a shell script with one argument beside the test.
 pub(crate) fn run_beside<R: AllocGlobal + Processes + Abort>(rt: &R, script: &str, word: &str) {
     let mut command = Command::new(rt.alloc(), "sh").expect(rt, "memory");
     append_words(rt, &mut command, &["-c", script, "sh", word]);
@@ -197,7 +196,7 @@ pub(crate) fn run_beside<R: AllocGlobal + Processes + Abort>(rt: &R, script: &st
         .expect(rt, "a shell starts");
 }
 
-/// Starts a server by this command. It ends within a minute, and with the test.
+/// Starts a server with this command. It ends within a minute, and with the test.
 pub(crate) fn start<R: AllocGlobal + Processes + Abort>(
     rt: &R,
     command: &mut Command,
@@ -218,7 +217,7 @@ pub(crate) fn start<R: AllocGlobal + Processes + Abort>(
     }
 }
 
-/// Where a server listens, by the first line that it prints.
+/// The address that a server listens at, from the first line that it prints.
 fn address_in<R: AllocGlobal + Abort, P: Read + Drop>(
     rt: &R,
     printed: &mut BufReader<P>,
@@ -233,7 +232,7 @@ fn address_in<R: AllocGlobal + Abort, P: Read + Drop>(
 }
 
 impl<P: OpenProcess + Drop> Served<P> {
-    /// Where it listens.
+    /// The address that it listens at.
     pub(crate) fn socket_address(&self, rt: &impl Abort) -> SocketAddr {
         let address = self.address.as_str();
         address.parse::<SocketAddr>().expect(rt, address)
@@ -249,7 +248,7 @@ impl<P: OpenProcess + Drop> Served<P> {
         rest
     }
 
-    /// What it writes on standard error until it ends, where that is a pipe.
+    /// What it writes to standard error until it ends, if that is a pipe.
     pub(crate) fn log<R: AllocGlobal + Abort>(self, rt: &R) -> String {
         let Served {
             process,
@@ -272,7 +271,7 @@ impl<P: OpenProcess + Drop> Served<P> {
         command.status(rt).expect(rt, "a signal is sent");
     }
 
-    /// Ends it, whatever it does.
+    /// Kills it.
     pub(crate) fn kill(mut self, rt: &impl Abort) {
         self.process.kill().expect(rt, "a server is killed");
         self.process.wait().expect(rt, "a server ends");

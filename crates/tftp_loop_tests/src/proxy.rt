@@ -1,4 +1,4 @@
-//! A proxy between one client and a server that loses, doubles and reorders datagrams by a seed.
+//! A proxy between one client and a server that loses, duplicates and reorders datagrams by a seed.
 
 use crate::test_server::{loopback_socket, send};
 use std::alloc::Global;
@@ -6,7 +6,7 @@ use std::net::{Net, SocketAddr, UdpSocket};
 use std::process::{Abort, Child, OpenProcess};
 use std::time::Duration;
 
-/// The most turns of a proxy, each of some milliseconds.
+/// The most turns of a proxy, each of a few milliseconds.
 const MOST_TURNS: usize = 8_000;
 
 /// What happens to a datagram.
@@ -18,13 +18,13 @@ enum Fate {
     Delivered,
 }
 
-/// One direction: a datagram that is late goes out behind the next one.
+/// One direction: a late datagram is sent after the next one.
 #[derive(Drop)]
 struct Lane {
     late: Option<Vec<u8>>,
 }
 
-/// The proxy: the client sends its request to `requests` and is answered from `answers`.
+/// The proxy: it receives the client's request at `requests`, and answers from `answers`.
 #[derive(Drop)]
 pub(crate) struct Proxy {
     alloc: Global,
@@ -39,7 +39,7 @@ pub(crate) struct Proxy {
     seed: u64,
 }
 
-/// A socket that waits for a moment only.
+/// A socket with a short receive timeout.
 fn hasty_socket<N: Net + Abort>(net: &N) -> UdpSocket {
     let socket = loopback_socket(net);
     let moment = Some(Duration::from_millis(2));
@@ -67,12 +67,12 @@ impl Proxy {
         }
     }
 
-    /// Where the client sends its request.
+    /// The socket for the client's request.
     pub(crate) fn requests(&self) -> &UdpSocket {
         &self.requests
     }
 
-    /// What happens to the next datagram: of twenty three are lost, three doubled and three late.
+    /// The fate of the next datagram: of twenty, three are lost, three duplicated and three late.
     fn fate(&mut self) -> Fate {
         self.seed = self
             .seed
@@ -86,7 +86,7 @@ impl Proxy {
         }
     }
 
-    /// Passes datagrams on until the client has ended.
+    /// Forwards datagrams until the client has ended.
     pub(crate) fn run<P: OpenProcess>(&mut self, rt: &impl Abort, client: &mut Child<P>) {
         let mut buffer = Vec::from_elem(self.alloc, 0u8, 65_536).expect(rt, "memory");
         for _ in 0..MOST_TURNS {
@@ -100,7 +100,7 @@ impl Proxy {
         }
     }
 
-    /// Passes on a request. It is lost at most: a second one could open a second transfer.
+    /// Forwards a request, or loses it. It is not duplicated: a copy could open a second transfer.
     fn pass_request(&mut self, rt: &impl Abort, buffer: &mut [u8]) {
         let Ok((count, from)) = self.requests.recv_from(buffer) else {
             return;
@@ -111,7 +111,7 @@ impl Proxy {
         }
     }
 
-    /// Passes on what the client sends to its transfer.
+    /// Forwards a datagram of the client to its transfer.
     fn pass_to_server(&mut self, rt: &impl Abort, buffer: &mut [u8]) {
         let (Ok((count, _)), Some(to)) = (self.answers.recv_from(buffer), self.transfer) else {
             return;
@@ -129,7 +129,7 @@ impl Proxy {
         );
     }
 
-    /// Passes on what the transfer sends to its client.
+    /// Forwards a datagram of the transfer to the client.
     fn pass_to_client(&mut self, rt: &impl Abort, buffer: &mut [u8]) {
         let (Ok((count, from)), Some(to)) = (self.server_side.recv_from(buffer), self.client) else {
             return;
@@ -152,7 +152,7 @@ impl Proxy {
     }
 }
 
-/// Sends a datagram as its fate says.
+/// Sends a datagram by its fate.
 fn pass(
     rt: &impl Abort,
     alloc: Global,

@@ -1,5 +1,5 @@
-//! Transfers over a network that loses, doubles and reorders: one that reports complete has the
-//! same bytes.
+//! Transfers over a network that loses, duplicates and reorders datagrams: a complete transfer has
+//! the same bytes.
 
 use crate::expect::expect;
 use crate::loopback::{bytes_of, make_file};
@@ -11,13 +11,13 @@ use std::net::{Net, SocketAddr};
 use std::process::{self, Abort, Processes};
 use std::rt::Runtime;
 
-/// The bytes of the file that travels.
+/// The length of the file, in bytes.
 const LENGTH: usize = 2_500;
 
-/// What a client prints that completes.
+/// What a client prints for a complete transfer.
 const COMPLETE: &str = "complete 2500\nstatus 0\n";
 
-/// What a client prints that is told these words, of which one is the proxy's address.
+/// What a client prints with these words, of which one is the proxy's address.
 fn told_through<R: Runtime + AllocGlobal + Processes + Abort>(
     rt: &R,
     proxy: &mut Proxy,
@@ -28,7 +28,7 @@ fn told_through<R: Runtime + AllocGlobal + Processes + Abort>(
     printed_by(rt, client)
 }
 
-/// The folder has the file whole under this name.
+/// The folder has the whole file under this name.
 fn is_whole<R: Runtime + AllocGlobal + Abort>(rt: &R, folder: &str, name: &str) {
     let wanted = bytes_of(rt, rt.alloc(), LENGTH);
     has_bytes(rt, folder, name, wanted.as_slice());
@@ -58,8 +58,8 @@ fn gets_through<R: Runtime + AllocGlobal + Processes + Net + Abort>(
     is_whole(rt, folder, name.as_str());
 }
 
-/// A put through a proxy with this seed: the file is there whole or not at all, and whole where the
-/// client reports that it is complete. Whether it does.
+/// A put through a proxy with this seed: the file is whole or missing, and whole if the client
+/// reports completion. Returns whether it does.
 fn puts_through<R: Runtime + AllocGlobal + Processes + Net + Abort>(
     rt: &R,
     folder: &str,
@@ -86,7 +86,7 @@ fn puts_through<R: Runtime + AllocGlobal + Processes + Net + Abort>(
     is_complete
 }
 
-/// Three seeds. The server may have gone when its last ACK was lost twice, but not each time.
+/// Three seeds. The server may close before the client has its last ACK, but not each time.
 #[test]
 fn puts_survive(rt: HostRuntime) {
     let folder = scratch_folder(&rt, process::id(rt.process()), "proxy-puts");
@@ -113,7 +113,7 @@ fn puts_survive(rt: HostRuntime) {
     remove_folder(&rt, folder);
 }
 
-/// Three seeds. After ten retries nothing is lost for good.
+/// Three seeds. Ten retries are enough for each get.
 #[test]
 fn gets_survive(rt: HostRuntime) {
     let folder = scratch_folder(&rt, process::id(rt.process()), "proxy");

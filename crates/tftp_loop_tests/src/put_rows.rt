@@ -10,7 +10,7 @@ use std::process::{self, Abort, Processes};
 use std::rt::Runtime;
 use std::time::{Clock, Duration};
 
-/// A file of this length arrives whole, behind the plain request of a write.
+/// A file of this length arrives whole, after a write request without options.
 fn arrives<R: Runtime + AllocGlobal + Processes + Net + Abort>(
     rt: &R,
     folder: &str,
@@ -30,7 +30,7 @@ fn arrives<R: Runtime + AllocGlobal + Processes + Net + Abort>(
     expect(rt, file.as_slice() == bytes.as_slice(), "the file");
 }
 
-/// Lengths at the ends of blocks.
+/// Lengths at the boundaries of blocks.
 #[test]
 fn files_arrive(rt: HostRuntime) {
     let folder = scratch_folder(&rt, process::id(rt.process()), "puts");
@@ -40,8 +40,7 @@ fn files_arrive(rt: HostRuntime) {
     remove_folder(&rt, folder.as_str());
 }
 
-/// A server of the test agrees on a timeout of 255 seconds, takes the first block, and gives up at
-/// once.
+/// Agrees on a timeout of 255 seconds, acknowledges the first block, and gives up at once.
 fn gives_up<R: Net + Abort>(rt: &R, requests: &UdpSocket) {
     let mut buffer = [0; 600];
     let (request, client) = receive(rt, requests, &mut buffer);
@@ -55,7 +54,7 @@ fn gives_up<R: Net + Abort>(rt: &R, requests: &UdpSocket) {
     send(rt, &transfer, b"\0\x05\0\0stop\0".as_slice(), client);
 }
 
-/// An ERROR right behind an acknowledgement is seen long before the timeout.
+/// An ERROR immediately after an acknowledgement is handled long before the timeout.
 #[test]
 fn an_error_is_seen_soon(rt: HostRuntime) {
     let folder = scratch_folder(&rt, process::id(rt.process()), "put-soon");

@@ -1,4 +1,4 @@
-//! What `tftpd` answers to requests that it refuses: at once, from its request port, and without a
+//! `tftpd`'s answers to requests that it refuses: at once, from its request port, without a
 //! transfer.
 
 use crate::expect::{expect, expect_bytes, expect_equal};
@@ -12,9 +12,9 @@ use std::net::{Net, SocketAddr, UdpSocket};
 use std::process::{self, Abort, Processes};
 use std::rt::Runtime;
 
-/// Requests and the ERRORs that answer them (RFC 1350, appendix I): what is missing, a folder, a
-/// link out of the folder, a FIFO, a name that is none; then writes of a file that is there, of a
-/// link, through a link, and into a folder that is missing.
+/// Requests and the ERRORs that answer them (RFC 1350, appendix I): a missing file, a folder, links
+/// out of the folder, a FIFO, an invalid name; then writes of an existing file, of a link, through
+/// a link, and into a missing folder.
 const REFUSALS: [(&[u8], &[u8]); 10] = [
     (b"\0\x01none\0octet\0", b"\0\x05\0\x01file not found\0"),
     (b"\0\x01sub\0octet\0", b"\0\x05\0\x01file not found\0"),
@@ -47,7 +47,7 @@ fn fill_folder<R: Runtime + AllocGlobal + Processes + Abort>(rt: &R, folder: &st
     make_fifo(rt, folder, "served/fifo");
 }
 
-/// The request port answers a request so.
+/// The request port answers a request with this datagram.
 fn answers<R: Net + Abort>(rt: &R, server: SocketAddr, request: &[u8], wanted: &[u8]) {
     let socket = loopback_socket(rt);
     let mut buffer = [0; 600];
@@ -75,7 +75,7 @@ fn requests_are_refused(rt: HostRuntime) {
     remove_folder(&rt, folder);
 }
 
-/// Whatever has come since is this datagram again, from there: no second answer.
+/// All datagrams received since are copies of this one, from `from`: no second answer.
 fn has_only<N: Net + Abort>(net: &N, socket: &UdpSocket, datagram: &[u8], from: SocketAddr) {
     let mut buffer = [0; 600];
     socket
@@ -90,7 +90,7 @@ fn has_only<N: Net + Abort>(net: &N, socket: &UdpSocket, datagram: &[u8], from: 
     }
 }
 
-/// At `--cap` another client is told that the server is busy, and a repeated request is not
+/// At `--cap` another client receives the ERROR of a busy server, and a repeated request is not
 /// answered a second time.
 fn is_busy<R: Net + Abort>(rt: &R, server: SocketAddr) {
     let request = b"\0\x01a\0octet\0".as_slice();

@@ -7,10 +7,10 @@ use std::process::{Abort, Command, Processes};
 use std::rt::Runtime;
 use std::{env, fs};
 
-/// What a shell runs that removes a folder once the test has ended, however it did.
+/// A shell script that removes a folder once the test has ended, in any way.
 const REMOVED: &str = "while kill -0 $PPID; do sleep 1; done; rm -rf \"$1\"";
 
-/// A new folder among the system's temporary ones. It does not outlive the test.
+/// A new folder in the system's folder for temporary files. It is removed after the test.
 pub(crate) fn scratch_folder<R: Runtime + AllocGlobal + Processes + Abort>(
     rt: &R,
     id: u32,
@@ -29,7 +29,7 @@ pub(crate) fn joined<R: AllocGlobal + Abort>(rt: &R, folder: &str, name: &str) -
     format!(in rt.alloc(); "{folder}/{name}").expect(rt, "memory")
 }
 
-/// Makes a file of a folder.
+/// Makes a file in a folder.
 pub(crate) fn write_file<R: Runtime + AllocGlobal + Abort>(
     rt: &R,
     folder: &str,
@@ -49,7 +49,7 @@ pub(crate) fn has_bytes<R: Runtime + AllocGlobal + Abort>(
 ) {
     let file = joined(rt, folder, name);
     let stored = fs::read(rt, file.as_str()).expect(rt, name);
-    // (a file may be long, and is not printed)
+    // Not `expect_bytes`: it would print a long file.
     expect(rt, stored.as_slice() == wanted, name);
 }
 
@@ -70,7 +70,7 @@ pub(crate) fn make_folder<R: Runtime + AllocGlobal + Abort>(rt: &R, folder: &str
     fs::create_dir_all(rt, path.as_str()).expect(rt, name);
 }
 
-/// Makes a link of a folder.
+/// Makes a link in a folder.
 pub(crate) fn make_link<R: Runtime + AllocGlobal + Abort>(
     rt: &R,
     folder: &str,
@@ -81,7 +81,7 @@ pub(crate) fn make_link<R: Runtime + AllocGlobal + Abort>(
     symlink(rt, target, link.as_str()).expect(rt, name);
 }
 
-/// Makes a FIFO of a folder.
+/// Makes a FIFO in a folder.
 pub(crate) fn make_fifo<R: AllocGlobal + Processes + Abort>(rt: &R, folder: &str, name: &str) {
     let fifo = joined(rt, folder, name);
     let mut command = Command::new(rt.alloc(), "mkfifo").expect(rt, "memory");
@@ -89,7 +89,7 @@ pub(crate) fn make_fifo<R: AllocGlobal + Processes + Abort>(rt: &R, folder: &str
     command.status(rt).expect(rt, name);
 }
 
-/// Removes a folder, with all that is in it.
+/// Removes a folder and all in it.
 pub(crate) fn remove_folder<R: Runtime + Abort>(rt: &R, folder: &str) {
     fs::remove_dir_all(rt, folder).expect(rt, folder);
 }

@@ -1,5 +1,4 @@
-//! Puts to `tftpd` that end badly or that replace a file: a file is seen whole under its name, or
-//! not at all.
+//! Puts to `tftpd` that fail or replace a file: under its name a file is whole or missing.
 
 use crate::expect::{expect, expect_bytes};
 use crate::programs::{prints, serve};
@@ -8,7 +7,7 @@ use crate::test_server::{loopback_socket, receive, receive_behind, send};
 use std::net::{Net, SocketAddr};
 use std::process::{self, Abort};
 
-/// A client of the test asks to write the file `n`, sends one whole block, and sends nothing more.
+/// Requests to write the file `n`, sends one full block, and nothing more.
 fn vanishes<R: Net + Abort>(rt: &R, server: SocketAddr) {
     let socket = loopback_socket(rt);
     let mut buffer = [0; 600];
@@ -23,7 +22,7 @@ fn vanishes<R: Net + Abort>(rt: &R, server: SocketAddr) {
     expect_bytes(rt, answer, b"\0\x04\0\x01".as_slice(), "ACK 1");
 }
 
-/// The transfer is given up, and there is no file of its name.
+/// The transfer times out, and no file has its name.
 #[test]
 fn a_client_vanishes(rt: HostRuntime) {
     let folder = scratch_folder(&rt, process::id(rt.process()), "vanished");
@@ -47,7 +46,7 @@ fn a_client_vanishes(rt: HostRuntime) {
     remove_folder(&rt, folder);
 }
 
-/// The server is killed in the middle, and there is no file of the name.
+/// The server is killed during the transfer, and no file has its name.
 #[test]
 fn a_server_is_killed(rt: HostRuntime) {
     let folder = scratch_folder(&rt, process::id(rt.process()), "killed");
@@ -59,7 +58,7 @@ fn a_server_is_killed(rt: HostRuntime) {
     remove_folder(&rt, folder);
 }
 
-/// With `--overwrite` a put takes the place of the file that is there.
+/// With `--overwrite` a put replaces the existing file.
 #[test]
 fn a_file_is_replaced(rt: HostRuntime) {
     let folder = scratch_folder(&rt, process::id(rt.process()), "replaced");

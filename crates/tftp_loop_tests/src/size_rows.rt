@@ -1,4 +1,4 @@
-//! Gets and puts in blocks of several sizes and in both modes, of lengths around the ends of
+//! Gets and puts in blocks of several sizes and in both modes, of lengths at the boundaries of
 //! blocks, many at once (RFC 1350, section 6; RFC 2348; RFC 764).
 
 use crate::loopback::{bytes_of, has_served, make_file};
@@ -7,7 +7,7 @@ use crate::scratch::{has_bytes, joined, remove_folder, scratch_folder};
 use std::process::{self, Abort, Child, Processes};
 use std::rt::Runtime;
 
-/// A mode, as an option of `tftp` and as a part of names.
+/// A mode of transfer.
 #[derive(Clone, Copy)]
 enum Mode {
     Octet,
@@ -24,7 +24,7 @@ impl Mode {
     }
 }
 
-/// Which way files travel.
+/// The direction of a transfer.
 #[derive(Clone, Copy)]
 enum Way {
     Get,
@@ -33,7 +33,7 @@ enum Way {
 
 const MODES: [Mode; 2] = [Mode::Octet, Mode::Netascii];
 
-/// A file that travels: which way, in which mode, and how many bytes of it.
+/// A transfer: its direction, its mode, and the length of its file in bytes.
 #[derive(Clone, Copy)]
 struct Travel {
     way: Way,
@@ -48,7 +48,7 @@ impl Travel {
         format!(in rt.alloc(); "file{length}").expect(rt, "memory")
     }
 
-    /// The name of what it comes to.
+    /// The name of the copy.
     fn copy<R: AllocGlobal + Abort>(self, rt: &R) -> String {
         let way = match self.way {
             Way::Get => "got",
@@ -113,7 +113,7 @@ fn asked<R: Runtime + AllocGlobal + Processes + Abort>(
     }
 }
 
-/// Files of all lengths travel this way at once, and arrive.
+/// Transfers files of all lengths at once in this direction, and expects that they arrive.
 fn travel_at_once<R: Runtime + AllocGlobal + Processes + Abort>(
     rt: &R,
     folder: &str,
@@ -152,7 +152,7 @@ fn make<R: Runtime + AllocGlobal + Abort>(rt: &R, folder: &str, length: usize) {
     make_file(rt, folder, name.as_str(), length);
 }
 
-/// A server of files of these lengths, and clients that get and put them in blocks of this size.
+/// Serves files of these lengths to clients that get and put them in blocks of this size.
 fn serves<R: Runtime + AllocGlobal + Processes + Abort>(
     rt: &R,
     id: u32,

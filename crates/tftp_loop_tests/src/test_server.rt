@@ -1,14 +1,13 @@
-//! Servers of the tests' own: a few datagrams each, over one socket for requests and one for a
-//! transfer.
+//! Servers of a few datagrams, over one socket for requests and one for a transfer.
 
 use std::net::{Ipv4Addr, Net, SocketAddr, UdpSocket};
 use std::process::Abort;
 use std::time::Duration;
 
-/// How long a test waits for a datagram, in seconds.
+/// The receive timeout of a test, in seconds.
 const PATIENCE: u64 = 20;
 
-/// A socket at a port of the loopback address that the system chooses.
+/// A socket at a free port of the loopback address.
 pub(crate) fn loopback_socket<N: Net + Abort>(net: &N) -> UdpSocket {
     let any_port = SocketAddr::from((Ipv4Addr::LOCALHOST, 0));
     let socket = UdpSocket::bind(net, any_port).expect(net, "a socket");
@@ -17,7 +16,7 @@ pub(crate) fn loopback_socket<N: Net + Abort>(net: &N) -> UdpSocket {
     socket
 }
 
-/// The address of a socket, as a word of a command line.
+/// The address of a socket, as a command-line word.
 pub(crate) fn address_of<R: AllocGlobal + Abort>(rt: &R, socket: &UdpSocket) -> String {
     let address = socket.local_addr().expect(rt, "an address");
     format!(in rt.alloc(); "{address}").expect(rt, "memory")
@@ -28,7 +27,7 @@ pub(crate) fn send(rt: &impl Abort, socket: &UdpSocket, bytes: &[u8], to: Socket
     socket.send_to(bytes, to).expect(rt, "a datagram goes out");
 }
 
-/// The next datagram, in the buffer, and where it came from.
+/// The next datagram, in the buffer, and its sender.
 pub(crate) fn receive<'a>(
     rt: &impl Abort,
     socket: &UdpSocket,
@@ -38,7 +37,7 @@ pub(crate) fn receive<'a>(
     (&buffer[..count], from)
 }
 
-/// The next datagram that is another than the last, which may be repeated where the test was slow.
+/// The next datagram that differs from the last. A slow test may receive the last one again.
 pub(crate) fn receive_behind<'a>(
     rt: &impl Abort,
     socket: &UdpSocket,
@@ -62,7 +61,7 @@ fn data_of(datagram: &[u8]) -> Option<(u16, &[u8])> {
     }
 }
 
-/// Takes one put of a file in blocks of 512 bytes, and returns the request and the file.
+/// Receives a put in blocks of 512 bytes, and returns the request and the file.
 pub(crate) fn take_put<N: Net + AllocGlobal + Abort>(
     rt: &N,
     requests: &UdpSocket,
@@ -75,7 +74,7 @@ pub(crate) fn take_put<N: Net + AllocGlobal + Abort>(
     (request, take_blocks(rt, &transfer))
 }
 
-/// Takes blocks of 512 bytes until one is shorter.
+/// Receives and acknowledges blocks of 512 bytes until one is shorter.
 fn take_blocks<R: AllocGlobal + Abort>(rt: &R, transfer: &UdpSocket) -> Vec<u8> {
     let mut buffer = [0; 600];
     let mut file = Vec::new(rt.alloc());

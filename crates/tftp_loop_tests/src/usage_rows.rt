@@ -1,5 +1,4 @@
-//! Help texts, and command lines that are not understood: each fault names the option and its
-//! range.
+//! Help texts, and invalid command lines: each fault names the option and its range.
 
 use crate::programs::prints;
 
@@ -7,8 +6,7 @@ const TFTP: &str = "programs::tftp";
 
 const TFTPD: &str = "programs::tftpd";
 
-/// Command lines, and what they print: a help text ends with examples, and a fault has the range of
-/// a value.
+/// Command lines, and a part of what they print.
 const ROWS: [(&str, &[&str], &str); 20] = [
     (TFTPD, &["--version"], "tftpd 0.1.0 (rattle-kit-"),
     (TFTP, &["--version"], "tftp 0.1.0 (rattle-kit-"),

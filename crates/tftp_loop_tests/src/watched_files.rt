@@ -1,5 +1,4 @@
-//! The host's files, for a store of a test: the test sees which calls the store makes, and can have
-//! them fail.
+//! The host's files with a record of the calls that a store makes; a test can set them to fail.
 
 use std::alloc::{AllocError, Allocator, Global};
 use std::cell::{Cell, RefCell};
@@ -9,21 +8,22 @@ use std::path::PathBuf;
 use std::rc::Rc;
 use std::rt::Files;
 
-/// The calls of a store, and what is to become of them.
+/// The calls of a store, and which of them are to fail.
 #[derive(Drop)]
 pub(crate) struct Calls {
-    /// A letter for each call: read, sync of the data, sync of all, link, rename.
+    /// A letter for each call: `r` read, `w` write, `d` sync of the data, `s` sync of all, `o`
+    /// open, `l` link, `m` rename.
     letters: RefCell<String>,
-    /// The error number with which each call fails.
+    /// The error number of each call, if calls are set to fail.
     error: Cell<Option<i32>>,
-    /// The file system makes no hard links.
+    /// Whether hard links fail.
     lacks_links: Cell<bool>,
-    /// A folder `elsewhere` is on another device.
+    /// Whether the folder `elsewhere` is on another device.
     has_elsewhere: Cell<bool>,
 }
 
 impl Calls {
-    /// Notes a call, which may have to fail.
+    /// Records a call, or fails if calls are set to fail.
     fn note(&self, letter: char) -> io::Result<()> {
         if let Some(number) = self.error.get() {
             return Err(io::Error::from_raw_os_error(number));
@@ -34,7 +34,7 @@ impl Calls {
         Ok(())
     }
 
-    /// How many calls of this kind there were.
+    /// The number of calls of this kind.
     pub(crate) fn count(&self, letter: char) -> usize {
         match self.letters.try_borrow() {
             Ok(letters) => letters
@@ -46,7 +46,7 @@ impl Calls {
         }
     }
 
-    /// Whether these were the calls.
+    /// Whether the calls were exactly these.
     pub(crate) fn were(&self, wanted: &str) -> bool {
         match self.letters.try_borrow() {
             Ok(letters) => letters.as_str() == wanted,
@@ -54,34 +54,34 @@ impl Calls {
         }
     }
 
-    /// Forgets the calls.
+    /// Clears the record of calls.
     pub(crate) fn clear(&self) {
         if let Ok(mut letters) = self.letters.try_borrow_mut() {
             letters.clear();
         }
     }
 
-    /// From now on each call fails with this error number, or none does.
+    /// Sets each later call to fail with this error number, or none.
     pub(crate) fn fail_with(&self, number: Option<i32>) {
         self.error.set(number);
     }
 
-    /// From now on no hard link is made.
+    /// Sets each later hard link to fail.
     pub(crate) fn refuse_links(&self) {
         self.lacks_links.set(true);
     }
 
-    /// From now on the folder `elsewhere` is on another device.
+    /// Puts the folder `elsewhere` on another device.
     pub(crate) fn move_elsewhere(&self) {
         self.has_elsewhere.set(true);
     }
 }
 
-/// The host's files, whose calls are noted.
+/// The host's files, whose calls are recorded.
 #[derive(Drop)]
 pub(crate) struct WatchedFiles<R: Drop> {
     rt: R,
-    /// The calls.
+    /// The record of calls.
     pub(crate) calls: Rc<Calls>,
 }
 
@@ -101,7 +101,7 @@ impl<R: Drop> WatchedFiles<R> {
     }
 }
 
-/// A file whose calls are noted.
+/// A file whose calls are recorded.
 #[derive(Drop)]
 pub(crate) struct WatchedFile<F: Drop> {
     file: F,
@@ -176,7 +176,7 @@ impl<R: Files + Drop> Files for WatchedFiles<R> {
 
     fn symlink_metadata(&self, path: &str) -> io::Result<Metadata> {
         if self.calls.has_elsewhere.get() && path.ends_with("/elsewhere") {
-            // Its device is none that there is.
+            // No file has the device of this metadata.
             return Ok(Metadata::of_dir());
         }
         self.rt.symlink_metadata(path)
