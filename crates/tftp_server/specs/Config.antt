@@ -14,4 +14,10 @@ pub record IsConfig (config : Config) : Type 0 where
 
 -- the default configuration
 abbrev pub default_config : Config
-default_config = record { limits = record { max_block = 1428; max_file = MAX_WIRE }; retries = 5; cap = 16; overwrite = false }
+default_config =
+    record {
+      limits = record { max_block = 1428; max_file = MAX_WIRE };
+      retries = 5;
+      cap = 16;
+      overwrite = false;
+    }

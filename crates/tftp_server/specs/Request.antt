@@ -131,7 +131,12 @@ module _ {S F D : Type 0} (meaning : StoreMeaning S D) (sources : SourceMeaning 
   abbrev pub Taken : Service → Result D StoreFault → S → Came S F D → Type 0
   Taken (Refused reply) draft store came = came ≡ An_error reply store
   Taken (Takes path mode agreed) (Ok draft) store came =
-      came ≡ A_transfer (record { end = serving_write agreed from mode old.config.retries; files = Sink draft; path = path; request = bytes }) store
+      came ≡ A_transfer (record {
+        end = serving_write agreed from mode old.config.retries;
+        files = Sink draft;
+        path = path;
+        request = bytes;
+      }) store
   Taken service draft store came = ⊥
 
   -- a write: the store is asked for a draft
