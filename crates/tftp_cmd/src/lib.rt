@@ -8,7 +8,7 @@ pub use tftp_client::{tftp_command, tftp_words};
 pub use tftp_daemon::{FolderDraft, FolderStore, tftpd_command, tftpd_words};
 pub use tftp_host::{
     ClientOutcome, LONGEST_WAIT, LineClock, LogLine, Port, Printed, ProgressLine, Watch, deadline,
-    fallback, is_due, place_of, wait_for,
+    fallback, index_of, is_due, wait_for,
 };
 pub use tftp_play::{play_command, play_run, play_words};
 pub use tftp_show::{show_command, show_lines, show_run, show_words};

@@ -17,7 +17,7 @@ use std::alloc::{AllocError, Global};
 use std::rt::Files;
 use std::time::Clock;
 use tftp_ends::Endpoint;
-use tftp_host::{DATAGRAM_BUFFER, Port, Printed, is_due, place_of, wait_for};
+use tftp_host::{DATAGRAM_BUFFER, Port, Printed, index_of, is_due, wait_for};
 use tftp_server::{Config, Server};
 
 /// The most events that one wait reports.
@@ -322,7 +322,7 @@ impl<R: Files + Drop> Daemon<R> {
             let Some(tid) = self.tids.get(at).copied() else {
                 continue;
             };
-            let Some(place) = place_of(tid, self.ports.as_slice()) else {
+            let Some(place) = index_of(tid, self.ports.as_slice()) else {
                 continue;
             };
             if self.is_over(place, buffer) {
@@ -377,7 +377,7 @@ fn note_ready<S>(token: Token, ports: &mut [Port<S>]) {
     let Ok(tid) = u16::try_from(token.0) else {
         return;
     };
-    let Some(place) = place_of(tid, ports) else {
+    let Some(place) = index_of(tid, ports) else {
         return;
     };
     if let Some(port) = ports.get_mut(place) {

@@ -68,8 +68,8 @@ fn asks_for_no_wrong_name(rt: HostRuntime) {
 fn sender(rt: &impl Abort, alloc: Global, file: &[u8]) -> OpenEnd<MemSource> {
     let end = sender_of(rt, alloc, RRQ_A, Mode::Octet, file);
     let found = (end.sent().len(), end.step().to);
-    let wanted = (4 + file.len(), Some(CLIENT));
-    expect_equal(rt, &found, &wanted, "DATA 1 has the file, for the client");
+    let expected = (4 + file.len(), Some(CLIENT));
+    expect_equal(rt, &found, &expected, "DATA 1 has the file, for the client");
     end
 }
 
@@ -208,8 +208,8 @@ const SIDES: [(Side, bool, bool); 4] = [
 fn sides(rt: HostRuntime) {
     for &(side, sends, asks) in &SIDES {
         let found = (side, side.is_sender(), side.is_client());
-        let wanted = (side, sends, asks);
-        expect_equal(&rt, &found, &wanted, "whether it sends, and asks");
+        let expected = (side, sends, asks);
+        expect_equal(&rt, &found, &expected, "whether it sends, and asks");
     }
 }
 

@@ -14,8 +14,13 @@ pub(crate) fn expect(rt: &impl Abort, holds: bool, what: &str)
 }
 
 /// Fails the test unless the value is the expected one; `what` names it.
-pub(crate) fn expect_equal<T: PartialEq + Debug>(rt: &impl Abort, value: &T, wanted: &T, what: &str)
-    ensures { T.eq value.now wanted.now ≡ true }
+pub(crate) fn expect_equal<T: PartialEq + Debug>(
+    rt: &impl Abort,
+    value: &T,
+    expected: &T,
+    what: &str,
+)
+    ensures { T.eq value.now expected.now ≡ true }
 {
-    assert_eq!(rt; *value, *wanted, "{what}");
+    assert_eq!(rt; *value, *expected, "{what}");
 }

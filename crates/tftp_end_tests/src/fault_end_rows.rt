@@ -89,8 +89,8 @@ pub(crate) fn is_changed(
     let changed = b"\x00\x05\x00\x00file changed\x00";
     let closed = answers(rt, alloc, &mut end, &mut files, from, bytes, changed);
     let found = (usize::from(end.record().number), closed);
-    let wanted = (sent, Some(Outcome::SourceFault));
-    expect_equal(rt, &found, &wanted, "the blocks sent, and how it closed");
+    let expected = (sent, Some(Outcome::SourceFault));
+    expect_equal(rt, &found, &expected, "the blocks sent, and how it closed");
 }
 
 /// `sent` blocks are sent, and then the source does not give the next one.
@@ -173,8 +173,13 @@ fn is_full(rt: &impl Abort, alloc: Global, stored: usize, next: &[u8])
     let closed = takes(rt, alloc, &mut end, &mut sink, next, full);
     let number = usize::from(end.record().number);
     let found = (number, sink.as_bytes().len(), closed);
-    let wanted = (stored, 8 * stored, Some(Outcome::StoreFault));
-    expect_equal(rt, &found, &wanted, "the blocks stored, and how it closed");
+    let expected = (stored, 8 * stored, Some(Outcome::StoreFault));
+    expect_equal(
+        rt,
+        &found,
+        &expected,
+        "the blocks stored, and how it closed",
+    );
     expect(rt, !sink.is_committed(), "they are not committed");
 }
 

@@ -79,11 +79,11 @@ fn an_error_to_a_stranger_is_lent(rt: HostRuntime) {
 fn a_timeout_without_a_retry_lends_nothing(rt: HostRuntime) {
     let mut client = client(&rt, rt.alloc());
     let found = client.handle_timeout().ok();
-    let wanted = (Some(Outcome::TimedOut), Outgoing::Nothing);
-    expect_equal(&rt, &found, &Some(wanted), "it gives up in silence");
+    let expected = (Some(Outcome::TimedOut), Outgoing::Nothing);
+    expect_equal(&rt, &found, &Some(expected), "it gives up in silence");
     let found = (client.as_end().outcome(), client.handle_timeout().err());
-    let wanted = (Some(Outcome::TimedOut), Some(EndFault::Closed));
-    expect_equal(&rt, &found, &wanted, "it stays closed");
+    let expected = (Some(Outcome::TimedOut), Some(EndFault::Closed));
+    expect_equal(&rt, &found, &expected, "it stays closed");
     client.finish();
 }
 
@@ -93,8 +93,8 @@ fn errors_are_appended(rt: HostRuntime) {
     ErrorReply::DiskFull
         .append_to(&mut out)
         .expect(&rt, "memory");
-    let wanted = b"old\x00\x05\x00\x03disk full\x00".as_slice();
-    expect_equal(&rt, &out.as_slice(), &wanted, "behind the old bytes");
+    let expected = b"old\x00\x05\x00\x03disk full\x00".as_slice();
+    expect_equal(&rt, &out.as_slice(), &expected, "behind the old bytes");
 }
 
 /// Datagrams, and whether each spells a packet.

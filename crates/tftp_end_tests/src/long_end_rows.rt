@@ -40,11 +40,11 @@ fn is_whole(
 ) {
     let record = client.record();
     let found = (record.number, record.complete, server.record().complete);
-    let wanted = (65_535, true, true);
+    let expected = (65_535, true, true);
     expect_equal(
         rt,
         &found,
-        &wanted,
+        &expected,
         "the last block, stored and acknowledged",
     );
     let whole = vec![in alloc; b'x'; 524_279].expect(rt, "memory");

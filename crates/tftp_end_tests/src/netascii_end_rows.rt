@@ -51,7 +51,7 @@ fn wrong_text_closes_a_receiver(rt: HostRuntime) {
 }
 
 /// A client that has received seven letters and a CR as its first block of eight bytes.
-fn cut_behind_cr(rt: &impl Abort, alloc: Global) -> OpenEnd<MemSource> {
+fn cut_after_cr(rt: &impl Abort, alloc: Global) -> OpenEnd<MemSource> {
     let mut end = client(rt, alloc, &EIGHT);
     end.answers(rt, SERVER_END, OACK_8, ACK_0);
     end.answers(rt, SERVER_END, b"\x00\x03\x00\x01AAAAAAA\r", ACK_1);
@@ -61,7 +61,7 @@ fn cut_behind_cr(rt: &impl Abort, alloc: Global) -> OpenEnd<MemSource> {
 /// The end keeps the CR, which awaits its byte, and one datagram, the ACK.
 #[test]
 fn a_receiver_keeps_an_ack_and_a_cr(rt: HostRuntime) {
-    let end = cut_behind_cr(&rt, rt.alloc());
+    let end = cut_after_cr(&rt, rt.alloc());
     let held = Held {
         datagram: 4,
         text: 1,
@@ -80,7 +80,7 @@ const SECONDS: [(&[u8], &[u8], &[u8]); 4] = [
 ];
 
 fn goes_on(rt: &impl Abort, alloc: Global, bytes: &[u8], answer: &[u8], stored: &[u8]) {
-    let mut end = cut_behind_cr(rt, alloc);
+    let mut end = cut_after_cr(rt, alloc);
     end.answers(rt, SERVER_END, bytes, answer);
     let complete = answer == ACK_2;
     expect_equal(rt, &end.record().complete, &complete, "complete");
@@ -158,7 +158,7 @@ fn is_answered(rt: &impl Abort, alloc: Global, request: &[u8], mode: Mode, answe
 
 /// The length is returned in octet only. In netascii `tsize` is ignored, and the answer is DATA 1.
 #[test]
-fn a_length_is_told_in_octet(rt: HostRuntime) {
+fn a_length_is_reported_in_octet(rt: HostRuntime) {
     let octet = b"\x00\x01a\x00octet\x00tsize\x000\x00";
     is_answered(
         &rt,

@@ -95,8 +95,13 @@ pub(crate) fn is_bad_request(rt: &impl Abort, alloc: Global, name: &[u8], asked:
     let mut out = Vec::new(alloc);
     let refused = End::get(alloc, SERVER, name, Mode::Octet, asked, &CONFIG, &mut out);
     let found = (name, asked, refused.err(), out.is_empty());
-    let wanted = (name, asked, Some(OpenFault::BadRequest), true);
-    expect_equal(rt, &found, &wanted, "a wrong request, and nothing is sent");
+    let expected = (name, asked, Some(OpenFault::BadRequest), true);
+    expect_equal(
+        rt,
+        &found,
+        &expected,
+        "a wrong request, and nothing is sent",
+    );
 }
 
 /// A client refuses a write request for a file of this length, and sends nothing.
@@ -113,8 +118,13 @@ pub(crate) fn is_too_long(rt: &impl Abort, alloc: Global, asked: &Asked, length:
         &mut out,
     );
     let found = (length, refused.err(), out.is_empty());
-    let wanted = (length, Some(OpenFault::TooLarge), true);
-    expect_equal(rt, &found, &wanted, "too long a file, and nothing is sent");
+    let expected = (length, Some(OpenFault::TooLarge), true);
+    expect_equal(
+        rt,
+        &found,
+        &expected,
+        "too long a file, and nothing is sent",
+    );
 }
 
 /// A client that has sent a write request for a file `n` of this length in octet.
@@ -200,8 +210,13 @@ pub(crate) fn is_too_long_to_serve(rt: &impl Abort, alloc: Global, agreed: &Agre
         &mut out,
     );
     let found = (length, refused.err(), out.is_empty());
-    let wanted = (length, Some(OpenFault::TooLarge), true);
-    expect_equal(rt, &found, &wanted, "too long a file, and nothing is sent");
+    let expected = (length, Some(OpenFault::TooLarge), true);
+    expect_equal(
+        rt,
+        &found,
+        &expected,
+        "too long a file, and nothing is sent",
+    );
 }
 
 /// A server's end that sends this file from memory, as the answer to the request.
@@ -391,8 +406,13 @@ pub(crate) fn has_stored<S>(
         panic!(rt; "a sink");
     };
     let found = (sink.as_bytes(), sink.is_committed());
-    let wanted = (bytes, committed);
-    expect_equal(rt, &found, &wanted, "what is stored, and whether for good");
+    let expected = (bytes, committed);
+    expect_equal(
+        rt,
+        &found,
+        &expected,
+        "what is stored, and whether for good",
+    );
 }
 
 /// Delivers the server's datagram to the client, and the answer to the server. Returns how many

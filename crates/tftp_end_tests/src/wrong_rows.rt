@@ -126,8 +126,8 @@ fn is_refused(rt: &impl Abort, alloc: Global, state: State, bytes: &[u8]) {
         Some(Outcome::Illegal)
     };
     let found = (state, bytes, end.sent(), end.step().closed);
-    let wanted = (state, bytes, answer, closed);
-    expect_equal(rt, &found, &wanted, "the answer and the end");
+    let expected = (state, bytes, answer, closed);
+    expect_equal(rt, &found, &expected, "the answer and the end");
     end.finish();
 }
 

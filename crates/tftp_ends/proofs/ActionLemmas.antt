@@ -39,8 +39,8 @@ if_either P true r s f g = f refl
 if_either P false r s f g = g refl
 
 -- the bytes of a DATA
-pub data_behind : (number : ℕ) (piece bytes : List ℕ) → Spells (Data number piece) bytes → piece ≡ drop 4 bytes
-data_behind number piece bytes s = sym (ap (drop 4) s.whole)
+pub data_after_header : (number : ℕ) (piece bytes : List ℕ) → Spells (Data number piece) bytes → piece ≡ drop 4 bytes
+data_after_header number piece bytes s = sym (ap (drop 4) s.whole)
 
 -- DATA has a number from 1 on
 positive : {number : ℕ} {piece bytes : List ℕ} → Spells (Data number piece) bytes → 0 < number
@@ -93,7 +93,7 @@ module _ (e : EndState) (from : Endpoint) (bytes : List ℕ) where
 
   next_fits : (held : List ℕ) (terms : Terms) (number : ℕ) (piece : List ℕ) → SentFits e (Some terms) → e.position.held ≡ held → Spells (Data number piece) bytes → Fits (next_action e.role.mode held terms number piece)
   next_fits held terms number piece s h d =
-      let p = data_behind number piece bytes d in
+      let p = data_after_header number piece bytes d in
       let last = nat_lt (length piece) terms.size in
       let store = if is_readable e.role.mode held piece last then Store terms number else Respond (Refuse (Some terms) NotNetascii outcomes.NotNetascii) in
       let fitting = if number == 65535 && (length piece == terms.size) then Respond (Refuse (Some terms) FileTooLarge outcomes.TooLarge) else store in

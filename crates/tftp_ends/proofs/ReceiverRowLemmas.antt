@@ -52,14 +52,14 @@ module _ {S K : Type 0} (sources : SourceMeaning S) (sinks : SinkMeaning K) wher
       (if_yes (Responded c) (n == n) ResendReply Ignore (eq-eqb n n refl) (dally_heard c terms n dally f (Data n piece) says))
 
   pub dally_ignores_others : DallyIgnoresOthers sources sinks
-  dally_ignores_others c terms n dally (Read request) f says misplaced = does_nothing c (dally_heard c terms n dally f (Read request) says)
-  dally_ignores_others c terms n dally (Write request) f says misplaced = does_nothing c (dally_heard c terms n dally f (Write request) says)
-  dally_ignores_others c terms n dally (Data number piece) f says misplaced =
+  dally_ignores_others c terms n dally (Read request) f says unexpected = does_nothing c (dally_heard c terms n dally f (Read request) says)
+  dally_ignores_others c terms n dally (Write request) f says unexpected = does_nothing c (dally_heard c terms n dally f (Write request) says)
+  dally_ignores_others c terms n dally (Data number piece) f says unexpected =
       does_nothing c
-      (if_no (Responded c) (number == n) ResendReply Ignore (ne_eqb number n (λ e. misplaced piece (ap (λ (k : ℕ). Data k piece) e))) (dally_heard c terms n dally f (Data number piece) says))
-  dally_ignores_others c terms n dally (Ack number) f says misplaced = does_nothing c (dally_heard c terms n dally f (Ack number) says)
-  dally_ignores_others c terms n dally (Error code text) f says misplaced = does_nothing c (dally_heard c terms n dally f (Error code text) says)
-  dally_ignores_others c terms n dally (Oack options) f says misplaced = does_nothing c (dally_heard c terms n dally f (Oack options) says)
+      (if_no (Responded c) (number == n) ResendReply Ignore (ne_eqb number n (λ e. unexpected piece (ap (λ (k : ℕ). Data k piece) e))) (dally_heard c terms n dally f (Data number piece) says))
+  dally_ignores_others c terms n dally (Ack number) f says unexpected = does_nothing c (dally_heard c terms n dally f (Ack number) says)
+  dally_ignores_others c terms n dally (Error code text) f says unexpected = does_nothing c (dally_heard c terms n dally f (Error code text) says)
+  dally_ignores_others c terms n dally (Oack options) f says unexpected = does_nothing c (dally_heard c terms n dally f (Oack options) says)
 
   pub dally_ignores_malformed : DallyIgnoresMalformed sources sinks
   dally_ignores_malformed c terms n dally f none =
@@ -148,14 +148,14 @@ module _ {S K : Type 0} (sources : SourceMeaning S) (sinks : SinkMeaning K) wher
       does_nothing c (if_no (DidSo c) (n == 0) (Respond ResendReply) (Respond Ignore) (ne_eqb n 0 (λ e. omega (arith, l, e))) (took c terms n f is options says))
 
   pub receiver_refuses_others : ReceiverRefusesOthers sources sinks
-  receiver_refuses_others c terms n (Read request) f says misplaced = illegal c terms n f (heard c terms n f (Read request) says)
-  receiver_refuses_others c terms n (Write request) f says misplaced = illegal c terms n f (heard c terms n f (Write request) says)
-  receiver_refuses_others c terms n (Data number piece) f says misplaced = absurd misplaced
-  receiver_refuses_others c terms n (Ack number) f says misplaced = illegal c terms n f (heard c terms n f (Ack number) says)
-  receiver_refuses_others c terms n (Error code text) f says misplaced = absurd misplaced
-  receiver_refuses_others c terms n (Oack options) f says misplaced =
+  receiver_refuses_others c terms n (Read request) f says unexpected = illegal c terms n f (heard c terms n f (Read request) says)
+  receiver_refuses_others c terms n (Write request) f says unexpected = illegal c terms n f (heard c terms n f (Write request) says)
+  receiver_refuses_others c terms n (Data number piece) f says unexpected = absurd unexpected
+  receiver_refuses_others c terms n (Ack number) f says unexpected = illegal c terms n f (heard c terms n f (Ack number) says)
+  receiver_refuses_others c terms n (Error code text) f says unexpected = absurd unexpected
+  receiver_refuses_others c terms n (Oack options) f says unexpected =
       illegal c terms n f
-      (if_no (DidSo c) (took_oack c.e terms) (if n == 0 then Respond ResendReply else Respond Ignore) (illegal_action terms) misplaced (heard c terms n f (Oack options) says))
+      (if_no (DidSo c) (took_oack c.e terms) (if n == 0 then Respond ResendReply else Respond Ignore) (illegal_action terms) unexpected (heard c terms n f (Oack options) says))
 
   pub receiver_refuses_malformed : ReceiverRefusesMalformed sources sinks
   receiver_refuses_malformed c terms n f m =

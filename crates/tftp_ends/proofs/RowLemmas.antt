@@ -37,7 +37,7 @@ use Rattle.tftp_ends.specs.Sender.{illegal_action}
 use Rattle.tftp_ends.specs.SenderRows.{SendsBlock, SendsFromSource}
 use Rattle.tftp_ends.specs.Step.{Done, Turn, Reply, Acts, AcksAgain, IsAck, SendsFrom, StoresIn, GoesOn, response_turn, sent_turn, refused_turn, committed_turn, holding, ack_bytes, data_bytes, block_length, result_count_is}
 use Rattle.tftp_ends.specs.Text.{is_readable}
-use Rattle.tftp_ends.proofs.ActionLemmas.{data_behind}
+use Rattle.tftp_ends.proofs.ActionLemmas.{data_after_header}
 
 -- ---- the packet of a datagram
 decoded_is : (bytes : List ℕ) (packet : Packet) (decoded : Option Packet) → Spells packet bytes → Decodes bytes decoded → decoded ≡ Some packet
@@ -250,7 +250,7 @@ module _ {S K : Type 0} {sources : SourceMeaning S} {sinks : SinkMeaning K} (c :
 
     pub stores : (piece : List ℕ) → Spells (Data (n + 1) piece) c.bytes → DidSo (Store terms (n + 1)) → HandsToSink c terms n piece
     stores piece says h =
-        let same : h.0.0 ≡ piece = data_behind (n + 1) h.0.0 c.bytes h.0.1 ∙ sym (data_behind (n + 1) piece c.bytes says) in
+        let same : h.0.0 ≡ piece = data_after_header (n + 1) h.0.0 c.bytes h.0.1 ∙ sym (data_after_header (n + 1) piece c.bytes says) in
         stores_of piece c.files c.files' (subst (λ (bs : List ℕ). StoresIn sources sinks terms (n + 1) c.from bs c.e c.files c.turn c.files') same h.0.2) refl refl
 
     readable_row : (piece : List ℕ) (readable : Bool) → Spells (Data (n + 1) piece) c.bytes →

@@ -18,7 +18,7 @@ use Rattle.tftp_ends.specs.declared.side.Side.{Side}
 use Rattle.tftp_ends.specs.End.{EndState, is_sender, is_progress, outcome_of, terms_of}
 use Rattle.tftp_ends.specs.Opening.{serving_read, serving_write}
 use Rattle.tftp_ends.specs.Phase.{closed}
-use Rattle.tftp_ends.specs.Run.{IsOpening, Gets, Puts, Serves_read, Serves_write, Event, Datagram, Timeout, Taken, IsOpen, Takes, IsRun, AnswersByProgress, end_behind, count_if, is_timeout, is_data, is_oack, progress_count, timeout_count, data_count, datagram_count, opened_by_data}
+use Rattle.tftp_ends.specs.Run.{IsOpening, Gets, Puts, Serves_read, Serves_write, Event, Datagram, Timeout, Taken, IsOpen, Takes, IsRun, AnswersByProgress, end_after_run, count_if, is_timeout, is_data, is_oack, progress_count, timeout_count, data_count, datagram_count, opened_by_data}
 use Rattle.tftp_ends.specs.Step.{Turn, after_turn, response_turn, timeout_turn, with_position}
 use Rattle.tftp_ends.proofs.RunSteps.{Kept, rank, waits, datagram_moves, one_at_most, not_below_itself, no_progress, waits_at_most, number_kept, refused_rises}
 
@@ -121,14 +121,14 @@ module _ {S K : Type 0} (sources : SourceMeaning S) (sinks : SinkMeaning K) wher
       }
 
   -- ---- the end after a run
-  record Behind (e : EndState) (run : List Taken) : Type 0 where
-    pub side : (end_behind e run).role.side ≡ e.role.side
-    pub kept : Kept (end_behind e run).role.side (end_behind e run).role.length (end_behind e run).position.phase
-    pub rises : rank e.position.phase + progress_count e run ≤ rank (end_behind e run).position.phase
+  record AfterRun (e : EndState) (run : List Taken) : Type 0 where
+    pub side : (end_after_run e run).role.side ≡ e.role.side
+    pub kept : Kept (end_after_run e run).role.side (end_after_run e run).role.length (end_after_run e run).position.phase
+    pub rises : rank e.position.phase + progress_count e run ≤ rank (end_after_run e run).position.phase
     pub sends : is_sender e.role.side ≡ true → data_count run ≤ progress_count e run + timeout_count run
-    pub spent : IsOpen (end_behind e run) → timeout_count run + (end_behind e run).position.retries_left + waits e.position.phase ≤ e.position.retries_left + e.role.retries * progress_count e run + waits (end_behind e run).position.phase
+    pub spent : IsOpen (end_after_run e run) → timeout_count run + (end_after_run e run).position.retries_left + waits e.position.phase ≤ e.position.retries_left + e.role.retries * progress_count e run + waits (end_after_run e run).position.phase
 
-  open_before : (run : List Taken) (e : EndState) → IsRun sources sinks e run → IsOpen (end_behind e run) → IsOpen e
+  open_before : (run : List Taken) (e : EndState) → IsRun sources sinks e run → IsOpen (end_after_run e run) → IsOpen e
   open_before [] e r o = o
   open_before (taken ∷ run) e r o = r.0
 
@@ -137,19 +137,19 @@ module _ {S K : Type 0} (sources : SourceMeaning S) (sinks : SinkMeaning K) wher
       let d : R * (cp + P) ≡ R * cp + R * P = mul-add R cp P in
       omega arith
 
-  behind : (run : List Taken) (e : EndState) → Kept e.role.side e.role.length e.position.phase → IsRun sources sinks e run → Behind e run
-  behind [] e kept r =
+  after_run : (run : List Taken) (e : EndState) → Kept e.role.side e.role.length e.position.phase → IsRun sources sinks e run → AfterRun e run
+  after_run [] e kept r =
       record { side = refl; kept = kept; rises = omega arith; sends = λ s. omega arith; spent = λ o. let z : e.role.retries * 0 ≡ 0 = omega arith in omega arith }
-  behind (taken ∷ run) e kept r =
+  after_run (taken ∷ run) e kept r =
       let a = step e taken.event taken.turn r.0 kept r.1 in
-      let b = behind run (after_turn e taken.turn) a.kept r.2 in
+      let b = after_run run (after_turn e taken.turn) a.kept r.2 in
       record {
         side = b.side;
         kept = b.kept;
         rises = omega (arith, a.rises, b.rises);
         sends = λ s. let one = a.sends s in let more = b.sends s in omega arith;
-        spent = λ o. spent_all (count_if (is_timeout taken.event)) (timeout_count run) (end_behind (after_turn e taken.turn) run).position.retries_left (waits e.position.phase) taken.turn.position.retries_left (waits taken.turn.position.phase) e.position.retries_left e.role.retries
-            (count_if (is_progress e.position.phase taken.turn.position.phase)) (progress_count (after_turn e taken.turn) run) (waits (end_behind (after_turn e taken.turn) run).position.phase) (b.spent o) (a.spent (open_before run (after_turn e taken.turn) r.2 o));
+        spent = λ o. spent_all (count_if (is_timeout taken.event)) (timeout_count run) (end_after_run (after_turn e taken.turn) run).position.retries_left (waits e.position.phase) taken.turn.position.retries_left (waits taken.turn.position.phase) e.position.retries_left e.role.retries
+            (count_if (is_progress e.position.phase taken.turn.position.phase)) (progress_count (after_turn e taken.turn) run) (waits (end_after_run (after_turn e taken.turn) run).position.phase) (b.spent o) (a.spent (open_before run (after_turn e taken.turn) r.2 o));
       }
 
   -- ---- from an opening
@@ -181,16 +181,16 @@ module _ {S K : Type 0} (sources : SourceMeaning S) (sinks : SinkMeaning K) wher
 
   pub progress_bound : (e : EndState) (run : List Taken) → IsOpening e → IsRun sources sinks e run → progress_count e run ≤ 65536
   progress_bound e run o r =
-      let b = behind run e (opened e o).kept r in
-      let f = end_behind e run in
+      let b = after_run run e (opened e o).kept r in
+      let f = end_after_run e run in
       let top = rank_below f.role.side f.role.length f.position.phase b.kept in
       omega (arith, b.rises)
 
-  pub timeout_bound : (e : EndState) (run : List Taken) → IsOpening e → IsRun sources sinks e run → IsOpen (end_behind e run) → timeout_count run ≤ e.role.retries * (progress_count e run + 1) + 1
+  pub timeout_bound : (e : EndState) (run : List Taken) → IsOpening e → IsRun sources sinks e run → IsOpen (end_after_run e run) → timeout_count run ≤ e.role.retries * (progress_count e run + 1) + 1
   timeout_bound e run o r live =
       let p = opened e o in
-      let b = (behind run e p.kept r).spent live in
-      let top = waits_at_most (end_behind e run).position.phase in
+      let b = (after_run run e p.kept r).spent live in
+      let top = waits_at_most (end_after_run e run).position.phase in
       let d : e.role.retries * (progress_count e run + 1) ≡ e.role.retries * progress_count e run + e.role.retries * 1 = mul-add e.role.retries (progress_count e run) 1 in
       let one : e.role.retries * 1 ≡ e.role.retries = omega arith in
       omega (arith, b, p.fresh, p.all)
@@ -199,15 +199,15 @@ module _ {S K : Type 0} (sources : SourceMeaning S) (sinks : SinkMeaning K) wher
       count_if (opened_by_data e) + data_count run ≤ 1 + progress_count e run + timeout_count run
   data_bound e run o r s =
       let one = one_at_most (opened_by_data e) in
-      let more = (behind run e (opened e o).kept r).sends s in
+      let more = (after_run run e (opened e o).kept r).sends s in
       omega arith
 
-  pub answers : (e : EndState) (run : List Taken) → IsOpening e → IsRun sources sinks e run → IsOpen (end_behind e run) → is_sender e.role.side ≡ true →
-      AnswersByProgress sources sinks (end_behind e run)
+  pub answers : (e : EndState) (run : List Taken) → IsOpening e → IsRun sources sinks e run → IsOpen (end_after_run e run) → is_sender e.role.side ≡ true →
+      AnswersByProgress sources sinks (end_after_run e run)
   answers e run o r live s from bytes turn h =
-      let b = behind run e (opened e o).kept r in
-      let m = datagram_moves sources sinks (end_behind e run) from bytes h.0 h.1 turn live b.kept h.2 in
-      let sender : is_sender (end_behind e run).role.side ≡ true = ap is_sender b.side ∙ s in
+      let b = after_run run e (opened e o).kept r in
+      let m = datagram_moves sources sinks (end_after_run e run) from bytes h.0 h.1 turn live b.kept h.2 in
+      let sender : is_sender (end_after_run e run).role.side ≡ true = ap is_sender b.side ∙ s in
       (m.oack sender, m.sends sender)
 
 -- each step has one answer at most

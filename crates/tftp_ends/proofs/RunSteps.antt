@@ -180,8 +180,8 @@ module _ {S K : Type 0} (sources : SourceMeaning S) (sinks : SinkMeaning K)
   ignores : Moving (Respond Ignore)
   ignores = responds Ignore (stays e None kept (λ _. (refl, refl)))
 
-  tells_stranger : Moving (Respond Stranger)
-  tells_stranger = responds Stranger (stays e (Some (record { to = from; bytes = error_bytes replies.UnknownTransferId })) kept (λ _. (refl, refl)))
+  answers_stranger : Moving (Respond Stranger)
+  answers_stranger = responds Stranger (stays e (Some (record { to = from; bytes = error_bytes replies.UnknownTransferId })) kept (λ _. (refl, refl)))
 
   answers_again : is_sender e.role.side ≡ false → Moving (Respond ResendReply)
   answers_again r = responds ResendReply (stays e (Some (record { to = from; bytes = e.position.last_sent })) kept (λ s. absurd (true≢false (sym s ∙ r))))
@@ -440,7 +440,7 @@ module _ {S K : Type 0} (sources : SourceMeaning S) (sinks : SinkMeaning K)
       let known = if has_error_opcode bytes && is_none decoded then Respond (garbled_response p) else packet_action (at p) from decoded p in
       if_either P (is_stranger (terms_of p) e0.position.last_sent_to from) strange known
       (λ _. if_either P (has_error_opcode bytes) (Respond Ignore) (Respond Stranger) (λ _. ignored p o kept)
-      (λ _. tells_stranger sources sinks (at p) from bytes o kept))
+      (λ _. answers_stranger sources sinks (at p) from bytes o kept))
       (λ _. if_either P (has_error_opcode bytes && is_none decoded) (Respond (garbled_response p)) (packet_action (at p) from decoded p)
       (λ _. garbled_goes p o kept) (λ _. packet_goes p o kept decoded d))
 

@@ -69,13 +69,13 @@ module _ {S K : Type 0} (sources : SourceMeaning S) (sinks : SinkMeaning K) wher
       does_nothing c (if_yes (DidSo c) (took_oack c.e terms) (Respond Ignore) (illegal_action terms) took (heard c terms n f (Oack options) says))
 
   pub sender_refuses_others : SenderRefusesOthers sources sinks
-  sender_refuses_others c terms n (Read request) f says misplaced = illegal c terms n f (heard c terms n f (Read request) says)
-  sender_refuses_others c terms n (Write request) f says misplaced = illegal c terms n f (heard c terms n f (Write request) says)
-  sender_refuses_others c terms n (Data number piece) f says misplaced = illegal c terms n f (heard c terms n f (Data number piece) says)
-  sender_refuses_others c terms n (Ack number) f says misplaced = absurd misplaced
-  sender_refuses_others c terms n (Error code text) f says misplaced = absurd misplaced
-  sender_refuses_others c terms n (Oack options) f says misplaced =
-      illegal c terms n f (if_no (DidSo c) (took_oack c.e terms) (Respond Ignore) (illegal_action terms) misplaced (heard c terms n f (Oack options) says))
+  sender_refuses_others c terms n (Read request) f says unexpected = illegal c terms n f (heard c terms n f (Read request) says)
+  sender_refuses_others c terms n (Write request) f says unexpected = illegal c terms n f (heard c terms n f (Write request) says)
+  sender_refuses_others c terms n (Data number piece) f says unexpected = illegal c terms n f (heard c terms n f (Data number piece) says)
+  sender_refuses_others c terms n (Ack number) f says unexpected = absurd unexpected
+  sender_refuses_others c terms n (Error code text) f says unexpected = absurd unexpected
+  sender_refuses_others c terms n (Oack options) f says unexpected =
+      illegal c terms n f (if_no (DidSo c) (took_oack c.e terms) (Respond Ignore) (illegal_action terms) unexpected (heard c terms n f (Oack options) says))
 
   pub sender_refuses_malformed : SenderRefusesMalformed sources sinks
   sender_refuses_malformed c terms n f m =

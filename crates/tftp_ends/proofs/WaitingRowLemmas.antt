@@ -84,16 +84,16 @@ module _ {S K : Type 0} (sources : SourceMeaning S) (sinks : SinkMeaning K) wher
       reader_takes c false asked limit f (agreement asked kinds.Read c.e.role.mode options limit) (heard c false asked limit f (Oack options) says)
 
   pub reader_takes_no_other : ReaderTakesNoOther sources sinks
-  reader_takes_no_other c asked limit (Read request) f says misplaced = refuse c false asked limit f (heard c false asked limit f (Read request) says)
-  reader_takes_no_other c asked limit (Write request) f says misplaced = refuse c false asked limit f (heard c false asked limit f (Write request) says)
-  reader_takes_no_other c asked limit (Data number piece) f says misplaced =
+  reader_takes_no_other c asked limit (Read request) f says unexpected = refuse c false asked limit f (heard c false asked limit f (Read request) says)
+  reader_takes_no_other c asked limit (Write request) f says unexpected = refuse c false asked limit f (heard c false asked limit f (Write request) says)
+  reader_takes_no_other c asked limit (Data number piece) f says unexpected =
       refuse c false asked limit f
       (if_no (DidSo c) (number == 1 && nat_le (length piece) DEFAULT_BLOCK) (receiver_action true c.e.role.mode [] (default_terms c.from) 0 (Some (Data number piece))) no_answer
-      (not_both (number == 1) (nat_le (length piece) DEFAULT_BLOCK) (λ e. let l = misplaced (eqb-true number 1 e) in lt-leb (length piece) DEFAULT_BLOCK l))
+      (not_both (number == 1) (nat_le (length piece) DEFAULT_BLOCK) (λ e. let l = unexpected (eqb-true number 1 e) in lt-leb (length piece) DEFAULT_BLOCK l))
       (heard c false asked limit f (Data number piece) says))
-  reader_takes_no_other c asked limit (Ack number) f says misplaced = refuse c false asked limit f (heard c false asked limit f (Ack number) says)
-  reader_takes_no_other c asked limit (Error code text) f says misplaced = absurd misplaced
-  reader_takes_no_other c asked limit (Oack options) f says misplaced = absurd misplaced
+  reader_takes_no_other c asked limit (Ack number) f says unexpected = refuse c false asked limit f (heard c false asked limit f (Ack number) says)
+  reader_takes_no_other c asked limit (Error code text) f says unexpected = absurd unexpected
+  reader_takes_no_other c asked limit (Oack options) f says unexpected = absurd unexpected
 
   -- ---- a client that writes
   pub first_ack_begins : FirstAckBegins sources sinks
@@ -105,14 +105,14 @@ module _ {S K : Type 0} (sources : SourceMeaning S) (sinks : SinkMeaning K) wher
       writer_takes c true asked limit f (agreement asked kinds.Write c.e.role.mode options limit) (heard c true asked limit f (Oack options) says)
 
   pub writer_takes_no_other : WriterTakesNoOther sources sinks
-  writer_takes_no_other c asked limit (Read request) f says misplaced = refuse c true asked limit f (heard c true asked limit f (Read request) says)
-  writer_takes_no_other c asked limit (Write request) f says misplaced = refuse c true asked limit f (heard c true asked limit f (Write request) says)
-  writer_takes_no_other c asked limit (Data number piece) f says misplaced = refuse c true asked limit f (heard c true asked limit f (Data number piece) says)
-  writer_takes_no_other c asked limit (Ack number) f says misplaced =
+  writer_takes_no_other c asked limit (Read request) f says unexpected = refuse c true asked limit f (heard c true asked limit f (Read request) says)
+  writer_takes_no_other c asked limit (Write request) f says unexpected = refuse c true asked limit f (heard c true asked limit f (Write request) says)
+  writer_takes_no_other c asked limit (Data number piece) f says unexpected = refuse c true asked limit f (heard c true asked limit f (Data number piece) says)
+  writer_takes_no_other c asked limit (Ack number) f says unexpected =
       refuse c true asked limit f
-      (if_no (DidSo c) (number == 0) (begin_action c.e.role.length (default_terms c.from)) no_answer (ne_eqb number 0 misplaced) (heard c true asked limit f (Ack number) says))
-  writer_takes_no_other c asked limit (Error code text) f says misplaced = absurd misplaced
-  writer_takes_no_other c asked limit (Oack options) f says misplaced = absurd misplaced
+      (if_no (DidSo c) (number == 0) (begin_action c.e.role.length (default_terms c.from)) no_answer (ne_eqb number 0 unexpected) (heard c true asked limit f (Ack number) says))
+  writer_takes_no_other c asked limit (Error code text) f says unexpected = absurd unexpected
+  writer_takes_no_other c asked limit (Oack options) f says unexpected = absurd unexpected
 
   -- ---- either
   pub error_closes_waiting : ErrorClosesWaiting sources sinks

@@ -39,9 +39,9 @@ module _ {K : Type 0} (sinks : SinkMeaning K) where
     pub memory : answer ≢ Err Memory
     pub rest : StoresOn is_last mid sink' block_stored answer
 
-  -- the host bytes of a piece of the text were appended; after it `behind` is held back
+  -- the host bytes of a piece of the text were appended; after it `held_after` is held back
   pub record StoresPiece (mode : Mode) (text piece : List ℕ) (is_last : Bool) (sink sink' : K)
-      (block_stored : BlockStored) (behind : List ℕ) : Type 0 where
+      (block_stored : BlockStored) (held_after : List ℕ) : Type 0 where
     pub bytes : List ℕ
-    pub decoded : Decoded mode text piece bytes behind
+    pub decoded : Decoded mode text piece bytes held_after
     pub stores : StoresBlock bytes is_last sink sink' block_stored

@@ -16,17 +16,17 @@ use Rattle.tftp_ends.specs.Step.{Done, Turn, Sends, Appended, Committed, GoesOn,
 use Rattle.tftp_ends.specs.Step.{DatagramStep}
 
 -- sources seen as values of another type: the same bytes are left, and their faults are allowed
-pub record SourcesTell {S T : Type 0} (seen : S → T) (sources : SourceMeaning S)
+pub record SourcesModel {S T : Type 0} (seen : S → T) (sources : SourceMeaning S)
     (sources' : SourceMeaning T) : Type 0 where
-  pub tells : (source : S) → sources'.left (seen source) ≡ sources.left source
+  pub models : (source : S) → sources'.left (seen source) ≡ sources.left source
   pub fails : (source : S) (want : ℕ) → sources.may_fail source want
       → sources'.may_fail (seen source) want
   pub must : (source : S) (want : ℕ) → sources'.fails (seen source) want → sources.fails source want
 
 -- the same, of sinks for which `holds`, which an append preserves
-pub record SinksTell {K L : Type 0} (seen : K → L) (holds : K → Type 0) (sinks : SinkMeaning K)
+pub record SinksModel {K L : Type 0} (seen : K → L) (holds : K → Type 0) (sinks : SinkMeaning K)
     (sinks' : SinkMeaning L) : Type 0 where
-  pub tells : (sink : K) → sinks'.held (seen sink) ≡ sinks.held sink
+  pub models : (sink : K) → sinks'.held (seen sink) ≡ sinks.held sink
   pub keeps : (sink sink' : K) → holds sink → sinks.becomes sink sink' false → holds sink'
   pub appends : (sink : K) (bytes : List ℕ) (fault : StoreFault) → holds sink
       → sinks.may_refuse_append sink bytes fault → sinks'.may_refuse_append (seen sink) bytes fault
@@ -63,7 +63,7 @@ sink_or other (Sink k) = k
 module _ {S T K L : Type 0} (sources : SourceMeaning S) (sinks : SinkMeaning K)
     (sources' : SourceMeaning T) (sinks' : SinkMeaning L) where
   -- ---- a source, whatever the sinks are
-  module _ (source_as : S → T) (source_tells : SourcesTell source_as sources sources') where
+  module _ (source_as : S → T) (source_models : SourcesModel source_as sources sources') where
     sends_as : (terms : Terms) (number : ℕ) (from : Endpoint) (e : EndState) (s : S) (turn : Turn)
         (s' : S) →
         Sends sources terms number from e s turn s' →
@@ -74,9 +74,9 @@ module _ {S T K L : Type 0} (sources : SourceMeaning S) (sinks : SinkMeaning K)
           piece = h.piece;
           reads =
               record {
-                fills = rw (source_tells.tells s, source_tells.tells s') h.reads.fills;
-                read = λ q. source_tells.fails s _ (h.reads.read q);
-                fails = λ f. h.reads.fails (source_tells.must s _ f);
+                fills = rw (source_models.models s, source_models.models s') h.reads.fills;
+                read = λ q. source_models.fails s _ (h.reads.read q);
+                fails = λ f. h.reads.fails (source_models.must s _ f);
                 memory = h.reads.memory;
               };
           answers = h.answers;
@@ -109,22 +109,22 @@ module _ {S T K L : Type 0} (sources : SourceMeaning S) (sinks : SinkMeaning K)
     -- a source whose model is unchanged is seen as one whose model is unchanged
     pub source_keeps_as : (s s' : S) → KeepsFiles sources sinks (Source s) (Source s') →
         KeepsFiles sources' sinks' (Source (source_as s)) (Source (source_as s'))
-    source_keeps_as s s' h = rw (source_tells.tells s, source_tells.tells s') h
+    source_keeps_as s s' h = rw (source_models.models s, source_models.models s') h
 
   -- ---- a sink, whatever the sources are
   module _ (sink_as : K → L) (holds : K → Type 0)
-      (sink_tells : SinksTell sink_as holds sinks sinks') where
+      (sink_models : SinksModel sink_as holds sinks sinks') where
     appended_as : (bytes : List ℕ) (k k' : K) (answer : Result Done StoreFault) → holds k →
         Appended sinks bytes k k' answer →
         Appended sinks' bytes (sink_as k) (sink_as k') answer × holds k'
     appended_as [] k k' answer p h = ((h.0, ap sink_as h.1), subst holds (sym h.1) p)
     appended_as (b ∷ bytes) k k' answer p h = (
       (
-        rw (sink_tells.tells k, sink_tells.tells k') h.0,
-        faults answer _ _ (λ fault. sink_tells.appends k (b ∷ bytes) fault p) h.1,
-        sink_tells.leaves k k' false p h.2,
+        rw (sink_models.models k, sink_models.models k') h.0,
+        faults answer _ _ (λ fault. sink_models.appends k (b ∷ bytes) fault p) h.1,
+        sink_models.leaves k k' false p h.2,
       ),
-      sink_tells.keeps k k' p h.2,
+      sink_models.keeps k k' p h.2,
     )
 
     committed_as : (terms : Terms) (number : ℕ) (from : Endpoint) (e : EndState) (k : K)
@@ -134,9 +134,9 @@ module _ {S T K L : Type 0} (sources : SourceMeaning S) (sinks : SinkMeaning K)
     committed_as terms number from e k turn k' p h =
         record {
           answer = h.answer;
-          commits = rw (sink_tells.tells k, sink_tells.tells k') h.commits;
-          refused = faults h.answer _ _ (λ fault. sink_tells.commits k fault p) h.refused;
-          leaves = sink_tells.leaves k k' _ p h.leaves;
+          commits = rw (sink_models.models k, sink_models.models k') h.commits;
+          refused = faults h.answer _ _ (λ fault. sink_models.commits k fault p) h.refused;
+          leaves = sink_models.leaves k k' _ p h.leaves;
           answers = h.answers;
         }
 
@@ -196,14 +196,14 @@ module _ {S T K L : Type 0} (sources : SourceMeaning S) (sinks : SinkMeaning K)
         KeepsFiles sources' sinks' (Sink (sink_as k)) (Sink (sink_as k'))
     sink_keeps_as k k' p h =
         record {
-          holding = rw (sink_tells.tells k, sink_tells.tells k') h.holding;
-          leaves = sink_tells.leaves k k' false p h.leaves;
+          holding = rw (sink_models.models k, sink_models.models k') h.holding;
+          leaves = sink_models.leaves k k' false p h.leaves;
         }
 
   -- ---- files of either kind
   module _ (source_as : S → T) (sink_as : K → L) (holds : K → Type 0)
-      (source_tells : SourcesTell source_as sources sources')
-      (sink_tells : SinksTell sink_as holds sinks sinks') where
+      (source_models : SourcesModel source_as sources sources')
+      (sink_models : SinksModel sink_as holds sinks sinks') where
     -- an action with the one is an action with the other
     pub acts_as : (action : Action) (from : Endpoint) (bytes : List ℕ) (e : EndState)
         (files : Files S K) (turn : Turn) (files' : Files S K) → OfSink holds files →
@@ -211,9 +211,9 @@ module _ {S T K L : Type 0} (sources : SourceMeaning S) (sinks : SinkMeaning K)
         Acts sources' sinks' action from bytes e (seen_as source_as sink_as files) turn
         (seen_as source_as sink_as files')
     acts_as action from bytes e (Source s) turn (Source s') p h =
-        source_acts_as source_as source_tells action from bytes e s turn s' h
+        source_acts_as source_as source_models action from bytes e s turn s' h
     acts_as action from bytes e (Sink k) turn (Sink k') p h =
-        sink_acts_as sink_as holds sink_tells action from bytes e k turn k' p h
+        sink_acts_as sink_as holds sink_models action from bytes e k turn k' p h
     acts_as (Respond response) from bytes e (Source s) turn (Sink k') p h =
         (h.0, ap (seen_as source_as sink_as) h.1)
     acts_as (Respond response) from bytes e (Sink k) turn (Source s') p h =

@@ -22,13 +22,13 @@ use Rattle.tftp_ends.specs.Step.{Done, Appended}
 use Rattle.tftp_ends.specs.Text.{Decoded, is_readable}
 
 -- a packet that is not valid at a receiver
-abbrev pub NoPlaceAtReceiver : Bool → Packet → Type 0
-NoPlaceAtReceiver took (Read request) = Unit {0}
-NoPlaceAtReceiver took (Write request) = Unit {0}
-NoPlaceAtReceiver took (Data number piece) = ⊥
-NoPlaceAtReceiver took (Ack number) = Unit {0}
-NoPlaceAtReceiver took (Error code text) = ⊥
-NoPlaceAtReceiver took (Oack options) = took ≡ false
+abbrev pub UnexpectedAtReceiver : Bool → Packet → Type 0
+UnexpectedAtReceiver took (Read request) = Unit {0}
+UnexpectedAtReceiver took (Write request) = Unit {0}
+UnexpectedAtReceiver took (Data number piece) = ⊥
+UnexpectedAtReceiver took (Ack number) = Unit {0}
+UnexpectedAtReceiver took (Error code text) = ⊥
+UnexpectedAtReceiver took (Oack options) = took ≡ false
 
 module _ {S K : Type 0} {sources : SourceMeaning S} {sinks : SinkMeaning K}
     (c : Handled sources sinks) (terms : Terms) (n : ℕ) where
@@ -193,7 +193,7 @@ module _ {S K : Type 0} (sources : SourceMeaning S) (sinks : SinkMeaning K) wher
   ReceiverRefusesOthers =
       (c : Handled sources sinks) (terms : Terms) (n : ℕ) (packet : Packet)
       → FromPeer c (Receiving terms n) terms
-      → Spells packet c.bytes → NoPlaceAtReceiver (took_oack c.e terms) packet
+      → Spells packet c.bytes → UnexpectedAtReceiver (took_oack c.e terms) packet
       → RefusesBy c (Some terms) n 4 (codes "illegal operation") outcomes.Illegal
 
   -- a malformed packet: ERROR 4, Illegal

@@ -36,9 +36,9 @@ pub record Taken : Type 0 where
   pub turn : Turn
 
 -- the end after some steps
-abbrev pub end_behind : EndState → List Taken → EndState
-end_behind e [] = e
-end_behind e (taken ∷ run) = end_behind (after_turn e taken.turn) run
+abbrev pub end_after_run : EndState → List Taken → EndState
+end_after_run e [] = e
+end_after_run e (taken ∷ run) = end_after_run (after_turn e taken.turn) run
 
 -- the end is open
 abbrev pub IsOpen : EndState → Type 0

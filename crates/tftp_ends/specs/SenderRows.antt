@@ -25,13 +25,13 @@ abbrev pub took_oack : EndState → Terms → Bool
 took_oack e terms = is_client e.role.side && terms.by_oack
 
 -- a packet that is not valid at a sender
-abbrev pub NoPlaceAtSender : Bool → Packet → Type 0
-NoPlaceAtSender took (Read request) = Unit {0}
-NoPlaceAtSender took (Write request) = Unit {0}
-NoPlaceAtSender took (Data number piece) = Unit {0}
-NoPlaceAtSender took (Ack number) = ⊥
-NoPlaceAtSender took (Error code text) = ⊥
-NoPlaceAtSender took (Oack options) = took ≡ false
+abbrev pub UnexpectedAtSender : Bool → Packet → Type 0
+UnexpectedAtSender took (Read request) = Unit {0}
+UnexpectedAtSender took (Write request) = Unit {0}
+UnexpectedAtSender took (Data number piece) = Unit {0}
+UnexpectedAtSender took (Ack number) = ⊥
+UnexpectedAtSender took (Error code text) = ⊥
+UnexpectedAtSender took (Oack options) = took ≡ false
 
 module _ {S K : Type 0} {sources : SourceMeaning S} {sinks : SinkMeaning K} where
   -- DATA, if the source gave the whole block; if it failed or ended before the measured length,
@@ -100,7 +100,7 @@ module _ {S K : Type 0} (sources : SourceMeaning S) (sinks : SinkMeaning K) wher
   SenderRefusesOthers =
       (c : Handled sources sinks) (terms : Terms) (n : ℕ) (packet : Packet)
       → FromPeer c (Sending terms n) terms
-      → Spells packet c.bytes → NoPlaceAtSender (took_oack c.e terms) packet
+      → Spells packet c.bytes → UnexpectedAtSender (took_oack c.e terms) packet
       → RefusesBy c (Some terms) n 4 (codes "illegal operation") Illegal
 
   -- a malformed packet: ERROR 4, Illegal

@@ -288,8 +288,8 @@ timeout_turn e =
     e.position.last_sent_to e
 
 -- the report of a turn
-abbrev pub told : EndState → Turn → Step
-told e turn =
+abbrev pub reported : EndState → Turn → Step
+reported e turn =
     step_of e.position.phase turn.position.phase (option_map (λ (r : Reply). r.to) turn.reply)
 
 -- the bytes of an answer

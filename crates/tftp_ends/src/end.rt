@@ -86,7 +86,7 @@ impl End {
     ghost use Rattle.tftp_ends.specs.Sound.{IsSound, ResendsAck, longest_sent};
     ghost use Rattle.tftp_ends.specs.Files.{AreFilesOf, KeepsFiles, AreSame};
     ghost use Rattle.tftp_ends.specs.Step.{Turn, DatagramStep, Carries, Lends, IsAnswered};
-    ghost use Rattle.tftp_ends.specs.Step.{UsesFile, told, timeout_turn, lent};
+    ghost use Rattle.tftp_ends.specs.Step.{UsesFile, reported, timeout_turn, lent};
 
     /// The state of the end. A receiver answers a repeated block by the ACK of `number`.
     pub fn record(&self) -> Record
@@ -276,7 +276,7 @@ impl End {
         requires { AreFilesOf self.old.role.side files.old }
         ensures steps { IfOk result (λ answer. (turn : Turn)
             × DatagramStep S.meaning K.meaning from bytes.now self.old files.old turn files.new
-            × Lends self.old turn self.new answer.0.to answer.1 × (answer.0 ≡ told self.old turn)) }
+            × Lends self.old turn self.new answer.0.to answer.1 × (answer.0 ≡ reported self.old turn)) }
         ensures closed { IsErrOf result EndFault.Closed
             ↔ IsSome (outcome_of self.old.position.phase) }
         ensures unmoved { IsErrOf result EndFault.Closed → files.new ≡ files.old }
@@ -302,7 +302,7 @@ impl End {
     pub fn handle_timeout(&mut self) -> Result<(Step, Outgoing), EndFault>
         ensures steps { IfOk result (λ answer.
             Lends self.old (timeout_turn self.old) self.new answer.0.to answer.1
-            × (answer.0 ≡ told self.old (timeout_turn self.old))) }
+            × (answer.0 ≡ reported self.old (timeout_turn self.old))) }
         ensures closed { IsErrOf result EndFault.Closed
             ↔ IsSome (outcome_of self.old.position.phase) }
         ensures memory { IsErrOf result EndFault.Memory → ⊥ }
@@ -343,7 +343,7 @@ impl End {
         ensures steps { IfOk result (λ step. (turn : Turn)
             × DatagramStep S.meaning K.meaning from bytes.now self.old files.old turn files.new
             × Carries self.old turn self.new step.to out.old.items out.new.items
-            × (step ≡ told self.old turn)) }
+            × (step ≡ reported self.old turn)) }
         ensures closed { IsErrOf result EndFault.Closed
             ↔ IsSome (outcome_of self.old.position.phase) }
         ensures unmoved { IsErrOf result EndFault.Closed → files.new ≡ files.old }
@@ -374,7 +374,7 @@ impl End {
     pub fn on_timeout(&mut self, out: &mut Vec<u8>) -> Result<Step, EndFault>
         ensures steps { IfOk result (λ step.
             Carries self.old (timeout_turn self.old) self.new step.to out.old.items out.new.items
-            × (step ≡ told self.old (timeout_turn self.old))) }
+            × (step ≡ reported self.old (timeout_turn self.old))) }
         ensures closed { IsErrOf result EndFault.Closed
             ↔ IsSome (outcome_of self.old.position.phase) }
         ensures memory { IsErrOf result EndFault.Memory

@@ -5,7 +5,7 @@ ghost use Rattle.std.specs.Prelude.{◌≡◌, ◌+◌, ◌*◌, ◌≤◌, ℕ,
 ghost use Rattle.tftp_ends.specs.End.{EndState, is_sender};
 ghost use Rattle.tftp_ends.specs.Laws.{DecodedBegins, DecodedEnds};
 ghost use Rattle.tftp_ends.specs.Run.{IsOpening, IsOpen, IsRun, AnswersByProgress, Taken};
-ghost use Rattle.tftp_ends.specs.Run.{end_behind, progress_count, timeout_count, data_count};
+ghost use Rattle.tftp_ends.specs.Run.{end_after_run, progress_count, timeout_count, data_count};
 ghost use Rattle.tftp_ends.specs.Run.{datagram_count, count_if, opened_by_data};
 ghost use Rattle.tftp_ends.specs.SenderRows.{NewestAckSends, LastAckCompletes, OldAckIsNothing};
 ghost use Rattle.tftp_ends.specs.SenderRows.{EarlyAckIsIllegal, ErrorClosesSender};
@@ -39,7 +39,7 @@ pub fn run_bounds<S: Source, K: Sink>()
         → progress_count e run ≤ 65536 }
     ensures timeouts { (e : EndState) (run : List Taken) → IsOpening e
         → IsRun S.meaning K.meaning e run
-        → IsOpen (end_behind e run)
+        → IsOpen (end_after_run e run)
         → timeout_count run ≤ e.role.retries * (progress_count e run + 1) + 1 }
     ensures sent { (e : EndState) (run : List Taken) → IsOpening e
         → IsRun S.meaning K.meaning e run
@@ -48,8 +48,8 @@ pub fn run_bounds<S: Source, K: Sink>()
         ≤ 1 + progress_count e run + timeout_count run }
     ensures answers { (e : EndState) (run : List Taken) → IsOpening e
         → IsRun S.meaning K.meaning e run
-        → IsOpen (end_behind e run) → is_sender e.role.side ≡ true
-        → AnswersByProgress S.meaning K.meaning (end_behind e run) }
+        → IsOpen (end_after_run e run) → is_sender e.role.side ≡ true
+        → AnswersByProgress S.meaning K.meaning (end_after_run e run) }
     ensures datagrams { (run : List Taken) → datagram_count run ≤ length run }
 {}
 

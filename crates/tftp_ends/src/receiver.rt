@@ -23,12 +23,12 @@ fn is_readable(mode: Mode, decoder: NetDecoder, piece: &[u8], size: u16) -> bool
 {
     match mode {
         Mode::Octet => true,
-        Mode::Netascii => match decoder.behind(piece) {
-            Ok(behind) => {
+        Mode::Netascii => match decoder.after(piece) {
+            Ok(after) => {
                 if piece.len() >= usize::from(size) {
                     return true;
                 }
-                behind.finish().is_ok()
+                after.finish().is_ok()
             }
             Err(_) => false,
         },

@@ -43,15 +43,15 @@ fills_or_keeps held a want old new rest (Err Read) enough count given left err k
 fills_or_keeps held a want old new rest (Err Memory) enough count given left err kept fault = record { kept = err; rest = ap (λ l. prepend_known l a) kept }
 
 -- the bytes read ahead are given, and then the source below gives the others
-pub fills_behind : (held : List ℕ) (a b : Option (List ℕ)) (want k : ℕ) (old mid new : List ℕ) → length held ≤ want → mid ≡ old ++ held → Fills a b (want - length held) mid new (Ok k)
+pub fills_after : (held : List ℕ) (a b : Option (List ℕ)) (want k : ℕ) (old mid new : List ℕ) → length held ≤ want → mid ≡ old ++ held → Fills a b (want - length held) mid new (Ok k)
     → Fills (prepend_known held a) b want old new (Ok (length held + k))
-fills_behind held None b want k old mid new short begun fills = record {
+fills_after held None b want k old mid new short begun fills = record {
   piece = held ++ fills.piece;
   given = fills.given ∙ ap (λ l. l ++ fills.piece) begun ∙ append_assoc old held fills.piece;
   count = length-append held fills.piece ∙ ap (λ n. length held + n) fills.count;
   bound = let bound = fills.bound in omega arith;
 }
-fills_behind held (Some a) b want k old mid new short begun fills = record {
+fills_after held (Some a) b want k old mid new short begun fills = record {
   count = let both = length-append held a in let count = fills.count in omega arith;
   given =
       fills.given ∙ ap (λ l. l ++ take k a) begun ∙ append_assoc old held (take k a)

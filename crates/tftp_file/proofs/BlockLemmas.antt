@@ -30,14 +30,14 @@ module _ (text : List ℕ) (size : ℕ) (some : 0 < size) where
   pub blocks_join : first_blocks text size (block_count text size) ≡ text
   blocks_join = first_blocks_is text size (block_count text size) ∙ take_all (block_count text size * size) text count_covers
 
-  last_place : (block_count text size - 1) * size ≡ length text / size * size
-  last_place = ap (λ (k : ℕ). k * size) (let e : block_count text size - 1 ≡ length text / size = omega arith in e)
+  last_offset : (block_count text size - 1) * size ≡ length text / size * size
+  last_offset = ap (λ (k : ℕ). k * size) (let e : block_count text size - 1 ≡ length text / size = omega arith in e)
 
   -- the last block has the remaining bytes
   pub length-last : length (block text size (block_count text size)) ≡ length text % size
   length-last =
       length-take size (drop ((block_count text size - 1) * size) text)
-      ∙ omega (arith, last_place, length-drop ((block_count text size - 1) * size) text, div-add-mod' (length text) size, mod_below (length text) size some)
+      ∙ omega (arith, last_offset, length-drop ((block_count text size - 1) * size) text, div-add-mod' (length text) size, mod_below (length text) size some)
 
   pub last_short : length (block text size (block_count text size)) < size
   last_short = omega (arith, length-last, mod_below (length text) size some)

@@ -8,7 +8,7 @@ use Rattle.tftp_file.specs.Decoding.{IsHeld, DecodesPiece, IsWrong, FirstWrong, 
 use Rattle.tftp_file.specs.declared.netascii.NetFault.{NetFault}
 use Rattle.tftp_file.specs.declared.netascii.NetFault.TheVariants.{LoneCr, LoneLf, EndsInCr, Memory}
 use Rattle.tftp_file.proofs.NetasciiLemmas.{Line, Return, Itself, byte_form}
-use Rattle.tftp_file.proofs.DecodingLemmas.{stop_held, stop_lone_cr, stop_lf, one_way, begins_or_wrong, Begins, Wrong, read, front_joins, first_wrong_behind, first_wrong_before, wrong_behind}
+use Rattle.tftp_file.proofs.DecodingLemmas.{stop_held, stop_lone_cr, stop_lf, one_way, begins_or_wrong, Begins, Wrong, read, front_joins, first_wrong_after, first_wrong_before, wrong_after}
 
 -- two pieces, one after the other
 joins : (held piece between bytes next : List ℕ) → held ++ piece ≡ netascii_text bytes ++ between → held ++ (piece ++ next) ≡ netascii_text bytes ++ (between ++ next)
@@ -44,7 +44,7 @@ whole_taken held (piece ∷ pieces) bytes after h d = elim (read (held ++ piece)
       (w.0, subst (λ (t : List ℕ). FirstWrong t w.0 fault) (append_assoc held piece (concat pieces)) (first_wrong_before (held ++ piece) (concat pieces) w.0 fault w.1)))
   | Begins b ↦ elim (read (b.1 ++ concat pieces)) [
     | Wrong fault w ↦ absurd (begins_or_wrong (held ++ (piece ++ concat pieces)) fault (begins_cut held (piece ++ concat pieces) bytes after d)
-        (subst (λ (t : List ℕ). IsWrong t fault) (sym (joins held piece b.1 b.0 (concat pieces) b.2.1)) (wrong_behind b.0 (b.1 ++ concat pieces) fault w)))
+        (subst (λ (t : List ℕ). IsWrong t fault) (sym (joins held piece b.1 b.0 (concat pieces) b.2.1)) (wrong_after b.0 (b.1 ++ concat pieces) fault w)))
     | Begins r ↦
         let o = once held (piece ++ concat pieces) bytes after (b.0 ++ r.0) r.1 d (decodes_joined held piece b.1 (concat pieces) r.1 b.0 r.0 b.2 r.2) in (
           b.0,
@@ -59,8 +59,8 @@ whole_taken held (piece ∷ pieces) bytes after h d = elim (read (held ++ piece)
 
 -- the first wrong byte is within the text
 pub wrong_within : (text : List ℕ) (at : ℕ) (fault : NetFault) → FirstWrong text at fault → at < length text
-wrong_within text at LoneCr h = omega (arith, h.place, ap length h.split, length-append (netascii_text h.bytes) (13 ∷ h.byte ∷ h.rest))
-wrong_within text at LoneLf h = omega (arith, h.place, ap length h.split, length-append (netascii_text h.bytes) (10 ∷ h.rest))
+wrong_within text at LoneCr h = omega (arith, h.offset, ap length h.split, length-append (netascii_text h.bytes) (13 ∷ h.byte ∷ h.rest))
+wrong_within text at LoneLf h = omega (arith, h.offset, ap length h.split, length-append (netascii_text h.bytes) (10 ∷ h.rest))
 wrong_within text at EndsInCr h = absurd h
 wrong_within text at Memory h = absurd h
 
@@ -71,28 +71,28 @@ some_wire x xs = elim (byte_form x) [
   | Itself _ _ w _ ↦ omega (arith, ap length w, length-append (wire_byte x) (netascii_text xs))
 ]
 
-lf_behind : (bytes piece rest : List ℕ) → 13 ∷ piece ≡ netascii_text bytes ++ (10 ∷ rest) → 1 ≤ length (netascii_text bytes)
-lf_behind [] piece rest e = absurd (let g : ◌≡◌ {A = ℕ} 13 10 = cc in omega arith)
-lf_behind (x ∷ xs) piece rest e = some_wire x xs
+lf_after : (bytes piece rest : List ℕ) → 13 ∷ piece ≡ netascii_text bytes ++ (10 ∷ rest) → 1 ≤ length (netascii_text bytes)
+lf_after [] piece rest e = absurd (let g : ◌≡◌ {A = ℕ} 13 10 = cc in omega arith)
+lf_after (x ∷ xs) piece rest e = some_wire x xs
 
 -- the first wrong byte is not a byte held back
-wrong_behind_held : (held piece : List ℕ) (at : ℕ) (fault : NetFault) → IsHeld held → FirstWrong (held ++ piece) at fault → length held ≤ at
-wrong_behind_held held piece at LoneCr h w = elim h [ inl e ↦ omega (arith, ap length e) | inr e ↦ omega (arith, ap length e, w.place) ]
-wrong_behind_held held piece at LoneLf h w = elim h [
+wrong_after_held : (held piece : List ℕ) (at : ℕ) (fault : NetFault) → IsHeld held → FirstWrong (held ++ piece) at fault → length held ≤ at
+wrong_after_held held piece at LoneCr h w = elim h [ inl e ↦ omega (arith, ap length e) | inr e ↦ omega (arith, ap length e, w.offset) ]
+wrong_after_held held piece at LoneLf h w = elim h [
   | inl e ↦ omega (arith, ap length e)
-  | inr e ↦ omega (arith, ap length e, w.place, lf_behind w.bytes piece w.rest (ap (λ (t : List ℕ). t ++ piece) (sym e) ∙ w.split))
+  | inr e ↦ omega (arith, ap length e, w.offset, lf_after w.bytes piece w.rest (ap (λ (t : List ℕ). t ++ piece) (sym e) ∙ w.split))
 ]
-wrong_behind_held held piece at EndsInCr h w = absurd w
-wrong_behind_held held piece at Memory h w = absurd w
+wrong_after_held held piece at EndsInCr h w = absurd w
+wrong_after_held held piece at Memory h w = absurd w
 
 -- a text has one first wrong byte, with one fault
 pub wrong_once : (text : List ℕ) (at other : ℕ) (fault wrong : NetFault) → FirstWrong text at fault → FirstWrong text other wrong → (at ≡ other) × (fault ≡ wrong)
 wrong_once text at other LoneCr LoneCr h k =
     let o = one_way h.bytes k.bytes (13 ∷ h.byte ∷ h.rest) (13 ∷ k.byte ∷ k.rest) (stop_lone_cr h.byte h.rest h.no_lf h.no_nul) (stop_lone_cr k.byte k.rest k.no_lf k.no_nul) (sym h.split ∙ k.split) in
-    (omega (arith, h.place, k.place, ap (λ (t : List ℕ). length (netascii_text t)) o.0), refl)
+    (omega (arith, h.offset, k.offset, ap (λ (t : List ℕ). length (netascii_text t)) o.0), refl)
 wrong_once text at other LoneLf LoneLf h k =
     let o = one_way h.bytes k.bytes (10 ∷ h.rest) (10 ∷ k.rest) (stop_lf h.rest) (stop_lf k.rest) (sym h.split ∙ k.split) in
-    (omega (arith, h.place, k.place, ap (λ (t : List ℕ). length (netascii_text t)) o.0), refl)
+    (omega (arith, h.offset, k.offset, ap (λ (t : List ℕ). length (netascii_text t)) o.0), refl)
 wrong_once text at other LoneCr LoneLf h k =
     let o = one_way h.bytes k.bytes (13 ∷ h.byte ∷ h.rest) (10 ∷ k.rest) (stop_lone_cr h.byte h.rest h.no_lf h.no_nul) (stop_lf k.rest) (sym h.split ∙ k.split) in
     absurd (let e : 13 ∷ h.byte ∷ h.rest ≡ 10 ∷ k.rest = o.1 in let g : ◌≡◌ {A = ℕ} 13 10 = cc in omega arith)
@@ -125,13 +125,13 @@ refused_at held (piece ∷ pieces) at fault h w = elim (read (held ++ piece)) [
       record {
         before = [];
         piece = piece;
-        behind = pieces;
+        following = pieces;
         given = [];
         between = held;
         cut = refl;
         taken = (refl, refl);
         wrong = subst (λ (f : NetFault). IsWrong (held ++ piece) f) (sym o.1) v;
-        begins = omega (arith, o.0, wrong_behind_held held piece v.0 wrong h v.1);
+        begins = omega (arith, o.0, wrong_after_held held piece v.0 wrong h v.1);
         ends = omega (arith, o.0, wrong_within (held ++ piece) v.0 wrong v.1, length-append held piece);
       }
   | Begins b ↦ elim (read (b.1 ++ concat pieces)) [
@@ -139,13 +139,13 @@ refused_at held (piece ∷ pieces) at fault h w = elim (read (held ++ piece)) [
         (begins_cut held (piece ++ concat pieces) (b.0 ++ r.0) r.1 (decodes_joined held piece b.1 (concat pieces) r.1 b.0 r.0 b.2 r.2)) (at, w))
     | Wrong wrong v ↦
         let o = wrong_once (held ++ (piece ++ concat pieces)) at (length (netascii_text b.0) + v.0) fault wrong w
-        (subst (λ (t : List ℕ). FirstWrong t (length (netascii_text b.0) + v.0) wrong) (sym (joins held piece b.1 b.0 (concat pieces) b.2.1)) (first_wrong_behind b.0 (b.1 ++ concat pieces) v.0 wrong v.1)) in
+        (subst (λ (t : List ℕ). FirstWrong t (length (netascii_text b.0) + v.0) wrong) (sym (joins held piece b.1 b.0 (concat pieces) b.2.1)) (first_wrong_after b.0 (b.1 ++ concat pieces) v.0 wrong v.1)) in
         let i = refused_at b.1 pieces v.0 fault b.2.0 (subst (λ (f : NetFault). FirstWrong (b.1 ++ concat pieces) v.0 f) (sym o.1) v.1) in
         let l : length held + length piece ≡ length (netascii_text b.0) + length b.1 = sym (length-append held piece) ∙ (ap length b.2.1 ∙ length-append (netascii_text b.0) b.1) in
         record {
           before = piece ∷ i.before;
           piece = i.piece;
-          behind = i.behind;
+          following = i.following;
           given = b.0 ++ i.given;
           between = i.between;
           cut = ap (λ (ps : List (List ℕ)). piece ∷ ps) i.cut;

@@ -14,12 +14,12 @@ use Rattle.tftp_file.proofs.NetasciiLemmas.{ByteForm, Line, Return, Itself, byte
 -- a CR before a byte that makes no pair with it
 lone_cr : (byte : ℕ) (rest : List ℕ) → byte ≢ 10 → byte ≢ 0 → IsWrong (13 ∷ byte ∷ rest) LoneCr
 lone_cr byte rest a b =
-    (1, record { bytes = []; byte = byte; rest = rest; no_lf = a; no_nul = b; split = refl; place = refl })
+    (1, record { bytes = []; byte = byte; rest = rest; no_lf = a; no_nul = b; split = refl; offset = refl })
 
 -- an LF at the start
 lone_lf : (byte : ℕ) (rest : List ℕ) → byte ≡ 10 → IsWrong (byte ∷ rest) LoneLf
 lone_lf byte rest e =
-    (0, record { bytes = []; rest = rest; split = ap (λ (n : ℕ). n ∷ rest) e; place = refl })
+    (0, record { bytes = []; rest = rest; split = ap (λ (n : ℕ). n ∷ rest) e; offset = refl })
 
 -- the byte after a held CR makes no pair
 pub wrong_pair : (piece : List ℕ) → 1 ≤ length piece → get_or piece 0 0 ≢ 10 → get_or piece 0 0 ≢ 0 → IsWrong (13 ∷ piece) LoneCr
@@ -45,53 +45,53 @@ length_joins : (front bytes : List ℕ) → length (netascii_text (front ++ byte
 length_joins front bytes = ap length (netascii-append front bytes) ∙ length-append (netascii_text front) (netascii_text bytes)
 
 -- a wrong byte after host bytes
-pub first_wrong_behind : (front text : List ℕ) (at : ℕ) (fault : NetFault) → FirstWrong text at fault → FirstWrong (netascii_text front ++ text) (length (netascii_text front) + at) fault
-first_wrong_behind front text at LoneCr h = record {
+pub first_wrong_after : (front text : List ℕ) (at : ℕ) (fault : NetFault) → FirstWrong text at fault → FirstWrong (netascii_text front ++ text) (length (netascii_text front) + at) fault
+first_wrong_after front text at LoneCr h = record {
   bytes = front ++ h.bytes;
   byte = h.byte;
   rest = h.rest;
   no_lf = h.no_lf;
   no_nul = h.no_nul;
   split = ap (λ (t : List ℕ). netascii_text front ++ t) h.split ∙ front_joins front h.bytes (13 ∷ h.byte ∷ h.rest);
-  place = omega (arith, h.place, length_joins front h.bytes);
+  offset = omega (arith, h.offset, length_joins front h.bytes);
 }
-first_wrong_behind front text at LoneLf h = record {
+first_wrong_after front text at LoneLf h = record {
   bytes = front ++ h.bytes;
   rest = h.rest;
   split = ap (λ (t : List ℕ). netascii_text front ++ t) h.split ∙ front_joins front h.bytes (10 ∷ h.rest);
-  place = omega (arith, h.place, length_joins front h.bytes);
+  offset = omega (arith, h.offset, length_joins front h.bytes);
 }
-first_wrong_behind front text at EndsInCr h = h
-first_wrong_behind front text at Memory h = h
+first_wrong_after front text at EndsInCr h = h
+first_wrong_after front text at Memory h = h
 
-pub wrong_behind : (front text : List ℕ) (fault : NetFault) → IsWrong text fault → IsWrong (netascii_text front ++ text) fault
-wrong_behind front text fault h = (length (netascii_text front) + h.0, first_wrong_behind front text h.0 fault h.1)
+pub wrong_after : (front text : List ℕ) (fault : NetFault) → IsWrong text fault → IsWrong (netascii_text front ++ text) fault
+wrong_after front text fault h = (length (netascii_text front) + h.0, first_wrong_after front text h.0 fault h.1)
 
 -- bytes after a wrong one change nothing
-append_tail : (text front rest behind : List ℕ) → text ≡ front ++ rest → text ++ behind ≡ front ++ (rest ++ behind)
-append_tail text front rest behind e = ap (λ (t : List ℕ). t ++ behind) e ∙ append_assoc front rest behind
+append_tail : (text front rest tail : List ℕ) → text ≡ front ++ rest → text ++ tail ≡ front ++ (rest ++ tail)
+append_tail text front rest tail e = ap (λ (t : List ℕ). t ++ tail) e ∙ append_assoc front rest tail
 
-pub first_wrong_before : (text behind : List ℕ) (at : ℕ) (fault : NetFault) → FirstWrong text at fault → FirstWrong (text ++ behind) at fault
-first_wrong_before text behind at LoneCr h = record {
+pub first_wrong_before : (text tail : List ℕ) (at : ℕ) (fault : NetFault) → FirstWrong text at fault → FirstWrong (text ++ tail) at fault
+first_wrong_before text tail at LoneCr h = record {
   bytes = h.bytes;
   byte = h.byte;
-  rest = h.rest ++ behind;
+  rest = h.rest ++ tail;
   no_lf = h.no_lf;
   no_nul = h.no_nul;
-  split = append_tail text (netascii_text h.bytes) (13 ∷ h.byte ∷ h.rest) behind h.split;
-  place = h.place;
+  split = append_tail text (netascii_text h.bytes) (13 ∷ h.byte ∷ h.rest) tail h.split;
+  offset = h.offset;
 }
-first_wrong_before text behind at LoneLf h = record {
+first_wrong_before text tail at LoneLf h = record {
   bytes = h.bytes;
-  rest = h.rest ++ behind;
-  split = append_tail text (netascii_text h.bytes) (10 ∷ h.rest) behind h.split;
-  place = h.place;
+  rest = h.rest ++ tail;
+  split = append_tail text (netascii_text h.bytes) (10 ∷ h.rest) tail h.split;
+  offset = h.offset;
 }
-first_wrong_before text behind at EndsInCr h = h
-first_wrong_before text behind at Memory h = h
+first_wrong_before text tail at EndsInCr h = h
+first_wrong_before text tail at Memory h = h
 
-pub begins_behind : (front text : List ℕ) → BeginsWireText text → BeginsWireText (netascii_text front ++ text)
-begins_behind front text h = (front ++ h.0, h.1, (h.2.0, ap (λ (t : List ℕ). netascii_text front ++ t) h.2.1 ∙ front_joins front h.0 h.1))
+pub begins_after : (front text : List ℕ) → BeginsWireText text → BeginsWireText (netascii_text front ++ text)
+begins_after front text h = (front ++ h.0, h.1, (h.2.0, ap (λ (t : List ℕ). netascii_text front ++ t) h.2.1 ∙ front_joins front h.0 h.1))
 
 -- a text that begins with the wire text of no byte
 abbrev pub Stop : List ℕ → Type 0
@@ -181,8 +181,8 @@ pub data Reading (text : List ℕ) : Type 0 where
   Wrong : (fault : NetFault) → IsWrong text fault → Reading text
 
 read_byte : (x : ℕ) (text : List ℕ) → Reading text → Reading (wire_byte x ++ text)
-read_byte x text (Begins h) = Begins (subst (λ (t : List ℕ). BeginsWireText (t ++ text)) (append-nil (wire_byte x)) (begins_behind (x ∷ []) text h))
-read_byte x text (Wrong fault h) = Wrong fault (subst (λ (t : List ℕ). IsWrong (t ++ text) fault) (append-nil (wire_byte x)) (wrong_behind (x ∷ []) text fault h))
+read_byte x text (Begins h) = Begins (subst (λ (t : List ℕ). BeginsWireText (t ++ text)) (append-nil (wire_byte x)) (begins_after (x ∷ []) text h))
+read_byte x text (Wrong fault h) = Wrong fault (subst (λ (t : List ℕ). IsWrong (t ++ text) fault) (append-nil (wire_byte x)) (wrong_after (x ∷ []) text fault h))
 
 read_on : (text : List ℕ) → (Reading text) × (Reading (13 ∷ text))
 read_on [] = (Begins ([], [], (inl refl, refl)), Begins ([], 13 ∷ [], (inr refl, refl)))
@@ -206,11 +206,11 @@ pub read : (text : List ℕ) → Reading text
 read text = (read_on text).0
 
 -- after a run of unescaped bytes and a pair
-pub pair_taken : (text left run rest behind bytes : List ℕ) (byte : ℕ) → text ≡ netascii_text bytes ++ left → left ≡ run ++ rest → netascii_text run ≡ run → rest ≡ wire_byte byte ++ behind → text ≡ netascii_text (bytes ++ (run ++ byte ∷ [])) ++ behind
-pair_taken text left run rest behind bytes byte e p n r =
-    let pair : netascii_text (byte ∷ []) ++ behind ≡ rest = ap (λ (t : List ℕ). t ++ behind) (append-nil (wire_byte byte)) ∙ sym r in
-    let line : netascii_text (run ++ byte ∷ []) ++ behind ≡ left = sym (front_joins run (byte ∷ []) behind) ∙ (ap (λ (t : List ℕ). netascii_text run ++ t) pair ∙ (ap (λ (t : List ℕ). t ++ rest) n ∙ sym p)) in
-    e ∙ (ap (λ (t : List ℕ). netascii_text bytes ++ t) (sym line) ∙ front_joins bytes (run ++ byte ∷ []) behind)
+pub pair_taken : (text left run rest tail bytes : List ℕ) (byte : ℕ) → text ≡ netascii_text bytes ++ left → left ≡ run ++ rest → netascii_text run ≡ run → rest ≡ wire_byte byte ++ tail → text ≡ netascii_text (bytes ++ (run ++ byte ∷ [])) ++ tail
+pair_taken text left run rest tail bytes byte e p n r =
+    let pair : netascii_text (byte ∷ []) ++ tail ≡ rest = ap (λ (t : List ℕ). t ++ tail) (append-nil (wire_byte byte)) ∙ sym r in
+    let line : netascii_text (run ++ byte ∷ []) ++ tail ≡ left = sym (front_joins run (byte ∷ []) tail) ∙ (ap (λ (t : List ℕ). netascii_text run ++ t) pair ∙ (ap (λ (t : List ℕ). t ++ rest) n ∙ sym p)) in
+    e ∙ (ap (λ (t : List ℕ). netascii_text bytes ++ t) (sym line) ∙ front_joins bytes (run ++ byte ∷ []) tail)
 
 -- after a run of unescaped bytes
 pub run_taken : (text left run rest bytes : List ℕ) → text ≡ netascii_text bytes ++ left → left ≡ run ++ rest → netascii_text run ≡ run → text ≡ netascii_text (bytes ++ run) ++ rest
@@ -220,7 +220,7 @@ run_taken text left run rest bytes e p n =
 -- a wrong byte after a run of unescaped bytes
 pub wrong_taken : (text left run rest bytes : List ℕ) (fault : NetFault) → text ≡ netascii_text bytes ++ left → left ≡ run ++ rest → netascii_text run ≡ run → IsWrong rest fault → IsWrong text fault
 wrong_taken text left run rest bytes fault e p n w =
-    subst (λ (t : List ℕ). IsWrong t fault) (sym (run_taken text left run rest bytes e p n)) (wrong_behind (bytes ++ run) rest fault w)
+    subst (λ (t : List ℕ). IsWrong t fault) (sym (run_taken text left run rest bytes e p n)) (wrong_after (bytes ++ run) rest fault w)
 
 -- a wrong byte is a reason to refuse
 pub wrong_refuses : (text : List ℕ) (fault : NetFault) → IsWrong text fault → Refuses text fault
@@ -252,4 +252,4 @@ pub piece_begins : (held piece first rest bytes after : List ℕ) → held ++ pi
 piece_begins held piece first rest bytes after e d = (first ++ bytes, after, piece_taken held piece first rest bytes after e d)
 
 pub piece_wrong : (held piece first rest : List ℕ) (fault : NetFault) → held ++ piece ≡ netascii_text first ++ rest → IsWrong rest fault → Refuses (held ++ piece) fault
-piece_wrong held piece first rest fault e w = wrong_refuses (held ++ piece) fault (subst (λ (t : List ℕ). IsWrong t fault) (sym e) (wrong_behind first rest fault w))
+piece_wrong held piece first rest fault e w = wrong_refuses (held ++ piece) fault (subst (λ (t : List ℕ). IsWrong t fault) (sym e) (wrong_after first rest fault w))

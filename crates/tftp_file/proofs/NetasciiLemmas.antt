@@ -49,8 +49,8 @@ run_ends (x ∷ xs) = elim (byte_form x) [
 ]
 
 -- the index that `position` returns, or else the length
-pub first_place : (xs : List ℕ) (r : Option ℕ) → r ≡ cond (ltb (position_or_len is_line_byte xs) (length xs)) (Some (position_or_len is_line_byte xs)) None → unwrap_or r (length xs) ≡ position_or_len is_line_byte xs
-first_place xs r e =
+pub first_index : (xs : List ℕ) (r : Option ℕ) → r ≡ cond (ltb (position_or_len is_line_byte xs) (length xs)) (Some (position_or_len is_line_byte xs)) None → unwrap_or r (length xs) ≡ position_or_len is_line_byte xs
+first_index xs r e =
     let p = position_or_len is_line_byte xs in
     elim (cases_lt p (length xs)) [
       | inl l ↦ ap (λ (o : Option ℕ). unwrap_or o (length xs)) (e ∙ cond-true (ltb p (length xs)) (Some p) None (lt-ltb p (length xs) l))

@@ -27,9 +27,9 @@ pub read_more : (a b c : Option (List ℕ)) (start at n : ℕ) (old new : List �
     → Consumes a c (take ((at + n) - start) (drop start new))
 read_more a b c start at n old new after within fits same before read =
     let both : (at + n) - start ≡ (at - start) + n = omega arith in
-    let place : start + (at - start) ≡ at = omega arith in
+    let offset : start + (at - start) ≡ at = omega arith in
     let rest : take n (drop (at - start) (drop start new)) ≡ take n (drop at new) =
-    ap (take n) (drop-drop (at - start) start new ∙ ap (λ k. drop k new) place) in
+    ap (take n) (drop-drop (at - start) start new ∙ ap (λ k. drop k new) offset) in
     let joined = ap (λ k. take k (drop start new)) both ∙ take-add (at - start) n (drop start new)
     ∙ ap (λ l. l ++ take n (drop (at - start) (drop start new))) (between_stays start at old new after same)
     ∙ ap (λ l. take (at - start) (drop start old) ++ l) rest in
@@ -41,6 +41,6 @@ pub read_none : (a b c : Option (List ℕ)) (start at n : ℕ) (old new : List �
     → Consumes a b (take (at - start) (drop start old)) → Consumes b c (take n (drop at new))
     → Consumes a c (take (at - start) (drop start new))
 read_none a b c start at n old new none after within fits same before read =
-    let place : (at + n) - start ≡ at - start = omega arith in
-    subst (λ (k : ℕ). Consumes a c (take k (drop start new))) place
+    let offset : (at + n) - start ≡ at - start = omega arith in
+    subst (λ (k : ℕ). Consumes a c (take k (drop start new))) offset
     (read_more a b c start at n old new after within fits same before read)

@@ -28,12 +28,12 @@ fills_from_gives (Some left) None want old new n g bound end = absurd g.consumed
 fills_from_gives (Some left) (Some rest) want old new n g bound end = moved_all left rest old new g.piece want n g.consumed g.given g.count bound end
 
 -- a fill moves the bytes read in place after the old ones, and truncated after them
-pub fills_in_place : (a b : Option (List ℕ)) (want : ℕ) (old : List ℕ) (start : ℕ) (full : List ℕ) (r : Result ℕ FileFault) (kept : ℕ) (new : List ℕ)
+pub fills_at_end : (a b : Option (List ℕ)) (want : ℕ) (old : List ℕ) (start : ℕ) (full : List ℕ) (r : Result ℕ FileFault) (kept : ℕ) (new : List ℕ)
     → start ≡ length old → length full ≡ start + want → take start full ≡ old
     → IfOk r (λ n. start + n ≤ length full) → IfOk r (λ n. Consumes a b (take n (drop start full)))
     → IfOk r (λ n. start + n < length full → IsAtEnd b) → IfErr r (λ fault. fault ≡ Read)
     → kept ≡ result_unwrap_or r 0 → new ≡ take (start + kept) full → Fills a b want old new r
-fills_in_place a b want old start full (Ok n) kept new at long front within consumed end fault count cut =
+fills_at_end a b want old start full (Ok n) kept new at long front within consumed end fault count cut =
     let piece = take n (drop start full) in
     let gives : Gives a b old new n = record {
       piece = piece;
@@ -42,9 +42,9 @@ fills_in_place a b want old start full (Ok n) kept new at long front within cons
       consumed = consumed;
     } in
     fills_from_gives a b want old new n gives (omega arith) (λ short. end (omega arith))
-fills_in_place a b want old start full (Err Read) kept new at long front within consumed end fault count cut =
+fills_at_end a b want old start full (Err Read) kept new at long front within consumed end fault count cut =
     cut ∙ ap (λ k. take (start + k) full) count ∙ ap (λ k. take k full) (add-zero start) ∙ front
-fills_in_place a b want old start full (Err Memory) kept new at long front within consumed end fault count cut = absurd cc
+fills_at_end a b want old start full (Err Memory) kept new at long front within consumed end fault count cut = absurd cc
 
 -- the bytes before appended zeros, and before a read after them
 pub front_kept : (old zeros : List ℕ) (start end : ℕ) (resized lent full : List ℕ) → start ≡ length old → start ≤ end → resized ≡ take end old ++ zeros

@@ -50,14 +50,14 @@ pub record LoneCrAt (text : List ℕ) (at : ℕ) : Type 0 where
   pub no_lf : byte ≢ 10
   pub no_nul : byte ≢ 0
   pub split : text ≡ netascii_text bytes ++ (13 ∷ byte ∷ rest)
-  pub place : at ≡ length (netascii_text bytes) + 1
+  pub offset : at ≡ length (netascii_text bytes) + 1
 
 -- the wire text of some host bytes, and then, at this offset, an LF
 pub record LoneLfAt (text : List ℕ) (at : ℕ) : Type 0 where
   pub bytes : List ℕ
   pub rest : List ℕ
   pub split : text ≡ netascii_text bytes ++ (10 ∷ rest)
-  pub place : at ≡ length (netascii_text bytes)
+  pub offset : at ≡ length (netascii_text bytes)
 
 -- the byte at this offset is the first that no wire text has there
 abbrev pub FirstWrong : List ℕ → ℕ → NetFault → Type 0
@@ -89,10 +89,10 @@ pub record RefusesAt (held : List ℕ) (pieces : List (List ℕ)) (at : ℕ)
     (fault : NetFault) : Type 0 where
   pub before : List (List ℕ)
   pub piece : List ℕ
-  pub behind : List (List ℕ)
+  pub following : List (List ℕ)
   pub given : List ℕ
   pub between : List ℕ
-  pub cut : pieces ≡ before ++ piece ∷ behind
+  pub cut : pieces ≡ before ++ piece ∷ following
   pub taken : TakesAll held before given between
   pub wrong : IsWrong (between ++ piece) fault
   pub begins : length held + length (concat before) ≤ at

@@ -20,8 +20,8 @@ new_mem_sink room refuses_commit = record {
 }
 
 -- the sink, set to refuse its next call or not
-abbrev pub with_told : MemSinkState → Bool → MemSinkState
-with_told sink told = record sink { holding = record sink.holding { refuses = told } }
+abbrev pub with_armed : MemSinkState → Bool → MemSinkState
+with_armed sink armed = record sink { holding = record sink.holding { refuses = armed } }
 
 -- the sink is full
 abbrev pub IsFull : MemSinkState → Type 0

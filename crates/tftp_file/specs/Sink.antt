@@ -42,8 +42,8 @@ abbrev pub borrowed_sink : {K : Type 0} → SinkMeaning K → SinkMeaning (MutBo
 borrowed_sink meaning = sink_through meaning (λ k. k.now)
 
 -- the sink after it has refused a call as set
-abbrev pub told_no_more : Holding → Holding
-told_no_more holding = record holding { refuses = false }
+abbrev pub disarmed : Holding → Holding
+disarmed holding = record holding { refuses = false }
 
 -- the sink after an append: its content is not committed
 abbrev pub with_piece : Holding → List ℕ → Holding
@@ -54,10 +54,10 @@ abbrev pub as_committed : Holding → Holding
 as_committed holding = record holding { committed = true }
 
 -- a call was refused as set: it returns Full, and clears the setting
-pub record RefusedAsTold {A : Type 0} (before : Holding) (after : Option Holding)
+pub record RefusedAsArmed {A : Type 0} (before : Holding) (after : Option Holding)
     (result : Result A StoreFault) : Type 0 where
   pub answer : result ≡ Err Full
-  pub leaves : after ≡ Some (told_no_more before)
+  pub leaves : after ≡ Some (disarmed before)
 
 -- a beginning of the piece is appended, or the sink is unchanged
 pub record KeptBeginning (before : Holding) (after : Option Holding) (piece : List ℕ) : Type 0 where
@@ -82,23 +82,23 @@ CommitsFreely before after (Ok done) = after ≡ Some (as_committed before)
 CommitsFreely before after (Err fault) = after ≡ Some before
 
 -- the effect of a call, by whether the sink is set to refuse it
-abbrev pub UnlessTold : {A : Type 0} → Bool → Holding → Option Holding → Result A StoreFault
+abbrev pub UnlessArmed : {A : Type 0} → Bool → Holding → Option Holding → Result A StoreFault
     → Type 0 → Type 0
-UnlessTold true before after result freely = RefusedAsTold before after result
-UnlessTold false before after result freely = freely
+UnlessArmed true before after result freely = RefusedAsArmed before after result
+UnlessArmed false before after result freely = freely
 
 -- the effect of an append on a sink, by its model before and after it
 abbrev pub Appends : {A : Type 0} → Option Holding → Option Holding → List ℕ → Result A StoreFault
     → Type 0
 Appends None after piece result = ⊤
 Appends (Some before) after piece result =
-    UnlessTold before.refuses before after result (AppendsFreely before after piece result)
+    UnlessArmed before.refuses before after result (AppendsFreely before after piece result)
 
 -- the effect of a commit on a sink, by its model before and after it
 abbrev pub Commits : {A : Type 0} → Option Holding → Option Holding → Result A StoreFault → Type 0
 Commits None after result = ⊤
 Commits (Some before) after result =
-    UnlessTold before.refuses before after result (CommitsFreely before after result)
+    UnlessArmed before.refuses before after result (CommitsFreely before after result)
 
 -- the content is unchanged, and no more calls may be refused
 pub record WritesBehind {K : Type 0} (sinks : SinkMeaning K) (before after : K) : Type 0 where

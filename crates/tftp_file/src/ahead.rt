@@ -126,7 +126,7 @@ fn fill_ahead<S: Source>(
     if want <= held {
         return take_held(buffer, at, want, out);
     }
-    match fill_behind(&buffer[*at..], source, want, out) {
+    match fill_after(&buffer[*at..], source, want, out) {
         Ok(count) => {
             buffer.clear();
             *at = 0;
@@ -188,7 +188,7 @@ fn put_head(head: &[u8], buffer: &mut [u8])
 }
 
 /// Fills with all the held bytes, and then from the source.
-fn fill_behind<S: Source>(
+fn fill_after<S: Source>(
     held: &[u8],
     source: &mut S,
     want: usize,

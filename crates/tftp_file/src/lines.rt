@@ -30,7 +30,7 @@ pub(crate) fn line_byte_count(bytes: &[u8]) -> usize
 
 /// The index of the first CR or LF, or else the length.
 fn run_length(text: &[u8]) -> usize
-    ensures place { result ≡ position_or_len is_line_byte text.now }
+    ensures index { result ≡ position_or_len is_line_byte text.now }
     ensures within { result ≤ length text.now }
 {
     let end = text.iter().position(|byte| is_line_byte(*byte));

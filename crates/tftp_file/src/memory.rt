@@ -2,7 +2,7 @@
 
 ghost use Rattle.std.specs.Prelude.{◌≡◌, ◌≤◌, length, IfErr, IfOk};
 ghost use Rattle.tftp_file.specs.Netascii.{wire_text};
-ghost use Rattle.tftp_file.specs.Memory.{new_mem_sink, with_told};
+ghost use Rattle.tftp_file.specs.Memory.{new_mem_sink, with_armed};
 
 use crate::encoding::{Encoding, give};
 use crate::{FileFault, Sink, Source, StoreFault};
@@ -133,10 +133,10 @@ impl MemSink {
     }
 
     /// Sets whether the sink refuses its next append or commit with `Full`.
-    pub fn refuse_next(&mut self, told: bool)
-        ensures { self.new ≡ with_told self.old told }
+    pub fn refuse_next(&mut self, armed: bool)
+        ensures { self.new ≡ with_armed self.old armed }
     {
-        self.refuses_next = told;
+        self.refuses_next = armed;
     }
 
     /// Whether the sink is set to refuse its next append or commit.

@@ -165,7 +165,7 @@ impl NetDecoder {
     /// for its bytes is reserved.
     ///
     /// It fails if a push fails for a wrong byte of the piece.
-    pub fn behind(&self, piece: &[u8]) -> Result<NetDecoder, NetFault>
+    pub fn after(&self, piece: &[u8]) -> Result<NetDecoder, NetFault>
         ensures ok { IfOk result (λ decoder. (bytes : List ℕ)
             × DecodesPiece self.now piece.now bytes decoder) }
         ensures refused { IfErr result (λ fault. IsWrong (self.now ++ piece.now) fault) }
@@ -199,10 +199,10 @@ fn append_wire(bytes: &[u8], out: &mut Vec<u8>)
         let (run, rest) = split_run(left);
         out.extend_from_slice(run).unwrap();
         left = match rest {
-            [byte, behind @ ..] => {
+            [byte, remaining @ ..] => {
                 out.push_reserved(CR);
                 out.push_reserved(if *byte == LF { LF } else { NUL });
-                behind
+                remaining
             }
             [] => rest,
         };
@@ -273,7 +273,7 @@ fn check(text: &[u8]) -> Result<HeldText, NetFault>
     loop {
         let (_, rest) = split_run(left);
         match split_pair(rest)? {
-            Some((_, behind)) => left = behind,
+            Some((_, remaining)) => left = remaining,
             None if rest.is_empty() => return Ok(HeldText::Nothing),
             None => return Ok(HeldText::CarriageReturn),
         }
@@ -291,10 +291,10 @@ fn append_host(text: &[u8], out: &mut Vec<u8>)
     loop {
         let (run, rest) = split_run(left);
         out.extend_from_slice(run).unwrap();
-        let Ok(Some((byte, behind))) = split_pair(rest) else {
+        let Ok(Some((byte, remaining))) = split_pair(rest) else {
             return;
         };
         out.push_reserved(byte);
-        left = behind;
+        left = remaining;
     }
 }

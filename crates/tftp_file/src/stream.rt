@@ -298,7 +298,7 @@ fn write_pieces<W: Write>(writer: &mut W, bytes: &[u8]) -> Result<(), StoreFault
 }
 
 /// Commits the bytes written exactly if the flush succeeded.
-fn commit_behind(flushed: io::Result<()>, is_committed: &mut bool) -> Result<(), StoreFault>
+fn commit_flushed(flushed: io::Result<()>, is_committed: &mut bool) -> Result<(), StoreFault>
     ensures answer { is_ok result ≡ is_ok flushed }
     ensures committed { is_committed.new ≡ (is_committed.old || is_ok flushed) }
     ensures fault { IfErr result (λ fault. fault ≡ StoreFault.Io) }
@@ -340,6 +340,6 @@ impl<W: Write> Sink for WriteSink<W> {
 
     fn commit(&mut self) -> Result<(), StoreFault> {
         let flushed = self.writer.flush();
-        commit_behind(flushed, &mut self.is_committed)
+        commit_flushed(flushed, &mut self.is_committed)
     }
 }

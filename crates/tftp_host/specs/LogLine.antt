@@ -5,17 +5,17 @@ use Rattle.tftp_ends.specs.Endpoint.{endpoint_text}
 use Rattle.tftp_ends.specs.Outcome.{outcome_text}
 use Rattle.tftp_ends.specs.declared.endpoint.Endpoint.{Endpoint}
 use Rattle.tftp_host.specs.declared.reason.Reason.{Reason}
-use Rattle.tftp_host.specs.declared.server.log_line.Lost.{Lost as Want}
-use Rattle.tftp_host.specs.declared.server.log_line.Lost.TheVariants as wants
+use Rattle.tftp_host.specs.declared.server.log_line.Lost.{Lost as LostReason}
+use Rattle.tftp_host.specs.declared.server.log_line.Lost.TheVariants as lost_reasons
 use Rattle.tftp_host.specs.declared.server.log_line.LogLine.{LogLine}
 use Rattle.tftp_host.specs.declared.server.log_line.LogLine.TheVariants.{Opened, Refused, Ignored}
 use Rattle.tftp_host.specs.declared.server.log_line.LogLine.TheVariants.{Lost, Closed}
 use Rattle.tftp_host.specs.Reason.{reason_text}
 
 -- what a lost request lacked
-abbrev pub lost_text : Want → List ℕ
-lost_text wants.Port = codes "no port"
-lost_text wants.Memory = codes "out of memory"
+abbrev pub lost_text : LostReason → List ℕ
+lost_text lost_reasons.Port = codes "no port"
+lost_text lost_reasons.Memory = codes "out of memory"
 
 -- the reason, if known
 abbrev pub why_text : Option Reason → List ℕ

@@ -20,5 +20,5 @@ pub use client::{ClientOutcome, LineClock, ProgressLine, fallback};
 pub use disk::{length_on_wire, name_fault, open_fault, write_fault};
 pub use error_keeper::ErrorKeeper;
 pub use reason::{Reason, reason_of};
-pub use server::{LogLine, Lost, Port, Printed, place_of, wait_for};
+pub use server::{LogLine, Lost, Port, Printed, index_of, wait_for};
 pub use watch::{LONGEST_WAIT, Watch, deadline, is_due, read_clock};

@@ -5,5 +5,5 @@ mod port;
 mod printed;
 
 pub use log_line::{LogLine, Lost};
-pub use port::{Port, place_of, wait_for};
+pub use port::{Port, index_of, wait_for};
 pub use printed::Printed;

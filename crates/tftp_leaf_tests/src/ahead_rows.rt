@@ -30,7 +30,7 @@ fn any_fill_goes_on_from_the_one_before(rt: HostRuntime) {
 /// Bytes that were read ahead before a source fails are given first. After a failed read ahead each
 /// fill fails.
 #[test]
-fn a_read_ahead_that_fails_is_told(rt: HostRuntime) {
+fn a_read_ahead_that_fails_is_reported(rt: HostRuntime) {
     let mut source = letters(&rt, rt.alloc(), 5, true);
     gives_each(&rt, rt.alloc(), &mut source, 2, &[b"AB"]);
     source.read_ahead();
@@ -59,21 +59,26 @@ fn a_read_ahead_that_fails_is_told(rt: HostRuntime) {
 }
 
 /// The next fill appends a block to the header of a datagram, with this result.
-fn gives_behind(rt: &impl Abort, source: &mut Ahead<MemSource>, out: &mut Vec<u8>, wanted: &[u8]) {
+fn gives_after_header(
+    rt: &impl Abort,
+    source: &mut Ahead<MemSource>,
+    out: &mut Vec<u8>,
+    expected: &[u8],
+) {
     out.truncate(4);
     let filled = source.fill(3, out);
-    expect_equal(rt, &(filled, out.as_slice()), &(Ok(3), wanted), "a block");
+    expect_equal(rt, &(filled, out.as_slice()), &(Ok(3), expected), "a block");
     source.read_ahead();
 }
 
 /// A block is appended to the header of a datagram, of four bytes (RFC 1350, section 5).
 #[test]
-fn a_block_goes_behind_a_head(rt: HostRuntime) {
+fn a_block_is_appended_to_a_header(rt: HostRuntime) {
     let source = MemSource::new(rt.alloc(), b"ABCDEFGHI", Mode::Octet);
     let mut source = Ahead::new(rt.alloc(), source.expect(&rt, "memory"));
     let mut out = Vec::from_slice(rt.alloc(), b"\x00\x03\x00\x01").expect(&rt, "memory");
-    gives_behind(&rt, &mut source, &mut out, b"\x00\x03\x00\x01ABC");
-    gives_behind(&rt, &mut source, &mut out, b"\x00\x03\x00\x01DEF");
-    gives_behind(&rt, &mut source, &mut out, b"\x00\x03\x00\x01GHI");
+    gives_after_header(&rt, &mut source, &mut out, b"\x00\x03\x00\x01ABC");
+    gives_after_header(&rt, &mut source, &mut out, b"\x00\x03\x00\x01DEF");
+    gives_after_header(&rt, &mut source, &mut out, b"\x00\x03\x00\x01GHI");
     drop(source);
 }

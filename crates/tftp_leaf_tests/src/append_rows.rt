@@ -25,8 +25,8 @@ fn an_ack_is_appended(rt: HostRuntime) {
     let rt = &rt;
     let mut out = buffer(rt, rt.alloc());
     is_done(rt, append_ack(&mut out, 258));
-    let want = b"old \x00\x04\x01\x02".as_slice();
-    expect_bytes(rt, out.as_slice(), want, "ACK 258");
+    let expected = b"old \x00\x04\x01\x02".as_slice();
+    expect_bytes(rt, out.as_slice(), expected, "ACK 258");
 }
 
 #[test]
@@ -35,8 +35,13 @@ fn data_is_appended(rt: HostRuntime) {
     let mut out = buffer(rt, rt.alloc());
     is_done(rt, append_data(&mut out, 1, b"ABC"));
     is_done(rt, append_data_header(&mut out, 2));
-    let want = b"old \x00\x03\x00\x01ABC\x00\x03\x00\x02".as_slice();
-    expect_bytes(rt, out.as_slice(), want, "DATA 1, and the header of DATA 2");
+    let expected = b"old \x00\x03\x00\x01ABC\x00\x03\x00\x02".as_slice();
+    expect_bytes(
+        rt,
+        out.as_slice(),
+        expected,
+        "DATA 1, and the header of DATA 2",
+    );
 }
 
 #[test]
@@ -44,8 +49,8 @@ fn an_error_is_appended(rt: HostRuntime) {
     let rt = &rt;
     let mut out = buffer(rt, rt.alloc());
     is_done(rt, append_error(&mut out, 1, b"no"));
-    let want = b"old \x00\x05\x00\x01no\x00".as_slice();
-    expect_bytes(rt, out.as_slice(), want, "ERROR 1");
+    let expected = b"old \x00\x05\x00\x01no\x00".as_slice();
+    expect_bytes(rt, out.as_slice(), expected, "ERROR 1");
 }
 
 #[test]
@@ -54,8 +59,8 @@ fn requests_are_appended(rt: HostRuntime) {
     let mut out = buffer(rt, rt.alloc());
     is_done(rt, append_read(&mut out, b"a", Mode::Octet));
     is_done(rt, append_write(&mut out, b"b", Mode::Netascii));
-    let want = b"old \x00\x01a\x00octet\x00\x00\x02b\x00netascii\x00".as_slice();
-    expect_bytes(rt, out.as_slice(), want, "RRQ and WRQ");
+    let expected = b"old \x00\x01a\x00octet\x00\x00\x02b\x00netascii\x00".as_slice();
+    expect_bytes(rt, out.as_slice(), expected, "RRQ and WRQ");
 }
 
 #[test]
@@ -65,8 +70,8 @@ fn an_oack_is_appended(rt: HostRuntime) {
     is_done(rt, append_oack_header(&mut out));
     is_done(rt, append_option(&mut out, b"blksize", b"8"));
     is_done(rt, append_option(&mut out, b"tsize", b""));
-    let want = b"old \x00\x06blksize\x008\x00tsize\x00\x00".as_slice();
-    expect_bytes(rt, out.as_slice(), want, "OACK");
+    let expected = b"old \x00\x06blksize\x008\x00tsize\x00\x00".as_slice();
+    expect_bytes(rt, out.as_slice(), expected, "OACK");
 }
 
 /// The line of the packet that a datagram spells.
@@ -95,11 +100,11 @@ const OPCODES: [(&[u8], bool); 5] = [
 
 #[test]
 fn errors_are_known_by_their_opcode(rt: HostRuntime) {
-    for &(bytes, want) in &OPCODES {
+    for &(bytes, expected) in &OPCODES {
         expect_equal(
             &rt,
             &(bytes, has_error_opcode(bytes)),
-            &(bytes, want),
+            &(bytes, expected),
             "the opcode",
         );
     }

@@ -18,7 +18,7 @@ const SIZES: [(u16, bool); 6] = [
 ];
 
 /// Whether the block size may be requested, in a read and at all, and is valid.
-fn may_be_asked(rt: &impl Abort, size: u16, want: bool) {
+fn may_be_asked(rt: &impl Abort, size: u16, expected: bool) {
     let asked = Asked {
         blksize: Some(size),
         timeout: None,
@@ -27,13 +27,13 @@ fn may_be_asked(rt: &impl Abort, size: u16, want: bool) {
     let is_for_read = asked.is_for(READ, OCTET, 0);
     let is_size = is_block_size(u64::from(size));
     let found = (size, is_for_read, asked.is_askable(), is_size);
-    expect_equal(rt, &found, &(size, want, want, want), "blksize");
+    expect_equal(rt, &found, &(size, expected, expected, expected), "blksize");
 }
 
 #[test]
 fn asked_sizes(rt: HostRuntime) {
-    for &(size, want) in &SIZES {
-        may_be_asked(&rt, size, want);
+    for &(size, expected) in &SIZES {
+        may_be_asked(&rt, size, expected);
     }
 }
 
@@ -43,7 +43,7 @@ const SECONDS: [(u8, bool); 3] = [(0, false), (1, true), (255, true)];
 
 #[test]
 fn asked_seconds(rt: HostRuntime) {
-    for &(seconds, want) in &SECONDS {
+    for &(seconds, expected) in &SECONDS {
         let asked = Asked {
             blksize: None,
             timeout: Some(seconds),
@@ -51,7 +51,7 @@ fn asked_seconds(rt: HostRuntime) {
         };
         let is_for_write = asked.is_for(WRITE, NETASCII, 9);
         let found = (seconds, is_for_write, is_timeout(u64::from(seconds)));
-        expect_equal(&rt, &found, &(seconds, want, want), "timeout");
+        expect_equal(&rt, &found, &(seconds, expected, expected), "timeout");
     }
 }
 
@@ -68,14 +68,14 @@ const ASKED_LENGTHS: [(Kind, Mode, u64, bool); 6] = [
 
 #[test]
 fn asked_lengths(rt: HostRuntime) {
-    for &(kind, mode, tsize, want) in &ASKED_LENGTHS {
+    for &(kind, mode, tsize, expected) in &ASKED_LENGTHS {
         let asked = Asked {
             blksize: None,
             timeout: None,
             tsize: Some(tsize),
         };
         let may_ask = (kind, mode, tsize, asked.is_for(kind, mode, 9));
-        expect_equal(&rt, &may_ask, &(kind, mode, tsize, want), "tsize");
+        expect_equal(&rt, &may_ask, &(kind, mode, tsize, expected), "tsize");
     }
 }
 

@@ -9,8 +9,8 @@ use tftp_file::{FileFault, Sink, Source, StoreFault};
 fn gives<S: Source>(rt: &impl Abort, source: &mut S, want: usize, out: &mut Vec<u8>, piece: &[u8]) {
     out.clear();
     let filled = source.fill(want, out);
-    let wanted = (Ok(piece.len()), piece);
-    expect_equal(rt, &(filled, out.as_slice()), &wanted, "a piece");
+    let expected = (Ok(piece.len()), piece);
+    expect_equal(rt, &(filled, out.as_slice()), &expected, "a piece");
 }
 
 /// The source gives these pieces in turn, in fills of `want` bytes.
@@ -40,8 +40,8 @@ pub(crate) fn fails<S: Source>(
 ) {
     let mut out = Vec::from_slice(alloc, bytes).expect(rt, "memory");
     let failed = source.fill(want, &mut out);
-    let wanted = (want, Err(fault), bytes);
-    expect_equal(rt, &(want, failed, out.as_slice()), &wanted, what);
+    let expected = (want, Err(fault), bytes);
+    expect_equal(rt, &(want, failed, out.as_slice()), &expected, what);
 }
 
 /// The sink returns this for an append of the bytes; `what` names them.

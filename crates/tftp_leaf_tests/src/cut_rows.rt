@@ -14,8 +14,8 @@ const BYTES: [u8; 4] = [b'\r', b'\n', b'\0', b'A'];
 fn drawn(rt: &impl Abort, alloc: Global, rng: &mut Pcg32) -> Vec<u8> {
     let mut text = Vec::new(alloc);
     for _ in 0..64 {
-        let place = rng.next_u32() as usize % 4;
-        text.push(BYTES[place]).expect(rt, "memory");
+        let index = rng.next_u32() as usize % 4;
+        text.push(BYTES[index]).expect(rt, "memory");
     }
     text
 }

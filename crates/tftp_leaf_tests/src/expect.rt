@@ -14,25 +14,30 @@ pub(crate) fn expect(rt: &impl Abort, holds: bool, what: &str)
 }
 
 /// Fails the test unless the value is the expected one; `what` names it.
-pub(crate) fn expect_equal<T: PartialEq + Debug>(rt: &impl Abort, value: &T, wanted: &T, what: &str)
-    ensures { T.eq value.now wanted.now ≡ true }
+pub(crate) fn expect_equal<T: PartialEq + Debug>(
+    rt: &impl Abort,
+    value: &T,
+    expected: &T,
+    what: &str,
+)
+    ensures { T.eq value.now expected.now ≡ true }
 {
     assert!(rt;
-        *value == *wanted,
-        "{what}: {value:?} in place of {wanted:?}"
+        *value == *expected,
+        "{what}: {value:?} in place of {expected:?}"
     );
 }
 
 /// Fails the test unless the bytes are the expected ones; `what` names them.
-pub(crate) fn expect_bytes(rt: &impl Abort, bytes: &[u8], wanted: &[u8], what: &str)
-    ensures { bytes.now ≡ wanted.now }
+pub(crate) fn expect_bytes(rt: &impl Abort, bytes: &[u8], expected: &[u8], what: &str)
+    ensures { bytes.now ≡ expected.now }
 {
-    expect_equal(rt, &bytes, &wanted, what);
+    expect_equal(rt, &bytes, &expected, what);
 }
 
 /// Fails the test unless the text is the expected one; `what` names it.
-pub(crate) fn expect_text(rt: &impl Abort, text: &str, wanted: &str, what: &str)
-    ensures { text.now ≡ wanted.now }
+pub(crate) fn expect_text(rt: &impl Abort, text: &str, expected: &str, what: &str)
+    ensures { text.now ≡ expected.now }
 {
-    expect_equal(rt, &text, &wanted, what);
+    expect_equal(rt, &text, &expected, what);
 }

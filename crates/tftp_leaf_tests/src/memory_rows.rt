@@ -86,7 +86,7 @@ fn a_sink_is_committed_by_its_commit(rt: HostRuntime) {
 }
 
 #[test]
-fn an_append_is_refused_once_as_told(rt: HostRuntime) {
+fn an_append_is_refused_once_as_armed(rt: HostRuntime) {
     let rt = &rt;
     let mut sink = &mut MemSink::new(rt.alloc(), 9, false);
     sink.refuse_next(true);
@@ -98,7 +98,7 @@ fn an_append_is_refused_once_as_told(rt: HostRuntime) {
 }
 
 #[test]
-fn a_commit_is_refused_once_as_told(rt: HostRuntime) {
+fn a_commit_is_refused_once_as_armed(rt: HostRuntime) {
     let rt = &rt;
     let mut sink = MemSink::new(rt.alloc(), 9, false);
     appends(rt, &mut sink, b"A", Ok(()), "the append");

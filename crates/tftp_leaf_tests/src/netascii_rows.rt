@@ -105,11 +105,11 @@ fn refuses(
     let held = decoder.held();
     let answer = decoder.push(wrong, out);
     let found = (wrong, answer, out.as_slice(), decoder.held());
-    let wanted = (wrong, Err(fault), b"A".as_slice(), held);
+    let expected = (wrong, Err(fault), b"A".as_slice(), held);
     expect_equal(
         rt,
         &found,
-        &wanted,
+        &expected,
         "the fault, and what is stored and held",
     );
 }
@@ -169,9 +169,14 @@ fn every_cut(rt: HostRuntime) {
     is_stored_at_every_cut(rt, rt.alloc(), &wire, &host);
 }
 
-fn has_length(rt: &impl Abort, host: &[u8], mode: Mode, want: usize) {
+fn has_length(rt: &impl Abort, host: &[u8], mode: Mode, expected: usize) {
     let length = wire_length(host, mode);
-    expect_equal(rt, &(host, length), &(host, Ok(want as u64)), mode.word());
+    expect_equal(
+        rt,
+        &(host, length),
+        &(host, Ok(expected as u64)),
+        mode.word(),
+    );
 }
 
 #[test]
@@ -192,9 +197,14 @@ const WITHIN: [(&[u8], Mode, u64, u64); 4] = [
 
 #[test]
 fn lengths_within_a_limit(rt: HostRuntime) {
-    for &(bytes, mode, most, want) in &WITHIN {
+    for &(bytes, mode, most, expected) in &WITHIN {
         let length = wire_length_within(bytes, mode, most);
-        expect_equal(&rt, &(mode, most, length), &(mode, most, want), "a length");
+        expect_equal(
+            &rt,
+            &(mode, most, length),
+            &(mode, most, expected),
+            "a length",
+        );
     }
 }
 
@@ -222,15 +232,15 @@ const READS: [(u64, Mode, Result<u64, FileFault>); 3] = [
     (523_705, Mode::Octet, Ok(MAX_WIRE + 1)),
 ];
 
-fn is_read_so(rt: &impl Abort, reads: u64, mode: Mode, want: Result<u64, FileFault>) {
+fn is_read_so(rt: &impl Abort, reads: u64, mode: Mode, expected: Result<u64, FileFault>) {
     let length = wire_length(Failing { reads }, mode);
-    expect_equal(rt, &(reads, length), &(reads, want), mode.word());
+    expect_equal(rt, &(reads, length), &(reads, expected), mode.word());
 }
 
 #[test]
 fn a_reader_fails(rt: HostRuntime) {
-    for &(reads, mode, want) in &READS {
-        is_read_so(&rt, reads, mode, want);
+    for &(reads, mode, expected) in &READS {
+        is_read_so(&rt, reads, mode, expected);
     }
     expect_equal(
         &rt,

@@ -27,8 +27,8 @@ fn a_datagram_is_taken(rt: HostRuntime) {
     };
     expect(rt, asked.is_askable(), "what may be asked");
     let taken = check_oack_ref(&asked, READ, OCTET, &options, 10);
-    let want = "[Blksize(1428), Timeout(3)] 1428";
-    comes_out(rt, rt.alloc(), (READ, OCTET), taken, want, "the OACK");
+    let expected = "[Blksize(1428), Timeout(3)] 1428";
+    comes_out(rt, rt.alloc(), (READ, OCTET), taken, expected, "the OACK");
 }
 
 /// OACKs, and the length of the file that each states. The first echoes the length of the write

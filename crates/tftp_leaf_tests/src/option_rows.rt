@@ -128,11 +128,11 @@ pub(crate) fn comes_out(
     alloc: Global,
     direction: (Kind, Mode),
     outcome: Result<Agreed, Refusal>,
-    want: &str,
+    expected: &str,
     what: &str,
 ) {
     let got = shown(alloc, outcome).expect(rt, "memory");
-    expect_equal(rt, &(direction, got.as_str()), &(direction, want), what);
+    expect_equal(rt, &(direction, got.as_str()), &(direction, expected), what);
 }
 
 /// A server with a file of 10 bytes answers a request with these options by this result.
@@ -142,13 +142,13 @@ fn answers(
     limits: &Limits,
     (kind, mode): (Kind, Mode),
     row: &str,
-    want: &str,
+    expected: &str,
 ) {
     let largest = u64::from(limits.max_block);
     expect(rt, is_block_size(largest), row);
     let options = options_of(rt, alloc, row);
     let outcome = accept(options.as_slice(), kind, mode, 10, limits);
-    comes_out(rt, alloc, (kind, mode), outcome, want, row);
+    comes_out(rt, alloc, (kind, mode), outcome, expected, row);
 }
 
 /// A client handles an OACK with these options with this result.
@@ -159,12 +159,12 @@ fn takes(
     (kind, mode): (Kind, Mode),
     row: &str,
     limit: u64,
-    want: &str,
+    expected: &str,
 ) {
     expect(rt, asked.is_askable(), row);
     let options = options_of(rt, alloc, row);
     let outcome = check_oack(asked, kind, mode, options.as_slice(), limit);
-    comes_out(rt, alloc, (kind, mode), outcome, want, row);
+    comes_out(rt, alloc, (kind, mode), outcome, expected, row);
 }
 
 /// The first two rows have the options of a request in two orders; the answer has the same order
@@ -184,8 +184,8 @@ const LIMITED: [(&str, &str); 10] = [
 
 #[test]
 fn answers_keep_to_limits(rt: HostRuntime) {
-    for &(row, want) in &LIMITED {
-        answers(&rt, rt.alloc(), &TIGHT, (READ, OCTET), row, want);
+    for &(row, expected) in &LIMITED {
+        answers(&rt, rt.alloc(), &TIGHT, (READ, OCTET), row, expected);
     }
 }
 
@@ -215,8 +215,8 @@ const RANGES: [(&str, &str); 21] = [
 ];
 
 fn keeps_to_ranges(rt: &impl Abort, alloc: Global, direction: (Kind, Mode)) {
-    for &(row, want) in &RANGES {
-        answers(rt, alloc, &ROOMY, direction, row, want);
+    for &(row, expected) in &RANGES {
+        answers(rt, alloc, &ROOMY, direction, row, expected);
     }
 }
 
@@ -268,16 +268,16 @@ const LENGTHS: [(Kind, Mode, &str, &str); 12] = [
 
 #[test]
 fn answers_say_lengths(rt: HostRuntime) {
-    for &(kind, mode, row, want) in &LENGTHS {
-        answers(&rt, rt.alloc(), &TIGHT, (kind, mode), row, want);
+    for &(kind, mode, row, expected) in &LENGTHS {
+        answers(&rt, rt.alloc(), &TIGHT, (kind, mode), row, expected);
     }
 }
 
 #[test]
 fn the_largest_length_is_answered(rt: HostRuntime) {
     let row = "tsize=18446744073709551615";
-    let want = "[Tsize(18446744073709551615)] 512";
-    answers(&rt, rt.alloc(), &ROOMY, (WRITE, OCTET), row, want);
+    let expected = "[Tsize(18446744073709551615)] 512";
+    answers(&rt, rt.alloc(), &ROOMY, (WRITE, OCTET), row, expected);
 }
 
 /// OACKs for a client that requested a block size.
@@ -322,8 +322,8 @@ const UNASKED_OACKS: [(&str, &str); 3] = [
 
 /// The client handles each OACK of an octet read with its result, with a limit of 1,000 bytes.
 fn takes_each(rt: &impl Abort, alloc: Global, asked: &Asked, rows: &[(&str, &str)]) {
-    for (row, want) in rows {
-        takes(rt, alloc, asked, (READ, OCTET), row, 1000, want);
+    for (row, expected) in rows {
+        takes(rt, alloc, asked, (READ, OCTET), row, 1000, expected);
     }
 }
 
@@ -363,8 +363,8 @@ const OACK_LENGTHS: [(Kind, Mode, &str, &str); 10] = [
 
 #[test]
 fn oack_lengths(rt: HostRuntime) {
-    for &(kind, mode, row, want) in &OACK_LENGTHS {
-        takes(&rt, rt.alloc(), &ALL, (kind, mode), row, 39, want);
+    for &(kind, mode, row, expected) in &OACK_LENGTHS {
+        takes(&rt, rt.alloc(), &ALL, (kind, mode), row, 39, expected);
     }
 }
 
@@ -417,8 +417,8 @@ fn a_datagram_is_answered(rt: HostRuntime) {
     let request = b"\0\x01boot.img\0octet\0BLKSIZE\01428\0timeout\03\0";
     let read = read_request(&rt, request);
     let answer = accept_ref(&read.options, READ, read.mode, 10, &TIGHT);
-    let want = "[Blksize(1428), Timeout(3)] 1428";
-    comes_out(&rt, rt.alloc(), (READ, OCTET), answer, want, "the RRQ");
+    let expected = "[Blksize(1428), Timeout(3)] 1428";
+    comes_out(&rt, rt.alloc(), (READ, OCTET), answer, expected, "the RRQ");
 }
 
 /// Option names are case-insensitive (RFC 2347, "Packet Formats").
@@ -449,7 +449,7 @@ const REFUSALS: [(Refusal, u8, &str); 4] = [
 ];
 
 /// The refusal has this number and prints this text.
-fn is_told(rt: &impl Abort, alloc: Global, refusal: Refusal, number: u8, text: &str) {
+fn is_shown_as(rt: &impl Abort, alloc: Global, refusal: Refusal, number: u8, text: &str) {
     expect_equal(rt, &refusal.number(), &number, text);
     let shown = format!(in alloc; "{refusal}").expect(rt, "memory");
     expect_text(rt, shown.as_str(), text, text);
@@ -458,6 +458,6 @@ fn is_told(rt: &impl Abort, alloc: Global, refusal: Refusal, number: u8, text: &
 #[test]
 fn refusals(rt: HostRuntime) {
     for &(refusal, number, text) in &REFUSALS {
-        is_told(&rt, rt.alloc(), refusal, number, text);
+        is_shown_as(&rt, rt.alloc(), refusal, number, text);
     }
 }

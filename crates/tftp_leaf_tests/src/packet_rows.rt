@@ -96,23 +96,23 @@ fn line_of(rt: &impl Abort, alloc: Global, packet: &Packet) -> String {
     line
 }
 
-fn has_line(rt: &impl Abort, alloc: Global, packet: &Packet, want: &str) {
-    expect(rt, is_valid(packet), want);
+fn has_line(rt: &impl Abort, alloc: Global, packet: &Packet, expected: &str) {
+    expect(rt, is_valid(packet), expected);
     let line = line_of(rt, alloc, packet);
-    expect_text(rt, line.as_str(), want, "the line of a packet");
+    expect_text(rt, line.as_str(), expected, "the line of a packet");
 }
 
-fn is_shown_as(rt: &impl Abort, alloc: Global, bytes: &[u8], want: &str) {
+fn is_shown_as(rt: &impl Abort, alloc: Global, bytes: &[u8], expected: &str) {
     let packet = packet_of(rt, alloc, bytes);
-    has_line(rt, alloc, &packet, want);
+    has_line(rt, alloc, &packet, expected);
     drop(packet);
 }
 
 #[test]
 fn packets_show(rt: HostRuntime) {
     let rt = &rt;
-    for &(bytes, want) in &PACKETS {
-        is_shown_as(rt, rt.alloc(), bytes, want);
+    for &(bytes, expected) in &PACKETS {
+        is_shown_as(rt, rt.alloc(), bytes, expected);
     }
 }
 
@@ -251,8 +251,8 @@ fn copied(rt: &impl Abort, alloc: Global, request: &RequestRef<'_>) -> (Bytes, M
 fn requests_are_copied(rt: HostRuntime) {
     let rt = &rt;
     let found = copied(rt, rt.alloc(), &read_request(rt, REQUEST));
-    let wanted = (bytes_of(rt, rt.alloc(), b"a"), Mode::Octet);
-    expect_equal(rt, &found, &wanted, "the name and the mode");
+    let expected = (bytes_of(rt, rt.alloc(), b"a"), Mode::Octet);
+    expect_equal(rt, &found, &expected, "the name and the mode");
 }
 
 /// The option equals its copy.

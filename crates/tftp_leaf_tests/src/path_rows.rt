@@ -45,9 +45,9 @@ fn path(rt: &impl Abort, alloc: Global, name: &[u8]) -> Path {
     path_of(alloc, name).expect(rt, "a path")
 }
 
-fn stands_for(rt: &impl Abort, alloc: Global, name: &[u8], wanted: &[u8]) {
+fn stands_for(rt: &impl Abort, alloc: Global, name: &[u8], expected: &[u8]) {
     let found = path(rt, alloc, name);
-    expect_bytes(rt, found.as_bytes(), wanted, "the path of a name");
+    expect_bytes(rt, found.as_bytes(), expected, "the path of a name");
     drop(found);
 }
 

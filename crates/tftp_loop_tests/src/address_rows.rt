@@ -24,16 +24,16 @@ fn at_port<R: AllocGlobal + Abort>(rt: &R, address: &str, port: u16) -> SocketAd
     text.as_str().parse::<SocketAddr>().expect(rt, address)
 }
 
-/// A request to the address `asked` is answered from the address `wanted`, at the transfer's port.
-fn answers_from<R: Net + AllocGlobal + Abort>(rt: &R, port: u16, asked: &str, wanted: &str) {
+/// A request to the address `asked` is answered from the address `expected`, at the transfer's port.
+fn answers_from<R: Net + AllocGlobal + Abort>(rt: &R, port: u16, asked: &str, expected: &str) {
     let socket = loopback_socket(rt);
     let mut buffer = [0; 600];
     let request = b"\0\x01a\0octet\0".as_slice();
     send(rt, &socket, request, at_port(rt, asked, port));
     let (answer, transfer) = receive(rt, &socket, &mut buffer);
     expect_bytes(rt, answer, b"\0\x03\0\x01ABC".as_slice(), "DATA 1");
-    let wanted = at_port(rt, wanted, transfer.port());
-    expect_equal(rt, &transfer, &wanted, asked);
+    let expected = at_port(rt, expected, transfer.port());
+    expect_equal(rt, &transfer, &expected, asked);
     send(rt, &socket, &[0, 4, 0, 1], transfer);
 }
 
@@ -43,12 +43,12 @@ fn serves_at<R: Runtime + AllocGlobal + Processes + Net + Abort>(
     folder: &str,
     listen: &str,
     asked: &str,
-    wanted: &str,
+    expected: &str,
 ) {
     let listen = format!(in rt.alloc(); "{listen}:0").expect(rt, "memory");
     let server = serve(rt, &[folder, "--listen", listen.as_str(), "--rounds", "50"]);
     let port = server.socket_address(rt).port();
-    answers_from(rt, port, asked, wanted);
+    answers_from(rt, port, asked, expected);
     server.finish(rt);
 }
 
@@ -57,8 +57,8 @@ fn two_addresses(rt: HostRuntime) {
     let folder = scratch_folder(&rt, process::id(rt.process()), "addresses");
     let folder = folder.as_str();
     write_file(&rt, folder, "a", b"ABC");
-    for &(listen, asked, wanted) in &ADDRESSES {
-        serves_at(&rt, folder, listen, asked, wanted);
+    for &(listen, asked, expected) in &ADDRESSES {
+        serves_at(&rt, folder, listen, asked, expected);
     }
     remove_folder(&rt, folder);
 }

@@ -55,11 +55,11 @@ impl Receiver {
             return false;
         }
         let blocks = self.file.as_slice().chunks(SIZE);
-        let wanted = blocks.skip(usize::from(number).saturating_sub(1)).next();
+        let expected = blocks.skip(usize::from(number).saturating_sub(1)).next();
         let [0, 3, 0, found, bytes @ ..] = answer else {
             panic!(rt; "no DATA");
         };
-        expect(rt, *found == number && Some(bytes) == wanted, "a block");
+        expect(rt, *found == number && Some(bytes) == expected, "a block");
         true
     }
 

@@ -50,16 +50,16 @@ fn is_refused<R: Runtime + AllocGlobal + Processes + Abort>(
     prints(rt, TFTP, &words, "tftp: PeerError(2)\n");
 }
 
-/// A folder has `wanted` entries, hidden ones included.
+/// A folder has `expected` entries, hidden ones included.
 fn has_entries<R: Runtime + AllocGlobal + Clone + Drop + Abort>(
     rt: &R,
     folder: &str,
     name: &str,
-    wanted: usize,
+    expected: usize,
 ) {
     let folder = joined(rt, folder, name);
     let entries = fs::read_dir(rt, folder.as_str()).expect(rt, "a folder");
-    expect_equal(rt, &entries.count(), &wanted, "the entries of the folder");
+    expect_equal(rt, &entries.count(), &expected, "the entries of the folder");
 }
 
 /// Puts of a new name and of an existing file leave no draft and change no file; a get still

@@ -256,10 +256,10 @@ fn refused<R: Files + Drop, A: Abort>(
     rt: &A,
     store: &FolderStore<R>,
     fault: Option<StoreFault>,
-    wanted: StoreFault,
+    expected: StoreFault,
     reason: Reason,
 ) {
-    expect_equal(rt, &fault, &Some(wanted), "the fault");
+    expect_equal(rt, &fault, &Some(expected), "the fault");
     expect_equal(rt, &store.take_reason(), &Some(reason), "the reason");
     expect_equal(rt, &store.take_reason(), &None, "no second reason");
 }

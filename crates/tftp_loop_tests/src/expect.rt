@@ -14,15 +14,20 @@ pub(crate) fn expect(rt: &impl Abort, holds: bool, what: &str)
 }
 
 /// Ends the test unless the value is the wanted one; `what` is the message.
-pub(crate) fn expect_equal<T: PartialEq + Debug>(rt: &impl Abort, value: &T, wanted: &T, what: &str)
-    ensures { T.eq value.now wanted.now ≡ true }
+pub(crate) fn expect_equal<T: PartialEq + Debug>(
+    rt: &impl Abort,
+    value: &T,
+    expected: &T,
+    what: &str,
+)
+    ensures { T.eq value.now expected.now ≡ true }
 {
-    assert_eq!(rt; *value, *wanted, "{what}");
+    assert_eq!(rt; *value, *expected, "{what}");
 }
 
 /// Ends the test unless the bytes are the wanted ones; `what` is the message.
-pub(crate) fn expect_bytes(rt: &impl Abort, bytes: &[u8], wanted: &[u8], what: &str)
-    ensures { bytes.now ≡ wanted.now }
+pub(crate) fn expect_bytes(rt: &impl Abort, bytes: &[u8], expected: &[u8], what: &str)
+    ensures { bytes.now ≡ expected.now }
 {
-    assert_eq!(rt; bytes, wanted, "{what}");
+    assert_eq!(rt; bytes, expected, "{what}");
 }

@@ -3,7 +3,7 @@
 use crate::expect::expect_bytes;
 use crate::programs::{client, ends_with};
 use crate::scratch::{joined, remove_folder, scratch_folder};
-use crate::test_server::{address_of, loopback_socket, receive_behind, send};
+use crate::test_server::{address_of, loopback_socket, receive_after, send};
 use std::net::{Net, UdpSocket};
 use std::process::{self, Abort};
 
@@ -12,12 +12,12 @@ fn answers<R: Net + Abort>(
     rt: &R,
     requests: &UdpSocket,
     last: &[u8],
-    wanted: &[u8],
+    expected: &[u8],
     answer: &[u8],
 ) {
     let mut buffer = [0; 600];
-    let (request, client) = receive_behind(rt, requests, last, &mut buffer);
-    expect_bytes(rt, request, wanted, "the request");
+    let (request, client) = receive_after(rt, requests, last, &mut buffer);
+    expect_bytes(rt, request, expected, "the request");
     let transfer = loopback_socket(rt);
     send(rt, &transfer, answer, client);
 }

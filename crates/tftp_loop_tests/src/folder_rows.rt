@@ -23,21 +23,21 @@ fn opens<S: Store, R: AllocGlobal + Abort>(
     store: &S,
     name: &str,
     mode: Mode,
-    wanted: &[u8],
+    expected: &[u8],
 ) {
     let path = path(rt, rt.alloc(), name);
     let mut opening = store.open(rt.alloc(), &path, mode).expect(rt, name);
     let mut text = Vec::new(rt.alloc());
     opening.source.fill(100, &mut text).expect(rt, name);
-    expect_bytes(rt, text.as_slice(), wanted, name);
-    expect_equal(rt, &opening.length, &(wanted.len() as u64), name);
+    expect_bytes(rt, text.as_slice(), expected, name);
+    expect_equal(rt, &opening.length, &(expected.len() as u64), name);
 }
 
 /// A file is not opened, with this fault.
-fn refuses<S: Store, R: AllocGlobal + Abort>(rt: &R, store: &S, name: &str, wanted: StoreFault) {
+fn refuses<S: Store, R: AllocGlobal + Abort>(rt: &R, store: &S, name: &str, expected: StoreFault) {
     let path = path(rt, rt.alloc(), name);
     let fault = store.open(rt.alloc(), &path, Mode::Octet).err();
-    expect_equal(rt, &fault, &Some(wanted), name);
+    expect_equal(rt, &fault, &Some(expected), name);
 }
 
 /// Links, and their targets.
@@ -136,7 +136,7 @@ fn names_at_the_commit(rt: HostRuntime) {
 
 /// A file replaces another only with `replace`.
 #[test]
-fn replaces_where_told(rt: HostRuntime) {
+fn replaces_with_overwrite(rt: HostRuntime) {
     let alloc = rt.alloc();
     let folder = scratch_folder(&rt, process::id(rt.process()), "replaces");
     let folder = folder.as_str();

@@ -58,8 +58,8 @@ fn is_refused<R: Runtime + AllocGlobal + Processes + Abort>(
     let local = joined(rt, folder, "local");
     let (address, local) = (server.address.as_str(), local.as_str());
     let words = ["put", address, local, "n", "--verbose"];
-    let wanted = "tftp: PeerError(3)\ntftp: ERROR 3 (disk full)\n";
-    prints(rt, "programs::tftp", &words, wanted);
+    let expected = "tftp: PeerError(3)\ntftp: ERROR 3 (disk full)\n";
+    prints(rt, "programs::tftp", &words, expected);
     is_not_named(rt, folder, server);
 }
 

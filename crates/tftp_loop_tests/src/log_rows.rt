@@ -39,8 +39,8 @@ fn log_lines(rt: HostRuntime) {
     prints(&rt, TFTP, &["get", address, "b c", local], REFUSED);
     prints(&rt, TFTP, &["get", address, "a", local], COMPLETE);
     let log = server.log(&rt);
-    for &wanted in &LINES {
-        expect(&rt, log.as_str().contains(wanted), log.as_str());
+    for &expected in &LINES {
+        expect(&rt, log.as_str().contains(expected), log.as_str());
     }
     remove_folder(&rt, folder);
 }
@@ -58,8 +58,8 @@ fn the_log_says_why(rt: HostRuntime) {
     let words = ["put", server.address.as_str(), long.as_str(), "n"];
     prints(&rt, TFTP, &words, "tftp: PeerError(3)\n");
     let log = server.log(&rt);
-    let wanted = " ms, StoreFault, file too large\n";
-    expect(&rt, log.as_str().contains(wanted), log.as_str());
+    let expected = " ms, StoreFault, file too large\n";
+    expect(&rt, log.as_str().contains(expected), log.as_str());
     remove_folder(&rt, folder);
 }
 
@@ -78,7 +78,7 @@ fn logs_want<R: Runtime + AllocGlobal + Processes + Net + Abort>(
     rt: &R,
     folder: &str,
     limit: &str,
-    wanted: &str,
+    expected: &str,
 ) {
     let serving = [folder, "--listen", "127.0.0.1:0", "--log", "--rounds", "5"];
     let mut command = limited_program(rt, limit, "programs::tftpd", &serving);
@@ -87,7 +87,7 @@ fn logs_want<R: Runtime + AllocGlobal + Processes + Net + Abort>(
     let request = b"\0\x01a\0octet\0".as_slice();
     send(rt, &socket, request, server.socket_address(rt));
     let log = server.log(rt);
-    expect(rt, log.as_str().contains(wanted), log.as_str());
+    expect(rt, log.as_str().contains(expected), log.as_str());
 }
 
 /// A request that is lost or refused for lack of open files is in the log.
@@ -96,8 +96,8 @@ fn few_open_files(rt: HostRuntime) {
     let folder = scratch_folder(&rt, process::id(rt.process()), "log-few");
     let folder = folder.as_str();
     write_file(&rt, folder, "a", b"ABC");
-    for &(limit, wanted) in &FEW_FILES {
-        logs_want(&rt, folder, limit, wanted);
+    for &(limit, expected) in &FEW_FILES {
+        logs_want(&rt, folder, limit, expected);
     }
     remove_folder(&rt, folder);
 }

@@ -9,11 +9,11 @@ use std::rt::Runtime;
 
 const TFTP: &str = "programs::tftp";
 
-/// Waits until the server ends, and expects that it printed `wanted` complete transfers.
+/// Waits until the server ends, and expects that it printed `expected` complete transfers.
 pub(crate) fn has_served<R: AllocGlobal + Abort, P: OpenProcess + Drop>(
     rt: &R,
     server: Served<P>,
-    wanted: usize,
+    expected: usize,
 ) {
     let rest = server.finish(rt);
     let mut count = 0usize;
@@ -22,13 +22,17 @@ pub(crate) fn has_served<R: AllocGlobal + Abort, P: OpenProcess + Drop>(
             count = count.saturating_add(1);
         }
     }
-    expect_equal(rt, &count, &wanted, "the complete transfers");
+    expect_equal(rt, &count, &expected, "the complete transfers");
 }
 
 /// A missing name, a put of an existing one, a get, and an existing local file. The lines are
 /// fixed: a client that fails prints its outcome on standard error and has status 1, for a fault of
 /// the local file status 2.
-fn tells<R: Runtime + AllocGlobal + Processes + Abort>(rt: &R, folder: &str, address: &str) {
+fn reports_failures<R: Runtime + AllocGlobal + Processes + Abort>(
+    rt: &R,
+    folder: &str,
+    address: &str,
+) {
     let local = joined(rt, folder, "local");
     let file = joined(rt, folder, "a");
     let missing = "status 1\n\ntest result: ok\ntftp: PeerError(1)\n";
@@ -47,7 +51,7 @@ fn loopback(rt: HostRuntime) {
     let folder = folder.as_str();
     write_file(&rt, folder, "a", b"ABC");
     let server = serve(&rt, &[folder, "--listen", "127.0.0.1:0", "--rounds", "50"]);
-    tells(&rt, folder, server.address.as_str());
+    reports_failures(&rt, folder, server.address.as_str());
     has_bytes(&rt, folder, "local", b"ABC");
     has_served(&rt, server, 1);
     remove_folder(&rt, folder);

@@ -73,7 +73,7 @@ fn fetches<R: Net + AllocGlobal + Processes + Abort, P: OpenProcess + Drop>(
 
 /// A server with one slot is never busy for a client that acknowledges before it requests again.
 #[test]
-fn a_place_is_freed_first(rt: HostRuntime) {
+fn a_slot_is_freed_first(rt: HostRuntime) {
     let folder = scratch_folder(&rt, process::id(rt.process()), "freed");
     let folder = folder.as_str();
     write_file(&rt, folder, "a", b"ABC");

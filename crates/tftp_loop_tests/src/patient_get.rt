@@ -54,10 +54,10 @@ fn agree<R: Net + Abort>(rt: &R, requests: &UdpSocket) -> ServerEnd {
 
 impl ServerEnd {
     /// Sends a datagram to the client, and expects this answer.
-    pub(crate) fn sends(&self, rt: &impl Abort, bytes: &[u8], wanted: &[u8]) {
+    pub(crate) fn sends(&self, rt: &impl Abort, bytes: &[u8], expected: &[u8]) {
         let mut buffer = [0; 600];
         send(rt, &self.socket, bytes, self.client);
         let (answer, _) = receive(rt, &self.socket, &mut buffer);
-        expect_bytes(rt, answer, wanted, "the answer");
+        expect_bytes(rt, answer, expected, "the answer");
     }
 }

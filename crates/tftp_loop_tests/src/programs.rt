@@ -93,23 +93,26 @@ fn text_in<'a>(rt: &impl Abort, bytes: &'a [u8]) -> &'a str {
 }
 
 /// All that a program prints, its standard output before its standard error.
-pub(crate) fn told<R: Runtime + AllocGlobal + Processes + Abort>(
+pub(crate) fn printed<R: Runtime + AllocGlobal + Processes + Abort>(
     rt: &R,
     name: &str,
     words: &[&str],
 ) -> String {
-    told_by(rt, program(rt, name, words))
+    printed_by_command(rt, program(rt, name, words))
 }
 
 /// All that a command prints, its standard output before its standard error.
-pub(crate) fn told_by<R: AllocGlobal + Processes + Abort>(rt: &R, mut command: Command) -> String {
+pub(crate) fn printed_by_command<R: AllocGlobal + Processes + Abort>(
+    rt: &R,
+    mut command: Command,
+) -> String {
     let output = command.output(rt).expect(rt, "a program runs");
-    let mut told = String::new(rt.alloc());
+    let mut printed = String::new(rt.alloc());
     for stream in [&output.stdout, &output.stderr] {
         let text = text_in(rt, stream.as_slice());
-        told.push_str(text).expect(rt, "memory");
+        printed.push_str(text).expect(rt, "memory");
     }
-    told
+    printed
 }
 
 /// Runs a program, and expects this in what it prints.
@@ -117,10 +120,10 @@ pub(crate) fn prints<R: Runtime + AllocGlobal + Processes + Abort>(
     rt: &R,
     name: &str,
     words: &[&str],
-    wanted: &str,
+    expected: &str,
 ) {
-    let told = told(rt, name, words);
-    expect(rt, told.as_str().contains(wanted), told.as_str());
+    let printed = printed(rt, name, words);
+    expect(rt, printed.as_str().contains(expected), printed.as_str());
 }
 
 /// Starts `tftp` with these words.
@@ -151,10 +154,10 @@ pub(crate) fn printed_by<R: AllocGlobal + Abort, P: OpenProcess + Drop>(
 pub(crate) fn ends_with<R: AllocGlobal + Abort, P: OpenProcess + Drop>(
     rt: &R,
     client: Child<P>,
-    wanted: &str,
+    expected: &str,
 ) {
-    let told = printed_by(rt, client);
-    expect(rt, told.as_str().contains(wanted), told.as_str());
+    let printed = printed_by(rt, client);
+    expect(rt, printed.as_str().contains(expected), printed.as_str());
 }
 
 /// A server that a test has started.

@@ -18,7 +18,7 @@ const LENGTH: usize = 2_500;
 const COMPLETE: &str = "complete 2500\nstatus 0\n";
 
 /// What a client prints with these words, of which one is the proxy's address.
-fn told_through<R: Runtime + AllocGlobal + Processes + Abort>(
+fn printed_through<R: Runtime + AllocGlobal + Processes + Abort>(
     rt: &R,
     proxy: &mut Proxy,
     words: &[&str],
@@ -30,8 +30,8 @@ fn told_through<R: Runtime + AllocGlobal + Processes + Abort>(
 
 /// The folder has the whole file under this name.
 fn is_whole<R: Runtime + AllocGlobal + Abort>(rt: &R, folder: &str, name: &str) {
-    let wanted = bytes_of(rt, rt.alloc(), LENGTH);
-    has_bytes(rt, folder, name, wanted.as_slice());
+    let expected = bytes_of(rt, rt.alloc(), LENGTH);
+    has_bytes(rt, folder, name, expected.as_slice());
 }
 
 /// A get through a proxy with this seed is complete, and has the file's bytes.
@@ -53,8 +53,8 @@ fn gets_through<R: Runtime + AllocGlobal + Processes + Net + Abort>(
         "--retries",
         "10",
     ];
-    let told = told_through(rt, &mut proxy, &words);
-    expect(rt, told.as_str().contains(COMPLETE), told.as_str());
+    let printed = printed_through(rt, &mut proxy, &words);
+    expect(rt, printed.as_str().contains(COMPLETE), printed.as_str());
     is_whole(rt, folder, name.as_str());
 }
 
@@ -78,8 +78,8 @@ fn puts_through<R: Runtime + AllocGlobal + Processes + Net + Abort>(
         "--retries",
         "10",
     ];
-    let told = told_through(rt, &mut proxy, &words);
-    let is_complete = told.as_str().contains(COMPLETE);
+    let printed = printed_through(rt, &mut proxy, &words);
+    let is_complete = printed.as_str().contains(COMPLETE);
     if is_complete || has_file(rt, folder, name.as_str()) {
         is_whole(rt, folder, name.as_str());
     }

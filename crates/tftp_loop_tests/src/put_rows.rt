@@ -15,7 +15,7 @@ fn arrives<R: Runtime + AllocGlobal + Processes + Net + Abort>(
     rt: &R,
     folder: &str,
     length: usize,
-    wanted: &str,
+    expected: &str,
 ) {
     let bytes = bytes_of(rt, rt.alloc(), length);
     write_file(rt, folder, "local", bytes.as_slice());
@@ -24,7 +24,7 @@ fn arrives<R: Runtime + AllocGlobal + Processes + Net + Abort>(
     let address = address_of(rt, &requests);
     let client = client(rt, &["put", address.as_str(), local.as_str(), "n"]);
     let (request, file) = take_put(rt, &requests);
-    ends_with(rt, client, wanted);
+    ends_with(rt, client, expected);
     let plain = b"\0\x02n\0octet\0".as_slice();
     expect_bytes(rt, request.as_slice(), plain, "the request");
     expect(rt, file.as_slice() == bytes.as_slice(), "the file");
@@ -44,8 +44,8 @@ fn files_arrive(rt: HostRuntime) {
 fn gives_up<R: Net + Abort>(rt: &R, requests: &UdpSocket) {
     let mut buffer = [0; 600];
     let (request, client) = receive(rt, requests, &mut buffer);
-    let wanted = b"\0\x02n\0octet\0timeout\x00255\0".as_slice();
-    expect_bytes(rt, request, wanted, "the request");
+    let expected = b"\0\x02n\0octet\0timeout\x00255\0".as_slice();
+    expect_bytes(rt, request, expected, "the request");
     let transfer = loopback_socket(rt);
     send(rt, &transfer, b"\0\x06timeout\x00255\0".as_slice(), client);
     let (block, _) = receive(rt, &transfer, &mut buffer);

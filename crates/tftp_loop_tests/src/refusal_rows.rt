@@ -48,13 +48,13 @@ fn fill_folder<R: Runtime + AllocGlobal + Processes + Abort>(rt: &R, folder: &st
 }
 
 /// The request port answers a request with this datagram.
-fn answers<R: Net + Abort>(rt: &R, server: SocketAddr, request: &[u8], wanted: &[u8]) {
+fn answers<R: Net + Abort>(rt: &R, server: SocketAddr, request: &[u8], expected: &[u8]) {
     let socket = loopback_socket(rt);
     let mut buffer = [0; 600];
     send(rt, &socket, request, server);
     let (answer, from) = receive(rt, &socket, &mut buffer);
     expect_equal(rt, &from, &server, "the request port");
-    expect_equal(rt, &(request, answer), &(request, wanted), "the answer");
+    expect_equal(rt, &(request, answer), &(request, expected), "the answer");
 }
 
 #[test]
@@ -68,8 +68,8 @@ fn requests_are_refused(rt: HostRuntime) {
         &[served.as_str(), "--listen", "127.0.0.1:0", "--rounds", "50"],
     );
     let address = server.socket_address(&rt);
-    for &(request, wanted) in &REFUSALS {
-        answers(&rt, address, request, wanted);
+    for &(request, expected) in &REFUSALS {
+        answers(&rt, address, request, expected);
     }
     server.kill(&rt);
     remove_folder(&rt, folder);

@@ -45,12 +45,12 @@ pub(crate) fn has_bytes<R: Runtime + AllocGlobal + Abort>(
     rt: &R,
     folder: &str,
     name: &str,
-    wanted: &[u8],
+    expected: &[u8],
 ) {
     let file = joined(rt, folder, name);
     let stored = fs::read(rt, file.as_str()).expect(rt, name);
     // Not `expect_bytes`: it would print a long file.
-    expect(rt, stored.as_slice() == wanted, name);
+    expect(rt, stored.as_slice() == expected, name);
 }
 
 /// Whether a folder has a file of this name.

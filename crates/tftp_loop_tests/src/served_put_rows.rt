@@ -3,7 +3,7 @@
 use crate::expect::{expect, expect_bytes};
 use crate::programs::{prints, serve};
 use crate::scratch::{has_bytes, joined, lacks, remove_folder, scratch_folder, write_file};
-use crate::test_server::{loopback_socket, receive, receive_behind, send};
+use crate::test_server::{loopback_socket, receive, receive_after, send};
 use std::net::{Net, SocketAddr};
 use std::process::{self, Abort};
 
@@ -18,7 +18,7 @@ fn vanishes<R: Net + Abort>(rt: &R, server: SocketAddr) {
     let mut block = [7; 516];
     block[..4].copy_from_slice(b"\0\x03\0\x01");
     send(rt, &socket, &block, transfer);
-    let (answer, _) = receive_behind(rt, &socket, ack_0, &mut buffer);
+    let (answer, _) = receive_after(rt, &socket, ack_0, &mut buffer);
     expect_bytes(rt, answer, b"\0\x04\0\x01".as_slice(), "ACK 1");
 }
 

@@ -142,8 +142,8 @@ fn travel_at_once<R: Runtime + AllocGlobal + Processes + Abort>(
 
 /// A file has arrived whole.
 fn arrived<R: Runtime + AllocGlobal + Abort>(rt: &R, folder: &str, travel: Travel) {
-    let wanted = bytes_of(rt, rt.alloc(), travel.length);
-    has_bytes(rt, folder, travel.copy(rt).as_str(), wanted.as_slice());
+    let expected = bytes_of(rt, rt.alloc(), travel.length);
+    has_bytes(rt, folder, travel.copy(rt).as_str(), expected.as_slice());
 }
 
 /// Makes the file of this length in a server's folder.

@@ -38,7 +38,7 @@ pub(crate) fn receive<'a>(
 }
 
 /// The next datagram that differs from the last. A slow test may receive the last one again.
-pub(crate) fn receive_behind<'a>(
+pub(crate) fn receive_after<'a>(
     rt: &impl Abort,
     socket: &UdpSocket,
     last: &[u8],

@@ -72,7 +72,7 @@ const ROWS: [(&str, &[&str], &str); 20] = [
 
 #[test]
 fn help_and_faults(rt: HostRuntime) {
-    for &(name, words, wanted) in &ROWS {
-        prints(&rt, name, words, wanted);
+    for &(name, words, expected) in &ROWS {
+        prints(&rt, name, words, expected);
     }
 }

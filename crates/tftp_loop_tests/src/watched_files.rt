@@ -47,9 +47,9 @@ impl Calls {
     }
 
     /// Whether the calls were exactly these.
-    pub(crate) fn were(&self, wanted: &str) -> bool {
+    pub(crate) fn were(&self, expected: &str) -> bool {
         match self.letters.try_borrow() {
-            Ok(letters) => letters.as_str() == wanted,
+            Ok(letters) => letters.as_str() == expected,
             Err(_) => false,
         }
     }

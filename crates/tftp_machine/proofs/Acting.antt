@@ -7,7 +7,7 @@ use Rattle.std.proofs.lemmas.List.{append-nil}
 use Rattle.std.proofs.lemmas.List.Elements.{Contains-append_left}
 use Rattle.tftp_wire.specs.declared.packet.Request.{Request as WireRequest}
 use Rattle.tftp_machine.specs.Machine.{Endpoint, request_port, Request, Data, Ack, Oack, Message, Party, Machine}
-use Rattle.tftp_machine.specs.Rules.{Rule, Asks, Opens_plainly, Opens_with, Takes_oack, Takes_ack, Takes_data, Appends, Sends_next, Completes, Fails, Fails_with, Says_error, Repeats, Strays, message, actor, MayAct, Guard, OpensAnew, packets, party_after, after, IsLegal, run}
+use Rattle.tftp_machine.specs.Rules.{Rule, Asks, Opens_plainly, Opens_with, Takes_oack, Takes_ack, Takes_data, Appends, Sends_next, Completes, Fails, Fails_with, Says_error, Repeats, Strays, message, actor, MayAct, Guard, OpensNoDuplicate, packets, party_after, after, IsLegal, run}
 use Rattle.tftp_machine.specs.Shows.{ActInTurn, party_then, sent_by}
 use Rattle.tftp_machine.proofs.Grows.{with_at, with_other}
 
@@ -104,7 +104,7 @@ keeps_on (Repeats old) sent x o h = unchanged x o
 keeps_on (Strays stray) sent x o h = unchanged x o
 
 -- no rule opens an end that is open
-opens_none : (r : Rule) (sent : List Message) (x : Party) (m : Machine) → x.is_open ≡ true → MayAct r sent x → OpensAnew r m
+opens_none : (r : Rule) (sent : List Message) (x : Party) (m : Machine) → x.is_open ≡ true → MayAct r sent x → OpensNoDuplicate r m
 opens_none (Opens_plainly at peer write request text) sent x m o h = absurd (true≢false (sym o ∙ h.0))
 opens_none (Opens_with at peer write request text size) sent x m o h = absurd (true≢false (sym o ∙ h.0))
 opens_none (Asks at write request text) sent x m o h = tt

@@ -6,7 +6,7 @@ use Rattle.std.proofs.lemmas.Bool.{cases_Bool, cond-true, cond-false}
 use Rattle.std.proofs.lemmas.List.Elements.{Contains-append_cases}
 use Rattle.tftp_machine.specs.Machine.{Endpoint, is_same, Elsewhere, host_of, Packet, Request, Data, Ack, Oack, Error, Message, Party, Machine, with_end}
 use Rattle.tftp_machine.proofs.Endpoints.{cases_same, same_self, same_other}
-use Rattle.tftp_machine.specs.Facts.{Told, IsServing, HasAsked, HasReceived, IsSoundParty, Holds}
+use Rattle.tftp_machine.specs.Facts.{Attests, IsServing, HasAsked, HasReceived, IsSoundParty, Holds}
 
 -- an open end x became y
 pub record Grows (x y : Party) : Type 0 where
@@ -43,16 +43,16 @@ AllGrow-with ends a x g = record {
   ];
 }
 
-pub Told-grows : (x y : Party) → (x.is_open ≡ true → Grows x y) → (to : Endpoint) (k : Packet) → Told x to k → Told y to k
-Told-grows x y f to (Request write request) h = let g = f h.is_open in
+pub Attests-grows : (x y : Party) → (x.is_open ≡ true → Grows x y) → (to : Endpoint) (k : Packet) → Attests x to k → Attests y to k
+Attests-grows x y f to (Request write request) h = let g = f h.is_open in
     record { is_open = g.is_open; client = g.client ∙ h.client; sender = g.sender ∙ h.sender; mode = g.mode ∙ h.mode }
-Told-grows x y f to (Data n bytes) h = let g = f h.is_open in
+Attests-grows x y f to (Data n bytes) h = let g = f h.is_open in
     record { is_open = g.is_open; sender = g.sender ∙ h.sender; peer = g.peer to h.peer; first = h.first; number = omega (arith, h.number, g.number); bytes = rw (g.text h.sender, g.size to h.peer) h.bytes }
-Told-grows x y f to (Ack n) h = let g = f h.is_open in
+Attests-grows x y f to (Ack n) h = let g = f h.is_open in
     record { is_open = g.is_open; sender = g.sender ∙ h.sender; peer = g.peer to h.peer; number = omega (arith, h.number, g.number); plain = λ z c. g.plain ∙ h.plain z (sym g.client ∙ c) }
-Told-grows x y f to (Oack size) h = let g = f h.is_open in
+Attests-grows x y f to (Oack size) h = let g = f h.is_open in
     record { is_open = g.is_open; client = g.client ∙ h.client; plain = g.plain ∙ h.plain; peer = g.peer to h.peer; size = g.size to h.peer ∙ h.size }
-Told-grows x y f to Error h = tt
+Attests-grows x y f to Error h = tt
 
 pub IsServing-grows : (a : Endpoint) (x y z : Party) → Grows y z → IsServing a x y → IsServing a x z
 IsServing-grows a x y z g h =
@@ -97,7 +97,7 @@ IsSound-grows ends new g a x h = record {
 pub kept : (m : Machine) (a : Endpoint) (x : Party) (added : List Message) → Holds m →
     ((m.party a).is_open ≡ true → Grows (m.party a) x) →
     (x.is_open ≡ true → IsSoundParty (with_end m.party a x) a x) →
-    ((d : Message) → Contains added d → host_of d.from ≢ Elsewhere → Told (with_end m.party a x d.from) d.to d.packet) →
+    ((d : Message) → Contains added d → host_of d.from ≢ Elsewhere → Attests (with_end m.party a x d.from) d.to d.packet) →
     Holds (record { sent = m.sent ++ added; party = with_end m.party a x })
 kept m a x added h g s t =
     let all = AllGrow-with m.party a x g in
@@ -109,8 +109,8 @@ kept m a x added h g s t =
         | inr n ↦ let at_q : new q ≡ m.party q = with_other m.party a x q n in
             subst (λ (y : Party). IsSoundParty new q y) (sym at_q) (IsSound-grows m.party new all q (m.party q) (h.ends q (subst (λ (y : Party). y.is_open ≡ true) at_q o)))
       ];
-      told = λ d i o. elim (Contains-append_cases m.sent added d i) [
-        | inl old ↦ Told-grows (m.party d.from) (new d.from) (all.grows d.from) d.to d.packet (h.told d old o)
+      attested = λ d i o. elim (Contains-append_cases m.sent added d i) [
+        | inl old ↦ Attests-grows (m.party d.from) (new d.from) (all.grows d.from) d.to d.packet (h.attested d old o)
         | inr fresh ↦ t d fresh o
       ];
     }

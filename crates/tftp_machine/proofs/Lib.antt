@@ -2,13 +2,13 @@ pub mod Endpoints
 pub mod Grows
 pub mod Blocks
 pub mod Steps
-pub mod Telling
+pub mod Attesting
 pub mod Opening
 pub mod Moving
 pub mod Keeps
 pub mod Runs
 pub mod RecordedKept
-pub mod Places
+pub mod Indices
 pub mod Acting
 pub mod Shown
 pub mod ViewSafe

@@ -6,11 +6,11 @@ use Rattle.std.proofs.lemmas.Bool.{true≢false, cases_Bool, ltb-true, ltb-false
 use Rattle.tftp_file.specs.Block.{block_count, IsBeginningOf}
 use Rattle.tftp_machine.specs.Machine.{Endpoint, Elsewhere, host_of, Data, Ack, Message, Party, Machine, with_end}
 use Rattle.tftp_machine.specs.Rules.{Fails, message, IsLive, IsNext, IsAcked, after}
-use Rattle.tftp_machine.specs.Facts.{Told, HasReceived, Holds}
+use Rattle.tftp_machine.specs.Facts.{Attests, HasReceived, Holds}
 use Rattle.tftp_machine.proofs.Grows.{Grows, Grows-same, AllGrow-with, HasReceived-grows, IsSound-grows, kept}
 use Rattle.tftp_machine.proofs.Blocks.{beginning_by_take, take-block, last_block, full_block, count_is_past}
 use Rattle.tftp_machine.proofs.Steps.{one_sent, own_of, same_size, Moves, IsSound-moves, GoesOn, next_block}
-use Rattle.tftp_machine.proofs.Telling.{told_at, told_none}
+use Rattle.tftp_machine.proofs.Attesting.{attested_at, attested_none}
 
 -- the piece follows the receiver's text
 pub more_text : (x y : Party) (piece : List ℕ) → GoesOn x y piece → x.text ++ piece ≡ take ((x.number + 1) * x.size) y.text
@@ -42,9 +42,9 @@ received_failed x y piece n q = record {
 pub receives : (m : Machine) → Holds m → (at peer : Endpoint) (bytes : List ℕ) → IsNext m.sent (m.party at) at peer bytes → (x : Party) → Moves (m.party at) x → (m.party at).number ≤ x.number →
     ((y : Party) → GoesOn (m.party at) y bytes → HasReceived x y) →
     (added : List Message) →
-    ((d : Message) → Contains added d → host_of d.from ≢ Elsewhere → Told (with_end m.party at x d.from) d.to d.packet) →
+    ((d : Message) → Contains added d → host_of d.from ≢ Elsewhere → Attests (with_end m.party at x d.from) d.to d.packet) →
     Holds (record { sent = m.sent ++ added; party = with_end m.party at x })
-receives m h at peer bytes g x v up f added told =
+receives m h at peer bytes g x v up f added attested =
     let old = m.party at in
     let grows : old.is_open ≡ true → Grows old x = λ o. record {
       is_open = v.is_open ∙ o;
@@ -68,19 +68,19 @@ receives m h at peer bytes g x v up f added told =
     (λ c s b n p e o. absurd (true≢false (sym s ∙ receiver)))
     (λ s p e o.
     let same : peer ≡ p = (let k : Some peer ≡ Some p = sym has ∙ e in cc) in
-    let t = h.told (message peer at (Data (old.number + 1) bytes)) g.3 (rw same o) in
+    let t = h.attested (message peer at (Data (old.number + 1) bytes)) g.3 (rw same o) in
     subst (λ (q : Endpoint). HasReceived x (new q)) same
     (HasReceived-grows x (m.party peer) (new peer) (all.grows peer t.is_open) t.sender (f (m.party peer) (next_block m h at peer bytes g (rw same o)))))
     (λ s d p e o. absurd (true≢false (sym s ∙ receiver))))
-    told
+    attested
 
 -- a sender with its newest block acknowledged becomes x
 pub sends : (m : Machine) → Holds m → (at peer : Endpoint) → IsAcked m.sent (m.party at) at peer → (x : Party) → Moves (m.party at) x → (m.party at).number ≤ x.number → x.text ≡ (m.party at).text →
     (x.done ≡ true → host_of peer ≢ Elsewhere → (m.party peer).done ≡ true) →
     (added : List Message) →
-    ((d : Message) → Contains added d → host_of d.from ≢ Elsewhere → Told (with_end m.party at x d.from) d.to d.packet) →
+    ((d : Message) → Contains added d → host_of d.from ≢ Elsewhere → Attests (with_end m.party at x d.from) d.to d.packet) →
     Holds (record { sent = m.sent ++ added; party = with_end m.party at x })
-sends m h at peer g x v up t ends added told =
+sends m h at peer g x v up t ends added attested =
     let old = m.party at in
     let grows : old.is_open ≡ true → Grows old x = λ o. record {
       is_open = v.is_open ∙ o;
@@ -98,7 +98,7 @@ sends m h at peer g x v up t ends added told =
     let new = with_end m.party at x in
     let has : x.peer ≡ Some peer = v.peer ∙ g.2 in
     let sender : x.sender ≡ true = v.sender ∙ g.1 in
-    let decoded : host_of peer ≢ Elsewhere → Told (m.party peer) at (Ack old.number) = h.told (message peer at (Ack old.number)) g.3 in
+    let decoded : host_of peer ≢ Elsewhere → Attests (m.party peer) at (Ack old.number) = h.attested (message peer at (Ack old.number)) g.3 in
     let back : host_of peer ≢ Elsewhere → (new peer).peer ≡ Some at = λ o. let k = decoded o in (all.grows peer k.is_open).peer at k.peer in
     kept m at x added h grows
     (λ _. IsSound-moves new at old x v (IsSound-grows m.party new all at old (h.ends at g.0.0))
@@ -110,14 +110,14 @@ sends m h at peer g x v up t ends added told =
     let own : host_of peer ≢ Elsewhere = rw same o in
     subst (λ (q : Endpoint). ((new q).peer ≡ Some at) × ((new q).done ≡ true)) same
     (back own, (all.grows peer (decoded own).is_open).done (ends d own))))
-    told
+    attested
 
 -- the peer of a sender whose last block is acknowledged is done
 pub last_acked : (m : Machine) → Holds m → (at peer : Endpoint) → IsAcked m.sent (m.party at) at peer → (m.party at).number ≡ block_count (m.party at).text (m.party at).size → host_of peer ≢ Elsewhere → (m.party peer).done ≡ true
 last_acked m h at peer g n o =
     let x = m.party at in
     let y = m.party peer in
-    let t = h.told (message peer at (Ack x.number)) g.3 o in
+    let t = h.attested (message peer at (Ack x.number)) g.3 o in
     let s = h.ends peer t.is_open in
     let same = same_size m h at peer (g.0.0, t.is_open, g.2, t.peer) in
     elim (cases_Bool y.done) [
@@ -152,13 +152,13 @@ fails m h at g =
     (λ _. IsSound-moves new at old x v s s.no_peer s.begun
     (λ e p b o. let r = s.received e p b o in record { beginning = r.beginning; whole = r.whole; so_far = λ _ f. absurd (true≢false f); room = r.room })
     s.ended)
-    (told_none new)
+    (attested_none new)
 
 -- only the datagrams sent change
-pub says : (m : Machine) → Holds m → (d : Message) → (host_of d.from ≢ Elsewhere → Told (m.party d.from) d.to d.packet) → Holds (record { sent = m.sent ++ d ∷ []; party = with_end m.party d.from (m.party d.from) })
+pub says : (m : Machine) → Holds m → (d : Message) → (host_of d.from ≢ Elsewhere → Attests (m.party d.from) d.to d.packet) → Holds (record { sent = m.sent ++ d ∷ []; party = with_end m.party d.from (m.party d.from) })
 says m h d t =
     let at = d.from in
     let x = m.party at in
     let all = AllGrow-with m.party at x (Grows-same x) in
     kept m at x (d ∷ []) h (Grows-same x) (λ o. IsSound-grows m.party (with_end m.party at x) all at x (h.ends at o))
-    (one_sent (λ e. host_of e.from ≢ Elsewhere → Told (with_end m.party at x e.from) e.to e.packet) d (λ o. told_at m.party at x d.to d.packet (t o)))
+    (one_sent (λ e. host_of e.from ≢ Elsewhere → Attests (with_end m.party at x e.from) e.to e.packet) d (λ o. attested_at m.party at x d.to d.packet (t o)))

@@ -8,10 +8,10 @@ use Rattle.tftp_wire.specs.declared.packet.Request.{Request as WireRequest}
 use Rattle.tftp_file.specs.Block.{block}
 use Rattle.tftp_machine.specs.Machine.{Endpoint, At_server, Elsewhere, host_of, request_port, Packet, Request, Data, Ack, Message, Party, Machine, with_end}
 use Rattle.tftp_machine.specs.Rules.{Asks, message, Waits, taken, opened, asking, Guard, after}
-use Rattle.tftp_machine.specs.Facts.{Told, IsServing, HasAsked, Holds}
+use Rattle.tftp_machine.specs.Facts.{Attests, IsServing, HasAsked, Holds}
 use Rattle.tftp_machine.proofs.Grows.{Grows, AllGrow-with, IsServing-grows, kept}
 use Rattle.tftp_machine.proofs.Steps.{not-not, flip, own_of, received_nothing}
-use Rattle.tftp_machine.proofs.Telling.{told_one}
+use Rattle.tftp_machine.proofs.Attesting.{attested_one}
 
 pub asks : (m : Machine) → Holds m → (at : Endpoint) (write : Bool) (request : WireRequest) (text : List ℕ) → Guard (Asks at write request text) m → Holds (after (Asks at write request text) m)
 asks m h at write request text g =
@@ -30,12 +30,12 @@ asks m h at write request text g =
       received = λ s p e o. cc;
       ended = λ s d p e o. cc;
     })
-    (told_one m.party at x request_port (Request write request) (record { is_open = refl; client = refl; sender = refl; mode = refl }))
+    (attested_one m.party at x request_port (Request write request) (record { is_open = refl; client = refl; sender = refl; mode = refl }))
 
 pub opens : (m : Machine) → Holds m → (at peer : Endpoint) (write plain : Bool) (request : WireRequest) (text : List ℕ) (size number : ℕ) →
     (m.party at).is_open ≡ false → host_of at ≡ At_server → Contains m.sent (message peer request_port (Request write request)) → 0 < size →
     (plain ≡ true → size ≡ DEFAULT_BLOCK) → (plain ≡ false → number ≡ 0) → (write ≡ true → (text ≡ []) × (number ≡ 0)) →
-    (k : Packet) → Told (opened plain peer write request text size number) peer k →
+    (k : Packet) → Attests (opened plain peer write request text size number) peer k →
     Holds (record { sent = m.sent ++ message at peer k ∷ []; party = with_end m.party at (opened plain peer write request text size number) })
 opens m h at peer write plain request text size number closed server asks_so positive small begins empty k t =
     let x = opened plain peer write request text size number in
@@ -51,7 +51,7 @@ opens m h at peer write plain request text size number closed server asks_so pos
       has_peer = λ c. (peer, refl);
       asked = λ c p e o.
           let same : peer ≡ p = cc in
-          let asked_by = h.told (message peer request_port (Request write request)) asks_so (rw same o) in
+          let asked_by = h.attested (message peer request_port (Request write request)) asks_so (rw same o) in
           let grown = (all.grows peer asked_by.is_open) in
           subst (λ (q : Endpoint). HasAsked x (new q)) same
           (record { is_open = grown.is_open; client = grown.client ∙ asked_by.client; mode = grown.mode ∙ asked_by.mode; sender = grown.sender ∙ (asked_by.sender ∙ sym (not-not write)) });
@@ -60,15 +60,15 @@ opens m h at peer write plain request text size number closed server asks_so pos
       received = λ s p e o. let w : write ≡ true = sym (not-not write) ∙ ap not s in received_nothing x (new p) (empty w).0 (empty w).1 refl;
       ended = λ s d p e o. cc;
     })
-    (told_one m.party at x peer k t)
+    (attested_one m.party at x peer k t)
 
 -- a waiting client accepts this peer and size
 pub takes : (m : Machine) → Holds m → (at peer : Endpoint) (size : ℕ) → Waits (m.party at) peer →
     (m.party peer).is_open ≡ true → (m.party peer).client ≡ false → (m.party peer).peer ≡ Some at → (m.party peer).size ≡ size →
     (added : List Message) →
-    ((d : Message) → Contains added d → host_of d.from ≢ Elsewhere → Told (with_end m.party at (taken (m.party at) peer size) d.from) d.to d.packet) →
+    ((d : Message) → Contains added d → host_of d.from ≢ Elsewhere → Attests (with_end m.party at (taken (m.party at) peer size) d.from) d.to d.packet) →
     Holds (record { sent = m.sent ++ added; party = with_end m.party at (taken (m.party at) peer size) })
-takes m h at peer size w opens_there client back sized added told =
+takes m h at peer size w opens_there client back sized added attested =
     let old = m.party at in
     let x = taken old peer size in
     let s = h.ends at w.0.0 in
@@ -104,11 +104,11 @@ takes m h at peer size w opens_there client back sized added told =
       received = λ z p e u. received_nothing x (new p) (none.2 z) (rw z refl) none.1;
       ended = λ z d p e u. absurd (true≢false (sym d ∙ none.1));
     })
-    told
+    attested
 
 -- the first datagram of a client that has accepted its peer
-pub told_first : (x : Party) (peer : Endpoint) (size : ℕ) → x.is_open ≡ true → x.client ≡ true → Told (taken x peer size) peer (if x.sender then Data 1 (block x.text size 1) else Ack 0)
-told_first x peer size o c =
-    cond_both x.sender (Data 1 (block x.text size 1)) (Ack 0) (λ (k : Packet). Told (taken x peer size) peer k)
+pub attested_first : (x : Party) (peer : Endpoint) (size : ℕ) → x.is_open ≡ true → x.client ≡ true → Attests (taken x peer size) peer (if x.sender then Data 1 (block x.text size 1) else Ack 0)
+attested_first x peer size o c =
+    cond_both x.sender (Data 1 (block x.text size 1)) (Ack 0) (λ (k : Packet). Attests (taken x peer size) peer k)
     (λ e. record { is_open = o; sender = e; peer = refl; first = omega arith; number = rw e (omega arith); bytes = refl })
     (λ e. record { is_open = o; sender = e; peer = refl; number = omega arith; plain = λ _ f. absurd (true≢false (sym c ∙ f)) })

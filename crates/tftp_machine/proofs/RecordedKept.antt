@@ -42,7 +42,7 @@ kept m a x added h r same now first =
       ];
       first = λ y p own i. elim (Contains-append_cases m.sent added (message y p (Ack 0)) i) [
         | inl old ↦ let f = r.first y p own old in
-            let t = h.told (message y p (Ack 0)) old own in
+            let t = h.attested (message y p (Ack 0)) old own in
             let g : IsFirstAck all y (m.party y) p = (f.0, λ c. Contains-append_left m.sent added (message p y (Oack (m.party y).size)) (f.1 c)) in
             elim (cases_same y a) [
               | inl e ↦ let is : new y ≡ x = ap new e ∙ with_at m.party a x in

@@ -4,7 +4,7 @@ use Rattle.std.specs.Prelude.{◌≢◌}
 use Rattle.std.proofs.lemmas.Bool.{true≢false}
 use Rattle.tftp_machine.specs.Machine.{Endpoint, Elsewhere, host_of, Machine, start}
 use Rattle.tftp_machine.specs.Rules.{Rule, IsLegal, run, after}
-use Rattle.tftp_machine.specs.Facts.{Told, Holds}
+use Rattle.tftp_machine.specs.Facts.{Attests, Holds}
 use Rattle.tftp_machine.specs.MachineSafety.{IsSafeMachine}
 use Rattle.tftp_machine.proofs.Grows.{peer_of}
 use Rattle.tftp_machine.proofs.Steps.{none_sent, same_size}
@@ -13,7 +13,7 @@ use Rattle.tftp_machine.proofs.Keeps.{keeps}
 pub Holds-start : Holds start
 Holds-start = record {
   ends = λ a o. absurd (true≢false (sym o));
-  told = none_sent (λ d. host_of d.from ≢ Elsewhere → Told (start.party d.from) d.to d.packet);
+  attested = none_sent (λ d. host_of d.from ≢ Elsewhere → Attests (start.party d.from) d.to d.packet);
 }
 
 pub Holds-run : (rules : List Rule) (m : Machine) → Holds m → IsLegal rules m → Holds (run rules m)

@@ -10,19 +10,19 @@ use Rattle.tftp_wire.specs.declared.packet.Packet.{Packet as WirePacket}
 use Rattle.tftp_wire.specs.declared.packet.Request.{Request as WireRequest}
 use Rattle.tftp_machine.specs.Facts.{Holds}
 use Rattle.tftp_machine.specs.Recorded.{AreRecorded}
-use Rattle.tftp_machine.specs.Rules.{Rule, Asks, Opens_plainly, Opens_with, Says_error, Repeats, Strays, actor, MayAct, Guard, OpensAnew, AreOver, packets, party_after, after, IsLegal, run}
-use Rattle.tftp_machine.specs.Shows.{EndView, party_of, Matches, requested, answered_by, IsInService, Shows, IsShownAt, IsShownWithin, IsShown, ActInTurn, party_then, sent_by, Opens, Speaks, NoneAnswers, AsksAnew}
+use Rattle.tftp_machine.specs.Rules.{Rule, Asks, Opens_plainly, Opens_with, Says_error, Repeats, Strays, actor, MayAct, Guard, OpensNoDuplicate, AreOver, packets, party_after, after, IsLegal, run}
+use Rattle.tftp_machine.specs.Shows.{EndView, party_of, Matches, requested, answered_by, IsInService, Shows, IsShownAt, IsShownWithin, IsShown, ActInTurn, party_then, sent_by, Opens, Speaks, NoneAnswers, AsksUnanswered}
 use Rattle.tftp_machine.proofs.Acting.{Unshown, with_unshown, KeepsOn, act_in_turn}
 use Rattle.tftp_machine.proofs.Endpoints.{cases_same}
 use Rattle.tftp_machine.proofs.Grows.{with_at, with_other}
-use Rattle.tftp_machine.proofs.Places.{slice_get-set_cases, slice_get-set_same, slice_get-set_other, slice_get-push_cases, slice_get-push_old, slice_get-push_new}
+use Rattle.tftp_machine.proofs.Indices.{slice_get-set_cases, slice_get-set_same, slice_get-set_other, slice_get-push_cases, slice_get-push_old, slice_get-push_new}
 use Rattle.tftp_machine.proofs.RecordedKept.{recorded_run, recorded_start}
 use Rattle.tftp_machine.proofs.Runs.{Holds-start, Holds-run, run_then, legal_then}
 use Rattle.tftp_machine.proofs.Steps.{not-not}
 
 -- the view of an end that did not fail has all of its party but `plain` and the request
-told_all : (e : EndView) (x : Party) → Matches e x → x.text ≡ e.text → x ≡ with_unshown (record { plain = x.plain; request = x.request }) (party_of e)
-told_all e x m t = λ i. record {
+view_is_whole : (e : EndView) (x : Party) → Matches e x → x.text ≡ e.text → x ≡ with_unshown (record { plain = x.plain; request = x.request }) (party_of e)
+view_is_whole e x m t = λ i. record {
   is_open = m.is_open i;
   client = m.client i;
   sender = m.sender i;
@@ -114,7 +114,7 @@ shown_acts first views messages k e f rs shown at alive turns same asks matches 
     let a = e.address in
     let here = s.ends k e at in
     let x = m.party a in
-    let acted = act_in_turn rs a messages m (record { plain = x.plain; request = x.request }) (party_of e) here.0.is_open (told_all e x here.0 (same_text e x here.0 alive)) (λ d i. subst (λ (ds : List Message). Contains ds d) (sym s.sent) i) turns in
+    let acted = act_in_turn rs a messages m (record { plain = x.plain; request = x.request }) (party_of e) here.0.is_open (view_is_whole e x here.0 (same_text e x here.0 alive)) (λ d i. subst (λ (ds : List Message). Contains ds d) (sym s.sent) i) turns in
     let n = run rs m in
     let w = acted.1 in
     let now : Matches f (n.party a) = subst (λ (y : Party). Matches f y) (sym w.here.1) (match_unshown f w.here.0 (party_then rs (party_of e)) matches) in
@@ -239,24 +239,24 @@ all_over views messages m s peer write request none a by = one_over (cases_Bool 
       none there.0 e there.2 (record { serving = busy; peer_is = sym t.peer ∙ by.peer_is; spells = subst (λ (p : WirePacket). Spells p e.request) same says })
       )
 
-opens_anew : (views : List EndView) (messages : List Message) (m : Machine) (r : Rule) (bytes : List ℕ) → Shows views messages m → Opens r → AsksAnew r bytes views → OpensAnew r m
-opens_anew views messages m (Asks at write request text) bytes s o h = tt
-opens_anew views messages m (Opens_plainly at peer write request text) bytes s o h = all_over views messages m s peer write request h.1
-opens_anew views messages m (Opens_with at peer write request text size) bytes s o h = all_over views messages m s peer write request h.1
-opens_anew views messages m r bytes s o h = absurd o
+opens_no_duplicate : (views : List EndView) (messages : List Message) (m : Machine) (r : Rule) (bytes : List ℕ) → Shows views messages m → Opens r → AsksUnanswered r bytes views → OpensNoDuplicate r m
+opens_no_duplicate views messages m (Asks at write request text) bytes s o h = tt
+opens_no_duplicate views messages m (Opens_plainly at peer write request text) bytes s o h = all_over views messages m s peer write request h.1
+opens_no_duplicate views messages m (Opens_with at peer write request text size) bytes s o h = all_over views messages m s peer write request h.1
+opens_no_duplicate views messages m r bytes s o h = absurd o
 
 -- a new end of the server answers its request
 answers_so : (write : Bool) (request : WireRequest) (bytes : List ℕ) → Spells (requested write request) bytes → Spells (requested (not (not write)) request) bytes
 answers_so write request bytes s = subst (λ (b : Bool). Spells (requested b request) bytes) (sym (not-not write)) s
 
-new_answer : (views : List EndView) (f : EndView) (r : Rule) → Opens r → AsksAnew r f.request views → Matches f (party_after r nobody) → IsInService f → Spells (answered_by (party_after r nobody)) f.request
+new_answer : (views : List EndView) (f : EndView) (r : Rule) → Opens r → AsksUnanswered r f.request views → Matches f (party_after r nobody) → IsInService f → Spells (answered_by (party_after r nobody)) f.request
 new_answer views f (Asks at write request text) o h t busy = absurd (true≢false (t.client ∙ busy.0))
 new_answer views f (Opens_plainly at peer write request text) o h t busy = answers_so write request f.request h.0
 new_answer views f (Opens_with at peer write request text size) o h t busy = answers_so write request f.request h.0
 new_answer views f r o h t busy = absurd o
 
 pub shown_opens : (first : List Rule) (views : List EndView) (messages : List Message) (f : EndView) (r : Rule) → IsShownAt first views messages → Opens r → MayAct r messages nobody →
-    f.address ≡ actor r → f.address.port ≡ 1024 + length views → Matches f (party_after r nobody) → AsksAnew r f.request views →
+    f.address ≡ actor r → f.address.port ≡ 1024 + length views → Matches f (party_after r nobody) → AsksUnanswered r f.request views →
     IsShownWithin 1 first (views ++ f ∷ []) (messages ++ packets r nobody)
 shown_opens first views messages f r shown opening may same port matches asks =
     let m = run first start in
@@ -270,7 +270,7 @@ shown_opens first views messages f r shown opening may same port matches asks =
     let here : n.party f.address ≡ party_after r nobody = ap n.party same ∙ (with_at m.party a (party_after r x) ∙ alike.0) in
     let apart : (j : ℕ) (y : EndView) → slice_get views j ≡ Some y → y.address ≢ a = λ j y i q.
     (let p : y.address.port ≡ f.address.port = ap (λ (c : Endpoint). c.port) (q ∙ sym same) in let c = (s.ends j y i).1 in let l = slice_get_within views j y i in omega arith) in
-    shown_after first (views ++ f ∷ []) (messages ++ packets r nobody) shown.0 (r ∷ []) (guard, opens_anew views messages m r f.request s opening asks, tt)
+    shown_after first (views ++ f ∷ []) (messages ++ packets r nobody) shown.0 (r ∷ []) (guard, opens_no_duplicate views messages m r f.request s opening asks, tt)
     (record {
       sent = ap (λ (ds : List Message). ds ++ packets r x) s.sent ∙ ap (λ (ds : List Message). messages ++ ds) alike.1;
       ends = λ j y i. elim (slice_get-push_cases views j f y i) [
@@ -297,7 +297,7 @@ may_speak (Repeats old) o sent x h = h
 may_speak (Strays stray) o sent x h = h
 may_speak r o sent x h = absurd o
 
-speaks_none : (r : Rule) → Speaks r → (m : Machine) → OpensAnew r m
+speaks_none : (r : Rule) → Speaks r → (m : Machine) → OpensNoDuplicate r m
 speaks_none (Says_error at to) o m = tt
 speaks_none (Repeats old) o m = tt
 speaks_none (Strays stray) o m = tt

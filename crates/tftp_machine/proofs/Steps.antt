@@ -105,7 +105,7 @@ pub record GoesOn (x y : Party) (piece : List ℕ) : Type 0 where
 pub next_block : (m : Machine) → Holds m → (at peer : Endpoint) (bytes : List ℕ) → IsNext m.sent (m.party at) at peer bytes → host_of peer ≢ Elsewhere → GoesOn (m.party at) (m.party peer) bytes
 next_block m h at peer bytes g o =
     let x = m.party at in
-    let t = h.told (message peer at (Data (x.number + 1) bytes)) g.3 o in
+    let t = h.attested (message peer at (Data (x.number + 1) bytes)) g.3 o in
     let s = h.ends at g.0.0 in
     let r = s.received g.1 peer g.2 o in
     let e = same_size m h at peer (g.0.0, t.is_open, g.2, t.peer) in

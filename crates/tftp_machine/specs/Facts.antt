@@ -14,15 +14,15 @@ home true = At_client
 home false = At_server
 
 -- what a datagram to `to` implies for the end x that sent it
-abbrev pub Told : Party → Endpoint → Packet → Type 0
-Told x to (Request write request) =
+abbrev pub Attests : Party → Endpoint → Packet → Type 0
+Attests x to (Request write request) =
     record {
       is_open : x.is_open ≡ true;
       client : x.client ≡ true;
       sender : x.sender ≡ write;
       mode : x.mode ≡ request.mode;
     }
-Told x to (Data n bytes) =
+Attests x to (Data n bytes) =
     record {
       is_open : x.is_open ≡ true;
       sender : x.sender ≡ true;
@@ -31,7 +31,7 @@ Told x to (Data n bytes) =
       number : n ≤ x.number;
       bytes : bytes ≡ block x.text x.size n;
     }
-Told x to (Ack n) =
+Attests x to (Ack n) =
     record {
       is_open : x.is_open ≡ true;
       sender : x.sender ≡ false;
@@ -39,7 +39,7 @@ Told x to (Ack n) =
       number : n ≤ x.number;
       plain : n ≡ 0 → x.client ≡ false → x.plain ≡ true;
     }
-Told x to (Oack size) =
+Attests x to (Oack size) =
     record {
       is_open : x.is_open ≡ true;
       client : x.client ≡ false;
@@ -47,7 +47,7 @@ Told x to (Oack size) =
       peer : x.peer ≡ Some to;
       size : x.size ≡ size;
     }
-Told x to Error = Unit {0}
+Attests x to Error = Unit {0}
 
 -- y is the peer of x, the client at this endpoint
 pub record IsServing (a : Endpoint) (x y : Party) : Type 0 where
@@ -102,5 +102,5 @@ pub record IsSoundParty (ends : Endpoint → Party) (a : Endpoint) (x : Party) :
 -- every open end is sound, and every datagram from the two hosts is true of its sender
 pub record Holds (m : Machine) : Type 0 where
   pub ends : (a : Endpoint) → (m.party a).is_open ≡ true → IsSoundParty m.party a (m.party a)
-  pub told : (d : Message) → Contains m.sent d → host_of d.from ≢ Elsewhere →
-      Told (m.party d.from) d.to d.packet
+  pub attested : (d : Message) → Contains m.sent d → host_of d.from ≢ Elsewhere →
+      Attests (m.party d.from) d.to d.packet

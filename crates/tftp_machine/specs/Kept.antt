@@ -4,7 +4,7 @@ use Rattle.std.specs.Prelude.{Some}
 use Rattle.tftp_machine.specs.Machine.{Message, nobody}
 use Rattle.tftp_machine.specs.Rules.{Rule, actor, MayAct, packets, party_after}
 use Rattle.tftp_machine.specs.Shows.{EndView, party_of, Matches, IsShownAt, IsShownWithin}
-use Rattle.tftp_machine.specs.Shows.{ActInTurn, party_then, sent_by, Opens, Speaks, AsksAnew}
+use Rattle.tftp_machine.specs.Shows.{ActInTurn, party_then, sent_by, Opens, Speaks, AsksUnanswered}
 
 -- a step of one end is shown, if it is the result of rules of that end that may act in sequence, by
 -- the view of the end and the datagrams sent
@@ -25,7 +25,7 @@ EndsOpen =
     (rule : Rule) →
     IsShownAt first views messages → Opens rule → MayAct rule messages nobody →
     f.address ≡ actor rule → f.address.port ≡ 1024 + length views →
-    Matches f (party_after rule nobody) → AsksAnew rule f.request views →
+    Matches f (party_after rule nobody) → AsksUnanswered rule f.request views →
     IsShownWithin 1 first (views ++ f ∷ []) (messages ++ packets rule nobody)
 
 -- a datagram that changes no end is shown

@@ -222,15 +222,15 @@ AreOver m peer write request =
     → ((m.party a).done ≡ true) ⊎ ((m.party a).failed ≡ true)
 
 -- a request opens an end only if every end that it opened before is done or failed
-abbrev pub OpensAnew : Rule → Machine → Type 0
-OpensAnew (Opens_plainly at peer write request text) m = AreOver m peer write request
-OpensAnew (Opens_with at peer write request text size) m = AreOver m peer write request
-OpensAnew r m = Unit {0}
+abbrev pub OpensNoDuplicate : Rule → Machine → Type 0
+OpensNoDuplicate (Opens_plainly at peer write request text) m = AreOver m peer write request
+OpensNoDuplicate (Opens_with at peer write request text size) m = AreOver m peer write request
+OpensNoDuplicate r m = Unit {0}
 
 -- each rule may act in its turn
 abbrev pub IsLegal : List Rule → Machine → Type 0
 IsLegal [] m = Unit {0}
-IsLegal (r ∷ rs) m = Guard r m × OpensAnew r m × IsLegal rs (after r m)
+IsLegal (r ∷ rs) m = Guard r m × OpensNoDuplicate r m × IsLegal rs (after r m)
 
 -- the machine, after the rules
 abbrev pub run : List Rule → Machine → Machine

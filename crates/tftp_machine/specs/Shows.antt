@@ -159,9 +159,9 @@ NoneAnswers views peer packet =
 
 -- a rule that opens an end at the server does so by a request that these bytes spell and that no
 -- end answers
-abbrev pub AsksAnew : Rule → List ℕ → List EndView → Type 0
-AsksAnew (Opens_plainly at peer write request text) bytes views =
+abbrev pub AsksUnanswered : Rule → List ℕ → List EndView → Type 0
+AsksUnanswered (Opens_plainly at peer write request text) bytes views =
     Spells (requested write request) bytes × NoneAnswers views peer (requested write request)
-AsksAnew (Opens_with at peer write request text size) bytes views =
+AsksUnanswered (Opens_with at peer write request text size) bytes views =
     Spells (requested write request) bytes × NoneAnswers views peer (requested write request)
-AsksAnew rule bytes views = Unit {0}
+AsksUnanswered rule bytes views = Unit {0}

@@ -83,11 +83,11 @@ impl Served {
             }
             answer => answer?,
         };
-        self.tells(rt, opened)
+        self.prints(rt, opened)
     }
 
     /// Prints what a request opened, and the bytes sent.
-    fn tells(&self, rt: &HostRuntime, opened: Opened) -> Result<()> {
+    fn prints(&self, rt: &HostRuntime, opened: Opened) -> Result<()> {
         let mut text = String::new(self.alloc);
         append_bytes(&mut text, &self.out)?;
         println!(rt; "{:?} {text}", opened.tid)?;

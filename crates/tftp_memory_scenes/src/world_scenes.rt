@@ -33,7 +33,7 @@ impl Move {
         match self {
             Move::Get => String::from_str(alloc, "get a"),
             Move::Put(byte) => format!(in alloc; "put n {byte:02x}"),
-            Move::Deliver(place) => format!(in alloc; "deliver {place}"),
+            Move::Deliver(index) => format!(in alloc; "deliver {index}"),
             Move::Look => String::from_str(alloc, "look"),
         }
     }
@@ -54,7 +54,7 @@ impl Move {
                 asked: Asked::default(),
                 bytes: Bytes::from_slice(alloc, &[byte])?,
             })),
-            Move::Deliver(place) => Ok(Some(Event::Deliver(place))),
+            Move::Deliver(index) => Ok(Some(Event::Deliver(index))),
             Move::Look => Ok(None),
         }
     }
@@ -175,14 +175,14 @@ impl Played {
                 was_refused(rt, &before, &self.seen()?)?;
                 self.does_again(rt, next)
             }
-            answer => tells(rt, answer?),
+            answer => prints(rt, answer?),
         }
     }
 
     /// Makes the same move again.
     fn does_again(&mut self, rt: &HostRuntime, next: Move) -> Result<()> {
         match next.event(self.alloc)? {
-            Some(event) => tells(rt, self.world.apply(event)?),
+            Some(event) => prints(rt, self.world.apply(event)?),
             None => Ok(()),
         }
     }
@@ -201,8 +201,8 @@ impl Played {
     /// the file.
     fn seen(&self) -> Result<String> {
         let mut text = String::new(self.alloc);
-        for (place, sent) in self.world.sent().iter().enumerate() {
-            write!(text, "#{place} {} > {} ", sent.from, sent.to)?;
+        for (index, sent) in self.world.sent().iter().enumerate() {
+            write!(text, "#{index} {} > {} ", sent.from, sent.to)?;
             append_bytes(&mut text, sent.bytes.as_slice())?;
             text.push('\n')?;
         }
@@ -230,12 +230,12 @@ impl Played {
 }
 
 /// Prints the report of an event.
-fn tells(rt: &HostRuntime, report: Report) -> Result<()> {
+fn prints(rt: &HostRuntime, report: Report) -> Result<()> {
     match (report.added, report.closed) {
-        (Some(place), Some((port, outcome))) => {
-            println!(rt; "#{place}, closed {port} {outcome}")?;
+        (Some(index), Some((port, outcome))) => {
+            println!(rt; "#{index}, closed {port} {outcome}")?;
         }
-        (Some(place), None) => println!(rt; "#{place}")?,
+        (Some(index), None) => println!(rt; "#{index}")?,
         (None, Some((port, outcome))) => println!(rt; "closed {port} {outcome}")?,
         (None, None) => println!(rt; "nothing")?,
     }

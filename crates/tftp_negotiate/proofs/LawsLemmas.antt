@@ -22,14 +22,14 @@ use Rattle.tftp_negotiate.specs.declared.refusal.Refusal.{Refusal}
 use Rattle.tftp_negotiate.specs.declared.refusal.Refusal.TheVariants.{Repeated}
 use Rattle.tftp_negotiate.specs.Options.{name_of, number_of, name_text}
 use Rattle.tftp_negotiate.specs.Ranges.{IsBlockSize, IsTimeout}
-use Rattle.tftp_negotiate.specs.Negotiation.{same_name, is_name, places_of, AreOnce, repeats, kept_before, each_judged, negotiated}
+use Rattle.tftp_negotiate.specs.Negotiation.{same_name, is_name, occurrences_of, AreOnce, repeats, kept_before, each_judged, negotiated}
 use Rattle.tftp_negotiate.specs.Asked.{IsFor, asked_tsize, asked_value, request_tsize, option_of, option_if, asked_options}
 use Rattle.tftp_negotiate.specs.Agreed.{name_of_known, IsAgreeable, count_of, IsAgreement, size, known_option, agreed_options}
 use Rattle.tftp_negotiate.specs.Answer.{answered, answered_option, answered_blksize, answered_timeout, answered_tsize}
 use Rattle.tftp_negotiate.specs.Agreement.{taken, taken_option, taken_blksize, taken_timeout, taken_tsize}
 use Rattle.tftp_negotiate.specs.Laws.{NumbersArePrinted, EndsAgree, LengthsFit, Requests, IsWithinRequest, AnswersWithinRequest, WasAsked, IsWithinAsked, TakesNothingUnasked, AnswersMayBeAgreed, TakenMayBeAgreed, AgreementsAreShort, AgreementsHaveBlockSizes}
 use Rattle.tftp_negotiate.proofs.OptionsLemmas.{number_of-decimal, decimal-number_of, both_parts}
-use Rattle.tftp_negotiate.proofs.NegotiationLemmas.{Keeps, places_of-nil, places_of-cons, count_of-cons, repeats_none, IsAgreement-from_judged}
+use Rattle.tftp_negotiate.proofs.NegotiationLemmas.{Keeps, occurrences_of-nil, occurrences_of-cons, count_of-cons, repeats_none, IsAgreement-from_judged}
 use Rattle.tftp_negotiate.proofs.PolicyLemmas.{answered_option-Keeps, taken_option-Keeps, cond_ok, block_size_from_test}
 
 pub numbers_are_printed : NumbersArePrinted
@@ -291,13 +291,13 @@ name_of-known_option (Blksize n) = name_of-name_text name.Blksize
 name_of-known_option (Timeout n) = name_of-name_text name.Timeout
 name_of-known_option (Tsize n) = name_of-name_text name.Tsize
 
-places_of-agreed : (nm : Name) (ks : List Known) → places_of nm (agreed_options ks) ≡ count_of nm ks
-places_of-agreed nm [] = places_of-nil nm
-places_of-agreed nm (k ∷ ks) =
+occurrences_of-agreed : (nm : Name) (ks : List Known) → occurrences_of nm (agreed_options ks) ≡ count_of nm ks
+occurrences_of-agreed nm [] = occurrences_of-nil nm
+occurrences_of-agreed nm (k ∷ ks) =
     let one : Option Name → ℕ = λ a. cond (is_name nm a) 1 0 in
     let here = ap one (name_of-known_option k) in
-    let there = places_of-agreed nm ks in
-    let p = places_of-cons nm (known_option k) (agreed_options ks) in
+    let there = occurrences_of-agreed nm ks in
+    let p = occurrences_of-cons nm (known_option k) (agreed_options ks) in
     let c = count_of-cons nm k ks in
     omega (arith, here, there, p, c)
 
@@ -310,12 +310,12 @@ each_once ks h name.Timeout = (once_each (count_of name.Blksize ks) _ (count_of 
 each_once ks h name.Tsize = (once_each (count_of name.Blksize ks) (count_of name.Timeout ks) _ h.once).2
 
 agreed-once : (ks : List Known) → IsAgreement ks → AreOnce (agreed_options ks)
-agreed-once ks h nm = subst (λ n. n ≤ 1) (sym (places_of-agreed nm ks)) (each_once ks h nm)
+agreed-once ks h nm = subst (λ n. n ≤ 1) (sym (occurrences_of-agreed nm ks)) (each_once ks h nm)
 
 once_from_repeats : (os : List RawOption) → repeats os ≡ false → AreOnce os
-once_from_repeats os h name.Blksize = (once_each (places_of name.Blksize os) (places_of name.Timeout os) (places_of name.Tsize os) h).0
-once_from_repeats os h name.Timeout = (once_each (places_of name.Blksize os) (places_of name.Timeout os) (places_of name.Tsize os) h).1
-once_from_repeats os h name.Tsize = (once_each (places_of name.Blksize os) (places_of name.Timeout os) (places_of name.Tsize os) h).2
+once_from_repeats os h name.Blksize = (once_each (occurrences_of name.Blksize os) (occurrences_of name.Timeout os) (occurrences_of name.Tsize os) h).0
+once_from_repeats os h name.Timeout = (once_each (occurrences_of name.Blksize os) (occurrences_of name.Timeout os) (occurrences_of name.Tsize os) h).1
+once_from_repeats os h name.Tsize = (once_each (occurrences_of name.Blksize os) (occurrences_of name.Timeout os) (occurrences_of name.Tsize os) h).2
 
 pub ends_agree : EndsAgree
 ends_agree asked kind mode client_length length limit limits known ok t max h =

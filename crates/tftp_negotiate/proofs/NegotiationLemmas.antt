@@ -14,30 +14,30 @@ use Rattle.tftp_negotiate.specs.declared.refusal.Refusal.{Refusal}
 use Rattle.tftp_negotiate.specs.declared.refusal.Refusal.TheVariants.{Repeated}
 use Rattle.tftp_negotiate.specs.Options.{name_of}
 use Rattle.tftp_negotiate.specs.Names.{has, has_name, with_name}
-use Rattle.tftp_negotiate.specs.Negotiation.{same_name, is_name, places_of, AreOnce, repeats, kept_before, kept_after, each_judged, negotiated}
+use Rattle.tftp_negotiate.specs.Negotiation.{same_name, is_name, occurrences_of, AreOnce, repeats, kept_before, kept_after, each_judged, negotiated}
 use Rattle.tftp_negotiate.specs.Agreed.{name_of_known, IsAgreeable, IsAgreement, count_of}
 
 -- whether the option has the name: 1 or 0
-abbrev pub place : Name → RawOption → ℕ
-place name o = cond (is_name name (name_of o.name)) 1 0
+abbrev pub occurrence : Name → RawOption → ℕ
+occurrence name o = cond (is_name name (name_of o.name)) 1 0
 
-pub places_of-nil : (name : Name) → places_of name [] ≡ 0
-unfolding places_of
-places_of-nil name = refl
+pub occurrences_of-nil : (name : Name) → occurrences_of name [] ≡ 0
+unfolding occurrences_of
+occurrences_of-nil name = refl
 
-pub places_of-cons : (name : Name) (o : RawOption) (os : List RawOption) → places_of name (o ∷ os) ≡ place name o + places_of name os
-unfolding places_of
-places_of-cons name o os =
-    sum_by-append (λ x. place name x) (o ∷ []) os ∙ ap (λ n. n + places_of name os) (zero-add (place name o))
+pub occurrences_of-cons : (name : Name) (o : RawOption) (os : List RawOption) → occurrences_of name (o ∷ os) ≡ occurrence name o + occurrences_of name os
+unfolding occurrences_of
+occurrences_of-cons name o os =
+    sum_by-append (λ x. occurrence name x) (o ∷ []) os ∙ ap (λ n. n + occurrences_of name os) (zero-add (occurrence name o))
 
 pub count_of-cons : (name : Name) (k : Known) (ks : List Known) → count_of name (k ∷ ks) ≡ cond (same_name name (name_of_known k)) 1 0 + count_of name ks
 count_of-cons name k ks =
     let f : Known → ℕ = λ x. cond (same_name name (name_of_known x)) 1 0 in
     sum_by-append f (k ∷ []) ks ∙ ap (λ n. n + count_of name ks) (zero-add (f k))
 
-pub places_of-append : (name : Name) (os others : List RawOption) → places_of name (os ++ others) ≡ places_of name os + places_of name others
-unfolding places_of
-places_of-append name os others = sum_by-append (λ x. place name x) os others
+pub occurrences_of-append : (name : Name) (os others : List RawOption) → occurrences_of name (os ++ others) ≡ occurrences_of name os + occurrences_of name others
+unfolding occurrences_of
+occurrences_of-append name os others = sum_by-append (λ x. occurrence name x) os others
 
 -- the order in which two judgements are joined makes no difference
 join_assoc : (first : Result (Option Known) Refusal) (middle : Result (List Known) Refusal) (last : Result (Option Known) Refusal) → kept_before first (kept_after middle last) ≡ kept_after (kept_before first middle) last
@@ -68,7 +68,7 @@ none_twice : (a b c : ℕ) → a ≤ 1 → b ≤ 1 → c ≤ 1 → (nat_lt 1 a |
 none_twice a b c p q r = grind (arith, nat_tests)
 
 pub repeats_none : (os : List RawOption) → AreOnce os → repeats os ≡ false
-repeats_none os h = none_twice (places_of Blksize os) (places_of Timeout os) (places_of Tsize os) (h Blksize) (h Timeout) (h Tsize)
+repeats_none os h = none_twice (occurrences_of Blksize os) (occurrences_of Timeout os) (occurrences_of Tsize os) (h Blksize) (h Timeout) (h Tsize)
 
 some_twice : (a b c : ℕ) → 1 < a → (nat_lt 1 a || (nat_lt 1 b || nat_lt 1 c)) ≡ true
 some_twice a b c p = grind (arith, nat_tests)
@@ -79,29 +79,29 @@ second_twice a b c p = grind (arith, nat_tests)
 third_twice : (a b c : ℕ) → 1 < c → (nat_lt 1 a || (nat_lt 1 b || nat_lt 1 c)) ≡ true
 third_twice a b c p = grind (arith, nat_tests)
 
-pub repeats_some : (name : Name) (os : List RawOption) → 1 < places_of name os → repeats os ≡ true
-repeats_some Blksize os h = some_twice (places_of Blksize os) (places_of Timeout os) (places_of Tsize os) h
-repeats_some Timeout os h = second_twice (places_of Blksize os) (places_of Timeout os) (places_of Tsize os) h
-repeats_some Tsize os h = third_twice (places_of Blksize os) (places_of Timeout os) (places_of Tsize os) h
+pub repeats_some : (name : Name) (os : List RawOption) → 1 < occurrences_of name os → repeats os ≡ true
+repeats_some Blksize os h = some_twice (occurrences_of Blksize os) (occurrences_of Timeout os) (occurrences_of Tsize os) h
+repeats_some Timeout os h = second_twice (occurrences_of Blksize os) (occurrences_of Timeout os) (occurrences_of Tsize os) h
+repeats_some Tsize os h = third_twice (occurrences_of Blksize os) (occurrences_of Timeout os) (occurrences_of Tsize os) h
 
 module _ (judgement : RawOption → Result (Option Known) Refusal) (keeps : Keeps judgement) where
-  counts-cons : (name : Name) (o : RawOption) (os : List RawOption) (one : Result (Option Known) Refusal) (others : Result (List Known) Refusal) (ks : List Known) → judgement o ≡ one → ((js : List Known) → others ≡ Ok js → count_of name js ≤ places_of name os) → kept_before one others ≡ Ok ks → count_of name ks ≤ places_of name (o ∷ os)
+  counts-cons : (name : Name) (o : RawOption) (os : List RawOption) (one : Result (Option Known) Refusal) (others : Result (List Known) Refusal) (ks : List Known) → judgement o ≡ one → ((js : List Known) → others ≡ Ok js → count_of name js ≤ occurrences_of name os) → kept_before one others ≡ Ok ks → count_of name ks ≤ occurrences_of name (o ∷ os)
   counts-cons name o os (Err e) others ks is below h = cc
   counts-cons name o os (Ok None) others ks is below h =
-      let b = below ks h in let p = places_of-cons name o os in omega arith
+      let b = below ks h in let p = occurrences_of-cons name o os in omega arith
   counts-cons name o os (Ok (Some k)) (Err e) ks is below h = cc
   counts-cons name o os (Ok (Some k)) (Ok js) ks is below h =
       let same : k ∷ js ≡ ks = cc in
       let b = below js refl in
       let c = count_of-cons name k js in
-      let p = places_of-cons name o os in
+      let p = occurrences_of-cons name o os in
       let one : Option Name → ℕ = λ n. cond (is_name name n) 1 0 in
       let here = ap one (keeps.names o k is) in
       let whole = ap (count_of name) same in
       omega (arith, b, c, p, here, whole)
 
   -- a name occurs in the result at most as often as in the list
-  pub counts : (name : Name) (os : List RawOption) (ks : List Known) → each_judged judgement os ≡ Ok ks → count_of name ks ≤ places_of name os
+  pub counts : (name : Name) (os : List RawOption) (ks : List Known) → each_judged judgement os ≡ Ok ks → count_of name ks ≤ occurrences_of name os
   counts name [] ks h = let same : [] ≡ ks = cc in let whole = ap (count_of name) same in omega (arith, whole)
   counts name (o ∷ os) ks h = counts-cons name o os (judgement o) (each_judged judgement os) ks refl (counts name os) h
 
@@ -126,7 +126,7 @@ module _ (judgement : RawOption → Result (Option Known) Refusal) (keeps : Keep
 
 -- the state of a negotiation after these options: the names seen, none repeated, and the outcome
 pub record Reads (judgement : RawOption → Result (Option Known) Refusal) (os : List RawOption) (seen : Names) (outcome : Result (List Known) Refusal) : Type 0 where
-  pub came : (name : Name) → has seen name ≡ nat_lt 0 (places_of name os)
+  pub came : (name : Name) → has seen name ≡ nat_lt 0 (occurrences_of name os)
   pub once : AreOnce os
   pub judged : outcome ≡ each_judged judgement os
 
@@ -163,11 +163,11 @@ again seen (Some Blksize) h = (Blksize, refl, h)
 again seen (Some Timeout) h = (Timeout, refl, h)
 again seen (Some Tsize) h = (Tsize, refl, h)
 
-places_of-push : (name : Name) (os : List RawOption) (o : RawOption) → places_of name (os ++ o ∷ []) ≡ places_of name os + place name o
-places_of-push name os o =
-    let a = places_of-append name os (o ∷ []) in
-    let c = places_of-cons name o [] in
-    let n = places_of-nil name in
+occurrences_of-push : (name : Name) (os : List RawOption) (o : RawOption) → occurrences_of name (os ++ o ∷ []) ≡ occurrences_of name os + occurrence name o
+occurrences_of-push name os o =
+    let a = occurrences_of-append name os (o ∷ []) in
+    let c = occurrences_of-cons name o [] in
+    let n = occurrences_of-nil name in
     omega (arith, a, c, n)
 
 came-push : (b : Bool) (n : ℕ) → (b || nat_lt 0 n) ≡ nat_lt 0 (n + cond b 1 0)
@@ -182,8 +182,8 @@ module _ (judgement : RawOption → Result (Option Known) Refusal) where
   -- before the first option
   pub Reads-none : (seen : Names) (outcome : Result (List Known) Refusal) → ((name : Name) → has seen name ≡ false) → outcome ≡ Ok [] → Reads judgement [] seen outcome
   Reads-none seen outcome none is = record {
-    came = λ name. none name ∙ ap (nat_lt 0) (sym (places_of-nil name));
-    once = λ name. let n = places_of-nil name in omega (arith, n);
+    came = λ name. none name ∙ ap (nat_lt 0) (sym (occurrences_of-nil name));
+    once = λ name. let n = occurrences_of-nil name in omega (arith, n);
     judged = is;
   }
 
@@ -193,10 +193,10 @@ module _ (judgement : RawOption → Result (Option Known) Refusal) where
     came = λ name.
         ap (λ s. has s name) is ∙ (has-with_name seen (name_of o.name) name
         ∙ (ap (λ b. is_name name (name_of o.name) || b) (reads.came name)
-        ∙ (came-push (is_name name (name_of o.name)) (places_of name os) ∙ ap (nat_lt 0) (sym (places_of-push name os o)))));
+        ∙ (came-push (is_name name (name_of o.name)) (occurrences_of name os) ∙ ap (nat_lt 0) (sym (occurrences_of-push name os o)))));
     once = λ name.
-        let p = places_of-push name os o in
-        let n = once-push (is_name name (name_of o.name)) (places_of name os) (reads.once name) (λ e. sym (reads.came name) ∙ fresh seen (name_of o.name) name new e) in
+        let p = occurrences_of-push name os o in
+        let n = once-push (is_name name (name_of o.name)) (occurrences_of name os) (reads.once name) (λ e. sym (reads.came name) ∙ fresh seen (name_of o.name) name new e) in
         subst (λ k. k ≤ 1) (sym p) n;
     judged = kept ∙ (ap (λ r. kept_after r (judgement o)) reads.judged ∙ sym (each_judged-push judgement os o));
   }
@@ -209,10 +209,10 @@ module _ (judgement : RawOption → Result (Option Known) Refusal) where
   pub Reads-again : (os : List RawOption) (seen : Names) (outcome : Result (List Known) Refusal) (o : RawOption) (others : List RawOption) → Reads judgement os seen outcome → has_name seen (name_of o.name) ≡ true → negotiated judgement ((os ++ o ∷ []) ++ others) ≡ Err Repeated
   Reads-again os seen outcome o others reads old =
       let w = again seen (name_of o.name) old in
-      let before : 0 < places_of w.0 os = ltb-true 0 (places_of w.0 os) (sym (reads.came w.0) ∙ w.2) in
-      let here : place w.0 o ≡ 1 = ap (λ b. cond b 1 0) w.1 in
-      let p = places_of-push w.0 os o in
-      let q = places_of-append w.0 (os ++ o ∷ []) others in
+      let before : 0 < occurrences_of w.0 os = ltb-true 0 (occurrences_of w.0 os) (sym (reads.came w.0) ∙ w.2) in
+      let here : occurrence w.0 o ≡ 1 = ap (λ b. cond b 1 0) w.1 in
+      let p = occurrences_of-push w.0 os o in
+      let q = occurrences_of-append w.0 (os ++ o ∷ []) others in
       cond-true _ _ _ (repeats_some w.0 ((os ++ o ∷ []) ++ others) (omega (arith, before, here, p, q)))
 
   -- the outcome so far is an agreement

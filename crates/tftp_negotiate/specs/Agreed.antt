@@ -8,7 +8,7 @@ use Rattle.tftp_negotiate.specs.declared.name.Name.{Name}
 use Rattle.tftp_negotiate.specs.declared.name.Name.TheVariants as name
 use Rattle.tftp_negotiate.specs.declared.limits.TheConstants.{DEFAULT_BLOCK}
 use Rattle.tftp_negotiate.specs.Asked.{option_of}
-use Rattle.tftp_negotiate.specs.Negotiation.{places, stands_twice}
+use Rattle.tftp_negotiate.specs.Negotiation.{occurrences, occurs_twice}
 use Rattle.tftp_negotiate.specs.Ranges.{IsBlockSize, IsTimeout}
 
 -- the name of a known option
@@ -31,12 +31,12 @@ IsAgreeable (Tsize n) = Unit {0}
 
 -- how often a name occurs in an agreement
 abbrev pub count_of : Name → List Known → ℕ
-count_of name known = places (λ k. Some (name_of_known k)) name known
+count_of name known = occurrences (λ k. Some (name_of_known k)) name known
 
 -- each value may be agreed, and no name is repeated
 pub record IsAgreement (known : List Known) : Type 0 where
   pub values : AllByRecursion IsAgreeable known
-  pub once : stands_twice (λ name. count_of name known) ≡ false
+  pub once : occurs_twice (λ name. count_of name known) ≡ false
 
 -- the block size of a transfer, in data bytes: the default if none is agreed
 -- (RFC 1350, section 2; RFC 2348)

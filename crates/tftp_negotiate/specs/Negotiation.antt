@@ -22,25 +22,25 @@ is_name name None = false
 is_name name (Some other) = same_name name other
 
 -- how often a name occurs in a list, by the name of each element
-abbrev pub places : {A : Type 0} → (A → Option Name) → Name → List A → ℕ
-places named name xs = count_by (λ x. is_name name (named x)) xs
+abbrev pub occurrences : {A : Type 0} → (A → Option Name) → Name → List A → ℕ
+occurrences named name xs = count_by (λ x. is_name name (named x)) xs
 
 -- a known name is repeated, by the number of occurrences of each (RFC 2347, "Negotiation Protocol")
-abbrev pub stands_twice : (Name → ℕ) → Bool
-stands_twice places =
-    nat_lt 1 (places Blksize) || (nat_lt 1 (places Timeout) || nat_lt 1 (places Tsize))
+abbrev pub occurs_twice : (Name → ℕ) → Bool
+occurs_twice occurrences =
+    nat_lt 1 (occurrences Blksize) || (nat_lt 1 (occurrences Timeout) || nat_lt 1 (occurrences Tsize))
 
 -- how often a name occurs in a request or an OACK
-unfoldable pub places_of : Name → List RawOption → ℕ
-places_of name options = places (λ o. name_of o.name) name options
+unfoldable pub occurrences_of : Name → List RawOption → ℕ
+occurrences_of name options = occurrences (λ o. name_of o.name) name options
 
 -- a known name is repeated in a request or an OACK, whatever its values
 abbrev pub repeats : List RawOption → Bool
-repeats options = stands_twice (λ name. places_of name options)
+repeats options = occurs_twice (λ name. occurrences_of name options)
 
 -- no known name is repeated
 abbrev pub AreOnce : List RawOption → Type 0
-AreOnce options = (name : Name) → places_of name options ≤ 1
+AreOnce options = (name : Name) → occurrences_of name options ≤ 1
 
 -- the result of one option precedes the results of the others, and so does its refusal
 abbrev pub kept_before : Result (Option Known) Refusal → Result (List Known) Refusal

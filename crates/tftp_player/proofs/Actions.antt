@@ -70,7 +70,7 @@ match_cut a asks x t o f d b s = record {
 -- the end e is at index k of the ends that are shown
 pub record Stands (first : List Rule) (views : List EndView) (messages : List Message) (k : ℕ) (e : EndView) : Type 0 where
   pub shown : IsShownAt first views messages
-  pub place : slice_get views k ≡ Some e
+  pub viewed : slice_get views k ≡ Some e
 
 -- neither done nor failed
 abbrev pub IsGoing : EndView → Type 0
@@ -97,14 +97,14 @@ module _ (first : List Rule) (views : List EndView) (messages : List Message) (k
   -- the rules of the end act in turn
   pub goes : (rs : List Rule) → length rs ≤ 3 → e.failed ≡ false → ActInTurn rs e.address messages (party_of e) →
       IsShownWithin 3 first (set views k (view_of e.address e.request (party_then rs (party_of e)))) (messages ++ sent_by rs (party_of e))
-  goes rs few f t = acted rs few (view_of e.address e.request (party_then rs (party_of e))) (shown_acts first views messages k e (view_of e.address e.request (party_then rs (party_of e))) rs s.shown s.place f t refl refl
+  goes rs few f t = acted rs few (view_of e.address e.request (party_then rs (party_of e))) (shown_acts first views messages k e (view_of e.address e.request (party_then rs (party_of e))) rs s.shown s.viewed f t refl refl
       (match_self e.address e.request (party_then rs (party_of e)) (stays_open rs e.address messages (party_of e) refl t)))
 
   -- they act in turn and it fails, so that only a beginning of its text is shown
   pub goes_cut : (rs : List Rule) → length rs ≤ 3 → (t : List ℕ) → e.failed ≡ false → ActInTurn rs e.address messages (party_of e) →
       (party_then rs (party_of e)).failed ≡ true → (party_then rs (party_of e)).done ≡ false → IsBeginningOf t (party_then rs (party_of e)).text → ((party_then rs (party_of e)).sender ≡ true → (party_then rs (party_of e)).text ≡ t) →
       IsShownWithin 3 first (set views k (record (view_of e.address e.request (party_then rs (party_of e))) { text = t })) (messages ++ sent_by rs (party_of e))
-  goes_cut rs few t f turns failed done b same = acted rs few (record (view_of e.address e.request (party_then rs (party_of e))) { text = t }) (shown_acts first views messages k e (record (view_of e.address e.request (party_then rs (party_of e))) { text = t }) rs s.shown s.place f turns refl refl
+  goes_cut rs few t f turns failed done b same = acted rs few (record (view_of e.address e.request (party_then rs (party_of e))) { text = t }) (shown_acts first views messages k e (record (view_of e.address e.request (party_then rs (party_of e))) { text = t }) rs s.shown s.viewed f turns refl refl
       (match_cut e.address e.request (party_then rs (party_of e)) t (stays_open rs e.address messages (party_of e) refl turns) failed done b same))
 
   -- a waiting reader stores DATA 1

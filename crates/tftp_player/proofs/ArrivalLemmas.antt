@@ -52,7 +52,7 @@ module _ (from to : Endpoint) (bytes : List ℕ) (before after : PlayedServer) (
   Lost = LostAt to before.store.files after.store.files (ends_of before ps) (ends_of after ps') effect
 
   abbrev Came : ℕ → OpenEnd → Type 0
-  Came place x = DatagramAt place x from bytes before.config.overwrite before.store.files after.store.files (ends_of before ps) (ends_of after ps') effect
+  Came index x = DatagramAt index x from bytes before.config.overwrite before.store.files after.store.files (ends_of before ps) (ends_of after ps') effect
 
   ports : (sent : List Datagram) → HasPorts (old sent)
   ports sent k x e = ports_from 1024 before.held ps k x e
@@ -67,31 +67,31 @@ module _ (from to : Endpoint) (bytes : List ℕ) (before after : PlayedServer) (
   lost_report : (sent : List Datagram) → Lost → report_by sent effect ≡ no_report
   lost_report sent lost = ap (report_by sent) lost.effects
 
-  turned_as : (sent : List Datagram) (place : ℕ) (x : OpenEnd) (h : Came place x) → new sent ≡ world_after (old sent) place x h.turn h.held after.store.files
-  turned_as sent place x h =
+  turned_as : (sent : List Datagram) (index : ℕ) (x : OpenEnd) (h : Came index x) → new sent ≡ world_after (old sent) index x h.turn h.held after.store.files
+  turned_as sent index x h =
       ap (λ (e : Effect). world_of before.config (sent ++ said_by e.from e.to e.bytes) after ps') h.turns.effects
       ∙ (ap (λ (ds : List Datagram). world_of before.config (sent ++ ds) after ps') (said_is x.address h.turn.reply)
       ∙ ap (λ (xs : List WorldEnd). record (old sent) { sent = sent ++ replied x.address h.turn.reply; files = after.store.files; ends = xs }) h.turns.next)
 
-  pub step_arrives : (place : ℕ) → to.port ≡ 1024 + place → StageDatagramStep place from to bytes before after ps ps' effect → StageArrives from to bytes before after ps ps' effect
-  step_arrives place port t sent = by_case t.end t.found t.comes where
+  pub step_arrives : (index : ℕ) → to.port ≡ 1024 + index → StageDatagramStep index from to bytes before after ps ps' effect → StageArrives from to bytes before after ps ps' effect
+  step_arrives index port t sent = by_case t.end t.found t.comes where
     lands : (v : WorldState) (report : Report) → report_by sent effect ≡ report → new sent ≡ v → Arrives (old sent) from to bytes report v → Arrives (old sent) from to bytes (report_by sent effect) (new sent)
     lands v report e f a = landed (old sent) v (new sent) from to bytes report (report_by sent effect) e f a
 
-    by_case : (x : WorldEnd) → slice_get (ends_of before ps) place ≡ Some x →
-        ((end_address x ≢ to) × Lost) ⊎ ((end_address x ≡ to) × EndTakes place x from to bytes before.config.overwrite before.store.files after.store.files (ends_of before ps) (ends_of after ps') effect) →
+    by_case : (x : WorldEnd) → slice_get (ends_of before ps) index ≡ Some x →
+        ((end_address x ≢ to) × Lost) ⊎ ((end_address x ≡ to) × EndTakes index x from to bytes before.config.overwrite before.store.files after.store.files (ends_of before ps) (ends_of after ps') effect) →
         Arrives (old sent) from to bytes (report_by sent effect) (new sent)
     by_case x found (inl (differs, lost)) =
         lands (old sent) no_report (lost_report sent lost) (still sent lost)
-        (other_arrives (old sent) from to bytes place x (ports sent) away found port differs)
+        (other_arrives (old sent) from to bytes index x (ports sent) away found port differs)
     by_case (Closed_end x) found (inr (same, lost)) =
         lands (old sent) no_report (lost_report sent lost) (still sent lost)
-        (subst (λ (a : Endpoint). Arrives (old sent) from a bytes no_report (old sent)) same (closed_arrives (old sent) place x from bytes found))
+        (subst (λ (a : Endpoint). Arrives (old sent) from a bytes no_report (old sent)) same (closed_arrives (old sent) index x from bytes found))
     by_case (Open_end x) found (inr (same, h)) =
-        let v = world_after (old sent) place x h.turn h.held after.store.files in
-        lands v (report_of (old sent) x h.turn) (report_is (old sent) x h.turn effect h.turns.effects) (turned_as sent place x h)
+        let v = world_after (old sent) index x h.turn h.held after.store.files in
+        lands v (report_of (old sent) x h.turn) (report_is (old sent) x h.turn effect h.turns.effects) (turned_as sent index x h)
         (subst (λ (a : Endpoint). Arrives (old sent) from a bytes (report_of (old sent) x h.turn) v) same
-        (open_arrives (old sent) place x from bytes h.turn h.held after.store.files found h.steps h.commits))
+        (open_arrives (old sent) index x from bytes h.turn h.held after.store.files found h.steps h.commits))
 
   pub nobody_arrives : (count : ℕ) → count ≡ length ps → (to.port < 1024) ⊎ (1024 + count ≤ to.port) → after ≡ before → ps' ≡ ps → effect ≡ no_effect to → StageArrives from to bytes before after ps ps' effect
   nobody_arrives count counts none e f nothing sent =
@@ -107,23 +107,23 @@ pub asks_arrive : (from to : Endpoint) (bytes : List ℕ) (before after : Played
 asks_arrive from to bytes before after ps ps' effect e a = subst (λ (there : Endpoint). StageArrives from there bytes before after ps ps' effect) (sym e) a
 
 -- the same, with what was sent given by equations
-pub arrives_told : (config : Config) (sent : List Datagram) (from to : Endpoint) (bytes : List ℕ) (before after : PlayedServer) (ps ps' : List Player) (effect : Effect) (old : WorldState) (sent0 sent1 : List Datagram) (report : Report) →
+pub arrives_reported : (config : Config) (sent : List Datagram) (from to : Endpoint) (bytes : List ℕ) (before after : PlayedServer) (ps ps' : List Player) (effect : Effect) (old : WorldState) (sent0 sent1 : List Datagram) (report : Report) →
     before.config ≡ config → world_of config sent before ps ≡ old → StageArrives from to bytes before after ps ps' effect →
     sent0 ≡ sent → sent1 ≡ sent0 ++ said_by effect.from effect.to effect.bytes → report ≡ report_by sent0 effect →
     Arrives old from to bytes report (world_of config sent1 after ps')
-arrives_told config sent from to bytes before after ps ps' effect old sent0 sent1 report set view a same more tells =
+arrives_reported config sent from to bytes before after ps ps' effect old sent0 sent1 report set view a same more reports =
     subst (λ (w : WorldState). Arrives w from to bytes report (world_of config sent1 after ps')) view
     (subst (λ (k : Config). Arrives (world_of k sent before ps) from to bytes report (world_of k sent1 after ps')) set
-    (subst (λ (r : Report). Arrives (world_of before.config sent before ps) from to bytes r (world_of before.config sent1 after ps')) (sym (tells ∙ ap (λ (ds : List Datagram). report_by ds effect) same))
+    (subst (λ (r : Report). Arrives (world_of before.config sent before ps) from to bytes r (world_of before.config sent1 after ps')) (sym (reports ∙ ap (λ (ds : List Datagram). report_by ds effect) same))
     (subst (λ (ds : List Datagram). Arrives (world_of before.config sent before ps) from to bytes (report_by sent effect) (world_of before.config ds after ps')) (sym (more ∙ ap (λ (ds : List Datagram). ds ++ said_by effect.from effect.to effect.bytes) same)) (a sent))))
 
-pub delivers_told : (config : Config) (sent : List Datagram) (i : ℕ) (d : Datagram) (bytes : List ℕ) (before after : PlayedServer) (ps ps' : List Player) (effect : Effect) (old : WorldState) (sent0 sent1 : List Datagram) (report : Report) →
+pub delivers_reported : (config : Config) (sent : List Datagram) (i : ℕ) (d : Datagram) (bytes : List ℕ) (before after : PlayedServer) (ps ps' : List Player) (effect : Effect) (old : WorldState) (sent0 sent1 : List Datagram) (report : Report) →
     i < length sent0 → d ≡ slice_index_or sent0 i d → bytes ≡ d.bytes → before.config ≡ config → world_of config sent before ps ≡ old → StageArrives d.from d.to bytes before after ps ps' effect →
     sent0 ≡ sent → sent1 ≡ sent0 ++ said_by effect.from effect.to effect.bytes → report ≡ report_by sent0 effect →
     WorldStep old (Deliver i) report (world_of config sent1 after ps')
-delivers_told config sent i d bytes before after ps ps' effect old sent0 sent1 report within reads own set view a same more tells =
+delivers_reported config sent i d bytes before after ps ps' effect old sent0 sent1 report within reads own set view a same more reports =
     let there = subst (λ (w : WorldState). slice_get w.sent i ≡ Some d) view (subst (λ (ds : List Datagram). slice_get ds i ≡ Some d) same (list_get sent0 i d within reads)) in
-    let l = arrives_told config sent d.from d.to d.bytes before after ps ps' effect old sent0 sent1 report set view (subst (λ (bs : List ℕ). StageArrives d.from d.to bs before after ps ps' effect) own a) same more tells in
+    let l = arrives_reported config sent d.from d.to d.bytes before after ps ps' effect old sent0 sent1 report set view (subst (λ (bs : List ℕ). StageArrives d.from d.to bs before after ps ps' effect) own a) same more reports in
     (d, there, l)
 
 -- and why an arrival is refused

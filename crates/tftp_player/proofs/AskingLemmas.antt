@@ -36,8 +36,8 @@ use Rattle.tftp_player.specs.declared.served.Served.{Served}
 use Rattle.tftp_player.proofs.HeldLemmas.{AreBelow, AreBelow-with_new, AllKeys-with_new, IsRising-with_new, with_new-last, at-with_new, at-with_new_other}
 use Rattle.tftp_player.proofs.OpenedLemmas.{ends_push, records_push}
 use Rattle.tftp_player.proofs.OwnedLemmas.{AllOwned, pushed_owned}
-use Rattle.tftp_player.proofs.PlacedEnds.{told-same, kept-push, transfers-push}
-use Rattle.tftp_machine.proofs.Places.{slice_get-push_new}
+use Rattle.tftp_player.proofs.EndsByPort.{mapped-same, kept-push, transfers-push}
+use Rattle.tftp_machine.proofs.Indices.{slice_get-push_new}
 use Rattle.tftp_player.proofs.PlayLemmas.{ends_length, to_kept, from_kept}
 use Rattle.tftp_player.proofs.PortLemmas.{OpensFor, PortOpened, PortRefused, PortSilent, opens_asks, port_opened, port_not_opened, service_opens}
 use Rattle.tftp_player.proofs.RepeatedLemmas.{repeated_is}
@@ -141,12 +141,12 @@ module _ (from : Endpoint) (bytes : List ℕ) (before : PlayedServer) (ps : List
 
   -- ---- an end opens
   module _ (after : PlayedServer) (opened : Opened) (out : List ℕ) (h : Step (record { new = after; opened = opened; sent = out }))
-      (t : ℕ) (told : opened.tid ≡ Some t) (o : Option Served) (admitted : IsAdmitted before from bytes o) where
+      (t : ℕ) (tid_is : opened.tid ≡ Some t) (o : Option Served) (admitted : IsAdmitted before from bytes o) where
     abbrev result' : PortLeft
     result' = record { new = after; opened = opened; sent = out }
 
     q : (sent : List Datagram) → PortOpened (w sent) asking result' (what result' h sent)
-    q sent = port_opened (w sent) asking result' (what result' h sent) t (did result' h sent) told
+    q sent = port_opened (w sent) asking result' (what result' h sent) t (did result' h sent) tid_is
 
     abbrev x : List Datagram → OpenEnd
     x sent = (q sent).end
@@ -236,7 +236,7 @@ module _ (from : Endpoint) (bytes : List ℕ) (before : PlayedServer) (ps : List
     ends_now : (sent : List Datagram) → ends_of after (ps ++ Server (own sent) ∷ []) ≡ ends_of before ps ++ Open_end (x sent) ∷ []
     ends_now sent =
         ends_push after ps (Server (own sent))
-        ∙ (ap (λ (xs : List WorldEnd). xs ++ end_at (1024 + length ps) after.held (Server (own sent)) ∷ []) (told-same end_at ends_from (λ n g. refl) (λ n g r rs. refl) by_port 1024 before.held after.held ps others)
+        ∙ (ap (λ (xs : List WorldEnd). xs ++ end_at (1024 + length ps) after.held (Server (own sent)) ∷ []) (mapped-same end_at ends_from (λ n g. refl) (λ n g r rs. refl) by_port 1024 before.held after.held ps others)
         ∙ (ap (λ (n : ℕ). ends_of before ps ++ end_at n after.held (Server (own sent)) ∷ []) (sym port_next)
         ∙ ap (λ (y : WorldEnd). ends_of before ps ++ y ∷ []) (end_is sent)))
 
@@ -247,7 +247,7 @@ module _ (from : Endpoint) (bytes : List ℕ) (before : PlayedServer) (ps : List
     owned_now =
         subst (AllOwned (ps ++ Server (own []) ∷ [])) (sym (ap (λ (s : PlayedServer). s.held) (q []).new))
         (AllKeys-with_new (IsOwned (ps ++ Server (own []) ∷ [])) port (transfer []) before.held below (pushed_owned ps (Server (own [])) before.held staged.owned)
-        (record { place = length ps; is = port_next; served = own []; there = slice_get-push_new ps (Server (own [])); lives = refl }))
+        (record { index = length ps; is = port_next; served = own []; there = slice_get-push_new ps (Server (own [])); lives = refl }))
 
     staged_now : IsStaged after (ps ++ Server (own []) ∷ []) (records ++ (port, record_of (x []).state) ∷ [])
     staged_now = record {
@@ -288,13 +288,13 @@ module _ (from : Endpoint) (bytes : List ℕ) (before : PlayedServer) (ps : List
         let new_end = (q sent).is_new in
         let d = datagram (x sent).address (x sent).state.position.last_sent_to (x sent).state.position.last_sent in
         let bytes_are : given ≡ (x sent).state.position.last_sent = is_out ∙ (ap (λ (s : List ℕ). s ++ out) empty ∙ (q sent).sent) in
-        let place : here ≡ (x sent).address = at_here ∙ (ap server_at (port_world sent) ∙ sym new_end.address) in
+        let index : here ≡ (x sent).address = at_here ∙ (ap server_at (port_world sent) ∙ sym new_end.address) in
         let goes : opened.to ≡ Some (x sent).state.position.last_sent_to = (q sent).to ∙ ap (λ (p : Endpoint). Some p) (sym new_end.to) in
         let players : ps1 ≡ ps ++ Server (own sent) ∷ [] = b ∙ (ap (λ (qs : List Player). qs ++ Server kept ∷ []) a ∙ ap (λ (s : Served). ps ++ Server s ∷ []) (same_served kept sent e)) in
         let report : report_by sent (record { from = here; to = opened.to; bytes = given; closed = None }) ≡ sent_report (w sent) =
         ap (λ (p : Option Endpoint). report_by sent (record { from = here; to = p; bytes = given; closed = None })) goes in
         let new : world_of before.config (sent ++ said_by here opened.to given) after ps1 ≡ opened_in (w sent) (x sent) =
-        ap (λ (p : Endpoint). world_of before.config (sent ++ said_by p opened.to given) after ps1) place
+        ap (λ (p : Endpoint). world_of before.config (sent ++ said_by p opened.to given) after ps1) index
         ∙ (ap (λ (p : Option Endpoint). world_of before.config (sent ++ said_by (x sent).address p given) after ps1) goes
         ∙ (ap (λ (bs : List ℕ). world_of before.config (sent ++ datagram (x sent).address (x sent).state.position.last_sent_to bs ∷ []) after ps1) bytes_are
         ∙ (ap (λ (s : Stored). record (world_of before.config (sent ++ d ∷ []) after ps1) { files = s.files }) (ap (λ (s : PlayedServer). s.store) (q sent).new)

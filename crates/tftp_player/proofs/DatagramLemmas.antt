@@ -11,7 +11,7 @@ use Rattle.tftp_ends.specs.End.{EndState, is_client, outcome_of}
 use Rattle.tftp_ends.specs.Files.{AreFilesOf}
 use Rattle.tftp_ends.specs.Step.{Turn}
 use Rattle.tftp_server.specs.Draft.{files_in}
-use Rattle.tftp_store.specs.Memory.{memory_meaning, with_told}
+use Rattle.tftp_store.specs.Memory.{memory_meaning, with_armed}
 use Rattle.tftp_server.specs.Steps.{StepIn}
 use Rattle.tftp_machine.specs.Machine.{Endpoint}
 use Rattle.tftp_player.specs.Clients.{ClientDatagramStep}
@@ -28,7 +28,7 @@ use Rattle.tftp_player.specs.declared.player.Player.TheVariants.{Client, Server}
 use Rattle.tftp_player.specs.declared.served.Served.{Served}
 use Rattle.tftp_player.proofs.DraftLemmas.{ServedLeaves, served_leaves}
 use Rattle.tftp_player.proofs.ServerTurns.{end_step}
-use Rattle.tftp_player.proofs.StageLemmas.{Stepped, client_files, client_open, held_end, held_files, served_files, served_kept, served_steps, same_transfer, keeps_told}
+use Rattle.tftp_player.proofs.StageLemmas.{Stepped, client_files, client_open, held_end, held_files, served_files, served_kept, served_steps, same_transfer, keeps_armed}
 use Rattle.tftp_player.proofs.StepLemmas.{client_files as client_commits}
 use Rattle.tftp_player.proofs.PlayLemmas.{ends_get, kept_at, list_get, turn_ends, turn_staged, closed_is, has_not_ended, address_is}
 
@@ -93,11 +93,11 @@ module _ (port : ℕ) (s s' : Served) (before after : PlayedServer) (from : Endp
   commits_last : CommitsLast h.files h.end.position.phase
   commits_last = subst (λ (k : Transfer). CommitsLast k.files k.end.position.phase) (sym is_kept) kept_here.commits
 
-  steps_so : StepIn memory_meaning memory_source from bytes h.end (files_in (with_told before.store s.refuses) s.path before.config.overwrite h.files) t.turn (files_in t.store t.next.path before.config.overwrite t.next.files)
-  steps_so = subst (λ (p : List ℕ). StepIn memory_meaning memory_source from bytes h.end (files_in (with_told before.store s.refuses) p before.config.overwrite h.files) t.turn (files_in t.store t.next.path before.config.overwrite t.next.files)) path_is t.steps
+  steps_so : StepIn memory_meaning memory_source from bytes h.end (files_in (with_armed before.store s.refuses) s.path before.config.overwrite h.files) t.turn (files_in t.store t.next.path before.config.overwrite t.next.files)
+  steps_so = subst (λ (p : List ℕ). StepIn memory_meaning memory_source from bytes h.end (files_in (with_armed before.store s.refuses) p before.config.overwrite h.files) t.turn (files_in t.store t.next.path before.config.overwrite t.next.files)) path_is t.steps
 
   steps_end : EndStep false in_way from bytes h.end (held_files s.refuses h.files) t.turn held_now
-  steps_end = end_step from bytes h.end (with_told before.store s.refuses) t.store s.path t.next.path before.config.overwrite t.turn h.files t.next.files steps_so
+  steps_end = end_step from bytes h.end (with_armed before.store s.refuses) t.store s.path t.next.path before.config.overwrite t.turn h.files t.next.files steps_so
 
   steps_here : EndStep (is_client h.end.role.side) in_way from bytes h.end (files_of x0) t.turn held_now
   steps_here =
@@ -105,7 +105,7 @@ module _ (port : ℕ) (s s' : Served) (before after : PlayedServer) (from : Endp
       (subst (λ (b : Bool). EndStep b in_way from bytes h.end (held_files s.refuses h.files) t.turn held_now) (sym server_side) steps_end)
 
   leaves : ServedLeaves x0 t.turn held_now t.next.files before.config.overwrite before.store.files t.store.files
-  leaves = served_leaves port s from bytes h.end h.request (with_told before.store s.refuses) t.store t.next.path before.config.overwrite t.turn h.files t.next.files steps_so t.stays t.kind commits_last
+  leaves = served_leaves port s from bytes h.end h.request (with_armed before.store s.refuses) t.store t.next.path before.config.overwrite t.turn h.files t.next.files steps_so t.stays t.kind commits_last
 
   commits_here : FilesAfter before.config.overwrite (not (is_client h.end.role.side) && has_committed x0 (end_after x0 t.turn held_now)) s.path (end_after x0 t.turn held_now).stored before.store.files after.store.files
   commits_here =
@@ -114,8 +114,8 @@ module _ (port : ℕ) (s s' : Served) (before after : PlayedServer) (from : Endp
 
   stepped_here : Stepped port (Server s) x0 (Server s') before after t.turn held_now effect r
   stepped_here =
-      served_steps port s s' before after h t.next t.turn t.store.refuses (with_told t.store false) effect r t.found open_now kept
-      t.kind t.path t.request (keeps_told h.files before.store t.store s.refuses t.stays) leaves.commits (λ quiet. refl) t.turns
+      served_steps port s s' before after h t.next t.turn t.store.refuses (with_armed t.store false) effect r t.found open_now kept
+      t.kind t.path t.request (keeps_armed h.files before.store t.store s.refuses t.stays) leaves.commits (λ quiet. refl) t.turns
 
   served_stepped : PlayerStepped port (Server s) (Server s') before after from bytes effect r
   served_stepped = record { end = x0; turn = t.turn; held = held_now; steps = steps_here; commits = commits_here; stepped = stepped_here }
@@ -131,61 +131,61 @@ player_stepped port (Client c) (Server s') before after from bytes effect r kept
 player_stepped port (Server s) (Client c') before after from bytes effect r kept open_now t = absurd t
 
 -- of the player at an index that is read
-module _ (server : PlayedServer) (ps : List Player) (records : List (ℕ × Record)) (place : ℕ) (from to : Endpoint) (bytes : List ℕ) (p : Player)
-    (staged : IsStaged server ps records) (at_place : (place < length ps) × (to.port ≡ 1024 + place)) (reads : p ≡ slice_index_or ps place p) where
+module _ (server : PlayedServer) (ps : List Player) (records : List (ℕ × Record)) (index : ℕ) (from to : Endpoint) (bytes : List ℕ) (p : Player)
+    (staged : IsStaged server ps records) (at_index : (index < length ps) × (to.port ≡ 1024 + index)) (reads : p ≡ slice_index_or ps index p) where
   abbrev x : WorldEnd
-  x = end_at (1024 + place) server.held p
+  x = end_at (1024 + index) server.held p
 
-  there : slice_get ps place ≡ Some p
-  there = list_get ps place p at_place.0 reads
+  there : slice_get ps index ≡ Some p
+  there = list_get ps index p at_index.0 reads
 
-  same_list : slice_set ps place p ≡ ps
-  same_list = ap (slice_set ps place) reads ∙ set-get_or ps place p
+  same_list : slice_set ps index p ≡ ps
+  same_list = ap (slice_set ps index) reads ∙ set-get_or ps index p
 
   address_here : (here : Endpoint) → here ≡ address_of to.port p → end_address x ≡ here
-  address_here here is = address_is (1024 + place) server.held p ∙ (ap (λ (n : ℕ). address_of n p) (sym at_place.1) ∙ sym is)
+  address_here here is = address_is (1024 + index) server.held p ∙ (ap (λ (n : ℕ). address_of n p) (sym at_index.1) ∙ sym is)
 
-  closed_here : (b c : Bool) → b ≡ record_closed (slice_get records place) → b ≡ c → is_closed x ≡ c
-  closed_here b c told is = sym (closed_is server ps records place p staged there) ∙ (sym told ∙ is)
+  closed_here : (b c : Bool) → b ≡ record_closed (slice_get records index) → b ≡ c → is_closed x ≡ c
+  closed_here b c record_is is = sym (closed_is server ps records index p staged there) ∙ (sym record_is ∙ is)
 
-  lost : (effect : Effect) → effect ≡ no_effect to → LostAt to server.store.files server.store.files (ends_of server ps) (ends_of server (slice_set ps place p)) effect
+  lost : (effect : Effect) → effect ≡ no_effect to → LostAt to server.store.files server.store.files (ends_of server ps) (ends_of server (slice_set ps index p)) effect
   lost effect e = record { effects = e; next = ap (ends_of server) same_list; stays = refl }
 
-  pub step_away : (here : Endpoint) (effect : Effect) → here ≡ address_of to.port p → here ≢ to → effect ≡ no_effect to → StageDatagramStep place from to bytes server server ps (slice_set ps place p) effect
+  pub step_away : (here : Endpoint) (effect : Effect) → here ≡ address_of to.port p → here ≢ to → effect ≡ no_effect to → StageDatagramStep index from to bytes server server ps (slice_set ps index p) effect
   step_away here effect is differs e = record {
     end = x;
-    found = ends_get server.held ps place p there;
+    found = ends_get server.held ps index p there;
     comes = inl ((λ same. differs (sym (address_here here is) ∙ same)), lost effect e);
     config = refl;
   }
 
-  takes_nothing : (y : WorldEnd) (effect : Effect) → is_closed y ≡ true → LostAt to server.store.files server.store.files (ends_of server ps) (ends_of server (slice_set ps place p)) effect →
-      EndTakes place y from to bytes server.config.overwrite server.store.files server.store.files (ends_of server ps) (ends_of server (slice_set ps place p)) effect
+  takes_nothing : (y : WorldEnd) (effect : Effect) → is_closed y ≡ true → LostAt to server.store.files server.store.files (ends_of server ps) (ends_of server (slice_set ps index p)) effect →
+      EndTakes index y from to bytes server.config.overwrite server.store.files server.store.files (ends_of server ps) (ends_of server (slice_set ps index p)) effect
   takes_nothing (Open_end y) effect closed l = absurd (true≢false (sym closed))
   takes_nothing (Closed_end y) effect closed l = l
 
-  pub step_closed : (here : Endpoint) (b : Bool) (effect : Effect) → here ≡ address_of to.port p → here ≡ to → b ≡ record_closed (slice_get records place) → b ≡ true → effect ≡ no_effect to →
-      StageDatagramStep place from to bytes server server ps (slice_set ps place p) effect
-  step_closed here b effect is same told closed e = record {
+  pub step_closed : (here : Endpoint) (b : Bool) (effect : Effect) → here ≡ address_of to.port p → here ≡ to → b ≡ record_closed (slice_get records index) → b ≡ true → effect ≡ no_effect to →
+      StageDatagramStep index from to bytes server server ps (slice_set ps index p) effect
+  step_closed here b effect is same record_is closed e = record {
     end = x;
-    found = ends_get server.held ps place p there;
-    comes = inr (address_here here is ∙ same, takes_nothing x effect (closed_here b true told closed) (lost effect e));
+    found = ends_get server.held ps index p there;
+    comes = inr (address_here here is ∙ same, takes_nothing x effect (closed_here b true record_is closed) (lost effect e));
     config = refl;
   }
 
-  decoded_here : (b : Bool) (p' : Player) (after : PlayedServer) (effect : Effect) (r : Record) → b ≡ record_closed (slice_get records place) → b ≡ false →
-      PlayerDatagramStep to.port from bytes p p' server after effect r → PlayerStepped (1024 + place) p p' server after from bytes effect r
-  decoded_here b p' after effect r told is t =
-      player_stepped (1024 + place) p p' server after from bytes effect r (kept_at server.held ps place p staged.kept there) (has_not_ended (1024 + place) server.held p (closed_here b false told is))
-      (subst (λ (n : ℕ). PlayerDatagramStep n from bytes p p' server after effect r) at_place.1 t)
+  decoded_here : (b : Bool) (p' : Player) (after : PlayedServer) (effect : Effect) (r : Record) → b ≡ record_closed (slice_get records index) → b ≡ false →
+      PlayerDatagramStep to.port from bytes p p' server after effect r → PlayerStepped (1024 + index) p p' server after from bytes effect r
+  decoded_here b p' after effect r record_is is t =
+      player_stepped (1024 + index) p p' server after from bytes effect r (kept_at server.held ps index p staged.kept there) (has_not_ended (1024 + index) server.held p (closed_here b false record_is is))
+      (subst (λ (n : ℕ). PlayerDatagramStep n from bytes p p' server after effect r) at_index.1 t)
 
-  pub step_open : (here : Endpoint) (b : Bool) (p' : Player) (after : PlayedServer) (effect : Effect) (r : Record) → here ≡ address_of to.port p → here ≡ to → b ≡ record_closed (slice_get records place) → b ≡ false →
-      PlayerDatagramStep to.port from bytes p p' server after effect r → StageDatagramStep place from to bytes server after ps (slice_set ps place p') effect
-  step_open here b p' after effect r is same told open_now t =
-      let g = decoded_here b p' after effect r told open_now t in
+  pub step_open : (here : Endpoint) (b : Bool) (p' : Player) (after : PlayedServer) (effect : Effect) (r : Record) → here ≡ address_of to.port p → here ≡ to → b ≡ record_closed (slice_get records index) → b ≡ false →
+      PlayerDatagramStep to.port from bytes p p' server after effect r → StageDatagramStep index from to bytes server after ps (slice_set ps index p') effect
+  step_open here b p' after effect r is same record_is open_now t =
+      let g = decoded_here b p' after effect r record_is open_now t in
       record {
         end = Open_end g.end;
-        found = ends_get server.held ps place p there ∙ ap (λ (y : WorldEnd). Some y) g.stepped.was;
+        found = ends_get server.held ps index p there ∙ ap (λ (y : WorldEnd). Some y) g.stepped.was;
         comes = inr (
           ap end_address (sym g.stepped.was) ∙ (address_here here is ∙ same),
           record {
@@ -193,15 +193,15 @@ module _ (server : PlayedServer) (ps : List Player) (records : List (ℕ × Reco
             held = g.held;
             steps = g.steps;
             commits = g.commits;
-            turns = record { effects = g.stepped.effects; next = turn_ends place server after ps p g.end p' g.turn g.held effect r g.stepped };
+            turns = record { effects = g.stepped.effects; next = turn_ends index server after ps p g.end p' g.turn g.held effect r g.stepped };
           },
         );
         config = g.stepped.config;
       }
 
-  pub step_keeps_stage : (b : Bool) (p' : Player) (after : PlayedServer) (effect : Effect) (r : Record) → b ≡ record_closed (slice_get records place) → b ≡ false →
-      PlayerDatagramStep to.port from bytes p p' server after effect r → IsStaged after (slice_set ps place p') (slice_set records place (to.port, r))
-  step_keeps_stage b p' after effect r told open_now t =
-      let g = decoded_here b p' after effect r told open_now t in
-      subst (λ (n : ℕ). IsStaged after (slice_set ps place p') (slice_set records place (n, r))) (sym at_place.1)
-      (turn_staged place server after ps p g.end p' g.turn g.held effect r g.stepped records there staged)
+  pub step_keeps_stage : (b : Bool) (p' : Player) (after : PlayedServer) (effect : Effect) (r : Record) → b ≡ record_closed (slice_get records index) → b ≡ false →
+      PlayerDatagramStep to.port from bytes p p' server after effect r → IsStaged after (slice_set ps index p') (slice_set records index (to.port, r))
+  step_keeps_stage b p' after effect r record_is open_now t =
+      let g = decoded_here b p' after effect r record_is open_now t in
+      subst (λ (n : ℕ). IsStaged after (slice_set ps index p') (slice_set records index (n, r))) (sym at_index.1)
+      (turn_staged index server after ps p g.end p' g.turn g.held effect r g.stepped records there staged)

@@ -7,7 +7,7 @@ use Rattle.tftp_wire.specs.declared.packet.Packet.{Packet}
 use Rattle.tftp_wire.specs.declared.packet.Packet.TheVariants.{Read, Write, Data, Ack, Error, Oack}
 use Rattle.tftp_wire.specs.Reading.{has_error_opcode}
 use Rattle.tftp_file.specs.Memory.{memory_source}
-use Rattle.tftp_file.specs.Sink.{Holding, UnlessTold, AppendsFreely, CommitsFreely, told_no_more, with_piece, as_committed}
+use Rattle.tftp_file.specs.Sink.{Holding, UnlessArmed, AppendsFreely, CommitsFreely, disarmed, with_piece, as_committed}
 use Rattle.tftp_file.specs.declared.fault.StoreFault.{StoreFault}
 use Rattle.tftp_file.specs.declared.fault.StoreFault.TheVariants as faults
 use Rattle.tftp_ends.specs.declared.action.Action.{Action}
@@ -135,18 +135,18 @@ free_append before after piece (Err faults.Exists) h un = kept_some before after
 free_append before after piece (Err faults.Full) h un = kept_some before after h.holding (same_Some after h.holding h.leaves) h.uncommitted un
 free_append before after piece (Err faults.Io) h un = kept_some before after h.holding (same_Some after h.holding h.leaves) h.uncommitted un
 
-append_by : (told : Bool) (before after : Holding) (piece : List ℕ) (answer : Result Done StoreFault) → UnlessTold told before (Some after) answer (AppendsFreely before (Some after) piece answer) →
+append_by : (armed : Bool) (before after : Holding) (piece : List ℕ) (answer : Result Done StoreFault) → UnlessArmed armed before (Some after) answer (AppendsFreely before (Some after) piece answer) →
     before.committed ≡ false → after.committed ≡ false
-append_by true before after piece answer h un = ap (λ (z : Holding). z.committed) (same_Some after (told_no_more before) h.leaves) ∙ un
+append_by true before after piece answer h un = ap (λ (z : Holding). z.committed) (same_Some after (disarmed before) h.leaves) ∙ un
 append_by false before after piece answer h un = free_append before after piece answer h un
 
 -- ---- a commit
-refused_by : (told : Bool) (before after : Holding) (fault : StoreFault) → UnlessTold told before (Some after) (let r : Result Done StoreFault = Err fault in r) (CommitsFreely before (Some after) (let r : Result Done StoreFault = Err fault in r)) →
+refused_by : (armed : Bool) (before after : Holding) (fault : StoreFault) → UnlessArmed armed before (Some after) (let r : Result Done StoreFault = Err fault in r) (CommitsFreely before (Some after) (let r : Result Done StoreFault = Err fault in r)) →
     after.committed ≡ before.committed
-refused_by true before after fault h = ap (λ (z : Holding). z.committed) (same_Some after (told_no_more before) h.leaves)
+refused_by true before after fault h = ap (λ (z : Holding). z.committed) (same_Some after (disarmed before) h.leaves)
 refused_by false before after fault h = ap (λ (z : Holding). z.committed) (same_Some after before h)
 
-taken_by : (told : Bool) (before after : Holding) → UnlessTold told before (Some after) (let r : Result Done StoreFault = Ok tt in r) (CommitsFreely before (Some after) (let r : Result Done StoreFault = Ok tt in r)) →
+taken_by : (armed : Bool) (before after : Holding) → UnlessArmed armed before (Some after) (let r : Result Done StoreFault = Ok tt in r) (CommitsFreely before (Some after) (let r : Result Done StoreFault = Ok tt in r)) →
     after ≡ as_committed before
 taken_by true before after h = absurd (not_refused h.answer) where
   not_refused : (let r : Result Done StoreFault = Ok tt in r) ≡ Err faults.Full → ⊥
@@ -166,7 +166,7 @@ module _ (from : Endpoint) (bytes : List ℕ) (e : EndState) (turn : Turn) (d d'
 
   -- the last block was committed, or was not
   committed_leaves : (terms : Terms) (number : ℕ) (held : List ℕ) (mid : Drafts) (answer : Result Done StoreFault) → d.draft.committed ≡ false → IsUncommitted d mid →
-      UnlessTold mid.store.refuses (seen mid) (Some (seen d')) answer (CommitsFreely (seen mid) (Some (seen d')) answer) → DraftingBecomes memory_meaning mid d' (is_ok answer) →
+      UnlessArmed mid.store.refuses (seen mid) (Some (seen d')) answer (CommitsFreely (seen mid) (Some (seen d')) answer) → DraftingBecomes memory_meaning mid d' (is_ok answer) →
       turn ≡ committed_turn terms number from (holding held e) answer → Leaves turn d d'
   committed_leaves terms number held mid (Ok done) un u h becomes is =
       let now : seen d' ≡ as_committed (seen mid) = taken_by mid.store.refuses (seen mid) (seen d') h in

@@ -200,8 +200,8 @@ module _ (first : List Rule) (views : List EndView) (messages : List Message) (k
   }
 
   -- an ERROR is sent to a stranger
-  pub tells_stranger : (from : Endpoint) → is_some (outcome_of x.state.position.phase) ≡ false → Goes first views messages k x (response_turn Stranger from x.state) x
-  tells_stranger from o = record {
+  pub answers_stranger : (from : Endpoint) → is_some (outcome_of x.state.position.phase) ≡ false → Goes first views messages k x (response_turn Stranger from x.state) x
+  answers_stranger from o = record {
     said_now = message x.address from Error ∷ [];
     shown = goes first views messages k (open_view x) s (Says_error x.address from ∷ []) (omega arith) (open_live x.state.position.phase o) (refl, tt, tt);
     replies = error_says UnknownTransferId x.address from;

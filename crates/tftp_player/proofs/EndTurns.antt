@@ -30,24 +30,24 @@ use Rattle.tftp_player.proofs.Actions.{Stands, goes}
 use Rattle.tftp_player.proofs.EndMoves.{Goes, IsThere, from_response, gives_up, retries}
 use Rattle.tftp_player.proofs.PhaseMoves.{Acting, OfDecoded, if_acts, not_false, same_ips, same_endpoints, ignore_acts, stranger_acts, sender_acts, receiver_acts, dally_acts}
 use Rattle.tftp_player.proofs.WaitingMoves.{reader_acts, writer_acts}
-use Rattle.tftp_player.proofs.Standing.{open_view, placed}
+use Rattle.tftp_player.proofs.Standing.{open_view, with_phase}
 
 module _ (first : List Rule) (views : List EndView) (messages : List Message) (k : ℕ) (x0 : OpenEnd)
     (refuses_commit : Holding → StoreFault → Type 0) (from : Endpoint) (bytes : List ℕ) (decoded : Option WirePacket)
     (spelled : (p : WirePacket) → decoded ≡ Some p → Spells p bytes) (come : OfDecoded messages from x0 decoded)
     (old : IsThere messages x0.address x0.state.position.last_sent_to x0.state.position.last_sent) where
   abbrev There : Phase → Type 0
-  There phase = Stands first views messages k (open_view (placed phase x0))
+  There phase = Stands first views messages k (open_view (with_phase phase x0))
 
   abbrev Goes_on : Phase → Action → Type 0
-  Goes_on phase action = Acting first views messages k (placed phase x0) refuses_commit from bytes action
+  Goes_on phase action = Acting first views messages k (with_phase phase x0) refuses_commit from bytes action
 
   -- an open end with a packet from its peer, or from the server while it waits
-  by_packet : (phase : Phase) → There phase → EndKept (placed phase x0) → is_some (outcome_of phase) ≡ false →
-      is_stranger (terms_of phase) x0.state.position.last_sent_to from ≡ false → Goes_on phase (packet_action (placed phase x0).state from decoded phase)
+  by_packet : (phase : Phase) → There phase → EndKept (with_phase phase x0) → is_some (outcome_of phase) ≡ false →
+      is_stranger (terms_of phase) x0.state.position.last_sent_to from ≡ false → Goes_on phase (packet_action (with_phase phase x0).state from decoded phase)
   by_packet (Waiting asked limit) s kept o near =
       let at_server : from.ip ≡ server_ip = sym (same_ips x0.state.position.last_sent_to from (not_false (same_address x0.state.position.last_sent_to from) near)) ∙ ap (λ (p : Endpoint). p.ip) kept.phase.2 in
-      let x = placed (Waiting asked limit) x0 in
+      let x = with_phase (Waiting asked limit) x0 in
       if_acts (Goes_on (Waiting asked limit)) (is_sender x0.state.role.side) (writer_action x0.state.role.mode asked limit x0.state.role.length from decoded) (reader_action x0.state.role.mode asked limit from decoded)
       (λ w. writer_acts first views messages k x0 asked limit s kept refuses_commit from bytes at_server w decoded come)
       (λ r. reader_acts first views messages k x0 asked limit s kept refuses_commit from bytes at_server r decoded spelled come)
@@ -60,28 +60,28 @@ module _ (first : List Rule) (views : List EndView) (messages : List Message) (k
   by_packet (Closed terms n complete outcome) s kept o near = absurd (true≢false o)
 
   -- a malformed ERROR
-  by_garbled : (phase : Phase) → There phase → EndKept (placed phase x0) → is_some (outcome_of phase) ≡ false → Goes_on phase (Respond (garbled_response phase))
+  by_garbled : (phase : Phase) → There phase → EndKept (with_phase phase x0) → is_some (outcome_of phase) ≡ false → Goes_on phase (Respond (garbled_response phase))
   by_garbled (Waiting asked limit) s kept o turn held h =
-      let x = placed (Waiting asked limit) x0 in from_response first views messages k x (Close outcomes.Illegal) from turn held (gives_up first views messages k x s kept outcomes.Illegal from refl) h
+      let x = with_phase (Waiting asked limit) x0 in from_response first views messages k x (Close outcomes.Illegal) from turn held (gives_up first views messages k x s kept outcomes.Illegal from refl) h
   by_garbled (Sending terms n) s kept o turn held h =
-      let x = placed (Sending terms n) x0 in from_response first views messages k x (Close outcomes.Illegal) from turn held (gives_up first views messages k x s kept outcomes.Illegal from refl) h
+      let x = with_phase (Sending terms n) x0 in from_response first views messages k x (Close outcomes.Illegal) from turn held (gives_up first views messages k x s kept outcomes.Illegal from refl) h
   by_garbled (Receiving terms n) s kept o turn held h =
-      let x = placed (Receiving terms n) x0 in from_response first views messages k x (Close outcomes.Illegal) from turn held (gives_up first views messages k x s kept outcomes.Illegal from refl) h
-  by_garbled (Dallying terms n dally) s kept o turn held h = ignore_acts first views messages k (placed (Dallying terms n dally) x0) s kept refuses_commit from bytes refl turn held h
+      let x = with_phase (Receiving terms n) x0 in from_response first views messages k x (Close outcomes.Illegal) from turn held (gives_up first views messages k x s kept outcomes.Illegal from refl) h
+  by_garbled (Dallying terms n dally) s kept o turn held h = ignore_acts first views messages k (with_phase (Dallying terms n dally) x0) s kept refuses_commit from bytes refl turn held h
   by_garbled (Closed terms n complete outcome) s kept o turn held h = absurd (true≢false o)
 
   -- an open end with any datagram
-  pub by_datagram : (phase : Phase) → There phase → EndKept (placed phase x0) → is_some (outcome_of phase) ≡ false →
-      Goes_on phase (datagram_action (placed phase x0).state from bytes decoded)
+  pub by_datagram : (phase : Phase) → There phase → EndKept (with_phase phase x0) → is_some (outcome_of phase) ≡ false →
+      Goes_on phase (datagram_action (with_phase phase x0).state from bytes decoded)
   by_datagram phase s kept o =
       let P = Goes_on phase in
-      let e = (placed phase x0).state in
+      let e = (with_phase phase x0).state in
       let far = is_stranger (terms_of phase) x0.state.position.last_sent_to from in
       let near_action = if has_error_opcode bytes && is_none decoded then Respond (garbled_response phase) else packet_action e from decoded phase in
       if_acts P far (if has_error_opcode bytes then Respond Ignore else Respond Stranger) near_action
       (λ f. if_acts P (has_error_opcode bytes) (Respond Ignore) (Respond Stranger)
-      (λ b. ignore_acts first views messages k (placed phase x0) s kept refuses_commit from bytes o)
-      (λ b. stranger_acts first views messages k (placed phase x0) s kept refuses_commit from bytes o))
+      (λ b. ignore_acts first views messages k (with_phase phase x0) s kept refuses_commit from bytes o)
+      (λ b. stranger_acts first views messages k (with_phase phase x0) s kept refuses_commit from bytes o))
       (λ f. if_acts P (has_error_opcode bytes && is_none decoded) (Respond (garbled_response phase)) (packet_action e from decoded phase)
       (λ b. by_garbled phase s kept o)
       (λ b. by_packet phase s kept o f))
@@ -96,20 +96,20 @@ module _ (first : List Rule) (views : List EndView) (messages : List Message) (k
   if_turns x true r s f g = f
   if_turns x false r s f g = g
 
-  waits_or_gives_up : (phase : Phase) → Stands first views messages k (open_view (placed phase x0)) → EndKept (placed phase x0) → is_some (outcome_of phase) ≡ false → goes_on phase ≡ true →
-      Turns_at (placed phase x0) (if x0.state.position.retries_left == 0 then Close outcomes.TimedOut else Retransmit)
+  waits_or_gives_up : (phase : Phase) → Stands first views messages k (open_view (with_phase phase x0)) → EndKept (with_phase phase x0) → is_some (outcome_of phase) ≡ false → goes_on phase ≡ true →
+      Turns_at (with_phase phase x0) (if x0.state.position.retries_left == 0 then Close outcomes.TimedOut else Retransmit)
   waits_or_gives_up phase s kept o going =
-      let x = placed phase x0 in
+      let x = with_phase phase x0 in
       if_turns x (x0.state.position.retries_left == 0) (Close outcomes.TimedOut) Retransmit
       (gives_up first views messages k x s kept outcomes.TimedOut x0.state.position.last_sent_to going)
       (retries first views messages k x s kept x0.state.position.last_sent_to o old)
 
   -- a dally continues, or ends
-  dally_turns : (terms : Terms) (n : ℕ) (dally : Dally) → Stands first views messages k (open_view (placed (Dallying terms n dally) x0)) → EndKept (placed (Dallying terms n dally) x0) →
-      Turns_at (placed (Dallying terms n dally) x0) (timeout_response x0.state.position.retries_left (Dallying terms n dally))
+  dally_turns : (terms : Terms) (n : ℕ) (dally : Dally) → Stands first views messages k (open_view (with_phase (Dallying terms n dally) x0)) → EndKept (with_phase (Dallying terms n dally) x0) →
+      Turns_at (with_phase (Dallying terms n dally) x0) (timeout_response x0.state.position.retries_left (Dallying terms n dally))
   dally_turns terms n Fresh s kept = record {
     said_now = [];
-    shown = goes first views messages k (open_view (placed (Dallying terms n Fresh) x0)) s [] (omega arith) refl tt;
+    shown = goes first views messages k (open_view (with_phase (Dallying terms n Fresh) x0)) s [] (omega arith) refl tt;
     replies = refl;
     kept = record { phase = kept.phase; held = kept.held; committed = kept.committed };
     side = refl;
@@ -118,7 +118,7 @@ module _ (first : List Rule) (views : List EndView) (messages : List Message) (k
   }
   dally_turns terms n Waited s kept = record {
     said_now = [];
-    shown = goes first views messages k (open_view (placed (Dallying terms n Waited) x0)) s [] (omega arith) refl tt;
+    shown = goes first views messages k (open_view (with_phase (Dallying terms n Waited) x0)) s [] (omega arith) refl tt;
     replies = refl;
     kept = record { phase = tt; held = kept.held; committed = kept.committed };
     side = refl;
@@ -126,8 +126,8 @@ module _ (first : List Rule) (views : List EndView) (messages : List Message) (k
     stored = λ _. refl;
   }
 
-  pub by_timeout : (phase : Phase) → Stands first views messages k (open_view (placed phase x0)) → EndKept (placed phase x0) → is_some (outcome_of phase) ≡ false →
-      Turns_at (placed phase x0) (timeout_response x0.state.position.retries_left phase)
+  pub by_timeout : (phase : Phase) → Stands first views messages k (open_view (with_phase phase x0)) → EndKept (with_phase phase x0) → is_some (outcome_of phase) ≡ false →
+      Turns_at (with_phase phase x0) (timeout_response x0.state.position.retries_left phase)
   by_timeout (Waiting asked limit) s kept o = waits_or_gives_up (Waiting asked limit) s kept o refl
   by_timeout (Sending terms n) s kept o = waits_or_gives_up (Sending terms n) s kept o refl
   by_timeout (Receiving terms n) s kept o = waits_or_gives_up (Receiving terms n) s kept o refl

@@ -20,7 +20,7 @@ pub mod FileLemmas
 pub mod ServerTurns
 pub mod DraftLemmas
 pub mod PortLemmas
-pub mod PlacedEnds
+pub mod EndsByPort
 pub mod ClientLemmas
 pub mod StepLemmas
 pub mod SourceMoves
@@ -28,7 +28,7 @@ pub mod SinkMoves
 pub mod PhaseMoves
 pub mod WaitingMoves
 pub mod EndTurns
-pub mod AnewLemmas
+pub mod UnansweredLemmas
 pub mod WorldTurns
 pub mod WorldKeeps
 pub mod OackLemmas
@@ -39,7 +39,7 @@ pub mod StageLemmas
 pub mod PlayLemmas
 pub mod DatagramLemmas
 pub mod OpenedLemmas
-pub mod TellingLemmas
+pub mod StoredLemmas
 pub mod ArrivalLemmas
 pub mod RefusingLemmas
 pub mod RepeatedLemmas

@@ -4,7 +4,7 @@ use Rattle.std.specs.Prelude.{slice_set}
 use Rattle.tftp_wire.specs.declared.mode.Mode.TheVariants.{Netascii}
 use Rattle.tftp_wire.specs.Parts.{packet_in}
 use Rattle.tftp_wire.proofs.SpellingLemmas.{fault_where_nothing}
-use Rattle.tftp_negotiate.specs.Negotiation.{places_of}
+use Rattle.tftp_negotiate.specs.Negotiation.{occurrences_of}
 use Rattle.tftp_file.specs.declared.files.Files.TheVariants.{Source, Sink}
 use Rattle.tftp_file.specs.Sink.{Holding}
 use Rattle.tftp_ends.specs.declared.action.Response.TheVariants.{Complete}
@@ -81,8 +81,8 @@ asks : WorldStep w0 (Get name Netascii nothing_asked) (sent_report w0) w1
 asks = get_step w0 name Netascii nothing_asked (omega arith) (record { valid = search rules; options = search rules })
 
 opens : WorldStep w1 (Deliver 0) (sent_report w1) w2
-unfolding places_of
-opens = (d0, refl, At_request_port refl (omega arith) (Some (packet_in d0.bytes)) (fault_where_nothing d0.bytes (bytes_below d0.bytes refl) refl) false (first_request client.address (packet_in d0.bytes) client refl) (file, refl, record { tells = refl; is = refl }))
+unfolding occurrences_of
+opens = (d0, refl, At_request_port refl (omega arith) (Some (packet_in d0.bytes)) (fault_where_nothing d0.bytes (bytes_below d0.bytes refl) refl) false (first_request client.address (packet_in d0.bytes) client refl) (file, refl, record { reports = refl; is = refl }))
 
 stores : WorldStep w2 (Deliver 1) (report_of w2 client turn3) w3
 stores = takes w2 1 0 d1 client turn3 (Sink held3) files refl refl refl
@@ -135,7 +135,7 @@ netascii_transfers = (
 
 -- and without loss
 pub read_is_straight : SomeReadIsStraight Netascii nothing_asked file []
-unfolding places_of
+unfolding occurrences_of
 read_is_straight = (
   w0,
   w4,

@@ -88,32 +88,32 @@ spelled_all (k ∷ ks) h =
 word_of : (options : List RawOption) (name : Name) (n : ℕ) → Requests options name n → n < 2 ^ 64
 word_of options name n r = ((numbers_are_printed r.0.value n).0 r.3).1
 
-fits_word : (options : List RawOption) (kind : Kind) (told : ℕ) (limits : Limits) (k : Known) → told < 2 ^ 64 → IsBlockSize limits.max_block → IsWithinRequest options kind told limits k → Fits_word k
-fits_word options kind told limits (known.Blksize n) f ok h = let a = h.0 in let b = ok.1 in omega (arith, a, b)
-fits_word options kind told limits (known.Timeout n) f ok h = word_of options Timeout n h
-fits_word options kinds.Read told limits (known.Tsize n) f ok h = subst (λ (m : ℕ). m < 2 ^ 64) (sym h.1) f
-fits_word options kinds.Write told limits (known.Tsize n) f ok h = word_of options Tsize n h.0
+fits_word : (options : List RawOption) (kind : Kind) (file_length : ℕ) (limits : Limits) (k : Known) → file_length < 2 ^ 64 → IsBlockSize limits.max_block → IsWithinRequest options kind file_length limits k → Fits_word k
+fits_word options kind file_length limits (known.Blksize n) f ok h = let a = h.0 in let b = ok.1 in omega (arith, a, b)
+fits_word options kind file_length limits (known.Timeout n) f ok h = word_of options Timeout n h
+fits_word options kinds.Read file_length limits (known.Tsize n) f ok h = subst (λ (m : ℕ). m < 2 ^ 64) (sym h.1) f
+fits_word options kinds.Write file_length limits (known.Tsize n) f ok h = word_of options Tsize n h.0
 
-fit_words : (options : List RawOption) (kind : Kind) (told : ℕ) (limits : Limits) (ks : List Known) → told < 2 ^ 64 → IsBlockSize limits.max_block → AllByRecursion (IsWithinRequest options kind told limits) ks → AllByRecursion Fits_word ks
-fit_words options kind told limits [] f ok h = tt
-fit_words options kind told limits (k ∷ ks) f ok h = (fits_word options kind told limits k f ok h.0, fit_words options kind told limits ks f ok h.1)
+fit_words : (options : List RawOption) (kind : Kind) (file_length : ℕ) (limits : Limits) (ks : List Known) → file_length < 2 ^ 64 → IsBlockSize limits.max_block → AllByRecursion (IsWithinRequest options kind file_length limits) ks → AllByRecursion Fits_word ks
+fit_words options kind file_length limits [] f ok h = tt
+fit_words options kind file_length limits (k ∷ ks) f ok h = (fits_word options kind file_length limits k f ok h.0, fit_words options kind file_length limits ks f ok h.1)
 
 -- each name is there once, so there are three at most
-three_at_most : (kind : Kind) (mode : Mode) (told : ℕ) (limits : Limits) (options : List RawOption) (ks : List Known) → IsBlockSize limits.max_block →
-    answer options kind mode told limits ≡ Ok ks → length ks ≤ 3
-three_at_most kind mode told limits options ks ok e =
-    agreements_are_short ks (answers_may_be_agreed options kind mode told limits ks ok e)
+three_at_most : (kind : Kind) (mode : Mode) (file_length : ℕ) (limits : Limits) (options : List RawOption) (ks : List Known) → IsBlockSize limits.max_block →
+    answer options kind mode file_length limits ≡ Ok ks → length ks ≤ 3
+three_at_most kind mode file_length limits options ks ok e =
+    agreements_are_short ks (answers_may_be_agreed options kind mode file_length limits ks ok e)
 
 some_options : (ks : List Known) → ks ≢ [] → agreed_options ks ≢ []
 some_options [] s e = s refl
 some_options (k ∷ ks) s e = cc
 
 -- the OACK of what a server answers can be spelled
-pub valid_oack : (kind : Kind) (mode : Mode) (told : ℕ) (limits : Limits) (options : List RawOption) (ks : List Known) → told < 2 ^ 64 → IsBlockSize limits.max_block →
-    answer options kind mode told limits ≡ Ok ks → ks ≢ [] → IsValid (Oack (agreed_options ks))
-valid_oack kind mode told limits options ks fits ok e some =
-    let words = fit_words options kind told limits ks fits ok (answers_within_request options kind mode told limits ks e) in
+pub valid_oack : (kind : Kind) (mode : Mode) (file_length : ℕ) (limits : Limits) (options : List RawOption) (ks : List Known) → file_length < 2 ^ 64 → IsBlockSize limits.max_block →
+    answer options kind mode file_length limits ≡ Ok ks → ks ≢ [] → IsValid (Oack (agreed_options ks))
+valid_oack kind mode file_length limits options ks fits ok e some =
+    let words = fit_words options kind file_length limits ks fits ok (answers_within_request options kind mode file_length limits ks e) in
     let all = spelled_all ks words in
-    let three = three_at_most kind mode told limits options ks ok e in
+    let three = three_at_most kind mode file_length limits options ks ok e in
     let l = all.short in
     (some_options ks some, all.options, (let n : suc (suc (length (options_bytes (agreed_options ks)))) ≤ MAX_REQUEST = omega (arith, l, three) in n))

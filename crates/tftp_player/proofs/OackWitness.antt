@@ -6,7 +6,7 @@ use Rattle.tftp_store.specs.Store.{path_cmp}
 use Rattle.tftp_wire.specs.declared.mode.Mode.TheVariants.{Octet}
 use Rattle.tftp_wire.specs.Parts.{packet_in}
 use Rattle.tftp_wire.proofs.SpellingLemmas.{fault_where_nothing}
-use Rattle.tftp_negotiate.specs.Negotiation.{places_of}
+use Rattle.tftp_negotiate.specs.Negotiation.{occurrences_of}
 use Rattle.tftp_negotiate.specs.Options.{name_of}
 use Rattle.tftp_negotiate.specs.Answer.{answered_option}
 use Rattle.tftp_negotiate.specs.Agreement.{taken_option}
@@ -157,8 +157,8 @@ request_spelled : Decodes d0.bytes (Some (packet_in d0.bytes))
 request_spelled = fault_where_nothing d0.bytes (bytes_below d0.bytes (rw eight refl)) (rw eight refl)
 
 request_served : Serves (service w1 false d0.bytes (Some (packet_in d0.bytes))) w1 client.address d0.bytes (sent_report w1) w2
-unfolding places_of name_of answered_option
-request_served = rw (eight, read_8) (record { tells = refl; is = rw eight refl })
+unfolding occurrences_of name_of answered_option
+request_served = rw (eight, read_8) (record { reports = refl; is = rw eight refl })
 
 opens : WorldStep w1 (Deliver 0) (sent_report w1) w2
 opens = (d0, refl, At_request_port refl (omega arith) (Some (packet_in d0.bytes)) request_spelled false (first_request client.address (packet_in d0.bytes) client refl) request_served)
@@ -167,7 +167,7 @@ oack_spelled : Decodes d1.bytes (Some (packet_in d1.bytes))
 oack_spelled = fault_where_nothing d1.bytes (bytes_below d1.bytes (rw eight refl)) (rw eight refl)
 
 sends_1 : WorldStep w2 (Deliver 1) (report_of w2 client turn_2) w3
-unfolding places_of name_of taken_option
+unfolding occurrences_of name_of taken_option
 sends_1 = takes w2 1 0 d1 client turn_2 (Source left_1) [] refl refl refl
     (record {
       decoded = Some (packet_in d1.bytes);
@@ -245,7 +245,7 @@ completes = takes w6 5 0 d5 client_2 turn_6 (Source []) ((name, two_blocks) ∷ 
     (record { decoded = Some (packet_in d5.bytes); says = fault_where_nothing d5.bytes (bytes_below d5.bytes refl) refl; acts = (refl, refl); again = tt }) refl
 
 accepted : IsAccepted w1 client (Takes name Octet agreed)
-unfolding places_of name_of answered_option
+unfolding occurrences_of name_of answered_option
 accepted = record {
   decoded = Some (packet_in d0.bytes);
   says = request_spelled;
@@ -255,7 +255,7 @@ accepted = record {
 }
 
 answered : TakesAnswer blocks_of_8 kinds.Write Octet w0.limits.max_file agreed
-unfolding places_of name_of taken_option
+unfolding occurrences_of name_of taken_option
 answered = (agreed, rw (eight, read_8) refl)
 
 pub write_is_straight : SomeWriteIsStraight Octet blocks_of_8 two_blocks (Blksize 8 ∷ [])

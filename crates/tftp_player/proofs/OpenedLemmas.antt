@@ -33,14 +33,14 @@ use Rattle.tftp_player.specs.declared.report.Report.{Report}
 use Rattle.tftp_player.proofs.ClientLemmas.{getting_client, putting_client, reading_is, writing_is}
 use Rattle.tftp_player.proofs.HeldLemmas.{AreBelow, AreBelow-more}
 use Rattle.tftp_player.proofs.OwnedLemmas.{pushed_owned}
-use Rattle.tftp_player.proofs.PlacedEnds.{told-push, kept-push, transfers-push_other}
+use Rattle.tftp_player.proofs.EndsByPort.{mapped-push, kept-push, transfers-push_other}
 use Rattle.tftp_player.proofs.PlayLemmas.{ends_length, to_kept, from_kept}
 use Rattle.tftp_player.proofs.Standing.{standing_record}
 use Rattle.tftp_player.proofs.StageLemmas.{kept_by_port, no_transfer}
 use Rattle.tftp_player.proofs.StepLemmas.{get_step, put_step}
 
 pub ends_push : (server : PlayedServer) (ps : List Player) (p : Player) → ends_of server (ps ++ p ∷ []) ≡ ends_of server ps ++ end_at (1024 + length ps) server.held p ∷ []
-ends_push server ps p = told-push end_at ends_from (λ port h. refl) (λ port h q qs. refl) 1024 server.held ps p
+ends_push server ps p = mapped-push end_at ends_from (λ port h. refl) (λ port h q qs. refl) 1024 server.held ps p
 
 pub records_push : (port : ℕ) (ends : List WorldEnd) (x : WorldEnd) → records_from port (ends ++ x ∷ []) ≡ records_from port ends ++ (port + length ends, end_record x) ∷ []
 records_push port [] x = let here : port ≡ port + zero = omega arith in ap (λ (n : ℕ). (n, end_record x) ∷ []) here
@@ -56,12 +56,12 @@ length_push ps p = omega (arith, length-append ps (p ∷ []))
 pub client_staged : (server : PlayedServer) (ps : List Player) (records : List (ℕ × Record)) (c : PlayedClient) (port : ℕ) (r : Record) →
     IsStaged server ps records → port ≡ 1024 + length ps → r ≡ record_of c.end → is_client c.end.role.side ≡ true → AreFilesOf c.end.role.side c.files →
     IsStaged server (ps ++ Client c ∷ []) (records ++ (port, r) ∷ [])
-client_staged server ps records c port r staged is told client fits =
+client_staged server ps records c port r staged is record_is client fits =
     let x = end_at (1024 + length ps) server.held (Client c) in
     let more : 1024 + length ps < 1024 + suc (length ps) = omega arith in
     let action : (port, r) ≡ (1024 + length (ends_of server ps), end_record x) =
     ap (λ (n : ℕ). (n, r)) (is ∙ ap (λ (n : ℕ). 1024 + n) (sym (ends_length server.held ps)))
-    ∙ ap (λ (q : Record). (1024 + length (ends_of server ps), q)) (told ∙ sym (standing_record (client_end (1024 + length ps) c))) in
+    ∙ ap (λ (q : Record). (1024 + length (ends_of server ps), q)) (record_is ∙ sym (standing_record (client_end (1024 + length ps) c))) in
     record {
       kept = from_kept 1024 server.held (ps ++ Client c ∷ []) (kept-push PlayerKept kept_by_port 1024 server.held server.held ps (Client c) (λ other l u. refl) (to_kept 1024 server.held ps staged.kept) (client, fits));
       recorded =
@@ -81,19 +81,19 @@ client_staged server ps records c port r staged is told client fits =
 pub client_entered : (server : PlayedServer) (ps ps0 ps1 : List Player) (records records0 records1 : List (ℕ × Record)) (c : PlayedClient) (port : ℕ) (r : Record) →
     IsStaged server ps records → port ≡ 1024 + length (ends_of server ps) → is_client c.end.role.side ≡ true → AreFilesOf c.end.role.side c.files → r ≡ record_of c.end →
     ps0 ≡ ps → ps1 ≡ ps0 ++ Client c ∷ [] → records0 ≡ records → records1 ≡ records0 ++ (port, r) ∷ [] → IsStaged server ps1 records1
-client_entered server ps ps0 ps1 records records0 records1 c port r staged is client fits told a b d e =
+client_entered server ps ps0 ps1 records records0 records1 c port r staged is client fits record_is a b d e =
     subst (λ (qs : List Player). IsStaged server qs records1) (sym (b ∙ ap (λ (qs : List Player). qs ++ Client c ∷ []) a))
     (subst (λ (rs : List (ℕ × Record)). IsStaged server (ps ++ Client c ∷ []) rs) (sym (e ∙ ap (λ (rs : List (ℕ × Record)). rs ++ (port, r) ∷ []) d))
-    (client_staged server ps records c port r staged (is ∙ ap (λ (n : ℕ). 1024 + n) (ends_length server.held ps)) told client fits))
+    (client_staged server ps records c port r staged (is ∙ ap (λ (n : ℕ). 1024 + n) (ends_length server.held ps)) record_is client fits))
 
 -- the world that a client entered
 pub entered : (config : Config) (sent sent0 sent1 : List Datagram) (server server1 : PlayedServer) (ps ps1 : List Player) (old : WorldState) (c : PlayedClient) (effect : Effect) (port : ℕ) (report : Report) →
     world_of config sent server ps ≡ old → port ≡ next_port old → server1 ≡ server → ps1 ≡ ps ++ Client c ∷ [] →
     sent0 ≡ sent → sent1 ≡ sent0 ++ said_by effect.from effect.to effect.bytes → report ≡ report_by sent0 effect →
     Enters old port c effect report (world_of config sent1 server1 ps1)
-entered config sent sent0 sent1 server server1 ps ps1 old c effect port report view at a b same more tells =
+entered config sent sent0 sent1 server server1 ps ps1 old c effect port report view at a b same more reports =
     subst (λ (w : WorldState). Enters w port c effect report (world_of config sent1 server1 ps1)) view (record {
-      tells = tells ∙ ap (λ (ds : List Datagram). report_by ds effect) same;
+      reports = reports ∙ ap (λ (ds : List Datagram). report_by ds effect) same;
       is =
           ap (λ (v : PlayedServer). world_of config sent1 v ps1) a
           ∙ (ap (λ (ds : List Datagram). world_of config ds server ps1) (more ∙ ap (λ (ds : List Datagram). ds ++ said_by effect.from effect.to effect.bytes) same)
@@ -115,7 +115,7 @@ opens_so : (w : WorldState) (event : Event) (c : PlayedClient) (effect : Effect)
     standing (client_end port c) ≡ Open_end x → effect ≡ first_effect x → Enters w port c effect report new → WorldStep w event (sent_report w) (opened_in w x) →
     WorldStep w event report new
 opens_so w event c effect port report new x is effects e step =
-    subst (λ (r : Report). WorldStep w event r new) (sym (e.tells ∙ ap (report_by w.sent) effects))
+    subst (λ (r : Report). WorldStep w event r new) (sym (e.reports ∙ ap (report_by w.sent) effects))
     (subst (λ (v : WorldState). WorldStep w event (sent_report w) v)
     (sym (e.is
     ∙ (ap (λ (f : Effect). record w { sent = w.sent ++ said_by f.from f.to f.bytes; ends = w.ends ++ standing (client_end port c) ∷ [] }) effects

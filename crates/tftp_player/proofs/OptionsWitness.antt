@@ -4,7 +4,7 @@ use Rattle.std.specs.Prelude.{slice_set}
 use Rattle.tftp_wire.specs.declared.mode.Mode.TheVariants.{Octet}
 use Rattle.tftp_wire.specs.Parts.{packet_in}
 use Rattle.tftp_wire.proofs.SpellingLemmas.{fault_where_nothing}
-use Rattle.tftp_negotiate.specs.Negotiation.{places_of}
+use Rattle.tftp_negotiate.specs.Negotiation.{occurrences_of}
 use Rattle.std.proofs.lemmas.Fmt.{decimal_digit}
 use Rattle.tftp_negotiate.specs.Options.{name_of, number_of}
 use Rattle.tftp_negotiate.specs.Answer.{answered_option}
@@ -128,8 +128,8 @@ request_spelled : Decodes d0.bytes (Some (packet_in d0.bytes))
 request_spelled = fault_where_nothing d0.bytes (bytes_below d0.bytes (rw eight refl)) (rw eight refl)
 
 request_served : Serves (service w1 false d0.bytes (Some (packet_in d0.bytes))) w1 client.address d0.bytes (sent_report w1) w2
-unfolding places_of name_of answered_option
-request_served = rw (eight, read_8) (file, refl, record { tells = refl; is = rw eight refl })
+unfolding occurrences_of name_of answered_option
+request_served = rw (eight, read_8) (file, refl, record { reports = refl; is = rw eight refl })
 
 opens : WorldStep w1 (Deliver 0) (sent_report w1) w2
 opens = (d0, refl, At_request_port refl (omega arith) (Some (packet_in d0.bytes)) request_spelled false (first_request client.address (packet_in d0.bytes) client refl) request_served)
@@ -138,7 +138,7 @@ oack_spelled : Decodes d1.bytes (Some (packet_in d1.bytes))
 oack_spelled = fault_where_nothing d1.bytes (bytes_below d1.bytes (rw eight refl)) (rw eight refl)
 
 accepts : WorldStep w2 (Deliver 1) (report_of w2 client turn3) w3
-unfolding places_of name_of taken_option
+unfolding occurrences_of name_of taken_option
 accepts = takes w2 1 0 d1 client turn3 (Sink empty) files refl refl refl
     (record { decoded = Some (packet_in d1.bytes); says = oack_spelled; acts = rw (eight, read_8) (refl, refl); again = rw (eight, read_8) tt }) refl
 

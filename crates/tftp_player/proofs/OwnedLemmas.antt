@@ -13,83 +13,83 @@ use Rattle.tftp_player.specs.declared.player.Player.{Player}
 use Rattle.tftp_player.specs.declared.player.Player.TheVariants.{Client, Server}
 use Rattle.tftp_player.specs.declared.served.Served.{Served}
 use Rattle.tftp_player.proofs.HeldLemmas.{at_same, same_at, AllKeys-without, AllKeys-weaker, all_both, gone-without}
-use Rattle.tftp_machine.proofs.Places.{slice_get-set_same, slice_get-set_other, slice_get-push_old}
+use Rattle.tftp_machine.proofs.Indices.{slice_get-set_same, slice_get-set_other, slice_get-push_old}
 
 -- each transfer is one of these ends
 abbrev pub AllOwned : List Player → List (ℕ × Transfer) → Type 0
 AllOwned ps held = AllByRecursion (λ (e : ℕ × Transfer). IsOwned ps e.0) held
 
 -- another end is at its index as before
-owned_elsewhere : (ps : List Player) (place : ℕ) (p' : Player) (k : ℕ) → k ≢ 1024 + place → IsOwned ps k → IsOwned (slice_set ps place p') k
-owned_elsewhere ps place p' k n o = record {
-  place = o.place;
+owned_elsewhere : (ps : List Player) (index : ℕ) (p' : Player) (k : ℕ) → k ≢ 1024 + index → IsOwned ps k → IsOwned (slice_set ps index p') k
+owned_elsewhere ps index p' k n o = record {
+  index = o.index;
   is = o.is;
   served = o.served;
-  there = slice_get-set_other ps place o.place p' (λ e. n (o.is ∙ ap (λ (m : ℕ). 1024 + m) e)) ∙ o.there;
+  there = slice_get-set_other ps index o.index p' (λ e. n (o.is ∙ ap (λ (m : ℕ). 1024 + m) e)) ∙ o.there;
   lives = o.lives;
 }
 
 -- and that at this index, if it is the server's and open
-owned_here : (ps : List Player) (place : ℕ) (p : Player) (s' : Served) (k : ℕ) → slice_get ps place ≡ Some p → s'.ended ≡ None → k ≡ 1024 + place →
-    IsOwned (slice_set ps place (Server s')) k
-owned_here ps place p s' k there lives is = record {
-  place = place;
+owned_here : (ps : List Player) (index : ℕ) (p : Player) (s' : Served) (k : ℕ) → slice_get ps index ≡ Some p → s'.ended ≡ None → k ≡ 1024 + index →
+    IsOwned (slice_set ps index (Server s')) k
+owned_here ps index p s' k there lives is = record {
+  index = index;
   is = is;
   served = s';
-  there = slice_get-set_same ps place (Server s') p there;
+  there = slice_get-set_same ps index (Server s') p there;
   lives = lives;
 }
 
 -- a client owns none
-not_a_client : (ps : List Player) (place : ℕ) (c : PlayedClient) (k : ℕ) → slice_get ps place ≡ Some (Client c) → IsOwned ps k → k ≢ 1024 + place
-not_a_client ps place c k there o e =
-    let same : o.place ≡ place = let a = o.is in omega (arith, a, e) in
+not_a_client : (ps : List Player) (index : ℕ) (c : PlayedClient) (k : ℕ) → slice_get ps index ≡ Some (Client c) → IsOwned ps k → k ≢ 1024 + index
+not_a_client ps index c k there o e =
+    let same : o.index ≡ index = let a = o.is in omega (arith, a, e) in
     let both : Some (Server o.served) ≡ Some (Client c) = sym o.there ∙ (ap (slice_get ps) same ∙ there) in
     let f : Server o.served ≡ Client c = cc in
     cc
 
-pub client_owned : (ps : List Player) (place : ℕ) (c : PlayedClient) (p' : Player) (held : List (ℕ × Transfer)) → slice_get ps place ≡ Some (Client c) → AllOwned ps held → AllOwned (slice_set ps place p') held
-client_owned ps place c p' held there all =
-    AllKeys-weaker (IsOwned ps) (IsOwned (slice_set ps place p')) held (λ k o. owned_elsewhere ps place p' k (not_a_client ps place c k there o) o) all
+pub client_owned : (ps : List Player) (index : ℕ) (c : PlayedClient) (p' : Player) (held : List (ℕ × Transfer)) → slice_get ps index ≡ Some (Client c) → AllOwned ps held → AllOwned (slice_set ps index p') held
+client_owned ps index c p' held there all =
+    AllKeys-weaker (IsOwned ps) (IsOwned (slice_set ps index p')) held (λ k o. owned_elsewhere ps index p' k (not_a_client ps index c k there o) o) all
 
 -- an end of the server that is still open
-pub server_owned : (ps : List Player) (place : ℕ) (p : Player) (s' : Served) (held : List (ℕ × Transfer)) → slice_get ps place ≡ Some p → s'.ended ≡ None → AllOwned ps held →
-    AllOwned (slice_set ps place (Server s')) held
-server_owned ps place p s' held there lives all =
-    AllKeys-weaker (IsOwned ps) (IsOwned (slice_set ps place (Server s'))) held (λ k o. by k o (is_at (nat_cmp (1024 + place)) k) refl) all where
-      by : (k : ℕ) → IsOwned ps k → (b : Bool) → is_at (nat_cmp (1024 + place)) k ≡ b → IsOwned (slice_set ps place (Server s')) k
-      by k o true t = owned_here ps place p s' k there lives (same_at (1024 + place) k t)
-      by k o false t = owned_elsewhere ps place (Server s') k (λ e. true≢false (sym (at_same (1024 + place) k e) ∙ t)) o
+pub server_owned : (ps : List Player) (index : ℕ) (p : Player) (s' : Served) (held : List (ℕ × Transfer)) → slice_get ps index ≡ Some p → s'.ended ≡ None → AllOwned ps held →
+    AllOwned (slice_set ps index (Server s')) held
+server_owned ps index p s' held there lives all =
+    AllKeys-weaker (IsOwned ps) (IsOwned (slice_set ps index (Server s'))) held (λ k o. by k o (is_at (nat_cmp (1024 + index)) k) refl) all where
+      by : (k : ℕ) → IsOwned ps k → (b : Bool) → is_at (nat_cmp (1024 + index)) k ≡ b → IsOwned (slice_set ps index (Server s')) k
+      by k o true t = owned_here ps index p s' k there lives (same_at (1024 + index) k t)
+      by k o false t = owned_elsewhere ps index (Server s') k (λ e. true≢false (sym (at_same (1024 + index) k e) ∙ t)) o
 
 -- an end of the server replaced by another with the same record
-same_end : (ps : List Player) (place : ℕ) (s : Served) (k : ℕ) → slice_get ps place ≡ Some (Server s) → k ≡ 1024 + place → (o : IsOwned ps k) → o.served ≡ s
-same_end ps place s k there e o =
-    let same : o.place ≡ place = let a = o.is in omega (arith, a, e) in
+same_end : (ps : List Player) (index : ℕ) (s : Served) (k : ℕ) → slice_get ps index ≡ Some (Server s) → k ≡ 1024 + index → (o : IsOwned ps k) → o.served ≡ s
+same_end ps index s k there e o =
+    let same : o.index ≡ index = let a = o.is in omega (arith, a, e) in
     let both : Some (Server o.served) ≡ Some (Server s) = sym o.there ∙ (ap (slice_get ps) same ∙ there) in
     cc
 
-pub same_owned : (ps : List Player) (place : ℕ) (s s' : Served) (held : List (ℕ × Transfer)) → slice_get ps place ≡ Some (Server s) → s'.ended ≡ s.ended → AllOwned ps held →
-    AllOwned (slice_set ps place (Server s')) held
-same_owned ps place s s' held there e all =
-    AllKeys-weaker (IsOwned ps) (IsOwned (slice_set ps place (Server s'))) held (λ k o. by k o (is_at (nat_cmp (1024 + place)) k) refl) all where
-      by : (k : ℕ) → IsOwned ps k → (b : Bool) → is_at (nat_cmp (1024 + place)) k ≡ b → IsOwned (slice_set ps place (Server s')) k
+pub same_owned : (ps : List Player) (index : ℕ) (s s' : Served) (held : List (ℕ × Transfer)) → slice_get ps index ≡ Some (Server s) → s'.ended ≡ s.ended → AllOwned ps held →
+    AllOwned (slice_set ps index (Server s')) held
+same_owned ps index s s' held there e all =
+    AllKeys-weaker (IsOwned ps) (IsOwned (slice_set ps index (Server s'))) held (λ k o. by k o (is_at (nat_cmp (1024 + index)) k) refl) all where
+      by : (k : ℕ) → IsOwned ps k → (b : Bool) → is_at (nat_cmp (1024 + index)) k ≡ b → IsOwned (slice_set ps index (Server s')) k
       by k o true t =
-          let is = same_at (1024 + place) k t in
-          owned_here ps place (Server s) s' k there (e ∙ (ap (λ (q : Served). q.ended) (sym (same_end ps place s k there is o)) ∙ o.lives)) is
-      by k o false t = owned_elsewhere ps place (Server s') k (λ f. true≢false (sym (at_same (1024 + place) k f) ∙ t)) o
+          let is = same_at (1024 + index) k t in
+          owned_here ps index (Server s) s' k there (e ∙ (ap (λ (q : Served). q.ended) (sym (same_end ps index s k there is o)) ∙ o.lives)) is
+      by k o false t = owned_elsewhere ps index (Server s') k (λ f. true≢false (sym (at_same (1024 + index) k f) ∙ t)) o
 
 -- and one that was removed from it
-pub closed_owned : (ps : List Player) (port place : ℕ) (p' : Player) (held : List (ℕ × Transfer)) → port ≡ 1024 + place → IsRising held → AllOwned ps held → AllOwned (slice_set ps place p') (without port held)
-closed_owned ps port place p' held is rising all =
-    all_both (λ (e : ℕ × Transfer). e.0 ≢ port) (λ (e : ℕ × Transfer). IsOwned ps e.0) (λ (e : ℕ × Transfer). IsOwned (slice_set ps place p') e.0) (without port held)
-    (λ e n o. owned_elsewhere ps place p' e.0 (λ same. n (same ∙ sym is)) o) (gone-without port held rising) (AllKeys-without (IsOwned ps) port held all)
+pub closed_owned : (ps : List Player) (port index : ℕ) (p' : Player) (held : List (ℕ × Transfer)) → port ≡ 1024 + index → IsRising held → AllOwned ps held → AllOwned (slice_set ps index p') (without port held)
+closed_owned ps port index p' held is rising all =
+    all_both (λ (e : ℕ × Transfer). e.0 ≢ port) (λ (e : ℕ × Transfer). IsOwned ps e.0) (λ (e : ℕ × Transfer). IsOwned (slice_set ps index p') e.0) (without port held)
+    (λ e n o. owned_elsewhere ps index p' e.0 (λ same. n (same ∙ sym is)) o) (gone-without port held rising) (AllKeys-without (IsOwned ps) port held all)
 
 -- after an end was added
 pub pushed_owned : (ps : List Player) (p : Player) (held : List (ℕ × Transfer)) → AllOwned ps held → AllOwned (ps ++ p ∷ []) held
 pushed_owned ps p held all = AllKeys-weaker (IsOwned ps) (IsOwned (ps ++ p ∷ [])) held (λ k o. record {
-  place = o.place;
+  index = o.index;
   is = o.is;
   served = o.served;
-  there = slice_get-push_old ps o.place p (Server o.served) o.there;
+  there = slice_get-push_old ps o.index p (Server o.served) o.there;
   lives = o.lives;
 }) all

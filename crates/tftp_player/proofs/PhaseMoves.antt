@@ -39,10 +39,10 @@ use Rattle.tftp_player.specs.WorldKept.{EndKept, sent_text}
 use Rattle.tftp_machine.proofs.Endpoints.{endpoint_from}
 use Rattle.tftp_player.proofs.Actions.{Stands, stores, refuses_next}
 use Rattle.tftp_player.proofs.SaidLemmas.{data_of}
-use Rattle.tftp_player.proofs.EndMoves.{Goes, IsThere, from_response, ignores, tells_stranger, answers_again, gives_up, refuses_now}
+use Rattle.tftp_player.proofs.EndMoves.{Goes, IsThere, from_response, ignores, answers_stranger, answers_again, gives_up, refuses_now}
 use Rattle.tftp_player.proofs.SourceMoves.{data_goes, sends_next, ends_whole}
 use Rattle.tftp_player.proofs.SinkMoves.{Receives, block_goes}
-use Rattle.tftp_player.proofs.Standing.{open_view, placed}
+use Rattle.tftp_player.proofs.Standing.{open_view, with_phase}
 
 -- either way of a test
 pub if_acts : {A : Type 0} (P : A → Type 0) (b : Bool) (r s : A) → (b ≡ true → P r) → (b ≡ false → P s) → P (if b then r else s)
@@ -82,16 +82,16 @@ module _ (first : List Rule) (views : List EndView) (messages : List Message) (k
   ignore_acts turn held h = from_response first views messages k x Ignore from turn held (ignores first views messages k x s kept from open_now) h
 
   pub stranger_acts : Acting first views messages k x refuses_commit from bytes (Respond Stranger)
-  stranger_acts turn held h = from_response first views messages k x Stranger from turn held (tells_stranger first views messages k x s kept from open_now) h
+  stranger_acts turn held h = from_response first views messages k x Stranger from turn held (answers_stranger first views messages k x s kept from open_now) h
 
   pub again_acts : from ≡ x.state.position.last_sent_to → IsThere messages x.address x.state.position.last_sent_to x.state.position.last_sent → Acting first views messages k x refuses_commit from bytes (Respond ResendReply)
   again_acts same old turn held h = from_response first views messages k x ResendReply from turn held (answers_again first views messages k x s kept from open_now same old) h
 
 module _ (first : List Rule) (views : List EndView) (messages : List Message) (k : ℕ) (x0 : OpenEnd) (terms : Terms) (n : ℕ)
-    (s : Stands first views messages k (open_view (placed (Sending terms n) x0))) (kept : EndKept (placed (Sending terms n) x0))
+    (s : Stands first views messages k (open_view (with_phase (Sending terms n) x0))) (kept : EndKept (with_phase (Sending terms n) x0))
     (refuses_commit : Holding → StoreFault → Type 0) (from : Endpoint) (bytes : List ℕ) where
   abbrev sender : OpenEnd
-  sender = placed (Sending terms n) x0
+  sender = with_phase (Sending terms n) x0
 
   illegal_sender : Acting first views messages k sender refuses_commit from bytes (illegal_action terms)
   illegal_sender turn held h =
@@ -135,11 +135,11 @@ module _ (first : List Rule) (views : List EndView) (messages : List Message) (k
       (λ e. ignore_acts first views messages k sender s kept refuses_commit from bytes refl) (λ e. illegal_sender)
 
 module _ (first : List Rule) (views : List EndView) (messages : List Message) (k : ℕ) (x0 : OpenEnd) (terms : Terms) (n : ℕ)
-    (s : Stands first views messages k (open_view (placed (Receiving terms n) x0))) (kept : EndKept (placed (Receiving terms n) x0))
+    (s : Stands first views messages k (open_view (with_phase (Receiving terms n) x0))) (kept : EndKept (with_phase (Receiving terms n) x0))
     (refuses_commit : Holding → StoreFault → Type 0) (from : Endpoint) (bytes : List ℕ)
     (peer : terms.peer ≡ from) (old : IsThere messages x0.address x0.state.position.last_sent_to x0.state.position.last_sent) where
   abbrev receiver : OpenEnd
-  receiver = placed (Receiving terms n) x0
+  receiver = with_phase (Receiving terms n) x0
 
   refuse_receiver : (reply : ErrorReply) (outcome : Outcome) → Acting first views messages k receiver refuses_commit from bytes (Respond (Refuse (Some terms) reply outcome))
   refuse_receiver reply outcome turn held h =
@@ -211,11 +211,11 @@ module _ (first : List Rule) (views : List EndView) (messages : List Message) (k
       (λ e. refuse_receiver replies.IllegalOperation outcomes.Illegal)
 
 module _ (first : List Rule) (views : List EndView) (messages : List Message) (k : ℕ) (x0 : OpenEnd) (terms : Terms) (n : ℕ) (dally : Dally)
-    (s : Stands first views messages k (open_view (placed (Dallying terms n dally) x0))) (kept : EndKept (placed (Dallying terms n dally) x0))
+    (s : Stands first views messages k (open_view (with_phase (Dallying terms n dally) x0))) (kept : EndKept (with_phase (Dallying terms n dally) x0))
     (refuses_commit : Holding → StoreFault → Type 0) (from : Endpoint) (bytes : List ℕ)
     (peer : terms.peer ≡ from) (old : IsThere messages x0.address x0.state.position.last_sent_to x0.state.position.last_sent) where
   abbrev dallier : OpenEnd
-  dallier = placed (Dallying terms n dally) x0
+  dallier = with_phase (Dallying terms n dally) x0
 
   ignore_dallier : Acting first views messages k dallier refuses_commit from bytes (Respond Ignore)
   ignore_dallier = ignore_acts first views messages k dallier s kept refuses_commit from bytes refl

@@ -228,7 +228,7 @@ module _ (w : WorldState) (asking : PortAsking) (result : PortLeft) where
     to = ap (λ (r : PortLeft). r.opened.to) h;
     sent = ap (λ (r : PortLeft). r.sent) h;
     new = ap (λ (r : PortLeft). r.new) h;
-    serves = record { tells = refl; is = refl };
+    serves = record { reports = refl; is = refl };
   }))
   port_seen (Refused reply) h = inr (inl (record {
     tid = ap (λ (r : PortLeft). r.opened.tid) h;
@@ -248,7 +248,7 @@ module _ (w : WorldState) (asking : PortAsking) (result : PortLeft) where
     to = ap (λ (r : PortLeft). r.opened.to) h.2;
     sent = ap (λ (r : PortLeft). r.sent) h.2;
     new = ap (λ (r : PortLeft). r.new) h.2;
-    serves = (h.0, h.1, record { tells = refl; is = refl });
+    serves = (h.0, h.1, record { reports = refl; is = refl });
   })
   port_seen (Takes path mode agreed) h = inl (record {
     mode = mode;
@@ -262,21 +262,21 @@ module _ (w : WorldState) (asking : PortAsking) (result : PortLeft) where
     to = ap (λ (r : PortLeft). r.opened.to) h;
     sent = ap (λ (r : PortLeft). r.sent) h;
     new = ap (λ (r : PortLeft). r.new) h;
-    serves = record { tells = refl; is = refl };
+    serves = record { reports = refl; is = refl };
   })
 
   -- by whether the call returned an identifier
   pub port_opened : (what : Service) (tid : ℕ) → PortDid w what asking result → result.opened.tid ≡ Some tid → PortOpened what
-  port_opened what tid did told = elim (port_seen what did) [
+  port_opened what tid did tid_is = elim (port_seen what did) [
     | inl opened ↦ opened
     | inr other ↦ absurd (elim other [
-      | inl refused ↦ let f : None ≡ Some tid = sym refused.tid ∙ told in cc
-      | inr quiet ↦ let f : None ≡ Some tid = sym quiet.tid ∙ told in cc
+      | inl refused ↦ let f : None ≡ Some tid = sym refused.tid ∙ tid_is in cc
+      | inr quiet ↦ let f : None ≡ Some tid = sym quiet.tid ∙ tid_is in cc
     ])
   ]
 
   pub port_not_opened : (what : Service) → PortDid w what asking result → result.opened.tid ≡ None → PortRefused what ⊎ PortSilent what
-  port_not_opened what did told = elim (port_seen what did) [
-    | inl opened ↦ absurd (let f : None ≡ Some asking.tid = sym told ∙ opened.tid in cc)
+  port_not_opened what did tid_is = elim (port_seen what did) [
+    | inl opened ↦ absurd (let f : None ≡ Some asking.tid = sym tid_is ∙ opened.tid in cc)
     | inr other ↦ other
   ]

@@ -22,7 +22,7 @@ use Rattle.tftp_player.specs.World.{Open_end, by_outcome}
 use Rattle.tftp_player.specs.declared.player.Player.{Player}
 use Rattle.tftp_player.specs.declared.player.Player.TheVariants.{Client, Server}
 use Rattle.tftp_player.specs.declared.served.Served.{Served}
-use Rattle.tftp_player.proofs.AnewLemmas.{any_at}
+use Rattle.tftp_player.proofs.UnansweredLemmas.{any_at}
 use Rattle.tftp_player.proofs.HeldLemmas.{all_both, each_found}
 use Rattle.tftp_player.proofs.PlayLemmas.{ends_get, kept_at}
 
@@ -56,11 +56,11 @@ module _ (from : Endpoint) (packet : Packet) where
       owned_repeats : (e : ℕ × Transfer) → Has_end e → server.Repeats from packet e.1 → AnyRepeats from packet (ends_from 1024 held ps)
       owned_repeats e h r =
           let own = h.0 in
-          let port = 1024 + own.place in
+          let port = 1024 + own.index in
           let found : at port held ≡ Some e.1 = ap (λ (n : ℕ). at n held) (sym own.is) ∙ h.1 in
           let here : end_at port held (Server own.served) ≡ Open_end (served_as port own.served e.1.end (left_in e.1.files) (server.draft_of e.1.files) e.1.request) = served_here port own.served own.served.ended e.1 own.lives found in
-          let side = served_side port own.served own.served.ended e.1 own.lives found (kept_at held ps own.place (Server own.served) all own.there) in
-          any_at from packet (ends_from 1024 held ps) own.place (end_at port held (Server own.served)) (ends_get held ps own.place (Server own.served) own.there)
+          let side = served_side port own.served own.served.ended e.1 own.lives found (kept_at held ps own.index (Server own.served) all own.there) in
+          any_at from packet (ends_from 1024 held ps) own.index (end_at port held (Server own.served)) (ends_get held ps own.index (Server own.served) own.there)
           (subst (Repeats from packet) (sym here) (record { server = side; peer = r.peer; same = r.same }))
 
       any_owned : (es : List (ℕ × Transfer)) → AllByRecursion Has_end es → server.AnyRepeats from packet es → AnyRepeats from packet (ends_from 1024 held ps)

@@ -27,11 +27,11 @@ use Rattle.tftp_player.specs.Repeating.{AsksForTransfer, RepeatsOpenNothing, IsN
 use Rattle.tftp_player.specs.Requests.{IsRepeated, WasAskedBy, Repeats, AnyRepeats, served, service}
 use Rattle.tftp_player.specs.World.{WorldState, OpenEnd, WorldEnd, Open_end, Closed_end, by_outcome, standing, end_after, files_of, is_closed, peer_of, view_of_end}
 use Rattle.tftp_player.specs.WorldKept.{IsOk}
-use Rattle.tftp_player.specs.WorldSteps.{Serves, Arrives, At_request_port, At_open_end, At_closed_end, At_nobody, Opens, Stays, Turns, TimesOut, told_end, WorldStep}
+use Rattle.tftp_player.specs.WorldSteps.{Serves, Arrives, At_request_port, At_open_end, At_closed_end, At_nobody, Opens, Stays, Turns, TimesOut, armed_end, WorldStep}
 use Rattle.tftp_player.specs.declared.event.Event.{Event}
 use Rattle.tftp_player.specs.declared.event.Event.TheVariants.{Get, Put, Deliver, Timeout, RefuseStore, Stray}
 use Rattle.tftp_player.specs.declared.report.Report.{Report}
-use Rattle.tftp_machine.proofs.Places.{slice_get-push_old, slice_get-set_cases}
+use Rattle.tftp_machine.proofs.Indices.{slice_get-push_old, slice_get-set_cases}
 use Rattle.tftp_player.proofs.ServerLemmas.{says_one}
 use Rattle.tftp_player.proofs.TermsKept.{step_has, timeout_has}
 use Rattle.tftp_player.proofs.WorldTurns.{view_at}
@@ -75,7 +75,7 @@ module _ (old new : WorldState) (from : Endpoint) (packet : Packet) (bytes : Lis
 pub repeats_open_nothing : RepeatsOpenNothing
 repeats_open_nothing strangers old new from packet bytes report ok asks spells any l =
     let s = stays old new from packet bytes report asks spells any strangers request_port ok refl l in
-    (s.tells, s.is)
+    (s.reports, s.is)
 
 -- ---- what opens an end
 
@@ -180,12 +180,12 @@ module _ (from : Endpoint) (packet : Packet) where
     by_case None open_now = by_files held
     by_case (Some outcome) open_now = absurd (true≢false open_now)
 
-  told_lasts : (x : WorldEnd) → Repeats from packet x → Repeats from packet (told_end x)
-  told_lasts (Open_end x) r = by_test (is_sender x.state.role.side) where
+  armed_lasts : (x : WorldEnd) → Repeats from packet x → Repeats from packet (armed_end x)
+  armed_lasts (Open_end x) r = by_test (is_sender x.state.role.side) where
     by_test : (sender : Bool) → Repeats from packet (Open_end (if sender then x else record x { refuses = true }))
     by_test true = r
     by_test false = record { server = r.server; peer = r.peer; same = r.same }
-  told_lasts (Closed_end x) r = r
+  armed_lasts (Closed_end x) r = r
 
   module _ (old new : WorldState) (report : Report) (k : ℕ) (x z : WorldEnd) (there : slice_get old.ends k ≡ Some x) (r : Repeats from packet x) (here : slice_get new.ends k ≡ Some z) where
     same_end : new.ends ≡ old.ends → Lasts z
@@ -230,7 +230,7 @@ module _ (from : Endpoint) (packet : Packet) where
     at_event (Deliver i) s = at_arrival _ _ _ s.2
     at_event (Timeout port) s = at_timeout s.0 s.1 s.2.there s.3
     at_event (RefuseStore port) s =
-        set_at s.0 s.1 (told_end s.1) (ap (λ (w : WorldState). w.ends) s.4) s.2.there (λ own o. told_lasts s.1 own)
+        set_at s.0 s.1 (armed_end s.1) (ap (λ (w : WorldState). w.ends) s.4) s.2.there (λ own o. armed_lasts s.1 own)
     at_event (Stray by to bytes) s = at_arrival _ _ _ s.1
 
 pub requests_last : RequestsLast

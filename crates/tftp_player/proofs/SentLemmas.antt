@@ -15,7 +15,7 @@ use Rattle.tftp_machine.specs.Machine.{Endpoint}
 use Rattle.tftp_player.specs.Played.{records_from}
 use Rattle.tftp_player.specs.PlayedWorld.{HasSentEach}
 use Rattle.tftp_player.specs.World.{WorldState, OpenEnd, WorldEnd, Open_end, Closed_end, standing, replied, end_after}
-use Rattle.tftp_player.specs.WorldSteps.{Serves, Arrives, At_request_port, At_open_end, At_closed_end, At_nobody, Opens, Stays, Turns, TimesOut, told_end, WorldStep}
+use Rattle.tftp_player.specs.WorldSteps.{Serves, Arrives, At_request_port, At_open_end, At_closed_end, At_nobody, Opens, Stays, Turns, TimesOut, armed_end, WorldStep}
 use Rattle.tftp_player.specs.declared.event.Event.{Event}
 use Rattle.tftp_player.specs.declared.event.Event.TheVariants.{Get, Put, Deliver, Timeout, RefuseStore, Stray}
 use Rattle.tftp_player.specs.declared.report.Report.{Report}
@@ -62,7 +62,7 @@ sends_each old new (Put name mode asked bytes) report s h = opens old new _ repo
 sends_each old new (Deliver i) report s h = arrives old new _ _ _ report s.2 h
 sends_each old new (Timeout port) report s h = times_out old new _ s.1 report s.3 h
 sends_each old new (RefuseStore port) report s h =
-    subst HasSentEach (sym s.4) (let a = length-set old.ends s.0 (told_end s.1) in let l : length (slice_set old.ends s.0 (told_end s.1)) ≤ length old.sent = omega (arith, a, h) in l)
+    subst HasSentEach (sym s.4) (let a = length-set old.ends s.0 (armed_end s.1) in let l : length (slice_set old.ends s.0 (armed_end s.1)) ≤ length old.sent = omega (arith, a, h) in l)
 sends_each old new (Stray from to bytes) report s h = arrives old new _ _ _ report s.1 h
 
 -- the record at an index has the port of the end there
@@ -76,22 +76,22 @@ records_count port [] = refl
 records_count port (x ∷ ends) = ap suc (records_count (port + 1) ends)
 
 -- ---- what is drawn
-module _ (w : WorldState) (kind place : ℕ) where
+module _ (w : WorldState) (kind index : ℕ) where
   abbrev by_count : Bool → Option Event
-  by_count none = if none then None else if nat_lt (kind % 8) 6 then Some (Deliver (place % length w.sent)) else Some (Timeout (1024 + place % length w.ends))
+  by_count none = if none then None else if nat_lt (kind % 8) 6 then Some (Deliver (index % length w.sent)) else Some (Timeout (1024 + index % length w.ends))
 
-  pub draws_none : (records : List (ℕ × Record)) → records ≡ records_from 1024 w.ends → length records ≡ 0 → None ≡ drawn w kind place
+  pub draws_none : (records : List (ℕ × Record)) → records ≡ records_from 1024 w.ends → length records ≡ 0 → None ≡ drawn w kind index
   draws_none records are none = ap by_count (sym (eq-eqb (length w.ends) 0 (sym (records_count 1024 w.ends) ∙ (ap length (sym are) ∙ none))))
 
   pub draws_timeout : (records : List (ℕ × Record)) (d : ℕ × Record) → records ≡ records_from 1024 w.ends → (length records ≡ 0 → ⊥) → 6 ≤ kind % 8 →
-      Some (Timeout (slice_index_or records (place % length records) d).0) ≡ drawn w kind place
+      Some (Timeout (slice_index_or records (index % length records) d).0) ≡ drawn w kind index
   draws_timeout records d are some high =
       let n : length records ≡ length w.ends = ap length are ∙ records_count 1024 w.ends in
-      let within : place % length w.ends < length w.ends = omega (arith, n, some) in
-      ap (λ (rs : List (ℕ × Record)). Some (Timeout (slice_index_or rs (place % length rs) d).0)) are
-      ∙ (ap (λ (m : ℕ). Some (Timeout (slice_index_or (records_from 1024 w.ends) (place % m) d).0)) (records_count 1024 w.ends)
-      ∙ (ap (λ (p : ℕ). Some (Timeout p)) (record_port 1024 w.ends (place % length w.ends) d within)
-      ∙ (ap (λ (b : Bool). if b then Some (Deliver (place % length w.sent)) else Some (Timeout (1024 + place % length w.ends))) (sym (not_low (nat_lt (kind % 8) 6) refl))
+      let within : index % length w.ends < length w.ends = omega (arith, n, some) in
+      ap (λ (rs : List (ℕ × Record)). Some (Timeout (slice_index_or rs (index % length rs) d).0)) are
+      ∙ (ap (λ (m : ℕ). Some (Timeout (slice_index_or (records_from 1024 w.ends) (index % m) d).0)) (records_count 1024 w.ends)
+      ∙ (ap (λ (p : ℕ). Some (Timeout p)) (record_port 1024 w.ends (index % length w.ends) d within)
+      ∙ (ap (λ (b : Bool). if b then Some (Deliver (index % length w.sent)) else Some (Timeout (1024 + index % length w.ends))) (sym (not_low (nat_lt (kind % 8) 6) refl))
       ∙ ap by_count (sym (ne_eqb (length w.ends) 0 (λ e. some (n ∙ e))))))) where
         not_low : (b : Bool) → nat_lt (kind % 8) 6 ≡ b → nat_lt (kind % 8) 6 ≡ false
         not_low true e = absurd (let l = ltb-true (kind % 8) 6 e in omega (arith, l, high))

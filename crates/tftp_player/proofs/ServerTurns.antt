@@ -9,7 +9,7 @@ use Rattle.tftp_file.specs.declared.fault.StoreFault.TheVariants.{Missing, Exist
 use Rattle.tftp_file.specs.declared.files.Files.{Files}
 use Rattle.tftp_file.specs.declared.files.Files.TheVariants.{Source, Sink}
 use Rattle.tftp_ends.specs.End.{EndState, is_sender}
-use Rattle.tftp_ends.specs.OtherSinks.{SourcesTell, SinksTell, step_as}
+use Rattle.tftp_ends.specs.OtherSinks.{SourcesModel, SinksModel, step_as}
 use Rattle.tftp_ends.specs.Step.{Turn, after_turn}
 use Rattle.tftp_server.specs.Draft.{Drafting, files_in, MayRefuseAppend, MayRefuseCommit, DraftingBecomes, drafting_sink}
 use Rattle.tftp_store.specs.Memory.{memory_meaning}
@@ -70,7 +70,7 @@ module _ (replace : Bool) (path : List ℕ) (files : FileList) where
   may_commit : (d : Drafts) (fault : StoreFault) → IsFor replace path files d → MayRefuseCommit memory_meaning d fault → may_refuse_commit false (in_the_way replace (file_at files path)) (seen d) fault
   may_commit d Missing p h = h
   may_commit d Exists p h = (h.0, is_in_the_way replace path files (same_taken d p ∙ h.1))
-  may_commit d Full p (inl told) = inl told
+  may_commit d Full p (inl armed) = inl armed
   may_commit d Full p (inr free) = inr (not_taken replace path files (same_taken d p ∙ free))
   may_commit d Io p h = h
   may_commit d Memory p h = h
@@ -78,12 +78,12 @@ module _ (replace : Bool) (path : List ℕ) (files : FileList) where
   still_for : (d d' : Drafts) → IsFor replace path files d → DraftingBecomes memory_meaning d d' false → IsFor replace path files d'
   still_for d d' p h = (h.path ∙ p.0, h.replace ∙ p.1, same_Some d'.store.files d.store.files h.files ∙ p.2)
 
-  sinks : SinksTell seen (IsFor replace path files) (drafting_sink memory_meaning)
+  sinks : SinksModel seen (IsFor replace path files) (drafting_sink memory_meaning)
       (world_sink (may_refuse_commit false (in_the_way replace (file_at files path))))
-  sinks = record { tells = λ d. refl; keeps = still_for; appends = may_append; commits = may_commit; leaves = λ d d' committed p h. tt }
+  sinks = record { models = λ d. refl; keeps = still_for; appends = may_append; commits = may_commit; leaves = λ d d' committed p h. tt }
 
-sources : SourcesTell (λ (s : List ℕ). s) memory_source memory_source
-sources = record { tells = λ s. refl; fails = λ s want h. h; must = λ s want h. h }
+sources : SourcesModel (λ (s : List ℕ). s) memory_source memory_source
+sources = record { models = λ s. refl; fails = λ s want h. h; must = λ s want h. h }
 
 -- a step of the transfer is a step of the end
 module _ (from : Endpoint) (bytes : List ℕ) (e : EndState) (store store' : Stored) (path path' : List ℕ) (replace : Bool) (turn : Turn) where

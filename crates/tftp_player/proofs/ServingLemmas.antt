@@ -13,28 +13,28 @@ use Rattle.tftp_ends.specs.declared.record.Record.{Record}
 use Rattle.tftp_ends.specs.declared.record.Step.{Step}
 use Rattle.tftp_ends.specs.End.{EndState, outcome_of, record_of}
 use Rattle.tftp_ends.specs.Files.{KeepsFiles}
-use Rattle.tftp_ends.specs.Step.{Turn, Carries, after_turn, timeout_turn, told, reply_bytes}
+use Rattle.tftp_ends.specs.Step.{Turn, Carries, after_turn, timeout_turn, reported, reply_bytes}
 use Rattle.tftp_server.specs.Draft.{files_in, KeepsStore, drafting_sink}
-use Rattle.tftp_store.specs.Memory.{memory_meaning, with_told}
+use Rattle.tftp_store.specs.Memory.{memory_meaning, with_armed}
 use Rattle.tftp_server.specs.State.{at, with_next, draft_of, is_closed}
 use Rattle.tftp_server.specs.Steps.{TimesOut, TakesDatagram, TakesRecorded, KeepsHeld, with_end}
 use Rattle.tftp_store.specs.Store.{Stored, Drafted, FileList, new_draft}
 use Rattle.tftp_machine.specs.Machine.{Endpoint}
 use Rattle.tftp_player.specs.Clients.{server_at}
 use Rattle.tftp_player.specs.Effect.{effect_of}
-use Rattle.tftp_player.specs.Serving.{server_told, PlayedServer, Transfer, ServedKept, ServedTurns, ServedTimeoutStep, ServedDatagramStep, Concludes, ClosesAs, concluded_served, concluded_held}
+use Rattle.tftp_player.specs.Serving.{server_armed, PlayedServer, Transfer, ServedKept, ServedTurns, ServedTimeoutStep, ServedDatagramStep, Concludes, ClosesAs, concluded_served, concluded_held}
 use Rattle.tftp_player.specs.declared.effect.Effect.{Effect}
 use Rattle.tftp_player.specs.declared.served.Served.{Served}
 use Rattle.tftp_player.proofs.HeldLemmas.{at-with_next}
 
 -- a transfer that made a step has closed as the step returned
-pub closes_as : (port : ℕ) (h next : Transfer) (held held' : List (ℕ × Transfer)) (turn : Turn) (step : Step) → at port held ≡ Some h → held' ≡ with_next port next held → next.end ≡ after_turn h.end turn → step ≡ told h.end turn →
+pub closes_as : (port : ℕ) (h next : Transfer) (held held' : List (ℕ × Transfer)) (turn : Turn) (step : Step) → at port held ≡ Some h → held' ≡ with_next port next held → next.end ≡ after_turn h.end turn → step ≡ armed h.end turn →
     ClosesAs step.closed (at port held')
-closes_as port h next held held' turn step found e is tells =
-    subst (ClosesAs step.closed) (sym (ap (at port) e ∙ at-with_next port h next held found)) (ap (λ (s : Step). s.closed) tells ∙ ap (λ (e : EndState). outcome_of e.position.phase) (sym is))
+closes_as port h next held held' turn step found e is reports =
+    subst (ClosesAs step.closed) (sym (ap (at port) e ∙ at-with_next port h next held found)) (ap (λ (s : Step). s.closed) reports ∙ ap (λ (e : EndState). outcome_of e.position.phase) (sym is))
 
 pub times_out_closes : (port : ℕ) (old new : List (ℕ × Transfer)) (step : Step) (before after : List ℕ) → TimesOut port old new step before after → ClosesAs step.closed (at port new)
-times_out_closes port old new step before after t = closes_as port t.transfer (with_end t.end t.transfer) old new (timeout_turn t.transfer.end) step t.found t.held t.carries.state t.tells
+times_out_closes port old new step before after t = closes_as port t.transfer (with_end t.end t.transfer) old new (timeout_turn t.transfer.end) step t.found t.held t.carries.state t.reports
 
 -- and is still held
 pub is_recorded : (closed : Option Outcome) (o : Option Transfer) (r : Option Record) → ClosesAs closed o → r ≡ option_map (λ (h : Transfer). record_of h.end) o → r ≢ None
@@ -42,18 +42,18 @@ is_recorded closed None r c e none = c
 is_recorded closed (Some h) r c e none = let f : Some (record_of h.end) ≡ None = sym e ∙ none in cc
 
 -- the result of a step of an end there
-pub effect_is : (at : Endpoint) (e e' : EndState) (turn : Turn) (step : Step) (start out : List ℕ) → start ≡ [] → Carries e turn e' step.to start out → step ≡ told e turn →
+pub effect_is : (at : Endpoint) (e e' : EndState) (turn : Turn) (step : Step) (start out : List ℕ) → start ≡ [] → Carries e turn e' step.to start out → step ≡ armed e turn →
     (let effect : Effect = record { from = at; to = step.to; bytes = out; closed = step.closed } in effect) ≡ effect_of at turn
-effect_is at e e' turn step start out none c tells =
-    ap (λ (s : Step). record { from = at; to = s.to; bytes = out; closed = s.closed }) tells
-    ∙ ap (λ (bytes : List ℕ). record { from = at; to = (told e turn).to; bytes = bytes; closed = outcome_of turn.position.phase }) (c.appended ∙ ap (λ (s : List ℕ). s ++ reply_bytes turn.reply) none)
+effect_is at e e' turn step start out none c reports =
+    ap (λ (s : Step). record { from = at; to = s.to; bytes = out; closed = s.closed }) reports
+    ∙ ap (λ (bytes : List ℕ). record { from = at; to = (reported e turn).to; bytes = bytes; closed = outcome_of turn.position.phase }) (c.appended ∙ ap (λ (s : List ℕ). s ++ reply_bytes turn.reply) none)
 
 -- the server after it: the transfer is removed if it has closed
 turns_served : (port : ℕ) (was old new : Served) (before mid after : PlayedServer) (e : EndState) (turn : Turn) (next : Transfer) (refuses : Bool) (store : Stored) (effect : Effect) (r : Record) →
     next.end ≡ after_turn e turn → at port mid.held ≡ Some next → mid ≡ record before { store = store; held = with_next port next before.held } → old ≡ record was { refuses = refuses } →
     Concludes port (at port mid.held) old new mid after → r ≡ record_of next.end → effect ≡ effect_of (server_at port) turn →
     ServedTurns port was new before after e turn next refuses store effect r
-turns_served port was old new before mid after e turn next refuses store effect r is found server told_so c recorded effects =
+turns_served port was old new before mid after e turn next refuses store effect r is found server armed_so c recorded effects =
     let d : Concludes port (Some next) old new mid after = subst (λ (o : Option Transfer). Concludes port o old new mid after) found c in
     let closed : is_closed next ≡ is_some (outcome_of turn.position.phase) = ap (λ (e : EndState). is_some (outcome_of e.position.phase)) is in
     record {
@@ -61,7 +61,7 @@ turns_served port was old new before mid after e turn next refuses store effect 
       effects = effects;
       recorded = recorded ∙ ap record_of is;
       served = d.0 ∙ (ap (λ (r : Record). concluded_served (is_closed next) r (draft_of next.files) old) (sym recorded)
-          ∙ (ap (λ (b : Bool). concluded_served b r (draft_of next.files) old) closed ∙ ap (concluded_served (is_some (outcome_of turn.position.phase)) r (draft_of next.files)) told_so));
+          ∙ (ap (λ (b : Bool). concluded_served b r (draft_of next.files) old) closed ∙ ap (concluded_served (is_some (outcome_of turn.position.phase)) r (draft_of next.files)) armed_so));
       server = d.1 ∙ (ap (λ (b : Bool). record mid { held = concluded_held b port mid.held }) closed
           ∙ ap (λ (m : PlayedServer). record m { held = concluded_held (is_some (outcome_of turn.position.phase)) port m.held }) server);
     }
@@ -84,16 +84,16 @@ served_times_out port old new before mid after step start out effect r none t re
           refl
           c
           (same_Some r (record_of next.end) (recorded ∙ ap (option_map (λ (h : Transfer). record_of h.end)) found))
-          (made ∙ ap (λ (a : Endpoint). record { from = a; to = step.to; bytes = out; closed = step.closed }) is_here ∙ effect_is (server_at port) t.transfer.end t.end turn step start out none t.carries t.tells),
+          (made ∙ ap (λ (a : Endpoint). record { from = a; to = step.to; bytes = out; closed = step.closed }) is_here ∙ effect_is (server_at port) t.transfer.end t.end turn step start out none t.carries t.reports),
     )
 
 -- ---- a datagram: the store was set to refuse as the end is, and afterwards not to
 module _ (port : ℕ) (from : Endpoint) (bytes : List ℕ) (was old new : Served) (before mid quieted after : PlayedServer) (step : Step) (start out : List ℕ) (effect : Effect) (r : Record) where
-  steps_so : start ≡ [] → (t : TakesDatagram memory_meaning memory_source port from bytes (server_told before was.refuses) mid step start out) → r ≡ record_of t.next.end →
-      mid ≡ record before { store = mid.store; held = mid.held } → old ≡ record was { refuses = mid.store.refuses } → quieted ≡ server_told mid false →
+  steps_so : start ≡ [] → (t : TakesDatagram memory_meaning memory_source port from bytes (server_armed before was.refuses) mid step start out) → r ≡ record_of t.next.end →
+      mid ≡ record before { store = mid.store; held = mid.held } → old ≡ record was { refuses = mid.store.refuses } → quieted ≡ server_armed mid false →
       Concludes port (at port quieted.held) old new quieted after → effect ≡ record { from = server_at port; to = step.to; bytes = out; closed = step.closed } →
       ServedDatagramStep port from bytes was new before after effect r
-  steps_so none t recorded rest told_so quiet c made = record {
+  steps_so none t recorded rest armed_so quiet c made = record {
     transfer = t.transfer;
     next = t.next;
     turn = t.takes.turn;
@@ -104,26 +104,26 @@ module _ (port : ℕ) (from : Endpoint) (bytes : List ℕ) (was old new : Served
     kind = t.takes.kind;
     path = t.takes.path;
     request = t.takes.request;
-    turns = turns_served port was old new before quieted after t.transfer.end t.takes.turn t.next mid.store.refuses (with_told mid.store false) effect r t.takes.carries.state
+    turns = turns_served port was old new before quieted after t.transfer.end t.takes.turn t.next mid.store.refuses (with_armed mid.store false) effect r t.takes.carries.state
         (ap (λ (s : PlayedServer). at port s.held) quiet ∙ (ap (at port) t.held ∙ at-with_next port t.transfer t.next before.held t.found))
-        (quiet ∙ (ap (λ (s : PlayedServer). server_told (record s { store = mid.store }) false) rest
-        ∙ ap (λ (held : List (ℕ × Transfer)). record before { store = with_told mid.store false; held = held }) t.held))
-        told_so
+        (quiet ∙ (ap (λ (s : PlayedServer). server_armed (record s { store = mid.store }) false) rest
+        ∙ ap (λ (held : List (ℕ × Transfer)). record before { store = with_armed mid.store false; held = held }) t.held))
+        armed_so
         c
         recorded
-        (made ∙ effect_is (server_at port) t.transfer.end t.next.end t.takes.turn step start out none t.takes.carries t.takes.tells);
+        (made ∙ effect_is (server_at port) t.transfer.end t.next.end t.takes.turn step start out none t.takes.carries t.takes.reports);
   }
 
   -- the server, and the datagram to send, are given by equations
-  pub served_steps : (told : PlayedServer) → told ≡ server_told before was.refuses → start ≡ [] → TakesRecorded memory_meaning memory_source port from bytes told mid step r start out →
-      mid ≡ record told { store = mid.store; held = mid.held } → old ≡ record was { refuses = mid.store.refuses } → quieted ≡ server_told mid false →
+  pub served_steps : (armed : PlayedServer) → armed ≡ server_armed before was.refuses → start ≡ [] → TakesRecorded memory_meaning memory_source port from bytes armed mid step r start out →
+      mid ≡ record armed { store = mid.store; held = mid.held } → old ≡ record was { refuses = mid.store.refuses } → quieted ≡ server_armed mid false →
       Concludes port (at port quieted.held) old new quieted after → (from_here : Endpoint) → from_here ≡ server_at port → effect ≡ record { from = from_here; to = step.to; bytes = out; closed = step.closed } →
       ServedDatagramStep port from bytes was new before after effect r
-  served_steps told told_is none t rest told_so quiet c here is_here made =
-      let taken : TakesRecorded memory_meaning memory_source port from bytes (server_told before was.refuses) mid step r start out =
-      subst (λ (s : PlayedServer). TakesRecorded memory_meaning memory_source port from bytes s mid step r start out) told_is t in
+  served_steps armed armed_is none t rest armed_so quiet c here is_here made =
+      let taken : TakesRecorded memory_meaning memory_source port from bytes (server_armed before was.refuses) mid step r start out =
+      subst (λ (s : PlayedServer). TakesRecorded memory_meaning memory_source port from bytes s mid step r start out) armed_is t in
       steps_so none taken.0 taken.1
-      (rest ∙ ap (λ (s : PlayedServer). record s { store = mid.store; held = mid.held }) told_is) told_so quiet c
+      (rest ∙ ap (λ (s : PlayedServer). record s { store = mid.store; held = mid.held }) armed_is) armed_so quiet c
       (made ∙ ap (λ (a : Endpoint). record { from = a; to = step.to; bytes = out; closed = step.closed }) is_here)
 
 -- ---- a datagram that the end did not handle changes nothing
@@ -170,17 +170,17 @@ transfer_is next h a b c d =
     ∙ (ap (λ (p : List ℕ). record { end = h.end; files = h.files; path = p; request = next.request }) c
     ∙ ap (λ (q : List ℕ). record h { request = q }) d))
 
-pub not_taken : (port : ℕ) (was : Served) (before told mid quieted : PlayedServer) → ServedKept port was before.held → before.store.refuses ≡ false → told ≡ server_told before was.refuses →
-    KeepsHeld memory_meaning memory_source port (at port told.held) told mid → mid ≡ record told { store = mid.store; held = mid.held } → quieted ≡ server_told mid false → quieted ≡ before
-not_taken port was before told mid quieted kept none told_is k rest quiet =
+pub not_taken : (port : ℕ) (was : Served) (before armed mid quieted : PlayedServer) → ServedKept port was before.held → before.store.refuses ≡ false → armed ≡ server_armed before was.refuses →
+    KeepsHeld memory_meaning memory_source port (at port armed.held) armed mid → mid ≡ record armed { store = mid.store; held = mid.held } → quieted ≡ server_armed mid false → quieted ≡ before
+not_taken port was before armed mid quieted kept none armed_is k rest quiet =
     let h : Transfer = kept.transfer in
-    let there : PlayedServer = server_told before was.refuses in
-    let so : KeepsHeld memory_meaning memory_source port (at port before.held) there mid = subst (λ (s : PlayedServer). KeepsHeld memory_meaning memory_source port (at port s.held) s mid) told_is k in
+    let there : PlayedServer = server_armed before was.refuses in
+    let so : KeepsHeld memory_meaning memory_source port (at port before.held) there mid = subst (λ (s : PlayedServer). KeepsHeld memory_meaning memory_source port (at port s.held) s mid) armed_is k in
     let s : KeepsHeld memory_meaning memory_source port (Some h) there mid = subst (λ (o : Option Transfer). KeepsHeld memory_meaning memory_source port o there mid) kept.found so in
     let files = files_kept h.files s.0.files there.store mid.store h.path s.0.path before.config.overwrite s.1.stays s.1.files in
     let same : s.0 ≡ h = transfer_is s.0 h s.1.end files.0 s.1.path s.1.request in
     let held : mid.held ≡ before.held = s.2 ∙ (ap (λ (n : Transfer). with_next port n before.held) same ∙ next_same port h before.held kept.found) in
-    quiet ∙ (ap (λ (m : PlayedServer). server_told m false) (rest ∙ ap (λ (m : PlayedServer). record m { store = mid.store; held = mid.held }) told_is)
-    ∙ (ap (λ (st : Stored). record before { store = with_told st false; held = mid.held }) files.1
-    ∙ (ap (λ (es : List (ℕ × Transfer)). record before { store = with_told before.store false; held = es }) held
-    ∙ ap (λ (b : Bool). server_told before b) (sym none))))
+    quiet ∙ (ap (λ (m : PlayedServer). server_armed m false) (rest ∙ ap (λ (m : PlayedServer). record m { store = mid.store; held = mid.held }) armed_is)
+    ∙ (ap (λ (st : Stored). record before { store = with_armed st false; held = mid.held }) files.1
+    ∙ (ap (λ (es : List (ℕ × Transfer)). record before { store = with_armed before.store false; held = es }) held
+    ∙ ap (λ (b : Bool). server_armed before b) (sym none))))

@@ -11,7 +11,7 @@ use Rattle.tftp_ends.specs.End.{outcome_of}
 use Rattle.tftp_ends.specs.Step.{Turn}
 use Rattle.tftp_server.specs.Port.{Service, Silent, Refused, Sends, Takes}
 use Rattle.tftp_machine.specs.Machine.{Endpoint}
-use Rattle.tftp_machine.proofs.Places.{slice_get-push_old}
+use Rattle.tftp_machine.proofs.Indices.{slice_get-push_old}
 use Rattle.tftp_player.specs.Requests.{service}
 use Rattle.tftp_player.specs.Settling.{Settled}
 use Rattle.tftp_player.specs.Straight.{TookAll, AllTaken, HaveTaken, IsThrough, Ends, RunsStraight, ReadsStraight, WritesStraight, ReadsSettle, WritesSettle, read_adds, write_adds}
@@ -55,10 +55,10 @@ record ClosedAs (w : WorldState) (outcome : Outcome) : Type 0 where
   pub outcome_is : x.recorded.outcome ≡ Some outcome
 
 served_closes : (service : Service) (w v : WorldState) (from : Endpoint) (bytes : List ℕ) (report : Report) → Serves service w from bytes report v → report.closed ≡ None
-served_closes Silent w v from bytes report s = ap (λ (r : Report). r.closed) s.tells
+served_closes Silent w v from bytes report s = ap (λ (r : Report). r.closed) s.reports
 served_closes (Refused reply) w v from bytes report s = ap (λ (r : Report). r.closed) s.0
-served_closes (Sends path mode length agreed) w v from bytes report s = ap (λ (r : Report). r.closed) s.2.tells
-served_closes (Takes path mode agreed) w v from bytes report s = ap (λ (r : Report). r.closed) s.tells
+served_closes (Sends path mode length agreed) w v from bytes report s = ap (λ (r : Report). r.closed) s.2.reports
+served_closes (Takes path mode agreed) w v from bytes report s = ap (λ (r : Report). r.closed) s.reports
 
 none_closed : (w : WorldState) (report : Report) (c : ℕ × Outcome) → report.closed ≡ None → report.closed ≡ Some c → ClosedAs w c.1
 none_closed w report c none some = absurd (let e : None ≡ Some c = sym none ∙ some in cc)
@@ -67,7 +67,7 @@ closing : (w v : WorldState) (from to : Endpoint) (bytes : List ℕ) (report : R
 closing w v from to bytes report c (At_request_port here port decoded says repeated same s) e = none_closed v report c (served_closes (service w repeated bytes decoded) w v from bytes report s) e
 closing w v from to bytes report c (At_open_end k x there at h) e =
     let y = end_after x h.turn h.held in
-    let o = outcome_at x.address (outcome_of h.turn.position.phase) c (sym (ap (λ (r : Report). r.closed) h.turns.tells) ∙ e) in
+    let o = outcome_at x.address (outcome_of h.turn.position.phase) c (sym (ap (λ (r : Report). r.closed) h.turns.reports) ∙ e) in
     let closes : outcome_of y.state.position.phase ≡ Some c.1 = after_outcome x h.turn h.held ∙ o in
     record {
       k = k;
@@ -75,8 +75,8 @@ closing w v from to bytes report c (At_open_end k x there at h) e =
       there = set_at w v k (Open_end x) (standing y) (ap (λ (u : WorldState). u.ends) h.turns.is) there ∙ ap (λ (z : Option Outcome). Some (by_outcome z y)) closes;
       outcome_is = closes;
     }
-closing w v from to bytes report c (At_closed_end k x there at s) e = none_closed v report c (ap (λ (r : Report). r.closed) s.tells) e
-closing w v from to bytes report c (At_nobody away nobody s) e = none_closed v report c (ap (λ (r : Report). r.closed) s.tells) e
+closing w v from to bytes report c (At_closed_end k x there at s) e = none_closed v report c (ap (λ (r : Report). r.closed) s.reports) e
+closing w v from to bytes report c (At_nobody away nobody s) e = none_closed v report c (ap (λ (r : Report). r.closed) s.reports) e
 
 served_stays : (service : Service) (w v : WorldState) (from : Endpoint) (bytes : List ℕ) (report : Report) (k : ℕ) (x : WorldEnd) → Serves service w from bytes report v → slice_get w.ends k ≡ Some x → slice_get v.ends k ≡ Some x
 served_stays Silent w v from bytes report k x s there = ap (λ (u : WorldState). slice_get u.ends k) s.is ∙ there

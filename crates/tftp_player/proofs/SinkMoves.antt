@@ -14,7 +14,7 @@ use Rattle.tftp_file.specs.declared.files.Files.{Files}
 use Rattle.tftp_file.specs.declared.files.Files.TheVariants.{Source, Sink}
 use Rattle.tftp_file.specs.Block.{IsBeginningOf}
 use Rattle.tftp_file.specs.Netascii.{wire_text, netascii_text}
-use Rattle.tftp_file.specs.Sink.{Holding, UnlessTold, AppendsFreely, CommitsFreely, with_piece}
+use Rattle.tftp_file.specs.Sink.{Holding, UnlessArmed, AppendsFreely, CommitsFreely, with_piece}
 use Rattle.tftp_ends.specs.declared.error_reply.ErrorReply.{ErrorReply}
 use Rattle.tftp_ends.specs.declared.error_reply.ErrorReply.TheVariants as replies
 use Rattle.tftp_ends.specs.declared.outcome.Outcome.{Outcome}
@@ -41,8 +41,8 @@ pub data Took (before after : Holding) (bytes : List ℕ) (answer : Result Done 
   All_of_it : (answer ≡ Ok tt) → (after.bytes ≡ before.bytes ++ bytes) → (before.committed ≡ false → after.committed ≡ false) → Took before after bytes answer
   None_of_it : (fault : StoreFault) → (answer ≡ Err fault) → (after.bytes ≡ before.bytes) → (after.committed ≡ before.committed) → Took before after bytes answer
 
-took_some : (told : Bool) (before after : Holding) (b : ℕ) (bytes : List ℕ) (answer : Result Done StoreFault) → before.refuses ≡ told →
-    UnlessTold told before (Some after) answer (AppendsFreely before (Some after) (b ∷ bytes) answer) →
+took_some : (armed : Bool) (before after : Holding) (b : ℕ) (bytes : List ℕ) (answer : Result Done StoreFault) → before.refuses ≡ armed →
+    UnlessArmed armed before (Some after) answer (AppendsFreely before (Some after) (b ∷ bytes) answer) →
     IfErr answer (may_refuse_append before (b ∷ bytes)) → answer ≢ Err faults.Memory → Took before after (b ∷ bytes) answer
 took_some true before after b bytes answer is h may memory =
     None_of_it faults.Full h.answer (let e = same_Some after (record before { refuses = false }) h.leaves in ap (λ (z : Holding). z.bytes) e)
@@ -67,8 +67,8 @@ pub data Kept_all (before after : Holding) (answer : Result Done StoreFault) : T
   For_good : (answer ≡ Ok tt) → (after.bytes ≡ before.bytes) → (after.committed ≡ true) → Kept_all before after answer
   Not_yet : (fault : StoreFault) → (answer ≡ Err fault) → (after.bytes ≡ before.bytes) → (after.committed ≡ before.committed) → Kept_all before after answer
 
-pub kept_by : (told : Bool) (before after : Holding) (answer : Result Done StoreFault) →
-    UnlessTold told before (Some after) answer (CommitsFreely before (Some after) answer) → Kept_all before after answer
+pub kept_by : (armed : Bool) (before after : Holding) (answer : Result Done StoreFault) →
+    UnlessArmed armed before (Some after) answer (CommitsFreely before (Some after) answer) → Kept_all before after answer
 kept_by true before after answer h =
     let e = same_Some after (record before { refuses = false }) h.leaves in
     Not_yet faults.Full h.answer (ap (λ (z : Holding). z.bytes) e) (ap (λ (z : Holding). z.committed) e)
@@ -142,8 +142,8 @@ Readable x terms piece = is_readable x.state.role.mode x.state.position.held pie
 module _ (first : List Rule) (views : List EndView) (messages : List Message) (k : ℕ) (x : OpenEnd) (terms : Terms) (number : ℕ) (from : Endpoint) (piece : List ℕ)
     (kept : EndKept x) (r : Receives first views messages k x terms number from piece) where
   -- what it has of its peer's text
-  pub told : text_of_end x ≡ wire_text x.state.role.mode x.stored ++ x.state.position.held
-  told =
+  pub wire_text_is : text_of_end x ≡ wire_text x.state.role.mode x.stored ++ x.state.position.held
+  wire_text_is =
       let w = wire_text x.state.role.mode x.stored in
       text_else (is_sender x.state.role.side) (wire_text x.state.role.mode x.file) (if goes_on x.state.position.phase then w ++ x.state.position.held else w) r.receiver
       ∙ ap (λ (b : Bool). if b then w ++ x.state.position.held else w) r.going
@@ -155,7 +155,7 @@ module _ (first : List Rule) (views : List EndView) (messages : List Message) (k
   more_text : (more after : List ℕ) → Decoded x.state.role.mode x.state.position.held piece more after →
       text_of_end x ++ piece ≡ wire_text x.state.role.mode (x.stored ++ more) ++ after
   more_text more after d =
-      ap (λ (t : List ℕ). t ++ piece) told
+      ap (λ (t : List ℕ). t ++ piece) wire_text_is
       ∙ stored_more x.state.role.mode x.stored x.state.position.held piece more after (goes_on_with x.state.role.mode x.state.position.held piece more after kept.held d)
 
   -- the store refused it
@@ -273,7 +273,7 @@ module _ (first : List Rule) (views : List EndView) (messages : List Message) (k
       let begins : IsBeginningOf (wire_text x.state.role.mode mid.bytes) (text_of_end x ++ piece) = (
         x.state.position.held ++ piece,
         ap (λ (z : List ℕ). wire_text x.state.role.mode z ++ (x.state.position.held ++ piece)) same
-            ∙ (sym (append_assoc w x.state.position.held piece) ∙ ap (λ (z : List ℕ). z ++ piece) (sym told)),
+            ∙ (sym (append_assoc w x.state.position.held piece) ∙ ap (λ (z : List ℕ). z ++ piece) (sym wire_text_is)),
       ) in
       subst (λ (z : Holding). Goes first views messages k x turn (end_after x turn (Sink z))) (sym h.1)
       (subst (λ (t : Turn). Goes first views messages k x t (end_after x t (Sink mid))) (sym h.0)

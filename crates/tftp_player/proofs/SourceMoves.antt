@@ -35,7 +35,7 @@ use Rattle.tftp_player.specs.WorldKept.{EndKept, sent_text}
 use Rattle.tftp_player.proofs.Actions.{Stands, sends, completes}
 use Rattle.tftp_player.proofs.SaidLemmas.{spells_own}
 use Rattle.tftp_player.proofs.EndMoves.{Goes}
-use Rattle.tftp_player.proofs.Standing.{open_view, placed}
+use Rattle.tftp_player.proofs.Standing.{open_view, with_phase}
 
 -- a source in memory was asked for block n + 1, after the n blocks that it gave
 pub record BlockSent (terms : Terms) (n : ℕ) (from : Endpoint) (e : EndState) (text : List ℕ) (turn : Turn) (left : List ℕ) : Type 0 where
@@ -48,8 +48,8 @@ back n = omega arith
 -- the source is asked for as much of a block as it can give
 requested_end : (terms : Terms) (n : ℕ) (e : EndState) (text left : List ℕ) → e.role.length ≡ length text → left ≡ drop (n * terms.size) text →
     block_length e.role.length terms.size (n + 1) ≡ min terms.size (length left)
-requested_end terms n e text left measured behind =
-    let rest : length left ≡ length text - n * terms.size = ap length behind ∙ length-drop (n * terms.size) text in
+requested_end terms n e text left measured remaining_is =
+    let rest : length left ≡ length text - n * terms.size = ap length remaining_is ∙ length-drop (n * terms.size) text in
     let first : block_length e.role.length terms.size (n + 1) ≡ min terms.size (e.role.length - n * terms.size) =
     ap (λ (m : ℕ). min terms.size (e.role.length - m * terms.size)) (back n) in
     first ∙ ap (min terms.size) (ap (λ (l : ℕ). l - n * terms.size) measured ∙ sym rest)
@@ -58,13 +58,13 @@ whole_count : (size l : ℕ) → min (min size l) l ≡ min size l
 whole_count size l = omega arith
 
 block_next : (text left : List ℕ) (size n : ℕ) → left ≡ drop (n * size) text → take size left ≡ block text size (n + 1)
-block_next text left size n behind =
-    ap (take size) behind ∙ ap (λ (m : ℕ). take size (drop (m * size) text)) (sym (back n))
+block_next text left size n remaining_is =
+    ap (take size) remaining_is ∙ ap (λ (m : ℕ). take size (drop (m * size) text)) (sym (back n))
 
 left_next : (text left : List ℕ) (size n : ℕ) → left ≡ drop (n * size) text → drop size left ≡ drop ((n + 1) * size) text
-left_next text left size n behind =
+left_next text left size n remaining_is =
     let e : n * size + size ≡ (n + 1) * size = omega arith in
-    ap (drop size) behind ∙ (drop-drop size (n * size) text ∙ ap (λ (m : ℕ). drop m text) e)
+    ap (drop size) remaining_is ∙ (drop-drop size (n * size) text ∙ ap (λ (m : ℕ). drop m text) e)
 
 counted : (want : ℕ) (k : ℕ) → k ≡ want → result_count_is want (Ok k) ≡ true
 counted want k e = eq-eqb k want e
@@ -79,7 +79,7 @@ filled terms number from piece e answer h =
 pub block_sent : (terms : Terms) (n : ℕ) (from : Endpoint) (e : EndState) (text left : List ℕ) (turn : Turn) (left' : List ℕ) →
     e.role.length ≡ length text → left ≡ drop (n * terms.size) text →
     Sends memory_source terms (n + 1) from e left turn left' → BlockSent terms n from e text turn left'
-block_sent terms n from e text left turn left' measured behind h = by_answer h.answer h.reads.fills h.reads.read h.reads.memory h.answers where
+block_sent terms n from e text left turn left' measured remaining_is h = by_answer h.answer h.reads.fills h.reads.read h.reads.memory h.answers where
   by_answer : (answer : Result ℕ FileFault) →
       Fills (Some left) (Some left') (block_length e.role.length terms.size (n + 1)) [] h.piece answer →
       (answer ≡ Err file_faults.Read → ⊥) → answer ≢ Err file_faults.Memory → turn ≡ filled_turn terms (n + 1) from h.piece e answer →
@@ -87,15 +87,15 @@ block_sent terms n from e text left turn left' measured behind h = by_answer h.a
   by_answer (Err file_faults.Read) f r m a = absurd (r refl)
   by_answer (Err file_faults.Memory) f r m a = absurd (m refl)
   by_answer (Ok k) f r m a =
-      let want = requested_end terms n e text left measured behind in
+      let want = requested_end terms n e text left measured remaining_is in
       let count : k ≡ min terms.size (length left) = f.count ∙ (ap (λ (w : ℕ). min w (length left)) want ∙ whole_count terms.size (length left)) in
       let turns = filled terms (n + 1) from h.piece e (Ok k) (counted (block_length e.role.length terms.size (n + 1)) k (count ∙ sym want)) in
       let piece : h.piece ≡ block text terms.size (n + 1) =
-      f.given ∙ (ap (λ (j : ℕ). take j left) count ∙ (take_min terms.size left ∙ block_next text left terms.size n behind)) in
+      f.given ∙ (ap (λ (j : ℕ). take j left) count ∙ (take_min terms.size left ∙ block_next text left terms.size n remaining_is)) in
       let rest : left' ≡ drop k left = same_Some left' (drop k left) f.rest in
       record {
         turn_is = a ∙ (turns ∙ ap (λ (p : List ℕ). sent_turn (Sending terms (n + 1)) from (data_bytes (n + 1) p) e) piece);
-        left_is = rest ∙ (ap (λ (j : ℕ). drop j left) count ∙ (drop_min terms.size left ∙ left_next text left terms.size n behind));
+        left_is = rest ∙ (ap (λ (j : ℕ). drop j left) count ∙ (drop_min terms.size left ∙ left_next text left terms.size n remaining_is));
       }
 
 -- what an action that sends did
@@ -133,9 +133,9 @@ pub data_goes : (first : List Rule) (views : List EndView) (messages : List Mess
     Goes first views messages k x (data_turn x terms n from) (data_end x terms n from) →
     SendsFrom memory_source (world_sink refuses_commit) terms (n + 1) from x.state (files_of x) turn held →
     Goes first views messages k x turn (end_after x turn held)
-data_goes first views messages k x terms n from turn held refuses_commit sender measured behind g h =
+data_goes first views messages k x terms n from turn held refuses_commit sender measured remaining_is g h =
     let f = sends_from (is_sender x.state.role.side) sender refuses_commit terms (n + 1) from x.state x.left (holding_of x) turn held h in
-    let b = block_sent terms n from x.state (sent_text x) x.left turn f.0 measured behind f.2 in
+    let b = block_sent terms n from x.state (sent_text x) x.left turn f.0 measured remaining_is f.2 in
     subst (λ (fs : Files (List ℕ) Holding). Goes first views messages k x turn (end_after x turn fs)) (sym f.1)
     (subst (λ (t : Turn). Goes first views messages k x t (end_after x t (Source f.0))) (sym b.turn_is)
     (subst (λ (l : List ℕ). Goes first views messages k x (data_turn x terms n from) (end_after x (data_turn x terms n from) (Source l))) (sym b.left_is) g))
@@ -155,22 +155,22 @@ text_if true f r e = refl
 text_if false f r e = absurd (true≢false (sym e))
 
 module _ (first : List Rule) (views : List EndView) (messages : List Message) (k : ℕ) (x0 : OpenEnd) (terms : Terms) (n : ℕ)
-    (s : Stands first views messages k (open_view (placed (Sending terms n) x0))) (kept : EndKept (placed (Sending terms n) x0)) where
+    (s : Stands first views messages k (open_view (with_phase (Sending terms n) x0))) (kept : EndKept (with_phase (Sending terms n) x0)) where
   -- the next block is sent
   pub sends_next : (from : Endpoint) → terms.peer ≡ from → Contains messages (message from x0.address (Says_ack n)) → n < block_count (sent_text x0) terms.size →
-      Goes first views messages k (placed (Sending terms n) x0) (data_turn (placed (Sending terms n) x0) terms n from) (data_end (placed (Sending terms n) x0) terms n from)
+      Goes first views messages k (with_phase (Sending terms n) x0) (data_turn (with_phase (Sending terms n) x0) terms n from) (data_end (with_phase (Sending terms n) x0) terms n from)
   sends_next from peer acked more =
-      let x = placed (Sending terms n) x0 in
+      let x = with_phase (Sending terms n) x0 in
       let u = kept.phase in
       let text = sent_text x in
-      let told : text_of_end x ≡ text = text_if (is_sender x.state.role.side) text (received_text x) u.sender in
+      let text_is : text_of_end x ≡ text = text_if (is_sender x.state.role.side) text (received_text x) u.sender in
       let l : n + 1 ≤ block_count text terms.size = omega arith in
       let packet = Data (n + 1) (block text terms.size (n + 1)) in
-      let room : n < block_count (text_of_end x) terms.size = subst (λ (t : List ℕ). n < block_count t terms.size) (sym told) more in
+      let room : n < block_count (text_of_end x) terms.size = subst (λ (t : List ℕ). n < block_count t terms.size) (sym text_is) more in
       let shown_now = sends first views messages k (open_view x) s from (refl, refl) u.sender (ap Some peer) acked room in
       record {
         said_now = message x.address from (said packet) ∷ [];
-        shown = subst (λ (t : List ℕ). IsShownWithin 3 first (set views k (open_view (data_end x terms n from))) (messages ++ message x.address from (Says_data (n + 1) (block t terms.size (n + 1))) ∷ [])) told shown_now;
+        shown = subst (λ (t : List ℕ). IsShownWithin 3 first (set views k (open_view (data_end x terms n from))) (messages ++ message x.address from (Says_data (n + 1) (block t terms.size (n + 1))) ∷ [])) text_is shown_now;
         replies = (packet, spells_own packet (valid_data text terms.size n u.positive u.size u.fits l), refl);
         kept = data_kept x terms n from kept u.measured u.sender u.positive u.size u.fits l (sym peer);
         side = refl;
@@ -180,16 +180,16 @@ module _ (first : List Rule) (views : List EndView) (messages : List Message) (k
 
   -- the last block is acknowledged
   pub ends_whole : (from : Endpoint) → terms.peer ≡ from → Contains messages (message from x0.address (Says_ack n)) → n ≡ block_count (sent_text x0) terms.size →
-      Goes first views messages k (placed (Sending terms n) x0) (response_turn Complete from (placed (Sending terms n) x0).state) (in_state (with_position (after Complete from (placed (Sending terms n) x0).state) (placed (Sending terms n) x0).state) (placed (Sending terms n) x0))
+      Goes first views messages k (with_phase (Sending terms n) x0) (response_turn Complete from (with_phase (Sending terms n) x0).state) (in_state (with_position (after Complete from (with_phase (Sending terms n) x0).state) (with_phase (Sending terms n) x0).state) (with_phase (Sending terms n) x0))
   ends_whole from peer acked last =
-      let x = placed (Sending terms n) x0 in
+      let x = with_phase (Sending terms n) x0 in
       let u = kept.phase in
       let text = sent_text x in
-      let told : text_of_end x ≡ text = text_if (is_sender x.state.role.side) text (received_text x) u.sender in
-      let whole : n ≡ block_count (text_of_end x) terms.size = subst (λ (t : List ℕ). n ≡ block_count t terms.size) (sym told) last in
+      let text_is : text_of_end x ≡ text = text_if (is_sender x.state.role.side) text (received_text x) u.sender in
+      let whole : n ≡ block_count (text_of_end x) terms.size = subst (λ (t : List ℕ). n ≡ block_count t terms.size) (sym text_is) last in
       let shown_now = completes first views messages k (open_view x) s from (refl, refl) u.sender (ap Some peer) acked whole in
       let y = in_state (with_position (after Complete from x.state) x.state) x in
-      let still : text_of_end x ≡ text_of_end y = told ∙ sym (text_if (is_sender x.state.role.side) text (received_text y) u.sender) in
+      let still : text_of_end x ≡ text_of_end y = text_is ∙ sym (text_if (is_sender x.state.role.side) text (received_text y) u.sender) in
       record {
         said_now = [];
         shown = subst (λ (ms : List Message). IsShownWithin 3 first (set views k (open_view y)) ms) (sym (append-nil messages))

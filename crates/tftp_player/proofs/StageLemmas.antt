@@ -11,7 +11,7 @@ use Rattle.tftp_ends.specs.End.{EndState, is_sender, is_client, outcome_of, reco
 use Rattle.tftp_ends.specs.Files.{AreFilesOf, AreSame}
 use Rattle.tftp_ends.specs.Step.{Turn, after_turn}
 use Rattle.tftp_server.specs.Draft.{KeepsStore}
-use Rattle.tftp_store.specs.Memory.{with_told}
+use Rattle.tftp_store.specs.Memory.{with_armed}
 use Rattle.tftp_server.specs.State.{at, draft_of, with_next}
 use Rattle.tftp_store.specs.Store.{Stored, Drafted}
 use Rattle.tftp_player.specs.Clients.{server_at, left_in, holding_in, no_holding, ClientTurns}
@@ -63,8 +63,8 @@ pub record Stepped (port : ℕ) (p : Player) (x : OpenEnd) (p' : Player) (before
   pub below : (tid : ℕ) → AreBelow tid before.held → AreBelow tid after.held
   pub counted : ((is_transfer (end_at port after.held p') ≡ is_transfer (Open_end x)) × (length after.held ≡ length before.held))
       ⊎ ((is_transfer (Open_end x) ≡ true) × (is_transfer (end_at port after.held p') ≡ false) × (suc (length after.held) ≡ length before.held))
-  pub owned : (place : ℕ) (ps : List Player) → port ≡ 1024 + place → slice_get ps place ≡ Some p → IsRising before.held → AllOwned ps before.held →
-      AllOwned (slice_set ps place p') after.held
+  pub owned : (index : ℕ) (ps : List Player) → port ≡ 1024 + index → slice_get ps index ≡ Some p → IsRising before.held → AllOwned ps before.held →
+      AllOwned (slice_set ps index p') after.held
   pub rising : IsRising before.held → IsRising after.held
   pub quiet : before.store.refuses ≡ false → after.store.refuses ≡ false
   pub config : after.config ≡ before.config
@@ -123,7 +123,7 @@ client_open port c c' server turn files effect r kept open_now t kind =
             ∙ sym (ap not kept.0),
         refl,
       );
-      owned = λ place ps is there rising all. client_owned ps place c (Client c') server.held there all;
+      owned = λ index ps is there rising all. client_owned ps index c (Client c') server.held there all;
       rising = λ rising. rising;
       quiet = λ quiet. quiet;
       config = refl;
@@ -188,26 +188,26 @@ has_draft side (Source left) fits = ap not (sym fits)
 has_draft side (Sink draft) fits = ap not (sym fits)
 
 -- a sender's flag is unchanged
-abbrev pub KeepsTold : Files (List ℕ) Drafted → Bool → Bool → Type 0
-KeepsTold (Source left) old new = new ≡ old
-KeepsTold (Sink draft) old new = Unit {0}
+abbrev pub KeepsArmed : Files (List ℕ) Drafted → Bool → Bool → Type 0
+KeepsArmed (Source left) old new = new ≡ old
+KeepsArmed (Sink draft) old new = Unit {0}
 
-pub same_told : (files : Files (List ℕ) Drafted) (told : Bool) → KeepsTold files told told
-same_told (Source left) told = refl
-same_told (Sink draft) told = tt
+pub same_armed : (files : Files (List ℕ) Drafted) (armed : Bool) → KeepsArmed files armed armed
+same_armed (Source left) armed = refl
+same_armed (Sink draft) armed = tt
 
-pub keeps_told : (files : Files (List ℕ) Drafted) (before after : Stored) (told : Bool) → KeepsStore files (with_told before told) after → KeepsTold files told after.refuses
-keeps_told (Source left) before after told k = ap (λ (s : Stored). s.refuses) k
-keeps_told (Sink draft) before after told k = tt
+pub keeps_armed : (files : Files (List ℕ) Drafted) (before after : Stored) (armed : Bool) → KeepsStore files (with_armed before armed) after → KeepsArmed files armed after.refuses
+keeps_armed (Source left) before after armed k = ap (λ (s : Stored). s.refuses) k
+keeps_armed (Sink draft) before after armed k = tt
 
 -- a turn of its end in the world
-served_after : (port : ℕ) (s : Served) (e : EndState) (turn : Turn) (old new : Files (List ℕ) Drafted) (refuses : Bool) (request : List ℕ) → SameDraftKind old new → KeepsTold old s.refuses refuses →
+served_after : (port : ℕ) (s : Served) (e : EndState) (turn : Turn) (old new : Files (List ℕ) Drafted) (refuses : Bool) (request : List ℕ) → SameDraftKind old new → KeepsArmed old s.refuses refuses →
     end_after (served_as port s e (left_in old) (draft_of old) request) turn (held_files refuses new) ≡ served_as port (record s { refuses = refuses }) (after_turn e turn) (left_in new) (draft_of new) request
-served_after port s e turn (Source left) (Source left') refuses request k told =
-    ap (λ (b : Bool). served_as port (record s { refuses = b }) (after_turn e turn) left' None request) (sym told)
-served_after port s e turn (Sink draft) (Sink draft') refuses request k told = refl
-served_after port s e turn (Source left) (Sink draft) refuses request k told = absurd k
-served_after port s e turn (Sink draft) (Source left) refuses request k told = absurd k
+served_after port s e turn (Source left) (Source left') refuses request k armed =
+    ap (λ (b : Bool). served_as port (record s { refuses = b }) (after_turn e turn) left' None request) (sym armed)
+served_after port s e turn (Sink draft) (Sink draft') refuses request k armed = refl
+served_after port s e turn (Source left) (Sink draft) refuses request k armed = absurd k
+served_after port s e turn (Sink draft) (Source left) refuses request k armed = absurd k
 
 -- the effect of a turn of a transfer h, beside its end
 pub record TransferGoes (h next : Transfer) (turn : Turn) (was refuses : Bool) : Type 0 where
@@ -215,14 +215,14 @@ pub record TransferGoes (h next : Transfer) (turn : Turn) (was refuses : Bool) :
   pub kind : SameDraftKind h.files next.files
   pub path : next.path ≡ h.path
   pub request : next.request ≡ h.request
-  pub told : KeepsTold h.files was refuses
+  pub armed : KeepsArmed h.files was refuses
   pub commits : CommitsLast next.files turn.position.phase
 
 module _ (port : ℕ) (s : Served) (before : PlayedServer) (h next : Transfer) (turn : Turn) (refuses : Bool) (store : Stored) (effect : Effect) (r : Record)
     (found : at port before.held ≡ Some h) (open_now : is_some s.ended ≡ false) (kept : ServedKept port s before.held) (recorded : r ≡ record_of (after_turn h.end turn))
     (goes : TransferGoes h next turn s.refuses refuses) where
-  abbrev told : Served
-  told = record s { refuses = refuses }
+  abbrev armed : Served
+  armed = record s { refuses = refuses }
 
   abbrev draft : Option Drafted
   draft = draft_of next.files
@@ -248,34 +248,34 @@ module _ (port : ℕ) (s : Served) (before : PlayedServer) (h next : Transfer) (
   fits : AreFilesOf h.end.role.side next.files
   fits = drafts_kept h.end.role.side h.files next.files goes.kind (subst (λ (t : Transfer). AreFilesOf t.end.role.side t.files) (sym here) kept.files)
 
-  after_is : x1 ≡ served_as port told (after_turn h.end turn) (left_in next.files) draft h.request
-  after_is = served_after port s h.end turn h.files next.files refuses h.request goes.kind goes.told
+  after_is : x1 ≡ served_as port armed (after_turn h.end turn) (left_in next.files) draft h.request
+  after_is = served_after port s h.end turn h.files next.files refuses h.request goes.kind goes.armed
 
   phase_is : x1.state ≡ after_turn h.end turn
   phase_is = ap (λ (y : OpenEnd). y.state) after_is
 
   -- the end, by whether it has closed
   end_by : (b : Bool) → is_some (outcome_of turn.position.phase) ≡ b →
-      end_at port (concluded_held b port (with_next port next before.held)) (Server (concluded_served b r draft told)) ≡ standing x1
+      end_at port (concluded_held b port (with_next port next before.held)) (Server (concluded_served b r draft armed)) ≡ standing x1
   end_by true closed =
-      let y = served_as port told (after_turn h.end turn) (left_in next.files) draft h.request in
+      let y = served_as port armed (after_turn h.end turn) (left_in next.files) draft h.request in
       ap (λ (m : Mode). Closed_end (record (closed_end y) { mode = m; recorded = r })) (sym mode_is)
       ∙ (ap (λ (q : Record). Closed_end (record (closed_end y) { recorded = q })) recorded
       ∙ (sym (standing_ended y closed) ∙ ap standing (sym after_is)))
   end_by false still =
-      served_is port told (with_next port next before.held) next open_now (at-with_next port h next before.held found)
-      ∙ (ap (λ (e : EndState). Open_end (served_as port told e (left_in next.files) draft next.request)) goes.end
-      ∙ (ap (λ (l : List ℕ). Open_end (served_as port told (after_turn h.end turn) (left_in next.files) draft l)) goes.request
+      served_is port armed (with_next port next before.held) next open_now (at-with_next port h next before.held found)
+      ∙ (ap (λ (e : EndState). Open_end (served_as port armed e (left_in next.files) draft next.request)) goes.end
+      ∙ (ap (λ (l : List ℕ). Open_end (served_as port armed (after_turn h.end turn) (left_in next.files) draft l)) goes.request
       ∙ (ap Open_end (sym after_is) ∙ sym (standing_open x1 (ap (λ (e : EndState). is_some (outcome_of e.position.phase)) phase_is ∙ still)))))
 
-  kept_by : (b : Bool) → is_some (outcome_of turn.position.phase) ≡ b → PlayerKept port (concluded_held b port (with_next port next before.held)) (Server (concluded_served b r draft told))
+  kept_by : (b : Bool) → is_some (outcome_of turn.position.phase) ≡ b → PlayerKept port (concluded_held b port (with_next port next before.held)) (Server (concluded_served b r draft armed))
   kept_by true closed = record {
     closed = ap (λ (q : Record). is_some q.outcome) recorded ∙ closed;
     side = ap (λ (q : Record). is_client q.side) recorded ∙ side_is;
     draft = has_draft h.end.role.side next.files fits ∙ ap (λ (q : Record). not (is_sender q.side)) (sym recorded);
   }
   kept_by false still =
-      subst (λ (o : Option Record). IsServed port told o (with_next port next before.held)) (sym (not_some s.ended open_now)) (record {
+      subst (λ (o : Option Record). IsServed port armed o (with_next port next before.held)) (sym (not_some s.ended open_now)) (record {
         transfer = next;
         found = at-with_next port h next before.held found;
         is_open = ap (λ (e : EndState). is_some (outcome_of e.position.phase)) goes.end ∙ still;
@@ -298,16 +298,16 @@ module _ (port : ℕ) (s : Served) (before : PlayedServer) (h next : Transfer) (
   rising_by true rises = IsRising-without port (with_next port next before.held) (IsRising-with_next port next before.held rises)
   rising_by false rises = IsRising-with_next port next before.held rises
 
-  owned_by : (b : Bool) (place : ℕ) (ps : List Player) → port ≡ 1024 + place → slice_get ps place ≡ Some (Server s) → IsRising before.held → AllOwned ps before.held →
-      AllOwned (slice_set ps place (Server (concluded_served b r draft told))) (concluded_held b port (with_next port next before.held))
-  owned_by true place ps is there rises all =
-      closed_owned ps port place (Server (concluded_served true r draft told)) (with_next port next before.held) is (IsRising-with_next port next before.held rises)
+  owned_by : (b : Bool) (index : ℕ) (ps : List Player) → port ≡ 1024 + index → slice_get ps index ≡ Some (Server s) → IsRising before.held → AllOwned ps before.held →
+      AllOwned (slice_set ps index (Server (concluded_served b r draft armed))) (concluded_held b port (with_next port next before.held))
+  owned_by true index ps is there rises all =
+      closed_owned ps port index (Server (concluded_served true r draft armed)) (with_next port next before.held) is (IsRising-with_next port next before.held rises)
       (AllKeys-with_next (IsOwned ps) port next before.held all)
-  owned_by false place ps is there rises all =
-      server_owned ps place (Server s) told (with_next port next before.held) there (not_some s.ended open_now) (AllKeys-with_next (IsOwned ps) port next before.held all)
+  owned_by false index ps is there rises all =
+      server_owned ps index (Server s) armed (with_next port next before.held) there (not_some s.ended open_now) (AllKeys-with_next (IsOwned ps) port next before.held all)
 
   transfer_now : (b : Bool) → is_some (outcome_of turn.position.phase) ≡ b →
-      is_transfer (end_at port (concluded_held b port (with_next port next before.held)) (Server (concluded_served b r draft told))) ≡ not b
+      is_transfer (end_at port (concluded_held b port (with_next port next before.held)) (Server (concluded_served b r draft armed))) ≡ not b
   transfer_now b e =
       ap is_transfer (end_by b e)
       ∙ (standing_transfer x1
@@ -318,8 +318,8 @@ module _ (port : ℕ) (s : Served) (before : PlayedServer) (h next : Transfer) (
   transfer_was = ap not (ap (λ (t : Transfer). is_client t.end.role.side) here ∙ kept.side)
 
   counted_by : (b : Bool) → is_some (outcome_of turn.position.phase) ≡ b →
-      ((is_transfer (end_at port (concluded_held b port (with_next port next before.held)) (Server (concluded_served b r draft told))) ≡ is_transfer (Open_end x0)) × (length (concluded_held b port (with_next port next before.held)) ≡ length before.held))
-      ⊎ ((is_transfer (Open_end x0) ≡ true) × (is_transfer (end_at port (concluded_held b port (with_next port next before.held)) (Server (concluded_served b r draft told))) ≡ false) × (suc (length (concluded_held b port (with_next port next before.held))) ≡ length before.held))
+      ((is_transfer (end_at port (concluded_held b port (with_next port next before.held)) (Server (concluded_served b r draft armed))) ≡ is_transfer (Open_end x0)) × (length (concluded_held b port (with_next port next before.held)) ≡ length before.held))
+      ⊎ ((is_transfer (Open_end x0) ≡ true) × (is_transfer (end_at port (concluded_held b port (with_next port next before.held)) (Server (concluded_served b r draft armed))) ≡ false) × (suc (length (concluded_held b port (with_next port next before.held))) ≡ length before.held))
   counted_by true e =
       inr (transfer_was, transfer_now true e, length-without port next (with_next port next before.held) (at-with_next port h next before.held found) ∙ length-with_next port next before.held)
   counted_by false e = inl (transfer_now false e ∙ sym transfer_was, length-with_next port next before.held)
@@ -328,7 +328,7 @@ module _ (port : ℕ) (s : Served) (before : PlayedServer) (h next : Transfer) (
   ended = is_some (outcome_of turn.position.phase)
 
   stepped_so : effect ≡ effect_of (server_at port) turn → (before.store.refuses ≡ false → store.refuses ≡ false) →
-      Stepped port (Server s) x0 (Server (concluded_served ended r draft told)) before (record before { store = store; held = concluded_held ended port (with_next port next before.held) }) turn (held_files refuses next.files)
+      Stepped port (Server s) x0 (Server (concluded_served ended r draft armed)) before (record before { store = store; held = concluded_held ended port (with_next port next before.held) }) turn (held_files refuses next.files)
       effect r
   stepped_so effects quiet = record {
     was = served_is port s before.held h open_now found;
@@ -348,11 +348,11 @@ module _ (port : ℕ) (s : Served) (before : PlayedServer) (h next : Transfer) (
 -- an end of the server whose transfer made a turn, as it is in the world
 pub served_steps : (port : ℕ) (s s' : Served) (before after : PlayedServer) (h next : Transfer) (turn : Turn) (refuses : Bool) (store : Stored) (effect : Effect) (r : Record) →
     at port before.held ≡ Some h → is_some s.ended ≡ false → PlayerKept port before.held (Server s) →
-    SameDraftKind h.files next.files → next.path ≡ h.path → next.request ≡ h.request → KeepsTold h.files s.refuses refuses → CommitsLast next.files turn.position.phase → (before.store.refuses ≡ false → store.refuses ≡ false) →
+    SameDraftKind h.files next.files → next.path ≡ h.path → next.request ≡ h.request → KeepsArmed h.files s.refuses refuses → CommitsLast next.files turn.position.phase → (before.store.refuses ≡ false → store.refuses ≡ false) →
     ServedTurns port s s' before after h.end turn next refuses store effect r →
     Stepped port (Server s) (held_end port s h) (Server s') before after turn (held_files refuses next.files) effect r
-served_steps port s s' before after h next turn refuses store effect r found open_now kept kind path request told commits quiet t =
-    let goes : TransferGoes h next turn s.refuses refuses = record { end = t.end; kind = kind; path = path; request = request; told = told; commits = commits } in
+served_steps port s s' before after h next turn refuses store effect r found open_now kept kind path request armed commits quiet t =
+    let goes : TransferGoes h next turn s.refuses refuses = record { end = t.end; kind = kind; path = path; request = request; armed = armed; commits = commits } in
     subst (λ (q : Served). Stepped port (Server s) (held_end port s h) (Server q) before after turn (held_files refuses next.files) effect r) (sym t.served)
     (subst (λ (v : PlayedServer). Stepped port (Server s) (held_end port s h) (Server (concluded_served (is_some (outcome_of turn.position.phase)) r (draft_of next.files) (record s { refuses = refuses }))) before v turn (held_files refuses next.files) effect r) (sym t.server)
     (stepped_so port s before h next turn refuses store effect r found open_now (served_kept port s before.held open_now kept) t.recorded goes t.effects quiet))

@@ -42,8 +42,8 @@ open_view x =
     }
 
 -- an end in this phase
-abbrev pub placed : Phase → OpenEnd → OpenEnd
-placed phase x = in_state (with_position (record x.state.position { phase = phase }) x.state) x
+abbrev pub with_phase : Phase → OpenEnd → OpenEnd
+with_phase phase x = in_state (with_position (record x.state.position { phase = phase }) x.state) x
 
 -- an end in the world is open or closed
 pub stands_as : {A : Type 0} (f : WorldEnd → A) (a : A) (x : OpenEnd) → f (Open_end x) ≡ a → f (Closed_end (closed_end x)) ≡ a → f (standing x) ≡ a
@@ -53,17 +53,17 @@ stands_as {A = A} f a x open_now closed_now = by_case (outcome_of x.state.positi
   by_case (Some outcome) = closed_now
 
 -- its view is the same, except for the request, which a closed end does not keep
-abbrev pub IsToldSo : OpenEnd → WorldEnd → Type 0
-IsToldSo x y = view_of_end y ≡ record (open_view x) { request = end_request y }
+abbrev pub IsViewedAs : OpenEnd → WorldEnd → Type 0
+IsViewedAs x y = view_of_end y ≡ record (open_view x) { request = end_request y }
 
-view_in : (phase : Phase) (x : OpenEnd) → IsToldSo (placed phase x) (standing (placed phase x))
+view_in : (phase : Phase) (x : OpenEnd) → IsViewedAs (with_phase phase x) (standing (with_phase phase x))
 view_in (Waiting asked limit) x = refl
 view_in (Sending terms number) x = refl
 view_in (Receiving terms number) x = refl
 view_in (Dallying terms number dally) x = refl
 view_in (Closed terms number complete outcome) x = refl
 
-pub standing_view : (x : OpenEnd) → IsToldSo x (standing x)
+pub standing_view : (x : OpenEnd) → IsViewedAs x (standing x)
 standing_view x = view_in x.state.position.phase x
 
 -- what a turn has closed is over
@@ -93,7 +93,7 @@ standing_open x e = ap (λ (o : Option Outcome). by_outcome o x) (no_outcome (ou
 
 pub open_is : (x : OpenEnd) → is_some (outcome_of x.state.position.phase) ≡ false → view_of_end (Open_end x) ≡ open_view x
 open_is x e = open_in x.state.position.phase x e where
-  open_in : (phase : Phase) (y : OpenEnd) → is_some (outcome_of phase) ≡ false → view_of_end (Open_end (placed phase y)) ≡ open_view (placed phase y)
+  open_in : (phase : Phase) (y : OpenEnd) → is_some (outcome_of phase) ≡ false → view_of_end (Open_end (with_phase phase y)) ≡ open_view (with_phase phase y)
   open_in (Waiting asked limit) y e = refl
   open_in (Sending terms number) y e = refl
   open_in (Receiving terms number) y e = refl

@@ -11,7 +11,7 @@ use Rattle.tftp_ends.specs.End.{is_client}
 use Rattle.tftp_ends.specs.Step.{Turn, timeout_turn}
 use Rattle.tftp_machine.specs.Machine.{Endpoint, request_port}
 use Rattle.tftp_player.specs.World.{WorldState, OpenEnd, ClosedEnd, WorldEnd, Open_end, Closed_end, end_address, StoredFile, file_at, in_the_way, files_of, end_after, has_committed, world_after, report_of, no_report, opened_in, sent_report}
-use Rattle.tftp_player.specs.WorldSteps.{EndStep, FilesAfter, Turns, At_open_end, At_closed_end, At_nobody, HasPort, IsAtPort, told_end, Arrives, WorldStep}
+use Rattle.tftp_player.specs.WorldSteps.{EndStep, FilesAfter, Turns, At_open_end, At_closed_end, At_nobody, HasPort, IsAtPort, armed_end, Arrives, WorldStep}
 use Rattle.tftp_player.specs.Openings.{reading_client, writing_client, MayGet, MayPut}
 use Rattle.tftp_player.specs.declared.event.Event.TheVariants.{Get, Put, Timeout, RefuseStore}
 use Rattle.tftp_player.proofs.ServerTurns.{files_same, timeout_after}
@@ -20,7 +20,7 @@ use Rattle.tftp_player.proofs.ServerTurns.{files_same, timeout_after}
 pub turns_as : (w : WorldState) (k : ℕ) (x : OpenEnd) (turn : Turn) (held : Files (List ℕ) Holding) →
     FilesAfter w.overwrite (not (is_client x.state.role.side) && has_committed x (end_after x turn held)) x.path (end_after x turn held).stored w.files w.files →
     Turns w k x turn held (report_of w x turn) (world_after w k x turn held w.files)
-turns_as w k x turn held same = record { files = w.files; stored = same; tells = refl; is = refl }
+turns_as w k x turn held same = record { files = w.files; stored = same; reports = refl; is = refl }
 
 pub client_files : (overwrite client b : Bool) (path bytes : List ℕ) (files : List StoredFile) → client ≡ true → FilesAfter overwrite (not client && b) path bytes files files
 client_files overwrite client b path bytes files e = subst (λ (c : Bool). FilesAfter overwrite (not c && b) path bytes files files) (sym e) refl
@@ -28,11 +28,11 @@ client_files overwrite client b path bytes files e = subst (λ (c : Bool). Files
 -- a client asks
 pub get_step : (w : WorldState) (name : List ℕ) (mode : Mode) (asked : Asked) → HasPort w → MayGet name mode asked →
     WorldStep w (Get name mode asked) (sent_report w) (opened_in w (reading_client w name mode asked))
-get_step w name mode asked port may = (port, may, record { tells = refl; is = refl })
+get_step w name mode asked port may = (port, may, record { reports = refl; is = refl })
 
 pub put_step : (w : WorldState) (name : List ℕ) (mode : Mode) (asked : Asked) (file : List ℕ) → HasPort w → MayPut name mode asked (length (wire_text mode file)) →
     WorldStep w (Put name mode asked file) (sent_report w) (opened_in w (writing_client w name mode asked file))
-put_step w name mode asked file port may = (port, may, record { tells = refl; is = refl })
+put_step w name mode asked file port may = (port, may, record { reports = refl; is = refl })
 
 -- a timeout of an open end, and of a closed one
 pub timeout_step : (w : WorldState) (port k : ℕ) (x : OpenEnd) → IsAtPort w port k (Open_end x) →
@@ -44,11 +44,11 @@ timeout_step w port k x at =
     (k, Open_end x, at, turns_as w k x turn held same)
 
 pub timeout_stays : (w : WorldState) (port k : ℕ) (x : ClosedEnd) → IsAtPort w port k (Closed_end x) → WorldStep w (Timeout port) no_report w
-timeout_stays w port k x at = (k, Closed_end x, at, record { tells = refl; is = refl })
+timeout_stays w port k x at = (k, Closed_end x, at, record { reports = refl; is = refl })
 
 -- an end was set to refuse its next append or commit
 pub refuse_step : (w : WorldState) (port k : ℕ) (x : WorldEnd) → IsAtPort w port k x →
-    WorldStep w (RefuseStore port) no_report (record w { ends = slice_set w.ends k (told_end x) })
+    WorldStep w (RefuseStore port) no_report (record w { ends = slice_set w.ends k (armed_end x) })
 refuse_step w port k x at = (k, x, at, refl, refl)
 
 -- at an open end that handled it
@@ -57,12 +57,12 @@ pub open_arrives : (w : WorldState) (k : ℕ) (x : OpenEnd) (from : Endpoint) (b
     FilesAfter w.overwrite (not (is_client x.state.role.side) && has_committed x (end_after x turn held)) x.path (end_after x turn held).stored w.files files →
     Arrives w from x.address bytes (report_of w x turn) (world_after w k x turn held files)
 open_arrives w k x from bytes turn held files at steps stored =
-    At_open_end k x at refl (record { turn = turn; held = held; steps = steps; turns = record { files = files; stored = stored; tells = refl; is = refl } })
+    At_open_end k x at refl (record { turn = turn; held = held; steps = steps; turns = record { files = files; stored = stored; reports = refl; is = refl } })
 
 -- at a closed end
 pub closed_arrives : (w : WorldState) (k : ℕ) (x : ClosedEnd) (from : Endpoint) (bytes : List ℕ) → slice_get w.ends k ≡ Some (Closed_end x) →
     Arrives w from x.address bytes no_report w
-closed_arrives w k x from bytes at = At_closed_end k x at refl (record { tells = refl; is = refl })
+closed_arrives w k x from bytes at = At_closed_end k x at refl (record { reports = refl; is = refl })
 
 -- each end has the port of its index
 abbrev pub HasPorts : WorldState → Type 0
@@ -71,7 +71,7 @@ HasPorts w = (k : ℕ) (x : WorldEnd) → slice_get w.ends k ≡ Some x → (end
 -- if no end has the port
 pub none_arrives : (w : WorldState) (from to : Endpoint) (bytes : List ℕ) → HasPorts w → to ≢ request_port → (to.port < 1024) ⊎ (1024 + length w.ends ≤ to.port) →
     Arrives w from to bytes no_report w
-none_arrives w from to bytes ports away none = At_nobody away nobody (record { tells = refl; is = refl }) where
+none_arrives w from to bytes ports away none = At_nobody away nobody (record { reports = refl; is = refl }) where
   outside : (k : ℕ) → k < length w.ends → to.port ≡ 1024 + k → (to.port < 1024) ⊎ (1024 + length w.ends ≤ to.port) → ⊥
   outside k within here (inl low) = omega arith
   outside k within here (inr high) = omega arith
@@ -82,10 +82,10 @@ none_arrives w from to bytes ports away none = At_nobody away nobody (record { t
 -- if the end with the port is at the other host
 pub other_arrives : (w : WorldState) (from to : Endpoint) (bytes : List ℕ) (k : ℕ) (x : WorldEnd) → HasPorts w → to ≢ request_port → slice_get w.ends k ≡ Some x → to.port ≡ 1024 + k →
     end_address x ≢ to → Arrives w from to bytes no_report w
-other_arrives w from to bytes k x ports away there port differs = At_nobody away nobody (record { tells = refl; is = refl }) where
+other_arrives w from to bytes k x ports away there port differs = At_nobody away nobody (record { reports = refl; is = refl }) where
   nobody : (j : ℕ) (y : WorldEnd) → slice_get w.ends j ≡ Some y → end_address y ≢ to
   nobody j y e same =
       let own : (end_address y).port ≡ to.port = ap (λ (a : Endpoint). a.port) same in
       let q = ports j y e in
-      let place : j ≡ k = omega (arith, own, q, port) in
-      differs (ap end_address (same_Some x y (sym there ∙ (ap (slice_get w.ends) (sym place) ∙ e))) ∙ same)
+      let same_index : j ≡ k = omega (arith, own, q, port) in
+      differs (ap end_address (same_Some x y (sym there ∙ (ap (slice_get w.ends) (sym same_index) ∙ e))) ∙ same)

@@ -109,10 +109,10 @@ piece_readable Netascii file stored held piece rest last e none =
     let joined : netascii_text stored ++ (t ++ rest) ≡ netascii_text file =
     sym (append_assoc (netascii_text stored) t rest) ∙ (ap (λ (z : List ℕ). z ++ rest) (sym (append_assoc (netascii_text stored) held piece)) ∙ e) in
     let more = wire_beginning Netascii stored file (t ++ rest, joined) in
-    let behind : t ++ rest ≡ netascii_text more.0 =
+    let whole_is : t ++ rest ≡ netascii_text more.0 =
     drop_front (netascii_text stored) (t ++ rest) (netascii_text more.0) (joined ∙ (ap netascii_text (sym more.1) ∙ wire_text-append Netascii stored more.0)) in
-    readable_by last (begins_netascii t) (ends_in_cr t) (begins_text t rest more.0 behind)
-    (λ l. ends_text t more.0 (sym (append-nil t) ∙ (ap (λ (z : List ℕ). t ++ z) (sym (none l)) ∙ behind)))
+    readable_by last (begins_netascii t) (ends_in_cr t) (begins_text t rest more.0 whole_is)
+    (λ l. ends_text t more.0 (sym (append-nil t) ∙ (ap (λ (z : List ℕ). t ++ z) (sym (none l)) ∙ whole_is)))
 
 not_both : (a b : Bool) → (a ≡ true → b ≡ true → ⊥) → (a && b) ≡ false
 not_both true true h = absurd (h refl refl)

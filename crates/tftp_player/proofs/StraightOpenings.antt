@@ -39,7 +39,7 @@ use Rattle.tftp_player.specs.WorldSteps.{Serves, Opens}
 use Rattle.tftp_player.specs.declared.event.Event.TheVariants.{Get, Put}
 use Rattle.tftp_player.specs.declared.report.Report.{Report}
 use Rattle.tftp_player.proofs.OackLemmas.{valid_oack}
-use Rattle.tftp_machine.proofs.Places.{slice_get-push_old, slice_get-push_new}
+use Rattle.tftp_machine.proofs.Indices.{slice_get-push_old, slice_get-push_new}
 use Rattle.tftp_player.proofs.SaidLemmas.{spells_own, own_oack, taken_oack}
 use Rattle.tftp_player.proofs.StraightActions.{from_server, data_next, block_within}
 use Rattle.tftp_player.proofs.StraightPort.{HasAsked, has_asked, port_comes, has_opened, accepted_answers}
@@ -96,8 +96,8 @@ new_held mode now held is empty = subst (λ (n : Mode). HeldFits n held) (sym is
 before_next : (k : ℕ) → k ≢ k + 1
 before_next k e = omega (arith, e)
 
-behind_last : (k : ℕ) → k + 1 ≢ k
-behind_last k e = omega (arith, e)
+next_is_other : (k : ℕ) → k + 1 ≢ k
+next_is_other k e = omega (arith, e)
 
 -- ---- the end
 reader_through : (old new : WorldState) (count : ℕ) → IsOver new (length old.ends + 1) (length old.ends) (length old.sent + count) → IsThrough old new count
@@ -204,7 +204,7 @@ module _ (strangers : Bool) (old new : WorldState) (name : List ℕ) (mode : Mod
       let d2 = datagram ra sa (ack_bytes 0) in
       let ready = ready_next strangers b.w g.mid (i + 1) d1 d2 g.report b.ready g.step y.4.sent in
       let sender : SendsAt strangers (k + 1) k (before_next k) sa ra st rt mode file sp rp same g.mid 0 =
-      record { x = x; there = stays_at b.w g.mid k (k + 1) (Open_end x) (Open_end y.0) y.4.ends (behind_last k) b.server_at; address = refl; phase = phase; file_is = file_is; mode_is = mode_is } in
+      record { x = x; there = stays_at b.w g.mid k (k + 1) (Open_end x) (Open_end y.0) y.4.ends (next_is_other k) b.server_at; address = refl; phase = phase; file_is = file_is; mode_is = mode_is } in
       let fit = fit_of strangers (k + 1) k (before_next k) sa ra st rt mode file sp rp same g.mid 0 ready.ok sender in
       let blocks = block_count text st.size in
       let rest : 0 + 1 + m ≡ blocks = omega arith in
@@ -287,21 +287,21 @@ module _ (strangers : Bool) (old new : WorldState) (name : List ℕ) (mode : Mod
       walks false b.w new k (k + 1) (i + 1) (2 + 2 * m) b.ready.count b.left (λ g.
       let handled = delivered b.w g.mid (i + 1) k writer ra x.state.position.last_sent g.report (ports_of strangers b.w b.ready.ok)
       (b.ready.newest ∙ ap (λ (a : Endpoint). Some (datagram ra a x.state.position.last_sent)) to) b.client_at g.step in
-      let behind : written ≡ drop (0 * st.size) written = ap (λ (n : ℕ). drop n written) (let z : 0 ≡ 0 * st.size = omega arith in z) in
-      let y = handles_send b.w g.mid k writer ra x.state.position.last_sent g.report handled packet st 0 written spelled sends refl refl behind in
+      let remaining_is : written ≡ drop (0 * st.size) written = ap (λ (n : ℕ). drop n written) (let z : 0 ≡ 0 * st.size = omega arith in z) in
+      let y = handles_send b.w g.mid k writer ra x.state.position.last_sent g.report handled packet st 0 written spelled sends refl refl remaining_is in
       let d1 = datagram ra x.state.position.last_sent_to x.state.position.last_sent in
       let d2 = datagram sa ra (data_bytes (0 + 1) (block written st.size (0 + 1))) in
       let ready = ready_next strangers b.w g.mid (i + 1) d1 d2 g.report b.ready g.step y.2.sent in
-      let sender : SendsAt strangers k (k + 1) (behind_last k) sa ra st rt mode file sp rp same g.mid (0 + 1) =
+      let sender : SendsAt strangers k (k + 1) (next_is_other k) sa ra st rt mode file sp rp same g.mid (0 + 1) =
       record { x = y.0; there = set_at b.w g.mid k (Open_end writer) (Open_end y.0) y.2.ends b.client_at; address = y.2.address; phase = y.1; file_is = y.2.file; mode_is = y.2.mode } in
-      let fit = fit_of strangers k (k + 1) (behind_last k) sa ra st rt mode file sp rp same g.mid (0 + 1) ready.ok sender in
+      let fit = fit_of strangers k (k + 1) (next_is_other k) sa ra st rt mode file sp rp same g.mid (0 + 1) ready.ok sender in
       let blocks = block_count written st.size in
       let rest : 0 + 1 + m ≡ blocks = omega arith in
       let first : 0 + 1 ≤ blocks = omega (arith, rest) in
-      let receiver = awaits_now strangers k (k + 1) (behind_last k) sa ra st rt mode file sp rp same false g.mid x 0 fit first
-      (stays_at b.w g.mid k (k + 1) (Open_end x) (Open_end y.0) y.2.ends (behind_last k) b.server_at) refl phase receives tt mode_is
+      let receiver = awaits_now strangers k (k + 1) (next_is_other k) sa ra st rt mode file sp rp same false g.mid x 0 fit first
+      (stays_at b.w g.mid k (k + 1) (Open_end x) (Open_end y.0) y.2.ends (next_is_other k) b.server_at) refl phase receives tt mode_is
       (new_text mode x.state.role.mode x.stored x.state.position.held st.size written mode_is stored held) (new_held mode x.state.role.mode x.state.position.held mode_is held) in
-      from_data strangers k (k + 1) (behind_last k) sa ra st rt mode file sp rp same false m (i + 1 + 1) 0 g.mid new rest ready sender receiver g.left)
+      from_data strangers k (k + 1) (next_is_other k) sa ra st rt mode file sp rp same false m (i + 1 + 1) 0 g.mid new rest ready sender receiver g.left)
 
   begins_now : (n : ℕ) (terms : Terms) → n < 65535 * terms.size → begin_action n terms ≡ Send terms 1
   begins_now n terms few = ap (λ (c : Bool). if c then Send terms 1 else Respond (Refuse None FileTooLarge outcomes.TooLarge)) (lt-ltb n (65535 * terms.size) few)

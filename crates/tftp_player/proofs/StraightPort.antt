@@ -29,7 +29,7 @@ use Rattle.tftp_player.specs.declared.datagram.Datagram.{Datagram}
 use Rattle.tftp_player.specs.declared.event.Event.{Event}
 use Rattle.tftp_player.specs.declared.event.Event.TheVariants.{Deliver}
 use Rattle.tftp_player.specs.declared.report.Report.{Report}
-use Rattle.tftp_machine.proofs.Places.{slice_get-push_new}
+use Rattle.tftp_machine.proofs.Indices.{slice_get-push_new}
 use Rattle.tftp_player.proofs.ServerLemmas.{says_one}
 use Rattle.tftp_player.proofs.StepLemmas.{HasPorts}
 use Rattle.tftp_player.proofs.WorldRuns.{step_keeps}

@@ -31,11 +31,11 @@ use Rattle.tftp_player.specs.declared.datagram.Datagram.{Datagram}
 use Rattle.tftp_player.specs.declared.event.Event.TheVariants.{Deliver}
 use Rattle.tftp_player.specs.declared.report.Report.{Report}
 use Rattle.tftp_machine.proofs.Blocks.{take-block}
-use Rattle.tftp_machine.proofs.Places.{slice_get-set_same, slice_get-set_other, slice_get-push_new}
+use Rattle.tftp_machine.proofs.Indices.{slice_get-set_same, slice_get-set_other, slice_get-push_new}
 use Rattle.tftp_player.proofs.SaidLemmas.{spells_own}
 use Rattle.tftp_player.proofs.SourceMoves.{valid_data, number_fits}
 use Rattle.tftp_player.proofs.StraightActions.{from_peer, acked_more, acked_last, piece_readable, next_stores, data_next, block_full, block_last, block_within, never_long, last_rest}
-use Rattle.tftp_player.proofs.StraightSteps.{ports_of, Handles, delivered, Becomes, handles_send, handles_last, is_told, HasStored, stored_phase, takes_data, handles_data}
+use Rattle.tftp_player.proofs.StraightSteps.{ports_of, Handles, delivered, Becomes, handles_send, handles_last, is_armed, HasStored, stored_phase, takes_data, handles_data}
 use Rattle.tftp_player.proofs.WorldRuns.{step_keeps}
 
 pub deliver_may : (strangers : Bool) (i : ℕ) → MayHappen strangers (Deliver i)
@@ -299,9 +299,9 @@ module _ (strangers : Bool) (ks kr : ℕ) (apart : kr ≢ ks) (sa ra : Endpoint)
         (ready.newest ∙ ap (λ (a : Endpoint). Some (datagram sa a (data_bytes (n + 1) (piece n)))) (sym r.address)) r.there step
 
     -- the step of a client that was not set to refuse
-    taken_by : is_client r.x.state.role.side ≡ true → r.x.refuses ≡ false → TookAll report.closed × (is_told handled.held ≡ false)
-    taken_by client untold =
-        takes_data w v kr r.x sa (data_bytes (n + 1) (piece n)) report handled rt (n + 1) (piece n) client untold (spelled_at n fit l) r.stores r.receiver
+    taken_by : is_client r.x.state.role.side ≡ true → r.x.refuses ≡ false → TookAll report.closed × (is_armed handled.held ≡ false)
+    taken_by client unarmed =
+        takes_data w v kr r.x sa (data_bytes (n + 1) (piece n)) report handled rt (n + 1) (piece n) client unarmed (spelled_at n fit l) r.stores r.receiver
 
     took_all : (b : Bool) → IsWilling b r.x → UnlessReads b (TookAll report.closed) → TookAll report.closed
     took_all true willing said = (taken_by willing.0 willing.1).0
@@ -311,7 +311,7 @@ module _ (strangers : Bool) (ks kr : ℕ) (apart : kr ≢ ks) (sa ra : Endpoint)
     stored = handles_data w v kr r.x sa (data_bytes (n + 1) (piece n)) report handled rt (n + 1) (piece n) r.holds (took_all reads r.willing taken) (spelled_at n fit l) r.stores r.receiver
 
     stays_willing : (b : Bool) → IsWilling b r.x → IsWilling b stored.0
-    stays_willing true willing = (ap is_client stored.1.becomes.side ∙ willing.0, stored.1.told ∙ (taken_by willing.0 willing.1).1)
+    stays_willing true willing = (ap is_client stored.1.becomes.side ∙ willing.0, stored.1.armed ∙ (taken_by willing.0 willing.1).1)
     stays_willing false willing = tt
 
     acked : v.sent ≡ w.sent ++ ack_at (n + 1) ∷ []

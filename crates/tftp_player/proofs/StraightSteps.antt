@@ -10,7 +10,7 @@ use Rattle.tftp_wire.proofs.SpellingLemmas.{one_meaning, spelled_has_no_fault}
 use Rattle.tftp_file.specs.Memory.{memory_source}
 use Rattle.tftp_file.specs.Block.{block}
 use Rattle.tftp_file.specs.Netascii.{wire_text}
-use Rattle.tftp_file.specs.Sink.{Holding, UnlessTold, AppendsFreely, CommitsFreely, with_piece, as_committed}
+use Rattle.tftp_file.specs.Sink.{Holding, UnlessArmed, AppendsFreely, CommitsFreely, with_piece, as_committed}
 use Rattle.tftp_file.specs.declared.fault.StoreFault.{StoreFault}
 use Rattle.tftp_file.specs.declared.fault.StoreFault.TheVariants as faults
 use Rattle.tftp_file.specs.declared.files.Files.{Files}
@@ -65,8 +65,8 @@ same_end w k j x y ports here there same =
     let a = ports k x here in
     let b = ports j y there in
     let c = ap (λ (p : Endpoint). p.port) same in
-    let place : j ≡ k = omega (arith, a, b, c) in
-    (place, same_Some y x (sym there ∙ (ap (slice_get w.ends) place ∙ here)))
+    let same_index : j ≡ k = omega (arith, a, b, c) in
+    (same_index, same_Some y x (sym there ∙ (ap (slice_get w.ends) same_index ∙ here)))
 
 module _ (w v : WorldState) (k : ℕ) (x : OpenEnd) (from : Endpoint) (bytes : List ℕ) (report : Report)
     (ports : HasPorts w) (there : slice_get w.ends k ≡ Some (Open_end x)) where
@@ -77,7 +77,7 @@ module _ (w v : WorldState) (k : ℕ) (x : OpenEnd) (from : Endpoint) (bytes : L
     steps = h.steps;
     sent = ap (λ (u : WorldState). u.sent) h.turns.is;
     ends = ap (λ (u : WorldState). u.ends) h.turns.is;
-    closed = ap (λ (r : Report). r.closed) h.turns.tells;
+    closed = ap (λ (r : Report). r.closed) h.turns.reports;
   }
 
   arrived : Arrives w from x.address bytes report v → Handles w k x from bytes report v
@@ -112,38 +112,38 @@ stored_phase terms number false = Receiving terms number
 
 -- ---- a client that was not set to refuse
 -- a sink was set to refuse its next call
-abbrev pub is_told : Files (List ℕ) Holding → Bool
-is_told (Source left) = false
-is_told (Sink holding) = holding.refuses
+abbrev pub is_armed : Files (List ℕ) Holding → Bool
+is_armed (Source left) = false
+is_armed (Sink holding) = holding.refuses
 
 append_taken : (before after : Holding) (bytes : List ℕ) (answer : Result Done StoreFault) → before.refuses ≡ false → AppendsFreely before (Some after) bytes answer →
     IfErr answer (may_refuse_append before bytes) → answer ≢ Err faults.Memory → (answer ≡ Ok tt) × (after.refuses ≡ false)
-append_taken before after bytes (Ok done) untold h may memory =
-    (refl, ap (λ (z : Holding). z.refuses) (same_Some after (with_piece before bytes) h) ∙ untold)
-append_taken before after bytes (Err faults.Missing) untold h may memory = absurd may
-append_taken before after bytes (Err faults.Exists) untold h may memory = absurd may
-append_taken before after bytes (Err faults.Full) untold h may memory = absurd (true≢false (sym may ∙ untold))
-append_taken before after bytes (Err faults.Io) untold h may memory = absurd may
-append_taken before after bytes (Err faults.Memory) untold h may memory = absurd (memory refl)
+append_taken before after bytes (Ok done) unarmed h may memory =
+    (refl, ap (λ (z : Holding). z.refuses) (same_Some after (with_piece before bytes) h) ∙ unarmed)
+append_taken before after bytes (Err faults.Missing) unarmed h may memory = absurd may
+append_taken before after bytes (Err faults.Exists) unarmed h may memory = absurd may
+append_taken before after bytes (Err faults.Full) unarmed h may memory = absurd (true≢false (sym may ∙ unarmed))
+append_taken before after bytes (Err faults.Io) unarmed h may memory = absurd may
+append_taken before after bytes (Err faults.Memory) unarmed h may memory = absurd (memory refl)
 
 -- its sink accepts what is appended, and is not set to refuse then
 piece_taken : (before after : Holding) (bytes : List ℕ) (answer : Result Done StoreFault) (refuses_commit : Holding → StoreFault → Type 0) → before.refuses ≡ false →
     Appended (world_sink refuses_commit) bytes before after answer → answer ≢ Err faults.Memory → (answer ≡ Ok tt) × (after.refuses ≡ false)
-piece_taken before after [] answer refuses_commit untold h memory = (h.0, ap (λ (z : Holding). z.refuses) h.1 ∙ untold)
-piece_taken before after (b ∷ bytes) answer refuses_commit untold h memory =
-    append_taken before after (b ∷ bytes) answer untold
-    (subst (λ (told : Bool). UnlessTold told before (Some after) answer (AppendsFreely before (Some after) (b ∷ bytes) answer)) untold h.0) h.1 memory
+piece_taken before after [] answer refuses_commit unarmed h memory = (h.0, ap (λ (z : Holding). z.refuses) h.1 ∙ unarmed)
+piece_taken before after (b ∷ bytes) answer refuses_commit unarmed h memory =
+    append_taken before after (b ∷ bytes) answer unarmed
+    (subst (λ (armed : Bool). UnlessArmed armed before (Some after) answer (AppendsFreely before (Some after) (b ∷ bytes) answer)) unarmed h.0) h.1 memory
 
 -- and a commit
 commit_taken : (there : Option (List ℕ)) (before after : Holding) (answer : Result Done StoreFault) → before.refuses ≡ false → CommitsFreely before (Some after) answer →
     IfErr answer (may_refuse_commit true there before) → (answer ≡ Ok tt) × (after.refuses ≡ false)
-commit_taken there before after (Ok done) untold h may =
-    (refl, ap (λ (z : Holding). z.refuses) (same_Some after (as_committed before) h) ∙ untold)
-commit_taken there before after (Err faults.Missing) untold h may = absurd may
-commit_taken there before after (Err faults.Exists) untold h may = absurd may
-commit_taken there before after (Err faults.Full) untold h may = absurd (true≢false (sym may ∙ untold))
-commit_taken there before after (Err faults.Io) untold h may = absurd may
-commit_taken there before after (Err faults.Memory) untold h may = absurd may
+commit_taken there before after (Ok done) unarmed h may =
+    (refl, ap (λ (z : Holding). z.refuses) (same_Some after (as_committed before) h) ∙ unarmed)
+commit_taken there before after (Err faults.Missing) unarmed h may = absurd may
+commit_taken there before after (Err faults.Exists) unarmed h may = absurd may
+commit_taken there before after (Err faults.Full) unarmed h may = absurd (true≢false (sym may ∙ unarmed))
+commit_taken there before after (Err faults.Io) unarmed h may = absurd may
+commit_taken there before after (Err faults.Memory) unarmed h may = absurd may
 
 module _ (w v : WorldState) (k : ℕ) (x : OpenEnd) (from : Endpoint) (bytes : List ℕ) (report : Report) (h : Handles w k x from bytes report v) where
   abbrev refuses_commit : Holding → StoreFault → Type 0
@@ -243,7 +243,7 @@ module _ (w v : WorldState) (k : ℕ) (x : OpenEnd) (from : Endpoint) (bytes : L
     pub phase : y.state.position.phase ≡ stored_phase terms number (nat_lt (length piece) terms.size)
     pub received : wire_text x.state.role.mode y.stored ++ y.state.position.held ≡ (wire_text x.state.role.mode x.stored ++ x.state.position.held) ++ piece
     pub holds : HeldFits x.state.role.mode y.state.position.held
-    pub told : y.refuses ≡ is_told h.held
+    pub armed : y.refuses ≡ is_armed h.held
     pub becomes : Becomes y (datagram x.address from (ack_bytes number) ∷ [])
 
   -- the effect on its sink
@@ -259,25 +259,25 @@ module _ (w v : WorldState) (k : ℕ) (x : OpenEnd) (from : Endpoint) (bytes : L
     abbrev closed_by : Turn → Option (ℕ × Outcome)
     closed_by turn = closed_at x.address (outcome_of turn.position.phase)
 
-    goes_untold : (mid sink : Holding) (after : List ℕ) (answer : Result Done StoreFault) (last : Bool) → h.held ≡ Sink sink → mid.refuses ≡ false → answer ≡ Ok tt →
-        GoesOn (world_sink refuses_commit) terms number from x.state last after mid answer h.turn sink → TookAll report.closed × (is_told h.held ≡ false)
-    goes_untold mid sink after (Err fault) last held untold ok g = absurd (let e : Err fault ≡ Ok tt = ok in cc)
-    goes_untold mid sink after (Ok done) false held untold ok g =
-        (subst TookAll (sym (h.closed ∙ ap closed_by g.0)) tt, ap is_told held ∙ (ap (λ (z : Holding). z.refuses) g.1 ∙ untold))
-    goes_untold mid sink after (Ok done) true held untold ok g =
+    goes_unarmed : (mid sink : Holding) (after : List ℕ) (answer : Result Done StoreFault) (last : Bool) → h.held ≡ Sink sink → mid.refuses ≡ false → answer ≡ Ok tt →
+        GoesOn (world_sink refuses_commit) terms number from x.state last after mid answer h.turn sink → TookAll report.closed × (is_armed h.held ≡ false)
+    goes_unarmed mid sink after (Err fault) last held unarmed ok g = absurd (let e : Err fault ≡ Ok tt = ok in cc)
+    goes_unarmed mid sink after (Ok done) false held unarmed ok g =
+        (subst TookAll (sym (h.closed ∙ ap closed_by g.0)) tt, ap is_armed held ∙ (ap (λ (z : Holding). z.refuses) g.1 ∙ unarmed))
+    goes_unarmed mid sink after (Ok done) true held unarmed ok g =
         let there = in_the_way w.overwrite (file_at w.files x.path) in
-        let c = commit_taken there mid sink g.answer untold
-        (subst (λ (told : Bool). UnlessTold told mid (Some sink) g.answer (CommitsFreely mid (Some sink) g.answer)) untold g.commits)
+        let c = commit_taken there mid sink g.answer unarmed
+        (subst (λ (armed : Bool). UnlessArmed armed mid (Some sink) g.answer (CommitsFreely mid (Some sink) g.answer)) unarmed g.commits)
         (subst (λ (b : Bool). IfErr g.answer (may_refuse_commit b there mid)) client g.refused) in
-        (subst TookAll (sym (h.closed ∙ ap closed_by (g.answers ∙ ap (committed_turn terms number from (holding after x.state)) c.0))) tt, ap is_told held ∙ c.1)
+        (subst TookAll (sym (h.closed ∙ ap closed_by (g.answers ∙ ap (committed_turn terms number from (holding after x.state)) c.0))) tt, ap is_armed held ∙ c.1)
 
     pub takes_data : x.refuses ≡ false → Spells (Data number piece) bytes → datagram_action x.state from bytes (Some (Data number piece)) ≡ Store terms number → is_sender x.state.role.side ≡ false →
-        TookAll report.closed × (is_told h.held ≡ false)
-    takes_data untold spelled is receiver =
+        TookAll report.closed × (is_armed h.held ≡ false)
+    takes_data unarmed spelled is receiver =
         let f = stores_here terms number piece spelled is receiver in
         let b = f.2 in
-        let p = piece_taken (holding_of x) b.mid b.bytes b.answer refuses_commit untold b.appended b.memory in
-        goes_untold b.mid f.0 b.after b.answer (nat_lt (length piece) terms.size) f.1 p.1 p.0 b.rest
+        let p = piece_taken (holding_of x) b.mid b.bytes b.answer refuses_commit unarmed b.appended b.memory in
+        goes_unarmed b.mid f.0 b.after b.answer (nat_lt (length piece) terms.size) f.1 p.1 p.0 b.rest
 
   module _ (terms : Terms) (number : ℕ) (piece : List ℕ) (holds : HeldFits x.state.role.mode x.state.position.held) (all : TookAll report.closed) where
     -- no turn is that of a store that refused
@@ -294,7 +294,7 @@ module _ (w v : WorldState) (k : ℕ) (x : OpenEnd) (from : Endpoint) (bytes : L
         received = ap (λ (z : List ℕ). wire_text x.state.role.mode z ++ after) same
             ∙ sym (stored_more x.state.role.mode x.stored x.state.position.held piece bytes_now after (goes_on_with x.state.role.mode x.state.position.held piece bytes_now after holds d));
         holds = held_fits x.state.role.mode x.state.position.held piece bytes_now after holds d;
-        told = sym (ap is_told held);
+        armed = sym (ap is_armed held);
         becomes = record {
           sent = h.sent ∙ ap (λ (t : Turn). w.sent ++ replied x.address t.reply) turns;
           ends = h.ends
@@ -314,7 +314,7 @@ module _ (w v : WorldState) (k : ℕ) (x : OpenEnd) (from : Endpoint) (bytes : L
         received = ap (λ (z : List ℕ). wire_text x.state.role.mode z ++ after) same
             ∙ sym (stored_more x.state.role.mode x.stored x.state.position.held piece bytes_now after (goes_on_with x.state.role.mode x.state.position.held piece bytes_now after holds d));
         holds = held_fits x.state.role.mode x.state.position.held piece bytes_now after holds d;
-        told = sym (ap is_told held);
+        armed = sym (ap is_armed held);
         becomes = record {
           sent = h.sent ∙ ap (λ (t : Turn). w.sent ++ replied x.address t.reply) turns;
           ends = h.ends

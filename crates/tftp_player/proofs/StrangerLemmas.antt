@@ -25,10 +25,10 @@ use Rattle.tftp_player.specs.WorldSteps.{may_refuse_commit, Serves, Arrives, At_
 use Rattle.tftp_server.specs.Port.{Service, Silent, Refused, Sends, Takes}
 use Rattle.tftp_player.specs.declared.report.Report.{Report}
 use Rattle.tftp_player.proofs.PhaseMoves.{same_ips, same_endpoints}
-use Rattle.tftp_machine.proofs.Places.{slice_get-set_same, slice_get-set_other, slice_get-push_old}
+use Rattle.tftp_machine.proofs.Indices.{slice_get-set_same, slice_get-set_other, slice_get-push_old}
 use Rattle.tftp_player.proofs.WorldTurns.{view_at}
 use Rattle.tftp_machine.proofs.Shown.{shown_by}
-use Rattle.tftp_player.proofs.Standing.{placed, standing_record}
+use Rattle.tftp_player.proofs.Standing.{with_phase, standing_record}
 
 -- a test that cannot hold
 fails : (b : Bool) → (b ≡ true → ⊥) → not b ≡ true
@@ -42,7 +42,7 @@ not_server from far same =
     let e : At_server ≡ Elsewhere = subst (λ (ip : List ℕ). host_of (record from { ip = ip }) ≡ Elsewhere) same far in cc
 
 -- to an open end whose peer is no stranger
-is_strange : (phase : Phase) (x0 : OpenEnd) (from : Endpoint) → PhaseKept (placed phase x0) phase → host_of from ≡ Elsewhere → ((p : Endpoint) → peer_of phase ≡ Some p → host_of p ≢ Elsewhere) →
+is_strange : (phase : Phase) (x0 : OpenEnd) (from : Endpoint) → PhaseKept (with_phase phase x0) phase → host_of from ≡ Elsewhere → ((p : Endpoint) → peer_of phase ≡ Some p → host_of p ≢ Elsewhere) →
     is_some (outcome_of phase) ≡ false → is_stranger (terms_of phase) x0.state.position.last_sent_to from ≡ true
 is_strange (Waiting asked limit) x0 from kept far home o =
     fails (same_address x0.state.position.last_sent_to from) (λ e. not_server from far (sym (same_ips x0.state.position.last_sent_to from e) ∙ ap (λ (p : Endpoint). p.ip) kept.2))
@@ -94,18 +94,18 @@ served (Refused reply) old new from bytes report k x s there = as_is old new k x
 served (Sends path mode length agreed) old new from bytes report k x s there = opened_more old new _ report k x s.2 there
 served (Takes path mode agreed) old new from bytes report k x s there = opened_more old new _ report k x s there
 
-same_place : (old new : WorldState) (k j : ℕ) (x y z : WorldEnd) → new.ends ≡ set old.ends j z → slice_get old.ends j ≡ Some y → slice_get old.ends k ≡ Some x → (k ≡ j → end_record z ≡ end_record x) →
+same_at_index : (old new : WorldState) (k j : ℕ) (x y z : WorldEnd) → new.ends ≡ set old.ends j z → slice_get old.ends j ≡ Some y → slice_get old.ends k ≡ Some x → (k ≡ j → end_record z ≡ end_record x) →
     (k ≡ j) ⊎ (k ≢ j) → IsRecordedSo new k x
-same_place old new k j x y z e at there same (inl here) =
+same_at_index old new k j x y z e at there same (inl here) =
     (z, ap (λ (ends : List WorldEnd). slice_get ends k) e ∙ (ap (slice_get (set old.ends j z)) here ∙ slice_get-set_same old.ends j z y at), same here)
-same_place old new k j x y z e at there same (inr away) =
+same_at_index old new k j x y z e at there same (inr away) =
     (x, ap (λ (ends : List WorldEnd). slice_get ends k) e ∙ (slice_get-set_other old.ends j k z away ∙ there), refl)
 
 arrived : (strangers : Bool) (old new : WorldState) (from to : Endpoint) (bytes : List ℕ) (report : Report) (k : ℕ) (x : WorldEnd) → IsOk strangers old → host_of from ≡ Elsewhere →
     Arrives old from to bytes report new → slice_get old.ends k ≡ Some x → HasNoStranger x → IsRecordedSo new k x
 arrived strangers old new from to bytes report k x ok far (At_request_port here port decoded says repeated same s) there home = served _ old new from bytes report k x s there
 arrived strangers old new from to bytes report k x ok far (At_open_end j y at address t) there home =
-    same_place old new k j x (Open_end y) (standing (end_after y t.turn t.held)) (ap (λ (w : WorldState). w.ends) t.turns.is) at there
+    same_at_index old new k j x (Open_end y) (standing (end_after y t.turn t.held)) (ap (λ (w : WorldState). w.ends) t.turns.is) at there
     (λ here. let e : Open_end y ≡ x = same_Some (Open_end y) x (sym at ∙ (ap (slice_get old.ends) (sym here) ∙ there)) in
     let was = (ok.ends j (Open_end y) at).stands in
     let own : HasNoStranger (Open_end y) = subst HasNoStranger (sym e) home in

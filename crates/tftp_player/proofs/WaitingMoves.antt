@@ -52,9 +52,9 @@ use Rattle.tftp_player.proofs.Actions.{Stands, IsWaiting, stores_first, refuses_
 use Rattle.tftp_player.proofs.SaidLemmas.{data_of, spells_own, taken_oack}
 use Rattle.tftp_player.proofs.EndMoves.{Goes, from_response, gives_up, refuses_now}
 use Rattle.tftp_player.proofs.SourceMoves.{text_if, data_turn, data_end, data_goes, data_kept, valid_data}
-use Rattle.tftp_player.proofs.SinkMoves.{Receives, told, block_goes, refused_goes}
+use Rattle.tftp_player.proofs.SinkMoves.{Receives, wire_text_is, block_goes, refused_goes}
 use Rattle.tftp_player.proofs.PhaseMoves.{Acting, OfDecoded, if_acts, both_true}
-use Rattle.tftp_player.proofs.Standing.{open_view, placed}
+use Rattle.tftp_player.proofs.Standing.{open_view, with_phase}
 
 -- a block size of an agreement
 pub agreed_size : (known : List Known) → AllByRecursion IsAgreeable known → (0 < size known) × (size known ≤ MAX_BLOCK)
@@ -70,10 +70,10 @@ taken_size asked kind options mode limit known askable e =
     agreed_size known (taken_may_be_agreed asked kind mode options limit known askable e).values
 
 module _ (first : List Rule) (views : List EndView) (messages : List Message) (k : ℕ) (x0 : OpenEnd) (asked : Asked) (limit : ℕ)
-    (s : Stands first views messages k (open_view (placed (Waiting asked limit) x0))) (kept : EndKept (placed (Waiting asked limit) x0))
+    (s : Stands first views messages k (open_view (with_phase (Waiting asked limit) x0))) (kept : EndKept (with_phase (Waiting asked limit) x0))
     (refuses_commit : Holding → StoreFault → Type 0) (from : Endpoint) (bytes : List ℕ) (server : from.ip ≡ server_ip) where
   abbrev waiter : OpenEnd
-  waiter = placed (Waiting asked limit) x0
+  waiter = with_phase (Waiting asked limit) x0
 
   abbrev Answers : Action → Type 0
   Answers action = Acting first views messages k waiter refuses_commit from bytes action
@@ -136,7 +136,7 @@ module _ (first : List Rule) (views : List EndView) (messages : List Message) (k
       let refuse : (reply : ErrorReply) (outcome : Outcome) → Answers (Respond (Refuse (Some terms) reply outcome)) =
       λ reply outcome turn held h. from_response first views messages k waiter (Refuse (Some terms) reply outcome) from turn held
       (refused_goes first views messages k waiter terms 1 from piece kept got x0.state.position.held (holding_of waiter) reply outcome kept.held (kept.committed reader)
-      (x0.state.position.held ++ piece, sym (append_assoc (wire_text x0.state.role.mode x0.stored) x0.state.position.held piece) ∙ ap (λ (t : List ℕ). t ++ piece) (sym (told first views messages k waiter terms 1 from piece kept got)))) h in
+      (x0.state.position.held ++ piece, sym (append_assoc (wire_text x0.state.role.mode x0.stored) x0.state.position.held piece) ∙ ap (λ (t : List ℕ). t ++ piece) (sym (wire_text_is first views messages k waiter terms 1 from piece kept got)))) h in
       if_acts Answers (nat_lt DEFAULT_BLOCK (length piece)) (illegal_action terms)
       (if is_readable x0.state.role.mode [] piece last then Store terms 1 else Respond (Refuse (Some terms) replies.NotNetascii outcomes.NotNetascii))
       (λ e. refuse replies.IllegalOperation outcomes.Illegal)
@@ -178,23 +178,23 @@ module _ (first : List Rule) (views : List EndView) (messages : List Message) (k
       let text = sent_text x0 in
       let measured : x0.state.role.length ≡ length text = kept.phase.5 writer in
       let fits : Fits text terms.size = subst (λ (n : ℕ). n < 65535 * terms.size) measured (ltb-true x0.state.role.length (65535 * terms.size) e) in
-      let told_now : text_of_end waiter ≡ text = text_if (is_sender x0.state.role.side) text (received_text waiter) writer in
+      let text_is : text_of_end waiter ≡ text = text_if (is_sender x0.state.role.side) text (received_text waiter) writer in
       let zero_blocks : 0 * terms.size ≡ 0 = omega arith in
-      let behind : x0.left ≡ drop (0 * terms.size) text = kept.phase.3 ∙ ap (λ (n : ℕ). drop n text) (sym zero_blocks) in
+      let remaining_is : x0.left ≡ drop (0 * terms.size) text = kept.phase.3 ∙ ap (λ (n : ℕ). drop n text) (sym zero_blocks) in
       let l : 1 ≤ block_count text terms.size = omega arith in
       let packet = Data 1 (block text terms.size 1) in
       let goes_now : Goes first views messages k waiter (data_turn waiter terms 0 from) (data_end waiter terms 0 from) = record {
         said_now = message x0.address from (said packet) ∷ [];
         shown = subst (λ (p : Endpoint). IsShownWithin 3 first (set views k (record (open_view waiter) { peer = Some p; size = terms.size; number = 1 })) (messages ++ message x0.address from (said packet) ∷ [])) (sym peer)
-            (subst (λ (t : List ℕ). IsShownWithin 3 first (set views k (record (open_view waiter) { peer = Some from; size = terms.size; number = 1 })) (messages ++ message x0.address from (Says_data 1 (block t terms.size 1)) ∷ [])) told_now
-            (shown (subst (λ (t : List ℕ). Fits t terms.size) (sym told_now) fits)));
+            (subst (λ (t : List ℕ). IsShownWithin 3 first (set views k (record (open_view waiter) { peer = Some from; size = terms.size; number = 1 })) (messages ++ message x0.address from (Says_data 1 (block t terms.size 1)) ∷ [])) text_is
+            (shown (subst (λ (t : List ℕ). Fits t terms.size) (sym text_is) fits)));
         replies = (packet, spells_own packet (valid_data text terms.size 0 positive small fits l), refl);
         kept = data_kept waiter terms 0 from kept measured writer positive small fits l (sym peer);
         side = refl;
         last_sent = inr refl;
         stored = λ _. refl;
       } in
-      λ turn held h. data_goes first views messages k waiter terms 0 from turn held refuses_commit writer measured behind goes_now h)
+      λ turn held h. data_goes first views messages k waiter terms 0 from turn held refuses_commit writer measured remaining_is goes_now h)
       (λ e. refuse_waiter replies.FileTooLarge outcomes.TooLarge)
 
   begin_plain : is_sender x0.state.role.side ≡ true → Contains messages (message from x0.address (Says_ack 0)) → Answers (begin_action x0.state.role.length (default_terms from))

@@ -50,4 +50,4 @@ pub takes : (w : WorldState) (i k : ℕ) (d : Datagram) (x : OpenEnd) (turn : Tu
     WorldStep w (Deliver i) (report_of w x turn)
     (world_after w k x turn held files)
 takes w i k d x turn held files sent there at steps stored =
-    (d, sent, At_open_end k x there at (record { turn = turn; held = held; steps = steps; turns = record { files = files; stored = stored; tells = refl; is = refl } }))
+    (d, sent, At_open_end k x there at (record { turn = turn; held = held; steps = steps; turns = record { files = files; stored = stored; reports = refl; is = refl } }))

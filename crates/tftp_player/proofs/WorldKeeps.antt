@@ -47,7 +47,7 @@ use Rattle.tftp_player.specs.WorldKept.{HeldFits, IsOkBy, IsOkAt, IsOkWithin}
 use Rattle.tftp_player.specs.declared.report.Report.{Report}
 use Rattle.tftp_player.proofs.Actions.{host_server, host_client, asks, serves_plainly, serves_with, says_error}
 use Rattle.tftp_machine.proofs.Shown.{shown_still, shown_within}
-use Rattle.tftp_player.proofs.AnewLemmas.{none_answers}
+use Rattle.tftp_player.proofs.UnansweredLemmas.{none_answers}
 use Rattle.tftp_player.proofs.SaidLemmas.{spells_own, own_oack}
 use Rattle.tftp_player.proofs.EndMoves.{valid_error}
 use Rattle.tftp_player.proofs.SourceMoves.{valid_data}
@@ -126,13 +126,13 @@ writing_keeps first strangers w v name mode asked file report ok may o =
 pub record IsNewly (messages : List Message) (ends : List WorldEnd) (from : Endpoint) (bytes : List ℕ) (write : Bool) (request : Request) : Type 0 where
   pub sent : Contains messages (message from request_port (Says_request write request))
   pub spells : Spells (requested write request) bytes
-  pub anew : NoneAnswers (map view_of_end ends) from (requested write request)
+  pub unanswered : NoneAnswers (map view_of_end ends) from (requested write request)
 
 -- the options that a server agreed to
-pub answered_values : (kind : Kind) (mode : Mode) (told : ℕ) (limits : Limits) (options : List RawOption) (known : List Known) → IsBlockSize limits.max_block →
-    answer options kind mode told limits ≡ Ok known → AllByRecursion IsAgreeable known
-answered_values kind mode told limits options known ok e =
-    (answers_may_be_agreed options kind mode told limits known ok e).values
+pub answered_values : (kind : Kind) (mode : Mode) (file_length : ℕ) (limits : Limits) (options : List RawOption) (known : List Known) → IsBlockSize limits.max_block →
+    answer options kind mode file_length limits ≡ Ok known → AllByRecursion IsAgreeable known
+answered_values kind mode file_length limits options known ok e =
+    (answers_may_be_agreed options kind mode file_length limits known ok e).values
 
 -- a read is served
 sending_keeps : (first : List Rule) (strangers : Bool) (w v : WorldState) (from : Endpoint) (bytes : List ℕ) (request : Request) (path file : List ℕ) (agreed : List Known) (report : Report) (ok : IsOkAt first strangers w) →
@@ -143,7 +143,7 @@ sending_keeps first strangers w v from bytes request path file [] report ok come
     let x = sending_end w from bytes request.mode path file [] in
     let one : 1 ≤ block_count text DEFAULT_BLOCK = omega arith in
     let p = Data 1 (block text DEFAULT_BLOCK 1) in
-    let shown_now = serves_plainly first (map view_of_end w.ends) ok.messages ok.shown x.address from bytes false request text refl (ap (λ (n : ℕ). 1024 + n) (sym (length_views w))) come.sent fits come.spells come.anew in
+    let shown_now = serves_plainly first (map view_of_end w.ends) ok.messages ok.shown x.address from bytes false request text refl (ap (λ (n : ℕ). 1024 + n) (sym (length_views w))) come.sent fits come.spells come.unanswered in
     opening_keeps first strangers w v ok x report p (spells_own p (valid_data text DEFAULT_BLOCK 0 (omega arith) (omega arith) fits one)) shown_now (at_server x.address refl) refl
     (record {
       phase = record { sender = refl; positive = omega arith; size = omega arith; fits = fits; so_far = one; left = refl; last_sent_to = refl; measured = refl };
@@ -155,7 +155,7 @@ sending_keeps first strangers w v from bytes request path file (known ∷ agreed
     let x = sending_end w from bytes request.mode path file (known ∷ agreed) in
     let b = agreed_size (known ∷ agreed) agreeable in
     let p = Oack (agreed_options (known ∷ agreed)) in
-    let shown_now = serves_with first (map view_of_end w.ends) ok.messages ok.shown x.address from bytes false request text (size (known ∷ agreed)) refl (ap (λ (n : ℕ). 1024 + n) (sym (length_views w))) come.sent fits b.0 come.spells come.anew in
+    let shown_now = serves_with first (map view_of_end w.ends) ok.messages ok.shown x.address from bytes false request text (size (known ∷ agreed)) refl (ap (λ (n : ℕ). 1024 + n) (sym (length_views w))) come.sent fits b.0 come.spells come.unanswered in
     let says = subst (λ (n : ℕ). IsShownWithin 3 first (map view_of_end w.ends ++ view_of_end (Open_end x) ∷ []) (ok.messages ++ message x.address from (Says_oack n) ∷ [])) (sym (own_oack (known ∷ agreed) agreeable)) shown_now in
     let none : 0 * size (known ∷ agreed) ≡ 0 = omega arith in
     opening_keeps first strangers w v ok x report p (spells_own p (valid (λ e. cc))) says (at_server x.address refl) refl
@@ -171,14 +171,14 @@ taking_keeps : (first : List Rule) (strangers : Bool) (w v : WorldState) (from :
     Opens w (receiving_end w from bytes request.mode path agreed) report v → IsOkWithin 3 first strangers v
 taking_keeps first strangers w v from bytes request path [] report ok come agreeable valid o =
     let x = receiving_end w from bytes request.mode path [] in
-    let shown_now = serves_plainly first (map view_of_end w.ends) ok.messages ok.shown x.address from bytes true request (wire_text request.mode [] ++ []) refl (ap (λ (n : ℕ). 1024 + n) (sym (length_views w))) come.sent (no_text request.mode) come.spells come.anew in
+    let shown_now = serves_plainly first (map view_of_end w.ends) ok.messages ok.shown x.address from bytes true request (wire_text request.mode [] ++ []) refl (ap (λ (n : ℕ). 1024 + n) (sym (length_views w))) come.sent (no_text request.mode) come.spells come.unanswered in
     opening_keeps first strangers w v ok x report (Ack 0) (spells_own (Ack 0) (omega arith)) shown_now (at_server x.address refl) refl
     (record { phase = (refl, refl); held = empty_held request.mode; committed = λ _. refl }) refl o
 taking_keeps first strangers w v from bytes request path (known ∷ agreed) report ok come agreeable valid o =
     let x = receiving_end w from bytes request.mode path (known ∷ agreed) in
     let b = agreed_size (known ∷ agreed) agreeable in
     let p = Oack (agreed_options (known ∷ agreed)) in
-    let shown_now = serves_with first (map view_of_end w.ends) ok.messages ok.shown x.address from bytes true request (wire_text request.mode [] ++ []) (size (known ∷ agreed)) refl (ap (λ (n : ℕ). 1024 + n) (sym (length_views w))) come.sent (no_text request.mode) b.0 come.spells come.anew in
+    let shown_now = serves_with first (map view_of_end w.ends) ok.messages ok.shown x.address from bytes true request (wire_text request.mode [] ++ []) (size (known ∷ agreed)) refl (ap (λ (n : ℕ). 1024 + n) (sym (length_views w))) come.sent (no_text request.mode) b.0 come.spells come.unanswered in
     let says = subst (λ (n : ℕ). IsShownWithin 3 first (map view_of_end w.ends ++ view_of_end (Open_end x) ∷ []) (ok.messages ++ message x.address from (Says_oack n) ∷ [])) (sym (own_oack (known ∷ agreed) agreeable)) shown_now in
     opening_keeps first strangers w v ok x report p (spells_own p (valid (λ e. cc))) says (at_server x.address refl) refl
     (record { phase = (refl, refl); held = empty_held request.mode; committed = λ _. refl }) refl o
@@ -209,9 +209,9 @@ pub asked_so : (messages : List Message) (ends : List WorldEnd) (from : Endpoint
     ((p : WirePacket) → decoded ≡ Some p → Contains messages (message from request_port (said p))) → ((p : WirePacket) → decoded ≡ Some p → Spells p bytes) →
     IsRepeated repeated from decoded ends → AsksSo messages ends from bytes repeated decoded
 asked_so messages ends from bytes repeated decoded come spelled same true r e new =
-    (r, refl, record { sent = come (Write r) e; spells = spelled (Write r) e; anew = none_answers from (Write r) ends repeated decoded same e new })
+    (r, refl, record { sent = come (Write r) e; spells = spelled (Write r) e; unanswered = none_answers from (Write r) ends repeated decoded same e new })
 asked_so messages ends from bytes repeated decoded come spelled same false r e new =
-    (r, refl, record { sent = come (Read r) e; spells = spelled (Read r) e; anew = none_answers from (Read r) ends repeated decoded same e new })
+    (r, refl, record { sent = come (Read r) e; spells = spelled (Read r) e; unanswered = none_answers from (Read r) ends repeated decoded same e new })
 
 module _ (first : List Rule) (strangers : Bool) (w v : WorldState) (from : Endpoint) (bytes : List ℕ) (report : Report) (ok : IsOkAt first strangers w) where
   abbrev Kept_by : Service → Type 0

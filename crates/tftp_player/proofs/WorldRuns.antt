@@ -21,7 +21,7 @@ use Rattle.tftp_machine.specs.Rules.{Rule, message}
 use Rattle.tftp_player.specs.Said.{said}
 use Rattle.tftp_machine.specs.Shows.{EndView, IsShownAt, IsShownWithin, IsShown}
 use Rattle.tftp_player.specs.World.{WorldState, OpenEnd, WorldEnd, Open_end, Closed_end, StoredFile, file_at, in_the_way, datagram, files_of, new_world, view_of_end}
-use Rattle.tftp_player.specs.WorldSteps.{may_refuse_commit, OnDatagram, Arrives, At_request_port, At_open_end, At_closed_end, At_nobody, TimesOut, told_end, WorldStep}
+use Rattle.tftp_player.specs.WorldSteps.{may_refuse_commit, OnDatagram, Arrives, At_request_port, At_open_end, At_closed_end, At_nobody, TimesOut, armed_end, WorldStep}
 use Rattle.tftp_player.specs.WorldKept.{PhaseKept, IsKeptIn, IsOkAt, IsOkWithin, IsOk}
 use Rattle.tftp_player.specs.WorldRuns.{Runs, MayHappen, MayAllHappen, StepsKeep, StepsAreRules, most_rules}
 use Rattle.tftp_player.specs.WorldSafety.{HasPeersAtHome}
@@ -29,7 +29,7 @@ use Rattle.tftp_player.specs.declared.datagram.Datagram.{Datagram}
 use Rattle.tftp_player.specs.declared.event.Event.{Event}
 use Rattle.tftp_player.specs.declared.event.Event.TheVariants.{Get, Put, Deliver, Timeout, RefuseStore, Stray}
 use Rattle.tftp_player.specs.declared.report.Report.{Report}
-use Rattle.tftp_machine.proofs.Places.{slice_get-set_cases}
+use Rattle.tftp_machine.proofs.Indices.{slice_get-set_cases}
 use Rattle.tftp_player.proofs.Standing.{open_view, open_is}
 use Rattle.tftp_player.proofs.Actions.{Stands, strays}
 use Rattle.tftp_machine.proofs.Shown.{shown_start, shown_within}
@@ -70,7 +70,7 @@ module _ (first : List Rule) (strangers : Bool) (w v : WorldState) (ok : IsOkAt 
   stands : (k : ℕ) (x : OpenEnd) → slice_get w.ends k ≡ Some (Open_end x) → Stands first (map view_of_end w.ends) ok.messages k (open_view x)
   stands k x at = record {
     shown = ok.shown;
-    place = view_at w.ends k (Open_end x) at ∙ ap (λ (v : EndView). Some v) (open_is x (ap is_some (ok.ends k (Open_end x) at).stands.still));
+    viewed = view_at w.ends k (Open_end x) at ∙ ap (λ (v : EndView). Some v) (open_is x (ap is_some (ok.ends k (Open_end x) at).stands.still));
   }
 
   -- how an end handled a datagram keeps the world
@@ -107,17 +107,17 @@ module _ (first : List Rule) (strangers : Bool) (w v : WorldState) (ok : IsOkAt 
       (from_response first (map view_of_end w.ends) ok.messages k x (timeout_response x.state.position.retries_left x.state.position.phase) x.state.position.last_sent_to (timeout_turn x.state) (files_of x) g (refl, refl)) t
 
 -- what is to be refused is not shown of an end
-told_open : (b : Bool) (x : OpenEnd) → view_of_end (Open_end (if b then x else record x { refuses = true })) ≡ view_of_end (Open_end x)
-told_open true x = refl
-told_open false x = refl
+armed_open : (b : Bool) (x : OpenEnd) → view_of_end (Open_end (if b then x else record x { refuses = true })) ≡ view_of_end (Open_end x)
+armed_open true x = refl
+armed_open false x = refl
 
-told_view : (x : WorldEnd) → view_of_end (told_end x) ≡ view_of_end x
-told_view (Open_end x) = told_open (is_sender x.state.role.side) x
-told_view (Closed_end x) = refl
+armed_view : (x : WorldEnd) → view_of_end (armed_end x) ≡ view_of_end x
+armed_view (Open_end x) = armed_open (is_sender x.state.role.side) x
+armed_view (Closed_end x) = refl
 
-phase_told : (phase : Phase) (x : OpenEnd) → PhaseKept x phase → PhaseKept (record x { refuses = true }) phase
-phase_told (Waiting asked limit) x h = h
-phase_told (Sending terms number) x h = record {
+phase_armed : (phase : Phase) (x : OpenEnd) → PhaseKept x phase → PhaseKept (record x { refuses = true }) phase
+phase_armed (Waiting asked limit) x h = h
+phase_armed (Sending terms number) x h = record {
   sender = h.sender;
   positive = h.positive;
   size = h.size;
@@ -127,24 +127,24 @@ phase_told (Sending terms number) x h = record {
   last_sent_to = h.last_sent_to;
   measured = h.measured;
 }
-phase_told (Receiving terms number) x h = h
-phase_told (Dallying terms number dally) x h = h
-phase_told (Closed terms number complete outcome) x h = tt
+phase_armed (Receiving terms number) x h = h
+phase_armed (Dallying terms number dally) x h = h
+phase_armed (Closed terms number complete outcome) x h = tt
 
-told_kept : (w : WorldState) (b : Bool) (x : OpenEnd) → IsKeptIn w (Open_end x) → IsKeptIn w (Open_end (if b then x else record x { refuses = true }))
-told_kept w true x h = h
-told_kept w false x h = record {
+armed_kept : (w : WorldState) (b : Bool) (x : OpenEnd) → IsKeptIn w (Open_end x) → IsKeptIn w (Open_end (if b then x else record x { refuses = true }))
+armed_kept w true x h = h
+armed_kept w false x h = record {
   stands = record {
     still = h.stands.still;
-    kept = record { phase = phase_told x.state.position.phase x h.stands.kept.phase; held = h.stands.kept.held; committed = h.stands.kept.committed };
+    kept = record { phase = phase_armed x.state.position.phase x h.stands.kept.phase; held = h.stands.kept.held; committed = h.stands.kept.committed };
     last_sent = h.stands.last_sent;
   };
   stored = h.stored;
 }
 
-end_told : (w : WorldState) (x : WorldEnd) → IsKeptIn w x → IsKeptIn w (told_end x)
-end_told w (Open_end x) h = told_kept w (is_sender x.state.role.side) x h
-end_told w (Closed_end x) h = h
+end_armed : (w : WorldState) (x : WorldEnd) → IsKeptIn w x → IsKeptIn w (armed_end x)
+end_armed w (Open_end x) h = armed_kept w (is_sender x.state.role.side) x h
+end_armed w (Closed_end x) h = h
 
 -- what holds of one end does not depend on the others
 same_kept : (w : WorldState) (ends : List WorldEnd) (x : WorldEnd) → IsKeptIn w x → IsKeptIn (record w { ends = ends }) x
@@ -152,13 +152,13 @@ same_kept w ends (Open_end x) h = record { stands = record { still = h.stands.st
 same_kept w ends (Closed_end x) h = record { stands = h.stands; stored = h.stored }
 
 -- an end that is set to refuse keeps the world
-told_keeps : (first : List Rule) (strangers : Bool) (w : WorldState) (ok : IsOkAt first strangers w) (k : ℕ) (x : WorldEnd) → slice_get w.ends k ≡ Some x →
-    IsOkWithin 3 first strangers (record w { ends = set w.ends k (told_end x) })
-told_keeps first strangers w ok k x at =
-    let y = told_end x in
+armed_keeps : (first : List Rule) (strangers : Bool) (w : WorldState) (ok : IsOkAt first strangers w) (k : ℕ) (x : WorldEnd) → slice_get w.ends k ≡ Some x →
+    IsOkWithin 3 first strangers (record w { ends = set w.ends k (armed_end x) })
+armed_keeps first strangers w ok k x at =
+    let y = armed_end x in
     let v = record w { ends = set w.ends k y } in
     let same : map view_of_end (set w.ends k y) ≡ map view_of_end w.ends =
-    map-set view_of_end w.ends k y ∙ (ap (λ (e : EndView). set (map view_of_end w.ends) k e) (told_view x)
+    map-set view_of_end w.ends k y ∙ (ap (λ (e : EndView). set (map view_of_end w.ends) k e) (armed_view x)
     ∙ set_same (map view_of_end w.ends) k (view_of_end x) (view_at w.ends k x at)) in
     record {
       messages = ok.messages;
@@ -168,7 +168,7 @@ told_keeps first strangers w ok k x at =
       speakers = ok.speakers;
       max_block = ok.max_block;
       ends = λ j z i. elim (slice_get-set_cases w.ends k j y z i) [
-        | inl h ↦ subst (λ (u : WorldEnd). IsKeptIn v u) (sym h.1) (same_kept w v.ends y (end_told w x (ok.ends k x at)))
+        | inl h ↦ subst (λ (u : WorldEnd). IsKeptIn v u) (sym h.1) (same_kept w v.ends y (end_armed w x (ok.ends k x at)))
         | inr h ↦ same_kept w v.ends z (ok.ends j z h.1)
       ];
     }
@@ -246,7 +246,7 @@ step_after first strangers w v (Deliver i) report may ok s =
     arrives_keeps first strangers w v ok report s.0.from s.0.to s.0.bytes (come_from first strangers w ok s.0 (contains_at w.sent i s.0 s.1)) s.2
 step_after first strangers w v (Timeout port) report may ok s = timeout_keeps first strangers w v ok report s.0 s.1 s.2.there s.3
 step_after first strangers w v (RefuseStore port) report may ok s =
-    subst (λ (z : WorldState). IsOkWithin 3 first strangers z) (sym s.4) (told_keeps first strangers w ok s.0 s.1 s.2.there)
+    subst (λ (z : WorldState). IsOkWithin 3 first strangers z) (sym s.4) (armed_keeps first strangers w ok s.0 s.1 s.2.there)
 step_after first true w v (Stray from to bytes) report may ok s = stray_keeps first w v ok report from to bytes s.0 s.1
 step_after first false w v (Stray from to bytes) report may ok s = absurd may
 

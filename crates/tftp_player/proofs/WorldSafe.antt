@@ -17,7 +17,7 @@ use Rattle.tftp_machine.specs.Machine.{Endpoint, At_server, At_client, Elsewhere
 use Rattle.tftp_machine.specs.Shows.{EndView, Matches}
 use Rattle.tftp_machine.specs.ViewSafety.{IsAmong, IsSafeViews}
 use Rattle.tftp_player.specs.World.{WorldState, WorldEnd, Open_end, Closed_end, end_record, end_address, end_mode, end_file, end_stored, end_committed, end_text, new_world, goes_on, received_text, view_of_end}
-use Rattle.tftp_player.specs.WorldSafety.{IsIn, place_of_end, IsSafe}
+use Rattle.tftp_player.specs.WorldSafety.{IsIn, endpoint_of_end, IsSafe}
 use Rattle.tftp_player.specs.WorldKept.{IsKeptIn, IsOk}
 use Rattle.tftp_player.specs.WorldRuns.{WorldsAreSafe, PeersStayHome, KeptIsSafe}
 use Rattle.tftp_player.proofs.HostBytes.{wire_beginning, wire_same}
@@ -105,9 +105,9 @@ module _ (strangers : Bool) (w : WorldState) (ok : IsOk strangers w) where
 
   pub ok_safe : IsSafe w
   ok_safe = record {
-    at_place = λ k x i.
+    at_address = λ k x i.
         let client = is_client (end_record x).side in
-        endpoint_from (end_address x) (place_of_end (end_record x).side k)
+        endpoint_from (end_address x) (endpoint_of_end (end_record x).side k)
         (ip_at_home (end_address x) client ((sound k x i).at_home ∙ ap home (matched k x i).client))
         (ok.shown.1.1.ends k (view_of_end x) (view_at w.ends k x i)).1;
     at_server = λ x p i client peer. ((sound i.0 x i.1).serving ((matched i.0 x i.1).client ∙ client) p ((matched i.0 x i.1).peer ∙ peer)).0;

@@ -25,7 +25,7 @@ use Rattle.tftp_player.specs.WorldSteps.{FilesAfter, Turns, Opens}
 use Rattle.tftp_player.specs.WorldKept.{EndKept, IsOpenIn, StandsIn, IsKeptIn, SaysSo, MaySpeak, IsOkAt, IsOkWithin}
 use Rattle.tftp_player.specs.declared.datagram.Datagram.{Datagram}
 use Rattle.tftp_player.specs.declared.report.Report.{Report}
-use Rattle.tftp_machine.proofs.Places.{slice_get-set_cases, slice_get-push_cases}
+use Rattle.tftp_machine.proofs.Indices.{slice_get-set_cases, slice_get-push_cases}
 use Rattle.tftp_player.proofs.EndMoves.{Goes, Replies, Newest}
 use Rattle.tftp_player.proofs.Standing.{standing_shown, standing_kept}
 
@@ -88,9 +88,9 @@ at_home first strangers w ok k x e f =
     let h = (by.1.ends (end_address x) there.is_open).at_home in
     home_not_elsewhere (by.0.party (end_address x)).client (sym h ∙ f)
 
-same_place : (x : OpenEnd) (held : Files (List ℕ) Holding) → ((with_files x held).address ≡ x.address) × ((with_files x held).path ≡ x.path) × ((with_files x held).state ≡ x.state)
-same_place x (Source left) = (refl, refl, refl)
-same_place x (Sink holding) = (refl, refl, refl)
+same_end : (x : OpenEnd) (held : Files (List ℕ) Holding) → ((with_files x held).address ≡ x.address) × ((with_files x held).path ≡ x.path) × ((with_files x held).state ≡ x.state)
+same_end x (Source left) = (refl, refl, refl)
+same_end x (Sink holding) = (refl, refl, refl)
 
 -- the files stay under their paths
 files_stay : (overwrite b : Bool) (path bytes : List ℕ) (old new : List StoredFile) → FilesAfter overwrite b path bytes old new → overwrite ≡ false → (q c : List ℕ) → file_at old q ≡ Some c → file_at new q ≡ Some c
@@ -177,7 +177,7 @@ turn_keeps first strangers w v ok k x turn held report at g t = subst (λ (z : W
       file_at t.files (end_after x turn held).path ≡ Some (end_after x turn held).stored
   stored_is o c r d =
       let y = end_after x turn held in
-      let path = (same_place (record x { state = after_turn x.state turn }) held).1 in
+      let path = (same_end (record x { state = after_turn x.state turn }) held).1 in
       let client : is_client x.state.role.side ≡ false = ap is_client (sym g.side) ∙ c in
       let receiver : is_sender x.state.role.side ≡ false = ap is_sender (sym g.side) ∙ r in
       let old = was.kept.committed receiver in
@@ -191,7 +191,7 @@ turn_keeps first strangers w v ok k x turn held report at g t = subst (λ (z : W
   later : IsOkWithin 3 first strangers (world_after w k x turn held t.files)
   later =
       let y = end_after x turn held in
-      let place = (same_place (record x { state = after_turn x.state turn }) held).0 in
+      let same_address = (same_end (record x { state = after_turn x.state turn }) held).0 in
       let own = at_home first strangers w ok k (Open_end x) at in
       record {
         messages = ok.messages ++ g.said_now;
@@ -204,7 +204,7 @@ turn_keeps first strangers w v ok k x turn held report at g t = subst (λ (z : W
         ends = λ j z i. elim (slice_get-set_cases w.ends k j (standing y) z i) [
           | inl h ↦ subst (λ (u : WorldEnd). IsKeptIn (world_after w k x turn held t.files) u) (sym h.1)
               (standing_kept (world_after w k x turn held t.files) y g.kept
-              (subst (λ (a : Endpoint). Contains (w.sent ++ replied x.address turn.reply) (datagram a y.state.position.last_sent_to y.state.position.last_sent)) (sym place)
+              (subst (λ (a : Endpoint). Contains (w.sent ++ replied x.address turn.reply) (datagram a y.state.position.last_sent_to y.state.position.last_sent)) (sym same_address)
               (last_sent_is y.state.position.last_sent_to y.state.position.last_sent g.last_sent)) stored_is)
           | inr h ↦ still_kept w (world_after w k x turn held t.files) (replied x.address turn.reply) z refl refl stays (ok.ends j z h.1)
         ];

@@ -8,7 +8,7 @@ use Rattle.std.specs.Prelude.{◌≢◌, slice_set}
 use Rattle.tftp_wire.specs.declared.mode.Mode.TheVariants.{Octet}
 use Rattle.tftp_wire.specs.Parts.{packet_in}
 use Rattle.tftp_wire.proofs.SpellingLemmas.{fault_where_nothing}
-use Rattle.tftp_negotiate.specs.Negotiation.{places_of}
+use Rattle.tftp_negotiate.specs.Negotiation.{occurrences_of}
 use Rattle.tftp_file.specs.declared.files.Files.TheVariants.{Source, Sink}
 use Rattle.tftp_file.specs.Sink.{Holding}
 use Rattle.tftp_ends.specs.declared.action.Response.TheVariants.{Complete}
@@ -94,8 +94,8 @@ asks : WorldStep w0 (Put name Octet nothing_asked file) (sent_report w0) w1
 asks = put_step w0 name Octet nothing_asked file (omega arith) (record { valid = search rules; options = search rules; fits = omega arith })
 
 opens : WorldStep w1 (Deliver 0) (sent_report w1) w2
-unfolding places_of
-opens = (d0, refl, At_request_port refl (omega arith) (Some (packet_in d0.bytes)) (fault_where_nothing d0.bytes (bytes_below d0.bytes refl) refl) false (first_request client.address (packet_in d0.bytes) client refl) (record { tells = refl; is = refl }))
+unfolding occurrences_of
+opens = (d0, refl, At_request_port refl (omega arith) (Some (packet_in d0.bytes)) (fault_where_nothing d0.bytes (bytes_below d0.bytes refl) refl) false (first_request client.address (packet_in d0.bytes) client refl) (record { reports = refl; is = refl }))
 
 sends : WorldStep w2 (Deliver 1) (report_of w2 client turn3) w3
 sends = takes w2 1 0 d1 client turn3 (Source []) [] refl refl refl
@@ -168,7 +168,7 @@ write_transfers = (
 
 -- and without loss
 pub write_is_straight : SomeWriteIsStraight Octet nothing_asked file []
-unfolding places_of
+unfolding occurrences_of
 write_is_straight = (
   w0,
   w5,

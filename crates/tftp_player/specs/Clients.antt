@@ -93,14 +93,14 @@ stored_by (Source left) = None
 stored_by (Sink holding) = Some holding.bytes
 
 -- the files, set to refuse the next append or commit
-abbrev pub told_files : Files (List ℕ) Holding → Files (List ℕ) Holding
-told_files (Source left) = Source left
-told_files (Sink holding) = Sink (record holding { refuses = true })
+abbrev pub armed_files : Files (List ℕ) Holding → Files (List ℕ) Holding
+armed_files (Source left) = Source left
+armed_files (Sink holding) = Sink (record holding { refuses = true })
 
 -- the client, set to refuse while it is open
-abbrev pub told_client : PlayedClient → PlayedClient
-told_client c =
-    if is_some (outcome_of c.end.position.phase) then c else record c { files = told_files c.files }
+abbrev pub armed_client : PlayedClient → PlayedClient
+armed_client c =
+    if is_some (outcome_of c.end.position.phase) then c else record c { files = armed_files c.files }
 
 -- why no client was opened
 abbrev pub open_fault : OpenFault → WorldFault

@@ -8,11 +8,11 @@ use Rattle.tftp_player.specs.declared.event.Event.{Event}
 use Rattle.tftp_player.specs.declared.event.Event.TheVariants.{Deliver, Timeout}
 
 -- six words in eight deliver a datagram, the others are a timeout; no event if no end was opened
-abbrev pub drawn : WorldState → (kind place : ℕ) → Option Event
-drawn w kind place =
+abbrev pub drawn : WorldState → (kind index : ℕ) → Option Event
+drawn w kind index =
     if nat_eq (length w.ends) 0 then None
-    else if nat_lt (kind % 8) 6 then Some (Deliver (place % length w.sent))
-    else Some (Timeout (1024 + place % length w.ends))
+    else if nat_lt (kind % 8) 6 then Some (Deliver (index % length w.sent))
+    else Some (Timeout (1024 + index % length w.ends))
 
 -- the generator after it: two words were drawn, or none if no end was opened
 abbrev pub words_drawn : WorldState → Lcg → Lcg

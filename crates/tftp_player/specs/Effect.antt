@@ -28,11 +28,11 @@ said_by from None bytes = []
 said_by from (Some to) bytes = datagram from to bytes ∷ []
 
 -- its index in all that was sent
-abbrev pub place_behind : List Datagram → Option Endpoint → Option ℕ
-place_behind sent None = None
-place_behind sent (Some to) = Some (length sent)
+abbrev pub index_after : List Datagram → Option Endpoint → Option ℕ
+index_after sent None = None
+index_after sent (Some to) = Some (length sent)
 
 -- the report of it
 abbrev pub report_by : List Datagram → Effect → Report
 report_by sent effect =
-    record { added = place_behind sent effect.to; closed = closed_at effect.from effect.closed }
+    record { added = index_after sent effect.to; closed = closed_at effect.from effect.closed }

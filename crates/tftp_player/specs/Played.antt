@@ -12,7 +12,7 @@ use Rattle.tftp_server.specs.State.{at, draft_of, draft_at}
 use Rattle.tftp_store.specs.Store.{Drafted, new_draft}
 use Rattle.tftp_machine.specs.Machine.{Endpoint}
 use Rattle.tftp_player.specs.Clients.{client_at, server_at, left_in, holding_in, ClientTurns}
-use Rattle.tftp_player.specs.Clients.{ClientDatagramStep, stored_by, told_client}
+use Rattle.tftp_player.specs.Clients.{ClientDatagramStep, stored_by, armed_client}
 use Rattle.tftp_player.specs.PlayedClient.{PlayedClient}
 use Rattle.tftp_player.specs.Serving.{PlayedServer, Transfer, ServedKept, ServedTimeoutStep}
 use Rattle.tftp_player.specs.Serving.{ServedDatagramStep}
@@ -58,7 +58,7 @@ served_as port s state left draft request =
       request = request;
     }
 
--- the record of an end that the server does not hold; no end of a world has it (`HangTogether`)
+-- the record of an end that the server does not hold; no end of a world has it (`AreConsistent`)
 abbrev pub unheld : Record
 unheld =
     record {
@@ -157,22 +157,22 @@ address_of port (Client c) = client_at port
 address_of port (Server s) = server_at port
 
 -- the end of the server, set to refuse its next append or commit if it is an open receiver
-abbrev pub told_served : Option Drafted → Served → Served
-told_served None s = s
-told_served (Some draft) s = record s { refuses = true }
+abbrev pub armed_served : Option Drafted → Served → Served
+armed_served None s = s
+armed_served (Some draft) s = record s { refuses = true }
 
 -- the same, by its record or by what the server holds
-abbrev pub told_by : Option Record → Option Transfer → Served → Served
-told_by (Some r) held s = s
-told_by None held s = told_served (draft_at held) s
+abbrev pub armed_by : Option Record → Option Transfer → Served → Served
+armed_by (Some r) held s = s
+armed_by None held s = armed_served (draft_at held) s
 
-abbrev pub told_served_end : ℕ → List (ℕ × Transfer) → Served → Served
-told_served_end port held s = told_by s.ended (at port held) s
+abbrev pub armed_served_end : ℕ → List (ℕ × Transfer) → Served → Served
+armed_served_end port held s = armed_by s.ended (at port held) s
 
 -- the end, set to refuse
-abbrev pub told_player : ℕ → List (ℕ × Transfer) → Player → Player
-told_player port held (Client c) = Client (told_client c)
-told_player port held (Server s) = Server (told_served_end port held s)
+abbrev pub armed_player : ℕ → List (ℕ × Transfer) → Player → Player
+armed_player port held (Client c) = Client (armed_client c)
+armed_player port held (Server s) = Server (armed_served_end port held s)
 
 -- the draft of an end of the server: its own if it is closed, else the server's
 abbrev pub served_draft : Served → Option Record → Option Transfer → Option Drafted

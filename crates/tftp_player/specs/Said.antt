@@ -21,21 +21,21 @@ known_as Timeout n = known.Timeout n
 known_as Tsize n = known.Tsize n
 
 -- the known option, if its name is known and its value is a number
-abbrev pub told_as : Option Name → Option ℕ → Option Known
-told_as None value = None
-told_as (Some name) None = None
-told_as (Some name) (Some n) = Some (known_as name n)
+abbrev pub stated_as : Option Name → Option ℕ → Option Known
+stated_as None value = None
+stated_as (Some name) None = None
+stated_as (Some name) (Some n) = Some (known_as name n)
 
 -- the known options of a list, in their order
-abbrev pub told_options : List RawOption → List Known
-told_options [] = []
-told_options (o ∷ options) =
-    option_to_list (told_as (name_of o.name) (number_of o.value)) ++ told_options options
+abbrev pub stated_options : List RawOption → List Known
+stated_options [] = []
+stated_options (o ∷ options) =
+    option_to_list (stated_as (name_of o.name) (number_of o.value)) ++ stated_options options
 
 -- the block size of an OACK: 512 without the option (RFC 2347, "Negotiation Protocol"; RFC 2348,
 -- "Blocksize Option Specification")
 abbrev pub oack_size : List RawOption → ℕ
-oack_size options = size (told_options options)
+oack_size options = size (stated_options options)
 
 -- the packet of the machine
 abbrev pub said : WirePacket → Packet

@@ -10,7 +10,7 @@ use Rattle.tftp_ends.specs.End.{EndState, is_client, is_complete, outcome_of, re
 use Rattle.tftp_ends.specs.Files.{AreFilesOf, AreSame}
 use Rattle.tftp_ends.specs.Step.{Turn, after_turn, timeout_turn}
 use Rattle.tftp_server.specs.Draft.{files_in, KeepsStore}
-use Rattle.tftp_store.specs.Memory.{memory_meaning, with_told}
+use Rattle.tftp_store.specs.Memory.{memory_meaning, with_armed}
 use Rattle.tftp_server.specs.State.{HeldTransfer, ServerState, at, draft_of, with_next, without}
 use Rattle.tftp_server.specs.State as server
 use Rattle.tftp_server.specs.Steps.{StepIn, with_end}
@@ -29,8 +29,8 @@ abbrev pub Transfer : Type 0
 Transfer = HeldTransfer (List ℕ) Drafted
 
 -- the server, with its store set to refuse or not
-abbrev pub server_told : PlayedServer → Bool → PlayedServer
-server_told server told = record server { store = with_told server.store told }
+abbrev pub server_armed : PlayedServer → Bool → PlayedServer
+server_armed server armed = record server { store = with_armed server.store armed }
 
 -- a draft is not committed before its end is complete
 abbrev pub CommitsLast : Files (List ℕ) Drafted → Phase → Type 0
@@ -90,15 +90,15 @@ pub record ServedDatagramStep (port : ℕ) (from : Endpoint) (bytes : List ℕ) 
   pub store : Stored
   pub found : at port before.held ≡ Some transfer
   pub steps : StepIn memory_meaning memory_source from bytes transfer.end
-      (files_in (with_told before.store old.refuses) transfer.path before.config.overwrite
+      (files_in (with_armed before.store old.refuses) transfer.path before.config.overwrite
       transfer.files)
       turn (files_in store next.path before.config.overwrite next.files)
-  pub stays : KeepsStore transfer.files (with_told before.store old.refuses) store
+  pub stays : KeepsStore transfer.files (with_armed before.store old.refuses) store
   pub kind : AreSame (λ (a b : List ℕ). ⊤) (λ (a b : Drafted). ⊤) transfer.files next.files
   pub path : next.path ≡ transfer.path
   pub request : next.request ≡ transfer.request
   pub turns : ServedTurns port old new before after transfer.end turn next store.refuses
-      (with_told store false) effect r
+      (with_armed store false) effect r
 
 -- the outcome of the transfer, if it has closed
 abbrev pub ClosesAs : Option Outcome → Option Transfer → Type 0

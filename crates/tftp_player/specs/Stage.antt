@@ -35,10 +35,10 @@ ends_of server players = ends_from 1024 server.held players
 
 -- the end at the port is an open end of the server
 pub record IsOwned (players : List Player) (port : ℕ) : Type 0 where
-  pub place : ℕ
-  pub is : port ≡ 1024 + place
+  pub index : ℕ
+  pub is : port ≡ 1024 + index
   pub served : Served
-  pub there : slice_get players place ≡ Some (Server served)
+  pub there : slice_get players index ≡ Some (Server served)
   pub lives : served.ended ≡ None
 
 -- each identifier is below those that follow
@@ -61,18 +61,18 @@ pub record IsStaged (server : PlayedServer) (players : List Player)
   pub quiet : server.store.refuses ≡ false
 
 -- the same of the struct that holds them
-abbrev pub HangTogether : Ends → Type 0
-HangTogether ends = IsStaged ends.server ends.players.items ends.records.items
+abbrev pub AreConsistent : Ends → Type 0
+AreConsistent ends = IsStaged ends.server ends.players.items ends.records.items
 
 -- nothing but the reserved capacity has changed
 abbrev pub AreAsBefore : Ends → Ends → Type 0
 AreAsBefore old new = (new.server ≡ old.server) × (new.players.items ≡ old.players.items)
 
 -- the end at this index made a turn
-pub record EndTurns (place : ℕ) (x : OpenEnd) (turn : Turn) (held : Files (List ℕ) Holding)
+pub record EndTurns (index : ℕ) (x : OpenEnd) (turn : Turn) (held : Files (List ℕ) Holding)
     (ends ends' : List WorldEnd) (effect : Effect) : Type 0 where
   pub effects : effect ≡ effect_of x.address turn
-  pub next : ends' ≡ slice_set ends place (standing (end_after x turn held))
+  pub next : ends' ≡ slice_set ends index (standing (end_after x turn held))
 
 -- the end there is closed, and nothing happened
 pub record EndStays (x : ClosedEnd) (ends ends' : List WorldEnd) (effect : Effect) : Type 0 where
@@ -81,9 +81,9 @@ pub record EndStays (x : ClosedEnd) (ends ends' : List WorldEnd) (effect : Effec
 
 -- the end at this index handled a timeout, unless it is closed
 abbrev pub EndTimesOut : ℕ → WorldEnd → List WorldEnd → List WorldEnd → Effect → Type 0
-EndTimesOut place (Open_end x) ends ends' effect =
-    EndTurns place x (timeout_turn x.state) (files_of x) ends ends' effect
-EndTimesOut place (Closed_end x) ends ends' effect = EndStays x ends ends' effect
+EndTimesOut index (Open_end x) ends ends' effect =
+    EndTurns index x (timeout_turn x.state) (files_of x) ends ends' effect
+EndTimesOut index (Closed_end x) ends ends' effect = EndStays x ends ends' effect
 
 -- the configuration and the store are unchanged
 pub record SameStore (before after : PlayedServer) : Type 0 where
@@ -91,11 +91,11 @@ pub record SameStore (before after : PlayedServer) : Type 0 where
   pub store : after.store ≡ before.store
 
 -- a timeout of the end at this index: all ends and the server after it
-pub record StageTimeoutStep (place : ℕ) (before after : PlayedServer)
+pub record StageTimeoutStep (index : ℕ) (before after : PlayedServer)
     (players players' : List Player) (effect : Effect) : Type 0 where
   pub end : WorldEnd
-  pub found : slice_get (ends_of before players) place ≡ Some end
-  pub times_out : EndTimesOut place end (ends_of before players) (ends_of after players') effect
+  pub found : slice_get (ends_of before players) index ≡ Some end
+  pub times_out : EndTimesOut index end (ends_of before players) (ends_of after players') effect
   pub same : SameStore before after
 
 -- the end at a port
@@ -134,7 +134,7 @@ world_of config sent server players =
 -- another client opened, at this port, and sent this
 pub record Enters (old : WorldState) (port : ℕ) (c : PlayedClient) (effect : Effect)
     (report : Report) (new : WorldState) : Type 0 where
-  pub tells : report ≡ report_by old.sent effect
+  pub reports : report ≡ report_by old.sent effect
   pub is : new ≡ record old {
     sent = old.sent ++ said_by effect.from effect.to effect.bytes;
     ends = old.ends ++ standing (client_end port c) ∷ [];
@@ -142,7 +142,7 @@ pub record Enters (old : WorldState) (port : ℕ) (c : PlayedClient) (effect : E
 
 -- a datagram was handled by the open end at this index; `files` and `files'` are the server's
 -- before and after it
-pub record DatagramAt (place : ℕ) (x : OpenEnd) (from : Endpoint) (bytes : List ℕ)
+pub record DatagramAt (index : ℕ) (x : OpenEnd) (from : Endpoint) (bytes : List ℕ)
     (overwrite : Bool) (files files' : List StoredFile) (ends ends' : List WorldEnd)
     (effect : Effect) : Type 0 where
   pub turn : Turn
@@ -152,7 +152,7 @@ pub record DatagramAt (place : ℕ) (x : OpenEnd) (from : Endpoint) (bytes : Lis
   pub commits : FilesAfter overwrite
       (not (is_client x.state.role.side) && has_committed x (end_after x turn held)) x.path
       (end_after x turn held).stored files files'
-  pub turns : EndTurns place x turn held ends ends' effect
+  pub turns : EndTurns index x turn held ends ends' effect
 
 -- the datagram was lost
 pub record LostAt (to : Endpoint) (files files' : List StoredFile) (ends ends' : List WorldEnd)
@@ -164,20 +164,20 @@ pub record LostAt (to : Endpoint) (files files' : List StoredFile) (ends ends' :
 -- a datagram at the end at this index, open or closed
 abbrev pub EndTakes : ℕ → WorldEnd → Endpoint → Endpoint → List ℕ → Bool → List StoredFile
     → List StoredFile → List WorldEnd → List WorldEnd → Effect → Type 0
-EndTakes place (Open_end x) from to bytes overwrite files files' ends ends' effect =
-    DatagramAt place x from bytes overwrite files files' ends ends' effect
-EndTakes place (Closed_end x) from to bytes overwrite files files' ends ends' effect =
+EndTakes index (Open_end x) from to bytes overwrite files files' ends ends' effect =
+    DatagramAt index x from bytes overwrite files files' ends ends' effect
+EndTakes index (Closed_end x) from to bytes overwrite files files' ends ends' effect =
     LostAt to files files' ends ends' effect
 
 -- a datagram for the end at this index: all ends and the server after it
-pub record StageDatagramStep (place : ℕ) (from to : Endpoint) (bytes : List ℕ)
+pub record StageDatagramStep (index : ℕ) (from to : Endpoint) (bytes : List ℕ)
     (before after : PlayedServer) (players players' : List Player) (effect : Effect) : Type 0 where
   pub end : WorldEnd
-  pub found : slice_get (ends_of before players) place ≡ Some end
+  pub found : slice_get (ends_of before players) index ≡ Some end
   pub comes : ((end_address end ≢ to)
       × LostAt to before.store.files after.store.files (ends_of before players)
       (ends_of after players') effect)
       ⊎ ((end_address end ≡ to)
-      × EndTakes place end from to bytes before.config.overwrite before.store.files
+      × EndTakes index end from to bytes before.config.overwrite before.store.files
       after.store.files (ends_of before players) (ends_of after players') effect)
   pub config : after.config ≡ before.config

@@ -32,14 +32,14 @@ abbrev pub IsSenderAt : WorldState → Endpoint → WorldEnd → Type 0
 IsSenderAt w p y = IsEndAt w p y × (is_sender (end_record y).side ≡ true)
 
 -- the endpoint of an end of this side that was opened at this index
-abbrev pub place_of_end : Side → ℕ → Endpoint
-place_of_end side k = record { ip = ip_of side; port = 1024 + k }
+abbrev pub endpoint_of_end : Side → ℕ → Endpoint
+endpoint_of_end side k = record { ip = ip_of side; port = 1024 + k }
 
 -- what holds of every world, whatever its network did; nothing is claimed of a peer at neither host
 pub record IsSafe (w : WorldState) : Type 0 where
   -- the end at index k is at its host's address, at port 1024 + k
-  pub at_place : (k : ℕ) (x : WorldEnd) → slice_get w.ends k ≡ Some x
-      → end_address x ≡ place_of_end (end_record x).side k
+  pub at_address : (k : ℕ) (x : WorldEnd) → slice_get w.ends k ≡ Some x
+      → end_address x ≡ endpoint_of_end (end_record x).side k
   -- a client's peer is at the server: only the peer of an end of the server may be at neither host
   pub at_server : (x : WorldEnd) (p : Endpoint) → IsIn w x → is_client (end_record x).side ≡ true
       → HasPeer x p → host_of p ≡ At_server

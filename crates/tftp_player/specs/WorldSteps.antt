@@ -80,18 +80,18 @@ pub record Turns (old : WorldState) (k : ℕ) (x : OpenEnd) (turn : Turn)
   pub stored : FilesAfter old.overwrite
       (not (is_client x.state.role.side) && has_committed x (end_after x turn held)) x.path
       (end_after x turn held).stored old.files files
-  pub tells : report ≡ report_of old x turn
+  pub reports : report ≡ report_of old x turn
   pub is : new ≡ world_after old k x turn held files
 
 -- nothing happened
 pub record Stays (old : WorldState) (report : Report) (new : WorldState) : Type 0 where
-  pub tells : report ≡ no_report
+  pub reports : report ≡ no_report
   pub is : new ≡ old
 
 -- an end opened, and sent its first datagram
 pub record Opens (old : WorldState) (x : OpenEnd) (report : Report)
     (new : WorldState) : Type 0 where
-  pub tells : report ≡ sent_report old
+  pub reports : report ≡ sent_report old
   pub is : new ≡ opened_in old x
 
 -- a port is left for another end
@@ -147,13 +147,13 @@ TimesOut old k (Open_end x) report new =
 TimesOut old k (Closed_end x) report new = Stays old report new
 
 -- a receiver, set to refuse its next append or commit; a sender is unchanged
-abbrev pub told_to_refuse : OpenEnd → OpenEnd
-told_to_refuse x = if is_sender x.state.role.side then x else record x { refuses = true }
+abbrev pub armed_to_refuse : OpenEnd → OpenEnd
+armed_to_refuse x = if is_sender x.state.role.side then x else record x { refuses = true }
 
 -- an end, set to refuse; a closed one is unchanged
-abbrev pub told_end : WorldEnd → WorldEnd
-told_end (Open_end x) = Open_end (told_to_refuse x)
-told_end (Closed_end x) = Closed_end x
+abbrev pub armed_end : WorldEnd → WorldEnd
+armed_end (Open_end x) = Open_end (armed_to_refuse x)
+armed_end (Closed_end x) = Closed_end x
 
 -- the end at this port, with its index k
 pub record IsAtPort (w : WorldState) (port k : ℕ) (x : WorldEnd) : Type 0 where
@@ -173,7 +173,7 @@ WorldStep old (Timeout port) report new =
     (k : ℕ) × (x : WorldEnd) × IsAtPort old port k x × TimesOut old k x report new
 WorldStep old (RefuseStore port) report new =
     (k : ℕ) × (x : WorldEnd) × IsAtPort old port k x
-    × (report ≡ no_report) × (new ≡ record old { ends = slice_set old.ends k (told_end x) })
+    × (report ≡ no_report) × (new ≡ record old { ends = slice_set old.ends k (armed_end x) })
 WorldStep old (Stray from to bytes) report new =
     (host_of from ≡ Elsewhere) × Arrives old from to bytes report new
 

@@ -8,7 +8,7 @@ ghost use Rattle.tftp_ends.specs.Opening.{MayGet, MayPut, getting, putting};
 ghost use Rattle.tftp_ends.specs.Step.{timeout_turn};
 ghost use Rattle.tftp_machine.specs.Machine.{request_port};
 ghost use Rattle.tftp_player.specs.Clients.{ClientTurns, ClientDatagramStep, asking_client};
-ghost use Rattle.tftp_player.specs.Clients.{sending_client, stored_by, told_client, client_at};
+ghost use Rattle.tftp_player.specs.Clients.{sending_client, stored_by, armed_client, client_at};
 ghost use Rattle.tftp_player.specs.Clients.{holding_in, asking_effect, sending_effect, open_fault};
 ghost use Rattle.tftp_player.specs.Clients.{AskRefuses};
 
@@ -177,7 +177,7 @@ impl Client {
 
     /// Sets its next append or commit to be refused, if it is an open receiver.
     pub(crate) fn refuse_next(&mut self)
-        ensures { self.new ≡ told_client self.old }
+        ensures { self.new ≡ armed_client self.old }
     {
         if self.end.record().outcome.is_some() {
             return;

@@ -80,10 +80,10 @@ pub(crate) fn write_down(sent: &mut Vec<Datagram>, effect: Effect) -> Report
             closed,
         },
         Some(to) => {
-            let place = sent.len();
+            let index = sent.len();
             sent.push_reserved(Datagram { from, to, bytes });
             Report {
-                added: Some(place),
+                added: Some(index),
                 closed,
             }
         }

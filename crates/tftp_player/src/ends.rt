@@ -5,7 +5,7 @@ mod arriving;
 ghost use Rattle.std.specs.Prelude.{◌≡◌, ◌<◌, ◌+◌, ◌++◌, ◌∷◌, [], true, length, slice_get, ◌≤◌};
 ghost use Rattle.std.specs.Prelude.{◌⊎◌, IfSome, IfNone, IfOk, IfErr, OnOk, OnErr};
 ghost use Rattle.tftp_ends.specs.End.{is_client};
-ghost use Rattle.tftp_player.specs.Stage.{HangTogether, AreAsBefore, StageTimeoutStep, ends_of};
+ghost use Rattle.tftp_player.specs.Stage.{AreConsistent, AreAsBefore, StageTimeoutStep, ends_of};
 ghost use Rattle.tftp_player.specs.Stage.{record_closed};
 ghost use Rattle.tftp_player.specs.declared.player.Player.TheVariants as players;
 
@@ -36,26 +36,26 @@ impl Ends {
         ensures fits { IfSome result (λ port. port < 65536) }
         ensures none { IfNone result (65535 < 1024 + length self.now.players.items) }
     {
-        let place = self.players.len();
-        if place > 64_511 {
+        let index = self.players.len();
+        if index > 64_511 {
             return None;
         }
-        Some(place as u16 + FIRST_PORT)
+        Some(index as u16 + FIRST_PORT)
     }
 
     /// The index of the end at this port, if there is one.
-    pub(crate) fn place_of(&self, port: u16) -> Option<usize>
-        ensures some { IfSome result (λ place.
-            (port ≡ 1024 + place) × (place < length self.now.players.items)) }
+    pub(crate) fn index_of(&self, port: u16) -> Option<usize>
+        ensures some { IfSome result (λ index.
+            (port ≡ 1024 + index) × (index < length self.now.players.items)) }
         ensures none { IfNone result
             ((port < 1024) ⊎ (1024 + length self.now.players.items ≤ port)) }
     {
         if port < FIRST_PORT {
             return None;
         }
-        let place = usize::from(port - FIRST_PORT);
-        if place < self.players.len() {
-            Some(place)
+        let index = usize::from(port - FIRST_PORT);
+        if index < self.players.len() {
+            Some(index)
         } else {
             None
         }
@@ -63,12 +63,12 @@ impl Ends {
 
     /// Adds a client at the next port.
     pub(crate) fn enter(&mut self, port: u16, client: Client) -> Result<(), WorldFault>
-        requires staged { HangTogether self.old }
+        requires staged { AreConsistent self.old }
         requires port { port ≡ 1024 + length (ends_of self.old.server self.old.players.items) }
         requires client { is_client client.end.role.side ≡ true }
         ensures enters { OnOk result (self.new.players.items
             ≡ self.old.players.items ++ players.Client client ∷ []) }
-        ensures staged { HangTogether self.new }
+        ensures staged { AreConsistent self.new }
         ensures server { self.new.server ≡ self.old.server }
         ensures memory { IfErr result (λ fault. fault ≡ WorldFault.Memory) }
         ensures err { OnErr result (AreAsBefore self.old self.new) }
@@ -85,23 +85,23 @@ impl Ends {
     }
 
     /// The end at this index handles a timeout, unless it is closed.
-    pub(crate) fn on_timeout(&mut self, place: usize, port: u16) -> Result<Effect, WorldFault>
-        requires staged { HangTogether self.old }
-        requires place { (place < length self.old.players.items) × (port ≡ 1024 + place) }
+    pub(crate) fn on_timeout(&mut self, index: usize, port: u16) -> Result<Effect, WorldFault>
+        requires staged { AreConsistent self.old }
+        requires index { (index < length self.old.players.items) × (port ≡ 1024 + index) }
         ensures times_out { IfOk result (λ effect.
-            StageTimeoutStep place self.old.server self.new.server self.old.players.items
+            StageTimeoutStep index self.old.server self.new.server self.old.players.items
             self.new.players.items effect) }
-        ensures staged { HangTogether self.new }
+        ensures staged { AreConsistent self.new }
         ensures memory { IfErr result (λ fault. fault ≡ WorldFault.Memory) }
         ensures err { OnErr result (AreAsBefore self.old self.new) }
     {
-        let player = &mut self.players[place];
-        if is_recorded_closed(&self.records, place) {
+        let player = &mut self.players[index];
+        if is_recorded_closed(&self.records, index) {
             return Ok(no_effect(self.alloc, player.address(port)));
         }
         match player.on_timeout(self.alloc, &mut self.server, port) {
             Ok((effect, record)) => {
-                self.records[place] = (port, record);
+                self.records[index] = (port, record);
                 Ok(effect)
             }
             Err(fault) => Err(fault),
@@ -110,10 +110,10 @@ impl Ends {
 }
 
 /// Whether the record at this index is that of a closed end.
-pub(crate) fn is_recorded_closed(records: &Vec<(u16, Record)>, place: usize) -> bool
-    ensures { result ≡ record_closed (slice_get records.now.items place) }
+pub(crate) fn is_recorded_closed(records: &Vec<(u16, Record)>, index: usize) -> bool
+    ensures { result ≡ record_closed (slice_get records.now.items index) }
 {
-    match records.get(place) {
+    match records.get(index) {
         Some((_, record)) => record.outcome.is_some(),
         None => true,
     }

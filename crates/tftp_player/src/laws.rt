@@ -89,6 +89,6 @@ pub fn a_straight_run_completes()
 /// request before, and the same datagram repeats it while that end is open.
 pub fn a_repeat_opens_nothing()
     ensures ignored { RepeatsOpenNothing }
-    ensures anew { OnlyNewRequestsOpen }
+    ensures new_only { OnlyNewRequestsOpen }
     ensures lasts { RequestsLast }
 {}

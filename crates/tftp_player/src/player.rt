@@ -2,7 +2,7 @@
 
 ghost use Rattle.std.specs.Prelude.{◌≡◌, false, option_map, IfOk, IfErr, OnErr};
 ghost use Rattle.tftp_player.specs.Played.{PlayerKept, PlayerTimeoutStep, PlayerDatagramStep};
-ghost use Rattle.tftp_player.specs.Played.{has_ended, address_of, told_player, stored_of};
+ghost use Rattle.tftp_player.specs.Played.{has_ended, address_of, armed_player, stored_of};
 ghost use Rattle.tftp_player.specs.Played.{committed_of};
 
 use crate::client::Client;
@@ -80,7 +80,7 @@ impl Player {
     /// Sets its next append or commit to be refused, if it is an open receiver.
     pub(crate) fn refuse_next(&mut self, server: &Server<MemStore>, port: u16)
         requires { PlayerKept port server.now.held self.old }
-        ensures { self.new ≡ told_player port server.now.held self.old }
+        ensures { self.new ≡ armed_player port server.now.held self.old }
     {
         match self {
             Player::Client(client) => client.refuse_next(),

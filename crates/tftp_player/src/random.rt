@@ -27,10 +27,10 @@ pub fn draw(rng: &mut Pcg32, world: &World) -> Option<Event>
         return None;
     }
     let kind = rng.next_word();
-    let place = rng.next_word() as usize;
+    let index = rng.next_word() as usize;
     if kind % 8 < 6 {
-        return Some(Event::Deliver(place % sent.len()));
+        return Some(Event::Deliver(index % sent.len()));
     }
-    let (port, _) = records[place % records.len()];
+    let (port, _) = records[index % records.len()];
     Some(Event::Timeout(port))
 }

@@ -8,9 +8,9 @@ ghost use Rattle.tftp_player.specs.Requested.{IsRequested, IsAdmitted, new_serve
 ghost use Rattle.tftp_player.specs.Requested.{requested_by, sender_at};
 ghost use Rattle.tftp_ends.specs.Step.{timeout_turn};
 ghost use Rattle.tftp_server.specs.State.{at};
-ghost use Rattle.tftp_player.specs.Played.{IsServed, draft_or_new, served_draft, told_served_end};
+ghost use Rattle.tftp_player.specs.Played.{IsServed, draft_or_new, served_draft, armed_served_end};
 ghost use Rattle.tftp_player.specs.Serving.{ServedKept, ServedTimeoutStep, ServedDatagramStep};
-ghost use Rattle.tftp_player.specs.Serving.{Concludes, ClosesAs, server_told};
+ghost use Rattle.tftp_player.specs.Serving.{Concludes, ClosesAs, server_armed};
 
 use crate::effect::{Effect, effect_of};
 use crate::fault::WorldFault;
@@ -96,10 +96,10 @@ impl Served {
         ensures err { OnErr result ((self.new ≡ self.old) × (server.new ≡ server.old)) }
     {
         let mut out = Vec::new(alloc);
-        tell_store(server, self.refuses);
+        arm_store(server, self.refuses);
         let answer = server.on_datagram_recorded(port, from, bytes, &mut out);
         let refuses = server.store().refuses();
-        tell_store(server, false);
+        arm_store(server, false);
         match answer {
             Ok((step, record)) => {
                 self.refuses = refuses;
@@ -114,7 +114,7 @@ impl Served {
     /// Sets its next append or commit to be refused, if it is an open receiver.
     pub(crate) fn refuse_next(&mut self, server: &Server<MemStore>, port: u16)
         requires { IsServed port self.old self.old.ended server.now.held }
-        ensures { self.new ≡ told_served_end port server.now.held self.old }
+        ensures { self.new ≡ armed_served_end port server.now.held self.old }
     {
         if self.ended.is_none() && server.draft(port).is_some() {
             self.refuses = true;
@@ -172,10 +172,10 @@ impl Served {
 }
 
 /// Sets the server's store to refuse its next append or commit, or not to.
-fn tell_store(server: &mut Server<MemStore>, told: bool)
-    ensures { server.new ≡ server_told server.old told }
+fn arm_store(server: &mut Server<MemStore>, armed: bool)
+    ensures { server.new ≡ server_armed server.old armed }
 {
-    server.store_mut().refuse_next(told);
+    server.store_mut().refuse_next(armed);
 }
 
 /// The end that a datagram to the request port asks for, if it passes the port's tests that need no

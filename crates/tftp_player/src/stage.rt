@@ -41,12 +41,12 @@ impl Model for Stage {
     ghost Value = { WorldState };
 
     ghost use Rattle.tftp_negotiate.specs.Ranges.{IsBlockSize};
-    ghost use Rattle.tftp_player.specs.Stage.{HangTogether, world_of};
+    ghost use Rattle.tftp_player.specs.Stage.{AreConsistent, world_of};
 
     ghost view = { λ w. world_of w.config w.sent.items w.ends.server w.ends.players.items };
 
     ghost invariant = { λ w. (w.ends.server.config ≡ w.config)
-        × HangTogether w.ends
+        × AreConsistent w.ends
         × IsBlockSize w.config.limits.max_block };
 }
 
@@ -97,18 +97,18 @@ impl Stage {
     pub(crate) fn stored(&self, port: u16) -> Option<&[u8]>
         ensures { option_map (λ bytes. bytes.now) result ≡ stored_at self.now.ends port }
     {
-        match self.ends.place_of(port) {
+        match self.ends.index_of(port) {
             None => None,
-            Some(place) => self.ends.players[place].stored(&self.ends.server, port),
+            Some(index) => self.ends.players[index].stored(&self.ends.server, port),
         }
     }
 
     pub(crate) fn committed(&self, port: u16) -> bool
         ensures { result ≡ committed_at self.now.ends port }
     {
-        match self.ends.place_of(port) {
+        match self.ends.index_of(port) {
             None => false,
-            Some(place) => self.ends.players[place].committed(&self.ends.server, port),
+            Some(index) => self.ends.players[index].committed(&self.ends.server, port),
         }
     }
 
@@ -132,7 +132,7 @@ impl Stage {
                 asked,
                 bytes,
             } => self.put(name.as_slice(), mode, &asked, bytes),
-            Event::Deliver(place) => self.deliver(place),
+            Event::Deliver(index) => self.deliver(index),
             Event::Timeout(port) => self.timeout(port),
             Event::RefuseStore(port) => self.refuse_store(port),
             Event::Stray(from, to, bytes) => self.stray(from, to, &bytes),
@@ -145,13 +145,13 @@ impl Stage {
         ensures refused { IfErr result (WorldRefuses self.old (Timeout port)) }
         ensures err { OnErr result (self.new ≡ self.old) }
     {
-        let Some(place) = self.ends.place_of(port) else {
+        let Some(index) = self.ends.index_of(port) else {
             return Err(WorldFault::NoSuchEnd);
         };
         let Ok(()) = self.sent.reserve(1) else {
             return Err(WorldFault::Memory);
         };
-        match self.ends.on_timeout(place, port) {
+        match self.ends.on_timeout(index, port) {
             Ok(effect) => Ok(write_down(&mut self.sent, effect)),
             Err(fault) => Err(fault),
         }
@@ -164,10 +164,10 @@ impl Stage {
         ensures refused { IfErr result (WorldRefuses self.old (RefuseStore port)) }
         ensures err { OnErr result (self.new ≡ self.old) }
     {
-        let Some(place) = self.ends.place_of(port) else {
+        let Some(index) = self.ends.index_of(port) else {
             return Err(WorldFault::NoSuchEnd);
         };
-        let player = &mut self.ends.players[place];
+        let player = &mut self.ends.players[index];
         player.refuse_next(&self.ends.server, port);
         Ok(Report {
             added: None,

@@ -14,22 +14,27 @@ pub(crate) fn expect(rt: &impl Abort, holds: bool, what: &str)
 }
 
 /// Ends the test unless the value is the expected one; `what` says what it is.
-pub(crate) fn expect_equal<T: PartialEq + Debug>(rt: &impl Abort, value: &T, wanted: &T, what: &str)
-    ensures { T.eq value.now wanted.now ≡ true }
+pub(crate) fn expect_equal<T: PartialEq + Debug>(
+    rt: &impl Abort,
+    value: &T,
+    expected: &T,
+    what: &str,
+)
+    ensures { T.eq value.now expected.now ≡ true }
 {
-    assert_eq!(rt; *value, *wanted, "{what}");
+    assert_eq!(rt; *value, *expected, "{what}");
 }
 
 /// Ends the test unless the bytes are the expected ones; `what` says what they are.
-pub(crate) fn expect_bytes(rt: &impl Abort, bytes: &[u8], wanted: &[u8], what: &str)
-    ensures { bytes.now ≡ wanted.now }
+pub(crate) fn expect_bytes(rt: &impl Abort, bytes: &[u8], expected: &[u8], what: &str)
+    ensures { bytes.now ≡ expected.now }
 {
-    assert_eq!(rt; bytes, wanted, "{what}");
+    assert_eq!(rt; bytes, expected, "{what}");
 }
 
 /// Ends the test unless the text is the expected one; `what` says what it is.
-pub(crate) fn expect_text(rt: &impl Abort, text: &str, wanted: &str, what: &str)
-    ensures { text.now ≡ wanted.now }
+pub(crate) fn expect_text(rt: &impl Abort, text: &str, expected: &str, what: &str)
+    ensures { text.now ≡ expected.now }
 {
-    assert_eq!(rt; text, wanted, "{what}");
+    assert_eq!(rt; text, expected, "{what}");
 }

@@ -111,8 +111,8 @@ end 1025 server-read peer=1024 size=512 number=1 complete=no TimedOut
 
 #[test]
 fn read_rows(rt: HostRuntime) -> Result<(), Fail> {
-    for &(script, want, status) in &READS {
-        plays(&rt, rt.alloc(), script, want, status)?;
+    for &(script, expected, status) in &READS {
+        plays(&rt, rt.alloc(), script, expected, status)?;
     }
     Ok(())
 }
@@ -140,8 +140,8 @@ end 1026 server-read peer=1024 size=512 number=1 complete=no PeerError(5)
 
 #[test]
 fn repeat_rows(rt: HostRuntime) -> Result<(), Fail> {
-    for &(script, want, status) in &REPEATS {
-        plays(&rt, rt.alloc(), script, want, status)?;
+    for &(script, expected, status) in &REPEATS {
+        plays(&rt, rt.alloc(), script, expected, status)?;
     }
     Ok(())
 }
@@ -171,8 +171,8 @@ end 1024 client-read peer=none size=512 number=0 complete=no TimedOut
 
 #[test]
 fn quiet_scripts(rt: HostRuntime) -> Result<(), Fail> {
-    for &(script, want, status) in &QUIET {
-        plays(&rt, rt.alloc(), script, want, status)?;
+    for &(script, expected, status) in &QUIET {
+        plays(&rt, rt.alloc(), script, expected, status)?;
     }
     Ok(())
 }

@@ -11,14 +11,14 @@ pub(crate) fn plays(
     rt: &impl Abort,
     alloc: Global,
     script: &str,
-    want: &str,
+    expected: &str,
     status: u8,
 ) -> Result<(), Fail> {
     let mut output = Vec::new(alloc);
     let mut errors = Vec::new(alloc);
     let answer = play_run(alloc, script.as_bytes(), &mut output, &mut errors);
     let output = str::from_utf8(output.as_slice())?;
-    expect_text(rt, output, want, script);
+    expect_text(rt, output, expected, script);
     expect(rt, errors.is_empty(), script);
     expect_equal(rt, &answer, &status, script);
     Ok(())
@@ -30,9 +30,9 @@ pub(crate) fn draws(rt: &impl Abort, alloc: Global, script: &[u8]) -> Result<Str
     let mut output = Vec::new(alloc);
     let mut picture = Vec::new(alloc);
     let mut errors = Vec::new(alloc);
-    let wanted = play_run(alloc, script, &mut plain, &mut errors);
+    let expected = play_run(alloc, script, &mut plain, &mut errors);
     let status = play_drawn(alloc, script, &mut output, || Ok(&mut picture), &mut errors);
-    expect_equal(rt, &status, &wanted, "the status");
+    expect_equal(rt, &status, &expected, "the status");
     expect_bytes(rt, output.as_slice(), plain.as_slice(), "the output");
     expect(rt, errors.is_empty(), "no message");
     Ok(String::from_str(alloc, str::from_utf8(picture.as_slice())?)?)

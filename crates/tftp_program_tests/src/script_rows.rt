@@ -106,11 +106,11 @@ fn is_faulty(rt: &impl Abort, alloc: Global, script: &[u8], number: usize) -> Re
     let mut output = Vec::new(alloc);
     let mut errors = Vec::new(alloc);
     let status = play_run(alloc, script, &mut output, &mut errors);
-    let want = format!(in alloc; "line {number}: fault\n")?;
+    let expected = format!(in alloc; "line {number}: fault\n")?;
     expect_equal(
         rt,
         &(script, errors.as_slice()),
-        &(script, want.as_bytes()),
+        &(script, expected.as_bytes()),
         "the message",
     );
     expect_equal(rt, &(script, status), &(script, 2), "the status");
@@ -161,7 +161,7 @@ fn plays(
     rt: &impl Abort,
     alloc: Global,
     script: &[u8],
-    want: &str,
+    expected: &str,
     status: u8,
 ) -> Result<(), Fail> {
     let mut output = Vec::new(alloc);
@@ -170,7 +170,7 @@ fn plays(
     expect_equal(
         rt,
         &(script, output.as_slice()),
-        &(script, want.as_bytes()),
+        &(script, expected.as_bytes()),
         "the output",
     );
     expect_equal(
@@ -244,8 +244,8 @@ end 1024 client-read peer=none size=512 number=0 complete=no PeerError(2)
 
 #[test]
 fn settings_and_files(rt: HostRuntime) -> Result<(), Fail> {
-    for &(script, want, status) in &SETTINGS {
-        plays(&rt, rt.alloc(), script, want, status)?;
+    for &(script, expected, status) in &SETTINGS {
+        plays(&rt, rt.alloc(), script, expected, status)?;
     }
     Ok(())
 }

@@ -41,13 +41,13 @@ const VECTORS: [(&str, &str); 20] = [
     ("0", "not hex"),
 ];
 
-fn runs(rt: &impl Abort, alloc: Global, input: &[u8], want: &str, status: u8) {
+fn runs(rt: &impl Abort, alloc: Global, input: &[u8], expected: &str, status: u8) {
     let mut output = Vec::new(alloc);
     let answer = show_run(alloc, input, &mut output);
     expect_equal(
         rt,
         &(input, output.as_slice()),
-        &(input, want.as_bytes()),
+        &(input, expected.as_bytes()),
         "the output",
     );
     expect_equal(rt, &(input, answer), &(input, status), "the status");
@@ -56,12 +56,12 @@ fn runs(rt: &impl Abort, alloc: Global, input: &[u8], want: &str, status: u8) {
 #[test]
 fn vectors_show(rt: HostRuntime) -> Result<(), Fail> {
     let mut input = String::new(rt.alloc());
-    let mut want = String::new(rt.alloc());
+    let mut expected = String::new(rt.alloc());
     for &(line, shown) in &VECTORS {
         writeln!(input, "{line}")?;
-        writeln!(want, "{shown}")?;
+        writeln!(expected, "{shown}")?;
     }
-    runs(&rt, rt.alloc(), input.as_bytes(), want.as_str(), 1);
+    runs(&rt, rt.alloc(), input.as_bytes(), expected.as_str(), 1);
     Ok(())
 }
 
@@ -83,8 +83,8 @@ const INPUTS: [(&[u8], &str, u8); 7] = [
 
 #[test]
 fn ends_of_input(rt: HostRuntime) {
-    for &(input, want, status) in &INPUTS {
-        runs(&rt, rt.alloc(), input, want, status);
+    for &(input, expected, status) in &INPUTS {
+        runs(&rt, rt.alloc(), input, expected, status);
     }
 }
 
@@ -108,8 +108,8 @@ const PACKETS: [(&[u8], &str, u8); 6] = [
 
 #[test]
 fn packet_rows(rt: HostRuntime) {
-    for &(input, want, status) in &PACKETS {
-        runs(&rt, rt.alloc(), input, want, status);
+    for &(input, expected, status) in &PACKETS {
+        runs(&rt, rt.alloc(), input, expected, status);
     }
 }
 
@@ -122,12 +122,12 @@ const LONG: [(usize, &str); 2] = [
 
 #[test]
 fn a_request_has_512_bytes_at_most(rt: HostRuntime) -> Result<(), Fail> {
-    for &(letters, want) in &LONG {
+    for &(letters, expected) in &LONG {
         let mut input = Vec::from_slice(rt.alloc(), b"0001")?;
         for _ in 0..letters {
             input.extend_from_slice(b"61")?;
         }
-        runs(&rt, rt.alloc(), input.as_slice(), want, 1);
+        runs(&rt, rt.alloc(), input.as_slice(), expected, 1);
     }
     Ok(())
 }
@@ -153,7 +153,7 @@ fn lines_are_appended(rt: HostRuntime) -> Result<(), Fail> {
     let mut input = b"00040000\n0".as_slice();
     let packets = show_lines(rt.alloc(), &mut input, &mut output)?;
     expect(&rt, !packets, "one is no packet");
-    let want = b"old\nACK 0\nnot hex\n".as_slice();
-    expect_bytes(&rt, output.as_slice(), want, "behind the old bytes");
+    let expected = b"old\nACK 0\nnot hex\n".as_slice();
+    expect_bytes(&rt, output.as_slice(), expected, "behind the old bytes");
     Ok(())
 }

@@ -59,8 +59,8 @@ end 1025 server-read peer=5000 size=512 number=1 complete=yes Complete
 
 #[test]
 fn stray_rows(rt: HostRuntime) -> Result<(), Fail> {
-    for &(script, want, status) in &ROWS {
-        plays(&rt, rt.alloc(), script, want, status)?;
+    for &(script, expected, status) in &ROWS {
+        plays(&rt, rt.alloc(), script, expected, status)?;
     }
     Ok(())
 }

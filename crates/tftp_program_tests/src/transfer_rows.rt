@@ -52,8 +52,8 @@ end 1025 server-read peer=1024 size=512 number=1 complete=yes Complete
 
 #[test]
 fn netascii_rows(rt: HostRuntime) -> Result<(), Fail> {
-    for &(script, want, status) in &NETASCII {
-        plays(&rt, rt.alloc(), script, want, status)?;
+    for &(script, expected, status) in &NETASCII {
+        plays(&rt, rt.alloc(), script, expected, status)?;
     }
     Ok(())
 }
@@ -92,8 +92,8 @@ end 1024 client-read peer=none size=512 number=0 complete=no PeerError(0)
 
 #[test]
 fn option_rows(rt: HostRuntime) -> Result<(), Fail> {
-    for &(script, want, status) in &OPTIONS {
-        plays(&rt, rt.alloc(), script, want, status)?;
+    for &(script, expected, status) in &OPTIONS {
+        plays(&rt, rt.alloc(), script, expected, status)?;
     }
     Ok(())
 }

@@ -8,9 +8,13 @@ use tftp_ends::{Endpoint, OpenFault, Outcome};
 use tftp_host::{ClientOutcome, LineClock, LogLine, Lost, Printed, ProgressLine, Reason};
 
 /// A value prints this.
-fn prints<R: AllocGlobal + Abort, D: Display>(rt: &R, value: &D, wanted: &str) -> Result<(), Fail> {
+fn prints<R: AllocGlobal + Abort, D: Display>(
+    rt: &R,
+    value: &D,
+    expected: &str,
+) -> Result<(), Fail> {
     let text = value.to_string(rt.alloc())?;
-    expect_text(rt, text.as_str(), wanted, "what is printed");
+    expect_text(rt, text.as_str(), expected, "what is printed");
     Ok(())
 }
 
@@ -179,7 +183,7 @@ fn closing_log_line(rt: HostRuntime) -> Result<(), Fail> {
         outcome: Outcome::Complete,
         reason: None,
     };
-    let wanted = "closed 1025 10.0.0.2:1024 RRQ a octet: DATA 1 3, 3 bytes, 12 ms, Complete";
-    prints(&rt, &closed, wanted)?;
+    let expected = "closed 1025 10.0.0.2:1024 RRQ a octet: DATA 1 3, 3 bytes, 12 ms, Complete";
+    prints(&rt, &closed, expected)?;
     Ok(())
 }

@@ -2,7 +2,7 @@
 
 use crate::expect::{expect, expect_equal};
 use tftp_ends::Outcome;
-use tftp_host::{Port, Watch, deadline, fallback, is_due, place_of, wait_for};
+use tftp_host::{Port, Watch, deadline, fallback, index_of, is_due, wait_for};
 use tftp_negotiate::Asked;
 
 /// Readings of a clock, from 5,000 on, and the time in milliseconds: a wait counts for a second at
@@ -33,11 +33,11 @@ const DEADLINES: [(u8, u64); 2] = [(1, 1_700), (255, 255_700)];
 
 #[test]
 fn a_transfer_is_due(rt: HostRuntime) {
-    for &(seconds, want) in &DEADLINES {
+    for &(seconds, expected) in &DEADLINES {
         expect_equal(
             &rt,
             &(seconds, deadline(700, seconds)),
-            &(seconds, want),
+            &(seconds, expected),
             "when it is due",
         );
     }
@@ -65,8 +65,8 @@ fn the_nearest_deadline_is_waited_for(rt: HostRuntime) {
         &1_000,
         "a second where there is none",
     );
-    expect_equal(&rt, &place_of(1027, &ports), &Some(2), "the third port");
-    expect_equal(&rt, &place_of(1040, &ports), &None, "no such port");
+    expect_equal(&rt, &index_of(1027, &ports), &Some(2), "the third port");
+    expect_equal(&rt, &index_of(1040, &ports), &None, "no such port");
 }
 
 /// Outcomes, whether a block size was requested, and whether the transfer is tried again.
@@ -80,7 +80,7 @@ const OUTCOMES: [(Outcome, Option<u16>, bool); 4] = [
 /// ERROR 8 refuses options (RFC 2347, "Negotiation Protocol").
 #[test]
 fn options_are_left_out_where_they_are_refused(rt: HostRuntime) {
-    for &(outcome, blksize, want) in &OUTCOMES {
+    for &(outcome, blksize, expected) in &OUTCOMES {
         let asked = Asked {
             blksize,
             timeout: None,
@@ -89,7 +89,7 @@ fn options_are_left_out_where_they_are_refused(rt: HostRuntime) {
         expect_equal(
             &rt,
             &(outcome, blksize, fallback(outcome, &asked)),
-            &(outcome, blksize, want),
+            &(outcome, blksize, expected),
             "whether it is tried again",
         );
     }

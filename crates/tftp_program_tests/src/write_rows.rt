@@ -101,8 +101,8 @@ end 1027 server-write peer=1026 size=512 number=0 complete=no StoreFault
 
 #[test]
 fn write_rows(rt: HostRuntime) -> Result<(), Fail> {
-    for &(script, want, status) in &WRITES {
-        plays(&rt, rt.alloc(), script, want, status)?;
+    for &(script, expected, status) in &WRITES {
+        plays(&rt, rt.alloc(), script, expected, status)?;
     }
     Ok(())
 }
@@ -161,8 +161,8 @@ end 1027 server-write peer=1026 size=512 number=1 complete=yes open
 
 #[test]
 fn overwrite_rows(rt: HostRuntime) -> Result<(), Fail> {
-    for &(script, want, status) in &OVERWRITES {
-        plays(&rt, rt.alloc(), script, want, status)?;
+    for &(script, expected, status) in &OVERWRITES {
+        plays(&rt, rt.alloc(), script, expected, status)?;
     }
     Ok(())
 }
@@ -213,8 +213,8 @@ end 1025 server-write peer=1024 size=8 number=2 complete=no StoreFault
 
 #[test]
 fn fault_rows(rt: HostRuntime) -> Result<(), Fail> {
-    for &(script, want, status) in &REFUSED {
-        plays(&rt, rt.alloc(), script, want, status)?;
+    for &(script, expected, status) in &REFUSED {
+        plays(&rt, rt.alloc(), script, expected, status)?;
     }
     Ok(())
 }
@@ -244,8 +244,8 @@ end 1025 server-write peer=1024 size=512 number=1 complete=yes Complete
 
 #[test]
 fn repeat_rows(rt: HostRuntime) -> Result<(), Fail> {
-    for &(script, want, status) in &REPEATED {
-        plays(&rt, rt.alloc(), script, want, status)?;
+    for &(script, expected, status) in &REPEATED {
+        plays(&rt, rt.alloc(), script, expected, status)?;
     }
     Ok(())
 }
@@ -301,8 +301,8 @@ end 1026 client-write peer=none size=512 number=0 complete=no PeerError(0)
 
 #[test]
 fn port_rows(rt: HostRuntime) -> Result<(), Fail> {
-    for &(script, want, status) in &UNOPENED {
-        plays(&rt, rt.alloc(), script, want, status)?;
+    for &(script, expected, status) in &UNOPENED {
+        plays(&rt, rt.alloc(), script, expected, status)?;
     }
     Ok(())
 }

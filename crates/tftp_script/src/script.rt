@@ -51,10 +51,10 @@ impl Script {
             files: Vec::new(alloc),
             statements: Vec::new(alloc),
         };
-        for (place, line) in text.split_inclusive(|byte| *byte == b'\n').enumerate() {
+        for (index, line) in text.split_inclusive(|byte| *byte == b'\n').enumerate() {
             match script.parse_line(alloc, line) {
                 Ok(()) => {}
-                Err(LineFault::Faulty) => return Err(ScriptFault::Line(place + 1)),
+                Err(LineFault::Faulty) => return Err(ScriptFault::Line(index + 1)),
                 Err(LineFault::Memory) => return Err(ScriptFault::Memory),
             }
         }

@@ -11,7 +11,7 @@ use Rattle.tftp_ends.specs.declared.record.Step.{Step}
 use Rattle.tftp_ends.specs.End.{EndState}
 use Rattle.tftp_ends.specs.Files.{AreSame, KeepsFiles, KeepsSink}
 use Rattle.tftp_ends.specs.OtherSinks.{source_step_as, sink_step_as}
-use Rattle.tftp_ends.specs.Step.{Turn, DatagramStep, told}
+use Rattle.tftp_ends.specs.Step.{Turn, DatagramStep, reported}
 use Rattle.tftp_server.specs.Steps.{Gives, MakesStep}
 
 -- the value of a borrowed source, and of a borrowed sink, at the end of the borrow
@@ -36,12 +36,12 @@ module _ {S K R : Type 0} (sources : SourceMeaning S) (sinks : SinkMeaning K) (s
   abbrev pub StepsOverSource : Endpoint → List ℕ → EndState → EndState → Files (MutBor S) K → Files (MutBor S) K → R → Type 0
   StepsOverSource from bytes e e' files files' r =
       (turn : Turn) × DatagramStep (borrowed_source sources) sinks from bytes e files turn files'
-      × gives r e turn e' (step_in r).to × (step_in r ≡ told e turn)
+      × gives r e turn e' (step_in r).to × (step_in r ≡ reported e turn)
 
   abbrev pub StepsOverSink : Endpoint → List ℕ → EndState → EndState → Files S (MutBor K) → Files S (MutBor K) → R → Type 0
   StepsOverSink from bytes e e' files files' r =
       (turn : Turn) × DatagramStep sources (borrowed_sink sinks) from bytes e files turn files'
-      × gives r e turn e' (step_in r).to × (step_in r ≡ told e turn)
+      × gives r e turn e' (step_in r).to × (step_in r ≡ reported e turn)
 
   pub source_steps : (from : Endpoint) (bytes : List ℕ) (e e' : EndState) (first second : MutBor S) (files : Files (MutBor S) K) (last : S) (result : Result R EndFault) → files ≡ Source second → last ≡ second.now →
       IfOk result (StepsOverSource from bytes e e' (Source first) files) →
@@ -51,12 +51,12 @@ module _ {S K R : Type 0} (sources : SourceMeaning S) (sinks : SinkMeaning K) (s
       let steps = subst (λ (f : Files (MutBor S) K). DatagramStep (borrowed_source sources) sinks from bytes e (Source first) h.0 f) is h.1 in
       let now : DatagramStep sources sinks from bytes e (Source first.now) h.0 (Source second.now) =
       source_step_as (borrowed_source sources) sinks sources sinks
-      (λ s. s.now) (record { tells = λ s. refl; fails = λ s want f. f; must = λ s want f. f }) from bytes e first h.0 second steps in
+      (λ s. s.now) (record { models = λ s. refl; fails = λ s want f. f; must = λ s want f. f }) from bytes e first h.0 second steps in
       record {
         turn = h.0;
         steps = subst (λ (s : S). DatagramStep sources sinks from bytes e (Source first.now) h.0 (Source s)) (sym same) now;
         carries = h.2;
-        tells = h.3;
+        reports = h.3;
       }
 
   pub sink_steps : (from : Endpoint) (bytes : List ℕ) (e e' : EndState) (first second : MutBor K) (files : Files S (MutBor K)) (last : K) (result : Result R EndFault) → files ≡ Sink second → last ≡ second.now →
@@ -67,12 +67,12 @@ module _ {S K R : Type 0} (sources : SourceMeaning S) (sinks : SinkMeaning K) (s
       let steps = subst (λ (f : Files S (MutBor K)). DatagramStep sources (borrowed_sink sinks) from bytes e (Sink first) h.0 f) is h.1 in
       let now : DatagramStep sources sinks from bytes e (Sink first.now) h.0 (Sink second.now) =
       sink_step_as sources (borrowed_sink sinks) sources sinks
-      (λ k. k.now) (λ k. Unit {0}) (record { tells = λ k. refl; keeps = λ k l p b. tt; appends = λ k piece fault p f. f; commits = λ k fault p f. f; leaves = λ k l committed p b. b }) from bytes e first h.0 second tt steps in
+      (λ k. k.now) (λ k. Unit {0}) (record { models = λ k. refl; keeps = λ k l p b. tt; appends = λ k piece fault p f. f; commits = λ k fault p f. f; leaves = λ k l committed p b. b }) from bytes e first h.0 second tt steps in
       record {
         turn = h.0;
         steps = subst (λ (k : K). DatagramStep sources sinks from bytes e (Sink first.now) h.0 (Sink k)) (sym same) now;
         carries = h.2;
-        tells = h.3;
+        reports = h.3;
       }
 
 -- after a fault the borrowed file holds the same

@@ -188,13 +188,13 @@ module _ {S F D : Type 0} (meaning : StoreMeaning S D) (sources : SourceMeaning 
   pub refuses : (tid : ℕ) (ask : Ask) (reply : ErrorReply) (before after : List ℕ) (r : Result Opened ServerFault) → ask ≡ Refuses reply →
       IfOk r (λ opened. opened ≡ record { tid = None; to = Some from }) → OnOk r (after ≡ before ++ error_bytes reply) →
       IfOk r (λ opened. (sent : List ℕ) × (after ≡ before ++ sent) × CarriesOut meaning sources old from bytes ask tid (record { new = old; opened = opened; sent = sent }))
-  refuses tid ask reply before after (Ok opened) is tells ok = (
+  refuses tid ask reply before after (Ok opened) is opened_is ok = (
     error_bytes reply,
     ok,
     carries tid ask (Refuses reply) (An_error reply old.store) _ is refl
-        (ap (λ (o : Opened). record { new = old; opened = o; sent = error_bytes reply }) tells),
+        (ap (λ (o : Opened). record { new = old; opened = o; sent = error_bytes reply }) opened_is),
   )
-  refuses tid ask reply before after (Err fault) is tells ok = tt
+  refuses tid ask reply before after (Err fault) is opened_is ok = tt
 
   -- the store was asked for a file or a draft
   pub goes_on : (tid : ℕ) (ask done : Ask) (before after : List ℕ) (new : ServerState S F D) (r : Result Opened ServerFault) → ask ≡ done →
@@ -260,12 +260,12 @@ module _ {S F D : Type 0} (meaning : StoreMeaning S D) (sources : SourceMeaning 
 
     pub write_refused : (tid : ℕ) (was mid out : List ℕ) (d : Decision F D) (reply : ErrorReply) (opened : Opened) → d ≡ Refuse reply → table ≡ held → AsksToWrite meaning sources (before_write none) from bytes path mode agreed (came_to d after.store) → mid ≡ was ++ decided_bytes d →
         opened ≡ record { tid = None; to = Some from } → out ≡ mid ++ error_bytes reply → Written tid was out opened
-    write_refused tid was mid out d reply opened is back asks sent tells ok = (
+    write_refused tid was mid out d reply opened is back asks sent opened_is ok = (
       An_error reply after.store,
       error_bytes reply,
       asked_apart (An_error reply after.store) (subst (λ (x : Decision F D). AsksToWrite meaning sources (before_write none) from bytes path mode agreed (came_to x after.store)) is asks),
       ok ∙ ap (λ (x : List ℕ). x ++ error_bytes reply) (nothing_sent was mid d reply is sent),
-      rw (config_kept, store_kept, back, tells) refl,
+      rw (config_kept, store_kept, back, opened_is) refl,
     )
 
     -- nothing has changed

@@ -17,7 +17,7 @@ use Rattle.tftp_ends.specs.declared.action.Action.{Action}
 use Rattle.tftp_ends.specs.Action.{Decodes, datagram_action, timeout_action}
 use Rattle.tftp_ends.specs.End.{EndState, record_of}
 use Rattle.tftp_ends.specs.OtherSinks.{source_step_as, sink_step_as}
-use Rattle.tftp_ends.specs.Step.{IsAnswered, told, timeout_turn}
+use Rattle.tftp_ends.specs.Step.{IsAnswered, reported, timeout_turn}
 use Rattle.tftp_wire.specs.declared.packet.Packet.{Packet}
 use Rattle.tftp_server.specs.declared.draft_sink.DraftSink.{DraftSink}
 use Rattle.tftp_server.specs.declared.fault.ServerFault.{ServerFault}
@@ -53,9 +53,9 @@ module _ {S F D : Type 0} (meaning : StoreMeaning S D) (sources : SourceMeaning 
         turn = h.turn;
         steps =
             source_step_as sources sinks sources (drafting_sink meaning)
-            (λ s. s) (record { tells = λ s. refl; fails = λ s want f. f; must = λ s want f. f }) from bytes e s h.turn s' h.steps;
+            (λ s. s) (record { models = λ s. refl; fails = λ s want f. f; must = λ s want f. f }) from bytes e s h.turn s' h.steps;
         carries = h.carries;
-        tells = h.tells;
+        reports = h.reports;
         stays = refl;
         kind = tt;
         path = refl;
@@ -71,13 +71,13 @@ module _ {S F D : Type 0} (meaning : StoreMeaning S D) (sources : SourceMeaning 
       let steps =
       sink_step_as sources (sink_through (drafting_sink meaning) as_drafting)
       sources (drafting_sink meaning)
-      as_drafting (λ k. Unit {0}) (record { tells = λ k. refl; keeps = λ k l p b. tt; appends = λ k piece fault p f. f; commits = λ k fault p f. f; leaves = λ k l committed p b. b }) from bytes e k h.turn k' tt h.steps in
+      as_drafting (λ k. Unit {0}) (record { models = λ k. refl; keeps = λ k l p b. tt; appends = λ k piece fault p f. f; commits = λ k fault p f. f; leaves = λ k l committed p b. b }) from bytes e k h.turn k' tt h.steps in
       let last = subst (λ (d : Drafting S D). StepIn meaning sources from bytes e (Sink (as_drafting k)) h.turn (Sink d)) is steps in
       record {
         turn = h.turn;
         steps = subst (λ (d : Drafting S D). StepIn meaning sources from bytes e (Sink d) h.turn (Sink (record { store = store'; draft = draft'; path = path; replace = replace }))) was last;
         carries = h.carries;
-        tells = h.tells;
+        reports = h.reports;
         stays = tt;
         kind = tt;
         path = refl;
@@ -135,14 +135,14 @@ module _ {F D : Type 0} where
   pub found_now : (tid : ℕ) (table now : List (ℕ × HeldTransfer F D)) (transfer : HeldTransfer F D) → table ≡ now → Some transfer ≡ at tid table → at tid now ≡ Some transfer
   found_now tid table now transfer same found = ap (at tid) (sym same) ∙ sym found
 
-  pub times_out : (gives : Gives) (tid : ℕ) (table now : List (ℕ × HeldTransfer F D)) (transfer next : HeldTransfer F D) (step : Step) → table ≡ now → Some transfer ≡ at tid table → gives transfer.end (timeout_turn transfer.end) next.end step.to × (step ≡ told transfer.end (timeout_turn transfer.end)) × (next ≡ with_end next.end transfer) → TimesOutBy gives tid now (with_next tid next table) step
+  pub times_out : (gives : Gives) (tid : ℕ) (table now : List (ℕ × HeldTransfer F D)) (transfer next : HeldTransfer F D) (step : Step) → table ≡ now → Some transfer ≡ at tid table → gives transfer.end (timeout_turn transfer.end) next.end step.to × (step ≡ reported transfer.end (timeout_turn transfer.end)) × (next ≡ with_end next.end transfer) → TimesOutBy gives tid now (with_next tid next table) step
   times_out gives tid table now transfer next step same found h =
       record {
         transfer = transfer;
         found = found_now tid table now transfer same found;
         end = next.end;
         carries = h.0;
-        tells = h.1;
+        reports = h.1;
         held = ap (λ (t : HeldTransfer F D). with_next tid t table) h.2 ∙ ap (with_next tid (with_end next.end transfer)) same;
       }
 

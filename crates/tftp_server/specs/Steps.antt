@@ -11,7 +11,7 @@ use Rattle.tftp_ends.specs.End.{EndState, record_of}
 use Rattle.tftp_ends.specs.Files.{KeepsFiles, AreSame}
 use Rattle.tftp_ends.specs.Action.{Decodes, datagram_action, timeout_action}
 use Rattle.tftp_ends.specs.Step.{Turn, DatagramStep, Carries, Lends, IsAnswered, UsesFile}
-use Rattle.tftp_ends.specs.Step.{timeout_turn, told}
+use Rattle.tftp_ends.specs.Step.{timeout_turn, reported}
 use Rattle.tftp_ends.specs.declared.action.Action.{Action}
 use Rattle.tftp_ends.specs.declared.outgoing.Outgoing.{Outgoing}
 use Rattle.tftp_server.specs.declared.fault.ServerFault.{ServerFault}
@@ -39,7 +39,7 @@ pub record MakesStep {S K : Type 0} (sources : SourceMeaning S) (sinks : SinkMea
   pub turn : Turn
   pub steps : DatagramStep sources sinks from bytes e files turn files'
   pub carries : gives e turn e' step.to
-  pub tells : step ≡ told e turn
+  pub reports : step ≡ reported e turn
 
 module _ {F D : Type 0} where
   -- the transfer with another state of its end
@@ -53,7 +53,7 @@ module _ {F D : Type 0} where
     pub found : at tid old ≡ Some transfer
     pub end : EndState
     pub carries : gives transfer.end (timeout_turn transfer.end) end step.to
-    pub tells : step ≡ told transfer.end (timeout_turn transfer.end)
+    pub reports : step ≡ reported transfer.end (timeout_turn transfer.end)
     pub held : new ≡ with_next tid (with_end end transfer) old
 
   -- its datagram is appended, or lent
@@ -106,7 +106,7 @@ module _ {S F D : Type 0} (meaning : StoreMeaning S D) (sources : SourceMeaning 
         (files_in store transfer.path replace transfer.files) turn
         (files_in store' next.path replace next.files)
     pub carries : gives transfer.end turn next.end step.to
-    pub tells : step ≡ told transfer.end turn
+    pub reports : step ≡ reported transfer.end turn
     pub stays : KeepsStore transfer.files store store'
     pub kind : AreSame (λ (a b : F). ⊤) (λ (a b : D). ⊤) transfer.files next.files
     pub path : next.path ≡ transfer.path

@@ -9,7 +9,7 @@ ghost use Rattle.tftp_ends.specs.Files.{AreFilesOf};
 ghost use Rattle.tftp_server.specs.Steps.{with_end, lends, TakesBy, TakesIn, StaysAs};
 ghost use Rattle.tftp_ends.specs.Action.{Decodes, datagram_action, timeout_action};
 ghost use Rattle.tftp_ends.specs.Step.{Carries, Lends, IsAnswered, UsesFile, lent, timeout_turn};
-ghost use Rattle.tftp_ends.specs.Step.{told};
+ghost use Rattle.tftp_ends.specs.Step.{reported};
 ghost use Rattle.tftp_server.specs.Work.{Works};
 ghost use Rattle.tftp_wire.specs.declared.packet.Packet.{Packet};
 
@@ -108,7 +108,7 @@ impl<F, D> Transfer<F, D> {
     pub(crate) fn on_timeout(&mut self, out: &mut Vec<u8>) -> Result<Step, EndFault>
         ensures steps { IfOk result (λ step. Carries self.old.end (timeout_turn self.old.end)
             self.new.end step.to out.old.items out.new.items
-            × (step ≡ told self.old.end (timeout_turn self.old.end))
+            × (step ≡ reported self.old.end (timeout_turn self.old.end))
             × (self.new ≡ with_end self.new.end self.old)) }
         ensures closed { IsErrOf result EndFault.Closed ↔ (is_closed self.old ≡ true) }
         ensures memory { IsErrOf result EndFault.Memory
@@ -123,7 +123,7 @@ impl<F, D> Transfer<F, D> {
     pub(crate) fn handle_timeout(&mut self) -> Result<(Step, Outgoing), EndFault>
         ensures steps { IfOk result (λ answer. Lends self.old.end (timeout_turn self.old.end)
             self.new.end answer.0.to answer.1
-            × (answer.0 ≡ told self.old.end (timeout_turn self.old.end))
+            × (answer.0 ≡ reported self.old.end (timeout_turn self.old.end))
             × (self.new ≡ with_end self.new.end self.old)) }
         ensures closed { IsErrOf result EndFault.Closed ↔ (is_closed self.old ≡ true) }
         ensures memory { IsErrOf result EndFault.Memory → ⊥ }

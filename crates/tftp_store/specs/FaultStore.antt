@@ -81,15 +81,15 @@ pub record Begun {S D : Type 0} (inner : StoreMeaning S D) (before after : Fault
       (inner.begun before.inner after.inner fault)
 
 -- the model of the inner store without the setting to refuse a call
-abbrev pub never_told : Option Stored → Option Stored
-never_told None = None
-never_told (Some store) = Some (record store { refuses = false })
+abbrev pub never_armed : Option Stored → Option Stored
+never_armed None = None
+never_armed (Some store) = Some (record store { refuses = false })
 
 -- the model of such a store: that of the inner store, except for the refused call
 abbrev pub fault_meaning : {S D : Type 0} → StoreMeaning S D → StoreMeaning (FaultStoreState S) D
 fault_meaning inner =
     record {
-      stored = λ s. never_told (inner.stored s.inner);
+      stored = λ s. never_armed (inner.stored s.inner);
       drafted = inner.drafted;
       may_refuse_open = λ s path fault.
           MayAnswer s.refuses_open s.fault fault (inner.may_refuse_open s.inner path fault);

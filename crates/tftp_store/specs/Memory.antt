@@ -26,8 +26,8 @@ has_distinct_paths [] = true
 has_distinct_paths (e ∷ files) = not (is_some (file_at e.0 files)) && has_distinct_paths files
 
 -- the store, set to refuse its next append or commit or not
-abbrev pub with_told : Stored → Bool → Stored
-with_told stored told = record stored { refuses = told }
+abbrev pub with_armed : Stored → Bool → Stored
+with_armed stored armed = record stored { refuses = armed }
 
 -- an opening fails if there is no such file, or when out of memory
 abbrev pub MayRefuseOpen : Stored → List ℕ → StoreFault → Type 0

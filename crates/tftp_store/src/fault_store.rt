@@ -118,7 +118,7 @@ impl<S: Store> Store for FaultStore<S> {
     ghost use Rattle.tftp_file.specs.Sink.{Appends, Commits};
     ghost use Rattle.tftp_store.specs.Store.{Opens, Begins, fault_in, holding_of, files_of, Puts};
     ghost use Rattle.tftp_store.specs.FaultStore.{Begun, Counts, MayAnswer, fault_meaning, is_due};
-    ghost use Rattle.tftp_store.specs.FaultStore.{never_told, opened_meaning};
+    ghost use Rattle.tftp_store.specs.FaultStore.{never_armed, opened_meaning};
 
     type Source = OpenedSource<S::Source>;
 
@@ -133,7 +133,7 @@ impl<S: Store> Store for FaultStore<S> {
         mode: Mode,
     ) -> Result<Opening<OpenedSource<S::Source>>, StoreFault>
         ensures opens { Opens (opened_meaning S.Source.meaning)
-            (never_told (S.meaning.stored self.now.inner)) path.now mode result }
+            (never_armed (S.meaning.stored self.now.inner)) path.now mode result }
         ensures refused { IfErr result (λ fault. MayAnswer self.now.refuses_open self.now.fault
             fault (S.meaning.may_refuse_open self.now.inner path.now fault)) }
         ensures fails { self.now.refuses_open ≡ true → result ≡ Err self.now.fault }
@@ -153,8 +153,8 @@ impl<S: Store> Store for FaultStore<S> {
     }
 
     fn begin(&mut self, alloc: Global, path: &Path, replace: bool) -> Result<S::Draft, StoreFault>
-        ensures begins { Begins S.meaning.drafted (never_told (S.meaning.stored self.old.inner))
-            (never_told (S.meaning.stored self.new.inner)) path.now replace result }
+        ensures begins { Begins S.meaning.drafted (never_armed (S.meaning.stored self.old.inner))
+            (never_armed (S.meaning.stored self.new.inner)) path.now replace result }
         ensures refused { IfErr result (λ fault. MayAnswer (is_due self.old.calls_left)
             self.old.fault fault (S.meaning.may_refuse_begin self.old.inner path.now replace
             fault)) }
@@ -175,13 +175,13 @@ impl<S: Store> Store for FaultStore<S> {
 
     fn append(&mut self, draft: &mut S::Draft, bytes: &[u8]) -> Result<(), StoreFault>
         ensures appends { Appends
-            (holding_of (never_told (S.meaning.stored self.old.inner))
+            (holding_of (never_armed (S.meaning.stored self.old.inner))
             (S.meaning.drafted draft.old))
-            (holding_of (never_told (S.meaning.stored self.new.inner))
+            (holding_of (never_armed (S.meaning.stored self.new.inner))
             (S.meaning.drafted draft.new))
             bytes.now result }
-        ensures files { files_of (never_told (S.meaning.stored self.new.inner))
-            ≡ files_of (never_told (S.meaning.stored self.old.inner)) }
+        ensures files { files_of (never_armed (S.meaning.stored self.new.inner))
+            ≡ files_of (never_armed (S.meaning.stored self.old.inner)) }
         ensures refused { IfErr result (λ fault. MayAnswer (is_due self.old.calls_left)
             self.old.fault fault (S.meaning.may_refuse_append self.old.inner draft.old bytes.now
             fault)) }
@@ -204,13 +204,13 @@ impl<S: Store> Store for FaultStore<S> {
 
     fn commit(&mut self, path: &Path, draft: &mut S::Draft, replace: bool) -> Result<(), StoreFault>
         ensures commits { Commits
-            (holding_of (never_told (S.meaning.stored self.old.inner))
+            (holding_of (never_armed (S.meaning.stored self.old.inner))
             (S.meaning.drafted draft.old))
-            (holding_of (never_told (S.meaning.stored self.new.inner))
+            (holding_of (never_armed (S.meaning.stored self.new.inner))
             (S.meaning.drafted draft.new))
             result }
-        ensures files { Puts (never_told (S.meaning.stored self.old.inner))
-            (never_told (S.meaning.stored self.new.inner)) (S.meaning.drafted draft.old) path.now
+        ensures files { Puts (never_armed (S.meaning.stored self.old.inner))
+            (never_armed (S.meaning.stored self.new.inner)) (S.meaning.drafted draft.old) path.now
             replace result }
         ensures refused { IfErr result (λ fault. MayAnswer (is_due self.old.calls_left)
             self.old.fault fault (S.meaning.may_refuse_commit self.old.inner path.now draft.old

@@ -3,7 +3,7 @@
 ghost use Rattle.std.specs.Prelude.{◌≡◌, IfOk, IfErr, option_copied, option_map, true, false, List};
 ghost use Rattle.std.specs.Prelude.{ℕ, OnOk, OnErr};
 ghost use Rattle.tftp_store.specs.Store.{file_at, with_file};
-ghost use Rattle.tftp_store.specs.Memory.{contents, in_path_order, has_distinct_paths, with_told};
+ghost use Rattle.tftp_store.specs.Memory.{contents, in_path_order, has_distinct_paths, with_armed};
 
 use crate::store::{Opening, Store};
 use std::alloc::{AllocError, Global};
@@ -39,7 +39,7 @@ impl MemStore {
         ensures files { IfOk result (λ store. store.files ≡ in_path_order (contents files.items)) }
         ensures found { IfOk result (λ store. (path : List ℕ)
             → file_at path store.files ≡ file_at path (contents files.items)) }
-        ensures told { IfOk result (λ store. store.refuses ≡ false) }
+        ensures unarmed { IfOk result (λ store. store.refuses ≡ false) }
         ensures memory { IfErr result (λ fault. fault ≡ StoreFault.Memory) }
     {
         Ok(MemStore {
@@ -66,10 +66,10 @@ impl MemStore {
     }
 
     /// Sets whether the store refuses its next append or commit with `Full`.
-    pub fn refuse_next(&mut self, told: bool)
-        ensures { self.new ≡ with_told self.old told }
+    pub fn refuse_next(&mut self, armed: bool)
+        ensures { self.new ≡ with_armed self.old armed }
     {
-        self.refuses_next = told;
+        self.refuses_next = armed;
     }
 
     /// Whether the store is set to refuse its next append or commit.

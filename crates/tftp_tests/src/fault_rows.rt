@@ -81,10 +81,10 @@ fn writes(
     alloc: Global,
     store: &mut FaultStore<MemStore>,
     what: &str,
-    wanted: Result<(), StoreFault>,
+    expected: Result<(), StoreFault>,
 ) {
     let found = write(store, alloc, &path(rt, alloc, b"n"), b"XY", false);
-    expect_equal(rt, &found, &wanted, what);
+    expect_equal(rt, &found, &expected, what);
 }
 
 /// The calls that write a file.
@@ -124,7 +124,7 @@ fn the_calls_before_it_are_passed_on(rt: HostRuntime) {
 
 /// A call that the inner store is set to refuse is refused.
 #[test]
-fn the_inner_store_refuses_as_told(rt: HostRuntime) {
+fn the_inner_store_refuses_as_armed(rt: HostRuntime) {
     let mut inner = files(&rt, rt.alloc());
     inner.refuse_next(true);
     let mut store = FaultStore::new(inner, 9, StoreFault::Io, false, false);
@@ -136,15 +136,15 @@ fn the_inner_store_refuses_as_told(rt: HostRuntime) {
 /// A commit that the inner store is set to refuse is refused, and stores nothing; the next one
 /// stores the draft.
 #[test]
-fn the_inner_store_refuses_a_commit_as_told(rt: HostRuntime) {
+fn the_inner_store_refuses_a_commit_as_armed(rt: HostRuntime) {
     let mut inner = files(&rt, rt.alloc());
     inner.refuse_next(true);
     let mut store = FaultStore::new(inner, 9, StoreFault::Io, false, false);
     let path = path(&rt, rt.alloc(), b"n");
     let begun = store.begin(rt.alloc(), &path, false);
     let mut draft = begun.expect(&rt, "a draft");
-    let told = store.commit(&path, &mut draft, false);
-    expect_equal(&rt, &told, &Err(StoreFault::Full), "as it was told");
+    let refused = store.commit(&path, &mut draft, false);
+    expect_equal(&rt, &refused, &Err(StoreFault::Full), "as it was told");
     lacks_file(&rt, rt.alloc(), store.get_ref(), b"n");
     let next = store.commit(&path, &mut draft, false);
     expect_equal(&rt, &next, &Ok(()), "it is told no more");

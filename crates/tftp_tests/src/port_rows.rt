@@ -233,11 +233,11 @@ const DATA_1: &[u8] = b"\x00\x03\x00\x01ABC";
 /// A request for the file opens a transfer with this identifier.
 fn open(rt: &impl Abort, served: &mut Served<MemStore>, tid: u16) {
     let opened = served.answers_request(rt, client(tid), tid, REQUEST, DATA_1);
-    let wanted = Opened {
+    let expected = Opened {
         tid: Some(tid),
         to: Some(client(tid)),
     };
-    expect_equal(rt, &opened, &wanted, "a transfer opens");
+    expect_equal(rt, &opened, &expected, "a transfer opens");
 }
 
 /// ACK 1 of the one block closes the transfer.
@@ -277,13 +277,18 @@ fn a_repeated_request_opens_nothing(rt: HostRuntime) {
 
 /// Whether a datagram from a client at this port could open a transfer, by the tests that need no
 /// store.
-fn may_open(rt: &impl Abort, served: &Served<MemStore>, port: u16, bytes: &[u8], wanted: bool) {
+fn may_open(rt: &impl Abort, served: &Served<MemStore>, port: u16, bytes: &[u8], expected: bool) {
     let found = (bytes, served.server.may_open(client(port), bytes));
-    expect_equal(rt, &found, &(bytes, Ok(wanted)), "whether it may open one");
+    expect_equal(
+        rt,
+        &found,
+        &(bytes, Ok(expected)),
+        "whether it may open one",
+    );
 }
 
 #[test]
-fn a_request_opens_anew_behind_the_close(rt: HostRuntime) {
+fn a_request_reopens_after_the_close(rt: HostRuntime) {
     let mut served = server(&rt, rt.alloc(), 16);
     open(&rt, &mut served, 1025);
     may_open(&rt, &served, 1025, REQUEST, false);
@@ -301,11 +306,11 @@ fn a_request_opens_anew_behind_the_close(rt: HostRuntime) {
 fn is_busy(rt: &impl Abort, served: &mut Served<MemStore>) {
     let busy = b"\x00\x05\x00\x00server busy\x00";
     let opened = served.answers_request(rt, client(1026), 1026, REQUEST, busy);
-    let wanted = Opened {
+    let expected = Opened {
         tid: None,
         to: Some(client(1026)),
     };
-    expect_equal(rt, &opened, &wanted, "no second transfer, but an answer");
+    expect_equal(rt, &opened, &expected, "no second transfer, but an answer");
 }
 
 #[test]
@@ -355,10 +360,10 @@ fn is_in_use(rt: &impl Abort, alloc: Global, served: &mut Served<MemStore>, port
 }
 
 /// The server holds transfers of these identifiers, in this order.
-fn holds(rt: &impl Abort, alloc: Global, served: &Served<MemStore>, wanted: &[u16]) {
+fn holds(rt: &impl Abort, alloc: Global, served: &Served<MemStore>, expected: &[u16]) {
     let mut tids = Vec::new(alloc);
     served.server.tids(&mut tids).expect(rt, "memory");
-    expect_equal(rt, &tids.as_slice(), &wanted, "in rising order");
+    expect_equal(rt, &tids.as_slice(), &expected, "in rising order");
 }
 
 /// The second is closed and another opened.
@@ -383,18 +388,18 @@ fn an_open_transfer_stays(rt: HostRuntime) {
 }
 
 /// The server's open transfers have these identifiers, in this order, and each its client.
-fn lists(rt: &impl Abort, alloc: Global, served: &Served<MemStore>, wanted: &[u16]) {
+fn lists(rt: &impl Abort, alloc: Global, served: &Served<MemStore>, expected: &[u16]) {
     let mut open = Vec::new(alloc);
     for (tid, record) in served.server.open_transfers() {
         expect_equal(rt, &record.peer, &Some(client(tid)), "its client");
         open.push(tid).expect(rt, "memory");
     }
-    expect_equal(rt, &open.as_slice(), &wanted, "in rising order");
+    expect_equal(rt, &open.as_slice(), &expected, "in rising order");
 }
 
 /// The second has closed.
 #[test]
-fn open_transfers_are_told(rt: HostRuntime) {
+fn open_transfers_are_listed(rt: HostRuntime) {
     let mut served = busy_server(&rt, rt.alloc());
     acknowledge(&rt, &mut served, 1025);
     lists(&rt, rt.alloc(), &served, &[1027, 1030]);
@@ -416,8 +421,8 @@ const MAY_OPEN: [(&[u8], bool); 8] = [
 #[test]
 fn what_could_open_a_transfer(rt: HostRuntime) {
     let served = server(&rt, rt.alloc(), 16);
-    for &(bytes, wanted) in &MAY_OPEN {
-        may_open(&rt, &served, 1040, bytes, wanted);
+    for &(bytes, expected) in &MAY_OPEN {
+        may_open(&rt, &served, 1040, bytes, expected);
     }
 }
 
@@ -435,18 +440,18 @@ const BLOCK_SIZES: [(&[u8], Option<u16>); 6] = [
 #[test]
 fn block_sizes_of_admissions(rt: HostRuntime) {
     let served = server(&rt, rt.alloc(), 16);
-    for &(bytes, wanted) in &BLOCK_SIZES {
+    for &(bytes, expected) in &BLOCK_SIZES {
         let admission = served.server.admit(client(1040), bytes);
         let admission = admission.expect(&rt, "memory");
         let found = (bytes, served.server.block_size(&admission));
-        expect_equal(&rt, &found, &(bytes, wanted), "the block size");
+        expect_equal(&rt, &found, &(bytes, expected), "the block size");
     }
 }
 
 /// The transfer lends these bytes, and an identifier without a transfer lends none.
-fn lends(rt: &impl Abort, served: &Served<MemStore>, outgoing: Outgoing, wanted: &[u8]) {
+fn lends(rt: &impl Abort, served: &Served<MemStore>, outgoing: Outgoing, expected: &[u8]) {
     let lent = served.server.bytes_of(1025, outgoing);
-    expect_bytes(rt, lent.expect(rt, "a transfer"), wanted, "what goes out");
+    expect_bytes(rt, lent.expect(rt, "a transfer"), expected, "what goes out");
     let other = served.server.bytes_of(1040, outgoing);
     expect(rt, other.is_none(), "no such transfer");
 }

@@ -141,8 +141,8 @@ fn asked_world(rt: &impl Abort, alloc: Global, files: &Files) -> World {
 
 /// The record of the end at this port.
 fn record_at(world: &World, port: u16) -> Option<&Record> {
-    let place = usize::from(port).checked_sub(1024)?;
-    let (_, record) = world.records().get(place)?;
+    let index = usize::from(port).checked_sub(1024)?;
+    let (_, record) = world.records().get(index)?;
     Some(record)
 }
 

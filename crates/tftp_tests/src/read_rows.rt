@@ -13,35 +13,35 @@ use tftp_server::Config;
 use tftp_wire::{Bytes, Mode};
 
 /// The datagram at this index has these bytes.
-fn has_sent(rt: &impl Abort, world: &World, place: usize, bytes: &[u8]) {
-    match world.sent().get(place) {
+fn has_sent(rt: &impl Abort, world: &World, index: usize, bytes: &[u8]) {
+    match world.sent().get(index) {
         Some(datagram) => {
-            let found = (place, datagram.bytes.as_slice());
-            expect_equal(rt, &found, &(place, bytes), "a datagram");
+            let found = (index, datagram.bytes.as_slice());
+            expect_equal(rt, &found, &(index, bytes), "a datagram");
         }
-        None => expect_equal(rt, &(place, false), &(place, true), "a datagram is there"),
+        None => expect_equal(rt, &(index, false), &(index, true), "a datagram is there"),
     }
 }
 
 /// The end at this index has this port, side and state.
-fn has_end(rt: &impl Abort, world: &World, place: usize, end: (u16, Side, bool, Option<Outcome>)) {
-    match world.records().get(place) {
+fn has_end(rt: &impl Abort, world: &World, index: usize, end: (u16, Side, bool, Option<Outcome>)) {
+    match world.records().get(index) {
         Some((port, record)) => {
             let found = (*port, record.side, record.complete, record.outcome);
-            expect_equal(rt, &(place, found), &(place, end), "an end");
+            expect_equal(rt, &(index, found), &(index, end), "an end");
         }
-        None => expect_equal(rt, &(place, false), &(place, true), "an end is there"),
+        None => expect_equal(rt, &(index, false), &(index, true), "an end is there"),
     }
 }
 
 /// The datagram at this index went from the one endpoint to the other.
-fn has_gone(rt: &impl Abort, world: &World, place: usize, from: Endpoint, to: Endpoint) {
-    match world.sent().get(place) {
+fn has_gone(rt: &impl Abort, world: &World, index: usize, from: Endpoint, to: Endpoint) {
+    match world.sent().get(index) {
         Some(datagram) => {
-            let found = (place, datagram.from, datagram.to);
-            expect_equal(rt, &found, &(place, from, to), "from where to where");
+            let found = (index, datagram.from, datagram.to);
+            expect_equal(rt, &found, &(index, from, to), "from where to where");
         }
-        None => expect_equal(rt, &(place, false), &(place, true), "a datagram is there"),
+        None => expect_equal(rt, &(index, false), &(index, true), "a datagram is there"),
     }
 }
 
@@ -78,8 +78,8 @@ const EMPTY_FILE: [(usize, &[u8]); 3] = [
 #[test]
 fn an_empty_file_takes_three_datagrams(rt: HostRuntime) {
     let world = settled(&rt, rt.alloc(), b"", b"a", 3);
-    for &(place, bytes) in &EMPTY_FILE {
-        has_sent(&rt, &world, place, bytes);
+    for &(index, bytes) in &EMPTY_FILE {
+        has_sent(&rt, &world, index, bytes);
     }
 }
 
@@ -158,7 +158,7 @@ static REPEATED_REQUEST: [Row; 10] = [
 ];
 
 #[test]
-fn a_repeated_request_opens_another_end_behind_the_close(rt: HostRuntime) {
+fn a_repeated_request_opens_another_end_after_the_close(rt: HostRuntime) {
     let world = played(&rt, rt.alloc(), b"ABC", &REPEATED_REQUEST);
     has_stored(&rt, &world, b"ABC");
     has_sent(&rt, &world, 4, b"\x00\x05\x00\x05unknown transfer id\x00");
@@ -265,10 +265,10 @@ fn many(rt: &impl Abort, alloc: Global, length: usize) -> Vec<u8> {
 }
 
 /// The end at this index has this block number and size, and is complete or not.
-fn has_come(rt: &impl Abort, world: &World, place: usize, wanted: (u16, u16, bool)) {
-    let (_, record) = world.records().get(place).expect(rt, "an end");
+fn has_come(rt: &impl Abort, world: &World, index: usize, expected: (u16, u16, bool)) {
+    let (_, record) = world.records().get(index).expect(rt, "an end");
     let found = (record.number, record.size, record.complete);
-    expect_equal(rt, &(place, found), &(place, wanted), "how far it came");
+    expect_equal(rt, &(index, found), &(index, expected), "how far it came");
 }
 
 /// 65,534 blocks of 8 bytes and a last one of 7 are as many as have numbers: a request, its OACK
@@ -406,7 +406,7 @@ static REFUSED_STORE: [Row; 4] = [
 ];
 
 #[test]
-fn a_store_refuses_as_told(rt: HostRuntime) {
+fn a_store_refuses_as_armed(rt: HostRuntime) {
     let world = played(&rt, rt.alloc(), b"ABC", &REFUSED_STORE);
     has_sent(&rt, &world, 2, b"\x00\x05\x00\x03disk full\x00");
     has_stored(&rt, &world, b"");
@@ -423,13 +423,13 @@ const ADDRESSES: [([u8; 4], bool); 4] = [
 
 #[test]
 fn the_hosts_are_known(rt: HostRuntime) {
-    for &(ip, want) in &ADDRESSES {
+    for &(ip, expected) in &ADDRESSES {
         let endpoint = Endpoint { ip, port: 69 };
         let found = (endpoint, World::is_foreign(&endpoint));
         expect_equal(
             &rt,
             &found,
-            &(endpoint, want),
+            &(endpoint, expected),
             "whether it is of neither host",
         );
     }

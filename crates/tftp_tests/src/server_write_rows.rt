@@ -69,8 +69,8 @@ fn opens(rt: &impl Abort, alloc: Global, request: &[u8], answer: &[u8]) {
     let mut served = server(rt, alloc);
     let opened = served.answers_request(rt, CLIENT, 1025, request, answer);
     let found = (request, opened.tid, served.server.draft(1025).is_some());
-    let wanted = (request, Some(1025), true);
-    expect_equal(rt, &found, &wanted, "a transfer with a draft");
+    let expected = (request, Some(1025), true);
+    expect_equal(rt, &found, &expected, "a transfer with a draft");
 }
 
 #[test]
@@ -261,8 +261,8 @@ fn acknowledges<S: Store>(rt: &impl Abort, alloc: Global, served: &mut Served<S>
 fn refuses<S: Store>(rt: &impl Abort, alloc: Global, served: &mut Served<S>, number: u8) {
     let bytes = block(rt, alloc, number);
     let closed = served.answers(rt, CLIENT, 1025, &bytes, DISK_FULL);
-    let wanted = (number, Some(Outcome::StoreFault));
-    expect_equal(rt, &(number, closed), &wanted, "how it closes");
+    let expected = (number, Some(Outcome::StoreFault));
+    expect_equal(rt, &(number, closed), &expected, "how it closes");
 }
 
 /// In a write of five blocks the store refuses the call of this number: the first is `begin`, then

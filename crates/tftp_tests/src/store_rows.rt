@@ -26,11 +26,11 @@ fn writes(
     store: &mut MemStore,
     bytes: &[u8],
     replace: bool,
-    wanted: Result<(), StoreFault>,
+    expected: Result<(), StoreFault>,
 ) {
     let path = path(rt, alloc, b"/a/b");
     let found = (bytes, write(store, alloc, &path, bytes, replace));
-    expect_equal(rt, &found, &(bytes, wanted), "the write");
+    expect_equal(rt, &found, &(bytes, expected), "the write");
 }
 
 /// A store with one file, `AB` and a line feed.
@@ -75,7 +75,7 @@ fn a_file_is_replaced(rt: HostRuntime) {
 }
 
 #[test]
-fn a_call_of_a_store_is_refused_once_as_told(rt: HostRuntime) {
+fn a_call_of_a_store_is_refused_once_as_armed(rt: HostRuntime) {
     let mut store = empty(&rt, rt.alloc());
     store.refuse_next(true);
     expect(&rt, store.refuses(), "it is told");
@@ -94,8 +94,8 @@ fn new_server(rt: &impl Abort, alloc: Global) -> Server<MemStore> {
 /// The server holds no transfer.
 fn holds_none(rt: &impl Abort, alloc: Global, server: &mut Server<MemStore>) {
     let mut tids = Vec::new(alloc);
-    let told = server.tids(&mut tids);
-    let found = (told, tids.len());
+    let appended = server.tids(&mut tids);
+    let found = (appended, tids.len());
     expect_equal(rt, &found, &(Ok(()), 0), "no identifier");
     expect(rt, server.record(1025).is_none(), "no record");
     expect(rt, server.take_closed(1025).is_none(), "nothing to take");

@@ -57,7 +57,7 @@ pub(crate) fn happens(world: &mut World, alloc: Global, event: Move) -> Result<R
     match event {
         Move::Get(name) => get(world, alloc, name),
         Move::Put(bytes) => put(world, alloc, bytes),
-        Move::Deliver(place) => world.apply(Event::Deliver(place)),
+        Move::Deliver(index) => world.apply(Event::Deliver(index)),
         Move::Timeout(port) => world.apply(Event::Timeout(port)),
         Move::RefuseStore(port) => world.apply(Event::RefuseStore(port)),
     }

@@ -39,14 +39,14 @@ named_texts (c ∷ name) others rest h = refl
 -- past an option the first fault is that of the rest
 pub option_skipped : (at : ℕ) (bytes name after value rest : List ℕ) → BeginsWith bytes name after → length name ≢ 0 → BeginsWith after value rest → bytes_fault at bytes ≡ bytes_fault (at + (length bytes - length rest)) rest
 option_skipped at bytes name after value rest n h v =
-    let place : at + (length name + 1) + (length value + 1) ≡ at + (length bytes - length rest) = omega (arith, n.2, v.2) in
-    rw (n.0, n.1, v.0, v.1) (named_option at name value (texts rest) (unended rest) h ∙ ap (λ k. options_fault k (texts rest) (unended rest)) place)
+    let offset : at + (length name + 1) + (length value + 1) ≡ at + (length bytes - length rest) = omega (arith, n.2, v.2) in
+    rw (n.0, n.1, v.0, v.1) (named_option at name value (texts rest) (unended rest) h ∙ ap (λ k. options_fault k (texts rest) (unended rest)) offset)
 
 -- past the mode of a request the first fault is that of its options
 pub request_skipped : (bytes name after word rest : List ℕ) (mode : Mode) → 2 ≤ length bytes → length bytes ≤ MAX_REQUEST → length (drop 2 bytes) ≡ length bytes - 2 → BeginsWith (drop 2 bytes) name after → length name ≢ 0 → BeginsWith after word rest → mode_in word ≡ Some mode → request_fault bytes ≡ bytes_fault (length bytes - length rest) rest
 request_skipped bytes name after word rest mode least most shorter n h w m =
-    let place : 2 + (length name + 1) + (length word + 1) ≡ length bytes - length rest = omega (arith, n.2, w.2) in
-    rw (le-ltb MAX_REQUEST (length bytes) most, n.0, n.1, named_texts name (texts after) (unended after) h, w.0, w.1, m) (ap (λ k. options_fault k (texts rest) (unended rest)) place)
+    let offset : 2 + (length name + 1) + (length word + 1) ≡ length bytes - length rest = omega (arith, n.2, w.2) in
+    rw (le-ltb MAX_REQUEST (length bytes) most, n.0, n.1, named_texts name (texts after) (unended after) h, w.0, w.1, m) (ap (λ k. options_fault k (texts rest) (unended rest)) offset)
 
 -- the request of a file name, a mode and options
 pub request_parts : (bytes name after word rest : List ℕ) (mode : Mode) (options : List RawOption) → BeginsWith bytes name after → BeginsWith after word rest → mode_in word ≡ Some mode → options ≡ options_in rest → record { name = name; mode = mode; options = options } ≡ request_of (texts bytes)
@@ -133,5 +133,5 @@ error_trailing bytes text rest fault most number shorter t found =
     let long : ltb (length bytes) 4 ≡ false = (guard_none _ _ _ number).0 in
     let least : 4 ≤ length bytes = ltb-false _ _ long in
     let f = trailing_is (eqb (length rest) 0) (record { kind = Trailing; at = length bytes - length rest }) fault found in
-    let place : 4 + (length text + 1) ≡ length bytes - length rest = omega (arith, t.2) in
-    rw (le-ltb MAX_REQUEST (length bytes) most, long, t.0, t.1) (text_left text (texts rest) (unended rest) rest (texts_joined rest) (eqb-false _ _ f.0) ∙ ap (λ k. Some (record { kind = Trailing; at = k })) place ∙ f.1)
+    let offset : 4 + (length text + 1) ≡ length bytes - length rest = omega (arith, t.2) in
+    rw (le-ltb MAX_REQUEST (length bytes) most, long, t.0, t.1) (text_left text (texts rest) (unended rest) rest (texts_joined rest) (eqb-false _ _ f.0) ∙ ap (λ k. Some (record { kind = Trailing; at = k })) offset ∙ f.1)

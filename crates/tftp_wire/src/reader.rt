@@ -200,7 +200,7 @@ fn has_more(rest: &[u8]) -> bool
 /// The bytes after the option that begins at offset `at` in the datagram.
 fn skip_option(bytes: &[u8], at: usize) -> Result<&[u8], PacketFault>
     requires some { 0 < length bytes.now }
-    requires place { at + length bytes.now < 2 ^ 64 }
+    requires offset { at + length bytes.now < 2 ^ 64 }
     ensures { GoesOn at bytes.now result }
 {
     let (name, after) = read_text(bytes, at)?;

@@ -101,12 +101,12 @@ fn decode_into(
     piece: &[u8],
 ) -> Result<NetDecoder, AllocError>
     requires { begins_netascii (decoder ++ piece.now) ≡ true }
-    ensures { IfOk result (λ behind. DecodesPiece decoder piece.now buffer.new.items behind) }
+    ensures { IfOk result (λ after. DecodesPiece decoder piece.now buffer.new.items after) }
 {
-    let mut behind = decoder;
+    let mut after = decoder;
     buffer.clear();
-    match behind.push(piece, buffer) {
-        Ok(()) => Ok(behind),
+    match after.push(piece, buffer) {
+        Ok(()) => Ok(after),
         Err(fault) => match fault {
             NetFault::Memory => Err(AllocError),
             _ => unreachable!(),
@@ -136,9 +136,9 @@ fn store_through<K: Sink>(
             Ok((stored, decoder))
         }
         Mode::Netascii => {
-            let behind = decode_into(buffer, decoder, piece)?;
+            let after = decode_into(buffer, decoder, piece)?;
             let stored = store_block(sink, buffer, is_last)?;
-            Ok((stored, behind))
+            Ok((stored, after))
         }
     }
 }
@@ -189,7 +189,7 @@ impl End {
     {
         let is_last = piece.len() < usize::from(terms.size);
         let spare = &mut self.spare;
-        let (stored, behind) = store_piece(
+        let (stored, after) = store_piece(
             sink,
             self.role.mode,
             self.decoder,
@@ -200,7 +200,7 @@ impl End {
         match stored {
             BlockStored::More => {
                 let outgoing = self.acknowledge(Phase::Receiving { terms, number }, from);
-                self.decoder = behind;
+                self.decoder = after;
                 Ok(outgoing)
             }
             BlockStored::All => {
@@ -210,7 +210,7 @@ impl End {
                     dally: Dally::Fresh,
                 };
                 let outgoing = self.acknowledge(phase, from);
-                self.decoder = behind;
+                self.decoder = after;
                 Ok(outgoing)
             }
             BlockStored::Refused => {
@@ -219,7 +219,7 @@ impl End {
             }
             BlockStored::Uncommitted(reply) => {
                 self.go_into(self.phase.refused(Some(terms), Outcome::StoreFault));
-                self.decoder = behind;
+                self.decoder = after;
                 Ok(Outgoing::Error(reply))
             }
         }

@@ -32,7 +32,7 @@ pub fn wait_for<S>(now: u64, ports: &[Port<S>]) -> u64
 }
 
 /// The index of the port with this identifier.
-pub fn place_of<S>(tid: u16, ports: &[Port<S>]) -> Option<usize>
+pub fn index_of<S>(tid: u16, ports: &[Port<S>]) -> Option<usize>
     ensures { result ≡ position (λ port. port.tid == tid) ports.now }
 {
     ports.iter().position(|port| port.tid == tid)

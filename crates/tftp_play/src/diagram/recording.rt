@@ -45,7 +45,7 @@ pub(crate) struct Lane {
 #[derive(Drop)]
 pub(crate) struct Flight {
     /// Its index in all that was sent; none for a stray.
-    pub(crate) place: Option<usize>,
+    pub(crate) index: Option<usize>,
     pub(crate) from: Endpoint,
     pub(crate) to: Endpoint,
     /// Its number and its line, without the endpoints.
@@ -112,7 +112,7 @@ impl Recording {
     pub(crate) fn cause_of(&mut self, event: &Event) -> Cause {
         match event {
             Event::Get { .. } | Event::Put { .. } => Cause::Opening,
-            Event::Deliver(place) => Cause::Arrival(self.flight_of(*place)),
+            Event::Deliver(index) => Cause::Arrival(self.flight_of(*index)),
             Event::Timeout(port) => Cause::Timeout(*port),
             Event::RefuseStore(port) => Cause::Refusal(*port),
             Event::Stray(from, to, bytes) => {
@@ -140,7 +140,7 @@ impl Recording {
             self.miss(cause);
             return Ok(());
         };
-        let reply = report.added.and_then(|place| world.sent().get(place));
+        let reply = report.added.and_then(|index| world.sent().get(index));
         let reply_to = reply.map(|datagram| datagram.to);
         let at = self.happen(cause, row, reply_to, world.records())?;
         if let Some(datagram) = reply {
@@ -238,7 +238,7 @@ impl Recording {
     fn send(
         &mut self,
         row: Row,
-        place: Option<usize>,
+        index: Option<usize>,
         from: Endpoint,
         to: Endpoint,
         bytes: &[u8],
@@ -246,9 +246,9 @@ impl Recording {
     ) -> Result<(), AllocError> {
         self.add_lane(from)?;
         self.add_lane(to)?;
-        let label = label_of(self.alloc, place, bytes)?;
+        let label = label_of(self.alloc, index, bytes)?;
         self.flights.push(Flight {
-            place,
+            index,
             from,
             to,
             label,
@@ -279,10 +279,10 @@ impl Recording {
     }
 
     /// The index of the flight of this datagram.
-    fn flight_of(&self, place: usize) -> Option<usize> {
+    fn flight_of(&self, index: usize) -> Option<usize> {
         self.flights
             .iter()
-            .position(|flight| flight.place == Some(place))
+            .position(|flight| flight.index == Some(index))
     }
 }
 
@@ -294,10 +294,10 @@ impl Flight {
 }
 
 /// The label of a datagram: its number, or that it is a stray, and its line.
-fn label_of(alloc: Global, place: Option<usize>, bytes: &[u8]) -> Result<String, AllocError> {
+fn label_of(alloc: Global, index: Option<usize>, bytes: &[u8]) -> Result<String, AllocError> {
     let mut label = String::new(alloc);
-    match place {
-        Some(place) => write!(label, "#{place} ")?,
+    match index {
+        Some(index) => write!(label, "#{index} ")?,
         None => label.push_str("stray ")?,
     }
     show_datagram(bytes, &mut label).map_err(|_| AllocError)?;

@@ -23,10 +23,10 @@ impl DatagramLine {
     }
 
     /// The line of the datagram with this index in all that was sent, with the newline.
-    pub(crate) fn show(&mut self, place: usize, datagram: &Datagram) -> Result<&[u8], AllocError> {
+    pub(crate) fn show(&mut self, index: usize, datagram: &Datagram) -> Result<&[u8], AllocError> {
         self.text.clear();
         self.text.push('#')?;
-        self.push_number(place)?;
+        self.push_number(index)?;
         self.text.push(' ')?;
         self.push_endpoint(datagram.from)?;
         self.text.push_str(" > ")?;

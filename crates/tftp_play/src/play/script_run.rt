@@ -66,13 +66,13 @@ impl<W: Write + Drop> ScriptRun<W> {
                 asked,
                 bytes,
             }),
-            Statement::Deliver(place) => self.play(Event::Deliver(place)),
+            Statement::Deliver(index) => self.play(Event::Deliver(index)),
             Statement::Timeout(port) => self.play(Event::Timeout(port)),
             Statement::Refuse(port) => self.play(Event::RefuseStore(port)),
             Statement::Stray(StrayDatagram { from, to, bytes }) => {
                 self.play(Event::Stray(from, to, bytes))
             }
-            Statement::Settle(place) => self.settle(place),
+            Statement::Settle(index) => self.settle(index),
             Statement::Random { seed, count } => self.play_drawn(seed, count),
         }
     }
@@ -133,8 +133,8 @@ impl<W: Write + Drop> ScriptRun<W> {
 
     /// Delivers the datagrams from this index on, until none is left or one is refused.
     fn settle(&mut self, from: usize) -> Result<(), PlayFault> {
-        for place in from..from.saturating_add(MAX_SETTLED) {
-            match self.apply(Event::Deliver(place)) {
+        for index in from..from.saturating_add(MAX_SETTLED) {
+            match self.apply(Event::Deliver(index)) {
                 Ok(report) => self.write_report(&report)?,
                 Err(WorldFault::NoSuchDatagram) => return Ok(()),
                 Err(fault) => return self.write_effect(Err(fault)),
@@ -151,8 +151,8 @@ impl<W: Write + Drop> ScriptRun<W> {
     }
 
     fn write_report(&mut self, report: &Report) -> Result<(), PlayFault> {
-        if let Some(place) = report.added {
-            self.write_datagram(place)?;
+        if let Some(index) = report.added {
+            self.write_datagram(index)?;
         }
         if let Some((port, outcome)) = report.closed {
             writeln!(self.output, "closed {port} {outcome}")?;
@@ -163,11 +163,11 @@ impl<W: Write + Drop> ScriptRun<W> {
         Ok(())
     }
 
-    fn write_datagram(&mut self, place: usize) -> Result<(), PlayFault> {
-        let Some(datagram) = self.world.sent().get(place) else {
+    fn write_datagram(&mut self, index: usize) -> Result<(), PlayFault> {
+        let Some(datagram) = self.world.sent().get(index) else {
             return Ok(());
         };
-        self.output.write_all(self.line.show(place, datagram)?)?;
+        self.output.write_all(self.line.show(index, datagram)?)?;
         Ok(())
     }
 }

@@ -3,7 +3,7 @@
 ghost use Rattle.std.specs.Prelude.{◌≡◌, ◌≢◌, true, false, ◌<◌, ◌+◌, length, IfOk, IfErr, OnErr};
 ghost use Rattle.tftp_negotiate.specs.Ranges.{IsBlockSize};
 ghost use Rattle.tftp_machine.specs.Machine.{request_port};
-ghost use Rattle.tftp_player.specs.Stage.{HangTogether, AreAsBefore, StageDatagramStep};
+ghost use Rattle.tftp_player.specs.Stage.{AreConsistent, AreAsBefore, StageDatagramStep};
 ghost use Rattle.tftp_player.specs.Arriving.{StageAsks, StageArrives, StageLacksPort, StageRefuses};
 
 use crate::WorldFault;
@@ -37,12 +37,12 @@ impl Ends {
         to: Endpoint,
         bytes: &[u8],
     ) -> Result<Effect, WorldFault>
-        requires staged { HangTogether self.old }
+        requires staged { AreConsistent self.old }
         requires block { IsBlockSize self.old.server.config.limits.max_block }
         ensures arrives { IfOk result (λ effect.
             StageArrives from to bytes.now self.old.server self.new.server
             self.old.players.items self.new.players.items effect) }
-        ensures staged { HangTogether self.new }
+        ensures staged { AreConsistent self.new }
         ensures config { self.new.server.config ≡ self.old.server.config }
         ensures refused { IfErr result (StageRefuses to self.old.players.items) }
         ensures err { OnErr result (AreAsBefore self.old self.new) }
@@ -50,8 +50,8 @@ impl Ends {
         if !differs(to, REQUEST_PORT) {
             return self.ask(from, bytes);
         }
-        match self.place_of(to.port) {
-            Some(place) => self.on_datagram(place, from, to, bytes),
+        match self.index_of(to.port) {
+            Some(index) => self.on_datagram(index, from, to, bytes),
             None => Ok(no_effect(self.alloc, to)),
         }
     }
@@ -59,31 +59,31 @@ impl Ends {
     /// The end at this index handles a datagram, unless it is closed or on the other host.
     fn on_datagram(
         &mut self,
-        place: usize,
+        index: usize,
         from: Endpoint,
         to: Endpoint,
         bytes: &[u8],
     ) -> Result<Effect, WorldFault>
-        requires staged { HangTogether self.old }
-        requires place { (place < length self.old.players.items) × (to.port ≡ 1024 + place) }
+        requires staged { AreConsistent self.old }
+        requires index { (index < length self.old.players.items) × (to.port ≡ 1024 + index) }
         ensures steps { IfOk result (λ effect.
-            StageDatagramStep place from to bytes.now self.old.server self.new.server
+            StageDatagramStep index from to bytes.now self.old.server self.new.server
             self.old.players.items self.new.players.items effect) }
-        ensures staged { HangTogether self.new }
+        ensures staged { AreConsistent self.new }
         ensures memory { IfErr result (λ fault. fault ≡ WorldFault.Memory) }
         ensures err { OnErr result (AreAsBefore self.old self.new) }
     {
-        let player = &mut self.players[place];
+        let player = &mut self.players[index];
         let here = player.address(to.port);
         if differs(here, to) {
             return Ok(no_effect(self.alloc, to));
         }
-        if is_recorded_closed(&self.records, place) {
+        if is_recorded_closed(&self.records, index) {
             return Ok(no_effect(self.alloc, to));
         }
         match player.on_datagram(self.alloc, &mut self.server, to.port, from, bytes) {
             Ok((effect, record)) => {
-                self.records[place] = (to.port, record);
+                self.records[index] = (to.port, record);
                 Ok(effect)
             }
             Err(fault) => Err(fault),
@@ -92,12 +92,12 @@ impl Ends {
 
     /// The request port handles a datagram, and may open an end at the next port.
     fn ask(&mut self, from: Endpoint, bytes: &[u8]) -> Result<Effect, WorldFault>
-        requires staged { HangTogether self.old }
+        requires staged { AreConsistent self.old }
         requires block { IsBlockSize self.old.server.config.limits.max_block }
         ensures asks { IfOk result (λ effect.
             StageAsks from bytes.now self.old.server self.new.server self.old.players.items
             self.new.players.items effect) }
-        ensures staged { HangTogether self.new }
+        ensures staged { AreConsistent self.new }
         ensures config { self.new.server.config ≡ self.old.server.config }
         ensures refused { IfErr result (StageRefuses request_port self.old.players.items) }
         ensures err { OnErr result (AreAsBefore self.old self.new) }

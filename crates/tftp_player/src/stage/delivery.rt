@@ -14,22 +14,22 @@ use tftp_wire::Bytes;
 
 impl Stage {
     /// The datagram at this index of all that was sent arrives.
-    pub(super) fn deliver(&mut self, place: usize) -> Result<Report, WorldFault>
-        ensures steps { IfOk result (λ report. WorldStep self.old (Deliver place) report self.new) }
-        ensures refused { IfErr result (WorldRefuses self.old (Deliver place)) }
+    pub(super) fn deliver(&mut self, index: usize) -> Result<Report, WorldFault>
+        ensures steps { IfOk result (λ report. WorldStep self.old (Deliver index) report self.new) }
+        ensures refused { IfErr result (WorldRefuses self.old (Deliver index)) }
         ensures err { OnErr result (self.new ≡ self.old) }
     {
-        if place >= self.sent.len() {
+        if index >= self.sent.len() {
             return Err(WorldFault::NoSuchDatagram);
         }
-        let to = self.sent[place].to;
+        let to = self.sent[index].to;
         if self.ends.lacks_port(to) {
             return Err(WorldFault::NoPort);
         }
         let Ok(()) = self.sent.reserve(1) else {
             return Err(WorldFault::Memory);
         };
-        let datagram = &self.sent[place];
+        let datagram = &self.sent[index];
         let bytes = datagram.bytes.as_slice();
         match self.ends.take(datagram.from, datagram.to, bytes) {
             Ok(effect) => Ok(write_down(&mut self.sent, effect)),

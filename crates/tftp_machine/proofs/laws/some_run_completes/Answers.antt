@@ -35,8 +35,8 @@ no_end : (b : Bool) → IsOpenedBy (if b then asking false request [] else nobod
 no_end true h = true≢false h.server
 no_end false h = true≢false (sym h.is_open)
 
-anew : AreOver (after (Asks c false request []) start) c false request
-anew a h = absurd (no_end (is_same a c) h)
+no_duplicate : AreOver (after (Asks c false request []) start) c false request
+no_duplicate a h = absurd (no_end (is_same a c) h)
 
 legal : IsLegal rules_of start
 legal = (
@@ -44,7 +44,7 @@ legal = (
   tt,
   (
     (refl, at_server, (0, omega arith, refl), omega arith, omega arith),
-    anew,
+    no_duplicate,
     (
       (((refl, refl, refl), refl, refl, at_server), (1, omega arith, refl), λ e. cc),
       tt,

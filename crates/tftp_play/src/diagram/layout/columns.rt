@@ -52,7 +52,7 @@ impl Columns {
     ) -> Result<(), AllocError> {
         let needs = self.needs(alloc, recording, notes)?;
         for stop in 0..self.last_stop().saturating_add(1) {
-            let x = self.place(stop, needs.as_slice());
+            let x = self.stop_x(stop, needs.as_slice());
             self.stops.push(x)?;
         }
         Ok(())
@@ -88,8 +88,8 @@ impl Columns {
     }
 
     fn stop_of(&self, at: Endpoint) -> usize {
-        let place = self.lanes.iter().position(|lane| lane.at == at);
-        place.map_or(0, |place| place.saturating_add(1))
+        let index = self.lanes.iter().position(|lane| lane.at == at);
+        index.map_or(0, |index| index.saturating_add(1))
     }
 
     fn x_at(&self, stop: usize) -> u32 {
@@ -97,7 +97,7 @@ impl Columns {
     }
 
     /// The position of a stop, after those on its left.
-    fn place(&self, stop: usize, needs: &[Need]) -> u32 {
+    fn stop_x(&self, stop: usize, needs: &[Need]) -> u32 {
         let mut x = 0;
         for need in needs {
             if need.right == stop {

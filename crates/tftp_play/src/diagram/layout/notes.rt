@@ -64,8 +64,8 @@ impl Note {
         notes: &mut Vec<Note>,
     ) -> Result<(), AllocError> {
         for row in flight.arrivals.iter().skip(1) {
-            let text = match flight.place {
-                Some(place) => format!(in alloc; "#{place} again")?,
+            let text = match flight.index {
+                Some(index) => format!(in alloc; "#{index} again")?,
                 None => String::from_str(alloc, "stray again")?,
             };
             notes.push(Note {

@@ -5,8 +5,8 @@ use Rattle.tftp_player.proofs.laws.a_repeat_opens_nothing.Goals as goal
 pub returns-clause-ignored : goal.returns-clause-ignored
 returns-clause-ignored g = repeats_open_nothing
 
-pub returns-clause-anew : goal.returns-clause-anew
-returns-clause-anew g = only_new_requests_open
+pub returns-clause-new_only : goal.returns-clause-new_only
+returns-clause-new_only g = only_new_requests_open
 
 pub returns-clause-lasts : goal.returns-clause-lasts
 returns-clause-lasts g = requests_last

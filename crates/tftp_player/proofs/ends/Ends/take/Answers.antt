@@ -14,7 +14,7 @@ pub returns-in-Some-clause-arrives : goal.returns-in-Some-clause-arrives
 returns-in-Some-clause-arrives c =
     IfOk-weaker c.on_datagram.result _ _
     (λ effect h. step_arrives c.args.from c.args.to c.args.bytes.now c.args.self.now.server c.on_datagram.new.self.server c.args.self.now.players.items c.on_datagram.new.self.players.items effect (c.differs.ensures.differs c.if-not-differs.false) c.requires.staged.kept
-    c.in-Some.place c.in-Some.ensures.some.0 h)
+    c.in-Some.index c.in-Some.ensures.some.0 h)
     c.on_datagram.ensures.steps
 
 pub returns-in-None-clause-arrives : goal.returns-in-None-clause-arrives

@@ -17,8 +17,8 @@ returns-in-Ok-on_timeout-clause-steps c =
 
 pub returns-in_default-reserve-clause-refused : goal.returns-in_default-reserve-clause-refused
 returns-in_default-reserve-clause-refused c =
-    timeout_refused c.self.inside.config c.self.inside.sent.items c.self.inside.ends.server c.self.inside.ends.players.items c.args.self.now c.args.port c.in-Some.place c.self.view_is c.in-Some.ensures.some.0 c.in-Some.ensures.some.1 Memory refl
+    timeout_refused c.self.inside.config c.self.inside.sent.items c.self.inside.ends.server c.self.inside.ends.players.items c.args.self.now c.args.port c.in-Some.index c.self.view_is c.in-Some.ensures.some.0 c.in-Some.ensures.some.1 Memory refl
 
 pub returns-in-Err-clause-refused : goal.returns-in-Err-clause-refused
 returns-in-Err-clause-refused c =
-    timeout_refused c.self.inside.config c.self.inside.sent.items c.self.inside.ends.server c.self.inside.ends.players.items c.args.self.now c.args.port c.in-Some.place c.self.view_is c.in-Some.ensures.some.0 c.in-Some.ensures.some.1 c.in-Err.fault c.in-Err.ensures.memory
+    timeout_refused c.self.inside.config c.self.inside.sent.items c.self.inside.ends.server c.self.inside.ends.players.items c.args.self.now c.args.port c.in-Some.index c.self.view_is c.in-Some.ensures.some.0 c.in-Some.ensures.some.1 c.in-Err.fault c.in-Err.ensures.memory

@@ -8,69 +8,69 @@ use Rattle.tftp_server.specs.State.{at}
 use Rattle.tftp_player.specs.World.{WorldEnd}
 use Rattle.tftp_player.specs.Requests.{is_transfer, open_transfers}
 
--- `told_from port held ps` is the list of the values of the ends, in order, from this port on
-module _ {P T X : Type 0} (told_at : ℕ → List (ℕ × T) → P → X) (told_from : ℕ → List (ℕ × T) → List P → List X)
-    (empty : (port : ℕ) (held : List (ℕ × T)) → told_from port held [] ≡ [])
-    (first : (port : ℕ) (held : List (ℕ × T)) (p : P) (ps : List P) → told_from port held (p ∷ ps) ≡ told_at port held p ∷ told_from (port + 1) held ps) where
-  pub told-length : (port : ℕ) (held : List (ℕ × T)) (ps : List P) → length (told_from port held ps) ≡ length ps
-  told-length port held [] = ap length (empty port held)
-  told-length port held (p ∷ ps) = ap length (first port held p ps) ∙ ap suc (told-length (port + 1) held ps)
+-- `mapped_from port held ps` is the list of the values of the ends, in order, from this port on
+module _ {P T X : Type 0} (mapped_at : ℕ → List (ℕ × T) → P → X) (mapped_from : ℕ → List (ℕ × T) → List P → List X)
+    (empty : (port : ℕ) (held : List (ℕ × T)) → mapped_from port held [] ≡ [])
+    (first : (port : ℕ) (held : List (ℕ × T)) (p : P) (ps : List P) → mapped_from port held (p ∷ ps) ≡ mapped_at port held p ∷ mapped_from (port + 1) held ps) where
+  pub mapped-length : (port : ℕ) (held : List (ℕ × T)) (ps : List P) → length (mapped_from port held ps) ≡ length ps
+  mapped-length port held [] = ap length (empty port held)
+  mapped-length port held (p ∷ ps) = ap length (first port held p ps) ∙ ap suc (mapped-length (port + 1) held ps)
 
   -- the value at an index
-  pub told-get : (port : ℕ) (held : List (ℕ × T)) (ps : List P) (k : ℕ) (p : P) → slice_get ps k ≡ Some p → slice_get (told_from port held ps) k ≡ Some (told_at (port + k) held p)
-  told-get port held [] k p e = absurd (let f : None ≡ Some p = e in cc)
-  told-get port held (q ∷ ps) zero p e =
+  pub mapped-get : (port : ℕ) (held : List (ℕ × T)) (ps : List P) (k : ℕ) (p : P) → slice_get ps k ≡ Some p → slice_get (mapped_from port held ps) k ≡ Some (mapped_at (port + k) held p)
+  mapped-get port held [] k p e = absurd (let f : None ≡ Some p = e in cc)
+  mapped-get port held (q ∷ ps) zero p e =
       let here : port ≡ port + zero = omega arith in
       ap (λ (xs : List X). slice_get xs zero) (first port held q ps)
-      ∙ (ap (λ (r : P). Some (told_at port held r)) (same_Some q p e) ∙ ap (λ (n : ℕ). Some (told_at n held p)) here)
-  told-get port held (q ∷ ps) (suc k) p e =
+      ∙ (ap (λ (r : P). Some (mapped_at port held r)) (same_Some q p e) ∙ ap (λ (n : ℕ). Some (mapped_at n held p)) here)
+  mapped-get port held (q ∷ ps) (suc k) p e =
       let there : port + 1 + k ≡ port + suc k = omega arith in
       ap (λ (xs : List X). slice_get xs (suc k)) (first port held q ps)
-      ∙ (told-get (port + 1) held ps k p e ∙ ap (λ (n : ℕ). Some (told_at n held p)) there)
+      ∙ (mapped-get (port + 1) held ps k p e ∙ ap (λ (n : ℕ). Some (mapped_at n held p)) there)
 
   -- one more
-  pub told-push : (port : ℕ) (held : List (ℕ × T)) (ps : List P) (p : P) → told_from port held (ps ++ p ∷ []) ≡ told_from port held ps ++ told_at (port + length ps) held p ∷ []
-  told-push port held [] p =
+  pub mapped-push : (port : ℕ) (held : List (ℕ × T)) (ps : List P) (p : P) → mapped_from port held (ps ++ p ∷ []) ≡ mapped_from port held ps ++ mapped_at (port + length ps) held p ∷ []
+  mapped-push port held [] p =
       let here : port ≡ port + zero = omega arith in
       first port held p []
-      ∙ (ap (λ (xs : List X). told_at port held p ∷ xs) (empty (port + 1) held)
-      ∙ (ap (λ (n : ℕ). told_at n held p ∷ []) here ∙ ap (λ (xs : List X). xs ++ told_at (port + zero) held p ∷ []) (sym (empty port held))))
-  told-push port held (q ∷ ps) p =
+      ∙ (ap (λ (xs : List X). mapped_at port held p ∷ xs) (empty (port + 1) held)
+      ∙ (ap (λ (n : ℕ). mapped_at n held p ∷ []) here ∙ ap (λ (xs : List X). xs ++ mapped_at (port + zero) held p ∷ []) (sym (empty port held))))
+  mapped-push port held (q ∷ ps) p =
       let there : port + 1 + length ps ≡ port + suc (length ps) = omega arith in
       first port held q (ps ++ p ∷ [])
-      ∙ (ap (λ (xs : List X). told_at port held q ∷ xs) (told-push (port + 1) held ps p)
-      ∙ (ap (λ (n : ℕ). told_at port held q ∷ (told_from (port + 1) held ps ++ told_at n held p ∷ [])) there
-      ∙ ap (λ (xs : List X). xs ++ told_at (port + suc (length ps)) held p ∷ []) (sym (first port held q ps))))
+      ∙ (ap (λ (xs : List X). mapped_at port held q ∷ xs) (mapped-push (port + 1) held ps p)
+      ∙ (ap (λ (n : ℕ). mapped_at port held q ∷ (mapped_from (port + 1) held ps ++ mapped_at n held p ∷ [])) there
+      ∙ ap (λ (xs : List X). xs ++ mapped_at (port + suc (length ps)) held p ∷ []) (sym (first port held q ps))))
 
-  module _ (by_port : (port : ℕ) (held held' : List (ℕ × T)) (p : P) → at port held' ≡ at port held → told_at port held' p ≡ told_at port held p) where
+  module _ (by_port : (port : ℕ) (held held' : List (ℕ × T)) (p : P) → at port held' ≡ at port held → mapped_at port held' p ≡ mapped_at port held p) where
     -- what is held elsewhere does not matter
-    pub told-same : (port : ℕ) (held held' : List (ℕ × T)) (ps : List P) → ((other : ℕ) → port ≤ other → other < port + length ps → at other held' ≡ at other held) →
-        told_from port held' ps ≡ told_from port held ps
-    told-same port held held' [] same = empty port held' ∙ sym (empty port held)
-    told-same port held held' (p ∷ ps) same =
+    pub mapped-same : (port : ℕ) (held held' : List (ℕ × T)) (ps : List P) → ((other : ℕ) → port ≤ other → other < port + length ps → at other held' ≡ at other held) →
+        mapped_from port held' ps ≡ mapped_from port held ps
+    mapped-same port held held' [] same = empty port held' ∙ sym (empty port held)
+    mapped-same port held held' (p ∷ ps) same =
         first port held' p ps
-        ∙ (ap (λ (x : X). x ∷ told_from (port + 1) held' ps) (by_port port held held' p (same port (omega arith) (omega arith)))
-        ∙ (ap (λ (xs : List X). told_at port held p ∷ xs) (told-same (port + 1) held held' ps (λ other l u. same other (omega arith) (omega arith)))
+        ∙ (ap (λ (x : X). x ∷ mapped_from (port + 1) held' ps) (by_port port held held' p (same port (omega arith) (omega arith)))
+        ∙ (ap (λ (xs : List X). mapped_at port held p ∷ xs) (mapped-same (port + 1) held held' ps (λ other l u. same other (omega arith) (omega arith)))
         ∙ sym (first port held p ps)))
 
     -- after the end at an index was replaced, and what is held at its port
-    pub told-set : (port : ℕ) (held held' : List (ℕ × T)) (ps : List P) (k : ℕ) (p : P) → ((other : ℕ) → other ≢ port + k → at other held' ≡ at other held) →
-        told_from port held' (slice_set ps k p) ≡ slice_set (told_from port held ps) k (told_at (port + k) held' p)
-    told-set port held held' [] k p same =
-        empty port held' ∙ ap (λ (xs : List X). slice_set xs k (told_at (port + k) held' p)) (sym (empty port held))
-    told-set port held held' (q ∷ ps) zero p same =
+    pub mapped-set : (port : ℕ) (held held' : List (ℕ × T)) (ps : List P) (k : ℕ) (p : P) → ((other : ℕ) → other ≢ port + k → at other held' ≡ at other held) →
+        mapped_from port held' (slice_set ps k p) ≡ slice_set (mapped_from port held ps) k (mapped_at (port + k) held' p)
+    mapped-set port held held' [] k p same =
+        empty port held' ∙ ap (λ (xs : List X). slice_set xs k (mapped_at (port + k) held' p)) (sym (empty port held))
+    mapped-set port held held' (q ∷ ps) zero p same =
         let here : port ≡ port + zero = omega arith in
         first port held' p ps
-        ∙ (ap (λ (xs : List X). told_at port held' p ∷ xs) (told-same (port + 1) held held' ps (λ other l u. same other (let n : other ≢ port + zero = omega arith in n)))
-        ∙ (ap (λ (n : ℕ). told_at n held' p ∷ told_from (port + 1) held ps) here
-        ∙ ap (λ (xs : List X). slice_set xs zero (told_at (port + zero) held' p)) (sym (first port held q ps))))
-    told-set port held held' (q ∷ ps) (suc k) p same =
+        ∙ (ap (λ (xs : List X). mapped_at port held' p ∷ xs) (mapped-same (port + 1) held held' ps (λ other l u. same other (let n : other ≢ port + zero = omega arith in n)))
+        ∙ (ap (λ (n : ℕ). mapped_at n held' p ∷ mapped_from (port + 1) held ps) here
+        ∙ ap (λ (xs : List X). slice_set xs zero (mapped_at (port + zero) held' p)) (sym (first port held q ps))))
+    mapped-set port held held' (q ∷ ps) (suc k) p same =
         let there : port + 1 + k ≡ port + suc k = omega arith in
         first port held' q (slice_set ps k p)
-        ∙ (ap (λ (x : X). x ∷ told_from (port + 1) held' (slice_set ps k p)) (by_port port held held' q (same port (let n : port ≢ port + suc k = omega arith in n)))
-        ∙ (ap (λ (xs : List X). told_at port held q ∷ xs) (told-set (port + 1) held held' ps k p (λ other n. same other (λ e. n (e ∙ sym there))))
-        ∙ (ap (λ (n : ℕ). told_at port held q ∷ slice_set (told_from (port + 1) held ps) k (told_at n held' p)) there
-        ∙ ap (λ (xs : List X). slice_set xs (suc k) (told_at (port + suc k) held' p)) (sym (first port held q ps)))))
+        ∙ (ap (λ (x : X). x ∷ mapped_from (port + 1) held' (slice_set ps k p)) (by_port port held held' q (same port (let n : port ≢ port + suc k = omega arith in n)))
+        ∙ (ap (λ (xs : List X). mapped_at port held q ∷ xs) (mapped-set (port + 1) held held' ps k p (λ other n. same other (λ e. n (e ∙ sym there))))
+        ∙ (ap (λ (n : ℕ). mapped_at port held q ∷ slice_set (mapped_from (port + 1) held ps) k (mapped_at n held' p)) there
+        ∙ ap (λ (xs : List X). slice_set xs (suc k) (mapped_at (port + suc k) held' p)) (sym (first port held q ps)))))
 
 -- what is to hold of each one, by its port and by what is held there
 module _ {P T : Type 0} (Kept_at : ℕ → List (ℕ × T) → P → Type 0) where

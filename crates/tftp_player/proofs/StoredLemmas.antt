@@ -64,10 +64,10 @@ commits_is port held (Client c) = sym (stands_as end_committed (holding_in c.fil
 commits_is port held (Server s) = served_commits port s s.ended (at port held)
 
 -- the end at a port
-there_is : (ends : List WorldEnd) (port place : ℕ) → port ≡ 1024 + place → opened_at ends port ≡ slice_get ends place
-there_is ends port place e =
+there_is : (ends : List WorldEnd) (port index : ℕ) → port ≡ 1024 + index → opened_at ends port ≡ slice_get ends index
+there_is ends port index e =
     let test : nat_lt port 1024 ≡ false = grind (arith, nat_tests) in
-    let same : port - 1024 ≡ place = omega arith in
+    let same : port - 1024 ≡ index = omega arith in
     ap (λ (b : Bool). if b then None else slice_get ends (port - 1024)) test ∙ ap (slice_get ends) same
 
 none_is : (ends : List WorldEnd) (port : ℕ) → (port < 1024) ⊎ (1024 + length ends ≤ port) → opened_at ends port ≡ None
@@ -81,23 +81,23 @@ none_is ends port (inr high) =
 
 module _ (config : Config) (sent : List Datagram) (server : PlayedServer) (ps : List Player) (records : List (ℕ × Record)) (old : WorldState) (view : world_of config sent server ps ≡ old) (staged : IsStaged server ps records) (port : ℕ) where
   -- what is returned if there is an end
-  module _ (place : ℕ) (p : Player) (within : place < length ps) (is : port ≡ 1024 + place) (reads : p ≡ slice_index_or ps place p) where
-    here : slice_get ps place ≡ Some p
-    here = list_get ps place p within reads
+  module _ (index : ℕ) (p : Player) (within : index < length ps) (is : port ≡ 1024 + index) (reads : p ≡ slice_index_or ps index p) where
+    here : slice_get ps index ≡ Some p
+    here = list_get ps index p within reads
 
-    found : opened_at (ends_of server ps) port ≡ Some (end_at (1024 + place) server.held p)
-    found = there_is (ends_of server ps) port place is ∙ ends_get server.held ps place p here
+    found : opened_at (ends_of server ps) port ≡ Some (end_at (1024 + index) server.held p)
+    found = there_is (ends_of server ps) port index is ∙ ends_get server.held ps index p here
 
     pub stored_here : stored_of port server.held p ≡ stored_at old.ends port
     stored_here =
         ap (λ (n : ℕ). stored_of n server.held p) is
-        ∙ (stores_is (1024 + place) server.held p (kept_at server.held ps place p staged.kept here)
+        ∙ (stores_is (1024 + index) server.held p (kept_at server.held ps index p staged.kept here)
         ∙ (sym (ap (option_and_then stored_in) found) ∙ ap (λ (w : WorldState). stored_at w.ends port) view))
 
     pub committed_here : committed_of port server.held p ≡ committed_at old.ends port
     committed_here =
         ap (λ (n : ℕ). committed_of n server.held p) is
-        ∙ (commits_is (1024 + place) server.held p
+        ∙ (commits_is (1024 + index) server.held p
         ∙ (sym (ap (λ (o : Option WorldEnd). unwrap_or (option_map end_committed o) false) found) ∙ ap (λ (w : WorldState). committed_at w.ends port) view))
 
   -- and if there is no end

@@ -2,13 +2,13 @@
 use Rattle.std.proofs.Common.{◌++◌, option_to_list}
 use Rattle.std.proofs.lemmas.Result.{err_from_is_err_and}
 use Rattle.tftp_file.specs.Decoding.{held_bytes}
-use Rattle.tftp_file.proofs.DecodingLemmas.{piece_taken, wrong_behind}
-use Rattle.tftp_file.proofs.netascii.NetDecoder.behind.Goals as goal
+use Rattle.tftp_file.proofs.DecodingLemmas.{piece_taken, wrong_after}
+use Rattle.tftp_file.proofs.netascii.NetDecoder.after.Goals as goal
 
 pub returns-in_err-held-clause-refused : goal.returns-in_err-held-clause-refused
 returns-in_err-held-clause-refused c =
     let p = err_from_is_err_and c.from_residual-in_err-held.result c.from_residual-in_err-held.ensures.1 in
-    rw (p.1, p.2, ← c.self.view_is, c.in_ok-text.ensures.ok) (wrong_behind (option_to_list c.in_ok-text.field-0-0) c.in_ok-text.text.now c.in_err-held.field-0.0 c.in_err-held.ensures.wrong)
+    rw (p.1, p.2, ← c.self.view_is, c.in_ok-text.ensures.ok) (wrong_after (option_to_list c.in_ok-text.field-0-0) c.in_ok-text.text.now c.in_err-held.field-0.0 c.in_err-held.ensures.wrong)
 
 pub returns-clause-ok : goal.returns-clause-ok
 returns-clause-ok c =
