@@ -276,7 +276,8 @@ impl End {
         requires { AreFilesOf self.old.role.side files.old }
         ensures steps { IfOk result (λ answer. (turn : Turn)
             × DatagramStep S.meaning K.meaning from bytes.now self.old files.old turn files.new
-            × Lends self.old turn self.new answer.0.to answer.1 × (answer.0 ≡ reported self.old turn)) }
+            × Lends self.old turn self.new answer.0.to answer.1
+            × (answer.0 ≡ reported self.old turn)) }
         ensures closed { IsErrOf result EndFault.Closed
             ↔ IsSome (outcome_of self.old.position.phase) }
         ensures unmoved { IsErrOf result EndFault.Closed → files.new ≡ files.old }

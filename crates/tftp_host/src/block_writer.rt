@@ -6,19 +6,18 @@ use std::io::{self, BufWriter, Write};
 use tftp_file::{Sink, WriteSink};
 use tftp_wire::MAX_BLOCK;
 
-/// The capacity of the write buffer, in bytes: two blocks of the greatest size.
-const WRITE_BUFFER: usize = 2 * MAX_BLOCK as usize;
+/// The bytes in the buffer from which on it is due: so few that the write ends before the peer has
+/// sent its next block.
+const FLUSH_AT: usize = 8_192;
 
-/// The size, in bytes, from which on each block is written once it is acknowledged.
-const LONG_BLOCK: usize = 16_384;
+/// The capacity of the write buffer, in bytes: before it is due there is space for any block.
+const WRITE_BUFFER: usize = FLUSH_AT + MAX_BLOCK as usize;
 
-/// A file that is written block by block. It buffers what is appended, at most two blocks of the
-/// greatest size, until [`BlockWriter::flush`].
+/// A file that is written block by block. It buffers what is appended until [`BlockWriter::flush`],
+/// at most 8 KiB and a block.
 #[derive(Drop)]
 pub struct BlockWriter<F: Write + Drop> {
     sink: WriteSink<BufWriter<ErrorKeeper<F>>>,
-    /// The length of the newest block, in bytes.
-    newest: usize,
 }
 
 impl<F: Write + Drop> BlockWriter<F> {
@@ -27,7 +26,6 @@ impl<F: Write + Drop> BlockWriter<F> {
         match BufWriter::with_capacity(alloc, WRITE_BUFFER, ErrorKeeper::new(file)) {
             Ok(writer) => Ok(BlockWriter {
                 sink: WriteSink::new(writer),
-                newest: 0,
             }),
             Err(error) => Err(error),
         }
@@ -36,10 +34,7 @@ impl<F: Write + Drop> BlockWriter<F> {
     /// Appends a block to the buffer.
     pub fn append(&mut self, bytes: &[u8]) -> io::Result<()> {
         match self.sink.append(bytes) {
-            Ok(()) => {
-                self.newest = bytes.len();
-                Ok(())
-            }
+            Ok(()) => Ok(()),
             Err(_) => Err(self.error()),
         }
     }
@@ -52,10 +47,9 @@ impl<F: Write + Drop> BlockWriter<F> {
         }
     }
 
-    /// Whether the buffer is to be written: after a long block, and when another block may not fit.
+    /// Whether the buffer is to be written.
     pub fn is_due(&self) -> bool {
-        let writer = self.sink.get_ref();
-        self.newest >= LONG_BLOCK || writer.buffer().len() > writer.capacity() / 2
+        self.sink.get_ref().buffer().len() >= FLUSH_AT
     }
 
     /// The file.

@@ -28,7 +28,8 @@ occurrences named name xs = count_by (λ x. is_name name (named x)) xs
 -- a known name is repeated, by the number of occurrences of each (RFC 2347, "Negotiation Protocol")
 abbrev pub occurs_twice : (Name → ℕ) → Bool
 occurs_twice occurrences =
-    nat_lt 1 (occurrences Blksize) || (nat_lt 1 (occurrences Timeout) || nat_lt 1 (occurrences Tsize))
+    nat_lt 1 (occurrences Blksize)
+    || (nat_lt 1 (occurrences Timeout) || nat_lt 1 (occurrences Tsize))
 
 -- how often a name occurs in a request or an OACK
 unfoldable pub occurrences_of : Name → List RawOption → ℕ

@@ -28,7 +28,7 @@ use Rattle.tftp_player.specs.declared.served.Served.{Served}
 use Rattle.tftp_player.proofs.HeldLemmas.{at-with_next}
 
 -- a transfer that made a step has closed as the step returned
-pub closes_as : (port : ℕ) (h next : Transfer) (held held' : List (ℕ × Transfer)) (turn : Turn) (step : Step) → at port held ≡ Some h → held' ≡ with_next port next held → next.end ≡ after_turn h.end turn → step ≡ armed h.end turn →
+pub closes_as : (port : ℕ) (h next : Transfer) (held held' : List (ℕ × Transfer)) (turn : Turn) (step : Step) → at port held ≡ Some h → held' ≡ with_next port next held → next.end ≡ after_turn h.end turn → step ≡ reported h.end turn →
     ClosesAs step.closed (at port held')
 closes_as port h next held held' turn step found e is reports =
     subst (ClosesAs step.closed) (sym (ap (at port) e ∙ at-with_next port h next held found)) (ap (λ (s : Step). s.closed) reports ∙ ap (λ (e : EndState). outcome_of e.position.phase) (sym is))
@@ -42,7 +42,7 @@ is_recorded closed None r c e none = c
 is_recorded closed (Some h) r c e none = let f : Some (record_of h.end) ≡ None = sym e ∙ none in cc
 
 -- the result of a step of an end there
-pub effect_is : (at : Endpoint) (e e' : EndState) (turn : Turn) (step : Step) (start out : List ℕ) → start ≡ [] → Carries e turn e' step.to start out → step ≡ armed e turn →
+pub effect_is : (at : Endpoint) (e e' : EndState) (turn : Turn) (step : Step) (start out : List ℕ) → start ≡ [] → Carries e turn e' step.to start out → step ≡ reported e turn →
     (let effect : Effect = record { from = at; to = step.to; bytes = out; closed = step.closed } in effect) ≡ effect_of at turn
 effect_is at e e' turn step start out none c reports =
     ap (λ (s : Step). record { from = at; to = s.to; bytes = out; closed = s.closed }) reports

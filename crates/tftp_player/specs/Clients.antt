@@ -100,7 +100,8 @@ armed_files (Sink holding) = Sink (record holding { refuses = true })
 -- the client, set to refuse while it is open
 abbrev pub armed_client : PlayedClient → PlayedClient
 armed_client c =
-    if is_some (outcome_of c.end.position.phase) then c else record c { files = armed_files c.files }
+    if is_some (outcome_of c.end.position.phase) then c
+    else record c { files = armed_files c.files }
 
 -- why no client was opened
 abbrev pub open_fault : OpenFault → WorldFault

@@ -63,7 +63,7 @@ fn the_nearest_deadline_is_waited_for(rt: HostRuntime) {
         &rt,
         &wait_for::<()>(700, &[]),
         &1_000,
-        "a second where there is none",
+        "a second without a port",
     );
     expect_equal(&rt, &index_of(1027, &ports), &Some(2), "the third port");
     expect_equal(&rt, &index_of(1040, &ports), &None, "no such port");

@@ -130,7 +130,7 @@ fn the_inner_store_refuses_as_armed(rt: HostRuntime) {
     let mut store = FaultStore::new(inner, 9, StoreFault::Io, false, false);
     let full = Err(StoreFault::Full);
     writes(&rt, rt.alloc(), &mut store, "the append", full);
-    expect(&rt, !store.get_ref().refuses(), "it is told no more");
+    expect(&rt, !store.get_ref().refuses(), "it is disarmed");
 }
 
 /// A commit that the inner store is set to refuse is refused, and stores nothing; the next one
@@ -147,6 +147,6 @@ fn the_inner_store_refuses_a_commit_as_armed(rt: HostRuntime) {
     expect_equal(&rt, &refused, &Err(StoreFault::Full), "as it was told");
     lacks_file(&rt, rt.alloc(), store.get_ref(), b"n");
     let next = store.commit(&path, &mut draft, false);
-    expect_equal(&rt, &next, &Ok(()), "it is told no more");
+    expect_equal(&rt, &next, &Ok(()), "it is disarmed");
     has_file(&rt, rt.alloc(), store.get_ref(), b"n", b"");
 }

@@ -451,7 +451,12 @@ fn block_sizes_of_admissions(rt: HostRuntime) {
 /// The transfer lends these bytes, and an identifier without a transfer lends none.
 fn lends(rt: &impl Abort, served: &Served<MemStore>, outgoing: Outgoing, expected: &[u8]) {
     let lent = served.server.bytes_of(1025, outgoing);
-    expect_bytes(rt, lent.expect(rt, "a transfer"), expected, "what goes out");
+    expect_bytes(
+        rt,
+        lent.expect(rt, "a transfer"),
+        expected,
+        "the datagram to send",
+    );
     let other = served.server.bytes_of(1040, outgoing);
     expect(rt, other.is_none(), "no such transfer");
 }

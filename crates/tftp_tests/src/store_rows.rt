@@ -78,10 +78,10 @@ fn a_file_is_replaced(rt: HostRuntime) {
 fn a_call_of_a_store_is_refused_once_as_armed(rt: HostRuntime) {
     let mut store = empty(&rt, rt.alloc());
     store.refuse_next(true);
-    expect(&rt, store.refuses(), "it is told");
+    expect(&rt, store.refuses(), "it is armed");
     let full = Err(StoreFault::Full);
     writes(&rt, rt.alloc(), &mut store, b"A", false, full);
-    expect(&rt, !store.refuses(), "it is told no more");
+    expect(&rt, !store.refuses(), "it is disarmed");
     writes(&rt, rt.alloc(), &mut store, b"A", false, Ok(()));
 }
 
