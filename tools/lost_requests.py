@@ -23,8 +23,8 @@ DATA = b"\0\3\0\1fortytwo"
 ACK = b"\0\4\0\1"
 
 
-def fetched(server):
-    """How often a client asks until it has the file."""
+def fetched(server, process):
+    """How often a client asks until it has the file, or None where the server has ended."""
     with socket.socket(socket.AF_INET, socket.SOCK_DGRAM) as client:
         client.bind(("127.0.0.1", 0))
         client.settimeout(REPEAT_AFTER)
@@ -33,6 +33,8 @@ def fetched(server):
             try:
                 data, peer = client.recvfrom(600)
             except socket.timeout:
+                if process.poll() is not None:
+                    return None
                 continue
             if data != DATA:
                 sys.exit(f"lost requests: the answer is {data!r}")
@@ -42,15 +44,18 @@ def fetched(server):
 
 
 def served(program, counter, folder, refused):
-    """How often the client asks, the log, and how many requests for memory were made and refused."""
+    """How often the client asks, the log, and how many requests for memory were made and refused. None in place of
+    the first for a server that was refused its buffers and has ended."""
     words = [program, folder, "--listen", "127.0.0.1:0", "--log"]
     env = {"LD_PRELOAD": str(counter), "REFUSED": str(refused), "FROM_OUTPUT": "1"}
     with subprocess.Popen(words, env=env, stdout=subprocess.PIPE, stderr=subprocess.PIPE, text=True) as server:
         port = int(server.stdout.readline().rsplit(":", 1)[1])
-        requests = fetched(("127.0.0.1", port))
+        requests = fetched(("127.0.0.1", port), server)
         printed, log = server.communicate(timeout=PATIENCE)
     counts = re.search(r"^counted (\d+) refused (\d+)$", log, re.M)
-    if server.returncode or not counts or not printed.endswith(" Complete\n"):
+    has_ended = requests is None and server.returncode == 2 and not printed
+    is_complete = requests and server.returncode == 0 and printed.endswith(" Complete\n")
+    if not counts or not (has_ended or is_complete):
         sys.exit(f"lost requests: with {refused} refused, status {server.returncode}: {printed}{log}")
     return requests, log, int(counts[1]), int(counts[2])
 
@@ -61,7 +66,7 @@ def main():
     program = os.path.abspath(sys.argv[1] if len(sys.argv) == 2 else TFTPD)
     if not os.path.exists(program):
         sys.exit(f"lost requests: {program} is not there; `rt ci` builds it")
-    lost, wrong = 0, 0
+    lost, unserved, wrong = 0, 0, 0
     with tempfile.TemporaryDirectory(prefix="tftp-lost-") as folder:
         counter = compiled(folder)
         files = Path(folder, "files")
@@ -72,10 +77,12 @@ def main():
             requests, log, _, refused = served(program, counter, str(files), request)
             lines = re.findall(r"^lost 127\.0\.0\.1:\d+ RRQ a octet: out of memory$", log, re.M)
             lost += len(lines)
-            if refused != 1 or len(lines) > 1 or requests > 1 + len(lines):
+            unserved += requests is None
+            if refused != 1 or len(lines) > 1 or (requests or 1) > 1 + len(lines):
                 wrong += 1
                 print(f"lost requests: {request} of {count}, refused {refused}, asked {requests} times", log, sep="\n")
-    print(f"lost requests: {count} requests for memory, each refused in turn: {lost} requests of the client lost")
+    print(f"lost requests: {count} requests for memory, each refused in turn: {lost} requests of the client lost, "
+          f"{unserved} servers not begun")
     sys.exit(1 if wrong or not lost else 0)
 
 
