@@ -1,0 +1,26 @@
+-- What a program did over UDP: its datagrams, its time and its lines, the newest first (own).
+use Rattle.std.specs.Prelude.{ℕ, List, ◌∷◌, Option, Some, None}
+use Rattle.tftp_ends.specs.Step.{Reply}
+use Rattle.tftp_ends.specs.declared.endpoint.Endpoint.{Endpoint}
+
+pub data Event : Type 0 where
+  -- a datagram was received at the port, from this endpoint, with these bytes (RFC 1350, section 4)
+  Received : (port : ℕ) (from : Endpoint) (bytes : List ℕ) → Event
+  -- a datagram was sent from the port; it may be lost like any other (RFC 1350, section 2)
+  Sent : (port : ℕ) (to : Endpoint) (bytes : List ℕ) → Event
+  -- the clock was read: the time of the program's watch is this then, in milliseconds
+  Watched : (time : ℕ) → Event
+  -- the transfer at the port is told a timeout, at this time of the watch (RFC 1350, section 2)
+  Elapsed : (port : ℕ) (time : ℕ) → Event
+  -- a line was printed on standard output, without its end
+  Printed : (line : List ℕ) → Event
+
+-- the journal after these bytes were sent from the port, if they go somewhere
+abbrev pub replied : ℕ → Option Endpoint → List ℕ → List Event → List Event
+replied port None bytes events = events
+replied port (Some to) bytes events = Sent port to bytes ∷ events
+
+-- the journal after the answer of a step was sent from the port, if it has one
+abbrev pub answered : ℕ → Option Reply → List Event → List Event
+answered port None events = events
+answered port (Some reply) events = Sent port reply.to reply.bytes ∷ events
