@@ -1,1 +1,3 @@
+pub mod Conversation
+pub mod Converses
 pub mod Reason

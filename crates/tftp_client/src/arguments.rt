@@ -1,7 +1,7 @@
 //! The command line of `tftp`.
 
 ghost use Rattle.std.specs.Prelude.{◌≡◌, ◌≤◌, IfOk, IfErr};
-ghost use Rattle.tftp_host.specs.ClientOutcome.{status_of};
+ghost use Rattle.tftp_host.specs.ClientEnd.{status_of};
 
 use crate::transfer::{Completed, Failure, Job, transfer};
 use crate::udp::Udp;
@@ -14,8 +14,9 @@ use std::net::Net;
 use std::rt::{Files, Runtime};
 use std::time::Clock;
 use tftp_arguments::{VERSION, flag, number, own_words, print_usage, word};
-use tftp_host::{ClientOutcome, endpoint_in};
+use tftp_host::{ClientEnd, endpoint_in};
 use tftp_negotiate::{Asked, DEFAULT_BLOCK, Kind, MAX_BLOCK, MIN_BLOCK};
+use tftp_sockets::{Journal, print_end};
 use tftp_wire::Mode;
 
 const EXAMPLES: &str = "\
@@ -45,7 +46,7 @@ pub fn tftp_command<R: Runtime + AllocGlobal + Net, E: IsTerminal>(rt: &R, error
 /// name; `errors` is standard error, on which how far a transfer came is shown where it is a
 /// terminal.
 ///
-/// `--help` and `--version` print and return 0. The status is that of the [`ClientOutcome`] whose line
+/// `--help` and `--version` print and return 0. The status is that of the [`ClientEnd`] whose line
 /// is printed, and 2 for a command line that is not understood, which is reported on standard
 /// error, when out of memory, and where an output cannot be written.
 pub fn tftp_words<R: Runtime + AllocGlobal + Net, S: AsStr, E: IsTerminal>(
@@ -193,9 +194,10 @@ fn run_order<R: Files + Clone + Drop + Udp + Clock + Print + Eprint>(
 ) -> io::Result<u8>
     ensures { IfOk result (λ status. status ≤ 2) }
 {
-    match transfer(rt, alloc, &order.job) {
-        Ok(completed) => conclude(rt, completed, order.lingers),
-        Err(failure) => report(rt, &failure, order.is_verbose),
+    let mut journal = Journal::new();
+    match transfer(rt, alloc, &order.job, &mut journal) {
+        Ok(completed) => conclude(rt, completed, order.lingers, &mut journal),
+        Err(failure) => report(rt, &failure, order.is_verbose, &mut journal),
     }
 }
 
@@ -205,33 +207,39 @@ fn conclude<N: Clock + Print + Eprint, R: Files + Drop>(
     rt: &N,
     completed: Completed<R>,
     lingers: bool,
+    journal: &mut Journal,
 ) -> io::Result<u8>
     ensures { IfOk result (λ status. status ≡ 0) }
 {
-    let printed = print_end(rt, completed.client_end());
+    let printed = report_end(rt, completed.client_end(), journal);
     if lingers {
-        completed.linger(rt);
+        completed.linger(rt, journal);
     }
     printed
 }
 
 /// Prints how a transfer ended, and returns the status.
-fn print_end<R: Print + Eprint>(rt: &R, end: ClientOutcome) -> io::Result<u8>
+fn report_end<R: Print + Eprint>(rt: &R, end: ClientEnd, journal: &mut Journal) -> io::Result<u8>
     ensures { IfOk result (λ status. status ≡ status_of end) }
 {
     match end {
-        ClientOutcome::Complete(_) => rt.println(end)?,
+        ClientEnd::Complete(_) => print_end(rt, journal, end)?,
         _ => rt.eprintln(end)?,
     }
     Ok(end.status())
 }
 
 /// Prints how a transfer failed, and why where that is told too, and returns the status.
-fn report<R: Print + Eprint>(rt: &R, failure: &Failure, is_verbose: bool) -> io::Result<u8>
+fn report<R: Print + Eprint>(
+    rt: &R,
+    failure: &Failure,
+    is_verbose: bool,
+    journal: &mut Journal,
+) -> io::Result<u8>
     ensures status { IfOk result (λ status. status ≡ status_of failure.now.end) }
     ensures fails { IfOk result (λ status. 1 ≤ status) }
 {
-    let status = print_end(rt, failure.end)?;
+    let status = report_end(rt, failure.end, journal)?;
     if is_verbose {
         let reason = &failure.reason;
         eprintln!(rt; "tftp: {reason}")?;

@@ -3,27 +3,28 @@
 mod completed;
 mod conversation;
 mod failure;
-mod socket;
 
 ghost use Rattle.std.specs.Prelude.{◌≡◌, true, false, IfOk};
 ghost use Rattle.tftp_ends.specs.Files.{AreFilesOf};
 ghost use Rattle.tftp_ends.specs.End.{is_sender};
+ghost use Rattle.tftp_client.specs.Converses.{deadline_at};
 
 use crate::local::{LocalFile, LocalSource, Outbound, read_error};
 pub(crate) use crate::transfer::completed::Completed;
-use crate::transfer::conversation::Conversation;
+use crate::transfer::conversation::{Conversation, reply};
 pub(crate) use crate::transfer::failure::Failure;
 use crate::transfer::failure::Reason;
-use crate::transfer::socket::ClientSocket;
 use crate::udp::Udp;
 use std::alloc::Global;
 use std::io::Read;
+use std::net::{Ipv4Addr, SocketAddr};
 use std::rt::Files as FileSystem;
 use std::time::Clock;
 use tftp_ends::{End, EndConfig, Endpoint, Outcome};
 use tftp_file::{Files, MAX_WIRE};
 use tftp_host::{ClientOutcome, fallback};
 use tftp_negotiate::{Asked, Kind, Limits, MAX_BLOCK};
+use tftp_sockets::{ClientSocket, Journal};
 use tftp_wire::Mode;
 
 /// What `tftp` is told to transfer.
@@ -67,8 +68,9 @@ pub(crate) fn transfer<R: FileSystem + Clone + Drop + Udp + Clock + Eprint>(
     rt: &R,
     alloc: Global,
     job: &Job<'_>,
+    journal: &mut Journal,
 ) -> Result<Completed<R>, Failure> {
-    let failure = match transfer_once(rt, alloc, job) {
+    let failure = match transfer_once(rt, alloc, job, journal) {
         Ok(count) => return Ok(count),
         Err(failure) => failure,
     };
@@ -78,7 +80,7 @@ pub(crate) fn transfer<R: FileSystem + Clone + Drop + Udp + Clock + Eprint>(
                 asked: Asked::default(),
                 ..*job
             };
-            transfer_once(rt, alloc, &plain)
+            transfer_once(rt, alloc, &plain, journal)
         }
         _ => Err(failure),
     }
@@ -89,10 +91,11 @@ fn transfer_once<R: FileSystem + Clone + Drop + Udp + Clock + Eprint>(
     rt: &R,
     alloc: Global,
     job: &Job<'_>,
+    journal: &mut Journal,
 ) -> Result<Completed<R>, Failure> {
     match job.kind {
-        Kind::Read => get(rt, alloc, job),
-        Kind::Write => put(rt, alloc, job),
+        Kind::Read => get(rt, alloc, job, journal),
+        Kind::Write => put(rt, alloc, job, journal),
     }
 }
 
@@ -101,9 +104,10 @@ fn get<R: FileSystem + Clone + Drop + Udp + Clock + Eprint>(
     rt: &R,
     alloc: Global,
     job: &Job<'_>,
+    journal: &mut Journal,
 ) -> Result<Completed<R>, Failure> {
     match create_local(rt, alloc, job.local) {
-        Ok(local) => get_into(rt, alloc, job, local),
+        Ok(local) => get_into(rt, alloc, job, local, journal),
         Err(failure) => Err(failure),
     }
 }
@@ -129,15 +133,21 @@ fn get_into<N: Udp + Clock + Eprint, R: FileSystem + Drop>(
     alloc: Global,
     job: &Job<'_>,
     local: LocalFile<R>,
+    journal: &mut Journal,
 ) -> Result<Completed<R>, Failure> {
-    match ask_to_get(rt, alloc, job) {
-        Ok(conversation) => converse(rt, conversation, Files::Sink(local), 0),
+    match ask_to_get(rt, alloc, job, journal) {
+        Ok(conversation) => converse(rt, conversation, Files::Sink(local), 0, journal),
         Err(failure) => Err(failure),
     }
 }
 
 /// Sends the request for a file.
-fn ask_to_get<N: Udp + Clock>(rt: &N, alloc: Global, job: &Job<'_>) -> Result<Conversation, Failure>
+fn ask_to_get<N: Udp + Clock>(
+    rt: &N,
+    alloc: Global,
+    job: &Job<'_>,
+    journal: &mut Journal,
+) -> Result<Conversation, Failure>
     ensures { IfOk result (λ conversation. is_sender conversation.end.role.side ≡ false) }
 {
     let socket = bind_socket(rt)?;
@@ -153,16 +163,16 @@ fn ask_to_get<N: Udp + Clock>(rt: &N, alloc: Global, job: &Job<'_>) -> Result<Co
     );
     match opened {
         Ok((end, step)) => {
-            socket.send(&step, out.as_slice());
+            reply(&socket, journal, step.to, out.as_slice());
             begin(rt, alloc, socket, end, job.shows_progress, None)
         }
         Err(fault) => Err(Failure::of_opening(fault)),
     }
 }
 
-/// The socket of a transfer.
+/// The socket of a transfer: a port of the system's choice at every address of this host.
 fn bind_socket<N: Udp>(net: &N) -> Result<ClientSocket, Failure> {
-    match ClientSocket::bind(net) {
+    match net.bind(SocketAddr::from((Ipv4Addr::UNSPECIFIED, 0))) {
         Ok(socket) => Ok(socket),
         Err(error) => Err(Failure::of_socket(error)),
     }
@@ -177,7 +187,9 @@ fn begin<C: Clock>(
     shows_progress: bool,
     total: Option<u64>,
 ) -> Result<Conversation, Failure>
-    ensures { IfOk result (λ conversation. conversation.end.role.side ≡ end.role.side) }
+    ensures { IfOk result (λ conversation. (conversation.end ≡ end)
+        × (conversation.socket.port ≡ socket.port) × (conversation.watch.now ≡ 0)
+        × (conversation.due ≡ deadline_at 0 end)) }
 {
     match Conversation::new(clock, alloc, socket, end, shows_progress, total) {
         Ok(conversation) => Ok(conversation),
@@ -190,9 +202,10 @@ fn put<R: FileSystem + Clone + Drop + Udp + Clock + Eprint>(
     rt: &R,
     alloc: Global,
     job: &Job<'_>,
+    journal: &mut Journal,
 ) -> Result<Completed<R>, Failure> {
     match Outbound::open(rt, alloc, job.local, job.mode) {
-        Ok(outbound) => put_from(rt, alloc, job, outbound),
+        Ok(outbound) => put_from(rt, alloc, job, outbound, journal),
         Err(error) => Err(Failure::of_file(error)),
     }
 }
@@ -203,11 +216,12 @@ fn put_from<R: FileSystem + Drop + Udp + Clock + Eprint>(
     alloc: Global,
     job: &Job<'_>,
     outbound: Outbound<R::File>,
+    journal: &mut Journal,
 ) -> Result<Completed<R>, Failure> {
-    match ask_to_put(rt, alloc, job, outbound.wire_bytes) {
+    match ask_to_put(rt, alloc, job, outbound.wire_bytes, journal) {
         Ok(conversation) => {
             let files: Files<LocalSource<R::File>, LocalFile<R>> = Files::Source(outbound.source);
-            converse(rt, conversation, files, outbound.host_bytes)
+            converse(rt, conversation, files, outbound.host_bytes, journal)
         }
         Err(failure) => Err(failure),
     }
@@ -219,6 +233,7 @@ fn ask_to_put<N: Udp + Clock>(
     alloc: Global,
     job: &Job<'_>,
     length: u64,
+    journal: &mut Journal,
 ) -> Result<Conversation, Failure>
     ensures { IfOk result (λ conversation. is_sender conversation.end.role.side ≡ true) }
 {
@@ -240,7 +255,7 @@ fn ask_to_put<N: Udp + Clock>(
     );
     match opened {
         Ok((end, step)) => {
-            socket.send(&step, out.as_slice());
+            reply(&socket, journal, step.to, out.as_slice());
             begin(rt, alloc, socket, end, job.shows_progress, Some(length))
         }
         Err(fault) => Err(Failure::of_opening(fault)),
@@ -253,10 +268,11 @@ fn converse<C: Clock + Eprint, R: FileSystem + Drop>(
     mut conversation: Conversation,
     mut files: Files<LocalSource<R::File>, LocalFile<R>>,
     sent: u64,
+    journal: &mut Journal,
 ) -> Result<Completed<R>, Failure>
     requires { AreFilesOf conversation.end.role.side files }
 {
-    let ended = conversation.run(rt, &mut files);
+    let ended = conversation.run(rt, journal, &mut files);
     let stored = stored(&files);
     conversation.finish(rt, stored);
     match ended {

@@ -3,14 +3,15 @@
 ghost use Rattle.std.specs.Prelude.{◌≡◌, true};
 ghost use Rattle.tftp_ends.specs.End.{is_complete};
 ghost use Rattle.tftp_ends.specs.Files.{AreFilesOf};
-ghost use Rattle.tftp_host.specs.declared.client.client_outcome.ClientOutcome.TheVariants as ends;
+ghost use Rattle.tftp_host.specs.declared.client_end.ClientEnd.TheVariants as ends;
 
 use crate::local::{LocalFile, LocalSource};
 use crate::transfer::conversation::Conversation;
 use std::rt::Files as FileSystem;
 use std::time::Clock;
 use tftp_file::Files;
-use tftp_host::ClientOutcome;
+use tftp_host::ClientEnd;
+use tftp_sockets::Journal;
 
 /// A transfer that is complete: all was sent and acknowledged, or stored, named and acknowledged.
 /// Its end may have to send its last acknowledgement again.
@@ -26,19 +27,19 @@ pub(crate) struct Completed<R: FileSystem + Drop> {
 
 impl<R: FileSystem + Drop> Completed<R> {
     /// How the program ends.
-    pub(crate) fn client_end(&self) -> ClientOutcome
+    pub(crate) fn client_end(&self) -> ClientEnd
         ensures { result ≡ ends.Complete self.now.count }
     {
-        ClientOutcome::Complete(self.count)
+        ClientEnd::Complete(self.count)
     }
 
     /// Stays until its end is closed: a receiver's two timeouts later, a sender's is at once.
-    pub(crate) fn linger<C: Clock>(self, clock: &C) {
+    pub(crate) fn linger<C: Clock>(self, clock: &C, journal: &mut Journal) {
         let Completed {
             mut conversation,
             mut files,
             ..
         } = self;
-        conversation.linger(clock, &mut files);
+        conversation.linger(clock, journal, &mut files);
     }
 }

@@ -1,11 +1,13 @@
 //! A client's end from its opening to its close, over its socket.
 
-ghost use Rattle.std.specs.Prelude.{◌≡◌, ◌≤◌, true, length, IfOk, OnOk};
+ghost use Rattle.std.specs.Prelude.{◌≡◌, ◌≤◌, true, length, take, IfOk, IfErr, OnOk};
 ghost use Rattle.tftp_ends.specs.End.{is_complete};
 ghost use Rattle.tftp_ends.specs.Files.{AreFilesOf};
+ghost use Rattle.tftp_sockets.specs.Journal.{replied};
+ghost use Rattle.tftp_client.specs.Converses.{Converses, Handles, MayElapse, Works};
+ghost use Rattle.tftp_client.specs.Converses.{EndsBy, deadline_at, due_after};
 
 use crate::transfer::failure::Reason;
-use crate::transfer::socket::ClientSocket;
 use std::alloc::{AllocError, Global};
 use std::time::Clock;
 use tftp_ends::{End, Endpoint, Outcome, Step, decode_packet};
@@ -14,6 +16,7 @@ use tftp_host::{
     DATAGRAM_BUFFER, LONGEST_WAIT, LineClock, ProgressLine, Watch, deadline, is_due, read_clock,
 };
 use tftp_negotiate::stated_tsize;
+use tftp_sockets::{ClientSocket, Journal, read_watch};
 use tftp_wire::{PacketRef, show_ref};
 
 /// The most waits of a transfer.
@@ -48,6 +51,8 @@ pub(crate) struct Conversation {
 }
 
 impl Conversation {
+    ghost use Rattle.tftp_client.specs.Conversation.{state_of};
+
     /// A conversation that begins, after the end's request was sent.
     pub(crate) fn new<C: Clock>(
         clock: &C,
@@ -57,10 +62,12 @@ impl Conversation {
         shows_progress: bool,
         total: Option<u64>,
     ) -> Result<Conversation, AllocError>
-        ensures { IfOk result (λ conversation. conversation.end.role.side ≡ end.role.side) }
+        ensures { IfOk result (λ conversation. (conversation.end ≡ end)
+            × (conversation.socket.port ≡ socket.port) × (conversation.watch.now ≡ 0)
+            × (conversation.due ≡ deadline_at 0 end)) }
     {
         let watch = Watch::new(read_clock(clock, 0));
-        let due = deadline(watch.now, end.interval());
+        let due = deadline(0, Some(end.interval()));
         Ok(Conversation {
             alloc,
             socket,
@@ -84,14 +91,20 @@ impl Conversation {
     pub(crate) fn run<C: Clock + Eprint, S: Source, K: Sink>(
         &mut self,
         rt: &C,
+        journal: &mut Journal,
         files: &mut Files<S, K>,
     ) -> Result<(), Outcome>
         requires { AreFilesOf self.old.end.role.side files.old }
+        ensures converses { Converses S.meaning K.meaning self.old.socket.port
+            (state_of self.old journal.old.events) files.old
+            (state_of self.new journal.new.events) files.new }
+        ensures port { self.new.socket.port ≡ self.old.socket.port }
         ensures complete { OnOk result (is_complete self.new.end.position.phase ≡ true) }
+        ensures failed { IfErr result (λ outcome. EndsBy self.new.end outcome) }
         ensures files { AreFilesOf self.new.end.role.side files.new }
     {
         for _ in 0..MAX_WAITS {
-            self.turn(rt, files);
+            self.turn(rt, journal, files);
             let record = self.end.record();
             if record.complete {
                 return Ok(());
@@ -109,74 +122,108 @@ impl Conversation {
     pub(crate) fn linger<C: Clock, S: Source, K: Sink>(
         &mut self,
         clock: &C,
+        journal: &mut Journal,
         files: &mut Files<S, K>,
     )
         requires { AreFilesOf self.old.end.role.side files.old }
+        ensures converses { Converses S.meaning K.meaning self.old.socket.port
+            (state_of self.old journal.old.events) files.old
+            (state_of self.new journal.new.events) files.new }
+        ensures port { self.new.socket.port ≡ self.old.socket.port }
     {
         for _ in 0..MAX_WAITS {
             if self.end.outcome().is_some() {
                 return;
             }
-            self.turn(clock, files);
+            self.turn(clock, journal, files);
         }
     }
 
-    /// Waits once, and takes what came or the timeout that is due.
-    fn turn<C: Clock, S: Source, K: Sink>(&mut self, clock: &C, files: &mut Files<S, K>)
+    /// Waits once, and handles the datagram that was received, or the timeout that is due.
+    fn turn<C: Clock, S: Source, K: Sink>(
+        &mut self,
+        clock: &C,
+        journal: &mut Journal,
+        files: &mut Files<S, K>,
+    )
         requires { AreFilesOf self.old.end.role.side files.old }
-        ensures { AreFilesOf self.new.end.role.side files.new }
+        ensures converses { Converses S.meaning K.meaning self.old.socket.port
+            (state_of self.old journal.old.events) files.old
+            (state_of self.new journal.new.events) files.new }
+        ensures port { self.new.socket.port ≡ self.old.socket.port }
+        ensures files { AreFilesOf self.new.end.role.side files.new }
     {
-        let wait = self.due.saturating_sub(self.watch.now).min(LONGEST_WAIT);
-        let received = self.socket.receive(wait, self.buffer.as_mut_slice());
-        let reading = read_clock(clock, self.watch.reading);
-        let now = self.watch.advance(reading);
-        let step = match received {
-            Some((from, count)) => self.take_datagram(files, from, count),
-            None => NO_STEP,
-        };
+        let step = self.take_received(clock, journal, files);
         if step.closed.is_some() {
             return;
         }
         if step.progress {
-            self.due = deadline(now, self.end.interval());
-            self.advanced_at = now;
+            self.advanced_at = self.watch.now;
             self.work(files);
-        } else if is_due(now, self.due) {
-            self.due = deadline(now, self.end.interval());
-            self.take_timeout();
+            return;
+        }
+        self.take_timeout(journal);
+    }
+
+    /// Waits once, and handles the datagram that was received, if there is one.
+    fn take_received<C: Clock, S: Source, K: Sink>(
+        &mut self,
+        clock: &C,
+        journal: &mut Journal,
+        files: &mut Files<S, K>,
+    ) -> Step
+        requires { AreFilesOf self.old.end.role.side files.old }
+        ensures converses { Converses S.meaning K.meaning self.old.socket.port
+            (state_of self.old journal.old.events) files.old
+            (state_of self.new journal.new.events) files.new }
+        ensures port { self.new.socket.port ≡ self.old.socket.port }
+        ensures files { AreFilesOf self.new.end.role.side files.new }
+    {
+        let wait = self.due.saturating_sub(self.watch.now).min(LONGEST_WAIT);
+        let received = self
+            .socket
+            .receive(journal, wait, self.buffer.as_mut_slice());
+        read_watch(clock, journal, &mut self.watch);
+        match received {
+            Some((from, count)) => self.take_datagram(journal, files, from, count),
+            None => NO_STEP,
         }
     }
 
-    /// Takes the datagram in the buffer, and sends what goes out. One for whose handling there is
-    /// no memory is a lost one.
+    /// Handles the datagram in the buffer, and sends the answer. One for whose handling there is no
+    /// memory is a lost one.
     fn take_datagram<S: Source, K: Sink>(
         &mut self,
+        journal: &mut Journal,
         files: &mut Files<S, K>,
         from: Endpoint,
         count: usize,
     ) -> Step
         requires files { AreFilesOf self.old.end.role.side files.old }
         requires count { count ≤ length self.old.buffer.items }
-        ensures { AreFilesOf self.new.end.role.side files.new }
+        ensures handles { Handles S.meaning K.meaning self.old.socket.port
+            from (take count self.old.buffer.items)
+            (state_of self.old journal.old.events) files.old
+            (state_of self.new journal.new.events) files.new }
+        ensures port { self.new.socket.port ≡ self.old.socket.port }
+        ensures files { AreFilesOf self.new.end.role.side files.new }
     {
         let bytes = &self.buffer[..count];
         let Ok((step, outgoing)) = self.end.handle_datagram(files, from, bytes) else {
             return NO_STEP;
         };
-        self.socket.send(&step, self.end.bytes_of(outgoing));
-        if let Some(Outcome::PeerError(_)) = step.closed {
-            self.peer_reason = error_line(self.alloc, bytes);
-        }
-        if step.progress && self.lines.is_some() && self.total.is_none() {
-            self.total = stated_length(bytes);
-        }
+        reply(&self.socket, journal, step.to, self.end.bytes_of(outgoing));
+        self.due = due_after(step.progress, self.watch.now, self.end.interval(), self.due);
+        note_peer_reason(&mut self.peer_reason, self.alloc, &step, bytes);
+        note_total(&mut self.total, self.lines.is_some(), &step, bytes);
         step
     }
 
-    /// Has the end's file do its work, once the datagram is out.
+    /// Has the end's file do its work, once the datagram is sent.
     fn work<S: Source, K: Sink>(&self, files: &mut Files<S, K>)
         requires { AreFilesOf self.now.end.role.side files.old }
-        ensures { AreFilesOf self.now.end.role.side files.new }
+        ensures works { Works S.meaning K.meaning files.old files.new }
+        ensures files { AreFilesOf self.now.end.role.side files.new }
     {
         match files {
             Files::Source(source) => source.read_ahead(),
@@ -184,13 +231,24 @@ impl Conversation {
         }
     }
 
-    /// Takes a timeout, and sends what goes out.
-    fn take_timeout(&mut self)
-        ensures { self.new.end.role.side ≡ self.old.end.role.side }
+    /// Delivers a timeout, if it is due, and sends the answer.
+    fn take_timeout(&mut self, journal: &mut Journal)
+        ensures elapses { MayElapse self.old.socket.port
+            (state_of self.old journal.old.events) (state_of self.new journal.new.events) }
+        ensures port { self.new.socket.port ≡ self.old.socket.port }
+        ensures side { self.new.end.role.side ≡ self.old.end.role.side }
     {
-        if let Ok((step, outgoing)) = self.end.handle_timeout() {
-            self.socket.send(&step, self.end.bytes_of(outgoing));
+        let now = self.watch.now;
+        if !is_due(now, self.due) {
+            return;
         }
+        let seconds = self.end.interval();
+        let Ok((step, outgoing)) = self.end.handle_timeout() else {
+            return;
+        };
+        self.due = deadline(now, Some(seconds));
+        journal.elapsed(self.socket.port(), now);
+        reply(&self.socket, journal, step.to, self.end.bytes_of(outgoing));
     }
 
     /// How far the transfer came: full blocks, since the last one is no wait's.
@@ -209,7 +267,10 @@ impl Conversation {
 
     /// Shows how far the transfer came, if that is due.
     fn show<E: Eprint>(&mut self, rt: &E)
-        ensures { self.new.end ≡ self.old.end }
+        ensures end { self.new.end ≡ self.old.end }
+        ensures now { self.new.watch.now ≡ self.old.watch.now }
+        ensures due { self.new.due ≡ self.old.due }
+        ensures port { self.new.socket.port ≡ self.old.socket.port }
     {
         let Some(lines) = &mut self.lines else {
             return;
@@ -236,6 +297,47 @@ impl Conversation {
     /// The ERROR by which the peer gave up, if it did.
     pub(crate) fn into_peer_reason(self) -> Reason {
         self.peer_reason
+    }
+}
+
+/// Sends what a step says, if it says where to.
+pub(crate) fn reply(
+    socket: &ClientSocket,
+    journal: &mut Journal,
+    to: Option<Endpoint>,
+    bytes: &[u8],
+)
+    ensures { journal.new.events ≡ replied socket.now.port to bytes.now journal.old.events }
+{
+    match to {
+        Some(to) => socket.send(journal, to, bytes),
+        None => {}
+    }
+}
+
+/// When an end is due after a step at this time, in milliseconds: progress begins another wait of
+/// the agreed seconds (RFC 2349, "Timeout Interval Option Specification").
+fn due_after(progress: bool, now: u64, seconds: u8, due: u64) -> u64
+    ensures { result ≡ due_after progress now seconds due }
+{
+    if progress {
+        deadline(now, Some(seconds))
+    } else {
+        due
+    }
+}
+
+/// Notes the ERROR by which the peer gave up, if the step says that it did.
+fn note_peer_reason(reason: &mut Reason, alloc: Global, step: &Step, bytes: &[u8]) {
+    if let Some(Outcome::PeerError(_)) = step.closed {
+        *reason = error_line(alloc, bytes);
+    }
+}
+
+/// Notes the length of the whole file that the peer states, where it is shown.
+fn note_total(total: &mut Option<u64>, shows: bool, step: &Step, bytes: &[u8]) {
+    if step.progress && shows && total.is_none() {
+        *total = stated_length(bytes);
     }
 }
 

@@ -1,0 +1,40 @@
+-- A datagram: its step and its answer, or none.
+use Rattle.std.proofs.Common.{◌∙◌, ap, refl, ℕ, List, take, sym, subst}
+use Rattle.tftp_ends.specs.End.{EndState, interval_of, terms_of}
+use Rattle.tftp_ends.specs.Step.{told}
+use Rattle.tftp_ends.specs.declared.record.Step.{Step}
+use Rattle.tftp_client.specs.Conversation.{state_of}
+use Rattle.tftp_client.specs.Converses.{Handles, State, due_after, turned}
+use Rattle.tftp_client.specs.Converses.Handles.{Answers, Loses}
+use Rattle.tftp_client.proofs.Conversing.{lost, not_refused, replies, state_is}
+use Rattle.tftp_client.proofs.transfer.conversation.Conversation.take_datagram.Goals as goal
+
+pub returns-in_default-clause-handles : goal.returns-in_default-clause-handles
+returns-in_default-clause-handles g c =
+    let port = c.args.self.now.socket.port in
+    let s : State = state_of c.args.self.now c.args.journal.now.events in
+    let handles : List ℕ → State → Type 0 = λ b t. Handles g.S.Source.meaning g.K.Sink.meaning port c.args.from (take c.args.count b) s c.args.files.now t c.handle_datagram.new.files in
+    let At : State → Type 0 = λ t. handles c.args.self.now.buffer.items t in
+    let Of : List ℕ → Type 0 = λ b. handles b s in
+    subst At (state_is (sym c.in_default.ensures.err.0) refl refl refl)
+    (subst Of c.deref.ensures.value
+    (Loses (lost c.in_default.field-0 c.args.from (take c.args.count c.deref.result.now) s.end c.in_default.ensures.closed c.in_default.ensures.memory) c.in_default.ensures.err.1))
+
+pub returns-clause-handles : goal.returns-clause-handles
+returns-clause-handles g c =
+    let port = c.args.self.now.socket.port in
+    let s : State = state_of c.args.self.now c.args.journal.now.events in
+    let handles : List ℕ → State → Type 0 = λ b t. Handles g.S.Source.meaning g.K.Sink.meaning port c.args.from (take c.args.count b) s c.args.files.now t c.handle_datagram.new.files in
+    let At : State → Type 0 = λ t. handles c.args.self.now.buffer.items t in
+    let turn = c.in-Ok.ensures.steps.0 in
+    let datagram = c.in-Ok.ensures.steps.1 in
+    let lends = c.in-Ok.ensures.steps.2 in
+    let says = c.in-Ok.ensures.steps.3 in
+    let sent = replies port turn.reply c.reply.ensures lends.goes (c.bytes_of.ensures ∙ lends.bytes) refl in
+    let seconds = c.interval.ensures ∙ ap (λ (e : EndState). interval_of (terms_of e.position.phase)) lends.state in
+    let due = c.due_after-self.ensures
+    ∙ (ap (λ (t : Step). due_after t.progress s.now c.interval.result s.due) says
+    ∙ ap (λ (n : ℕ). due_after (told s.end turn).progress s.now n s.due) seconds) in
+    let Of : List ℕ → Type 0 = λ b. handles b (turned port turn s) in
+    subst At (sym (state_is lends.state refl due sent))
+    (subst Of c.deref.ensures.value (Answers (not_refused _ _ c.in-Ok.ensures.closed) datagram))

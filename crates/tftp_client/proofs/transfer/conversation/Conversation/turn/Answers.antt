@@ -1,0 +1,16 @@
+-- A wait, and then the file's work or the timeout that is due.
+use Rattle.std.proofs.Common.{ℕ, subst}
+use Rattle.tftp_client.specs.Conversation.{state_of}
+use Rattle.tftp_client.specs.Converses.{MayElapse, State}
+use Rattle.tftp_client.specs.Converses.Converses.{Rests, Times}
+use Rattle.tftp_client.proofs.transfer.conversation.Conversation.turn.Goals as goal
+
+pub returns-then-step-clause-converses : goal.returns-then-step-clause-converses
+returns-then-step-clause-converses g c = Rests c.take_received-step.ensures.converses c.work.ensures.works
+
+pub returns-clause-converses : goal.returns-clause-converses
+returns-clause-converses g c =
+    let s : State = state_of c.take_received-step.new.self c.take_received-step.new.journal.events in
+    let next : State = state_of c.take_timeout.new.self c.take_timeout.new.journal.events in
+    let Of : ℕ → Type 0 = λ p. MayElapse p s next in
+    Times {s = s} c.take_received-step.ensures.converses (subst Of c.take_received-step.ensures.port c.take_timeout.ensures.elapses)
