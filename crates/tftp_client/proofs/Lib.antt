@@ -1,1 +1,2 @@
 pub mod Conversing
+pub mod Running

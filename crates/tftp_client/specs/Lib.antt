@@ -1,3 +1,4 @@
 pub mod Conversation
 pub mod Converses
 pub mod Reason
+pub mod Runs

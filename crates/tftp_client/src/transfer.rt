@@ -4,14 +4,19 @@ mod completed;
 mod conversation;
 mod failure;
 
-ghost use Rattle.std.specs.Prelude.{◌≡◌, true, false, IfOk};
+ghost use Rattle.std.specs.Prelude.{ℕ, ◌≡◌, IfOk, IfErr, IsTrue};
+ghost use Rattle.tftp_negotiate.specs.declared.known.Kind.TheVariants.{Read, Write};
 ghost use Rattle.tftp_ends.specs.Files.{AreFilesOf};
-ghost use Rattle.tftp_ends.specs.End.{is_sender};
-ghost use Rattle.tftp_client.specs.Converses.{deadline_at};
+ghost use Rattle.tftp_host.specs.ClientEnd.{status_of};
+ghost use Rattle.tftp_host.specs.declared.client_end.ClientEnd.TheVariants as ends;
+ghost use Rattle.tftp_client.specs.Conversation.{state_of};
+ghost use Rattle.tftp_client.specs.Converses.{Converses, deadline_at};
+ghost use Rattle.tftp_client.specs.Runs.{FailsBy, FailsEnd, FailsTransfer, MayFallBack, Runs};
+ghost use Rattle.tftp_client.specs.Runs.{RunsJob, Stops, Transfers, begun, measured, opens, plain, sent_from};
 
 use crate::local::{LocalFile, LocalSource, Outbound, read_error};
 pub(crate) use crate::transfer::completed::Completed;
-use crate::transfer::conversation::{Conversation, reply};
+use crate::transfer::conversation::Conversation;
 pub(crate) use crate::transfer::failure::Failure;
 use crate::transfer::failure::Reason;
 use crate::udp::Udp;
@@ -21,8 +26,8 @@ use std::net::{Ipv4Addr, SocketAddr};
 use std::rt::Files as FileSystem;
 use std::time::Clock;
 use tftp_ends::{End, EndConfig, Endpoint, Outcome};
-use tftp_file::{Files, MAX_WIRE};
-use tftp_host::{ClientOutcome, fallback};
+use tftp_file::{Files, MAX_WIRE, Sink, Source};
+use tftp_host::{ClientEnd, fallback};
 use tftp_negotiate::{Asked, Kind, Limits, MAX_BLOCK};
 use tftp_sockets::{ClientSocket, Journal};
 use tftp_wire::Mode;
@@ -52,7 +57,10 @@ pub(crate) struct Job<'a> {
 
 impl Job<'_> {
     /// What an end is set to: it takes whatever a server agrees to.
-    fn config(&self) -> EndConfig {
+    fn config(&self) -> EndConfig
+        ensures limit { result.limits.max_file ≡ MAX_WIRE }
+        ensures retries { result.retries ≡ self.now.retries }
+    {
         EndConfig {
             limits: Limits {
                 max_block: MAX_BLOCK,
@@ -69,20 +77,43 @@ pub(crate) fn transfer<R: FileSystem + Clone + Drop + Udp + Clock + Eprint>(
     alloc: Global,
     job: &Job<'_>,
     journal: &mut Journal,
-) -> Result<Completed<R>, Failure> {
+) -> Result<Completed<R>, Failure>
+    ensures ok { IfOk result (λ completed. Transfers ⟦<LocalSource<R::File> as Source>⟧.meaning ⟦<LocalFile<R> as Sink>⟧.meaning job.now
+        journal.old.events (state_of completed.conversation journal.new.events) completed.files) }
+    ensures err { IfErr result (λ failure. FailsTransfer ⟦<LocalSource<R::File> as Source>⟧.meaning ⟦<LocalFile<R> as Sink>⟧.meaning job.now
+        journal.old.events journal.new.events failure.end) }
+{
     let failure = match transfer_once(rt, alloc, job, journal) {
-        Ok(count) => return Ok(count),
+        Ok(completed) => return Ok(completed),
         Err(failure) => failure,
     };
-    match failure.end {
-        ClientOutcome::Failed(outcome) if job.falls_back && fallback(outcome, &job.asked) => {
-            let plain = Job {
-                asked: Asked::default(),
-                ..*job
-            };
-            transfer_once(rt, alloc, &plain, journal)
-        }
-        _ => Err(failure),
+    if !falls_back(job, failure.end) {
+        return Err(failure);
+    }
+    transfer_once(rt, alloc, &plain(job), journal)
+}
+
+/// Whether a job that ended so is tried again without options.
+fn falls_back(job: &Job<'_>, end: ClientEnd) -> bool
+    ensures { IsTrue result → MayFallBack job.now end }
+{
+    match end {
+        ClientEnd::Failed(outcome) => job.falls_back && fallback(outcome, &job.asked),
+        _ => false,
+    }
+}
+
+/// The job without options.
+fn plain<'a>(job: &Job<'a>) -> Job<'a>
+    ensures { result ≡ plain job.now }
+{
+    Job {
+        asked: Asked {
+            blksize: None,
+            timeout: None,
+            tsize: None,
+        },
+        ..*job
     }
 }
 
@@ -92,7 +123,12 @@ fn transfer_once<R: FileSystem + Clone + Drop + Udp + Clock + Eprint>(
     alloc: Global,
     job: &Job<'_>,
     journal: &mut Journal,
-) -> Result<Completed<R>, Failure> {
+) -> Result<Completed<R>, Failure>
+    ensures ok { IfOk result (λ completed. RunsJob ⟦<LocalSource<R::File> as Source>⟧.meaning ⟦<LocalFile<R> as Sink>⟧.meaning job.now
+        journal.old.events (state_of completed.conversation journal.new.events) completed.files) }
+    ensures err { IfErr result (λ failure. FailsBy ⟦<LocalSource<R::File> as Source>⟧.meaning ⟦<LocalFile<R> as Sink>⟧.meaning job.now
+        journal.old.events journal.new.events failure.end) }
+{
     match job.kind {
         Kind::Read => get(rt, alloc, job, journal),
         Kind::Write => put(rt, alloc, job, journal),
@@ -105,7 +141,13 @@ fn get<R: FileSystem + Clone + Drop + Udp + Clock + Eprint>(
     alloc: Global,
     job: &Job<'_>,
     journal: &mut Journal,
-) -> Result<Completed<R>, Failure> {
+) -> Result<Completed<R>, Failure>
+    ensures ok { IfOk result (λ completed. Runs ⟦<LocalSource<R::File> as Source>⟧.meaning ⟦<LocalFile<R> as Sink>⟧.meaning
+        (opens Read job.now 0) journal.old.events
+        (state_of completed.conversation journal.new.events) completed.files) }
+    ensures err { IfErr result (λ failure. FailsEnd ⟦<LocalSource<R::File> as Source>⟧.meaning ⟦<LocalFile<R> as Sink>⟧.meaning
+        (opens Read job.now 0) journal.old.events journal.new.events failure.end) }
+{
     match create_local(rt, alloc, job.local) {
         Ok(local) => get_into(rt, alloc, job, local, journal),
         Err(failure) => Err(failure),
@@ -117,7 +159,9 @@ fn create_local<R: FileSystem + Clone + Drop>(
     rt: &R,
     alloc: Global,
     path: &str,
-) -> Result<LocalFile<R>, Failure> {
+) -> Result<LocalFile<R>, Failure>
+    ensures { IfErr result (λ failure. status_of failure.end ≡ 2) }
+{
     let Ok(system) = rt.clone() else {
         return Err(Failure::memory());
     };
@@ -134,7 +178,13 @@ fn get_into<N: Udp + Clock + Eprint, R: FileSystem + Drop>(
     job: &Job<'_>,
     local: LocalFile<R>,
     journal: &mut Journal,
-) -> Result<Completed<R>, Failure> {
+) -> Result<Completed<R>, Failure>
+    ensures ok { IfOk result (λ completed. Runs ⟦<LocalSource<R::File> as Source>⟧.meaning ⟦<LocalFile<R> as Sink>⟧.meaning
+        (opens Read job.now 0) journal.old.events
+        (state_of completed.conversation journal.new.events) completed.files) }
+    ensures err { IfErr result (λ failure. FailsEnd ⟦<LocalSource<R::File> as Source>⟧.meaning ⟦<LocalFile<R> as Sink>⟧.meaning
+        (opens Read job.now 0) journal.old.events journal.new.events failure.end) }
+{
     match ask_to_get(rt, alloc, job, journal) {
         Ok(conversation) => converse(rt, conversation, Files::Sink(local), 0, journal),
         Err(failure) => Err(failure),
@@ -148,7 +198,10 @@ fn ask_to_get<N: Udp + Clock>(
     job: &Job<'_>,
     journal: &mut Journal,
 ) -> Result<Conversation, Failure>
-    ensures { IfOk result (λ conversation. is_sender conversation.end.role.side ≡ false) }
+    ensures begins { IfOk result (λ conversation. state_of conversation journal.new.events
+        ≡ begun conversation.socket.port (opens Read job.now 0) journal.old.events) }
+    ensures err { IfErr result (λ failure. (status_of failure.end ≡ 2)
+        × (journal.new.events ≡ journal.old.events)) }
 {
     let socket = bind_socket(rt)?;
     let mut out = Vec::new(alloc);
@@ -162,37 +215,42 @@ fn ask_to_get<N: Udp + Clock>(
         &mut out,
     );
     match opened {
-        Ok((end, step)) => {
-            reply(&socket, journal, step.to, out.as_slice());
-            begin(rt, alloc, socket, end, job.shows_progress, None)
-        }
+        Ok((end, _)) => begin(rt, alloc, journal, job, socket, end, out.as_slice(), None),
         Err(fault) => Err(Failure::of_opening(fault)),
     }
 }
 
 /// The socket of a transfer: a port of the system's choice at every address of this host.
-fn bind_socket<N: Udp>(net: &N) -> Result<ClientSocket, Failure> {
+fn bind_socket<N: Udp>(net: &N) -> Result<ClientSocket, Failure>
+    ensures { IfErr result (λ failure. status_of failure.end ≡ 2) }
+{
     match net.bind(SocketAddr::from((Ipv4Addr::UNSPECIFIED, 0))) {
         Ok(socket) => Ok(socket),
         Err(error) => Err(Failure::of_socket(error)),
     }
 }
 
-/// The conversation of an end whose request was sent.
+/// The conversation of an end, once its request is sent.
 fn begin<C: Clock>(
     clock: &C,
     alloc: Global,
+    journal: &mut Journal,
+    job: &Job<'_>,
     socket: ClientSocket,
     end: End,
-    shows_progress: bool,
+    request: &[u8],
     total: Option<u64>,
 ) -> Result<Conversation, Failure>
-    ensures { IfOk result (λ conversation. (conversation.end ≡ end)
-        × (conversation.socket.port ≡ socket.port) × (conversation.watch.now ≡ 0)
-        × (conversation.due ≡ deadline_at 0 end)) }
+    ensures begins { IfOk result (λ conversation. state_of conversation journal.new.events
+        ≡ sent_from conversation.socket.port end job.now.server request.now journal.old.events) }
+    ensures err { IfErr result (λ failure. (status_of failure.end ≡ 2)
+        × (journal.new.events ≡ journal.old.events)) }
 {
-    match Conversation::new(clock, alloc, socket, end, shows_progress, total) {
-        Ok(conversation) => Ok(conversation),
+    match Conversation::new(clock, alloc, socket, end, job.shows_progress, total) {
+        Ok(conversation) => {
+            conversation.socket.send(journal, job.server, request);
+            Ok(conversation)
+        }
         Err(_) => Err(Failure::memory()),
     }
 }
@@ -203,7 +261,13 @@ fn put<R: FileSystem + Clone + Drop + Udp + Clock + Eprint>(
     alloc: Global,
     job: &Job<'_>,
     journal: &mut Journal,
-) -> Result<Completed<R>, Failure> {
+) -> Result<Completed<R>, Failure>
+    ensures ok { IfOk result (λ completed. (length : ℕ) × Runs ⟦<LocalSource<R::File> as Source>⟧.meaning ⟦<LocalFile<R> as Sink>⟧.meaning
+        (opens Write job.now length) journal.old.events
+        (state_of completed.conversation journal.new.events) completed.files) }
+    ensures err { IfErr result (λ failure. (length : ℕ) × FailsEnd ⟦<LocalSource<R::File> as Source>⟧.meaning ⟦<LocalFile<R> as Sink>⟧.meaning
+        (opens Write job.now length) journal.old.events journal.new.events failure.end) }
+{
     match Outbound::open(rt, alloc, job.local, job.mode) {
         Ok(outbound) => put_from(rt, alloc, job, outbound, journal),
         Err(error) => Err(Failure::of_file(error)),
@@ -217,7 +281,13 @@ fn put_from<R: FileSystem + Drop + Udp + Clock + Eprint>(
     job: &Job<'_>,
     outbound: Outbound<R::File>,
     journal: &mut Journal,
-) -> Result<Completed<R>, Failure> {
+) -> Result<Completed<R>, Failure>
+    ensures ok { IfOk result (λ completed. Runs ⟦<LocalSource<R::File> as Source>⟧.meaning ⟦<LocalFile<R> as Sink>⟧.meaning
+        (opens Write job.now outbound.wire_bytes) journal.old.events
+        (state_of completed.conversation journal.new.events) completed.files) }
+    ensures err { IfErr result (λ failure. FailsEnd ⟦<LocalSource<R::File> as Source>⟧.meaning ⟦<LocalFile<R> as Sink>⟧.meaning
+        (opens Write job.now outbound.wire_bytes) journal.old.events journal.new.events failure.end) }
+{
     match ask_to_put(rt, alloc, job, outbound.wire_bytes, journal) {
         Ok(conversation) => {
             let files: Files<LocalSource<R::File>, LocalFile<R>> = Files::Source(outbound.source);
@@ -235,13 +305,13 @@ fn ask_to_put<N: Udp + Clock>(
     length: u64,
     journal: &mut Journal,
 ) -> Result<Conversation, Failure>
-    ensures { IfOk result (λ conversation. is_sender conversation.end.role.side ≡ true) }
+    ensures begins { IfOk result (λ conversation. state_of conversation journal.new.events
+        ≡ begun conversation.socket.port (opens Write job.now length) journal.old.events) }
+    ensures err { IfErr result (λ failure. (status_of failure.end ≡ 2)
+        × (journal.new.events ≡ journal.old.events)) }
 {
     let socket = bind_socket(rt)?;
-    let asked = Asked {
-        tsize: job.asked.tsize.map(|_| length),
-        ..job.asked
-    };
+    let asked = measured(&job.asked, length);
     let mut out = Vec::new(alloc);
     let opened = End::put(
         alloc,
@@ -254,11 +324,21 @@ fn ask_to_put<N: Udp + Clock>(
         &mut out,
     );
     match opened {
-        Ok((end, step)) => {
-            reply(&socket, journal, step.to, out.as_slice());
-            begin(rt, alloc, socket, end, job.shows_progress, Some(length))
+        Ok((end, _)) => {
+            let total = Some(length);
+            begin(rt, alloc, journal, job, socket, end, out.as_slice(), total)
         }
         Err(fault) => Err(Failure::of_opening(fault)),
+    }
+}
+
+/// The options that are asked of a server, where the file has that length on the wire.
+fn measured(asked: &Asked, length: u64) -> Asked
+    ensures { result ≡ measured asked.now length }
+{
+    Asked {
+        tsize: asked.tsize.map(|_| length),
+        ..*asked
     }
 }
 
@@ -271,6 +351,12 @@ fn converse<C: Clock + Eprint, R: FileSystem + Drop>(
     journal: &mut Journal,
 ) -> Result<Completed<R>, Failure>
     requires { AreFilesOf conversation.end.role.side files }
+    ensures ok { IfOk result (λ completed. Converses ⟦<LocalSource<R::File> as Source>⟧.meaning ⟦<LocalFile<R> as Sink>⟧.meaning
+        conversation.socket.port (state_of conversation journal.old.events) files
+        (state_of completed.conversation journal.new.events) completed.files) }
+    ensures err { IfErr result (λ failure. Stops ⟦<LocalSource<R::File> as Source>⟧.meaning ⟦<LocalFile<R> as Sink>⟧.meaning
+        conversation.socket.port (state_of conversation journal.old.events) files
+        journal.new.events failure.end) }
 {
     let ended = conversation.run(rt, journal, &mut files);
     let stored = stored(&files);
@@ -298,13 +384,15 @@ fn failed<R: FileSystem + Drop>(
     outcome: Outcome,
     files: Files<LocalSource<R::File>, LocalFile<R>>,
     peer: Reason,
-) -> Failure {
+) -> Failure
+    ensures { result.end ≡ ends.Failed outcome }
+{
     let error = match files {
         Files::Sink(local) => local.into_error(),
         Files::Source(source) => read_error(source),
     };
     Failure {
-        end: ClientOutcome::Failed(outcome),
+        end: ClientEnd::Failed(outcome),
         reason: match error {
             Some(error) => Reason::System(error),
             None => peer,

@@ -36,7 +36,7 @@ const NO_STEP: Step = Step {
 #[derive(Drop)]
 pub(crate) struct Conversation {
     alloc: Global,
-    socket: ClientSocket,
+    pub(crate) socket: ClientSocket,
     end: End,
     watch: Watch,
     due: u64,
@@ -231,17 +231,28 @@ impl Conversation {
         }
     }
 
-    /// Delivers a timeout, if it is due, and sends the answer.
+    /// Delivers a timeout, if it is due.
     fn take_timeout(&mut self, journal: &mut Journal)
         ensures elapses { MayElapse self.old.socket.port
             (state_of self.old journal.old.events) (state_of self.new journal.new.events) }
         ensures port { self.new.socket.port ≡ self.old.socket.port }
         ensures side { self.new.end.role.side ≡ self.old.end.role.side }
     {
-        let now = self.watch.now;
-        if !is_due(now, self.due) {
+        if !is_due(self.watch.now, self.due) {
             return;
         }
+        self.deliver_timeout(journal);
+    }
+
+    /// Delivers a timeout, and sends the answer.
+    fn deliver_timeout(&mut self, journal: &mut Journal)
+        requires { self.old.due ≤ self.old.watch.now }
+        ensures elapses { MayElapse self.old.socket.port
+            (state_of self.old journal.old.events) (state_of self.new journal.new.events) }
+        ensures port { self.new.socket.port ≡ self.old.socket.port }
+        ensures side { self.new.end.role.side ≡ self.old.end.role.side }
+    {
+        let now = self.watch.now;
         let seconds = self.end.interval();
         let Ok((step, outgoing)) = self.end.handle_timeout() else {
             return;
@@ -301,7 +312,7 @@ impl Conversation {
 }
 
 /// Sends what a step says, if it says where to.
-pub(crate) fn reply(
+fn reply(
     socket: &ClientSocket,
     journal: &mut Journal,
     to: Option<Endpoint>,

@@ -1,31 +1,6 @@
--- A timeout that is due: its step, its note and its answer.
-use Rattle.std.proofs.Common.{◌∙◌, ap, refl, ◌∷◌, ℕ, Some, sym, subst}
-use Rattle.tftp_ends.specs.Step.{timeout_turn}
-use Rattle.tftp_host.specs.Watch.{deadline_of}
-use Rattle.tftp_client.specs.Conversation.{state_of}
-use Rattle.tftp_client.specs.Converses.{MayElapse, State}
-use Rattle.tftp_client.specs.Converses.MayElapse.{Stays, Elapses}
-use Rattle.tftp_sockets.specs.Journal.Event.{Elapsed}
-use Rattle.tftp_client.proofs.Conversing.{not_refused, replies, state_is}
+-- No timeout is due.
+use Rattle.tftp_client.specs.Converses.MayElapse.{Stays}
 use Rattle.tftp_client.proofs.transfer.conversation.Conversation.take_timeout.Goals as goal
 
 pub returns-then-not-is_due-clause-elapses : goal.returns-then-not-is_due-clause-elapses
 returns-then-not-is_due-clause-elapses c = Stays
-
-pub returns-in_default-clause-elapses : goal.returns-in_default-clause-elapses
-returns-in_default-clause-elapses c =
-    let s : State = state_of c.args.self.now c.args.journal.now.events in
-    let At : State → Type 0 = λ t. MayElapse c.args.self.now.socket.port s t in
-    subst At (state_is (sym c.in_default.ensures.err) refl refl refl) Stays
-
-pub returns-clause-elapses : goal.returns-clause-elapses
-returns-clause-elapses c =
-    let port = c.args.self.now.socket.port in
-    let s : State = state_of c.args.self.now c.args.journal.now.events in
-    let At : State → Type 0 = λ t. MayElapse port s t in
-    let lends = c.in-Ok.ensures.steps.0 in
-    let noted = c.elapsed.ensures ∙ ap (λ (p : ℕ). Elapsed p s.now ∷ s.events) c.port.ensures in
-    let sent = replies port (timeout_turn s.end).reply c.reply.ensures lends.goes (c.bytes_of.ensures ∙ lends.bytes) noted in
-    let due = c.deadline-self.ensures.value ∙ ap (λ (n : ℕ). deadline_of s.now (Some n)) c.interval-seconds.ensures in
-    subst At (sym (state_is lends.state refl due sent))
-    (Elapses (c.is_due.ensures.0 c.if-not-is_due.false) (not_refused _ _ c.in-Ok.ensures.closed))

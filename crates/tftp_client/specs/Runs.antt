@@ -1,0 +1,102 @@
+-- What the program did for a job: the run of one end from its request on, or of two, where the first refused options.
+use Rattle.std.specs.Prelude.{ℕ, ◌≡◌, ◌⊎◌, true, List, ◌∷◌, Option, None, option_map}
+use Rattle.tftp_negotiate.specs.declared.asked.Asked.{Asked}
+use Rattle.tftp_negotiate.specs.declared.known.Kind.{Kind}
+use Rattle.tftp_negotiate.specs.declared.known.Kind.TheVariants.{Read, Write}
+use Rattle.tftp_file.specs.Sink.{SinkMeaning}
+use Rattle.tftp_file.specs.Source.{SourceMeaning}
+use Rattle.tftp_file.specs.declared.files.Files.{Files}
+use Rattle.tftp_file.specs.declared.length.TheConstants.{MAX_WIRE}
+use Rattle.tftp_ends.specs.End.{EndState}
+use Rattle.tftp_ends.specs.Opening.{getting, putting}
+use Rattle.tftp_ends.specs.declared.endpoint.Endpoint.{Endpoint}
+use Rattle.tftp_ends.specs.declared.outcome.Outcome.{Outcome}
+use Rattle.tftp_host.specs.Fallback.{FallsBack}
+use Rattle.tftp_host.specs.declared.client_end.ClientEnd.{ClientEnd}
+use Rattle.tftp_host.specs.declared.client_end.ClientEnd.TheVariants as ends
+use Rattle.tftp_sockets.specs.Journal.{Event}
+use Rattle.tftp_sockets.specs.Journal.Event.{Sent}
+use Rattle.tftp_client.specs.declared.transfer.Job.{Job}
+use Rattle.tftp_client.specs.Converses.{Converses, EndsBy, State, deadline_at}
+
+-- a client whose end opened, once its request was sent from the port (RFC 1350, section 4)
+abbrev pub sent_from : ℕ → EndState → Endpoint → List ℕ → List Event → State
+sent_from port end to bytes before =
+    record { end = end; now = 0; due = deadline_at 0 end; events = Sent port to bytes ∷ before }
+
+abbrev pub begun : ℕ → EndState → List Event → State
+begun port end before = sent_from port end end.position.last_sent_to end.position.last_sent before
+
+-- the options that a job asks, where the file has that length (RFC 2349, "Transfer Size Option Specification")
+abbrev pub measured : Asked → ℕ → Asked
+measured asked length =
+    record { blksize = asked.blksize; timeout = asked.timeout; tsize = option_map (λ _. length) asked.tsize }
+
+-- the end of a job as it opens: one that reads, or one that writes a file of that length
+abbrev pub opens : Kind → Job → ℕ → EndState
+opens Read job length = getting job.server job.name.now job.mode job.asked MAX_WIRE job.retries
+opens Write job length = putting job.server job.name.now job.mode (measured job.asked length) length MAX_WIRE job.retries
+
+-- a job without options
+abbrev pub plain : Job → Job
+plain job = record job { asked = record { blksize = None; timeout = None; tsize = None } }
+
+-- a job that ended so may be tried without options: ERROR 8 refused them, and the job allows it (RFC 2347)
+abbrev pub MayFallBack : Job → ClientEnd → Type 0
+MayFallBack job (ends.Failed outcome) = (job.falls_back ≡ true) × FallsBack outcome job.asked
+MayFallBack job _ = ⊥
+
+module _ {S K : Type 0} (sources : SourceMeaning S) (sinks : SinkMeaning K) where
+  -- the program did this for an end, from its request on
+  pub record Runs (end : EndState) (before : List Event) (s : State) (files : Files S K) : Type 0 where
+    pub port : ℕ
+    pub file : Files S K
+    pub converses : Converses sources sinks port (begun port end before) file s files
+
+  -- the run of an end from that state stopped, and is not complete
+  pub record StopsBy (port : ℕ) (first : State) (file : Files S K) (after : List Event) (outcome : Outcome) : Type 0 where
+    pub last : State
+    pub files : Files S K
+    pub converses : Converses sources sinks port first file last files
+    pub events : last.events ≡ after
+    pub ends : EndsBy last.end outcome
+
+  -- the same, of how the program ends
+  abbrev pub Stops : ℕ → State → Files S K → List Event → ClientEnd → Type 0
+  Stops port first file after (ends.Failed outcome) = StopsBy port first file after outcome
+  Stops port first file after _ = ⊥
+
+  -- the run of an end from its request on stopped, and is not complete
+  pub record Fails (end : EndState) (before after : List Event) (outcome : Outcome) : Type 0 where
+    pub port : ℕ
+    pub file : Files S K
+    pub stops : StopsBy port (begun port end before) file after outcome
+
+  -- the same, of how the program ends; where no transfer was opened nothing was sent
+  abbrev pub FailsEnd : EndState → List Event → List Event → ClientEnd → Type 0
+  FailsEnd end before after (ends.Failed outcome) = Fails end before after outcome
+  FailsEnd end before after _ = after ≡ before
+
+  -- a job failed so
+  abbrev pub FailsBy : Job → List Event → List Event → ClientEnd → Type 0
+  FailsBy job before after end = (length : ℕ) × FailsEnd (opens job.kind job length) before after end
+
+  -- the run of a job's end
+  abbrev pub RunsJob : Job → List Event → State → Files S K → Type 0
+  RunsJob job before s files = (length : ℕ) × Runs (opens job.kind job length) before s files
+
+  -- a job failed by the run of its end, since its options were refused by ERROR 8, and may be tried without (RFC 2347)
+  pub record Refused (job : Job) (before after : List Event) : Type 0 where
+    pub end : ClientEnd
+    pub fails : FailsBy job before after end
+    pub allowed : MayFallBack job end
+
+  -- a job ran to that state, at once or without its options, once these were refused
+  abbrev pub Transfers : Job → List Event → State → Files S K → Type 0
+  Transfers job before s files =
+      RunsJob job before s files ⊎ ((middle : List Event) × Refused job before middle × RunsJob (plain job) middle s files)
+
+  -- a job failed, at once or without its options, once these were refused
+  abbrev pub FailsTransfer : Job → List Event → List Event → ClientEnd → Type 0
+  FailsTransfer job before after end =
+      FailsBy job before after end ⊎ ((middle : List Event) × Refused job before middle × FailsBy (plain job) middle after end)
