@@ -7,15 +7,16 @@ use Rattle.tftp_file.specs.Sink.{SinkMeaning}
 use Rattle.tftp_file.specs.Source.{SourceMeaning}
 use Rattle.tftp_file.specs.declared.files.Files.{Files}
 use Rattle.tftp_file.specs.declared.length.TheConstants.{MAX_WIRE}
-use Rattle.tftp_ends.specs.End.{EndState}
+use Rattle.tftp_ends.specs.End.{EndState, is_complete}
 use Rattle.tftp_ends.specs.Opening.{getting, putting}
 use Rattle.tftp_ends.specs.declared.endpoint.Endpoint.{Endpoint}
 use Rattle.tftp_ends.specs.declared.outcome.Outcome.{Outcome}
+use Rattle.tftp_host.specs.ClientEnd.{end_text}
 use Rattle.tftp_host.specs.Fallback.{FallsBack}
 use Rattle.tftp_host.specs.declared.client_end.ClientEnd.{ClientEnd}
 use Rattle.tftp_host.specs.declared.client_end.ClientEnd.TheVariants as ends
 use Rattle.tftp_sockets.specs.Journal.{Event}
-use Rattle.tftp_sockets.specs.Journal.Event.{Sent}
+use Rattle.tftp_sockets.specs.Journal.Event.{Printed, Sent}
 use Rattle.tftp_client.specs.declared.transfer.Job.{Job}
 use Rattle.tftp_client.specs.Converses.{Converses, EndsBy, State, deadline_at}
 
@@ -37,6 +38,10 @@ abbrev pub opens : Kind → Job → ℕ → EndState
 opens Read job length = getting job.server job.name.now job.mode job.asked MAX_WIRE job.retries
 opens Write job length = putting job.server job.name.now job.mode (measured job.asked length) length MAX_WIRE job.retries
 
+-- the line of a complete transfer was printed
+abbrev pub printed : ℕ → State → State
+printed count s = record s { events = Printed (end_text (ends.Complete count)) ∷ s.events }
+
 -- a job without options
 abbrev pub plain : Job → Job
 plain job = record job { asked = record { blksize = None; timeout = None; tsize = None } }
@@ -47,9 +52,8 @@ MayFallBack job (ends.Failed outcome) = (job.falls_back ≡ true) × FallsBack o
 MayFallBack job _ = ⊥
 
 module _ {S K : Type 0} (sources : SourceMeaning S) (sinks : SinkMeaning K) where
-  -- the program did this for an end, from its request on
-  pub record Runs (end : EndState) (before : List Event) (s : State) (files : Files S K) : Type 0 where
-    pub port : ℕ
+  -- the program did this for an end at the port, from its request on
+  pub record Runs (port : ℕ) (end : EndState) (before : List Event) (s : State) (files : Files S K) : Type 0 where
     pub file : Files S K
     pub converses : Converses sources sinks port (begun port end before) file s files
 
@@ -82,8 +86,8 @@ module _ {S K : Type 0} (sources : SourceMeaning S) (sinks : SinkMeaning K) wher
   FailsBy job before after end = (length : ℕ) × FailsEnd (opens job.kind job length) before after end
 
   -- the run of a job's end
-  abbrev pub RunsJob : Job → List Event → State → Files S K → Type 0
-  RunsJob job before s files = (length : ℕ) × Runs (opens job.kind job length) before s files
+  abbrev pub RunsJob : ℕ → Job → List Event → State → Files S K → Type 0
+  RunsJob port job before s files = (length : ℕ) × Runs port (opens job.kind job length) before s files
 
   -- a job failed by the run of its end, since its options were refused by ERROR 8, and may be tried without (RFC 2347)
   pub record Refused (job : Job) (before after : List Event) : Type 0 where
@@ -92,11 +96,29 @@ module _ {S K : Type 0} (sources : SourceMeaning S) (sinks : SinkMeaning K) wher
     pub allowed : MayFallBack job end
 
   -- a job ran to that state, at once or without its options, once these were refused
-  abbrev pub Transfers : Job → List Event → State → Files S K → Type 0
-  Transfers job before s files =
-      RunsJob job before s files ⊎ ((middle : List Event) × Refused job before middle × RunsJob (plain job) middle s files)
+  abbrev pub Transfers : ℕ → Job → List Event → State → Files S K → Type 0
+  Transfers port job before s files =
+      RunsJob port job before s files
+      ⊎ ((middle : List Event) × Refused job before middle × RunsJob port (plain job) middle s files)
 
   -- a job failed, at once or without its options, once these were refused
   abbrev pub FailsTransfer : Job → List Event → List Event → ClientEnd → Type 0
   FailsTransfer job before after end =
       FailsBy job before after end ⊎ ((middle : List Event) × Refused job before middle × FailsBy (plain job) middle after end)
+
+  -- the client went on from that state
+  pub record GoesOn (port : ℕ) (first : State) (file : Files S K) (after : List Event) : Type 0 where
+    pub last : State
+    pub files : Files S K
+    pub converses : Converses sources sinks port first file last files
+    pub events : last.events ≡ after
+
+  -- a job is complete: its end is, then its line was printed, and from then on its end stayed (RFC 1350, section 6)
+  pub record Completes (job : Job) (before after : List Event) : Type 0 where
+    pub port : ℕ
+    pub last : State
+    pub files : Files S K
+    pub transfers : Transfers port job before last files
+    pub complete : is_complete last.end.position.phase ≡ true
+    pub count : ℕ
+    pub stays : GoesOn port (printed count last) files after

@@ -1,8 +1,13 @@
 //! The command line of `tftp`.
 
-ghost use Rattle.std.specs.Prelude.{◌≡◌, ◌≤◌, IfOk, IfErr};
-ghost use Rattle.tftp_host.specs.ClientEnd.{status_of};
+ghost use Rattle.std.specs.Prelude.{◌≡◌, ◌≤◌, ◌∷◌, IfOk, IfErr};
+ghost use Rattle.tftp_host.specs.ClientEnd.{end_text, status_of};
+ghost use Rattle.tftp_host.specs.declared.client_end.ClientEnd.TheVariants as ends;
+ghost use Rattle.tftp_sockets.specs.Journal.Event.{Printed as Line};
+ghost use Rattle.tftp_client.specs.Conversation.{state_of};
+ghost use Rattle.tftp_client.specs.Runs.{Completes, GoesOn, printed};
 
+use crate::local::{LocalFile, LocalSource};
 use crate::transfer::{Completed, Failure, Job, transfer};
 use crate::udp::Udp;
 use clap::error::ErrorKind;
@@ -14,7 +19,8 @@ use std::net::Net;
 use std::rt::{Files, Runtime};
 use std::time::Clock;
 use tftp_arguments::{VERSION, flag, number, own_words, print_usage, word};
-use tftp_host::{ClientEnd, endpoint_in};
+use tftp_file::{Sink, Source};
+use tftp_host::endpoint_in;
 use tftp_negotiate::{Asked, DEFAULT_BLOCK, Kind, MAX_BLOCK, MIN_BLOCK};
 use tftp_sockets::{Journal, print_end};
 use tftp_wire::Mode;
@@ -97,7 +103,7 @@ fn run_ordered<R: Files + Clone + Drop + Udp + Clock + Print + Eprint>(
     ensures { IfOk result (λ status. status ≤ 2) }
 {
     match ordered {
-        Ok(order) => Ok(run_order(rt, alloc, order)?),
+        Ok(order) => Ok(run_order(rt, alloc, order, &mut Journal::new())?),
         Err(status) => Ok(*status),
     }
 }
@@ -191,60 +197,67 @@ fn run_order<R: Files + Clone + Drop + Udp + Clock + Print + Eprint>(
     rt: &R,
     alloc: Global,
     order: &Order<'_>,
+    journal: &mut Journal,
 ) -> io::Result<u8>
-    ensures { IfOk result (λ status. status ≤ 2) }
+    ensures status { IfOk result (λ status. status ≤ 2) }
+    ensures complete { IfOk result (λ status. status ≡ 0
+        → Completes ⟦<LocalSource<R::File> as Source>⟧.meaning ⟦<LocalFile<R> as Sink>⟧.meaning
+        order.now.job journal.old.events journal.new.events) }
 {
-    let mut journal = Journal::new();
-    match transfer(rt, alloc, &order.job, &mut journal) {
-        Ok(completed) => conclude(rt, completed, order.lingers, &mut journal),
-        Err(failure) => report(rt, &failure, order.is_verbose, &mut journal),
+    match transfer(rt, alloc, &order.job, journal) {
+        Ok(completed) => conclude(rt, completed, order.lingers, journal),
+        Err(failure) => report(rt, &failure, order.is_verbose),
     }
 }
 
 /// Prints that a transfer is complete, and returns the status; a client that lingers stays for its
-/// last acknowledgement behind that line.
+/// last acknowledgement after that line.
 fn conclude<N: Clock + Print + Eprint, R: Files + Drop>(
     rt: &N,
     completed: Completed<R>,
     lingers: bool,
     journal: &mut Journal,
 ) -> io::Result<u8>
-    ensures { IfOk result (λ status. status ≡ 0) }
+    ensures status { IfOk result (λ status. status ≡ 0) }
+    ensures goes { GoesOn ⟦<LocalSource<R::File> as Source>⟧.meaning
+        ⟦<LocalFile<R> as Sink>⟧.meaning completed.conversation.socket.port
+        (printed completed.count (state_of completed.conversation journal.old.events))
+        completed.files journal.new.events }
 {
-    let printed = report_end(rt, completed.client_end(), journal);
-    if lingers {
-        completed.linger(rt, journal);
+    let status = print_complete(rt, &completed, journal);
+    if !lingers {
+        return status;
     }
-    printed
+    completed.linger(rt, journal);
+    status
 }
 
-/// Prints how a transfer ended, and returns the status.
-fn report_end<R: Print + Eprint>(rt: &R, end: ClientEnd, journal: &mut Journal) -> io::Result<u8>
-    ensures { IfOk result (λ status. status ≡ status_of end) }
+/// Prints that a transfer is complete, and returns the status.
+fn print_complete<P: Print, R: Files + Drop>(
+    rt: &P,
+    completed: &Completed<R>,
+    journal: &mut Journal,
+) -> io::Result<u8>
+    ensures status { IfOk result (λ status. status ≡ 0) }
+    ensures noted { journal.new.events
+        ≡ Line (end_text (ends.Complete completed.now.count)) ∷ journal.old.events }
 {
-    match end {
-        ClientEnd::Complete(_) => print_end(rt, journal, end)?,
-        _ => rt.eprintln(end)?,
-    }
+    let end = completed.client_end();
+    print_end(rt, journal, end)?;
     Ok(end.status())
 }
 
-/// Prints how a transfer failed, and why where that is told too, and returns the status.
-fn report<R: Print + Eprint>(
-    rt: &R,
-    failure: &Failure,
-    is_verbose: bool,
-    journal: &mut Journal,
-) -> io::Result<u8>
+/// Prints how a transfer failed, and why where that is reported too, and returns the status.
+fn report<R: Eprint>(rt: &R, failure: &Failure, is_verbose: bool) -> io::Result<u8>
     ensures status { IfOk result (λ status. status ≡ status_of failure.now.end) }
     ensures fails { IfOk result (λ status. 1 ≤ status) }
 {
-    let status = report_end(rt, failure.end, journal)?;
+    rt.eprintln(failure.end)?;
     if is_verbose {
         let reason = &failure.reason;
         eprintln!(rt; "tftp: {reason}")?;
     }
-    Ok(status)
+    Ok(failure.end.status())
 }
 
 /// What the words of a command line that is understood say, if the address is one.

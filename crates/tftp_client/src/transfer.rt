@@ -78,7 +78,8 @@ pub(crate) fn transfer<R: FileSystem + Clone + Drop + Udp + Clock + Eprint>(
     job: &Job<'_>,
     journal: &mut Journal,
 ) -> Result<Completed<R>, Failure>
-    ensures ok { IfOk result (λ completed. Transfers ⟦<LocalSource<R::File> as Source>⟧.meaning ⟦<LocalFile<R> as Sink>⟧.meaning job.now
+    ensures ok { IfOk result (λ completed. Transfers ⟦<LocalSource<R::File> as Source>⟧.meaning ⟦<LocalFile<R> as Sink>⟧.meaning
+        completed.conversation.socket.port job.now
         journal.old.events (state_of completed.conversation journal.new.events) completed.files) }
     ensures err { IfErr result (λ failure. FailsTransfer ⟦<LocalSource<R::File> as Source>⟧.meaning ⟦<LocalFile<R> as Sink>⟧.meaning job.now
         journal.old.events journal.new.events failure.end) }
@@ -124,7 +125,8 @@ fn transfer_once<R: FileSystem + Clone + Drop + Udp + Clock + Eprint>(
     job: &Job<'_>,
     journal: &mut Journal,
 ) -> Result<Completed<R>, Failure>
-    ensures ok { IfOk result (λ completed. RunsJob ⟦<LocalSource<R::File> as Source>⟧.meaning ⟦<LocalFile<R> as Sink>⟧.meaning job.now
+    ensures ok { IfOk result (λ completed. RunsJob ⟦<LocalSource<R::File> as Source>⟧.meaning ⟦<LocalFile<R> as Sink>⟧.meaning
+        completed.conversation.socket.port job.now
         journal.old.events (state_of completed.conversation journal.new.events) completed.files) }
     ensures err { IfErr result (λ failure. FailsBy ⟦<LocalSource<R::File> as Source>⟧.meaning ⟦<LocalFile<R> as Sink>⟧.meaning job.now
         journal.old.events journal.new.events failure.end) }
@@ -143,7 +145,7 @@ fn get<R: FileSystem + Clone + Drop + Udp + Clock + Eprint>(
     journal: &mut Journal,
 ) -> Result<Completed<R>, Failure>
     ensures ok { IfOk result (λ completed. Runs ⟦<LocalSource<R::File> as Source>⟧.meaning ⟦<LocalFile<R> as Sink>⟧.meaning
-        (opens Read job.now 0) journal.old.events
+        completed.conversation.socket.port (opens Read job.now 0) journal.old.events
         (state_of completed.conversation journal.new.events) completed.files) }
     ensures err { IfErr result (λ failure. FailsEnd ⟦<LocalSource<R::File> as Source>⟧.meaning ⟦<LocalFile<R> as Sink>⟧.meaning
         (opens Read job.now 0) journal.old.events journal.new.events failure.end) }
@@ -180,7 +182,7 @@ fn get_into<N: Udp + Clock + Eprint, R: FileSystem + Drop>(
     journal: &mut Journal,
 ) -> Result<Completed<R>, Failure>
     ensures ok { IfOk result (λ completed. Runs ⟦<LocalSource<R::File> as Source>⟧.meaning ⟦<LocalFile<R> as Sink>⟧.meaning
-        (opens Read job.now 0) journal.old.events
+        completed.conversation.socket.port (opens Read job.now 0) journal.old.events
         (state_of completed.conversation journal.new.events) completed.files) }
     ensures err { IfErr result (λ failure. FailsEnd ⟦<LocalSource<R::File> as Source>⟧.meaning ⟦<LocalFile<R> as Sink>⟧.meaning
         (opens Read job.now 0) journal.old.events journal.new.events failure.end) }
@@ -263,7 +265,7 @@ fn put<R: FileSystem + Clone + Drop + Udp + Clock + Eprint>(
     journal: &mut Journal,
 ) -> Result<Completed<R>, Failure>
     ensures ok { IfOk result (λ completed. (length : ℕ) × Runs ⟦<LocalSource<R::File> as Source>⟧.meaning ⟦<LocalFile<R> as Sink>⟧.meaning
-        (opens Write job.now length) journal.old.events
+        completed.conversation.socket.port (opens Write job.now length) journal.old.events
         (state_of completed.conversation journal.new.events) completed.files) }
     ensures err { IfErr result (λ failure. (length : ℕ) × FailsEnd ⟦<LocalSource<R::File> as Source>⟧.meaning ⟦<LocalFile<R> as Sink>⟧.meaning
         (opens Write job.now length) journal.old.events journal.new.events failure.end) }
@@ -283,7 +285,7 @@ fn put_from<R: FileSystem + Drop + Udp + Clock + Eprint>(
     journal: &mut Journal,
 ) -> Result<Completed<R>, Failure>
     ensures ok { IfOk result (λ completed. Runs ⟦<LocalSource<R::File> as Source>⟧.meaning ⟦<LocalFile<R> as Sink>⟧.meaning
-        (opens Write job.now outbound.wire_bytes) journal.old.events
+        completed.conversation.socket.port (opens Write job.now outbound.wire_bytes) journal.old.events
         (state_of completed.conversation journal.new.events) completed.files) }
     ensures err { IfErr result (λ failure. FailsEnd ⟦<LocalSource<R::File> as Source>⟧.meaning ⟦<LocalFile<R> as Sink>⟧.meaning
         (opens Write job.now outbound.wire_bytes) journal.old.events journal.new.events failure.end) }
@@ -351,7 +353,9 @@ fn converse<C: Clock + Eprint, R: FileSystem + Drop>(
     journal: &mut Journal,
 ) -> Result<Completed<R>, Failure>
     requires { AreFilesOf conversation.end.role.side files }
-    ensures ok { IfOk result (λ completed. Converses ⟦<LocalSource<R::File> as Source>⟧.meaning ⟦<LocalFile<R> as Sink>⟧.meaning
+    ensures ok { IfOk result (λ completed.
+        (completed.conversation.socket.port ≡ conversation.socket.port)
+        × Converses ⟦<LocalSource<R::File> as Source>⟧.meaning ⟦<LocalFile<R> as Sink>⟧.meaning
         conversation.socket.port (state_of conversation journal.old.events) files
         (state_of completed.conversation journal.new.events) completed.files) }
     ensures err { IfErr result (λ failure. Stops ⟦<LocalSource<R::File> as Source>⟧.meaning ⟦<LocalFile<R> as Sink>⟧.meaning

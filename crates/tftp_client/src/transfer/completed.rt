@@ -9,7 +9,7 @@ use crate::local::{LocalFile, LocalSource};
 use crate::transfer::conversation::Conversation;
 use std::rt::Files as FileSystem;
 use std::time::Clock;
-use tftp_file::Files;
+use tftp_file::{Files, Sink, Source};
 use tftp_host::ClientEnd;
 use tftp_sockets::Journal;
 
@@ -26,6 +26,9 @@ pub(crate) struct Completed<R: FileSystem + Drop> {
 }
 
 impl<R: FileSystem + Drop> Completed<R> {
+    ghost use Rattle.tftp_client.specs.Conversation.{state_of};
+    ghost use Rattle.tftp_client.specs.Runs.{GoesOn};
+
     /// How the program ends.
     pub(crate) fn client_end(&self) -> ClientEnd
         ensures { result ≡ ends.Complete self.now.count }
@@ -34,7 +37,11 @@ impl<R: FileSystem + Drop> Completed<R> {
     }
 
     /// Stays until its end is closed: a receiver's two timeouts later, a sender's is at once.
-    pub(crate) fn linger<C: Clock>(self, clock: &C, journal: &mut Journal) {
+    pub(crate) fn linger<C: Clock>(self, clock: &C, journal: &mut Journal)
+        ensures { GoesOn ⟦<LocalSource<R::File> as Source>⟧.meaning
+            ⟦<LocalFile<R> as Sink>⟧.meaning self.conversation.socket.port
+            (state_of self.conversation journal.old.events) self.files journal.new.events }
+    {
         let Completed {
             mut conversation,
             mut files,

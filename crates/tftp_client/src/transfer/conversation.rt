@@ -312,12 +312,7 @@ impl Conversation {
 }
 
 /// Sends what a step says, if it says where to.
-fn reply(
-    socket: &ClientSocket,
-    journal: &mut Journal,
-    to: Option<Endpoint>,
-    bytes: &[u8],
-)
+fn reply(socket: &ClientSocket, journal: &mut Journal, to: Option<Endpoint>, bytes: &[u8])
     ensures { journal.new.events ≡ replied socket.now.port to bytes.now journal.old.events }
 {
     match to {

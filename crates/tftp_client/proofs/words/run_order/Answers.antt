@@ -1,0 +1,19 @@
+-- A transfer that is complete.
+use Rattle.std.proofs.lemmas.Result.{IfOk-weaker}
+use Rattle.tftp_client.specs.Conversation.{state_of}
+use Rattle.tftp_client.proofs.words.run_order.Goals as goal
+
+pub returns-in-Ok-clause-complete : goal.returns-in-Ok-clause-complete
+returns-in-Ok-clause-complete g c =
+    IfOk-weaker c.conclude.result _ _
+    (λ status zero again.
+    record {
+      port = c.in-Ok.completed.conversation.socket.port;
+      last = state_of c.in-Ok.completed.conversation c.transfer.new.journal.events;
+      files = c.in-Ok.completed.files;
+      transfers = c.in-Ok.ensures.ok;
+      complete = c.in-Ok.completed.complete;
+      count = c.in-Ok.completed.count;
+      stays = c.conclude.ensures.goes;
+    })
+    c.conclude.ensures.status
