@@ -6,9 +6,9 @@ use Rattle.tftp_file.specs.Source.{SourceMeaning}
 use Rattle.tftp_file.specs.declared.files.Files.{Files}
 use Rattle.tftp_ends.specs.End.{EndState}
 use Rattle.tftp_ends.specs.declared.outcome.Outcome.{Outcome}
-use Rattle.tftp_host.specs.ClientEnd.{status_of}
-use Rattle.tftp_host.specs.declared.client_end.ClientEnd.{ClientEnd}
-use Rattle.tftp_host.specs.declared.client_end.ClientEnd.TheVariants as ends
+use Rattle.tftp_host.specs.ClientOutcome.{status_of}
+use Rattle.tftp_host.specs.declared.client.client_outcome.ClientOutcome.{ClientOutcome}
+use Rattle.tftp_host.specs.declared.client.client_outcome.ClientOutcome.TheVariants as ends
 use Rattle.tftp_sockets.specs.Journal.{Event}
 use Rattle.tftp_client.specs.declared.transfer.Job.{Job}
 use Rattle.tftp_client.specs.Converses.{Converses, EndsBy, State}
@@ -21,15 +21,15 @@ if_err (Err error) P Q weaker p = weaker error p
 
 module _ {S K : Type 0} (sources : SourceMeaning S) (sinks : SinkMeaning K) where
   -- a run stopped as its end says
-  pub stops : {port : ℕ} {first last : State} {file files : Files S K} {after : List Event} {outcome : Outcome} {end : ClientEnd}
+  pub stops : {port : ℕ} {first last : State} {file files : Files S K} {after : List Event} {outcome : Outcome} {end : ClientOutcome}
       → Converses sources sinks port first file last files → last.events ≡ after → EndsBy last.end outcome → end ≡ ends.Failed outcome
       → Stops sources sinks port first file after end
   stops {port} {first} {last} {file} {files} {after} {outcome} {end} converses events by is =
-      let At : ClientEnd → Type 0 = λ e. Stops sources sinks port first file after e in
+      let At : ClientOutcome → Type 0 = λ e. Stops sources sinks port first file after e in
       subst At (sym is) (record { last = last; files = files; converses = converses; events = events; ends = by })
 
   -- nothing was opened, and nothing was sent
-  pub unsent : (end : ClientEnd) (e : EndState) (before after : List Event) → status_of end ≡ 2 → after ≡ before
+  pub unsent : (end : ClientOutcome) (e : EndState) (before after : List Event) → status_of end ≡ 2 → after ≡ before
       → FailsEnd sources sinks e before after end
   unsent (ends.Complete count) e before after two same = same
   unsent (ends.Failed outcome) e before after two same = absurd (cc)
@@ -39,7 +39,7 @@ module _ {S K : Type 0} (sources : SourceMeaning S) (sinks : SinkMeaning K) wher
   unsent ends.Memory e before after two same = same
 
   -- a run that began by its request stopped
-  pub fails : (end : ClientEnd) (e : EndState) (before after : List Event) {port : ℕ} {first : State} (file : Files S K)
+  pub fails : (end : ClientOutcome) (e : EndState) (before after : List Event) {port : ℕ} {first : State} (file : Files S K)
       → first ≡ begun port e before → Stops sources sinks port first file after end → FailsEnd sources sinks e before after end
   fails (ends.Complete count) e before after file is stopped = absurd stopped
   fails (ends.Failed outcome) e before after {port} {first} file is stopped =
@@ -66,7 +66,7 @@ module _ {S K : Type 0} (sources : SourceMeaning S) (sinks : SinkMeaning K) wher
       let Of : Kind → Type 0 = λ k. Runs sources sinks port (opens k job length) before last files in (length, subst Of (sym is) run)
 
   -- a job of this kind failed
-  pub fails_job : (job : Job) {kind : Kind} (length : ℕ) (before after : List Event) (end : ClientEnd) → job.kind ≡ kind
+  pub fails_job : (job : Job) {kind : Kind} (length : ℕ) (before after : List Event) (end : ClientOutcome) → job.kind ≡ kind
       → FailsEnd sources sinks (opens kind job length) before after end → FailsBy sources sinks job before after end
   fails_job job {kind} length before after end is failed =
       let Of : Kind → Type 0 = λ k. FailsEnd sources sinks (opens k job length) before after end in (length, subst Of (sym is) failed)
@@ -77,7 +77,7 @@ module _ {S K : Type 0} (sources : SourceMeaning S) (sinks : SinkMeaning K) wher
   runs_again port job other before middle last files refused is run =
       let Of : Job → Type 0 = λ j. RunsJob sources sinks port j middle last files in inr (middle, refused, subst Of is run)
 
-  pub fails_again : (job other : Job) (before middle after : List Event) (end : ClientEnd) → Refused sources sinks job before middle
+  pub fails_again : (job other : Job) (before middle after : List Event) (end : ClientOutcome) → Refused sources sinks job before middle
       → other ≡ plain job → FailsBy sources sinks other middle after end → FailsTransfer sources sinks job before after end
   fails_again job other before middle after end refused is failed =
       let Of : Job → Type 0 = λ j. FailsBy sources sinks j middle after end in inr (middle, refused, subst Of is failed)

@@ -8,7 +8,7 @@ use Rattle.tftp_file.specs.declared.files.Files.TheVariants.{Source, Sink}
 use Rattle.tftp_ends.specs.Action.{Decodes, datagram_action}
 use Rattle.tftp_ends.specs.End.{EndState, interval_of, outcome_of, terms_of}
 use Rattle.tftp_ends.specs.Files.{KeepsFiles}
-use Rattle.tftp_ends.specs.Step.{DatagramStep, Turn, UsesFile, after_turn, timeout_turn, told}
+use Rattle.tftp_ends.specs.Step.{DatagramStep, Turn, UsesFile, after_turn, timeout_turn, reported}
 use Rattle.tftp_ends.specs.declared.endpoint.Endpoint.{Endpoint}
 use Rattle.tftp_ends.specs.declared.outcome.Outcome.{Outcome}
 use Rattle.tftp_ends.specs.declared.outcome.Outcome.TheVariants.{TimedOut}
@@ -35,11 +35,11 @@ EndsBy end outcome = (outcome_of end.position.phase ≡ Some outcome) ⊎ (outco
 
 -- the deadline at this time, after as many seconds as the end agreed on (RFC 2349, "Timeout Interval Option Specification")
 abbrev pub deadline_at : ℕ → EndState → ℕ
-deadline_at now end = deadline_of now (Some (interval_of (terms_of end.position.phase)))
+deadline_at now end = deadline_of now (interval_of (terms_of end.position.phase))
 
 -- the deadline after a step: progress begins another wait
 abbrev pub due_after : Bool → ℕ → ℕ → ℕ → ℕ
-due_after progress now seconds due = if progress then deadline_of now (Some seconds) else due
+due_after progress now seconds due = if progress then deadline_of now seconds else due
 
 -- the clock was read
 abbrev pub watched : ℕ → State → State
@@ -57,12 +57,12 @@ turned port turn s =
       end = after_turn s.end turn;
       now = s.now;
       due =
-          due_after (told s.end turn).progress s.now
+          due_after (reported s.end turn).progress s.now
           (interval_of (terms_of (after_turn s.end turn).position.phase)) s.due;
       events = answered port turn.reply s.events;
     }
 
--- the end was told a timeout, and its answer was sent
+-- a timeout was delivered to the end, and its answer was sent
 abbrev pub elapsed : ℕ → State → State
 elapsed port s =
     record {

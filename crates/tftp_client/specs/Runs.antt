@@ -11,10 +11,10 @@ use Rattle.tftp_ends.specs.End.{EndState, is_complete}
 use Rattle.tftp_ends.specs.Opening.{getting, putting}
 use Rattle.tftp_ends.specs.declared.endpoint.Endpoint.{Endpoint}
 use Rattle.tftp_ends.specs.declared.outcome.Outcome.{Outcome}
-use Rattle.tftp_host.specs.ClientEnd.{end_text}
+use Rattle.tftp_host.specs.ClientOutcome.{end_text}
 use Rattle.tftp_host.specs.Fallback.{FallsBack}
-use Rattle.tftp_host.specs.declared.client_end.ClientEnd.{ClientEnd}
-use Rattle.tftp_host.specs.declared.client_end.ClientEnd.TheVariants as ends
+use Rattle.tftp_host.specs.declared.client.client_outcome.ClientOutcome.{ClientOutcome}
+use Rattle.tftp_host.specs.declared.client.client_outcome.ClientOutcome.TheVariants as ends
 use Rattle.tftp_sockets.specs.Journal.{Event}
 use Rattle.tftp_sockets.specs.Journal.Event.{Printed, Sent}
 use Rattle.tftp_client.specs.declared.transfer.Job.{Job}
@@ -47,7 +47,7 @@ abbrev pub plain : Job → Job
 plain job = record job { asked = record { blksize = None; timeout = None; tsize = None } }
 
 -- a job that ended so may be tried without options: ERROR 8 refused them, and the job allows it (RFC 2347)
-abbrev pub MayFallBack : Job → ClientEnd → Type 0
+abbrev pub MayFallBack : Job → ClientOutcome → Type 0
 MayFallBack job (ends.Failed outcome) = (job.falls_back ≡ true) × FallsBack outcome job.asked
 MayFallBack job _ = ⊥
 
@@ -66,7 +66,7 @@ module _ {S K : Type 0} (sources : SourceMeaning S) (sinks : SinkMeaning K) wher
     pub ends : EndsBy last.end outcome
 
   -- the same, of how the program ends
-  abbrev pub Stops : ℕ → State → Files S K → List Event → ClientEnd → Type 0
+  abbrev pub Stops : ℕ → State → Files S K → List Event → ClientOutcome → Type 0
   Stops port first file after (ends.Failed outcome) = StopsBy port first file after outcome
   Stops port first file after _ = ⊥
 
@@ -77,12 +77,12 @@ module _ {S K : Type 0} (sources : SourceMeaning S) (sinks : SinkMeaning K) wher
     pub stops : StopsBy port (begun port end before) file after outcome
 
   -- the same, of how the program ends; where no transfer was opened nothing was sent
-  abbrev pub FailsEnd : EndState → List Event → List Event → ClientEnd → Type 0
+  abbrev pub FailsEnd : EndState → List Event → List Event → ClientOutcome → Type 0
   FailsEnd end before after (ends.Failed outcome) = Fails end before after outcome
   FailsEnd end before after _ = after ≡ before
 
   -- a job failed so
-  abbrev pub FailsBy : Job → List Event → List Event → ClientEnd → Type 0
+  abbrev pub FailsBy : Job → List Event → List Event → ClientOutcome → Type 0
   FailsBy job before after end = (length : ℕ) × FailsEnd (opens job.kind job length) before after end
 
   -- the run of a job's end
@@ -91,7 +91,7 @@ module _ {S K : Type 0} (sources : SourceMeaning S) (sinks : SinkMeaning K) wher
 
   -- a job failed by the run of its end, since its options were refused by ERROR 8, and may be tried without (RFC 2347)
   pub record Refused (job : Job) (before after : List Event) : Type 0 where
-    pub end : ClientEnd
+    pub end : ClientOutcome
     pub fails : FailsBy job before after end
     pub allowed : MayFallBack job end
 
@@ -102,7 +102,7 @@ module _ {S K : Type 0} (sources : SourceMeaning S) (sinks : SinkMeaning K) wher
       ⊎ ((middle : List Event) × Refused job before middle × RunsJob port (plain job) middle s files)
 
   -- a job failed, at once or without its options, once these were refused
-  abbrev pub FailsTransfer : Job → List Event → List Event → ClientEnd → Type 0
+  abbrev pub FailsTransfer : Job → List Event → List Event → ClientOutcome → Type 0
   FailsTransfer job before after end =
       FailsBy job before after end ⊎ ((middle : List Event) × Refused job before middle × FailsBy (plain job) middle after end)
 

@@ -1,8 +1,8 @@
 //! The command line of `tftp`.
 
 ghost use Rattle.std.specs.Prelude.{◌≡◌, ◌≤◌, ◌∷◌, IfOk, IfErr};
-ghost use Rattle.tftp_host.specs.ClientEnd.{end_text, status_of};
-ghost use Rattle.tftp_host.specs.declared.client_end.ClientEnd.TheVariants as ends;
+ghost use Rattle.tftp_host.specs.ClientOutcome.{end_text, status_of};
+ghost use Rattle.tftp_host.specs.declared.client.client_outcome.ClientOutcome.TheVariants as ends;
 ghost use Rattle.tftp_sockets.specs.Journal.Event.{Printed as Line};
 ghost use Rattle.tftp_client.specs.Conversation.{state_of};
 ghost use Rattle.tftp_client.specs.Runs.{Completes, GoesOn, printed};
@@ -52,7 +52,7 @@ pub fn tftp_command<R: Runtime + AllocGlobal + Net, E: IsTerminal>(rt: &R, error
 /// name; `errors` is standard error, on which how far a transfer came is shown where it is a
 /// terminal.
 ///
-/// `--help` and `--version` print and return 0. The status is that of the [`ClientEnd`] whose line
+/// `--help` and `--version` print and return 0. The status is that of the [`ClientOutcome`] whose line
 /// is printed, and 2 for a command line that is not understood, which is reported on standard
 /// error, when out of memory, and where an output cannot be written.
 pub fn tftp_words<R: Runtime + AllocGlobal + Net, S: AsStr, E: IsTerminal>(

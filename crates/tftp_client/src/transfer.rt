@@ -7,8 +7,8 @@ mod failure;
 ghost use Rattle.std.specs.Prelude.{ℕ, ◌≡◌, IfOk, IfErr, IsTrue};
 ghost use Rattle.tftp_negotiate.specs.declared.known.Kind.TheVariants.{Read, Write};
 ghost use Rattle.tftp_ends.specs.Files.{AreFilesOf};
-ghost use Rattle.tftp_host.specs.ClientEnd.{status_of};
-ghost use Rattle.tftp_host.specs.declared.client_end.ClientEnd.TheVariants as ends;
+ghost use Rattle.tftp_host.specs.ClientOutcome.{status_of};
+ghost use Rattle.tftp_host.specs.declared.client.client_outcome.ClientOutcome.TheVariants as ends;
 ghost use Rattle.tftp_client.specs.Conversation.{state_of};
 ghost use Rattle.tftp_client.specs.Converses.{Converses, deadline_at};
 ghost use Rattle.tftp_client.specs.Runs.{FailsBy, FailsEnd, FailsTransfer, MayFallBack, Runs};
@@ -27,7 +27,7 @@ use std::rt::Files as FileSystem;
 use std::time::Clock;
 use tftp_ends::{End, EndConfig, Endpoint, Outcome};
 use tftp_file::{Files, MAX_WIRE, Sink, Source};
-use tftp_host::{ClientEnd, fallback};
+use tftp_host::{ClientOutcome, fallback};
 use tftp_negotiate::{Asked, Kind, Limits, MAX_BLOCK};
 use tftp_sockets::{ClientSocket, Journal};
 use tftp_wire::Mode;
@@ -95,11 +95,11 @@ pub(crate) fn transfer<R: FileSystem + Clone + Drop + Udp + Clock + Eprint>(
 }
 
 /// Whether a job that ended so is tried again without options.
-fn falls_back(job: &Job<'_>, end: ClientEnd) -> bool
+fn falls_back(job: &Job<'_>, end: ClientOutcome) -> bool
     ensures { IsTrue result → MayFallBack job.now end }
 {
     match end {
-        ClientEnd::Failed(outcome) => job.falls_back && fallback(outcome, &job.asked),
+        ClientOutcome::Failed(outcome) => job.falls_back && fallback(outcome, &job.asked),
         _ => false,
     }
 }
@@ -396,7 +396,7 @@ fn failed<R: FileSystem + Drop>(
         Files::Source(source) => read_error(source),
     };
     Failure {
-        end: ClientEnd::Failed(outcome),
+        end: ClientOutcome::Failed(outcome),
         reason: match error {
             Some(error) => Reason::System(error),
             None => peer,

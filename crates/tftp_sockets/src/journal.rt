@@ -2,14 +2,14 @@
 
 ghost use Rattle.std.specs.Prelude.{◌≡◌, List, [], ◌∷◌};
 ghost use Rattle.std.specs.Borrow.{ftrue};
-ghost use Rattle.tftp_host.specs.ClientEnd.{end_text};
+ghost use Rattle.tftp_host.specs.ClientOutcome.{end_text};
 ghost use Rattle.tftp_host.specs.Printed.{line_text};
 ghost use Rattle.tftp_sockets.specs.Journal.{Event};
 ghost use Rattle.tftp_sockets.specs.Journal.Event.{Received, Sent, Watched, Elapsed, Printed as Line};
 
 use std::marker::{Model, PhantomData};
 use tftp_ends::Endpoint;
-use tftp_host::{ClientEnd, Printed};
+use tftp_host::{ClientOutcome, Printed};
 
 /// What a program did over UDP, the newest event first.
 ///
@@ -56,7 +56,7 @@ impl Journal {
     {}
 
     /// Notes the last line of `tftp`.
-    pub(crate) fn ended(&mut self, end: &ClientEnd)
+    pub(crate) fn ended(&mut self, end: &ClientOutcome)
         ensures { self.new.events ≡ Line (end_text end.now) ∷ self.old.events }
     {}
 

@@ -8,7 +8,7 @@
 //! A send that fails was sent and lost; a receive that fails is no event.
 
 ghost use Rattle.std.specs.Prelude.{◌≡◌, ◌≤◌, ◌∷◌, length, take, IfOk, IfSome, MatchOption};
-ghost use Rattle.tftp_host.specs.ClientEnd.{end_text};
+ghost use Rattle.tftp_host.specs.ClientOutcome.{end_text};
 ghost use Rattle.tftp_host.specs.Printed.{line_text};
 ghost use Rattle.tftp_sockets.specs.Journal.Event.{Received, Sent, Watched, Printed as Line};
 
@@ -19,7 +19,7 @@ use std::io;
 use std::net::{Net, SocketAddr, UdpSocket};
 use std::time::{Clock, Duration};
 use tftp_ends::Endpoint;
-use tftp_host::{ClientEnd, LONGEST_WAIT, Printed, Watch, address_of, endpoint_of, read_clock};
+use tftp_host::{ClientOutcome, LONGEST_WAIT, Printed, Watch, address_of, endpoint_of, read_clock};
 
 /// A socket of a server, which does not wait.
 #[derive(Drop)]
@@ -183,7 +183,7 @@ pub fn read_watch<C: Clock>(clock: &C, journal: &mut Journal, watch: &mut Watch)
 }
 
 /// Prints how `tftp` ended, on standard output.
-pub fn print_end<P: Print>(rt: &P, journal: &mut Journal, end: ClientEnd) -> io::Result<()>
+pub fn print_end<P: Print>(rt: &P, journal: &mut Journal, end: ClientOutcome) -> io::Result<()>
     ensures { journal.new.events ≡ Line (end_text end) ∷ journal.old.events }
 {
     journal.ended(&end);

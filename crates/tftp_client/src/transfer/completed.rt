@@ -3,14 +3,14 @@
 ghost use Rattle.std.specs.Prelude.{◌≡◌, true};
 ghost use Rattle.tftp_ends.specs.End.{is_complete};
 ghost use Rattle.tftp_ends.specs.Files.{AreFilesOf};
-ghost use Rattle.tftp_host.specs.declared.client_end.ClientEnd.TheVariants as ends;
+ghost use Rattle.tftp_host.specs.declared.client.client_outcome.ClientOutcome.TheVariants as ends;
 
 use crate::local::{LocalFile, LocalSource};
 use crate::transfer::conversation::Conversation;
 use std::rt::Files as FileSystem;
 use std::time::Clock;
 use tftp_file::{Files, Sink, Source};
-use tftp_host::ClientEnd;
+use tftp_host::ClientOutcome;
 use tftp_sockets::Journal;
 
 /// A transfer that is complete: all was sent and acknowledged, or stored, named and acknowledged.
@@ -30,10 +30,10 @@ impl<R: FileSystem + Drop> Completed<R> {
     ghost use Rattle.tftp_client.specs.Runs.{GoesOn};
 
     /// How the program ends.
-    pub(crate) fn client_end(&self) -> ClientEnd
+    pub(crate) fn client_end(&self) -> ClientOutcome
         ensures { result ≡ ends.Complete self.now.count }
     {
-        ClientEnd::Complete(self.count)
+        ClientOutcome::Complete(self.count)
     }
 
     /// Stays until its end is closed: a receiver's two timeouts later, a sender's is at once.

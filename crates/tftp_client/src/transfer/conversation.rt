@@ -67,7 +67,7 @@ impl Conversation {
             × (conversation.due ≡ deadline_at 0 end)) }
     {
         let watch = Watch::new(read_clock(clock, 0));
-        let due = deadline(0, Some(end.interval()));
+        let due = deadline(0, end.interval());
         Ok(Conversation {
             alloc,
             socket,
@@ -257,7 +257,7 @@ impl Conversation {
         let Ok((step, outgoing)) = self.end.handle_timeout() else {
             return;
         };
-        self.due = deadline(now, Some(seconds));
+        self.due = deadline(now, seconds);
         journal.elapsed(self.socket.port(), now);
         reply(&self.socket, journal, step.to, self.end.bytes_of(outgoing));
     }
@@ -327,7 +327,7 @@ fn due_after(progress: bool, now: u64, seconds: u8, due: u64) -> u64
     ensures { result ≡ due_after progress now seconds due }
 {
     if progress {
-        deadline(now, Some(seconds))
+        deadline(now, seconds)
     } else {
         due
     }

@@ -26,9 +26,9 @@ use denote.Triple.Spec.{Meets, triple_of}
 use denote.Triple.Table.{entered}
 use denote.Triple.Walked.{says, Stays, stay_ref, walk_of, AllGo, Goes-ref, Walks, ends_at, walked, walk_Meets}
 use Rattle.tftp_sockets.specs.declared.journal.Journal.{Journal}
-use Rattle.tftp_host.specs.declared.client_end.ClientEnd.{ClientEnd}
-use Rattle.tftp_host.specs.contracts.client_end.ClientEnd as E
-use Rattle.tftp_host.specs.ClientEnd.{end_text}
+use Rattle.tftp_host.specs.declared.client.client_outcome.ClientOutcome.{ClientOutcome}
+use Rattle.tftp_host.specs.contracts.client_end.ClientOutcome as E
+use Rattle.tftp_host.specs.ClientOutcome.{end_text}
 use Rattle.tftp_sockets.specs.Journal.Event.{Printed as Line}
 use Rattle.tftp_sockets.specs.contracts.journal.Journal as T
 use Rattle.tftp_sockets.specs.contracts.journal.Journal.ended.Key.{name as #it}
@@ -40,12 +40,12 @@ use denote.Exit.{yes}
 use denote.Triple.Walked.{stay_none_ref, Goes-none_ref}
 
 abbrev Arg : Type 0
-Arg = MutBor Journal × (Bor ClientEnd × Unit {0})
+Arg = MutBor Journal × (Bor ClientOutcome × Unit {0})
 
 abbrev stayed : Stays (it.ended).signature.params (it.ended).kept
 stayed = (stay_ref (0 ∷ []) tt (plain (λ _. T.the_row)), (stay_none_ref (1 ∷ []) tt (plain (λ _. E.the_row)) yes, tt))
 
-module _ {M : Type 1} {𝓤 : Ura M} (𝓛 : Logic 𝓤) (at_mem : Memory → SProp 𝓤) (run : Routine → Fun 𝓤) (κ κ' : Lft) (q q' : Share) (b o : ℕ) (γ : GName) (h : Journal) (k : Bor ClientEnd) where
+module _ {M : Type 1} {𝓤 : Ura M} (𝓛 : Logic 𝓤) (at_mem : Memory → SProp 𝓤) (run : Routine → Fun 𝓤) (κ κ' : Lft) (q q' : Share) (b o : ℕ) (γ : GName) (h : Journal) (k : Bor ClientOutcome) where
   open 𝓛 use {H, A}
 
   abbrev x : Arg

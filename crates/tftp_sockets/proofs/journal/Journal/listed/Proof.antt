@@ -26,7 +26,7 @@ use denote.Triple.Spec.{Meets, triple_of}
 use denote.Triple.Table.{entered}
 use denote.Triple.Walked.{says, Stays, stay_ref, walk_of, AllGo, Goes-ref, Walks, ends_at, walked, walk_Meets}
 use Rattle.tftp_sockets.specs.declared.journal.Journal.{Journal}
-use Rattle.tftp_host.specs.declared.printed.Printed.{Printed}
+use Rattle.tftp_host.specs.declared.server.printed.Printed.{Printed}
 use Rattle.tftp_host.specs.contracts.printed.Printed as E
 use Rattle.tftp_host.specs.Printed.{line_text}
 use Rattle.tftp_sockets.specs.Journal.Event.{Printed as Line}

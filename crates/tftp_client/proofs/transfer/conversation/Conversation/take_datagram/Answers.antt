@@ -1,7 +1,7 @@
 -- A datagram: its step and its answer, or none.
 use Rattle.std.proofs.Common.{◌∙◌, ap, refl, ℕ, List, take, sym, subst}
 use Rattle.tftp_ends.specs.End.{EndState, interval_of, terms_of}
-use Rattle.tftp_ends.specs.Step.{told}
+use Rattle.tftp_ends.specs.Step.{reported}
 use Rattle.tftp_ends.specs.declared.record.Step.{Step}
 use Rattle.tftp_client.specs.Conversation.{state_of}
 use Rattle.tftp_client.specs.Converses.{Handles, State, due_after, turned}
@@ -34,7 +34,7 @@ returns-clause-handles g c =
     let seconds = c.interval.ensures ∙ ap (λ (e : EndState). interval_of (terms_of e.position.phase)) lends.state in
     let due = c.due_after-self.ensures
     ∙ (ap (λ (t : Step). due_after t.progress s.now c.interval.result s.due) says
-    ∙ ap (λ (n : ℕ). due_after (told s.end turn).progress s.now n s.due) seconds) in
+    ∙ ap (λ (n : ℕ). due_after (reported s.end turn).progress s.now n s.due) seconds) in
     let Of : List ℕ → Type 0 = λ b. handles b (turned port turn s) in
     subst At (sym (state_is lends.state refl due sent))
     (subst Of c.deref.ensures.value (Answers (not_refused _ _ c.in-Ok.ensures.closed) datagram))

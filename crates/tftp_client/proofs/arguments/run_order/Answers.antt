@@ -1,7 +1,7 @@
 -- A transfer that is complete.
 use Rattle.std.proofs.lemmas.Result.{IfOk-weaker}
 use Rattle.tftp_client.specs.Conversation.{state_of}
-use Rattle.tftp_client.proofs.words.run_order.Goals as goal
+use Rattle.tftp_client.proofs.arguments.run_order.Goals as goal
 
 pub returns-in-Ok-clause-complete : goal.returns-in-Ok-clause-complete
 returns-in-Ok-clause-complete g c =
