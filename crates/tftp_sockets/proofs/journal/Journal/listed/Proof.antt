@@ -27,7 +27,7 @@ use denote.Triple.Table.{entered}
 use denote.Triple.Walked.{says, Stays, stay_ref, walk_of, AllGo, Goes-ref, Walks, ends_at, walked, walk_Meets}
 use Rattle.tftp_sockets.specs.declared.journal.Journal.{Journal}
 use Rattle.tftp_host.specs.declared.server.printed.Printed.{Printed}
-use Rattle.tftp_host.specs.contracts.printed.Printed as E
+use Rattle.tftp_host.specs.contracts.server.printed.Printed as E
 use Rattle.tftp_host.specs.Printed.{line_text}
 use Rattle.tftp_sockets.specs.Journal.Event.{Printed as Line}
 use Rattle.tftp_sockets.specs.contracts.journal.Journal as T
