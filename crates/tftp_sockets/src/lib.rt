@@ -1,5 +1,5 @@
-//! Sockets for datagrams, a clock and lines that are noted in a journal, which clauses alone see
-//! (RFC 1350, section 4).
+//! UDP sockets (RFC 1350, section 4), the clock and printed lines. Each call is noted in a journal,
+//! which only contracts read.
 //!
 //! Begin with [`Journal`] and [`ClientSocket`].
 #![tactic(auto)]

@@ -1,11 +1,12 @@
-//! Sockets for datagrams, the clock and the printer, with a note of each call.
+//! UDP sockets, the clock and the printer, with notes in a [`Journal`].
 //!
-//! **The bodies of this file are trusted by reading.** Std and `mio` say nothing of what a socket
-//! carries, a clock shows or a printer prints, so that no proof can tell whether a note is true:
-//! here each call of the system has its one note, of what the system was given or gave, and at the
-//! port that the socket is bound to. Nothing else of the programs calls a socket or a clock.
+//! **The bodies of this file are trusted: review alone shows that a note is true.** The sockets, the
+//! clock and the printer of std and `mio` have no model. Each datagram, reading of the clock and
+//! printed line has one note: what was passed to the system or returned by it, and for a datagram
+//! the port that the socket is bound to. `tftp` calls no socket elsewhere, and reads the clock
+//! elsewhere only to start its watch.
 //!
-//! A send that fails was sent and lost; a receive that fails is no event.
+//! A failed send counts as a lost datagram. A failed receive is no event.
 
 ghost use Rattle.std.specs.Prelude.{◌≡◌, ◌≤◌, ◌∷◌, length, take, IfOk, IfSome, MatchOption};
 ghost use Rattle.tftp_host.specs.ClientOutcome.{end_text};
@@ -21,16 +22,16 @@ use std::time::{Clock, Duration};
 use tftp_ends::Endpoint;
 use tftp_host::{ClientOutcome, LONGEST_WAIT, Printed, Watch, address_of, endpoint_of, read_clock};
 
-/// A socket of a server, which does not wait.
+/// A non-blocking socket of a server.
 #[derive(Drop)]
 pub struct ServerSocket {
-    /// The port that the system says the socket is bound to.
+    /// The port that the socket is bound to, as the system reports it.
     port: u16,
     udp: ReadySocket,
 }
 
 impl ServerSocket {
-    /// Binds a port of the address.
+    /// Binds a socket to the address.
     pub fn bind<N: Net>(net: &N, address: SocketAddr) -> io::Result<ServerSocket> {
         let udp = ReadySocket::bind(net, address)?;
         let port = udp.local_addr()?.port();
@@ -44,14 +45,14 @@ impl ServerSocket {
         self.port
     }
 
-    /// Has the readiness of the socket reported under the token.
+    /// Registers the socket for readable events under the token.
     pub fn register(&mut self, registry: &Registry, token: Token) -> io::Result<()>
         ensures { self.new.port ≡ self.old.port }
     {
         registry.register(&mut self.udp, token, Interest::READABLE)
     }
 
-    /// A datagram that was received: from where, and how many bytes of the buffer it is.
+    /// Receives a datagram, if one has arrived. Returns its sender and its length in bytes.
     pub fn receive(&self, journal: &mut Journal, buffer: &mut [u8]) -> Option<(Endpoint, usize)>
         ensures noted { MatchOption result
             (journal.new.events ≡ journal.old.events)
@@ -64,7 +65,7 @@ impl ServerSocket {
         note(journal, self.port, received, buffer)
     }
 
-    /// Sends a datagram, or loses it.
+    /// Sends a datagram. If the system reports an error, the datagram is lost.
     pub fn send(&self, journal: &mut Journal, peer: Endpoint, bytes: &[u8])
         ensures { journal.new.events ≡ Sent self.now.port peer bytes.now ∷ journal.old.events }
     {
@@ -73,19 +74,19 @@ impl ServerSocket {
     }
 }
 
-/// The socket of a client, which waits. Any port of its server may answer the request, so it is
-/// connected to none (RFC 1350, section 4).
+/// A blocking socket of a client. It is not connected, since any port of the server may answer the
+/// request (RFC 1350, section 4).
 #[derive(Drop)]
 pub struct ClientSocket {
-    /// The port that the system says the socket is bound to.
+    /// The port that the socket is bound to, as the system reports it.
     port: u16,
     udp: UdpSocket,
-    /// The longest wait that it is set to, in milliseconds.
+    /// The read timeout of the socket, in milliseconds.
     wait: u64,
 }
 
 impl ClientSocket {
-    /// Binds a port of the address.
+    /// Binds a socket to the address.
     pub fn bind<N: Net>(net: &N, address: SocketAddr) -> io::Result<ClientSocket> {
         let udp = UdpSocket::bind(net, address)?;
         let port = udp.local_addr()?.port();
@@ -104,8 +105,8 @@ impl ClientSocket {
         self.port
     }
 
-    /// Waits for a datagram, for so many milliseconds at most: from where it is, and how many bytes
-    /// of the buffer.
+    /// Waits at most `wait` milliseconds for a datagram; 0 counts as 1. Returns its sender and its
+    /// length in bytes.
     pub fn receive(
         &mut self,
         journal: &mut Journal,
@@ -125,7 +126,7 @@ impl ClientSocket {
         note(journal, self.port, received, buffer)
     }
 
-    /// Sets the longest wait, where it is another.
+    /// Sets the read timeout, if it changes. An error of the system leaves it unchanged.
     fn set_wait(&mut self, wait: u64)
         ensures { self.new.port ≡ self.old.port }
     {
@@ -135,7 +136,7 @@ impl ClientSocket {
         }
     }
 
-    /// Sends a datagram, or loses it.
+    /// Sends a datagram. If the system reports an error, the datagram is lost.
     pub fn send(&self, journal: &mut Journal, to: Endpoint, bytes: &[u8])
         ensures { journal.new.events ≡ Sent self.now.port to bytes.now ∷ journal.old.events }
     {
@@ -144,7 +145,7 @@ impl ClientSocket {
     }
 }
 
-/// Notes what the system answers that was asked for a datagram at the port.
+/// Notes the result of a receive at the port. Returns the sender and the length in bytes.
 fn note(
     journal: &mut Journal,
     port: u16,
@@ -170,7 +171,7 @@ fn note(
     }
 }
 
-/// Reads the clock, and returns the time of the watch, in milliseconds.
+/// Reads the clock, and returns the new time of the watch, in milliseconds.
 pub fn read_watch<C: Clock>(clock: &C, journal: &mut Journal, watch: &mut Watch) -> u64
     ensures noted { journal.new.events ≡ Watched result ∷ journal.old.events }
     ensures time { watch.new.now ≡ result }
