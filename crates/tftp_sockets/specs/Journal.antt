@@ -10,8 +10,7 @@ pub data Event : Type 0 where
   Sent : (port : ℕ) (to : Endpoint) (bytes : List ℕ) → Event
   -- the clock was read, and this is the time of the program's watch, in milliseconds
   Watched : (time : ℕ) → Event
-  -- a timeout was delivered to the transfer at the port, at this time of the watch (RFC 1350,
-  -- section 2)
+  -- a timeout was delivered at the port, at this time of the watch (RFC 1350, section 2)
   Elapsed : (port : ℕ) (time : ℕ) → Event
   -- a line was printed on standard output; its line end is left out
   Printed : (line : List ℕ) → Event

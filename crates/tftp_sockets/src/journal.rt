@@ -6,7 +6,8 @@ ghost use Rattle.std.specs.Borrow.{ftrue};
 ghost use Rattle.tftp_host.specs.ClientOutcome.{end_text};
 ghost use Rattle.tftp_host.specs.Printed.{line_text};
 ghost use Rattle.tftp_sockets.specs.Journal.{Event};
-ghost use Rattle.tftp_sockets.specs.Journal.Event.{Received, Sent, Watched, Elapsed, Printed as Line};
+ghost use Rattle.tftp_sockets.specs.Journal.Event.{Received, Sent, Watched, Elapsed};
+ghost use Rattle.tftp_sockets.specs.Journal.Event.{Printed as Line};
 
 use std::marker::{Model, PhantomData};
 use tftp_ends::Endpoint;

@@ -1,7 +1,7 @@
 //! UDP sockets, the clock and the printer, with notes in a [`Journal`].
 //!
-//! **The bodies of this file are trusted: review alone shows that a note is true.** The sockets, the
-//! clock and the printer of std and `mio` have no model. Each datagram, reading of the clock and
+//! **The bodies of this file are trusted: review alone shows that a note is true.** The sockets,
+//! the clock and the printer of std and `mio` have no model. Each datagram, reading of the clock and
 //! printed line has one note: what was passed to the system or returned by it, and for a datagram
 //! the port that the socket is bound to. `tftp` calls no socket elsewhere, and reads the clock
 //! elsewhere only to start its watch.
