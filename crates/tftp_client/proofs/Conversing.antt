@@ -15,7 +15,7 @@ use Rattle.tftp_client.specs.Converses.Converses.{Begins, Receives, Waits, Times
 use Rattle.tftp_sockets.specs.Journal.{Event, answered, replied}
 use Rattle.tftp_sockets.specs.Journal.Event.{Sent}
 
--- what a call lends of an answer was sent to where it says
+-- the answer that a call lends was sent to its destination
 pub replies : (port : ℕ) (reply : Option Reply) {to : Option Endpoint} {bytes : List ℕ} {events before after : List Event}
     → after ≡ replied port to bytes events → to ≡ option_map (λ (r : Reply). r.to) reply → bytes ≡ reply_bytes reply
     → events ≡ before → after ≡ answered port reply before
@@ -58,7 +58,7 @@ module _ {S K : Type 0} {sources : SourceMeaning S} {sinks : SinkMeaning K} wher
   onward before (Times run elapses) = Times (onward before run) elapses
   onward before (Rests run works) = Rests (onward before run) works
 
-  -- the same, where the socket of the second has the port of the first
+  -- the same, if the socket of the second has the port of the first
   pub onward_at : {port port' : ℕ} {first : State} {file : Files S K} {s : State} {files : Files S K} {next : State} {files' : Files S K}
       → Converses sources sinks port first file s files → port' ≡ port → Converses sources sinks port' s files next files'
       → Converses sources sinks port first file next files'

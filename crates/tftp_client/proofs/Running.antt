@@ -1,4 +1,4 @@
--- What a job came to, from the facts of its calls.
+-- The result of a job, from the facts of its calls.
 use Rattle.std.proofs.Common.{Result, Ok, Err, IfErr, inr, ◌≡◌, ℕ, List, sym, subst}
 use Rattle.tftp_negotiate.specs.declared.known.Kind.{Kind}
 use Rattle.tftp_file.specs.Sink.{SinkMeaning}
@@ -20,7 +20,7 @@ if_err (Ok value) P Q weaker p = p
 if_err (Err error) P Q weaker p = weaker error p
 
 module _ {S K : Type 0} (sources : SourceMeaning S) (sinks : SinkMeaning K) where
-  -- a run stopped as its end says
+  -- a run stopped with this outcome
   pub stops : {port : ℕ} {first last : State} {file files : Files S K} {after : List Event} {outcome : Outcome} {end : ClientOutcome}
       → Converses sources sinks port first file last files → last.events ≡ after → EndsBy last.end outcome → end ≡ ends.Failed outcome
       → Stops sources sinks port first file after end
@@ -82,7 +82,7 @@ module _ {S K : Type 0} (sources : SourceMeaning S) (sinks : SinkMeaning K) wher
   fails_again job other before middle after end refused is failed =
       let Of : Job → Type 0 = λ j. FailsBy sources sinks j middle after end in inr (middle, refused, subst Of is failed)
 
-  -- a client went on from this state, which is that one
+  -- a client continued from this state, which is that one
   pub goes_on : {port : ℕ} {first first' : State} {file : Files S K} {after : List Event} → first ≡ first'
       → GoesOn sources sinks port first file after → GoesOn sources sinks port first' file after
   goes_on {port} {file = file} {after = after} is run = let From : State → Type 0 = λ s. GoesOn sources sinks port s file after in subst From is run

@@ -4,7 +4,7 @@ use Rattle.tftp_client.specs.declared.transfer.conversation.Conversation.{Conver
 use Rattle.tftp_client.specs.Converses.{State}
 use Rattle.tftp_sockets.specs.Journal.{Event}
 
--- the state of a client whose program did this
+-- the state of a client whose program has this journal
 abbrev pub state_of : Conversation → List Event → State
 state_of conversation events =
     record {

@@ -1,5 +1,6 @@
 -- What a client does over its socket: the steps of one end, and nothing else.
-use Rattle.std.specs.Prelude.{ℕ, ◌≡◌, ◌≤◌, ◌⊎◌, Bool, false, if◌then◌else◌, List, ◌∷◌, Option, Some, IsSome}
+use Rattle.std.specs.Prelude.{ℕ, ◌≡◌, ◌≤◌, ◌⊎◌, Bool, false, if◌then◌else◌}
+use Rattle.std.specs.Prelude.{List, ◌∷◌, Option, Some, IsSome}
 use Rattle.tftp_wire.specs.declared.packet.Packet.{Packet}
 use Rattle.tftp_file.specs.Sink.{SinkMeaning, WritesBehind}
 use Rattle.tftp_file.specs.Source.{SourceMeaning, ReadsAhead}
@@ -16,7 +17,7 @@ use Rattle.tftp_host.specs.Watch.{deadline_of}
 use Rattle.tftp_sockets.specs.Journal.{Event, answered}
 use Rattle.tftp_sockets.specs.Journal.Event.{Received, Watched, Elapsed}
 
--- a client between two events: its end, its time, and all that the program did, the newest first
+-- a client between two events: its end, its time, and the journal of the program
 pub record State : Type 0 where
   pub end : EndState
   -- the time of the watch, in milliseconds
@@ -29,15 +30,15 @@ pub record State : Type 0 where
 abbrev pub IsOpen : EndState → Type 0
 IsOpen end = IsSome (outcome_of end.position.phase) → ⊥
 
--- how a run of an end that is not complete ended: as the end closed, or after too many waits
+-- the outcome of an incomplete run: that of the closed end, or `TimedOut` after too many waits
 abbrev pub EndsBy : EndState → Outcome → Type 0
 EndsBy end outcome = (outcome_of end.position.phase ≡ Some outcome) ⊎ (outcome ≡ TimedOut)
 
--- the deadline at this time, after as many seconds as the end agreed on (RFC 2349, "Timeout Interval Option Specification")
+-- the agreed timeout after this time (RFC 2349, "Timeout Interval Option Specification")
 abbrev pub deadline_at : ℕ → EndState → ℕ
 deadline_at now end = deadline_of now (interval_of (terms_of end.position.phase))
 
--- the deadline after a step: progress begins another wait
+-- the deadline after a step: progress restarts the timeout
 abbrev pub due_after : Bool → ℕ → ℕ → ℕ → ℕ
 due_after progress now seconds due = if progress then deadline_of now seconds else due
 
@@ -50,7 +51,7 @@ abbrev pub received : ℕ → Endpoint → List ℕ → ℕ → State → State
 received port from bytes time s =
     record s { now = time; events = Watched time ∷ (Received port from bytes ∷ s.events) }
 
--- the end has turned so at a datagram, and its answer was sent from the port to where the turn says
+-- the end handled a datagram by this turn, and its answer was sent from the port
 abbrev pub turned : ℕ → Turn → State → State
 turned port turn s =
     record {
@@ -72,49 +73,56 @@ elapsed port s =
       events = answered port (timeout_turn s.end).reply (Elapsed port s.now ∷ s.events);
     }
 
--- what a client does when a timeout may be due: nothing, or it is due and the end is open, and then the timeout's step
+-- a client checks for a timeout: nothing happens, or a due one is delivered to the open end
 pub data MayElapse (port : ℕ) (s : State) : State → Type 0 where
   Stays : MayElapse port s s
   Elapses : s.due ≤ s.now → IsOpen s.end → MayElapse port s (elapsed port s)
 
--- a datagram has no step: the end is closed, or handling it takes memory, and there is none
+-- a datagram has no step: the end is closed, or its step uses the file and is out of memory
 abbrev pub IsLost : Endpoint → List ℕ → EndState → Type 0
 IsLost from bytes end =
     IsSome (outcome_of end.position.phase)
-    ⊎ ((decoded : Option Packet) × Decodes bytes decoded × UsesFile (datagram_action end from bytes decoded))
+    ⊎ ((decoded : Option Packet)
+    × Decodes bytes decoded × UsesFile (datagram_action end from bytes decoded))
 
 module _ {S K : Type 0} (sources : SourceMeaning S) (sinks : SinkMeaning K) where
-  -- a file did its work between two datagrams
+  -- a source read ahead, or a sink wrote its buffer, between two datagrams
   abbrev pub Works : Files S K → Files S K → Type 0
   Works (Source old) (Source new) = ReadsAhead sources old new
   Works (Sink old) (Sink new) = WritesBehind sinks old new × sinks.becomes old new false
   Works (Source old) (Sink new) = ⊥
   Works (Sink old) (Source new) = ⊥
 
-  -- what a client does at a datagram of these bytes from there, once the clock was read
-  pub data Handles (port : ℕ) (from : Endpoint) (bytes : List ℕ) (s : State) (files : Files S K) : State → Files S K → Type 0 where
-    -- the end's step, and at once its answer from the same port to where the step says
+  -- a client handles a datagram, after the clock was read
+  pub data Handles (port : ℕ) (from : Endpoint) (bytes : List ℕ) (s : State)
+      (files : Files S K) : State → Files S K → Type 0 where
+    -- the end's step, and its answer from the same port
     Answers : {turn : Turn} {files' : Files S K} → IsOpen s.end
         → DatagramStep sources sinks from bytes s.end files turn files'
         → Handles port from bytes s files (turned port turn s) files'
-    -- no answer, and the end is as it was
+    -- no answer, and the end is unchanged
     Loses : {files' : Files S K} → IsLost from bytes s.end → KeepsFiles sources sinks files files'
         → Handles port from bytes s files s files'
 
-  -- what a client did from one state to another: nothing is sent but the answers of the steps of its end
-  pub data Converses (port : ℕ) (first : State) (file : Files S K) : State → Files S K → Type 0 where
+  -- a client from one state to another: it sends only the answers of the steps of its end
+  pub data Converses (port : ℕ) (first : State)
+      (file : Files S K) : State → Files S K → Type 0 where
     Begins : Converses port first file first file
     -- a datagram was received
-    Receives : {s next : State} {files files' : Files S K} {from : Endpoint} {bytes : List ℕ} {time : ℕ}
+    Receives : {s next : State} {files files' : Files S K}
+        {from : Endpoint} {bytes : List ℕ} {time : ℕ}
         → Converses port first file s files → s.now ≤ time
         → Handles port from bytes (received port from bytes time s) files next files'
         → Converses port first file next files'
-    -- none was received until this time
-    Waits : {s : State} {files : Files S K} {time : ℕ} → Converses port first file s files → s.now ≤ time
+    -- no datagram was received until this time
+    Waits : {s : State} {files : Files S K} {time : ℕ}
+        → Converses port first file s files → s.now ≤ time
         → Converses port first file (watched time s) files
-    -- a timeout was due
-    Times : {s next : State} {files : Files S K} → Converses port first file s files → MayElapse port s next
+    -- a timeout may be due
+    Times : {s next : State} {files : Files S K}
+        → Converses port first file s files → MayElapse port s next
         → Converses port first file next files
-    -- the file did its work
-    Rests : {s : State} {files files' : Files S K} → Converses port first file s files → Works files files'
+    -- the source read ahead, or the sink wrote its buffer
+    Rests : {s : State} {files files' : Files S K}
+        → Converses port first file s files → Works files files'
         → Converses port first file s files'

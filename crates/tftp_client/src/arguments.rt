@@ -35,10 +35,8 @@ Once LOCAL has its name, `complete N` is printed. The client then stays for two 
 acknowledge the last block again where it comes again (RFC 1350, section 6): 2 seconds by default,
 twice the agreed timeout else.";
 
-/// Runs `tftp` with the program's own command line, and returns its status. `errors` is standard
-/// error.
-///
-/// See [`tftp_words`].
+/// Runs `tftp` with the program's own command line, as [`tftp_words`] does, and returns its exit
+/// status.
 pub fn tftp_command<R: Runtime + AllocGlobal + Net, E: IsTerminal>(rt: &R, errors: &E) -> u8
     ensures { result ≤ 2 }
 {
@@ -48,13 +46,12 @@ pub fn tftp_command<R: Runtime + AllocGlobal + Net, E: IsTerminal>(rt: &R, error
     }
 }
 
-/// Runs `tftp` as a command line says, and returns its status. The first word is the program's
-/// name; `errors` is standard error, on which how far a transfer came is shown where it is a
-/// terminal.
+/// Runs `tftp` with a command line, and returns its exit status. The first word is the program's
+/// name. `errors` is standard error; progress is shown only if it is a terminal.
 ///
-/// `--help` and `--version` print and return 0. The status is that of the [`ClientOutcome`] whose line
-/// is printed, and 2 for a command line that is not understood, which is reported on standard
-/// error, when out of memory, and where an output cannot be written.
+/// `--help` and `--version` return 0. The status of a transfer is that of the [`ClientOutcome`]
+/// whose line is printed. The status is 2 for an invalid command line, which is reported on
+/// standard error, when out of memory, and if an output cannot be written.
 pub fn tftp_words<R: Runtime + AllocGlobal + Net, S: AsStr, E: IsTerminal>(
     rt: &R,
     words: &[S],
@@ -65,7 +62,7 @@ pub fn tftp_words<R: Runtime + AllocGlobal + Net, S: AsStr, E: IsTerminal>(
     transfer_words(rt, words, errors.is_terminal()).unwrap_or(2)
 }
 
-/// As [`tftp_words`]; it fails when out of memory, or where an output cannot be written.
+/// As [`tftp_words`], but fails when out of memory or if an output cannot be written.
 fn transfer_words<'a, R: Runtime + AllocGlobal + Net, S: AsStr>(
     rt: &R,
     words: &'a [S],
@@ -77,7 +74,7 @@ fn transfer_words<'a, R: Runtime + AllocGlobal + Net, S: AsStr>(
     transfer_texts(rt, rt.alloc(), &texts, words, has_terminal)
 }
 
-/// Reads the words, and does what they say.
+/// Parses the words, and runs the order.
 fn transfer_texts<'a, R: Files + Clone + Drop + Udp + Clock + Print + Eprint, S: AsStr>(
     rt: &R,
     alloc: Global,
@@ -93,7 +90,7 @@ fn transfer_texts<'a, R: Files + Clone + Drop + Udp + Clock + Print + Eprint, S:
     }
 }
 
-/// Does what the words say that were read.
+/// Runs an order. Without one, returns the status.
 fn run_ordered<R: Files + Clone + Drop + Udp + Clock + Print + Eprint>(
     rt: &R,
     alloc: Global,
@@ -108,20 +105,20 @@ fn run_ordered<R: Files + Clone + Drop + Udp + Clock + Print + Eprint>(
     }
 }
 
-/// What a command line orders.
+/// The order of a command line.
 #[derive(Clone, Copy)]
 struct Order<'a> {
     job: Job<'a>,
-    /// A client that received stays for its last acknowledgement.
+    /// Whether a receiver lingers to repeat its last acknowledgement.
     lingers: bool,
-    /// The reason of a failure is told.
+    /// Whether the reason of a failure is printed.
     is_verbose: bool,
 }
 
-/// What a command line orders, or the status where it was answered at once.
+/// An order, or the exit status of a command line that orders no transfer.
 type Ordered<'a> = Result<Order<'a>, u8>;
 
-/// Reads the words by what `tftp` understands.
+/// Parses the words as a command line of `tftp`.
 fn read_words<'a, P: Print + Eprint, S: AsStr>(
     rt: &P,
     alloc: Global,
@@ -137,7 +134,7 @@ fn read_words<'a, P: Print + Eprint, S: AsStr>(
     }
 }
 
-/// Reads the words by the command.
+/// Parses the words with the command.
 fn match_words<'a, P: Print + Eprint, S: AsStr>(
     rt: &P,
     command: &mut Command<'a>,
@@ -152,7 +149,7 @@ fn match_words<'a, P: Print + Eprint, S: AsStr>(
     }
 }
 
-/// What the words order that were understood.
+/// The order of a valid command line, if its address is valid too.
 fn read_matches<'a, P: Print + Eprint>(
     rt: &P,
     command: &mut Command<'a>,
@@ -174,7 +171,7 @@ fn read_matches<'a, P: Print + Eprint>(
     }
 }
 
-/// What a subcommand asks of the server.
+/// The kind of request of a subcommand.
 fn kind_of(word: &str) -> Kind {
     if word == "put" {
         Kind::Write
@@ -183,7 +180,7 @@ fn kind_of(word: &str) -> Kind {
     }
 }
 
-/// Reports that the word for the server is no address.
+/// Reports an invalid address of the server, and returns the status.
 fn report_address<P: Print + Eprint>(rt: &P, command: &mut Command<'_>) -> anyhow::Result<u8>
     ensures { IfOk result (λ status. status ≤ 2) }
 {
@@ -192,7 +189,7 @@ fn report_address<P: Print + Eprint>(rt: &P, command: &mut Command<'_>) -> anyho
     Ok(print_usage(rt, &error))
 }
 
-/// Makes the transfer, prints how it ended, and returns the status.
+/// Runs the transfer, prints its outcome, and returns the status.
 fn run_order<R: Files + Clone + Drop + Udp + Clock + Print + Eprint>(
     rt: &R,
     alloc: Global,
@@ -210,8 +207,7 @@ fn run_order<R: Files + Clone + Drop + Udp + Clock + Print + Eprint>(
     }
 }
 
-/// Prints that a transfer is complete, and returns the status; a client that lingers stays for its
-/// last acknowledgement after that line.
+/// Prints that a transfer is complete, then lingers if ordered, and returns the status.
 fn conclude<N: Clock + Print + Eprint, R: Files + Drop>(
     rt: &N,
     completed: Completed<R>,
@@ -247,7 +243,7 @@ fn print_complete<P: Print, R: Files + Drop>(
     Ok(end.status())
 }
 
-/// Prints how a transfer failed, and why where that is reported too, and returns the status.
+/// Prints how a transfer failed, and its reason if `is_verbose`. Returns the status.
 fn report<R: Eprint>(rt: &R, failure: &Failure, is_verbose: bool) -> io::Result<u8>
     ensures status { IfOk result (λ status. status ≡ status_of failure.now.end) }
     ensures fails { IfOk result (λ status. 1 ≤ status) }
@@ -260,7 +256,7 @@ fn report<R: Eprint>(rt: &R, failure: &Failure, is_verbose: bool) -> io::Result<
     Ok(failure.end.status())
 }
 
-/// What the words of a command line that is understood say, if the address is one.
+/// The job of a valid command line, or `None` if its address is invalid.
 fn job_of<'a>(kind: Kind, matches: &ArgMatches<'a>, has_terminal: bool) -> Option<Job<'a>> {
     let is_netascii = matches.get_flag("netascii");
     Some(Job {
@@ -280,7 +276,7 @@ fn job_of<'a>(kind: Kind, matches: &ArgMatches<'a>, has_terminal: bool) -> Optio
     })
 }
 
-/// The options that are asked.
+/// The requested options.
 fn asked(matches: &ArgMatches<'_>) -> Asked {
     Asked {
         blksize: matches.get_one::<u16>("blksize"),
@@ -293,7 +289,7 @@ fn asked(matches: &ArgMatches<'_>) -> Asked {
     }
 }
 
-/// What `tftp` understands.
+/// The command line of `tftp`.
 fn command<'a>(alloc: Global, texts: &'a BlockTexts) -> anyhow::Result<Command<'a>> {
     let command = Command::new(alloc, "tftp")
         .bin_name("tftp")?
@@ -306,7 +302,7 @@ fn command<'a>(alloc: Global, texts: &'a BlockTexts) -> anyhow::Result<Command<'
     Ok(command.subcommand(put_command(alloc, texts)?)?)
 }
 
-/// What `tftp get` understands.
+/// The command line of `tftp get`.
 fn get_command<'a>(alloc: Global, texts: &'a BlockTexts) -> anyhow::Result<Command<'a>> {
     let local = word(
         alloc,
@@ -325,7 +321,7 @@ fn get_command<'a>(alloc: Global, texts: &'a BlockTexts) -> anyhow::Result<Comma
     Ok(command.arg(no_linger)?.after_help(LINGERING))
 }
 
-/// What `tftp put` understands.
+/// The command line of `tftp put`.
 fn put_command<'a>(alloc: Global, texts: &'a BlockTexts) -> anyhow::Result<Command<'a>> {
     let local = word(alloc, "LOCAL", "The path of the file here");
     let command = Command::new(alloc, "put").about("Sends a file");
@@ -334,7 +330,7 @@ fn put_command<'a>(alloc: Global, texts: &'a BlockTexts) -> anyhow::Result<Comma
     with_options(alloc, command.arg(name(alloc))?, texts)
 }
 
-/// The word for the server.
+/// The argument for the server's address.
 fn server<'a>(alloc: Global) -> Arg<'a> {
     word(
         alloc,
@@ -343,12 +339,12 @@ fn server<'a>(alloc: Global) -> Arg<'a> {
     )
 }
 
-/// The word for the file at the server.
+/// The argument for the file's name at the server.
 fn name<'a>(alloc: Global) -> Arg<'a> {
     word(alloc, "NAME", "The name of the file at the server")
 }
 
-/// The options of a transfer.
+/// Adds the arguments for the options of a transfer.
 fn with_options<'a>(
     alloc: Global,
     command: Command<'a>,
@@ -377,7 +373,7 @@ fn with_options<'a>(
     with_reports(alloc, command.arg(fallback)?)
 }
 
-/// What is told of a transfer on standard error.
+/// Adds the flags for reports on standard error.
 fn with_reports<'a>(alloc: Global, command: Command<'a>) -> anyhow::Result<Command<'a>> {
     let progress = flag(
         alloc,
@@ -385,10 +381,10 @@ fn with_reports<'a>(alloc: Global, command: Command<'a>) -> anyhow::Result<Comma
         "Shows how far the transfer came, where standard error is a terminal",
     );
     let command = command.arg(progress)?;
-    Ok(command.arg(flag(alloc, "verbose", "Tells the reason of a failure in words"))?)
+    Ok(command.arg(flag(alloc, "verbose", "Prints the reason of a failure in words"))?)
 }
 
-/// What the help says of the block size.
+/// The help texts for the block size.
 #[derive(Drop)]
 struct BlockTexts {
     range: String,
@@ -406,7 +402,7 @@ impl BlockTexts {
     }
 }
 
-/// The options that are asked of the server.
+/// Adds the arguments for the options that are requested from the server.
 fn with_asked<'a>(
     alloc: Global,
     command: Command<'a>,

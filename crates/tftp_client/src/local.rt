@@ -1,5 +1,5 @@
-//! The local file of a client: one that is fetched is written under another name, and named at the
-//! commit; one that is sent is measured first.
+//! The local file of a client. A fetched file is written under another name, and gets its name at
+//! the commit. A file to send is measured first.
 
 ghost use Rattle.std.specs.Prelude.{◌≢◌};
 ghost use Rattle.tftp_file.specs.declared.fault.StoreFault.TheVariants.{Memory};
@@ -13,25 +13,25 @@ use tftp_file::{Ahead, MAX_WIRE, ReadSource, Sink, StoreFault};
 use tftp_host::{BlockWriter, ErrorKeeper, length_on_wire, name_fault};
 use tftp_wire::Mode;
 
-/// The bytes that are read into a buffer at once. Blocks of this size and more pass it.
+/// The capacity of the read buffer, in bytes. Blocks of this size and more bypass it.
 const READ_BUFFER: usize = 32_768;
 
-/// The source of a file that is sent.
+/// The source of a file to send.
 pub(crate) type LocalSource<F> = Ahead<ReadSource<BufReader<ErrorKeeper<F>>>>;
 
-/// A file that is sent, and its lengths.
+/// A file to send, and its lengths.
 #[derive(Drop)]
 pub(crate) struct Outbound<F: Read + Drop> {
     pub(crate) source: LocalSource<F>,
-    /// The bytes of the file.
+    /// The length of the file, in bytes.
     pub(crate) host_bytes: u64,
-    /// The bytes of its text on the wire, or `MAX_WIRE + 1` if there are more.
+    /// The length of its text on the wire, in bytes; `MAX_WIRE + 1` if it exceeds `MAX_WIRE`.
     pub(crate) wire_bytes: u64,
 }
 
 impl<F: Read + Seek + OpenFile + Drop> Outbound<F> {
-    /// Opens a regular file to be sent. What is no regular file is refused before it is opened,
-    /// since opening a FIFO would wait. The length is that of the open file.
+    /// Opens a regular file to send. Any other kind is refused before it is opened, since opening a
+    /// FIFO would block. The length is that of the open file.
     pub(crate) fn open<R: Files<File = F>>(
         files: &R,
         alloc: Global,
@@ -55,15 +55,15 @@ impl<F: Read + Seek + OpenFile + Drop> Outbound<F> {
     }
 }
 
-/// Why a file could not be read further, once it could not.
+/// The error of the last failed read, if a read failed.
 pub(crate) fn read_error<F: Read + Drop>(source: LocalSource<F>) -> Option<io::Error> {
     source.into_inner().into_inner().into_inner().error()
 }
 
-/// A file `LOCAL` that is being fetched, as `LOCAL.part`. It gets its name at the commit, and stays
-/// as it is if there is none.
+/// A file that is fetched. It is written as `LOCAL.part`, and gets the name `LOCAL` at the commit.
+/// Without a commit `LOCAL.part` remains.
 ///
-/// It holds back what is appended, and writes it behind a datagram.
+/// It buffers what is appended, and writes it after a datagram is sent.
 #[derive(Drop)]
 pub(crate) struct LocalFile<R: Files + Drop> {
     files: R,
@@ -75,8 +75,8 @@ pub(crate) struct LocalFile<R: Files + Drop> {
 }
 
 impl<R: Files + Drop> LocalFile<R> {
-    /// A new file, in the place of an old `LOCAL.part`, or of a link there, which is not followed.
-    /// `AlreadyExists` if there is a `LOCAL`.
+    /// Creates `LOCAL.part`. An old one is removed first; a link there is not followed.
+    /// `AlreadyExists` if `LOCAL` exists.
     pub(crate) fn create(files: R, alloc: Global, local: &str) -> io::Result<LocalFile<R>> {
         if fs::symlink_metadata(&files, local).is_ok() {
             return Err(io::Error::from(ErrorKind::AlreadyExists));
@@ -97,17 +97,17 @@ impl<R: Files + Drop> LocalFile<R> {
         })
     }
 
-    /// The bytes that were stored.
+    /// The number of bytes appended.
     pub(crate) fn count(&self) -> u64 {
         self.count
     }
 
-    /// Why the newest bytes were not stored, or the file was not named.
+    /// The error of the last failed append or commit, if one failed.
     pub(crate) fn into_error(self) -> Option<io::Error> {
         self.error
     }
 
-    /// Records why a call failed, and returns its fault.
+    /// Records the error of a call, and returns its fault.
     fn record_error(&mut self, error: io::Error) -> StoreFault
         ensures { result ≢ Memory }
     {
@@ -116,7 +116,7 @@ impl<R: Files + Drop> LocalFile<R> {
         fault
     }
 
-    /// Fails where another file than the open one stands under `LOCAL.part`.
+    /// Fails unless `LOCAL.part` is the open file.
     fn check_part(&self) -> io::Result<()> {
         let opened = self.writer.file().metadata()?;
         let found = fs::symlink_metadata(&self.files, self.part.as_str())?;
@@ -127,8 +127,8 @@ impl<R: Files + Drop> LocalFile<R> {
         }
     }
 
-    /// Names the file, if no file has the name. A hard link never takes the place of one; where the
-    /// system makes none, the file is renamed.
+    /// Gives the file its name, if no file has that name. A hard link never replaces a file. If the
+    /// system makes no link, the file is renamed.
     fn name(&self) -> io::Result<()> {
         self.check_part()?;
         let (part, local) = (self.part.as_str(), self.local.as_str());
@@ -176,7 +176,7 @@ impl<R: Files + Drop> Sink for LocalFile<R> {
         }
     }
 
-    /// What cannot be written stays held back, and the next append or the commit tries it again.
+    /// After a failed write the bytes stay in the buffer, and a later call tries again.
     fn write_behind(&mut self) {
         if self.writer.is_due() {
             let _ = self.writer.flush();

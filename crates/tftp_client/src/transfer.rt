@@ -1,4 +1,4 @@
-//! `tftp`: one transfer over UDP, and a second one without options where these are refused.
+//! A transfer over UDP, and a second one without options if the server refuses them.
 
 mod completed;
 mod conversation;
@@ -12,7 +12,8 @@ ghost use Rattle.tftp_host.specs.declared.client.client_outcome.ClientOutcome.Th
 ghost use Rattle.tftp_client.specs.Conversation.{state_of};
 ghost use Rattle.tftp_client.specs.Converses.{Converses, deadline_at};
 ghost use Rattle.tftp_client.specs.Runs.{FailsBy, FailsEnd, FailsTransfer, MayFallBack, Runs};
-ghost use Rattle.tftp_client.specs.Runs.{RunsJob, Stops, Transfers, begun, measured, opens, plain, sent_from};
+ghost use Rattle.tftp_client.specs.Runs.{RunsJob, Stops, Transfers};
+ghost use Rattle.tftp_client.specs.Runs.{begun, measured, opens, plain, sent_from};
 
 use crate::local::{LocalFile, LocalSource, Outbound, read_error};
 pub(crate) use crate::transfer::completed::Completed;
@@ -32,10 +33,10 @@ use tftp_negotiate::{Asked, Kind, Limits, MAX_BLOCK};
 use tftp_sockets::{ClientSocket, Journal};
 use tftp_wire::Mode;
 
-/// What `tftp` is told to transfer.
+/// What `tftp` is to transfer.
 #[derive(Clone, Copy)]
 pub(crate) struct Job<'a> {
-    /// Which way the file goes.
+    /// The direction of the transfer.
     pub(crate) kind: Kind,
     /// The server's request port.
     pub(crate) server: Endpoint,
@@ -43,20 +44,20 @@ pub(crate) struct Job<'a> {
     pub(crate) name: &'a str,
     /// The path of the file here.
     pub(crate) local: &'a str,
-    /// How it travels.
+    /// The transfer mode.
     pub(crate) mode: Mode,
-    /// The options; a `tsize` that is asked stands for the length of the file that is sent.
+    /// The options to request. When a file is sent, its length replaces the value of `tsize`.
     pub(crate) asked: Asked,
-    /// How often a datagram is sent again.
+    /// The limit of retransmissions of a datagram.
     pub(crate) retries: u8,
-    /// Options that are refused are left out in a second transfer.
+    /// Whether to try again without options if the server refuses them.
     pub(crate) falls_back: bool,
-    /// How far the transfer came is shown on standard error.
+    /// Whether progress is shown on standard error.
     pub(crate) shows_progress: bool,
 }
 
 impl Job<'_> {
-    /// What an end is set to: it takes whatever a server agrees to.
+    /// The configuration of the end, with the largest limits.
     fn config(&self) -> EndConfig
         ensures limit { result.limits.max_file ≡ MAX_WIRE }
         ensures retries { result.retries ≡ self.now.retries }
@@ -78,10 +79,12 @@ pub(crate) fn transfer<R: FileSystem + Clone + Drop + Udp + Clock + Eprint>(
     job: &Job<'_>,
     journal: &mut Journal,
 ) -> Result<Completed<R>, Failure>
-    ensures ok { IfOk result (λ completed. Transfers ⟦<LocalSource<R::File> as Source>⟧.meaning ⟦<LocalFile<R> as Sink>⟧.meaning
+    ensures ok { IfOk result (λ completed. Transfers
+        ⟦<LocalSource<R::File> as Source>⟧.meaning ⟦<LocalFile<R> as Sink>⟧.meaning
         completed.conversation.socket.port job.now
         journal.old.events (state_of completed.conversation journal.new.events) completed.files) }
-    ensures err { IfErr result (λ failure. FailsTransfer ⟦<LocalSource<R::File> as Source>⟧.meaning ⟦<LocalFile<R> as Sink>⟧.meaning job.now
+    ensures err { IfErr result (λ failure. FailsTransfer
+        ⟦<LocalSource<R::File> as Source>⟧.meaning ⟦<LocalFile<R> as Sink>⟧.meaning job.now
         journal.old.events journal.new.events failure.end) }
 {
     let failure = match transfer_once(rt, alloc, job, journal) {
@@ -94,7 +97,7 @@ pub(crate) fn transfer<R: FileSystem + Clone + Drop + Udp + Clock + Eprint>(
     transfer_once(rt, alloc, &plain(job), journal)
 }
 
-/// Whether a job that ended so is tried again without options.
+/// Whether to try a job with this outcome again without options.
 fn falls_back(job: &Job<'_>, end: ClientOutcome) -> bool
     ensures { IsTrue result → MayFallBack job.now end }
 {
@@ -118,17 +121,19 @@ fn plain<'a>(job: &Job<'a>) -> Job<'a>
     }
 }
 
-/// One transfer, on a socket of its own.
+/// Runs one transfer, on a new socket.
 fn transfer_once<R: FileSystem + Clone + Drop + Udp + Clock + Eprint>(
     rt: &R,
     alloc: Global,
     job: &Job<'_>,
     journal: &mut Journal,
 ) -> Result<Completed<R>, Failure>
-    ensures ok { IfOk result (λ completed. RunsJob ⟦<LocalSource<R::File> as Source>⟧.meaning ⟦<LocalFile<R> as Sink>⟧.meaning
+    ensures ok { IfOk result (λ completed. RunsJob
+        ⟦<LocalSource<R::File> as Source>⟧.meaning ⟦<LocalFile<R> as Sink>⟧.meaning
         completed.conversation.socket.port job.now
         journal.old.events (state_of completed.conversation journal.new.events) completed.files) }
-    ensures err { IfErr result (λ failure. FailsBy ⟦<LocalSource<R::File> as Source>⟧.meaning ⟦<LocalFile<R> as Sink>⟧.meaning job.now
+    ensures err { IfErr result (λ failure. FailsBy
+        ⟦<LocalSource<R::File> as Source>⟧.meaning ⟦<LocalFile<R> as Sink>⟧.meaning job.now
         journal.old.events journal.new.events failure.end) }
 {
     match job.kind {
@@ -144,10 +149,12 @@ fn get<R: FileSystem + Clone + Drop + Udp + Clock + Eprint>(
     job: &Job<'_>,
     journal: &mut Journal,
 ) -> Result<Completed<R>, Failure>
-    ensures ok { IfOk result (λ completed. Runs ⟦<LocalSource<R::File> as Source>⟧.meaning ⟦<LocalFile<R> as Sink>⟧.meaning
+    ensures ok { IfOk result (λ completed. Runs
+        ⟦<LocalSource<R::File> as Source>⟧.meaning ⟦<LocalFile<R> as Sink>⟧.meaning
         completed.conversation.socket.port (opens Read job.now 0) journal.old.events
         (state_of completed.conversation journal.new.events) completed.files) }
-    ensures err { IfErr result (λ failure. FailsEnd ⟦<LocalSource<R::File> as Source>⟧.meaning ⟦<LocalFile<R> as Sink>⟧.meaning
+    ensures err { IfErr result (λ failure. FailsEnd
+        ⟦<LocalSource<R::File> as Source>⟧.meaning ⟦<LocalFile<R> as Sink>⟧.meaning
         (opens Read job.now 0) journal.old.events journal.new.events failure.end) }
 {
     match create_local(rt, alloc, job.local) {
@@ -156,7 +163,7 @@ fn get<R: FileSystem + Clone + Drop + Udp + Clock + Eprint>(
     }
 }
 
-/// The local file of one that is fetched.
+/// Creates the local file of a fetch.
 fn create_local<R: FileSystem + Clone + Drop>(
     rt: &R,
     alloc: Global,
@@ -173,7 +180,7 @@ fn create_local<R: FileSystem + Clone + Drop>(
     }
 }
 
-/// Fetches a file into the local one.
+/// Fetches a file into the local file.
 fn get_into<N: Udp + Clock + Eprint, R: FileSystem + Drop>(
     rt: &N,
     alloc: Global,
@@ -181,10 +188,12 @@ fn get_into<N: Udp + Clock + Eprint, R: FileSystem + Drop>(
     local: LocalFile<R>,
     journal: &mut Journal,
 ) -> Result<Completed<R>, Failure>
-    ensures ok { IfOk result (λ completed. Runs ⟦<LocalSource<R::File> as Source>⟧.meaning ⟦<LocalFile<R> as Sink>⟧.meaning
+    ensures ok { IfOk result (λ completed. Runs
+        ⟦<LocalSource<R::File> as Source>⟧.meaning ⟦<LocalFile<R> as Sink>⟧.meaning
         completed.conversation.socket.port (opens Read job.now 0) journal.old.events
         (state_of completed.conversation journal.new.events) completed.files) }
-    ensures err { IfErr result (λ failure. FailsEnd ⟦<LocalSource<R::File> as Source>⟧.meaning ⟦<LocalFile<R> as Sink>⟧.meaning
+    ensures err { IfErr result (λ failure. FailsEnd
+        ⟦<LocalSource<R::File> as Source>⟧.meaning ⟦<LocalFile<R> as Sink>⟧.meaning
         (opens Read job.now 0) journal.old.events journal.new.events failure.end) }
 {
     match ask_to_get(rt, alloc, job, journal) {
@@ -193,7 +202,7 @@ fn get_into<N: Udp + Clock + Eprint, R: FileSystem + Drop>(
     }
 }
 
-/// Sends the request for a file.
+/// Sends the read request.
 fn ask_to_get<N: Udp + Clock>(
     rt: &N,
     alloc: Global,
@@ -222,7 +231,7 @@ fn ask_to_get<N: Udp + Clock>(
     }
 }
 
-/// The socket of a transfer: a port of the system's choice at every address of this host.
+/// Binds the socket of a transfer, to every address of this host and a port chosen by the system.
 fn bind_socket<N: Udp>(net: &N) -> Result<ClientSocket, Failure>
     ensures { IfErr result (λ failure. status_of failure.end ≡ 2) }
 {
@@ -232,7 +241,7 @@ fn bind_socket<N: Udp>(net: &N) -> Result<ClientSocket, Failure>
     }
 }
 
-/// The conversation of an end, once its request is sent.
+/// Sends the request of an end, and returns the conversation.
 fn begin<C: Clock>(
     clock: &C,
     alloc: Global,
@@ -264,10 +273,12 @@ fn put<R: FileSystem + Clone + Drop + Udp + Clock + Eprint>(
     job: &Job<'_>,
     journal: &mut Journal,
 ) -> Result<Completed<R>, Failure>
-    ensures ok { IfOk result (λ completed. (length : ℕ) × Runs ⟦<LocalSource<R::File> as Source>⟧.meaning ⟦<LocalFile<R> as Sink>⟧.meaning
+    ensures ok { IfOk result (λ completed. (length : ℕ) × Runs
+        ⟦<LocalSource<R::File> as Source>⟧.meaning ⟦<LocalFile<R> as Sink>⟧.meaning
         completed.conversation.socket.port (opens Write job.now length) journal.old.events
         (state_of completed.conversation journal.new.events) completed.files) }
-    ensures err { IfErr result (λ failure. (length : ℕ) × FailsEnd ⟦<LocalSource<R::File> as Source>⟧.meaning ⟦<LocalFile<R> as Sink>⟧.meaning
+    ensures err { IfErr result (λ failure. (length : ℕ) × FailsEnd
+        ⟦<LocalSource<R::File> as Source>⟧.meaning ⟦<LocalFile<R> as Sink>⟧.meaning
         (opens Write job.now length) journal.old.events journal.new.events failure.end) }
 {
     match Outbound::open(rt, alloc, job.local, job.mode) {
@@ -284,11 +295,14 @@ fn put_from<R: FileSystem + Drop + Udp + Clock + Eprint>(
     outbound: Outbound<R::File>,
     journal: &mut Journal,
 ) -> Result<Completed<R>, Failure>
-    ensures ok { IfOk result (λ completed. Runs ⟦<LocalSource<R::File> as Source>⟧.meaning ⟦<LocalFile<R> as Sink>⟧.meaning
-        completed.conversation.socket.port (opens Write job.now outbound.wire_bytes) journal.old.events
-        (state_of completed.conversation journal.new.events) completed.files) }
-    ensures err { IfErr result (λ failure. FailsEnd ⟦<LocalSource<R::File> as Source>⟧.meaning ⟦<LocalFile<R> as Sink>⟧.meaning
-        (opens Write job.now outbound.wire_bytes) journal.old.events journal.new.events failure.end) }
+    ensures ok { IfOk result (λ completed. Runs
+        ⟦<LocalSource<R::File> as Source>⟧.meaning ⟦<LocalFile<R> as Sink>⟧.meaning
+        completed.conversation.socket.port (opens Write job.now outbound.wire_bytes)
+        journal.old.events (state_of completed.conversation journal.new.events) completed.files) }
+    ensures err { IfErr result (λ failure. FailsEnd
+        ⟦<LocalSource<R::File> as Source>⟧.meaning ⟦<LocalFile<R> as Sink>⟧.meaning
+        (opens Write job.now outbound.wire_bytes) journal.old.events journal.new.events
+        failure.end) }
 {
     match ask_to_put(rt, alloc, job, outbound.wire_bytes, journal) {
         Ok(conversation) => {
@@ -299,7 +313,7 @@ fn put_from<R: FileSystem + Drop + Udp + Clock + Eprint>(
     }
 }
 
-/// Sends the request to take a file of this length on the wire.
+/// Sends the write request for a file of `length` bytes on the wire.
 fn ask_to_put<N: Udp + Clock>(
     rt: &N,
     alloc: Global,
@@ -334,7 +348,7 @@ fn ask_to_put<N: Udp + Clock>(
     }
 }
 
-/// The options that are asked of a server, where the file has that length on the wire.
+/// The requested options, with `length` as the value of a requested `tsize`.
 fn measured(asked: &Asked, length: u64) -> Asked
     ensures { result ≡ measured asked.now length }
 {
@@ -344,7 +358,8 @@ fn measured(asked: &Asked, length: u64) -> Asked
     }
 }
 
-/// Takes a transfer to its end. Where it sends the local file, `sent` is the length of that.
+/// Runs a transfer until it is complete or fails. `sent` is the length of a local file that is
+/// sent, in bytes.
 fn converse<C: Clock + Eprint, R: FileSystem + Drop>(
     rt: &C,
     mut conversation: Conversation,
@@ -358,7 +373,8 @@ fn converse<C: Clock + Eprint, R: FileSystem + Drop>(
         × Converses ⟦<LocalSource<R::File> as Source>⟧.meaning ⟦<LocalFile<R> as Sink>⟧.meaning
         conversation.socket.port (state_of conversation journal.old.events) files
         (state_of completed.conversation journal.new.events) completed.files) }
-    ensures err { IfErr result (λ failure. Stops ⟦<LocalSource<R::File> as Source>⟧.meaning ⟦<LocalFile<R> as Sink>⟧.meaning
+    ensures err { IfErr result (λ failure. Stops
+        ⟦<LocalSource<R::File> as Source>⟧.meaning ⟦<LocalFile<R> as Sink>⟧.meaning
         conversation.socket.port (state_of conversation journal.old.events) files
         journal.new.events failure.end) }
 {
@@ -375,7 +391,7 @@ fn converse<C: Clock + Eprint, R: FileSystem + Drop>(
     }
 }
 
-/// The bytes that were stored, where the file is received.
+/// The number of bytes stored, if the file is received.
 fn stored<S, R: FileSystem + Drop>(files: &Files<S, LocalFile<R>>) -> Option<u64> {
     match files {
         Files::Sink(local) => Some(local.count()),
@@ -383,7 +399,7 @@ fn stored<S, R: FileSystem + Drop>(files: &Files<S, LocalFile<R>>) -> Option<u64
     }
 }
 
-/// A transfer that closed so, and why where that is known.
+/// A transfer that failed with this outcome, with the reason if known.
 fn failed<R: FileSystem + Drop>(
     outcome: Outcome,
     files: Files<LocalSource<R::File>, LocalFile<R>>,

@@ -1,12 +1,12 @@
-//! What a client opens of UDP.
+//! How a client opens its UDP socket.
 
 use std::io;
 use std::net::{Net, SocketAddr};
 use tftp_sockets::ClientSocket;
 
-/// What opens sockets for UDP: a [`Net`] without its streams and listeners.
+/// Opens UDP sockets: a [`Net`] without its streams and listeners.
 pub(crate) trait Udp {
-    /// Binds a socket that waits.
+    /// Binds a blocking socket to the address.
     fn bind(&self, address: SocketAddr) -> io::Result<ClientSocket>;
 }
 

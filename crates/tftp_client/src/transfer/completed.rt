@@ -13,13 +13,13 @@ use tftp_file::{Files, Sink, Source};
 use tftp_host::ClientOutcome;
 use tftp_sockets::Journal;
 
-/// A transfer that is complete: all was sent and acknowledged, or stored, named and acknowledged.
-/// Its end may have to send its last acknowledgement again.
+/// A complete transfer: the file is sent and acknowledged, or stored, named and acknowledged. The
+/// end of a receiver may have to send its last acknowledgement again.
 #[derive(Drop)]
 pub(crate) struct Completed<R: FileSystem + Drop> {
     pub(crate) conversation: Conversation,
     pub(crate) files: Files<LocalSource<R::File>, LocalFile<R>>,
-    /// The bytes of the file on this host.
+    /// The length of the file on this host, in bytes.
     pub(crate) count: u64,
     ghost complete: { is_complete conversation.end.position.phase ≡ true },
     ghost files_fit: { ∥ AreFilesOf conversation.end.role.side files ∥₁ },
@@ -36,7 +36,7 @@ impl<R: FileSystem + Drop> Completed<R> {
         ClientOutcome::Complete(self.count)
     }
 
-    /// Stays until its end is closed: a receiver's two timeouts later, a sender's is at once.
+    /// Waits until the end is closed: a receiver's after two timeouts, a sender's at once.
     pub(crate) fn linger<C: Clock>(self, clock: &C, journal: &mut Journal)
         ensures { GoesOn ⟦<LocalSource<R::File> as Source>⟧.meaning
             ⟦<LocalFile<R> as Sink>⟧.meaning self.conversation.socket.port

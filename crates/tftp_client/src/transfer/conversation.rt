@@ -19,20 +19,20 @@ use tftp_negotiate::stated_tsize;
 use tftp_sockets::{ClientSocket, Journal, read_watch};
 use tftp_wire::{PacketRef, show_ref};
 
-/// The most waits of a transfer.
+/// The limit of waits in a run.
 const MAX_WAITS: u32 = 1_000_000;
 
-/// What erases the rest of a terminal's line.
+/// Erases the rest of a terminal's line.
 const ERASE_REST: &str = "\x1b[K";
 
-/// A step in which nothing happens.
+/// A step without effect.
 const NO_STEP: Step = Step {
     to: None,
     progress: false,
     closed: None,
 };
 
-/// A client's end with its socket and its time.
+/// A client's end, with its socket and its watch.
 #[derive(Drop)]
 pub(crate) struct Conversation {
     alloc: Global,
@@ -40,12 +40,12 @@ pub(crate) struct Conversation {
     end: End,
     watch: Watch,
     due: u64,
-    /// The time of the newest progress.
+    /// The time of the last progress, in milliseconds.
     advanced_at: u64,
     buffer: Vec<u8>,
-    /// Where how far it came is shown: when that was last done.
+    /// When progress was last shown, if it is shown.
     lines: Option<LineClock>,
-    /// The bytes of the whole file, where they are known.
+    /// The length of the file in bytes, if known.
     total: Option<u64>,
     peer_reason: Reason,
 }
@@ -53,7 +53,7 @@ pub(crate) struct Conversation {
 impl Conversation {
     ghost use Rattle.tftp_client.specs.Conversation.{state_of};
 
-    /// A conversation that begins, after the end's request was sent.
+    /// A conversation at its start. The caller sends the end's request.
     pub(crate) fn new<C: Clock>(
         clock: &C,
         alloc: Global,
@@ -86,8 +86,8 @@ impl Conversation {
         })
     }
 
-    /// Takes the transfer to its end, and fails with how it closed where it is not complete. One
-    /// that takes too many waits has timed out.
+    /// Runs the transfer until it is complete. Fails with the outcome of a closed end, or with
+    /// `TimedOut` after too many waits.
     pub(crate) fn run<C: Clock + Eprint, S: Source, K: Sink>(
         &mut self,
         rt: &C,
@@ -117,8 +117,8 @@ impl Conversation {
         Err(Outcome::TimedOut)
     }
 
-    /// Takes the end of a complete transfer to its close: one that received acknowledges its last
-    /// block again whenever it comes again, for two timeouts (RFC 1350, section 6).
+    /// Runs the end of a complete transfer until it closes. For two timeouts a receiver
+    /// acknowledges its last block again whenever that is repeated (RFC 1350, section 6).
     pub(crate) fn linger<C: Clock, S: Source, K: Sink>(
         &mut self,
         clock: &C,
@@ -139,7 +139,8 @@ impl Conversation {
         }
     }
 
-    /// Waits once, and handles the datagram that was received, or the timeout that is due.
+    /// Waits once, and handles the datagram that arrived, if any. Without progress, delivers a
+    /// timeout that is due.
     fn turn<C: Clock, S: Source, K: Sink>(
         &mut self,
         clock: &C,
@@ -165,7 +166,7 @@ impl Conversation {
         self.take_timeout(journal);
     }
 
-    /// Waits once, and handles the datagram that was received, if there is one.
+    /// Waits once, and handles the datagram that arrived, if any.
     fn take_received<C: Clock, S: Source, K: Sink>(
         &mut self,
         clock: &C,
@@ -190,8 +191,8 @@ impl Conversation {
         }
     }
 
-    /// Handles the datagram in the buffer, and sends the answer. One for whose handling there is no
-    /// memory is a lost one.
+    /// Handles the datagram in the buffer, and sends the answer. Out of memory, it loses the
+    /// datagram.
     fn take_datagram<S: Source, K: Sink>(
         &mut self,
         journal: &mut Journal,
@@ -219,7 +220,7 @@ impl Conversation {
         step
     }
 
-    /// Has the end's file do its work, once the datagram is sent.
+    /// Reads the source ahead, or writes the sink's buffer, after the datagram is sent.
     fn work<S: Source, K: Sink>(&self, files: &mut Files<S, K>)
         requires { AreFilesOf self.now.end.role.side files.old }
         ensures works { Works S.meaning K.meaning files.old files.new }
@@ -262,7 +263,7 @@ impl Conversation {
         reply(&self.socket, journal, step.to, self.end.bytes_of(outgoing));
     }
 
-    /// How far the transfer came: full blocks, since the last one is no wait's.
+    /// The progress so far, counted in full blocks, at most `total`.
     fn progress_line(&self) -> ProgressLine {
         let record = self.end.record();
         let bytes = u64::from(record.number) * u64::from(record.size);
@@ -276,7 +277,7 @@ impl Conversation {
         }
     }
 
-    /// Shows how far the transfer came, if that is due.
+    /// Shows the progress, if that is due.
     fn show<E: Eprint>(&mut self, rt: &E)
         ensures end { self.new.end ≡ self.old.end }
         ensures now { self.new.watch.now ≡ self.old.watch.now }
@@ -292,8 +293,8 @@ impl Conversation {
         }
     }
 
-    /// Shows how far it came in the end, and ends the line. `stored` is what a receiver stored, in
-    /// bytes.
+    /// Shows the final progress, and ends the line. `stored` is the number of bytes that a receiver
+    /// stored.
     pub(crate) fn finish<E: Eprint>(&self, rt: &E, stored: Option<u64>) {
         if self.lines.is_none() {
             return;
@@ -305,13 +306,13 @@ impl Conversation {
         let _ = eprintln!(rt; "\r{line}{ERASE_REST}");
     }
 
-    /// The ERROR by which the peer gave up, if it did.
+    /// The ERROR by which the peer ended the transfer, if it did.
     pub(crate) fn into_peer_reason(self) -> Reason {
         self.peer_reason
     }
 }
 
-/// Sends what a step says, if it says where to.
+/// Sends the answer of a step, if it has a destination.
 fn reply(socket: &ClientSocket, journal: &mut Journal, to: Option<Endpoint>, bytes: &[u8])
     ensures { journal.new.events ≡ replied socket.now.port to bytes.now journal.old.events }
 {
@@ -321,8 +322,8 @@ fn reply(socket: &ClientSocket, journal: &mut Journal, to: Option<Endpoint>, byt
     }
 }
 
-/// When an end is due after a step at this time, in milliseconds: progress begins another wait of
-/// the agreed seconds (RFC 2349, "Timeout Interval Option Specification").
+/// The deadline after a step at `now`, in milliseconds: progress restarts the timeout of `seconds`
+/// (RFC 2349, "Timeout Interval Option Specification").
 fn due_after(progress: bool, now: u64, seconds: u8, due: u64) -> u64
     ensures { result ≡ due_after progress now seconds due }
 {
@@ -333,21 +334,21 @@ fn due_after(progress: bool, now: u64, seconds: u8, due: u64) -> u64
     }
 }
 
-/// Notes the ERROR by which the peer gave up, if the step says that it did.
+/// Keeps the ERROR by which the peer ended the transfer, if it did in this step.
 fn note_peer_reason(reason: &mut Reason, alloc: Global, step: &Step, bytes: &[u8]) {
     if let Some(Outcome::PeerError(_)) = step.closed {
         *reason = error_line(alloc, bytes);
     }
 }
 
-/// Notes the length of the whole file that the peer states, where it is shown.
+/// Keeps the length of the file that the peer states, if progress is shown.
 fn note_total(total: &mut Option<u64>, shows: bool, step: &Step, bytes: &[u8]) {
     if step.progress && shows && total.is_none() {
         *total = stated_length(bytes);
     }
 }
 
-/// The line of an ERROR.
+/// An ERROR as a line of text.
 fn error_line(alloc: Global, bytes: &[u8]) -> Reason {
     let Some(packet) = decode_packet(bytes) else {
         return Reason::Unknown;
@@ -359,7 +360,7 @@ fn error_line(alloc: Global, bytes: &[u8]) -> Reason {
     }
 }
 
-/// The length of the file that a datagram states, if it is an OACK that states one.
+/// The length of the file in bytes, if the datagram is an OACK that states it.
 fn stated_length(bytes: &[u8]) -> Option<u64> {
     match decode_packet(bytes) {
         Some(PacketRef::Oack(options)) => stated_tsize(&options),

@@ -1,4 +1,4 @@
-//! Why a client's transfer failed, and what is known of the reason.
+//! The outcome and the reason of a client's failed transfer.
 
 ghost use Rattle.std.specs.Prelude.{◌≡◌, ◌≤◌};
 ghost use Rattle.tftp_host.specs.ClientOutcome.{status_of};
@@ -9,14 +9,14 @@ use std::{fmt, io};
 use tftp_ends::OpenFault;
 use tftp_host::ClientOutcome;
 
-/// What is known of the reason of a failure. `{}` writes it in words.
+/// The reason of a failure. `{}` writes it in words.
 #[derive(Drop)]
 pub(crate) enum Reason {
-    /// No more than how the program ended.
+    /// Nothing is known beyond the outcome.
     Unknown,
     /// The ERROR that the peer sent, as a line.
     Peer(String),
-    /// What the system said.
+    /// The error of the system.
     System(io::Error),
 }
 
@@ -34,12 +34,12 @@ impl fmt::Display for Reason {
     }
 }
 
-/// A transfer that failed, or was not opened: its status is not that of a complete one.
+/// A transfer that failed, or was not opened.
 #[derive(Drop)]
 pub(crate) struct Failure {
     /// How the program ends.
     pub(crate) end: ClientOutcome,
-    /// What is known of the reason.
+    /// Its reason.
     pub(crate) reason: Reason,
     ghost fails: { 1 ≤ status_of end },
 }
@@ -55,7 +55,7 @@ impl Failure {
         }
     }
 
-    /// The local file is there already, or cannot be opened.
+    /// The local file exists already, or cannot be opened.
     pub(crate) fn of_file(error: io::Error) -> Failure
         ensures { result.end ≡ ends.FileFault }
     {
@@ -65,7 +65,7 @@ impl Failure {
         }
     }
 
-    /// There is no socket.
+    /// A socket cannot be opened.
     pub(crate) fn of_socket(error: io::Error) -> Failure
         ensures { result.end ≡ ends.SocketFault }
     {

@@ -1,4 +1,4 @@
--- After its line the client is done, or stays.
+-- After its line the client returns, or lingers.
 use Rattle.std.proofs.Common.{refl, sym}
 use Rattle.tftp_client.specs.Conversation.{state_of}
 use Rattle.tftp_client.specs.Converses.Converses.{Begins}
