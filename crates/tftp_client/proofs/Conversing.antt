@@ -1,5 +1,5 @@
 -- What a client does at an event, from the facts of its calls, and runs one after another.
-use Rattle.std.proofs.Common.{◌≡◌, ℕ, List, ◌∷◌, Option, Some, None, Result, Ok, Err, IsErrOf, IsSome, ◌↔◌, ◌⊎◌, inl, inr, refl, ap, subst, ◌∙◌, option_map}
+use Rattle.std.proofs.Common.{◌≡◌, ℕ, List, ◌∷◌, Option, Some, None, Result, Ok, Err, IsErrOf, IsSome, ◌↔◌, inl, inr, refl, ap, subst, ◌∙◌, option_map}
 use Rattle.tftp_wire.specs.declared.packet.Packet.{Packet}
 use Rattle.tftp_file.specs.Sink.{SinkMeaning}
 use Rattle.tftp_file.specs.Source.{SourceMeaning}

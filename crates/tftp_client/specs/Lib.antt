@@ -2,3 +2,4 @@ pub mod Conversation
 pub mod Converses
 pub mod Reason
 pub mod Runs
+pub mod Stored

@@ -1,6 +1,5 @@
--- What the program does for a job: the run of one end from its request on, and of a second one if
--- the options were refused.
-use Rattle.std.specs.Prelude.{ℕ, ◌≡◌, ◌⊎◌, true, List, ◌∷◌, Option, None, option_map}
+-- What the program did for a job: the run of one end from its request on, or of two, where the first refused options.
+use Rattle.std.specs.Prelude.{ℕ, ◌≡◌, ◌⊎◌, true, List, ◌∷◌, Option, None, IfSome, option_map}
 use Rattle.tftp_negotiate.specs.declared.asked.Asked.{Asked}
 use Rattle.tftp_negotiate.specs.declared.known.Kind.{Kind}
 use Rattle.tftp_negotiate.specs.declared.known.Kind.TheVariants.{Read, Write}
@@ -127,13 +126,18 @@ module _ {S K : Type 0} (sources : SourceMeaning S) (sinks : SinkMeaning K) wher
     pub converses : Converses sources sinks port first file last files
     pub events : last.events ≡ after
 
-  -- a job is complete: its end is complete, its line was printed, and then its end may linger
-  -- (RFC 1350, section 6)
-  pub record Completes (job : Job) (before after : List Event) : Type 0 where
+  -- a job is complete: its end is, then its line was printed, and from then on its end stayed (RFC 1350, section 6);
+  -- the line has the bytes that were stored, where the file counts them
+  pub record Completes (stored : Files S K → Option ℕ) (job : Job) (before after : List Event) : Type 0 where
     pub port : ℕ
     pub last : State
     pub files : Files S K
     pub transfers : Transfers port job before last files
     pub complete : is_complete last.end.position.phase ≡ true
     pub count : ℕ
+    pub counts : ∥ IfSome (stored files) (λ n. count ≡ n) ∥₁
     pub stays : GoesOn port (printed count last) files after
+
+  -- what a status of 0 says: nothing was done over UDP, as for a help text, or a job is complete
+  abbrev pub Succeeds : (Files S K → Option ℕ) → List Event → List Event → Type 0
+  Succeeds stored before after = (after ≡ before) ⊎ ((job : Job) × Completes stored job before after)

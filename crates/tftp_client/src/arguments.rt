@@ -5,7 +5,8 @@ ghost use Rattle.tftp_host.specs.ClientOutcome.{end_text, status_of};
 ghost use Rattle.tftp_host.specs.declared.client.client_outcome.ClientOutcome.TheVariants as ends;
 ghost use Rattle.tftp_sockets.specs.Journal.Event.{Printed as Line};
 ghost use Rattle.tftp_client.specs.Conversation.{state_of};
-ghost use Rattle.tftp_client.specs.Runs.{Completes, GoesOn, printed};
+ghost use Rattle.tftp_client.specs.Runs.{Completes, GoesOn, Succeeds, printed};
+ghost use Rattle.tftp_client.specs.Stored.{stored};
 
 use crate::local::{LocalFile, LocalSource};
 use crate::transfer::{Completed, Failure, Job, transfer};
@@ -59,7 +60,25 @@ pub fn tftp_words<R: Runtime + AllocGlobal + Net, S: AsStr, E: IsTerminal>(
 ) -> u8
     ensures { result ≤ 2 }
 {
-    transfer_words(rt, words, errors.is_terminal()).unwrap_or(2)
+    tftp_noted(rt, words, errors, &mut Journal::new())
+}
+
+/// As [`tftp_words`], with a journal of what it does over UDP: after a status of 0 nothing was
+/// done, as for `--help`, or a transfer is complete.
+pub fn tftp_noted<R: Runtime + AllocGlobal + Net, S: AsStr, E: IsTerminal>(
+    rt: &R,
+    words: &[S],
+    errors: &E,
+    journal: &mut Journal,
+) -> u8
+    ensures status { result ≤ 2 }
+    ensures succeeds { result ≡ 0 → Succeeds ⟦<LocalSource<R::File> as Source>⟧.meaning
+        ⟦<LocalFile<R> as Sink>⟧.meaning stored journal.old.events journal.new.events }
+{
+    match transfer_words(rt, words, errors.is_terminal(), journal) {
+        Ok(status) => status,
+        Err(_) => 2,
+    }
 }
 
 /// As [`tftp_words`], but fails when out of memory or if an output cannot be written.
@@ -67,11 +86,14 @@ fn transfer_words<'a, R: Runtime + AllocGlobal + Net, S: AsStr>(
     rt: &R,
     words: &'a [S],
     has_terminal: bool,
+    journal: &mut Journal,
 ) -> anyhow::Result<u8>
-    ensures { IfOk result (λ status. status ≤ 2) }
+    ensures status { IfOk result (λ status. status ≤ 2) }
+    ensures succeeds { IfOk result (λ status. status ≡ 0 → Succeeds ⟦<LocalSource<R::File> as Source>⟧.meaning
+        ⟦<LocalFile<R> as Sink>⟧.meaning stored journal.old.events journal.new.events) }
 {
     let texts = BlockTexts::new(rt.alloc())?;
-    transfer_texts(rt, rt.alloc(), &texts, words, has_terminal)
+    transfer_texts(rt, rt.alloc(), &texts, words, has_terminal, journal)
 }
 
 /// Parses the words, and runs the order.
@@ -81,11 +103,14 @@ fn transfer_texts<'a, R: Files + Clone + Drop + Udp + Clock + Print + Eprint, S:
     texts: &'a BlockTexts,
     words: &'a [S],
     has_terminal: bool,
+    journal: &mut Journal,
 ) -> anyhow::Result<u8>
-    ensures { IfOk result (λ status. status ≤ 2) }
+    ensures status { IfOk result (λ status. status ≤ 2) }
+    ensures succeeds { IfOk result (λ status. status ≡ 0 → Succeeds ⟦<LocalSource<R::File> as Source>⟧.meaning
+        ⟦<LocalFile<R> as Sink>⟧.meaning stored journal.old.events journal.new.events) }
 {
     match read_words(rt, alloc, texts, words, has_terminal) {
-        Ok(ordered) => run_ordered(rt, alloc, &ordered),
+        Ok(ordered) => run_ordered(rt, alloc, &ordered, journal),
         Err(error) => Err(error),
     }
 }
@@ -95,12 +120,15 @@ fn run_ordered<R: Files + Clone + Drop + Udp + Clock + Print + Eprint>(
     rt: &R,
     alloc: Global,
     ordered: &Ordered<'_>,
+    journal: &mut Journal,
 ) -> anyhow::Result<u8>
     requires { IfErr ordered.now (λ status. status ≤ 2) }
-    ensures { IfOk result (λ status. status ≤ 2) }
+    ensures status { IfOk result (λ status. status ≤ 2) }
+    ensures succeeds { IfOk result (λ status. status ≡ 0 → Succeeds ⟦<LocalSource<R::File> as Source>⟧.meaning
+        ⟦<LocalFile<R> as Sink>⟧.meaning stored journal.old.events journal.new.events) }
 {
     match ordered {
-        Ok(order) => Ok(run_order(rt, alloc, order, &mut Journal::new())?),
+        Ok(order) => Ok(run_order(rt, alloc, order, journal)?),
         Err(status) => Ok(*status),
     }
 }
@@ -199,7 +227,7 @@ fn run_order<R: Files + Clone + Drop + Udp + Clock + Print + Eprint>(
     ensures status { IfOk result (λ status. status ≤ 2) }
     ensures complete { IfOk result (λ status. status ≡ 0
         → Completes ⟦<LocalSource<R::File> as Source>⟧.meaning ⟦<LocalFile<R> as Sink>⟧.meaning
-        order.now.job journal.old.events journal.new.events) }
+        stored order.now.job journal.old.events journal.new.events) }
 {
     match transfer(rt, alloc, &order.job, journal) {
         Ok(completed) => conclude(rt, completed, order.lingers, journal),

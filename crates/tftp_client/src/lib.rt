@@ -8,4 +8,4 @@ mod local;
 mod transfer;
 mod udp;
 
-pub use arguments::{tftp_command, tftp_words};
+pub use arguments::{tftp_command, tftp_noted, tftp_words};

@@ -1,7 +1,7 @@
 //! The local file of a client. A fetched file is written under another name, and gets its name at
 //! the commit. A file to send is measured first.
 
-ghost use Rattle.std.specs.Prelude.{◌≢◌};
+ghost use Rattle.std.specs.Prelude.{◌≡◌, ◌≢◌};
 ghost use Rattle.tftp_file.specs.declared.fault.StoreFault.TheVariants.{Memory};
 
 use std::alloc::Global;
@@ -97,8 +97,10 @@ impl<R: Files + Drop> LocalFile<R> {
         })
     }
 
-    /// The number of bytes appended.
-    pub(crate) fn count(&self) -> u64 {
+    /// The bytes that were stored.
+    pub(crate) fn count(&self) -> u64
+        ensures { result ≡ self.now.count }
+    {
         self.count
     }
 

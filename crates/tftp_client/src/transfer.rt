@@ -11,6 +11,7 @@ ghost use Rattle.tftp_host.specs.ClientOutcome.{status_of};
 ghost use Rattle.tftp_host.specs.declared.client.client_outcome.ClientOutcome.TheVariants as ends;
 ghost use Rattle.tftp_client.specs.Conversation.{state_of};
 ghost use Rattle.tftp_client.specs.Converses.{Converses, deadline_at};
+ghost use Rattle.tftp_client.specs.Stored.{stored};
 ghost use Rattle.tftp_client.specs.Runs.{FailsBy, FailsEnd, FailsTransfer, MayFallBack, Runs};
 ghost use Rattle.tftp_client.specs.Runs.{RunsJob, Stops, Transfers};
 ghost use Rattle.tftp_client.specs.Runs.{begun, measured, opens, plain, sent_from};
@@ -391,8 +392,10 @@ fn converse<C: Clock + Eprint, R: FileSystem + Drop>(
     }
 }
 
-/// The number of bytes stored, if the file is received.
-fn stored<S, R: FileSystem + Drop>(files: &Files<S, LocalFile<R>>) -> Option<u64> {
+/// The bytes that were stored, where the file is received.
+fn stored<S, R: FileSystem + Drop>(files: &Files<S, LocalFile<R>>) -> Option<u64>
+    ensures { result ≡ stored files.now }
+{
     match files {
         Files::Sink(local) => Some(local.count()),
         Files::Source(_) => None,

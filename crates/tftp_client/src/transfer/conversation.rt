@@ -209,7 +209,7 @@ impl Conversation {
         ensures port { self.new.socket.port ≡ self.old.socket.port }
         ensures files { AreFilesOf self.new.end.role.side files.new }
     {
-        let bytes = &self.buffer[..count];
+        let bytes = datagram_in(self.buffer.as_slice(), count);
         let Ok((step, outgoing)) = self.end.handle_datagram(files, from, bytes) else {
             return NO_STEP;
         };
@@ -312,7 +312,15 @@ impl Conversation {
     }
 }
 
-/// Sends the answer of a step, if it has a destination.
+/// The datagram of so many bytes that was received into the buffer.
+fn datagram_in(buffer: &[u8], count: usize) -> &[u8]
+    requires { count ≤ length buffer.now }
+    ensures { result.now ≡ take count buffer.now }
+{
+    &buffer[..count]
+}
+
+/// Sends what a step says, if it says where to.
 fn reply(socket: &ClientSocket, journal: &mut Journal, to: Option<Endpoint>, bytes: &[u8])
     ensures { journal.new.events ≡ replied socket.now.port to bytes.now journal.old.events }
 {

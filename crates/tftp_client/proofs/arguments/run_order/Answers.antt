@@ -14,6 +14,7 @@ returns-in-Ok-clause-complete g c =
       transfers = c.in-Ok.ensures.ok;
       complete = c.in-Ok.completed.complete;
       count = c.in-Ok.completed.count;
+      counts = c.in-Ok.completed.counts;
       stays = c.conclude.ensures.goes;
     })
     c.conclude.ensures.status

@@ -13,19 +13,21 @@ pub returns-in_default-clause-handles : goal.returns-in_default-clause-handles
 returns-in_default-clause-handles g c =
     let port = c.args.self.now.socket.port in
     let s : State = state_of c.args.self.now c.args.journal.now.events in
-    let handles : List ℕ → State → Type 0 = λ b t. Handles g.S.Source.meaning g.K.Sink.meaning port c.args.from (take c.args.count b) s c.args.files.now t c.handle_datagram.new.files in
-    let At : State → Type 0 = λ t. handles c.args.self.now.buffer.items t in
+    let handles : List ℕ → State → Type 0 = λ b t. Handles g.S.Source.meaning g.K.Sink.meaning port c.args.from b s c.args.files.now t c.handle_datagram.new.files in
+    let At : State → Type 0 = λ t. handles (take c.args.count c.args.self.now.buffer.items) t in
+    let whole = c.datagram_in-bytes.ensures ∙ ap (λ (b : List ℕ). take c.args.count b) c.as_slice.ensures.value in
     let Of : List ℕ → Type 0 = λ b. handles b s in
     subst At (state_is (sym c.in_default.ensures.err.0) refl refl refl)
-    (subst Of c.deref.ensures.value
-    (Loses (lost c.in_default.field-0 c.args.from (take c.args.count c.deref.result.now) s.end c.in_default.ensures.closed c.in_default.ensures.memory) c.in_default.ensures.err.1))
+    (subst Of whole
+    (Loses (lost c.in_default.field-0 c.args.from c.datagram_in-bytes.result.now s.end c.in_default.ensures.closed c.in_default.ensures.memory) c.in_default.ensures.err.1))
 
 pub returns-clause-handles : goal.returns-clause-handles
 returns-clause-handles g c =
     let port = c.args.self.now.socket.port in
     let s : State = state_of c.args.self.now c.args.journal.now.events in
-    let handles : List ℕ → State → Type 0 = λ b t. Handles g.S.Source.meaning g.K.Sink.meaning port c.args.from (take c.args.count b) s c.args.files.now t c.handle_datagram.new.files in
-    let At : State → Type 0 = λ t. handles c.args.self.now.buffer.items t in
+    let handles : List ℕ → State → Type 0 = λ b t. Handles g.S.Source.meaning g.K.Sink.meaning port c.args.from b s c.args.files.now t c.handle_datagram.new.files in
+    let At : State → Type 0 = λ t. handles (take c.args.count c.args.self.now.buffer.items) t in
+    let whole = c.datagram_in-bytes.ensures ∙ ap (λ (b : List ℕ). take c.args.count b) c.as_slice.ensures.value in
     let turn = c.in-Ok.ensures.steps.0 in
     let datagram = c.in-Ok.ensures.steps.1 in
     let lends = c.in-Ok.ensures.steps.2 in
@@ -37,4 +39,4 @@ returns-clause-handles g c =
     ∙ ap (λ (n : ℕ). due_after (reported s.end turn).progress s.now n s.due) seconds) in
     let Of : List ℕ → Type 0 = λ b. handles b (turned port turn s) in
     subst At (sym (state_is lends.state refl due sent))
-    (subst Of c.deref.ensures.value (Answers (not_refused _ _ c.in-Ok.ensures.closed) datagram))
+    (subst Of whole (Answers (not_refused _ _ c.in-Ok.ensures.closed) datagram))

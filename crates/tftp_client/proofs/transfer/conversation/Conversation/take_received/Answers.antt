@@ -2,7 +2,7 @@
 use Rattle.std.proofs.Common.{rules, ◌∙◌, ap, refl, ◌∷◌, ℕ, List, take, sym, subst}
 use Rattle.std.proofs.lemmas.List.{with_items_is, places}
 use Rattle.tftp_client.specs.Conversation.{state_of}
-use Rattle.tftp_client.specs.Converses.{Converses, Handles, State, received}
+use Rattle.tftp_client.specs.Converses.{Converses, Handles, State}
 use Rattle.tftp_client.specs.Converses.Converses.{Begins, Receives, Waits}
 use Rattle.tftp_sockets.specs.Journal.{Event}
 use Rattle.tftp_sockets.specs.Journal.Event.{Watched}
