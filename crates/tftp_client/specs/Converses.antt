@@ -17,7 +17,7 @@ use Rattle.tftp_host.specs.Watch.{deadline_of}
 use Rattle.tftp_sockets.specs.Journal.{Event, answered}
 use Rattle.tftp_sockets.specs.Journal.Event.{Received, Watched, Elapsed}
 
--- a client between two events: its end, its time, and the journal of the program
+-- a client between two events: its end, its time, and all that the program did, the newest first
 pub record State : Type 0 where
   pub end : EndState
   -- the time of the watch, in milliseconds
@@ -30,15 +30,16 @@ pub record State : Type 0 where
 abbrev pub IsOpen : EndState → Type 0
 IsOpen end = IsSome (outcome_of end.position.phase) → ⊥
 
--- the outcome of an incomplete run: that of the closed end, or `TimedOut` after too many waits
+-- how a run of an end that is not complete ended: as the end closed, or after too many waits
 abbrev pub EndsBy : EndState → Outcome → Type 0
 EndsBy end outcome = (outcome_of end.position.phase ≡ Some outcome) ⊎ (outcome ≡ TimedOut)
 
--- the agreed timeout after this time (RFC 2349, "Timeout Interval Option Specification")
+-- the deadline at this time, after as many seconds as the end agreed on
+-- (RFC 2349, "Timeout Interval Option Specification")
 abbrev pub deadline_at : ℕ → EndState → ℕ
 deadline_at now end = deadline_of now (interval_of (terms_of end.position.phase))
 
--- the deadline after a step: progress restarts the timeout
+-- the deadline after a step: progress begins another wait
 abbrev pub due_after : Bool → ℕ → ℕ → ℕ → ℕ
 due_after progress now seconds due = if progress then deadline_of now seconds else due
 
@@ -51,7 +52,7 @@ abbrev pub received : ℕ → Endpoint → List ℕ → ℕ → State → State
 received port from bytes time s =
     record s { now = time; events = Watched time ∷ (Received port from bytes ∷ s.events) }
 
--- the end handled a datagram by this turn, and its answer was sent from the port
+-- the end has turned so at a datagram, and its answer was sent from the port to where the turn says
 abbrev pub turned : ℕ → Turn → State → State
 turned port turn s =
     record {
@@ -63,7 +64,7 @@ turned port turn s =
       events = answered port turn.reply s.events;
     }
 
--- a timeout was delivered to the end, and its answer was sent
+-- the end handled a timeout, and its answer was sent
 abbrev pub elapsed : ℕ → State → State
 elapsed port s =
     record {
@@ -73,40 +74,42 @@ elapsed port s =
       events = answered port (timeout_turn s.end).reply (Elapsed port s.now ∷ s.events);
     }
 
--- a client checks for a timeout: nothing happens, or a due one is delivered to the open end
+-- what a client does when a timeout may be due: nothing; or it is due and the end is open, and then
+-- the timeout's step
 pub data MayElapse (port : ℕ) (s : State) : State → Type 0 where
   Stays : MayElapse port s s
   Elapses : s.due ≤ s.now → IsOpen s.end → MayElapse port s (elapsed port s)
 
--- a datagram has no step: the end is closed, or its step uses the file and is out of memory
+-- a datagram has no step: the end is closed, or handling it takes memory, and there is none
 abbrev pub IsLost : Endpoint → List ℕ → EndState → Type 0
 IsLost from bytes end =
     IsSome (outcome_of end.position.phase)
-    ⊎ ((decoded : Option Packet)
-    × Decodes bytes decoded × UsesFile (datagram_action end from bytes decoded))
+    ⊎ ((decoded : Option Packet) × Decodes bytes decoded
+    × UsesFile (datagram_action end from bytes decoded))
 
 module _ {S K : Type 0} (sources : SourceMeaning S) (sinks : SinkMeaning K) where
-  -- a source read ahead, or a sink wrote its buffer, between two datagrams
+  -- a file did its work between two datagrams
   abbrev pub Works : Files S K → Files S K → Type 0
   Works (Source old) (Source new) = ReadsAhead sources old new
   Works (Sink old) (Sink new) = WritesBehind sinks old new × sinks.becomes old new false
   Works (Source old) (Sink new) = ⊥
   Works (Sink old) (Source new) = ⊥
 
-  -- a client handles a datagram, after the clock was read
-  pub data Handles (port : ℕ) (from : Endpoint) (bytes : List ℕ) (s : State)
-      (files : Files S K) : State → Files S K → Type 0 where
-    -- the end's step, and its answer from the same port
+  -- what a client does at a datagram of these bytes from there, once the clock was read
+  pub data Handles (port : ℕ) (from : Endpoint) (bytes : List ℕ) (s : State) (files : Files S K)
+      : State → Files S K → Type 0 where
+    -- the end's step, and at once its answer from the same port to where the step says
     Answers : {turn : Turn} {files' : Files S K} → IsOpen s.end
         → DatagramStep sources sinks from bytes s.end files turn files'
         → Handles port from bytes s files (turned port turn s) files'
-    -- no answer, and the end is unchanged
+    -- no answer, and the end is as it was
     Loses : {files' : Files S K} → IsLost from bytes s.end → KeepsFiles sources sinks files files'
         → Handles port from bytes s files s files'
 
-  -- a client from one state to another: it sends only the answers of the steps of its end
-  pub data Converses (port : ℕ) (first : State)
-      (file : Files S K) : State → Files S K → Type 0 where
+  -- what a client did from one state to another: nothing is sent but the answers of the steps of
+  -- its end
+  pub data Converses (port : ℕ) (first : State) (file : Files S K)
+      : State → Files S K → Type 0 where
     Begins : Converses port first file first file
     -- a datagram was received
     Receives : {s next : State} {files files' : Files S K}
@@ -114,15 +117,15 @@ module _ {S K : Type 0} (sources : SourceMeaning S) (sinks : SinkMeaning K) wher
         → Converses port first file s files → s.now ≤ time
         → Handles port from bytes (received port from bytes time s) files next files'
         → Converses port first file next files'
-    -- no datagram was received until this time
+    -- none was received until this time
     Waits : {s : State} {files : Files S K} {time : ℕ}
         → Converses port first file s files → s.now ≤ time
         → Converses port first file (watched time s) files
-    -- a timeout may be due
+    -- a timeout was due
     Times : {s next : State} {files : Files S K}
         → Converses port first file s files → MayElapse port s next
         → Converses port first file next files
-    -- the source read ahead, or the sink wrote its buffer
+    -- the file did its work
     Rests : {s : State} {files files' : Files S K}
         → Converses port first file s files → Works files files'
         → Converses port first file s files'

@@ -1,4 +1,5 @@
--- What the program did for a job: the run of one end from its request on, or of two, where the first refused options.
+-- What the program did for a job: the run of one end from its request on, or of a second one, where
+-- options were refused.
 use Rattle.std.specs.Prelude.{ℕ, ◌≡◌, ◌⊎◌, true, List, ◌∷◌, Option, None, IfSome, option_map}
 use Rattle.tftp_negotiate.specs.declared.asked.Asked.{Asked}
 use Rattle.tftp_negotiate.specs.declared.known.Kind.{Kind}
@@ -20,7 +21,7 @@ use Rattle.tftp_sockets.specs.Journal.Event.{Printed, Sent}
 use Rattle.tftp_client.specs.declared.transfer.Job.{Job}
 use Rattle.tftp_client.specs.Converses.{Converses, EndsBy, State, deadline_at}
 
--- a client with a new end, after its request was sent from the port (RFC 1350, section 4)
+-- a client whose end opened, once its request was sent from the port (RFC 1350, section 4)
 abbrev pub sent_from : ℕ → EndState → Endpoint → List ℕ → List Event → State
 sent_from port end to bytes before =
     record { end = end; now = 0; due = deadline_at 0 end; events = Sent port to bytes ∷ before }
@@ -28,8 +29,8 @@ sent_from port end to bytes before =
 abbrev pub begun : ℕ → EndState → List Event → State
 begun port end before = sent_from port end end.position.last_sent_to end.position.last_sent before
 
--- the options of a job, with the length of the file as `tsize`, if that is requested (RFC 2349,
--- "Transfer Size Option Specification")
+-- the options that a job asks, where the file has that length
+-- (RFC 2349, "Transfer Size Option Specification")
 abbrev pub measured : Asked → ℕ → Asked
 measured asked length =
     record {
@@ -38,7 +39,7 @@ measured asked length =
       tsize = option_map (λ _. length) asked.tsize;
     }
 
--- the new end of a job: it reads a file, or writes one of that length
+-- the end of a job as it opens: one that reads, or one that writes a file of that length
 abbrev pub opens : Kind → Job → ℕ → EndState
 opens Read job length = getting job.server job.name.now job.mode job.asked MAX_WIRE job.retries
 opens Write job length =
@@ -52,13 +53,14 @@ printed count s = record s { events = Printed (end_text (ends.Complete count)) �
 abbrev pub plain : Job → Job
 plain job = record job { asked = record { blksize = None; timeout = None; tsize = None } }
 
--- a job may be tried again without options: ERROR 8 refused them, and the job allows it (RFC 2347)
+-- a job that ended so may be tried without options: ERROR 8 refused them, and the job allows it
+-- (RFC 2347)
 abbrev pub MayFallBack : Job → ClientOutcome → Type 0
 MayFallBack job (ends.Failed outcome) = (job.falls_back ≡ true) × FallsBack outcome job.asked
 MayFallBack job _ = ⊥
 
 module _ {S K : Type 0} (sources : SourceMeaning S) (sinks : SinkMeaning K) where
-  -- the run of an end at the port, from its request on
+  -- the program did this for an end at the port, from its request on
   pub record Runs (port : ℕ) (end : EndState) (before : List Event) (s : State)
       (files : Files S K) : Type 0 where
     pub file : Files S K
@@ -73,7 +75,7 @@ module _ {S K : Type 0} (sources : SourceMeaning S) (sinks : SinkMeaning K) wher
     pub events : last.events ≡ after
     pub ends : EndsBy last.end outcome
 
-  -- the same, by the outcome of the program
+  -- the same, of how the program ends
   abbrev pub Stops : ℕ → State → Files S K → List Event → ClientOutcome → Type 0
   Stops port first file after (ends.Failed outcome) = StopsBy port first file after outcome
   Stops port first file after _ = ⊥
@@ -84,12 +86,12 @@ module _ {S K : Type 0} (sources : SourceMeaning S) (sinks : SinkMeaning K) wher
     pub file : Files S K
     pub stops : StopsBy port (begun port end before) file after outcome
 
-  -- the same, by the outcome of the program; if no transfer was opened, nothing was sent
+  -- the same, of how the program ends; where no transfer was opened nothing was sent
   abbrev pub FailsEnd : EndState → List Event → List Event → ClientOutcome → Type 0
   FailsEnd end before after (ends.Failed outcome) = Fails end before after outcome
   FailsEnd end before after _ = after ≡ before
 
-  -- a job failed with this outcome
+  -- a job failed so
   abbrev pub FailsBy : Job → List Event → List Event → ClientOutcome → Type 0
   FailsBy job before after end =
       (length : ℕ) × FailsEnd (opens job.kind job length) before after end
@@ -99,26 +101,28 @@ module _ {S K : Type 0} (sources : SourceMeaning S) (sinks : SinkMeaning K) wher
   RunsJob port job before s files =
       (length : ℕ) × Runs port (opens job.kind job length) before s files
 
-  -- a job failed because ERROR 8 refused its options, and may be tried again without (RFC 2347)
+  -- a job failed by the run of its end, since its options were refused by ERROR 8, and may be tried
+  -- without (RFC 2347)
   pub record Refused (job : Job) (before after : List Event) : Type 0 where
     pub end : ClientOutcome
     pub fails : FailsBy job before after end
     pub allowed : MayFallBack job end
 
-  -- a job ran to that state, with its options or, after these were refused, without
+  -- a job ran to that state, at once or without its options, once these were refused
   abbrev pub Transfers : ℕ → Job → List Event → State → Files S K → Type 0
   Transfers port job before s files =
       RunsJob port job before s files
-      ⊎ ((middle : List Event)
-      × Refused job before middle × RunsJob port (plain job) middle s files)
+      ⊎ ((middle : List Event) × Refused job before middle
+      × RunsJob port (plain job) middle s files)
 
-  -- a job failed, with its options or, after these were refused, without
+  -- a job failed, at once or without its options, once these were refused
   abbrev pub FailsTransfer : Job → List Event → List Event → ClientOutcome → Type 0
   FailsTransfer job before after end =
       FailsBy job before after end
-      ⊎ ((middle : List Event) × Refused job before middle × FailsBy (plain job) middle after end)
+      ⊎ ((middle : List Event) × Refused job before middle
+      × FailsBy (plain job) middle after end)
 
-  -- the client continued from that state
+  -- the client went on from that state
   pub record GoesOn (port : ℕ) (first : State) (file : Files S K)
       (after : List Event) : Type 0 where
     pub last : State
@@ -126,9 +130,10 @@ module _ {S K : Type 0} (sources : SourceMeaning S) (sinks : SinkMeaning K) wher
     pub converses : Converses sources sinks port first file last files
     pub events : last.events ≡ after
 
-  -- a job is complete: its end is, then its line was printed, and from then on its end stayed (RFC 1350, section 6);
-  -- the line has the bytes that were stored, where the file counts them
-  pub record Completes (stored : Files S K → Option ℕ) (job : Job) (before after : List Event) : Type 0 where
+  -- a job is complete: its end is, then its line was printed, and from then on its end stayed
+  -- (RFC 1350, section 6); the line has the bytes that were stored, where the file counts them
+  pub record Completes (stored : Files S K → Option ℕ) (job : Job)
+      (before after : List Event) : Type 0 where
     pub port : ℕ
     pub last : State
     pub files : Files S K
@@ -140,4 +145,5 @@ module _ {S K : Type 0} (sources : SourceMeaning S) (sinks : SinkMeaning K) wher
 
   -- what a status of 0 says: nothing was done over UDP, as for a help text, or a job is complete
   abbrev pub Succeeds : (Files S K → Option ℕ) → List Event → List Event → Type 0
-  Succeeds stored before after = (after ≡ before) ⊎ ((job : Job) × Completes stored job before after)
+  Succeeds stored before after =
+      (after ≡ before) ⊎ ((job : Job) × Completes stored job before after)

@@ -1,4 +1,4 @@
--- The journal of a program over UDP: its datagrams, times and printed lines, newest first (own).
+-- What a program did over UDP: its datagrams, its time and its lines, the newest first (own).
 use Rattle.std.specs.Prelude.{ℕ, List, ◌∷◌, Option, Some, None}
 use Rattle.tftp_ends.specs.Step.{Reply}
 use Rattle.tftp_ends.specs.declared.endpoint.Endpoint.{Endpoint}
@@ -8,14 +8,15 @@ pub data Event : Type 0 where
   Received : (port : ℕ) (from : Endpoint) (bytes : List ℕ) → Event
   -- a datagram was sent from the port; it may be lost like any other (RFC 1350, section 2)
   Sent : (port : ℕ) (to : Endpoint) (bytes : List ℕ) → Event
-  -- the clock was read, and this is the time of the program's watch, in milliseconds
+  -- the clock was read: the time of the program's watch is this then, in milliseconds
   Watched : (time : ℕ) → Event
-  -- a timeout was delivered at the port, at this time of the watch (RFC 1350, section 2)
+  -- a timeout was delivered to the transfer at the port, at this time of the watch
+  -- (RFC 1350, section 2)
   Elapsed : (port : ℕ) (time : ℕ) → Event
-  -- a line was printed on standard output; its line end is left out
+  -- a line was printed on standard output, without its end
   Printed : (line : List ℕ) → Event
 
--- the journal after these bytes were sent from the port, if they have a destination
+-- the journal after these bytes were sent from the port, if they go somewhere
 abbrev pub replied : ℕ → Option Endpoint → List ℕ → List Event → List Event
 replied port None bytes events = events
 replied port (Some to) bytes events = Sent port to bytes ∷ events

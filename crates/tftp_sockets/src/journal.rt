@@ -1,21 +1,20 @@
-//! The journal of a program over UDP. Only contracts read it: it uses no memory, and a note does
-//! nothing at run time.
+//! What a program did over UDP. Only clauses read it: it takes no memory, and a note does nothing.
 
 ghost use Rattle.std.specs.Prelude.{◌≡◌, List, [], ◌∷◌};
 ghost use Rattle.std.specs.Borrow.{ftrue};
 ghost use Rattle.tftp_host.specs.ClientOutcome.{end_text};
 ghost use Rattle.tftp_host.specs.Printed.{line_text};
 ghost use Rattle.tftp_sockets.specs.Journal.{Event};
-ghost use Rattle.tftp_sockets.specs.Journal.Event.{Received, Sent, Watched, Elapsed};
-ghost use Rattle.tftp_sockets.specs.Journal.Event.{Printed as Line};
+ghost use Rattle.tftp_sockets.specs.Journal.Event.{Received, Sent, Watched};
+ghost use Rattle.tftp_sockets.specs.Journal.Event.{Elapsed, Printed as Line};
 
 use std::marker::{Model, PhantomData};
 use tftp_ends::Endpoint;
 use tftp_host::{ClientOutcome, Printed};
 
-/// The events of a program over UDP, the newest first.
+/// What a program did over UDP, the newest event first.
 ///
-/// A program creates one, and passes it to each call that is noted.
+/// A program makes one, and hands it to each call that is noted.
 #[derive(Drop)]
 pub struct Journal {
     marker: PhantomData<u8>,
@@ -27,7 +26,7 @@ impl Model for Journal {
 }
 
 impl Journal {
-    /// An empty journal.
+    /// A journal of a program that has done nothing yet.
     pub fn new() -> Journal
         ensures { result.events ≡ [] }
     {
@@ -46,13 +45,13 @@ impl Journal {
         ensures { self.new.events ≡ Sent port to.now bytes.now ∷ self.old.events }
     {}
 
-    /// Notes a reading of the clock. `time` is the time of the watch, in milliseconds.
+    /// Notes a reading of the watch, in milliseconds.
     pub(crate) fn watched(&mut self, time: u64)
         ensures { self.new.events ≡ Watched time ∷ self.old.events }
     {}
 
-    /// Notes that a timeout is delivered to the transfer at the port. `time` is the time of the
-    /// watch, in milliseconds.
+    /// Notes a timeout that is delivered to the transfer at the port, at this time of the watch, in
+    /// milliseconds.
     pub fn elapsed(&mut self, port: u16, time: u64)
         ensures { self.new.events ≡ Elapsed port time ∷ self.old.events }
     {}
