@@ -1,0 +1,61 @@
+-- What happens at the port of a transfer, call by call.
+use Rattle.std.proofs.Common.{◌≡◌, ◌≤◌, ◌⊎◌, ℕ, false, List, ◌∷◌, inl, inr, refl, sym, ap, subst, ◌∙◌}
+use Rattle.tftp_file.specs.Source.{SourceMeaning}
+use Rattle.tftp_ends.specs.declared.endpoint.Endpoint.{Endpoint}
+use Rattle.tftp_ends.specs.declared.record.Step.{Step}
+use Rattle.tftp_store.specs.Store.{StoreMeaning}
+use Rattle.tftp_server.specs.State.{ServerState, at, is_open}
+use Rattle.tftp_sockets.specs.Journal.{Event}
+use Rattle.tftp_sockets.specs.Journal.Event.{Received, Elapsed}
+use Rattle.tftp_loop.specs.Run.{Run}
+use Rattle.tftp_loop.specs.Run.Run.{Start, Then}
+use Rattle.tftp_loop.specs.Serves.{Timer, PortState, AtPort, Handles, Loses, Works, TimesOut, restarted, timer_after}
+use Rattle.tftp_loop.specs.Serves.AtPort.{A_datagram, A_lost_datagram, A_timeout, A_missed_timeout, Work}
+use Rattle.tftp_loop.proofs.RunLemmas.{once, idle, onward}
+
+module _ {S F D : Type 0} (meaning : StoreMeaning S D) (sources : SourceMeaning F) (now : ℕ) where
+  abbrev pub here : ServerState S F D → Timer → List Event → PortState S F D
+  here server timer events = record { server = server; timer = timer; events = events }
+
+  abbrev Runs : PortState S F D → PortState S F D → Type 0
+  Runs = Run (AtPort meaning sources now)
+
+  -- nothing was received
+  pub silent : (server : ServerState S F D) (timer : Timer) (es es' : List Event) → es' ≡ es → Runs (here server timer es) (here server timer es')
+  silent server timer es es' e = idle (ap (here server timer) e)
+
+  -- a datagram was received, handled and answered
+  pub receives : (old new : ServerState S F D) (timer timer' : Timer) (es before es' : List Event) (from : Endpoint) (bytes : List ℕ) (step : Step)
+      → before ≡ Received timer.port from bytes ∷ es → Handles meaning sources timer.port from bytes old new before es' step
+      → timer' ≡ timer_after now step.progress timer → Runs (here old timer es) (here new timer' es')
+  receives old new timer timer' es before es' from bytes step noted handles timed =
+      let At : List Event → Type 0 = λ before. Handles meaning sources timer.port from bytes old new before es' step in
+      once (A_datagram (record { from = from; bytes = bytes; step = step; handles = subst At noted handles; timer = timed }))
+
+  -- a datagram was received and lost
+  pub receives_lost : (old new : ServerState S F D) (timer : Timer) (es before es' : List Event) (from : Endpoint) (bytes : List ℕ)
+      → before ≡ Received timer.port from bytes ∷ es → Loses meaning sources timer.port old new → es' ≡ before → Runs (here old timer es) (here new timer es')
+  receives_lost old new timer es before es' from bytes noted loses same =
+      once (A_lost_datagram (record { from = from; bytes = bytes; loses = loses; timer = refl; events = same ∙ noted }))
+
+  -- the file of the transfer worked, or did not
+  pub then_works : (start : PortState S F D) (old new : ServerState S F D) (timer : Timer) (es : List Event) (tid : ℕ)
+      → Runs start (here old timer es) → tid ≡ timer.port → (new ≡ old) ⊎ Works meaning sources tid old new → Runs start (here new timer es)
+  then_works start old new timer es tid r same (inl e) = onward r (idle (ap (λ (s : ServerState S F D). here s timer es) e))
+  then_works start old new timer es tid r same (inr w) =
+      let At : ℕ → Type 0 = λ p. Works meaning sources p old new in
+      Then r (Work (record { works = subst At same w; timer = refl; events = refl }))
+
+  -- a timeout was delivered, and what was sent again
+  pub elapses : (old new : ServerState S F D) (timer timer' : Timer) (es before es' : List Event) (tid : ℕ) (step : Step)
+      → timer.deadline ≤ now → before ≡ Elapsed tid now ∷ es → tid ≡ timer.port → TimesOut timer.port old new before es' step
+      → timer' ≡ restarted now timer → Runs (here old timer es) (here new timer' es')
+  elapses old new timer timer' es before es' tid step due noted same times_out timed =
+      let At : List Event → Type 0 = λ before. TimesOut timer.port old new before es' step in
+      once (A_timeout (record { step = step; due = due; times_out = subst At (noted ∙ ap (λ (p : ℕ). Elapsed p now ∷ es) same) times_out; timer = timed }))
+
+  pub elapses_missed : (old new : ServerState S F D) (timer timer' : Timer) (es before es' : List Event) (tid : ℕ)
+      → timer.deadline ≤ now → before ≡ Elapsed tid now ∷ es → tid ≡ timer.port → is_open (at timer.port old.held) ≡ false → new ≡ old → es' ≡ before
+      → timer' ≡ restarted now timer → Runs (here old timer es) (here new timer' es')
+  elapses_missed old new timer timer' es before es' tid due noted same closed unmoved events timed =
+      once (A_missed_timeout (record { due = due; closed = closed; server = unmoved; timer = timed; events = events ∙ noted ∙ ap (λ (p : ℕ). Elapsed p now ∷ es) same }))

@@ -1,0 +1,16 @@
+-- Runs, one after the other.
+use Rattle.std.proofs.Common.{◌≡◌, sym, subst}
+use Rattle.tftp_loop.specs.Run.{Run}
+use Rattle.tftp_loop.specs.Run.Run.{Start, Then}
+
+module _ {A : Type 0} {Does : A → A → Type 0} where
+  pub onward : {x y z : A} → Run Does x y → Run Does y z → Run Does x z
+  onward r Start = r
+  onward r (Then q d) = Then (onward r q) d
+
+  -- nothing was done
+  pub idle : {x y : A} → y ≡ x → Run Does x y
+  idle {x} {y} e = let At : A → Type 0 = λ z. Run Does x z in subst At (sym e) Start
+
+  pub once : {x y : A} → Does x y → Run Does x y
+  once d = Then Start d

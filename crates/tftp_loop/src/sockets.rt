@@ -1,0 +1,143 @@
+//! The sockets of `tftpd` that no transfer has: the request port, and the port of the next
+//! transfer.
+
+ghost use Rattle.std.specs.Prelude.{◌≡◌, ◌≤◌, ◌∷◌, length, take, IfOk, IfSome, MatchOption};
+ghost use Rattle.tftp_sockets.specs.Journal.Event.{Received, Watched};
+
+use crate::udp::Udp;
+use mio::{Events, Poll, Token};
+use std::io;
+use std::time::{Clock, Duration};
+use tftp_ends::Endpoint;
+use tftp_host::{Watch, address_of, read_clock};
+use tftp_sockets::{Journal, ServerSocket, read_watch};
+
+/// The token of the request port; a transfer's is its port, which is never 0.
+pub(crate) const REQUESTS: Token = Token(0);
+
+/// The request port, with what waits for it and for the ports of transfers, and the time.
+#[derive(Drop)]
+pub(crate) struct Sockets {
+    poll: Poll,
+    pub(crate) requests: ServerSocket,
+    /// The address of the request port.
+    ip: [u8; 4],
+    /// A request may have come that was not received yet.
+    pub(crate) is_ready: bool,
+    /// A port that no transfer has yet.
+    spare: Option<ServerSocket>,
+    /// The time, which each wait reads.
+    pub(crate) watch: Watch,
+}
+
+impl Sockets {
+    /// Binds the request port.
+    pub(crate) fn bind<N: Udp + Clock>(net: &N, listen: Endpoint) -> io::Result<Sockets>
+        ensures time { IfOk result (λ sockets. sockets.watch.now ≡ 0) }
+        ensures address { IfOk result (λ sockets. sockets.ip ≡ listen.ip) }
+    {
+        let mut requests = net.bind(address_of(listen))?;
+        let poll = poll_for(net, &mut requests)?;
+        let ip = listen.ip;
+        Ok(Sockets {
+            poll,
+            requests,
+            ip,
+            is_ready: false,
+            spare: None,
+            watch: Watch::new(read_clock(net, 0)),
+        })
+    }
+
+    /// Where requests are received.
+    pub(crate) fn listening(&self) -> Endpoint
+        ensures { result ≡ record { ip = self.now.ip; port = self.now.requests.port } }
+    {
+        let ip = self.ip;
+        Endpoint {
+            ip,
+            port: self.requests.port(),
+        }
+    }
+
+    /// Waits for a datagram, for so many milliseconds at most, and reads the clock.
+    pub(crate) fn wait<C: Clock>(
+        &mut self,
+        clock: &C,
+        journal: &mut Journal,
+        events: &mut Events,
+        millis: u64,
+    )
+        ensures noted { journal.new.events ≡ Watched self.new.watch.now ∷ journal.old.events }
+        ensures forward { self.old.watch.now ≤ self.new.watch.now }
+        ensures port { self.new.requests.port ≡ self.old.requests.port }
+    {
+        let _ = self.poll.poll(events, Some(Duration::from_millis(millis)));
+        read_watch(clock, journal, &mut self.watch);
+    }
+
+    /// Receives from the request port, where a request may have come.
+    pub(crate) fn receive_request(
+        &mut self,
+        journal: &mut Journal,
+        buffer: &mut [u8],
+    ) -> Option<(Endpoint, usize)>
+        ensures noted { MatchOption result
+            (journal.new.events ≡ journal.old.events)
+            (λ datagram. journal.new.events
+                ≡ Received self.old.requests.port datagram.0 (take datagram.1 buffer.new)
+                    ∷ journal.old.events) }
+        ensures count { IfSome result (λ datagram. datagram.1 ≤ length buffer.new) }
+        ensures same { self.new ≡ record self.old { is_ready = self.new.is_ready } }
+    {
+        if !self.is_ready {
+            return None;
+        }
+        let received = self.requests.receive(journal, buffer);
+        self.is_ready = received.is_some();
+        received
+    }
+
+    /// Takes the port for the next transfer, which is bound if none is there.
+    pub(crate) fn take_spare<N: Udp>(&mut self, net: &N) -> Option<ServerSocket>
+        ensures { self.new ≡ record self.old { spare = self.new.spare } }
+    {
+        match self.spare.take() {
+            Some(spare) => Some(spare),
+            None => bind_spare(net, self.ip),
+        }
+    }
+
+    /// Gives a port back, for the next transfer.
+    pub(crate) fn give_back(&mut self, spare: ServerSocket)
+        ensures { self.new ≡ record self.old { spare = self.new.spare } }
+    {
+        self.spare = Some(spare);
+    }
+
+    /// Waits for what comes to the port of a transfer too.
+    pub(crate) fn register(&self, spare: &mut ServerSocket)
+        ensures { spare.new.port ≡ spare.old.port }
+    {
+        // Without readiness the transfer's datagrams are received before its timeouts.
+        let token = Token(usize::from(spare.port()));
+        let _ = spare.register(self.poll.registry(), token);
+    }
+}
+
+/// What waits for the request port.
+fn poll_for<N: Udp>(net: &N, requests: &mut ServerSocket) -> io::Result<Poll>
+    ensures { requests.new.port ≡ requests.old.port }
+{
+    let poll = net.poll()?;
+    requests.register(poll.registry(), REQUESTS)?;
+    Ok(poll)
+}
+
+/// Binds a port of the system's choice at the address.
+fn bind_spare<N: Udp>(net: &N, ip: [u8; 4]) -> Option<ServerSocket> {
+    match net.bind(address_of(Endpoint { ip, port: 0 })) {
+        Ok(socket) => Some(socket),
+        Err(_) => None,
+    }
+}

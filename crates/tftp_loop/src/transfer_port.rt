@@ -1,0 +1,322 @@
+//! A transfer of `tftpd` at its port: what is received there, and what is sent.
+
+ghost use Rattle.std.specs.Prelude.{◌≡◌, ◌≤◌, ◌⊎◌, IsSome, MatchOption, IfSome, true, false};
+ghost use Rattle.tftp_server.specs.State.{at, is_open, taken_of};
+ghost use Rattle.tftp_sockets.specs.Journal.{replied};
+ghost use Rattle.tftp_loop.specs.Serves.{Handles, Loses, Works, TimesOut, restarted, timer_after};
+ghost use Rattle.tftp_loop.specs.Served.{OnlyServesPort, timer_of};
+
+use crate::log_entry::LogEntry;
+use tftp_ends::{Endpoint, Step};
+use tftp_host::{Port, deadline, is_due};
+use tftp_server::{Server, Store};
+use tftp_sockets::{Journal, ServerSocket};
+
+/// The most datagrams that are received from one socket in a wake-up: a flood at one port does not
+/// starve the others.
+pub(crate) const MOST_AT_ONCE: usize = 32;
+
+/// How long after the newest datagram that took a transfer onward its port is looked at again where
+/// no other is noted, in milliseconds: a second datagram that came with it shows by no readiness.
+const LOOK_AFTER: u64 = 500;
+
+/// The result of the datagrams at a transfer's port.
+#[derive(Clone, Copy, PartialEq, Eq)]
+pub(crate) enum PortStatus {
+    /// Nothing more is there.
+    Empty,
+    /// The transfer advanced. What may be left is received at the next readiness, or when its port
+    /// is due.
+    Onward,
+    /// More may be there.
+    Unfinished,
+    /// The transfer closed.
+    Closed,
+}
+
+/// A transfer's socket, with what is reported of the transfer at its close.
+#[derive(Drop)]
+pub(crate) struct TransferSocket {
+    pub(crate) udp: ServerSocket,
+    /// The seconds without progress before a timeout.
+    pub(crate) interval: u8,
+    /// When the transfer times out. Its port may be due before, to be looked at.
+    pub(crate) times_out_at: u64,
+    /// What the log says of it, where there is a log.
+    pub(crate) log_entry: Option<LogEntry>,
+}
+
+/// The port of a transfer.
+pub(crate) type TransferPort = Port<TransferSocket>;
+
+/// Sends the answer of a step, if it has one.
+pub(crate) fn reply(socket: &ServerSocket, journal: &mut Journal, to: Option<Endpoint>, bytes: &[u8])
+    ensures { journal.new.events ≡ replied socket.now.port to bytes.now journal.old.events }
+{
+    match to {
+        Some(to) => socket.send(journal, to, bytes),
+        None => {}
+    }
+}
+
+/// Has the transfer at the socket's port handle a datagram, and sends the answer. There is no step
+/// when out of memory, and where no transfer is open.
+fn handle<S: Store>(
+    server: &mut Server<S>,
+    udp: &ServerSocket,
+    log_entry: &mut Option<LogEntry>,
+    journal: &mut Journal,
+    from: Endpoint,
+    bytes: &[u8],
+) -> Option<Step>
+    ensures handled { MatchOption result
+        (Loses S.meaning S.Source.meaning udp.now.port server.old server.new
+            × (journal.new.events ≡ journal.old.events))
+        (λ step. Handles S.meaning S.Source.meaning udp.now.port from bytes.now server.old
+            server.new journal.old.events journal.new.events step) }
+    ensures closed { IfSome result (λ step. IsSome step.closed
+        → IsSome (taken_of (at udp.now.port server.new.held))) }
+{
+    let tid = udp.port();
+    let Ok((step, outgoing)) = server.handle_datagram(tid, from, bytes) else {
+        return None;
+    };
+    let answer = server.bytes_of(tid, outgoing).unwrap_or(&[]);
+    reply(udp, journal, step.to, answer);
+    count_data(log_entry, step.progress, answer);
+    count_data(log_entry, step.progress, bytes);
+    Some(step)
+}
+
+/// Counts the bytes of DATA that a datagram carries, where it took a transfer onward and there is a
+/// log.
+fn count_data(log_entry: &mut Option<LogEntry>, is_progress: bool, datagram: &[u8]) {
+    if let Some(entry) = log_entry {
+        if is_progress {
+            entry.count(datagram);
+        }
+    }
+}
+
+/// Restarts the timer of a transfer where a step was progress.
+fn restart_by(port: &mut TransferPort, now: u64, is_progress: bool)
+    ensures { timer_of port.new ≡ timer_after now is_progress (timer_of port.old) }
+{
+    if is_progress {
+        port.socket.times_out_at = deadline(now, port.socket.interval);
+        port.due = port.socket.times_out_at.min(now.saturating_add(LOOK_AFTER));
+    }
+}
+
+/// Has the file of the transfer work, where the step was progress and did not close it.
+fn work_after<S: Store>(server: &mut Server<S>, tid: u16, step: &Step)
+    ensures works { (server.new ≡ server.old)
+        ⊎ Works S.meaning S.Source.meaning tid server.old server.new }
+    ensures closed { IsSome step.now.closed → server.new ≡ server.old }
+{
+    if !step.progress {
+        return;
+    }
+    if step.closed.is_some() {
+        return;
+    }
+    server.work(tid);
+}
+
+/// The result of a step.
+fn status_of(step: &Step) -> PortStatus
+    ensures { result ≡ PortStatus.Closed → IsSome step.now.closed }
+{
+    if step.closed.is_some() {
+        return PortStatus::Closed;
+    }
+    if step.progress {
+        PortStatus::Onward
+    } else {
+        PortStatus::Unfinished
+    }
+}
+
+/// Receives a datagram from a transfer's port, has the transfer handle it, and sends the answer; the
+/// file does its work after that. A datagram for whose handling there is no memory is a lost one.
+fn take_datagram<S: Store>(
+    server: &mut Server<S>,
+    port: &mut TransferPort,
+    journal: &mut Journal,
+    now: u64,
+    buffer: &mut [u8],
+) -> PortStatus
+    ensures serves { OnlyServesPort S.meaning S.Source.meaning now server.old port.old journal.old
+        server.new port.new journal.new }
+    ensures closed { result ≡ PortStatus.Closed
+        → IsSome (taken_of (at port.new.socket.udp.port server.new.held)) }
+{
+    let Some((from, count)) = port.socket.udp.receive(journal, buffer) else {
+        return PortStatus::Empty;
+    };
+    let bytes = &buffer[..count];
+    let socket = &mut port.socket;
+    let Some(step) = handle(server, &socket.udp, &mut socket.log_entry, journal, from, bytes) else {
+        return PortStatus::Unfinished;
+    };
+    restart_by(port, now, step.progress);
+    work_after(server, port.socket.udp.port(), &step);
+    status_of(&step)
+}
+
+/// Takes datagrams from a transfer's port, until one takes the transfer onward or none is left.
+fn take_datagrams<S: Store>(
+    server: &mut Server<S>,
+    port: &mut TransferPort,
+    journal: &mut Journal,
+    now: u64,
+    buffer: &mut [u8],
+) -> PortStatus
+    ensures serves { OnlyServesPort S.meaning S.Source.meaning now server.old port.old journal.old
+        server.new port.new journal.new }
+    ensures closed { result ≡ PortStatus.Closed
+        → IsSome (taken_of (at port.new.socket.udp.port server.new.held)) }
+{
+    for _ in 0..MOST_AT_ONCE {
+        let status = take_datagram(server, port, journal, now, buffer);
+        if status != PortStatus::Unfinished {
+            return status;
+        }
+    }
+    PortStatus::Unfinished
+}
+
+/// As [`take_datagrams`], and notes whether more may be there.
+fn take_noted<S: Store>(
+    server: &mut Server<S>,
+    port: &mut TransferPort,
+    journal: &mut Journal,
+    now: u64,
+    buffer: &mut [u8],
+) -> PortStatus
+    ensures serves { OnlyServesPort S.meaning S.Source.meaning now server.old port.old journal.old
+        server.new port.new journal.new }
+    ensures closed { result ≡ PortStatus.Closed
+        → IsSome (taken_of (at port.new.socket.udp.port server.new.held)) }
+{
+    let status = take_datagrams(server, port, journal, now, buffer);
+    port.is_ready = status == PortStatus::Unfinished;
+    status
+}
+
+/// Takes what came to a transfer's port, where a datagram may be.
+pub(crate) fn take_ready<S: Store>(
+    server: &mut Server<S>,
+    port: &mut TransferPort,
+    journal: &mut Journal,
+    now: u64,
+    buffer: &mut [u8],
+) -> PortStatus
+    ensures serves { OnlyServesPort S.meaning S.Source.meaning now server.old port.old journal.old
+        server.new port.new journal.new }
+    ensures closed { result ≡ PortStatus.Closed
+        → IsSome (taken_of (at port.new.socket.udp.port server.new.held)) }
+{
+    if !port.is_ready {
+        return PortStatus::Empty;
+    }
+    take_noted(server, port, journal, now, buffer)
+}
+
+/// Takes what is left at a port that is due, and else its timeout if that is due.
+pub(crate) fn take_due<S: Store>(
+    server: &mut Server<S>,
+    port: &mut TransferPort,
+    journal: &mut Journal,
+    now: u64,
+    buffer: &mut [u8],
+) -> PortStatus
+    ensures serves { OnlyServesPort S.meaning S.Source.meaning now server.old port.old journal.old
+        server.new port.new journal.new }
+    ensures closed { result ≡ PortStatus.Closed
+        → IsSome (taken_of (at port.new.socket.udp.port server.new.held)) }
+{
+    if !is_due(now, port.due) {
+        return PortStatus::Empty;
+    }
+    let status = take_noted(server, port, journal, now, buffer);
+    if status == PortStatus::Closed {
+        return PortStatus::Closed;
+    }
+    if status == PortStatus::Onward {
+        return PortStatus::Onward;
+    }
+    take_silence(server, port, journal, now)
+}
+
+/// Nothing took a transfer onward whose port is due: it times out where that is due too.
+fn take_silence<S: Store>(
+    server: &mut Server<S>,
+    port: &mut TransferPort,
+    journal: &mut Journal,
+    now: u64,
+) -> PortStatus
+    ensures serves { OnlyServesPort S.meaning S.Source.meaning now server.old port.old journal.old
+        server.new port.new journal.new }
+    ensures closed { result ≡ PortStatus.Closed
+        → IsSome (taken_of (at port.new.socket.udp.port server.new.held)) }
+{
+    port.due = port.socket.times_out_at;
+    if !is_due(now, port.socket.times_out_at) {
+        return PortStatus::Empty;
+    }
+    take_timeout(server, port, journal, now)
+}
+
+/// Delivers a timeout to a transfer, and sends its datagram again.
+fn take_timeout<S: Store>(
+    server: &mut Server<S>,
+    port: &mut TransferPort,
+    journal: &mut Journal,
+    now: u64,
+) -> PortStatus
+    requires { port.old.socket.times_out_at ≤ now }
+    ensures serves { OnlyServesPort S.meaning S.Source.meaning now server.old port.old journal.old
+        server.new port.new journal.new }
+    ensures closed { result ≡ PortStatus.Closed
+        → IsSome (taken_of (at port.new.socket.udp.port server.new.held)) }
+{
+    restart(port, now);
+    journal.elapsed(port.socket.udp.port(), now);
+    match time_out(server, &port.socket.udp, journal) {
+        Some(step) => status_of(&step),
+        None => PortStatus::Empty,
+    }
+}
+
+/// Restarts the timer of a transfer.
+fn restart(port: &mut TransferPort, now: u64)
+    ensures { timer_of port.new ≡ restarted now (timer_of port.old) }
+{
+    port.due = deadline(now, port.socket.interval);
+    port.socket.times_out_at = port.due;
+}
+
+/// Has the transfer at the socket's port make the step of a timeout, and sends its datagram. There is
+/// no step where no transfer is open.
+fn time_out<S: Store>(
+    server: &mut Server<S>,
+    udp: &ServerSocket,
+    journal: &mut Journal,
+) -> Option<Step>
+    ensures steps { MatchOption result
+        ((is_open (at udp.now.port server.old.held) ≡ false) × (server.new ≡ server.old)
+            × (journal.new.events ≡ journal.old.events))
+        (λ step. TimesOut udp.now.port server.old server.new journal.old.events
+            journal.new.events step) }
+    ensures closed { IfSome result (λ step. IsSome step.closed
+        → IsSome (taken_of (at udp.now.port server.new.held))) }
+{
+    let tid = udp.port();
+    let Ok((step, outgoing)) = server.handle_timeout(tid) else {
+        return None;
+    };
+    let answer = server.bytes_of(tid, outgoing).unwrap_or(&[]);
+    reply(udp, journal, step.to, answer);
+    Some(step)
+}
