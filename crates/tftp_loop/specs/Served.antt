@@ -1,14 +1,20 @@
 -- What the loop's own values are to what it did.
-use Rattle.std.specs.Prelude.{ℕ, List, map, Option, None}
+use Rattle.std.specs.Prelude.{ℕ, ◌≡◌, ◌<◌, List, map, length, slice_index_or, Option, Some, None, IsSome}
 use Rattle.tftp_file.specs.Source.{SourceMeaning}
 use Rattle.tftp_ends.specs.declared.endpoint.Endpoint.{Endpoint}
 use Rattle.tftp_store.specs.Store.{StoreMeaning}
-use Rattle.tftp_server.specs.State.{ServerState}
+use Rattle.tftp_ends.specs.declared.record.Record.{Record}
+use Rattle.tftp_server.specs.State.{ServerState, at, taken_of}
+use Rattle.tftp_server.specs.Request.{Admits, AdmissionState}
+use Rattle.tftp_server.specs.declared.opened.Opened.{Opened}
 use Rattle.tftp_host.specs.declared.server.port.Port.{Port}
 use Rattle.tftp_sockets.specs.declared.journal.Journal.{Journal}
+use Rattle.tftp_sockets.specs.Journal.{Event, replied}
 use Rattle.tftp_loop.specs.declared.transfer_port.TransferSocket.{TransferSocket}
 use Rattle.tftp_loop.specs.Run.{Run}
-use Rattle.tftp_loop.specs.Serves.{Timer, PortState, AtPort}
+use Rattle.tftp_loop.specs.declared.daemon.Daemon.{Daemon}
+use Rattle.tftp_loop.specs.Serves.{Timer, PortState, AtPort, LoopState, Does}
+use Rattle.tftp_loop.specs.Serves.{answering_port, close_printed, with_timer}
 
 -- the timer of a port
 abbrev pub timer_of : Port TransferSocket → Timer
@@ -31,3 +37,61 @@ module _ {S F D : Type 0} where
       → ServerState S F D → Port TransferSocket → Journal → Type 0
   OnlyServesPort meaning sources now old port before new port' after =
       Run (AtPort meaning sources now) (at_port old port before) (at_port new port' after)
+
+-- the journal after the close of a transfer that was taken, if one was
+abbrev pub close_reported : ℕ → Option Record → List Event → List Event
+close_reported port None events = events
+close_reported port (Some r) events = close_printed port r.peer r.outcome events
+
+module _ {S F D : Type 0} where
+  -- a daemon, where this datagram of the request port is pending
+  abbrev pub loop_state : Option (Endpoint × List ℕ) → Daemon S F D → LoopState S F D
+  loop_state pending d =
+      record {
+        requests = d.sockets.requests.port;
+        server = d.server;
+        pending = pending;
+        timers = map timer_of d.ports.items;
+        now = d.sockets.watch.now;
+        events = d.journal.events;
+      }
+
+  -- between two moments of a daemon, whether a datagram of the request port is pending or not
+  abbrev pub OnlyServes : StoreMeaning S D → SourceMeaning F → Daemon S F D → Daemon S F D → Type 0
+  OnlyServes meaning sources old new =
+      (pending : Option (Endpoint × List ℕ))
+      → Run (Does meaning sources) (loop_state pending old) (loop_state pending new)
+
+  -- between two moments where none is
+  abbrev pub ServesRounds : StoreMeaning S D → SourceMeaning F → Daemon S F D → Daemon S F D → Type 0
+  ServesRounds meaning sources old new =
+      Run (Does meaning sources) (loop_state None old) (loop_state None new)
+
+  -- from a moment where this one is pending to one where none is
+  abbrev pub AnswersPending : StoreMeaning S D → SourceMeaning F → Endpoint → List ℕ
+      → Daemon S F D → Daemon S F D → Type 0
+  AnswersPending meaning sources from bytes old new =
+      Run (Does meaning sources) (loop_state (Some (from, bytes)) old) (loop_state None new)
+
+  -- the answer to a datagram of the request port was sent, and a transfer that opened has its port
+  pub record HasAnswered (opened : Opened) (sent : List ℕ) (old new : Daemon S F D) : Type 0 where
+    pub requests : new.sockets.requests.port ≡ old.sockets.requests.port
+    pub server : new.server ≡ old.server
+    pub timers : map timer_of new.ports.items
+        ≡ with_timer old.sockets.watch.now opened.tid old.server.held (map timer_of old.ports.items)
+    pub now : new.sockets.watch.now ≡ old.sockets.watch.now
+    pub events : new.journal.events
+        ≡ replied (answering_port old.sockets.requests.port opened.tid) opened.to sent old.journal.events
+
+  -- the transfer of the port at this place has closed
+  pub record ClosedAt (place : ℕ) (d : Daemon S F D) : Type 0 where
+    pub timer : Timer
+    pub within : place < length (map timer_of d.ports.items)
+    pub is_timer : timer ≡ slice_index_or (map timer_of d.ports.items) place timer
+    pub closed : IsSome (taken_of (at timer.port d.server.held))
+
+  -- an admission is of this datagram, and of the server as it is
+  pub record IsAdmission (server : ServerState S F D) (from : Endpoint) (bytes : List ℕ) (admission : AdmissionState) : Type 0 where
+    pub admits : Admits server from bytes admission.ask
+    pub same_from : admission.from ≡ from
+    pub same_bytes : admission.bytes ≡ bytes

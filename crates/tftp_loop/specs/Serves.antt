@@ -277,15 +277,21 @@ at_start requests server events =
     record { requests = requests; server = server; pending = None; timers = []; now = 0; events = events }
 
 -- the journal after the line of the request port was printed
-abbrev pub listening : Endpoint → ℕ → List Event → List Event
-listening listen port events =
-    Printed (line_text (Listening (record { ip = listen.ip; port = port }))) ∷ events
+abbrev pub listening : List ℕ → ℕ → List Event → List Event
+listening ip port events =
+    Printed (line_text (Listening (record { ip = ip; port = port }))) ∷ events
+
+-- a server that has its request port served there, from one journal to the other
+abbrev pub ServesFrom : {S F D : Type 0} → StoreMeaning S D → SourceMeaning F → ℕ
+    → ServerState S F D → List Event → List Event → Type 0
+ServesFrom {S} {F} {D} meaning sources port server before after =
+    (last : LoopState S F D) × Run (Does meaning sources) (at_start port server before) last
+    × (after ≡ last.events)
 
 -- the whole of a server, from one journal to the other: no port could be bound, or the line of the
 -- request port is printed, and then the server serves
 pub data Serves {S F D : Type 0} (meaning : StoreMeaning S D) (sources : SourceMeaning F)
     (listen : Endpoint) (server : ServerState S F D) (before after : List Event) : Type 0 where
   Unbound : after ≡ before → Serves meaning sources listen server before after
-  Bound : (port : ℕ) (last : LoopState S F D)
-      → Run (Does meaning sources) (at_start port server (listening listen port before)) last
-      → after ≡ last.events → Serves meaning sources listen server before after
+  Bound : (port : ℕ) → ServesFrom meaning sources port server (listening listen.ip port before) after
+      → Serves meaning sources listen server before after

@@ -1,0 +1,127 @@
+-- What happens at all ports, call by call.
+use Rattle.std.proofs.Common.{◌≡◌, ◌≤◌, ◌<◌, ℕ, Bool, true, false, List, [], ◌∷◌, map, length, Option, Some, None, IsSome, refl, sym, ap, subst, ◌∙◌}
+use Rattle.std.specs.Prelude.{slice_set, slice_index_or, option_map, is_some, if◌then◌else◌}
+use Rattle.std.specs.List.{swap_remove}
+use Rattle.std.proofs.lemmas.Bool.{false≢true}
+use Rattle.tftp_file.specs.Source.{SourceMeaning}
+use Rattle.tftp_ends.specs.declared.endpoint.Endpoint.{Endpoint}
+use Rattle.tftp_ends.specs.declared.record.Record.{Record}
+use Rattle.tftp_store.specs.Store.{StoreMeaning}
+use Rattle.tftp_server.specs.State.{ServerState, at, taken_of, without}
+use Rattle.tftp_host.specs.declared.server.port.Port.{Port}
+use Rattle.tftp_sockets.specs.Journal.{Event}
+use Rattle.tftp_sockets.specs.Journal.Event.{Watched}
+use Rattle.tftp_loop.specs.declared.transfer_port.TransferSocket.{TransferSocket}
+use Rattle.tftp_loop.specs.Run.{Run}
+use Rattle.tftp_loop.specs.Run.Run.{Start, Then}
+use Rattle.tftp_loop.specs.Serves.{Timer, PortState, LoopState, AtPort, Does, close_printed, port_state}
+use Rattle.tftp_loop.specs.Serves.Does.{At_port, Clock_read, Transfer_closed}
+use Rattle.tftp_loop.specs.declared.daemon.Daemon.{Daemon}
+use Rattle.tftp_loop.specs.Served.{timer_of, close_reported, ClosedAt}
+use Rattle.tftp_loop.proofs.RunLemmas.{once, idle, onward}
+use Rattle.tftp_loop.proofs.PortRuns.{here}
+use Rattle.tftp_loop.proofs.ListLemmas.{map_is, map_within, map_set, set_itself, set_again, set_is, set_within}
+
+-- equal parts, equal states
+pub same_state : {S F D : Type 0} (s t : LoopState S F D) → s.requests ≡ t.requests → s.server ≡ t.server → s.pending ≡ t.pending → s.timers ≡ t.timers → s.now ≡ t.now → s.events ≡ t.events → s ≡ t
+same_state {S} {F} {D} s t a b c d e f = λ i. record { requests = a i; server = b i; pending = c i; timers = d i; now = e i; events = f i }
+
+module _ {S F D : Type 0} (meaning : StoreMeaning S D) (sources : SourceMeaning F) where
+  abbrev pub Runs : LoopState S F D → LoopState S F D → Type 0
+  Runs = Run (Does meaning sources)
+
+  -- the state of all ports after that of one
+  abbrev pub with_port : LoopState S F D → ℕ → PortState S F D → LoopState S F D
+  with_port s place p = record s { server = p.server; timers = slice_set s.timers place p.timer; events = p.events }
+
+  -- what happens at one port happens at all
+  pub lifted : (s : LoopState S F D) (place : ℕ) (timer : Timer) (p : PortState S F D) → place < length s.timers → timer ≡ slice_index_or s.timers place timer
+      → Run (AtPort meaning sources s.now) (port_state s timer) p → Runs s (with_port s place p)
+  lifted s place timer p within is Start = idle (ap (λ (ts : List Timer). record s { timers = ts }) (set_itself s.timers place timer is))
+  lifted s place timer p within is (Then {middle} q d) =
+      Then (lifted s place timer middle within is q)
+      (At_port (record {
+        place = place;
+        timer = middle.timer;
+        within = set_within s.timers place place middle.timer within;
+        is_timer = set_is s.timers place middle.timer;
+        next = p;
+        does = d;
+        is = ap (λ (ts : List Timer). record s { server = p.server; timers = ts; events = p.events }) (sym (set_again s.timers place middle.timer p.timer));
+      }))
+
+  -- the same, for a list of ports
+  pub at_place : (s : LoopState S F D) (ports : List (Port TransferSocket)) (place : ℕ) (port port' : Port TransferSocket) (server : ServerState S F D) (es : List Event)
+      → s.timers ≡ map timer_of ports → place < length ports → port ≡ slice_index_or ports place port
+      → Run (AtPort meaning sources s.now) (here meaning sources s.now s.server (timer_of port) s.events) (here meaning sources s.now server (timer_of port') es)
+      → Runs s (record s { server = server; timers = map timer_of (slice_set ports place port'); events = es })
+  at_place s ports place port port' server es listed within is r =
+      let At : List Timer → Type 0 = λ ts. Runs s (record s { server = server; timers = ts; events = es }) in
+      let timers : slice_set s.timers place (timer_of port') ≡ map timer_of (slice_set ports place port') =
+          ap (λ (ts : List Timer). slice_set ts place (timer_of port')) listed ∙ sym (map_set timer_of ports place port') in
+      subst At timers
+      (lifted s place (timer_of port) (here meaning sources s.now server (timer_of port') es)
+      (subst (λ (ts : List Timer). place < length ts) (sym listed) (map_within timer_of ports place within))
+      (map_is timer_of ports place port is ∙ ap (λ (ts : List Timer). slice_index_or ts place (timer_of port)) (sym listed)) r)
+
+  -- the clock was read
+  pub reads_clock : (s : LoopState S F D) (time : ℕ) (es : List Event) → s.now ≤ time → es ≡ Watched time ∷ s.events → Runs s (record s { now = time; events = es })
+  reads_clock s time es forward noted =
+      once (Clock_read (record { time = time; forward = forward; is = ap (λ (fs : List Event). record s { now = time; events = fs }) noted }))
+
+  -- a transfer was taken
+  closes_by : (s : LoopState S F D) (place : ℕ) (timer : Timer) (o : Option (Record × Option D)) (server : ServerState S F D) (es : List Event)
+      → place < length s.timers → timer ≡ slice_index_or s.timers place timer
+      → taken_of (at timer.port s.server.held) ≡ o → IsSome o
+      → server.held ≡ (if is_some (option_map (λ (t : Record × Option D). t.0) o) then without timer.port s.server.held else s.server.held)
+      → server ≡ record s.server { held = server.held } → es ≡ close_reported timer.port (option_map (λ (t : Record × Option D). t.0) o) s.events
+      → Runs s (record s { server = server; timers = swap_remove s.timers place timer; events = es })
+  closes_by s place timer None server es within is taken some held rest printed = absurd (false≢true some)
+  closes_by s place timer (Some t) server es within is taken some held rest printed =
+      once (Transfer_closed (record {
+        place = place;
+        timer = timer;
+        within = within;
+        is_timer = is;
+        taken = t;
+        is_taken = taken;
+        is =
+            same_state (record s { server = server; timers = swap_remove s.timers place timer; events = es })
+            (record s {
+              server = record s.server { held = without timer.port s.server.held };
+              timers = swap_remove s.timers place timer;
+              events = close_printed timer.port t.0.peer t.0.outcome s.events;
+            })
+            refl (rest ∙ ap (λ h. record s.server { held = h }) held) refl refl refl printed;
+      }))
+
+  pub closes : (s : LoopState S F D) (place : ℕ) (timer : Timer) (closed : Option Record) (server : ServerState S F D) (es : List Event)
+      → place < length s.timers → timer ≡ slice_index_or s.timers place timer
+      → IsSome (taken_of (at timer.port s.server.held)) → closed ≡ option_map (λ (t : Record × Option D). t.0) (taken_of (at timer.port s.server.held))
+      → server.held ≡ (if is_some closed then without timer.port s.server.held else s.server.held)
+      → server ≡ record s.server { held = server.held } → es ≡ close_reported timer.port closed s.events
+      → Runs s (record s { server = server; timers = swap_remove s.timers place timer; events = es })
+  closes s place timer closed server es within is some found held rest printed =
+      closes_by s place timer (taken_of (at timer.port s.server.held)) server es within is refl some
+      (held ∙ ap (λ (o : Option Record). if is_some o then without timer.port s.server.held else s.server.held) found) rest
+      (printed ∙ ap (λ (o : Option Record). close_reported timer.port o s.events) found)
+
+  -- the same, where the server was asked for another number of the port
+  pub closes_at : (s : LoopState S F D) (place : ℕ) (timer : Timer) (tid : ℕ) (closed : Option Record) (server : ServerState S F D) (es : List Event)
+      → place < length s.timers → timer ≡ slice_index_or s.timers place timer → tid ≡ timer.port
+      → IsSome (taken_of (at timer.port s.server.held)) → closed ≡ option_map (λ (t : Record × Option D). t.0) (taken_of (at tid s.server.held))
+      → server.held ≡ (if is_some closed then without tid s.server.held else s.server.held)
+      → server ≡ record s.server { held = server.held } → es ≡ close_reported timer.port closed s.events
+      → Runs s (record s { server = server; timers = swap_remove s.timers place timer; events = es })
+  closes_at s place timer tid closed server es within is same some found held rest printed =
+      closes s place timer closed server es within is some
+      (found ∙ ap (λ (p : ℕ). option_map (λ (t : Record × Option D). t.0) (taken_of (at p s.server.held))) same)
+      (held ∙ ap (λ (p : ℕ). if is_some closed then without p s.server.held else s.server.held) same) rest printed
+
+-- the transfer of a port that was put at its place has closed
+pub closed_at : {S F D : Type 0} {d : Daemon S F D} (ports : List (Port TransferSocket)) (place : ℕ) (port : Port TransferSocket)
+    → d.ports.items ≡ slice_set ports place port → place < length ports → IsSome (taken_of (at port.socket.udp.port d.server.held)) → ClosedAt place d
+closed_at {d = d} ports place port put within closed =
+    let At : List (Port TransferSocket) → Type 0 = λ ps. (place < length (map timer_of ps)) × (timer_of port ≡ slice_index_or (map timer_of ps) place (timer_of port)) in
+    let here = subst At (sym put) (map_within timer_of (slice_set ports place port) place (set_within ports place place port within), map_is timer_of (slice_set ports place port) place port (set_is ports place port)) in
+    record { timer = timer_of port; within = here.0; is_timer = here.1; closed = closed }

@@ -1,0 +1,314 @@
+//! A server at its ports, in one thread.
+
+ghost use Rattle.std.specs.Prelude.{◌≡◌, map, []};
+ghost use Rattle.tftp_loop.specs.Served.{ClosedAt, OnlyServes, ServesRounds, timer_of};
+ghost use Rattle.tftp_loop.specs.declared.transfer_port.PortStatus.TheVariants as statuses;
+
+use crate::report::{record_of_closed, report_close};
+use crate::serving::{Ending, LoopFault};
+use crate::sockets::{REQUESTS, Sockets};
+use crate::store::ServedStore;
+use crate::transfer_port::{PortStatus, TransferPort, take_due, take_ready};
+use crate::udp::Udp;
+use mio::{Events, Token};
+use std::alloc::{AllocError, Global};
+use std::time::Clock;
+use tftp_host::{DATAGRAM_BUFFER, Port, place_of, wait_for};
+use tftp_server::{Server, Store};
+use tftp_sockets::Journal;
+
+/// The most events that one wait reports.
+const MOST_EVENTS: usize = 128;
+
+/// A server with its sockets.
+#[derive(Drop)]
+pub(crate) struct Daemon<S: Store + Drop> {
+    pub(crate) server: Server<S>,
+    pub(crate) sockets: Sockets,
+    pub(crate) ports: Vec<TransferPort>,
+    pub(crate) journal: Journal,
+    /// What the request port appends.
+    pub(crate) out: Vec<u8>,
+    tids: Vec<u16>,
+    pub(crate) logs: bool,
+    pub(crate) alloc: Global,
+}
+
+/// Buffers: what a wait reports, a datagram of the request port, and one of a transfer.
+#[derive(Drop)]
+pub(crate) struct Buffers {
+    events: Events,
+    request: Vec<u8>,
+    datagram: Vec<u8>,
+}
+
+impl Buffers {
+    /// Buffers for the longest datagrams.
+    pub(crate) fn new(alloc: Global) -> Result<Buffers, AllocError> {
+        Ok(Buffers {
+            events: Events::with_capacity(alloc, MOST_EVENTS)?,
+            request: Vec::from_elem(alloc, 0u8, DATAGRAM_BUFFER)?,
+            datagram: Vec::from_elem(alloc, 0u8, DATAGRAM_BUFFER)?,
+        })
+    }
+}
+
+impl<S: ServedStore + Drop> Daemon<S> {
+    /// A server that has no transfer yet.
+    pub(crate) fn new(
+        alloc: Global,
+        server: Server<S>,
+        sockets: Sockets,
+        logs: bool,
+        journal: Journal,
+    ) -> Daemon<S>
+        ensures server { result.server ≡ server }
+        ensures sockets { result.sockets ≡ sockets }
+        ensures ports { result.ports.items ≡ [] }
+        ensures journal { result.journal ≡ journal }
+    {
+        Daemon {
+            server,
+            sockets,
+            ports: Vec::new(alloc),
+            journal,
+            out: Vec::new(alloc),
+            tids: Vec::new(alloc),
+            logs,
+            alloc,
+        }
+    }
+
+    /// Takes what comes, wait by wait, until so many transfers have closed, or so many waits are
+    /// over.
+    pub(crate) fn take_rounds<N: Udp + Clock + Print + Eprint>(
+        &mut self,
+        rt: &N,
+        ending: Ending,
+        buffers: &mut Buffers,
+    ) -> Result<(), LoopFault>
+        ensures { ServesRounds S.meaning S.Source.meaning self.old self.new }
+    {
+        let mut left = ending.transfers;
+        for _ in 0..ending.rounds {
+            left = self.take_round(rt, left, buffers)?;
+            if left == 0 {
+                return Ok(());
+            }
+        }
+        Ok(())
+    }
+
+    /// Waits once, and takes what came and what is due: of transfers before requests, since an
+    /// acknowledgement may free the place that its client's next request needs. `left` counts the
+    /// transfers that are yet to close.
+    fn take_round<N: Udp + Clock + Print + Eprint>(
+        &mut self,
+        rt: &N,
+        left: u64,
+        buffers: &mut Buffers,
+    ) -> Result<u64, LoopFault>
+        ensures { ServesRounds S.meaning S.Source.meaning self.old self.new }
+    {
+        self.wait(rt, &mut buffers.events);
+        let left = self.take_transfers(rt, left, buffers.datagram.as_mut_slice())?;
+        let left = self.take_requests(
+            rt,
+            left,
+            buffers.request.as_mut_slice(),
+            &mut buffers.events,
+            buffers.datagram.as_mut_slice(),
+        )?;
+        self.take_timeouts(rt, left, buffers.datagram.as_mut_slice())
+    }
+
+    /// Waits until a datagram is there or a transfer is due, and a second at most.
+    fn wait<C: Clock>(&mut self, clock: &C, events: &mut Events)
+        ensures { OnlyServes S.meaning S.Source.meaning self.old self.new }
+    {
+        let millis = self.millis_to_wait();
+        self.look(clock, events, millis);
+    }
+
+    /// How long to wait, in milliseconds.
+    fn millis_to_wait(&self) -> u64 {
+        if self.sockets.is_ready {
+            return 0;
+        }
+        millis_to_wait(self.sockets.watch.now, self.ports.as_slice())
+    }
+
+    /// Waits until a datagram is there, for so many milliseconds at most, and notes which are.
+    pub(crate) fn look<C: Clock>(&mut self, clock: &C, events: &mut Events, millis: u64)
+        ensures { OnlyServes S.meaning S.Source.meaning self.old self.new }
+    {
+        self.sockets
+            .wait(clock, &mut self.journal, events, millis);
+        note_all(events, &mut self.sockets.is_ready, self.ports.as_mut_slice());
+    }
+
+    /// Takes what came to the ports of transfers. `left` counts the transfers that are yet to
+    /// close.
+    pub(crate) fn take_transfers<P: Print + Eprint>(
+        &mut self,
+        rt: &P,
+        left: u64,
+        buffer: &mut [u8],
+    ) -> Result<u64, LoopFault>
+        ensures { OnlyServes S.meaning S.Source.meaning self.old self.new }
+    {
+        let mut left = left;
+        // From the end, since a port that closes gives its place to the last.
+        for place in (0..self.ports.len()).rev() {
+            let status = self.take_ready_at(place, buffer);
+            left = self.finish(rt, left, place, status)?;
+        }
+        Ok(left)
+    }
+
+    /// Takes what came to the port of a transfer, where a datagram may be.
+    fn take_ready_at(&mut self, place: usize, buffer: &mut [u8]) -> PortStatus
+        ensures serves { OnlyServes S.meaning S.Source.meaning self.old self.new }
+        ensures closed { result ≡ statuses.Closed → ClosedAt place self.new }
+    {
+        if place >= self.ports.len() {
+            return PortStatus::Empty;
+        }
+        let now = self.sockets.watch.now;
+        let port = &mut self.ports[place];
+        take_ready(&mut self.server, port, &mut self.journal, now, buffer)
+    }
+
+    /// Takes the timeouts that are due, by the identifiers of the transfers, once nothing is left at
+    /// their ports.
+    fn take_timeouts<P: Print + Eprint>(
+        &mut self,
+        rt: &P,
+        left: u64,
+        buffer: &mut [u8],
+    ) -> Result<u64, LoopFault>
+        ensures { OnlyServes S.meaning S.Source.meaning self.old self.new }
+    {
+        if wait_for(self.sockets.watch.now, self.ports.as_slice()) > 0 {
+            return Ok(left);
+        }
+        self.tids.clear();
+        if self.server.tids(&mut self.tids).is_err() {
+            return Ok(left);
+        }
+        let mut left = left;
+        for at in 0..self.tids.len() {
+            left = self.take_timeout_of(rt, left, at, buffer)?;
+        }
+        Ok(left)
+    }
+
+    /// Takes what is due of the transfer whose identifier is this one of the list.
+    fn take_timeout_of<P: Print + Eprint>(
+        &mut self,
+        rt: &P,
+        left: u64,
+        at: usize,
+        buffer: &mut [u8],
+    ) -> Result<u64, LoopFault>
+        ensures { OnlyServes S.meaning S.Source.meaning self.old self.new }
+    {
+        let Some(tid) = self.tids.get(at).copied() else {
+            return Ok(left);
+        };
+        let Some(place) = place_of(tid, self.ports.as_slice()) else {
+            return Ok(left);
+        };
+        let status = self.take_due_at(place, buffer);
+        self.finish(rt, left, place, status)
+    }
+
+    /// Takes what is left at the port of a transfer that is due, and else its timeout.
+    fn take_due_at(&mut self, place: usize, buffer: &mut [u8]) -> PortStatus
+        ensures serves { OnlyServes S.meaning S.Source.meaning self.old self.new }
+        ensures closed { result ≡ statuses.Closed → ClosedAt place self.new }
+    {
+        if place >= self.ports.len() {
+            return PortStatus::Empty;
+        }
+        let now = self.sockets.watch.now;
+        let port = &mut self.ports[place];
+        take_due(&mut self.server, port, &mut self.journal, now, buffer)
+    }
+
+    /// Closes the port of a transfer that closed. One transfer less is left then.
+    fn finish<P: Print + Eprint>(
+        &mut self,
+        rt: &P,
+        left: u64,
+        place: usize,
+        status: PortStatus,
+    ) -> Result<u64, LoopFault>
+        requires { status ≡ statuses.Closed → ClosedAt place self.old }
+        ensures { OnlyServes S.meaning S.Source.meaning self.old self.new }
+    {
+        if status != PortStatus::Closed {
+            return Ok(left);
+        }
+        match self.close(rt, place) {
+            Ok(()) => Ok(left.saturating_sub(1)),
+            Err(fault) => Err(fault),
+        }
+    }
+
+    /// Takes a closed transfer out of the server, with its port, and prints how it ended.
+    fn close<P: Print + Eprint>(&mut self, rt: &P, place: usize) -> Result<(), LoopFault>
+        requires { ClosedAt place self.old }
+        ensures { OnlyServes S.meaning S.Source.meaning self.old self.new }
+    {
+        let port = self.ports.swap_remove(place);
+        let reason = self.server.store().take_reason();
+        let record = record_of_closed(&mut self.server, port.socket.udp.port());
+        let now = self.sockets.watch.now;
+        report_close(rt, &mut self.journal, &port, record, now, reason)
+    }
+}
+
+/// How long to wait, in milliseconds, where no request is there.
+fn millis_to_wait<S>(now: u64, ports: &[Port<S>]) -> u64 {
+    if ports.iter().any(|port| port.is_ready) {
+        0
+    } else {
+        wait_for(now, ports)
+    }
+}
+
+/// Notes where a datagram is.
+fn note_all(events: &Events, is_ready: &mut bool, ports: &mut [TransferPort])
+    ensures { map timer_of ports.new ≡ map timer_of ports.old }
+{
+    for event in events.iter() {
+        note(event.token(), is_ready, ports);
+    }
+}
+
+/// Notes that a datagram is there.
+fn note(token: Token, is_ready: &mut bool, ports: &mut [TransferPort])
+    ensures { map timer_of ports.new ≡ map timer_of ports.old }
+{
+    if token == REQUESTS {
+        *is_ready = true;
+        return;
+    }
+    note_ready(token, ports);
+}
+
+/// Notes that a datagram is there at the port of a transfer.
+fn note_ready(token: Token, ports: &mut [TransferPort])
+    ensures { map timer_of ports.new ≡ map timer_of ports.old }
+{
+    let Ok(tid) = u16::try_from(token.0) else {
+        return;
+    };
+    let Some(place) = place_of(tid, ports) else {
+        return;
+    };
+    if place < ports.len() {
+        ports[place].is_ready = true;
+    }
+}

@@ -1,0 +1,114 @@
+//! What `tftpd` prints of its transfers, and of datagrams that opened none.
+
+ghost use Rattle.std.specs.Prelude.{◌≡◌, is_some, option_map, if◌then◌else◌};
+ghost use Rattle.tftp_server.specs.State.{at, taken_of, without};
+ghost use Rattle.tftp_loop.specs.Served.{close_reported};
+
+use crate::log_entry::shown;
+use crate::serving::LoopFault;
+use crate::transfer_port::TransferPort;
+use std::alloc::Global;
+use tftp_ends::{Endpoint, Outcome, Record};
+use tftp_host::{LogLine, Lost, Printed, Reason};
+use tftp_server::{Server, Store};
+use tftp_sockets::{Journal, print_line};
+
+/// Writes the line of a datagram that opened no transfer, with the reason for which the system
+/// refused a call on a file, if it did.
+pub(crate) fn log_unopened<E: Eprint>(
+    rt: &E,
+    alloc: Global,
+    peer: Endpoint,
+    bytes: &[u8],
+    answer: &[u8],
+    reason: Option<Reason>,
+) {
+    let request = shown(alloc, bytes);
+    let shown_answer = shown(alloc, answer);
+    let line = if answer.is_empty() {
+        LogLine::Ignored {
+            peer,
+            request: request.as_str(),
+        }
+    } else {
+        LogLine::Refused {
+            peer,
+            request: request.as_str(),
+            answer: shown_answer.as_str(),
+            reason,
+        }
+    };
+    let _ = eprintln!(rt; "{line}");
+}
+
+/// Writes the line of a request that is lost.
+pub(crate) fn log_lost<E: Eprint>(rt: &E, alloc: Global, peer: Endpoint, bytes: &[u8], lost: Lost) {
+    let request = shown(alloc, bytes);
+    let line = LogLine::Lost {
+        peer,
+        request: request.as_str(),
+        lost,
+    };
+    let _ = eprintln!(rt; "{line}");
+}
+
+/// Takes a closed transfer out of the server; how far it came.
+pub(crate) fn record_of_closed<S: Store + Drop>(server: &mut Server<S>, tid: u16) -> Option<Record>
+    ensures found { result ≡ option_map (λ taken. taken.0) (taken_of (at tid server.old.held)) }
+    ensures held { server.new.held ≡ (if is_some result then without tid server.old.held else
+        server.old.held) }
+    ensures rest { server.new ≡ record server.old { held = server.new.held } }
+{
+    match server.take_closed(tid) {
+        Some((record, _)) => Some(record),
+        None => None,
+    }
+}
+
+/// Prints how a transfer ended, and writes its line where there is a log. `reason` is why the system
+/// refused the newest call on a file.
+pub(crate) fn report_close<P: Print + Eprint>(
+    rt: &P,
+    journal: &mut Journal,
+    port: &TransferPort,
+    closed: Option<Record>,
+    now: u64,
+    reason: Option<Reason>,
+) -> Result<(), LoopFault>
+    ensures { journal.new.events
+        ≡ close_reported port.now.socket.udp.port closed journal.old.events }
+{
+    let Some(record) = closed else {
+        return Ok(());
+    };
+    let Some(peer) = record.peer else {
+        return Ok(());
+    };
+    let Some(outcome) = record.outcome else {
+        return Ok(());
+    };
+    log_closed(rt, port, now, outcome, reason);
+    let line = Printed::Closed {
+        port: port.socket.udp.port(),
+        peer: peer.port,
+        outcome,
+    };
+    match print_line(rt, journal, line) {
+        Ok(()) => Ok(()),
+        Err(_) => Err(LoopFault::Output),
+    }
+}
+
+/// Writes the line of a transfer's close, where there is a log.
+fn log_closed<E: Eprint>(
+    rt: &E,
+    port: &TransferPort,
+    now: u64,
+    outcome: Outcome,
+    reason: Option<Reason>,
+) {
+    if let Some(entry) = &port.socket.log_entry {
+        let line = entry.closed(port.socket.udp.port(), now, outcome, reason);
+        let _ = eprintln!(rt; "{line}");
+    }
+}

@@ -1,0 +1,319 @@
+//! The requests of `tftpd`: what is received at its request port, and the transfers that open by it.
+
+ghost use Rattle.std.specs.Prelude.{◌≡◌, ◌<◌, ◌++◌, ◌∷◌, [], false, None, IfOk, IfSome, vec_len};
+ghost use Rattle.std.specs.Prelude.{vec_capacity, map};
+ghost use Rattle.tftp_server.specs.Port.{asks_store};
+ghost use Rattle.tftp_server.specs.Request.{Admits};
+ghost use Rattle.tftp_server.specs.State.{at};
+ghost use Rattle.tftp_loop.specs.Serves.{answering_port, interval_at, started, with_timer};
+ghost use Rattle.tftp_loop.specs.Served.{AnswersPending, HasAnswered, IsAdmission, ServesRounds};
+ghost use Rattle.tftp_loop.specs.Served.{timer_of};
+
+use crate::daemon::Daemon;
+use crate::log_entry::LogEntry;
+use crate::report::{log_lost, log_unopened};
+use crate::serving::LoopFault;
+use crate::store::ServedStore;
+use crate::transfer_port::{MOST_AT_ONCE, TransferPort, TransferSocket, reply};
+use crate::udp::Udp;
+use mio::Events;
+use std::time::Clock;
+use tftp_ends::{DEFAULT_INTERVAL, Endpoint};
+use tftp_host::{Lost, Port, Reason, deadline};
+use tftp_server::{Admission, Opened, Server, Store};
+use tftp_sockets::ServerSocket;
+
+/// The identifier with which the server handles a datagram that opens no transfer.
+const NO_PORT: u16 = 0;
+
+impl<S: ServedStore + Drop> Daemon<S> {
+    /// Takes requests that are there, as many as a wake-up takes. `left` counts the transfers that
+    /// are yet to close.
+    pub(crate) fn take_requests<N: Udp + Clock + Print + Eprint>(
+        &mut self,
+        rt: &N,
+        left: u64,
+        request: &mut [u8],
+        events: &mut Events,
+        datagram: &mut [u8],
+    ) -> Result<u64, LoopFault>
+        ensures { ServesRounds S.meaning S.Source.meaning self.old self.new }
+    {
+        let mut left = left;
+        for _ in 0..MOST_AT_ONCE {
+            if left == 0 {
+                return Ok(left);
+            }
+            if self.ports.try_reserve(1).is_err() {
+                return Ok(left);
+            }
+            let Some((from, count)) = self.sockets.receive_request(&mut self.journal, request) else {
+                return Ok(left);
+            };
+            let bytes = &request[..count];
+            left = self.take_request(rt, left, from, bytes, events, datagram)?;
+        }
+        Ok(left)
+    }
+
+    /// Handles a datagram of the request port. Where it would open no transfer as the server is,
+    /// what came to transfers is taken before it: its client may have sent the acknowledgement that
+    /// frees a place just ahead of it, and then it is admitted again.
+    fn take_request<N: Udp + Clock + Print + Eprint>(
+        &mut self,
+        rt: &N,
+        left: u64,
+        from: Endpoint,
+        bytes: &[u8],
+        events: &mut Events,
+        datagram: &mut [u8],
+    ) -> Result<u64, LoopFault>
+        ensures { AnswersPending S.meaning S.Source.meaning from bytes.now self.old self.new }
+    {
+        let Ok(admission) = self.server.admit(from, bytes) else {
+            self.lose(rt, from, bytes, Lost::Memory);
+            return Ok(left);
+        };
+        if admission.may_open() {
+            self.open_request(rt, from, bytes, admission);
+            return Ok(left);
+        }
+        self.look(rt, events, 0);
+        match self.take_transfers(rt, left, datagram) {
+            Ok(left) => {
+                self.answer_later(rt, left, from, bytes);
+                Ok(left)
+            }
+            Err(fault) => Err(fault),
+        }
+    }
+
+    /// Answers a datagram of the request port, unless no transfer is left that is to close.
+    fn answer_later<N: Udp + Eprint>(&mut self, rt: &N, left: u64, from: Endpoint, bytes: &[u8])
+        ensures { AnswersPending S.meaning S.Source.meaning from bytes.now self.old self.new }
+    {
+        if left == 0 {
+            return;
+        }
+        let Ok(admission) = self.server.admit(from, bytes) else {
+            self.lose(rt, from, bytes, Lost::Memory);
+            return;
+        };
+        if admission.may_open() {
+            self.open_request(rt, from, bytes, admission);
+            return;
+        }
+        self.refuse_request(rt, from, bytes, admission);
+    }
+
+    /// Carries out the admission of a datagram that may open a transfer, which gets a port of its
+    /// own. The datagram is lost where no port can be bound, and when out of memory.
+    fn open_request<N: Udp + Eprint>(
+        &mut self,
+        rt: &N,
+        from: Endpoint,
+        bytes: &[u8],
+        admission: Admission<'_>,
+    )
+        requires { IsAdmission self.old.server from bytes.now admission }
+        ensures { AnswersPending S.meaning S.Source.meaning from bytes.now self.old self.new }
+    {
+        if self.ports.try_reserve(1).is_err() {
+            self.lose(rt, from, bytes, Lost::Memory);
+            return;
+        }
+        let Some(spare) = self.sockets.take_spare(rt) else {
+            self.lose(rt, from, bytes, Lost::Port);
+            return;
+        };
+        self.open_at(rt, from, bytes, admission, spare);
+    }
+
+    /// Carries out the admission of a datagram that may open a transfer at this port.
+    fn open_at<E: Eprint>(
+        &mut self,
+        rt: &E,
+        from: Endpoint,
+        bytes: &[u8],
+        admission: Admission<'_>,
+        spare: ServerSocket,
+    )
+        requires admitted { IsAdmission self.old.server from bytes.now admission }
+        requires reserved { vec_len self.old.ports < vec_capacity self.old.ports }
+        ensures { AnswersPending S.meaning S.Source.meaning from bytes.now self.old self.new }
+    {
+        let tid = spare.port();
+        set_store(&mut self.server, &admission, tid);
+        self.out.clear();
+        let opened = self.server.open(admission, tid, &mut self.out);
+        let reason = self.server.store().take_reason();
+        match opened {
+            Ok(opened) => self.answer_opened(rt, from, bytes, spare, opened, reason),
+            Err(_) => {
+                self.sockets.give_back(spare);
+                self.lose(rt, from, bytes, Lost::Memory);
+            }
+        }
+    }
+
+    /// Sends the answer to a datagram that might have opened a transfer at this port: from there if
+    /// it did.
+    fn answer_opened<E: Eprint>(
+        &mut self,
+        rt: &E,
+        from: Endpoint,
+        bytes: &[u8],
+        spare: ServerSocket,
+        opened: Opened,
+        reason: Option<Reason>,
+    )
+        requires reserved { vec_len self.old.ports < vec_capacity self.old.ports }
+        requires port { IfSome opened.tid (λ tid. tid ≡ spare.port) }
+        ensures { HasAnswered opened self.old.out.items self.old self.new }
+    {
+        match opened.tid {
+            Some(_) => self.begin(rt, from, bytes, spare, opened.to),
+            None => {
+                self.refuse(rt, opened.to, from, bytes, reason);
+                self.sockets.give_back(spare);
+            }
+        }
+    }
+
+    /// Carries out the admission of a datagram that opens no transfer.
+    fn refuse_request<E: Eprint>(
+        &mut self,
+        rt: &E,
+        from: Endpoint,
+        bytes: &[u8],
+        admission: Admission<'_>,
+    )
+        requires admitted { IsAdmission self.old.server from bytes.now admission }
+        requires opens_none { asks_store admission.ask ≡ false }
+        ensures { AnswersPending S.meaning S.Source.meaning from bytes.now self.old self.new }
+    {
+        set_store(&mut self.server, &admission, NO_PORT);
+        self.out.clear();
+        let opened = self.server.open(admission, NO_PORT, &mut self.out);
+        let reason = self.server.store().take_reason();
+        match opened {
+            Ok(opened) => self.refuse(rt, opened.to, from, bytes, reason),
+            Err(_) => self.lose(rt, from, bytes, Lost::Memory),
+        }
+    }
+
+    /// Writes the line of a request that is lost, where there is a log.
+    fn lose<E: Eprint>(&self, rt: &E, from: Endpoint, bytes: &[u8], lost: Lost) {
+        if self.logs {
+            log_lost(rt, self.alloc, from, bytes, lost);
+        }
+    }
+
+    /// Sends the answer to a datagram that opened no transfer from the request port, if there is
+    /// one.
+    fn refuse<E: Eprint>(
+        &mut self,
+        rt: &E,
+        to: Option<Endpoint>,
+        from: Endpoint,
+        bytes: &[u8],
+        reason: Option<Reason>,
+    )
+        ensures { HasAnswered (record { tid = None; to = to }) self.old.out.items self.old
+            self.new }
+    {
+        let answer = self.out.as_slice();
+        reply(&self.sockets.requests, &mut self.journal, to, answer);
+        if self.logs {
+            log_unopened(rt, self.alloc, from, bytes, answer, reason);
+        }
+    }
+
+    /// Sends the first datagram of a transfer that opened from its port, and serves that port.
+    fn begin<E: Eprint>(
+        &mut self,
+        rt: &E,
+        from: Endpoint,
+        bytes: &[u8],
+        spare: ServerSocket,
+        to: Option<Endpoint>,
+    )
+        requires { vec_len self.old.ports < vec_capacity self.old.ports }
+        ensures { HasAnswered (record { tid = Some spare.port; to = to }) self.old.out.items
+            self.old self.new }
+    {
+        reply(&spare, &mut self.journal, to, self.out.as_slice());
+        let log_entry = self.log_opened(rt, spare.port(), from, bytes);
+        let port = self.port_of(spare, log_entry);
+        self.ports.push_reserved(port);
+    }
+
+    /// The port of a transfer that opened.
+    fn port_of(&self, spare: ServerSocket, log_entry: Option<LogEntry>) -> TransferPort
+        ensures { timer_of result ≡ started self.now.sockets.watch.now spare.port
+            (interval_at (at spare.port self.now.server.held)) }
+    {
+        let mut udp = spare;
+        self.sockets.register(&mut udp);
+        let tid = udp.port();
+        let interval = interval_of(&self.server, tid);
+        let due = deadline(self.sockets.watch.now, interval);
+        Port {
+            tid,
+            due,
+            is_ready: false,
+            socket: TransferSocket {
+                udp,
+                interval,
+                times_out_at: due,
+                log_entry,
+            },
+        }
+    }
+
+    /// Writes the line of a request that opened a transfer at the port, where there is a log; what
+    /// its close is to say of it.
+    fn log_opened<E: Eprint>(
+        &self,
+        rt: &E,
+        tid: u16,
+        from: Endpoint,
+        bytes: &[u8],
+    ) -> Option<LogEntry> {
+        if !self.logs {
+            return None;
+        }
+        let first = self.out.as_slice();
+        let entry = LogEntry::new(self.alloc, from, bytes, first, self.sockets.watch.now);
+        let line = entry.opened(tid);
+        let _ = eprintln!(rt; "{line}");
+        Some(entry)
+    }
+}
+
+/// Sets the store for the transfer that an admission may open at this port.
+fn set_store<S: ServedStore + Drop>(server: &mut Server<S>, admission: &Admission<'_>, tid: u16)
+    ensures rest { server.new ≡ record server.old { store = server.new.store } }
+    ensures same { S.meaning.stored server.new.store ≡ S.meaning.stored server.old.store }
+{
+    let longest = server.block_size(admission).map_or(0, longest_text);
+    let store = server.store_mut();
+    store.set_port(tid);
+    store.set_longest(longest);
+}
+
+/// The seconds without progress before a timeout of a transfer.
+fn interval_of<S: Store>(server: &Server<S>, tid: u16) -> u8
+    ensures { result ≡ interval_at (at tid server.now.held) }
+{
+    match server.record(tid) {
+        Some(record) => record.interval(),
+        None => DEFAULT_INTERVAL,
+    }
+}
+
+/// The longest text that can be sent in blocks of this size, in bytes: 65,535 blocks, the last of
+/// them one byte short (RFC 1350, section 6).
+fn longest_text(block_size: u16) -> u64 {
+    (u64::from(block_size) * 65_535).saturating_sub(1)
+}
