@@ -1,11 +1,13 @@
 -- What happens at the request port.
-use Rattle.std.proofs.Common.{◌≡◌, ℕ, List, [], ◌∷◌, Option, Some, None, refl, sym, ap, subst, ◌∙◌}
+use Rattle.std.proofs.Common.{◌≡◌, ℕ, false, List, [], ◌∷◌, ◌++◌, Option, Some, None, IsSome, refl, sym, ap, subst, ◌∙◌}
+use Rattle.std.specs.Prelude.{Ok, Err, is_ok}
+use Rattle.std.proofs.lemmas.Bool.{true≢false}
 use Rattle.tftp_file.specs.Source.{SourceMeaning}
 use Rattle.tftp_ends.specs.declared.endpoint.Endpoint.{Endpoint}
 use Rattle.tftp_store.specs.Store.{StoreMeaning}
 use Rattle.tftp_server.specs.State.{ServerState, at}
-use Rattle.tftp_server.specs.Request.{Admits, CarriesOut, RequestStep, Left, Goes, Came}
-use Rattle.tftp_server.specs.Port.{Ask}
+use Rattle.tftp_server.specs.Request.{Admits, AdmissionState, CarriesOut, RequestStep, Left, Goes, Came, left_by}
+use Rattle.tftp_server.specs.Port.{Ask, Ignores, Refuses, Reads, Writes, asks_store}
 use Rattle.tftp_server.specs.declared.opened.Opened.{Opened}
 use Rattle.tftp_sockets.specs.Journal.{Event, replied}
 use Rattle.tftp_sockets.specs.Journal.Event.{Received}
@@ -13,6 +15,7 @@ use Rattle.tftp_loop.specs.Run.{Run}
 use Rattle.tftp_loop.specs.Run.Run.{Start, Then}
 use Rattle.tftp_loop.specs.Serves.{LoopState, Does, after_request, answering_port, with_timer}
 use Rattle.tftp_loop.specs.Serves.Does.{Request_received, Request_answered, Request_lost, Store_set}
+use Rattle.tftp_loop.specs.Served.{IsAdmission}
 use Rattle.tftp_loop.proofs.RunLemmas.{once, idle, onward}
 use Rattle.tftp_loop.proofs.LoopRuns.{Runs, same_state}
 
@@ -69,3 +72,54 @@ module _ {S F D : Type 0} (meaning : StoreMeaning S D) (sources : SourceMeaning 
         steps = steps;
         is = same_state t (after_request s left) requests server none timers now events;
       }))
+
+  -- the datagram was lost, and nothing changed
+  pub loses_as : (s t : LoopState S F D) (from : Endpoint) (bytes : List ℕ) → s.pending ≡ Some (from, bytes) → t.requests ≡ s.requests → t.server ≡ s.server → t.pending ≡ None
+      → t.timers ≡ s.timers → t.now ≡ s.now → t.events ≡ s.events → Runs meaning sources s t
+  loses_as s t from bytes pending requests server none timers now events =
+      once (Request_lost (record { from = from; bytes = bytes; pending = pending; is = same_state t (record s { pending = None }) requests server none timers now events }))
+
+  -- the store was set, and the datagram was lost
+  pub sets_and_loses : (s t : LoopState S F D) (from : Endpoint) (bytes : List ℕ) (set : ServerState S F D) → s.pending ≡ Some (from, bytes)
+      → set ≡ record s.server { store = set.store } → meaning.stored set.store ≡ meaning.stored s.server.store → t.requests ≡ s.requests → t.server ≡ set → t.pending ≡ None
+      → t.timers ≡ s.timers → t.now ≡ s.now → t.events ≡ s.events → Runs meaning sources s t
+  sets_and_loses s t from bytes set pending rest same requests server none timers now events =
+      onward (sets_store s set rest same) (loses_as (record s { server = set }) t from bytes pending requests server none timers now events)
+
+  -- the store was set, and an admission was carried out and answered
+  pub sets_and_answers : (s t : LoopState S F D) (from : Endpoint) (bytes : List ℕ) (tid : ℕ) (set new : ServerState S F D) (admission : AdmissionState) (cleared out : List ℕ) (opened : Opened)
+      → s.pending ≡ Some (from, bytes) → IsAdmission s.server from bytes admission
+      → set ≡ record s.server { store = set.store } → meaning.stored set.store ≡ meaning.stored s.server.store
+      → (sent : List ℕ) × (out ≡ cleared ++ sent) × CarriesOut meaning sources set admission.from admission.bytes admission.ask tid (record { new = new; opened = opened; sent = sent })
+      → at tid set.held ≡ None → cleared ≡ []
+      → t.requests ≡ s.requests → t.server ≡ new → t.pending ≡ None
+      → t.timers ≡ with_timer s.now opened.tid new.held s.timers → t.now ≡ s.now
+      → t.events ≡ replied (answering_port s.requests opened.tid) opened.to out s.events → Runs meaning sources s t
+  sets_and_answers s t from bytes tid set new admission cleared out opened pending admitted rest same carried free empty requests server none timers now events =
+      let sent = carried.0 in
+      let left : Left S F D = record { new = new; opened = opened; sent = sent } in
+      let At : Endpoint → Type 0 = λ e. CarriesOut meaning sources set e admission.bytes admission.ask tid left in
+      let Of : List ℕ → Type 0 = λ bs. CarriesOut meaning sources set from bs admission.ask tid left in
+      let carries = subst Of admitted.same_bytes (subst At admitted.same_from carried.2) in
+      let steps = request_step set from bytes admission.ask tid left (admits_set s.server set from bytes admission.ask rest admitted.admits) carries in
+      let put : out ≡ sent = carried.1 ∙ ap (λ (bs : List ℕ). bs ++ sent) empty in
+      onward (sets_store s set rest same)
+      (answers_request (record s { server = set }) t from bytes tid left pending free steps requests server none timers now
+      (events ∙ ap (λ (bs : List ℕ). replied (answering_port s.requests opened.tid) opened.to bs s.events) put))
+
+  -- where the store is not asked, no transfer opens
+  pub opens_none : (old : ServerState S F D) (from : Endpoint) (bytes : List ℕ) (ask : Ask) (tid : ℕ) (left : Left S F D) → CarriesOut meaning sources old from bytes ask tid left
+      → asks_store ask ≡ false → left.opened.tid ≡ None
+  opens_none old from bytes Ignores tid left o none = ap (λ (l : Left S F D). l.opened.tid) (o.left ∙ ap (λ (c : Came S F D). left_by c old from tid) o.goes)
+  opens_none old from bytes (Refuses reply) tid left o none = ap (λ (l : Left S F D). l.opened.tid) (o.left ∙ ap (λ (c : Came S F D). left_by c old from tid) o.goes)
+  opens_none old from bytes (Reads path mode options) tid left o none = absurd (true≢false none)
+  opens_none old from bytes (Writes path mode agreed) tid left o none = absurd (true≢false none)
+
+-- what is not there is none
+pub is_free : {T : Type 0} (o : Option T) → (IsSome o → ⊥) → o ≡ None
+is_free None h = refl
+is_free (Some x) h = absurd (h refl)
+
+-- an answer is no fault
+pub ok-err : {T E : Type 0} (x : T) (e : E) → Ok x ≡ Err e → ⊥
+ok-err x e h = true≢false (ap is_ok h)
