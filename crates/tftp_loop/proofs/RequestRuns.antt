@@ -21,10 +21,15 @@ use Rattle.tftp_loop.proofs.LoopRuns.{Runs, same_state}
 
 module _ {S F D : Type 0} (meaning : StoreMeaning S D) (sources : SourceMeaning F) where
   -- a datagram was received
-  pub receives_request : (s : LoopState S F D) (from : Endpoint) (bytes : List ℕ) (es : List Event) → s.pending ≡ None → es ≡ Received s.requests from bytes ∷ s.events
-      → Runs meaning sources s (record s { pending = Some (from, bytes); events = es })
-  receives_request s from bytes es none noted =
-      once (Request_received (record { from = from; bytes = bytes; none = none; is = ap (λ (fs : List Event). record s { pending = Some (from, bytes); events = fs }) noted }))
+  pub receives_as : (s t : LoopState S F D) (from : Endpoint) (bytes : List ℕ) → s.pending ≡ None → t.requests ≡ s.requests → t.server ≡ s.server → t.pending ≡ Some (from, bytes)
+      → t.timers ≡ s.timers → t.now ≡ s.now → t.events ≡ Received s.requests from bytes ∷ s.events → Runs meaning sources s t
+  receives_as s t from bytes none requests server pending timers now events =
+      once (Request_received (record {
+        from = from;
+        bytes = bytes;
+        none = none;
+        is = same_state t (record s { pending = Some (from, bytes); events = Received s.requests from bytes ∷ s.events }) requests server pending timers now events;
+      }))
 
   -- it was lost
   pub loses_request : (s : LoopState S F D) (from : Endpoint) (bytes : List ℕ) → s.pending ≡ Some (from, bytes) → Runs meaning sources s (record s { pending = None })
