@@ -3,8 +3,7 @@
 ghost use Rattle.std.specs.Prelude.{◌≤◌, IfOk, IfErr, IfSome};
 ghost use Rattle.tftp_server.specs.Config.{IsConfig};
 
-use crate::daemon::{DaemonConfig, DaemonFault, Ending, serve};
-use crate::udp::Udp;
+use crate::daemon::{DaemonConfig, DaemonFault, serve};
 use anyhow::Result;
 use clap::error::ErrorKind;
 use clap::{Arg, ArgMatches, Command, value_parser};
@@ -16,6 +15,7 @@ use std::rt::{Files, Runtime};
 use std::time::Clock;
 use tftp_arguments::{VERSION, flag, number, own_words, print_usage, word};
 use tftp_host::endpoint_in;
+use tftp_loop::{Ending, LoopConfig, LoopFault, Udp};
 use tftp_negotiate::{Limits, MAX_BLOCK, MIN_BLOCK};
 use tftp_server::Config;
 
@@ -159,9 +159,9 @@ fn report<R: Eprint>(rt: &R, served: std::result::Result<(), DaemonFault>) -> io
     let message = match served {
         Ok(()) => return Ok(0),
         Err(DaemonFault::File) => "tftpd: file fault",
-        Err(DaemonFault::Socket) => "tftpd: socket fault",
-        Err(DaemonFault::Output) => "tftpd: output fault",
-        Err(DaemonFault::Memory) => "tftpd: out of memory",
+        Err(DaemonFault::Loop(LoopFault::Socket)) => "tftpd: socket fault",
+        Err(DaemonFault::Loop(LoopFault::Output)) => "tftpd: output fault",
+        Err(DaemonFault::Memory | DaemonFault::Loop(LoopFault::Memory)) => "tftpd: out of memory",
     };
     rt.eprintln(message)?;
     Ok(2)
@@ -174,13 +174,16 @@ fn service<'a>(matches: &ArgMatches<'a>) -> Option<DaemonConfig<'a>>
     let root = matches.get_str("ROOT")?;
     let listen = endpoint_in(matches.get_str("listen")?)?;
     let config = config(matches)?;
+    let service = LoopConfig {
+        listen,
+        ending: ending(matches)?,
+        logs: matches.get_flag("log"),
+    };
     Some(DaemonConfig {
         root,
-        listen,
         config,
-        ending: ending(matches)?,
         read_only: matches.get_flag("read-only"),
-        logs: matches.get_flag("log"),
+        service,
     })
 }
 

@@ -14,6 +14,7 @@ use std::os::unix::fs::MetadataExt;
 use std::rt::Files;
 use tftp_file::{Ahead, MAX_WIRE, Path, ReadSource, StoreFault};
 use tftp_host::{Reason, name_fault, open_fault, reason_of, write_fault};
+use tftp_loop::ServedStore;
 use tftp_server::{Opening, Store};
 use tftp_wire::Mode;
 
@@ -81,23 +82,6 @@ impl<R: Files + Drop> FolderStore<R> {
         ensures { self.new ≡ record self.old { is_read_only = true } }
     {
         self.is_read_only = true;
-    }
-
-    /// Tells the port of the next transfer, for which its draft is named.
-    pub fn set_port(&mut self, port: u16) {
-        self.port = port;
-    }
-
-    /// Tells the longest text on the wire that can be sent, in bytes. A longer file is not read to
-    /// be measured.
-    pub fn set_longest(&mut self, bytes: u64) {
-        self.lengths.set_longest(bytes);
-    }
-
-    /// Takes the reason for which the system refused the newest open, begin, append or commit. There
-    /// is none where it did not, nor for a file that is missing or exists.
-    pub fn take_reason(&self) -> Option<Reason> {
-        self.reason.replace(None)
     }
 
     /// Keeps why the system refused a call with this fault, where the fault does not say it.
@@ -290,6 +274,21 @@ impl<R: Files + Drop> FolderStore<R> {
             Ok(found) => draft.is_file(&found),
             Err(_) => false,
         }
+    }
+}
+
+impl<R: Files + Drop> ServedStore for FolderStore<R> {
+    fn set_port(&mut self, port: u16) {
+        self.port = port;
+    }
+
+    fn set_longest(&mut self, bytes: u64) {
+        self.lengths.set_longest(bytes);
+    }
+
+    /// There is none where it did not refuse, nor for a file that is missing or exists.
+    fn take_reason(&self) -> Option<Reason> {
+        self.reason.replace(None)
     }
 }
 

@@ -8,9 +8,9 @@ mod daemon;
 mod folder;
 mod folder_draft;
 mod naming;
-mod udp;
 mod wire_lengths;
 
 pub use arguments::{tftpd_command, tftpd_words};
 pub use folder::{FolderSource, FolderStore};
 pub use folder_draft::FolderDraft;
+pub use tftp_loop::ServedStore;

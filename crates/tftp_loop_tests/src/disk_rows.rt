@@ -11,7 +11,7 @@ use std::alloc::Global;
 use std::process::{self, Abort};
 use std::rc::Rc;
 use std::rt::Files;
-use tftp_daemon::FolderStore;
+use tftp_daemon::{FolderStore, ServedStore};
 use tftp_file::{MAX_WIRE, Path, StoreFault, path_of};
 use tftp_host::Reason;
 use tftp_server::Store;

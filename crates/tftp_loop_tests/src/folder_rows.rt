@@ -8,7 +8,7 @@ use crate::scratch::{
 use std::alloc::Global;
 use std::process::{self, Abort, Processes};
 use std::rt::Runtime;
-use tftp_daemon::FolderStore;
+use tftp_daemon::{FolderStore, ServedStore};
 use tftp_file::{Path, Source, StoreFault, path_of};
 use tftp_server::Store;
 use tftp_wire::Mode;
