@@ -7,17 +7,20 @@ use Rattle.tftp_file.specs.Source.{SourceMeaning}
 use Rattle.tftp_ends.specs.declared.endpoint.Endpoint.{Endpoint}
 use Rattle.tftp_ends.specs.declared.record.Record.{Record}
 use Rattle.tftp_store.specs.Store.{StoreMeaning}
-use Rattle.tftp_server.specs.State.{ServerState, at, taken_of, without}
+use Rattle.tftp_ends.specs.declared.outcome.Outcome.{Outcome}
+use Rattle.tftp_ends.specs.End.{record_of}
+use Rattle.std.proofs.lemmas.Option.{none-some, cond_some}
+use Rattle.tftp_server.specs.State.{HeldTransfer, ServerState, at, draft_of, is_closed, taken_of, without}
 use Rattle.tftp_host.specs.declared.server.port.Port.{Port}
 use Rattle.tftp_sockets.specs.Journal.{Event}
 use Rattle.tftp_sockets.specs.Journal.Event.{Watched}
 use Rattle.tftp_loop.specs.declared.transfer_port.TransferSocket.{TransferSocket}
 use Rattle.tftp_loop.specs.Run.{Run}
 use Rattle.tftp_loop.specs.Run.Run.{Start, Then}
-use Rattle.tftp_loop.specs.Serves.{Timer, PortState, LoopState, AtPort, Does, close_printed, port_state}
+use Rattle.tftp_loop.specs.Serves.{Timer, PortState, LoopState, AtPort, Does, port_state}
 use Rattle.tftp_loop.specs.Serves.Does.{At_port, Clock_read, Transfer_closed}
 use Rattle.tftp_loop.specs.declared.daemon.Daemon.{Daemon}
-use Rattle.tftp_loop.specs.Served.{timer_of, close_reported, ClosedAt}
+use Rattle.tftp_loop.specs.Served.{timer_of, close_printed, close_reported, ClosedAt}
 use Rattle.tftp_loop.proofs.RunLemmas.{once, idle, onward}
 use Rattle.tftp_loop.proofs.PortRuns.{here}
 use Rattle.tftp_loop.proofs.ListLemmas.{map_is, map_within, map_set, set_itself, set_again, set_is, set_within}
@@ -25,6 +28,13 @@ use Rattle.tftp_loop.proofs.ListLemmas.{map_is, map_within, map_set, set_itself,
 -- equal parts, equal states
 pub same_state : {S F D : Type 0} (s t : LoopState S F D) → s.requests ≡ t.requests → s.server ≡ t.server → s.pending ≡ t.pending → s.timers ≡ t.timers → s.now ≡ t.now → s.events ≡ t.events → s ≡ t
 same_state {S} {F} {D} s t a b c d e f = λ i. record { requests = a i; server = b i; pending = c i; timers = d i; now = e i; events = f i }
+
+-- a transfer that was taken has an outcome
+outcome_taken : {F D : Type 0} (o : Option (HeldTransfer F D)) (t : Record × Option D) → taken_of o ≡ Some t → IsSome t.0.outcome
+outcome_taken None t e = absurd (none-some t e)
+outcome_taken {F} {D} (Some held) t e =
+    let both = cond_some (is_closed held) (record_of held.end, draft_of held.files) t e in
+    ap (λ (p : Record × Option D). is_some p.0.outcome) (sym both.1) ∙ both.0
 
 module _ {S F D : Type 0} (meaning : StoreMeaning S D) (sources : SourceMeaning F) where
   abbrev pub Runs : LoopState S F D → LoopState S F D → Type 0
@@ -69,15 +79,15 @@ module _ {S F D : Type 0} (meaning : StoreMeaning S D) (sources : SourceMeaning 
   reads_clock s time es forward noted =
       once (Clock_read (record { time = time; forward = forward; is = ap (λ (fs : List Event). record s { now = time; events = fs }) noted }))
 
-  -- a transfer was taken
-  closes_by : (s : LoopState S F D) (place : ℕ) (timer : Timer) (o : Option (Record × Option D)) (server : ServerState S F D) (es : List Event)
+  -- a transfer was taken that had an outcome
+  closes_with : (s : LoopState S F D) (place : ℕ) (timer : Timer) (t : Record × Option D) (outcome : Option Outcome) (server : ServerState S F D) (es : List Event)
       → place < length s.timers → timer ≡ slice_index_or s.timers place timer
-      → taken_of (at timer.port s.server.held) ≡ o → IsSome o
-      → server.held ≡ (if is_some (option_map (λ (t : Record × Option D). t.0) o) then without timer.port s.server.held else s.server.held)
-      → server ≡ record s.server { held = server.held } → es ≡ close_reported timer.port (option_map (λ (t : Record × Option D). t.0) o) s.events
+      → taken_of (at timer.port s.server.held) ≡ Some t → t.0.outcome ≡ outcome → IsSome outcome
+      → server.held ≡ without timer.port s.server.held
+      → server ≡ record s.server { held = server.held } → es ≡ close_printed timer.port timer.peer outcome s.events
       → Runs s (record s { server = server; timers = swap_remove s.timers place timer; events = es })
-  closes_by s place timer None server es within is taken some held rest printed = absurd (false≢true some)
-  closes_by s place timer (Some t) server es within is taken some held rest printed =
+  closes_with s place timer t None server es within is taken has some held rest printed = absurd (false≢true some)
+  closes_with s place timer t (Some outcome) server es within is taken has some held rest printed =
       once (Transfer_closed (record {
         place = place;
         timer = timer;
@@ -85,33 +95,46 @@ module _ {S F D : Type 0} (meaning : StoreMeaning S D) (sources : SourceMeaning 
         is_timer = is;
         taken = t;
         is_taken = taken;
+        outcome = outcome;
+        has_outcome = has;
         is =
             same_state (record s { server = server; timers = swap_remove s.timers place timer; events = es })
             (record s {
               server = record s.server { held = without timer.port s.server.held };
               timers = swap_remove s.timers place timer;
-              events = close_printed timer.port t.0.peer t.0.outcome s.events;
+              events = close_printed timer.port timer.peer (Some outcome) s.events;
             })
             refl (rest ∙ ap (λ h. record s.server { held = h }) held) refl refl refl printed;
       }))
+
+  -- a transfer was taken
+  closes_by : (s : LoopState S F D) (place : ℕ) (timer : Timer) (o : Option (Record × Option D)) (server : ServerState S F D) (es : List Event)
+      → place < length s.timers → timer ≡ slice_index_or s.timers place timer
+      → taken_of (at timer.port s.server.held) ≡ o → IsSome o
+      → server.held ≡ (if is_some (option_map (λ (t : Record × Option D). t.0) o) then without timer.port s.server.held else s.server.held)
+      → server ≡ record s.server { held = server.held } → es ≡ close_reported timer.port timer.peer (option_map (λ (t : Record × Option D). t.0) o) s.events
+      → Runs s (record s { server = server; timers = swap_remove s.timers place timer; events = es })
+  closes_by s place timer None server es within is taken some held rest printed = absurd (false≢true some)
+  closes_by s place timer (Some t) server es within is taken some held rest printed =
+      closes_with s place timer t t.0.outcome server es within is taken refl (outcome_taken (at timer.port s.server.held) t taken) held rest printed
 
   pub closes : (s : LoopState S F D) (place : ℕ) (timer : Timer) (closed : Option Record) (server : ServerState S F D) (es : List Event)
       → place < length s.timers → timer ≡ slice_index_or s.timers place timer
       → IsSome (taken_of (at timer.port s.server.held)) → closed ≡ option_map (λ (t : Record × Option D). t.0) (taken_of (at timer.port s.server.held))
       → server.held ≡ (if is_some closed then without timer.port s.server.held else s.server.held)
-      → server ≡ record s.server { held = server.held } → es ≡ close_reported timer.port closed s.events
+      → server ≡ record s.server { held = server.held } → es ≡ close_reported timer.port timer.peer closed s.events
       → Runs s (record s { server = server; timers = swap_remove s.timers place timer; events = es })
   closes s place timer closed server es within is some found held rest printed =
       closes_by s place timer (taken_of (at timer.port s.server.held)) server es within is refl some
       (held ∙ ap (λ (o : Option Record). if is_some o then without timer.port s.server.held else s.server.held) found) rest
-      (printed ∙ ap (λ (o : Option Record). close_reported timer.port o s.events) found)
+      (printed ∙ ap (λ (o : Option Record). close_reported timer.port timer.peer o s.events) found)
 
   -- the same, where the server was asked for another number of the port
   pub closes_at : (s : LoopState S F D) (place : ℕ) (timer : Timer) (tid : ℕ) (closed : Option Record) (server : ServerState S F D) (es : List Event)
       → place < length s.timers → timer ≡ slice_index_or s.timers place timer → tid ≡ timer.port
       → IsSome (taken_of (at timer.port s.server.held)) → closed ≡ option_map (λ (t : Record × Option D). t.0) (taken_of (at tid s.server.held))
       → server.held ≡ (if is_some closed then without tid s.server.held else s.server.held)
-      → server ≡ record s.server { held = server.held } → es ≡ close_reported timer.port closed s.events
+      → server ≡ record s.server { held = server.held } → es ≡ close_reported timer.port timer.peer closed s.events
       → Runs s (record s { server = server; timers = swap_remove s.timers place timer; events = es })
   closes_at s place timer tid closed server es within is same some found held rest printed =
       closes s place timer closed server es within is some

@@ -64,7 +64,7 @@ module _ {S F D : Type 0} (meaning : StoreMeaning S D) (sources : SourceMeaning 
   -- the datagram was answered
   pub answers_request : (s t : LoopState S F D) (from : Endpoint) (bytes : List ℕ) (tid : ℕ) (left : Left S F D) → s.pending ≡ Some (from, bytes) → at tid s.server.held ≡ None
       → RequestStep meaning sources s.server from bytes tid left → t.requests ≡ s.requests → t.server ≡ left.new → t.pending ≡ None
-      → t.timers ≡ with_timer s.now left.opened.tid left.new.held s.timers → t.now ≡ s.now
+      → t.timers ≡ with_timer s.now from left.opened.tid left.new.held s.timers → t.now ≡ s.now
       → t.events ≡ replied (answering_port s.requests left.opened.tid) left.opened.to left.sent s.events → Runs meaning sources s t
   answers_request s t from bytes tid left pending free steps requests server none timers now events =
       once (Request_answered (record {
@@ -75,7 +75,7 @@ module _ {S F D : Type 0} (meaning : StoreMeaning S D) (sources : SourceMeaning 
         free = free;
         left = left;
         steps = steps;
-        is = same_state t (after_request s left) requests server none timers now events;
+        is = same_state t (after_request s from left) requests server none timers now events;
       }))
 
   -- the datagram was lost, and nothing changed
@@ -98,7 +98,7 @@ module _ {S F D : Type 0} (meaning : StoreMeaning S D) (sources : SourceMeaning 
       → (sent : List ℕ) × (out ≡ cleared ++ sent) × CarriesOut meaning sources set admission.from admission.bytes admission.ask tid (record { new = new; opened = opened; sent = sent })
       → at tid set.held ≡ None → cleared ≡ []
       → t.requests ≡ s.requests → t.server ≡ new → t.pending ≡ None
-      → t.timers ≡ with_timer s.now opened.tid new.held s.timers → t.now ≡ s.now
+      → t.timers ≡ with_timer s.now from opened.tid new.held s.timers → t.now ≡ s.now
       → t.events ≡ replied (answering_port s.requests opened.tid) opened.to out s.events → Runs meaning sources s t
   sets_and_answers s t from bytes tid set new admission cleared out opened pending admitted rest same carried free empty requests server none timers now events =
       let sent = carried.0 in

@@ -1,5 +1,5 @@
 -- What the loop's own values are to what it did.
-use Rattle.std.specs.Prelude.{ℕ, ◌≡◌, ◌<◌, List, map, length, slice_index_or, Option, Some, None, IsSome}
+use Rattle.std.specs.Prelude.{ℕ, ◌≡◌, ◌<◌, List, ◌∷◌, map, length, slice_index_or, Option, Some, None, IsSome}
 use Rattle.tftp_file.specs.Source.{SourceMeaning}
 use Rattle.tftp_ends.specs.declared.endpoint.Endpoint.{Endpoint}
 use Rattle.tftp_store.specs.Store.{StoreMeaning}
@@ -10,17 +10,22 @@ use Rattle.tftp_server.specs.declared.opened.Opened.{Opened}
 use Rattle.tftp_host.specs.declared.server.port.Port.{Port}
 use Rattle.tftp_sockets.specs.declared.journal.Journal.{Journal}
 use Rattle.tftp_sockets.specs.Journal.{Event, replied}
+use Rattle.tftp_sockets.specs.Journal.Event.{Received, Printed}
+use Rattle.tftp_ends.specs.declared.outcome.Outcome.{Outcome}
+use Rattle.tftp_host.specs.Printed.{line_text}
+use Rattle.tftp_host.specs.declared.server.printed.Printed.TheVariants.{Closed}
 use Rattle.tftp_loop.specs.declared.transfer_port.TransferSocket.{TransferSocket}
 use Rattle.tftp_loop.specs.Run.{Run}
 use Rattle.tftp_loop.specs.declared.daemon.Daemon.{Daemon}
 use Rattle.tftp_loop.specs.Serves.{Timer, PortState, AtPort, LoopState, Does}
-use Rattle.tftp_loop.specs.Serves.{answering_port, close_printed, with_timer}
+use Rattle.tftp_loop.specs.Serves.{answering_port, with_timer}
 
 -- the timer of a port
 abbrev pub timer_of : Port TransferSocket → Timer
 timer_of port =
     record {
       port = port.socket.udp.port;
+      peer = port.socket.peer;
       interval = port.socket.interval;
       deadline = port.socket.times_out_at;
     }
@@ -38,10 +43,25 @@ module _ {S F D : Type 0} where
   OnlyServesPort meaning sources now old port before new port' after =
       Run (AtPort meaning sources now) (at_port old port before) (at_port new port' after)
 
+-- from the datagram that was noted to what followed at its port
+abbrev pub AnswersReceived : {S F D : Type 0} → StoreMeaning S D → SourceMeaning F → ℕ
+    → Endpoint → List ℕ → ServerState S F D → Port TransferSocket → Journal
+    → ServerState S F D → Port TransferSocket → Journal → Type 0
+AnswersReceived meaning sources now from bytes old port before new port' after =
+    (events : List Event) → before.events ≡ Received port.socket.udp.port from bytes ∷ events
+    → Run (AtPort meaning sources now)
+      (record { server = old; timer = timer_of port; events = events }) (at_port new port' after)
+
+-- the journal after the close of a transfer with this outcome, if it has one
+abbrev pub close_printed : ℕ → Endpoint → Option Outcome → List Event → List Event
+close_printed port peer None events = events
+close_printed port peer (Some outcome) events =
+    Printed (line_text (Closed port peer.port outcome)) ∷ events
+
 -- the journal after the close of a transfer that was taken, if one was
-abbrev pub close_reported : ℕ → Option Record → List Event → List Event
-close_reported port None events = events
-close_reported port (Some r) events = close_printed port r.peer r.outcome events
+abbrev pub close_reported : ℕ → Endpoint → Option Record → List Event → List Event
+close_reported port peer None events = events
+close_reported port peer (Some r) events = close_printed port peer r.outcome events
 
 module _ {S F D : Type 0} where
   -- a daemon, where this datagram of the request port is pending
@@ -74,11 +94,11 @@ module _ {S F D : Type 0} where
       Run (Does meaning sources) (loop_state (Some (from, bytes)) old) (loop_state None new)
 
   -- the answer to a datagram of the request port was sent, and a transfer that opened has its port
-  pub record HasAnswered (opened : Opened) (sent : List ℕ) (old new : Daemon S F D) : Type 0 where
+  pub record HasAnswered (from : Endpoint) (opened : Opened) (sent : List ℕ) (old new : Daemon S F D) : Type 0 where
     pub requests : new.sockets.requests.port ≡ old.sockets.requests.port
     pub server : new.server ≡ old.server
     pub timers : map timer_of new.ports.items
-        ≡ with_timer old.sockets.watch.now opened.tid old.server.held (map timer_of old.ports.items)
+        ≡ with_timer old.sockets.watch.now from opened.tid old.server.held (map timer_of old.ports.items)
     pub now : new.sockets.watch.now ≡ old.sockets.watch.now
     pub events : new.journal.events
         ≡ replied (answering_port old.sockets.requests.port opened.tid) opened.to sent old.journal.events

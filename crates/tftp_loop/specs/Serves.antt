@@ -26,10 +26,12 @@ use Rattle.tftp_loop.specs.Run.{Run}
 
 -- ---- the state
 
--- the timer of a transfer: the port that is the transfer's identifier, its interval in seconds and
--- its deadline in milliseconds (RFC 2349, "Timeout Interval Option Specification")
+-- the timer of a transfer: the port that is the transfer's identifier, the peer, which asked for it
+-- (RFC 1350, section 4), the interval in seconds and the deadline in milliseconds (RFC 2349, "Timeout
+-- Interval Option Specification")
 pub record Timer : Type 0 where
   pub port : ℕ
+  pub peer : Endpoint
   pub interval : ℕ
   pub deadline : ℕ
 
@@ -63,9 +65,9 @@ timer_after now true timer = restarted now timer
 timer_after now false timer = timer
 
 -- the timer of a transfer that opens now
-abbrev pub started : ℕ → ℕ → ℕ → Timer
-started now port interval =
-    record { port = port; interval = interval; deadline = deadline_of now interval }
+abbrev pub started : ℕ → ℕ → Endpoint → ℕ → Timer
+started now port peer interval =
+    record { port = port; peer = peer; interval = interval; deadline = deadline_of now interval }
 
 -- ---- at the port of a transfer
 
@@ -155,12 +157,6 @@ abbrev pub answering_port : ℕ → Option ℕ → ℕ
 answering_port requests None = requests
 answering_port requests (Some port) = port
 
--- the lines that a close prints: one, with the transfer's port, the peer's and the outcome
-abbrev pub close_printed : ℕ → Option Endpoint → Option Outcome → List Event → List Event
-close_printed port (Some peer) (Some outcome) events =
-    Printed (line_text (Closed port peer.port outcome)) ∷ events
-close_printed port _ _ events = events
-
 module _ {F D : Type 0} where
   -- the agreed interval of a transfer in seconds, or the default
   abbrev pub interval_at : Option (HeldTransfer F D) → ℕ
@@ -168,10 +164,11 @@ module _ {F D : Type 0} where
   interval_at (Some held) = interval_of (terms_of held.end.position.phase)
 
   -- the timers after a request: a transfer that opened has one that starts now
-  abbrev pub with_timer : ℕ → Option ℕ → List (ℕ × HeldTransfer F D) → List Timer → List Timer
-  with_timer now None held timers = timers
-  with_timer now (Some port) held timers =
-      timers ++ started now port (interval_at (at port held)) ∷ []
+  abbrev pub with_timer : ℕ → Endpoint → Option ℕ → List (ℕ × HeldTransfer F D)
+      → List Timer → List Timer
+  with_timer now from None held timers = timers
+  with_timer now from (Some port) held timers =
+      timers ++ started now port from (interval_at (at port held)) ∷ []
 
 module _ {S F D : Type 0} where
   -- what the port of a transfer is, by its timer
@@ -179,12 +176,12 @@ module _ {S F D : Type 0} where
   port_state old timer = record { server = old.server; timer = timer; events = old.events }
 
   -- the server after a datagram of the request port and its answer
-  abbrev pub after_request : LoopState S F D → Left S F D → LoopState S F D
-  after_request old left =
+  abbrev pub after_request : LoopState S F D → Endpoint → Left S F D → LoopState S F D
+  after_request old from left =
       record old {
         server = left.new;
         pending = None;
-        timers = with_timer old.now left.opened.tid left.new.held old.timers;
+        timers = with_timer old.now from left.opened.tid left.new.held old.timers;
         events = replied (answering_port old.requests left.opened.tid) left.opened.to left.sent
             old.events;
       }
@@ -225,7 +222,7 @@ module _ {S F D : Type 0} (meaning : StoreMeaning S D) (sources : SourceMeaning 
     pub free : at tid old.server.held ≡ None
     pub left : Left S F D
     pub steps : RequestStep meaning sources old.server from bytes tid left
-    pub is : new ≡ after_request old left
+    pub is : new ≡ after_request old from left
 
   -- the pending datagram is lost: there is no memory or no port, or the loop ends
   pub record LosesRequest : Type 0 where
@@ -246,8 +243,8 @@ module _ {S F D : Type 0} (meaning : StoreMeaning S D) (sources : SourceMeaning 
     pub same : meaning.stored store ≡ meaning.stored old.server.store
     pub is : new ≡ record old { server = record old.server { store = store } }
 
-  -- a transfer that closed is taken out with its timer, and its line is printed, once; its
-  -- identifier is free
+  -- a transfer that closed is taken out with its timer, and at once its line is printed, with its
+  -- port, its peer's and its outcome; its identifier is free
   pub record Closes : Type 0 where
     pub place : ℕ
     pub timer : Timer
@@ -255,10 +252,12 @@ module _ {S F D : Type 0} (meaning : StoreMeaning S D) (sources : SourceMeaning 
     pub is_timer : timer ≡ slice_index_or old.timers place timer
     pub taken : Record × Option D
     pub is_taken : taken_of (at timer.port old.server.held) ≡ Some taken
+    pub outcome : Outcome
+    pub has_outcome : taken.0.outcome ≡ Some outcome
     pub is : new ≡ record old {
       server = record old.server { held = without timer.port old.server.held };
       timers = swap_remove old.timers place timer;
-      events = close_printed timer.port taken.0.peer taken.0.outcome old.events;
+      events = Printed (line_text (Closed timer.port timer.peer.port outcome)) ∷ old.events;
     }
 
   -- what `tftpd` does

@@ -76,12 +76,10 @@ pub(crate) fn report_close<P: Print + Eprint>(
     reason: Option<Reason>,
 ) -> Result<(), LoopFault>
     ensures { journal.new.events
-        ≡ close_reported port.now.socket.udp.port closed journal.old.events }
+        ≡ close_reported port.now.socket.udp.port port.now.socket.peer closed
+            journal.old.events }
 {
     let Some(record) = closed else {
-        return Ok(());
-    };
-    let Some(peer) = record.peer else {
         return Ok(());
     };
     let Some(outcome) = record.outcome else {
@@ -90,7 +88,7 @@ pub(crate) fn report_close<P: Print + Eprint>(
     log_closed(rt, port, now, outcome, reason);
     let line = Printed::Closed {
         port: port.socket.udp.port(),
-        peer: peer.port,
+        peer: port.socket.peer.port,
         outcome,
     };
     match print_line(rt, journal, line) {

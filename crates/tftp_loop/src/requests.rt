@@ -169,7 +169,7 @@ impl<S: ServedStore + Drop> Daemon<S> {
     )
         requires reserved { vec_len self.old.ports < vec_capacity self.old.ports }
         requires port { IfSome opened.tid (λ tid. tid ≡ spare.port) }
-        ensures { HasAnswered opened self.old.out.items self.old self.new }
+        ensures { HasAnswered from opened self.old.out.items self.old self.new }
     {
         match opened.tid {
             Some(_) => self.begin(rt, from, bytes, spare, opened.to),
@@ -219,7 +219,7 @@ impl<S: ServedStore + Drop> Daemon<S> {
         bytes: &[u8],
         reason: Option<Reason>,
     )
-        ensures { HasAnswered (record { tid = None; to = to }) self.old.out.items self.old
+        ensures { HasAnswered from (record { tid = None; to = to }) self.old.out.items self.old
             self.new }
     {
         let answer = self.out.as_slice();
@@ -239,18 +239,23 @@ impl<S: ServedStore + Drop> Daemon<S> {
         to: Option<Endpoint>,
     )
         requires { vec_len self.old.ports < vec_capacity self.old.ports }
-        ensures { HasAnswered (record { tid = Some spare.port; to = to }) self.old.out.items
-            self.old self.new }
+        ensures { HasAnswered from (record { tid = Some spare.port; to = to })
+            self.old.out.items self.old self.new }
     {
         reply(&spare, &mut self.journal, to, self.out.as_slice());
         let log_entry = self.log_opened(rt, spare.port(), from, bytes);
-        let port = self.port_of(spare, log_entry);
+        let port = self.port_of(spare, from, log_entry);
         self.ports.push_reserved(port);
     }
 
     /// The port of a transfer that opened.
-    fn port_of(&self, spare: ServerSocket, log_entry: Option<LogEntry>) -> TransferPort
-        ensures { timer_of result ≡ started self.now.sockets.watch.now spare.port
+    fn port_of(
+        &self,
+        spare: ServerSocket,
+        peer: Endpoint,
+        log_entry: Option<LogEntry>,
+    ) -> TransferPort
+        ensures { timer_of result ≡ started self.now.sockets.watch.now spare.port peer
             (interval_at (at spare.port self.now.server.held)) }
     {
         let mut udp = spare;
@@ -264,6 +269,7 @@ impl<S: ServedStore + Drop> Daemon<S> {
             is_ready: false,
             socket: TransferSocket {
                 udp,
+                peer,
                 interval,
                 times_out_at: due,
                 log_entry,

@@ -4,7 +4,7 @@ ghost use Rattle.std.specs.Prelude.{◌≡◌, ◌≤◌, ◌⊎◌, IsSome, Mat
 ghost use Rattle.tftp_server.specs.State.{at, is_open, taken_of};
 ghost use Rattle.tftp_sockets.specs.Journal.{replied};
 ghost use Rattle.tftp_loop.specs.Serves.{Handles, Loses, Works, TimesOut, restarted, timer_after};
-ghost use Rattle.tftp_loop.specs.Served.{OnlyServesPort, timer_of};
+ghost use Rattle.tftp_loop.specs.Served.{AnswersReceived, OnlyServesPort, timer_of};
 
 use crate::log_entry::LogEntry;
 use tftp_ends::{Endpoint, Step};
@@ -38,6 +38,8 @@ pub(crate) enum PortStatus {
 #[derive(Drop)]
 pub(crate) struct TransferSocket {
     pub(crate) udp: ServerSocket,
+    /// The endpoint that asked for the transfer.
+    pub(crate) peer: Endpoint,
     /// The seconds without progress before a timeout.
     pub(crate) interval: u8,
     /// When the transfer times out. Its port may be due before, to be looked at.
@@ -137,8 +139,8 @@ fn status_of(step: &Step) -> PortStatus
     }
 }
 
-/// Receives a datagram from a transfer's port, has the transfer handle it, and sends the answer; the
-/// file does its work after that. A datagram for whose handling there is no memory is a lost one.
+/// Takes a datagram from a transfer's port, if one is there. One for whose handling there is no
+/// memory is a lost one.
 fn take_datagram<S: Store>(
     server: &mut Server<S>,
     port: &mut TransferPort,
@@ -154,7 +156,24 @@ fn take_datagram<S: Store>(
     let Some((from, count)) = port.socket.udp.receive(journal, buffer) else {
         return PortStatus::Empty;
     };
-    let bytes = &buffer[..count];
+    answer_received(server, port, journal, now, from, &buffer[..count])
+}
+
+/// Has the transfer at the port handle a datagram that was received there, and sends the answer; the
+/// file does its work after that.
+fn answer_received<S: Store>(
+    server: &mut Server<S>,
+    port: &mut TransferPort,
+    journal: &mut Journal,
+    now: u64,
+    from: Endpoint,
+    bytes: &[u8],
+) -> PortStatus
+    ensures serves { AnswersReceived S.meaning S.Source.meaning now from bytes.now server.old
+        port.old journal.old server.new port.new journal.new }
+    ensures closed { result ≡ PortStatus.Closed
+        → IsSome (taken_of (at port.new.socket.udp.port server.new.held)) }
+{
     let socket = &mut port.socket;
     let Some(step) = handle(server, &socket.udp, &mut socket.log_entry, journal, from, bytes) else {
         return PortStatus::Unfinished;

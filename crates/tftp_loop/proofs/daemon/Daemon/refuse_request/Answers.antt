@@ -16,7 +16,7 @@ returns-in-Ok g c =
     sets_and_answers g.S.Store.meaning g.S.Source.Source.meaning s (loop_state None c.refuse.new.self)
     c.args.from c.args.bytes.now 0 c.set_store.new.server c.open-opened.new.self c.args.admission c.clear.new.self.items c.open-opened.new.out.items c.in-Ok.opened
     refl c.requires.admitted c.set_store.ensures.rest c.set_store.ensures.same c.in-Ok.ensures.carries_out free c.clear.ensures.items a.requests a.server refl
-    (a.timers ∙ ap (λ (o : Option ℕ). with_timer s.now o c.open-opened.new.self.held s.timers) (sym none)) a.now
+    (a.timers ∙ ap (λ (o : Option ℕ). with_timer s.now c.args.from o c.open-opened.new.self.held s.timers) (sym none)) a.now
     (a.events ∙ ap (λ (o : Option ℕ). replied (answering_port s.requests o) c.in-Ok.opened.to c.open-opened.new.out.items s.events) (sym none))
 
 pub returns-in-Err : goal.returns-in-Err
