@@ -14,7 +14,8 @@ use Rattle.tftp_ends.specs.End.{EndState, outcome_of, record_of}
 use Rattle.tftp_ends.specs.Step.{Reply, Turn, Lends, lent, reply_bytes, timeout_turn}
 use Rattle.tftp_store.specs.Store.{StoreMeaning}
 use Rattle.tftp_server.specs.State.{HeldTransfer, ServerState, at, draft_of, taken_of, with_next}
-use Rattle.tftp_server.specs.Steps.{TakesDatagramLent, TimesOutLent, KeepsHeld, with_end}
+use Rattle.tftp_server.specs.Steps.{TakesDatagramLent, TimesOutLent, DatagramFaultLent, KeepsHeld, with_end}
+use Rattle.tftp_server.specs.declared.fault.ServerFault.{ServerFault}
 use Rattle.tftp_sockets.specs.Journal.{Event, replied, answered}
 use Rattle.tftp_loop.specs.Serves.{Handles, Loses, TimesOut}
 
@@ -84,11 +85,12 @@ module _ {S F D : Type 0} (meaning : StoreMeaning S D) (sources : SourceMeaning 
       (ap (λ (e : EndState). is_some (outcome_of e.position.phase)) takes.takes.carries.state ∙ sym (ap (λ (s : Step). is_some s.closed) takes.takes.tells) ∙ h))
 
 -- a datagram was not handled
-pub lost : {S F D : Type 0} (meaning : StoreMeaning S D) (sources : SourceMeaning F) (tid port : ℕ) (old new : ServerState S F D)
-    → tid ≡ port → KeepsHeld meaning sources tid (at tid old.held) old new → new ≡ record old { store = new.store; held = new.held } → Loses meaning sources port old new
-lost {S = S} {F = F} {D = D} meaning sources tid port old new same keeps rest =
-    let At : ℕ → Type 0 = λ p. Loses meaning sources p old new in
-    subst At same (record { keeps = keeps; config = ap (λ (s : ServerState S F D). s.config) rest })
+pub lost : {S F D : Type 0} (meaning : StoreMeaning S D) (sources : SourceMeaning F) (tid port : ℕ) (from : Endpoint) (bytes : List ℕ) (old new : ServerState S F D) (fault : ServerFault)
+    → tid ≡ port → DatagramFaultLent from bytes (at tid old.held) fault → KeepsHeld meaning sources tid (at tid old.held) old new
+    → new ≡ record old { store = new.store; held = new.held } → Loses meaning sources port from bytes old new
+lost {S = S} {F = F} {D = D} meaning sources tid port from bytes old new fault same why keeps rest =
+    let At : ℕ → Type 0 = λ p. Loses meaning sources p from bytes old new in
+    subst At same (record { fault = fault; why = why; keeps = keeps; config = ap (λ (s : ServerState S F D). s.config) rest })
 
 module _ {S F D : Type 0} (tid : ℕ) (old new : ServerState S F D) (step : Step) (outgoing : Outgoing) where
   -- the transfer that timed out is found

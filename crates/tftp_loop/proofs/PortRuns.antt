@@ -34,7 +34,7 @@ module _ {S F D : Type 0} (meaning : StoreMeaning S D) (sources : SourceMeaning 
 
   -- a datagram was received and lost
   pub receives_lost : (old new : ServerState S F D) (timer : Timer) (es before es' : List Event) (from : Endpoint) (bytes : List ℕ)
-      → before ≡ Received timer.port from bytes ∷ es → Loses meaning sources timer.port old new → es' ≡ before → Runs (here old timer es) (here new timer es')
+      → before ≡ Received timer.port from bytes ∷ es → Loses meaning sources timer.port from bytes old new → es' ≡ before → Runs (here old timer es) (here new timer es')
   receives_lost old new timer es before es' from bytes noted loses same =
       once (A_lost_datagram (record { from = from; bytes = bytes; loses = loses; timer = refl; events = same ∙ noted }))
 

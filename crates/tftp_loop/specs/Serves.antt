@@ -14,7 +14,8 @@ use Rattle.tftp_ends.specs.End.{interval_of, terms_of}
 use Rattle.tftp_ends.specs.Step.{timeout_turn}
 use Rattle.tftp_store.specs.Store.{StoreMeaning}
 use Rattle.tftp_server.specs.State.{HeldTransfer, ServerState, at, is_open, taken_of, without}
-use Rattle.tftp_server.specs.Steps.{TakesDatagramLent, TimesOutLent, KeepsHeld}
+use Rattle.tftp_server.specs.Steps.{TakesDatagramLent, TimesOutLent, DatagramFaultLent, KeepsHeld}
+use Rattle.tftp_server.specs.declared.fault.ServerFault.{ServerFault}
 use Rattle.tftp_server.specs.Request.{RequestStep, Left}
 use Rattle.tftp_server.specs.Work.{WorksAt}
 use Rattle.tftp_host.specs.Watch.{deadline_of}
@@ -91,8 +92,12 @@ module _ {S F D : Type 0} (meaning : StoreMeaning S D) (sources : SourceMeaning 
     pub config : new.config ≡ old.config
     pub events : after ≡ answered port takes.takes.turn.reply before
 
-  -- the datagram is lost: there is no memory for its handling, or no transfer is open
-  pub record Loses (port : ℕ) (old new : ServerState S F D) : Type 0 where
+  -- the datagram is lost, and only where no transfer is open, or where a block is read or stored and
+  -- there is no memory for it
+  pub record Loses (port : ℕ) (from : Endpoint) (bytes : List ℕ) (old new : ServerState S F D)
+      : Type 0 where
+    pub fault : ServerFault
+    pub why : DatagramFaultLent from bytes (at port old.held) fault
     pub keeps : KeepsHeld meaning sources port (at port old.held) old new
     pub config : new.config ≡ old.config
 
@@ -115,7 +120,7 @@ module _ {S F D : Type 0} (meaning : StoreMeaning S D) (sources : SourceMeaning 
     pub record ReceivesAndLoses : Type 0 where
       pub from : Endpoint
       pub bytes : List ℕ
-      pub loses : Loses old.timer.port old.server new.server
+      pub loses : Loses old.timer.port from bytes old.server new.server
       pub timer : new.timer ≡ old.timer
       pub events : new.events ≡ Received old.timer.port from bytes ∷ old.events
 

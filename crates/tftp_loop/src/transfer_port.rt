@@ -72,7 +72,7 @@ fn handle<S: Store>(
     bytes: &[u8],
 ) -> Option<Step>
     ensures handled { MatchOption result
-        (Loses S.meaning S.Source.meaning udp.now.port server.old server.new
+        (Loses S.meaning S.Source.meaning udp.now.port from bytes.now server.old server.new
             × (journal.new.events ≡ journal.old.events))
         (λ step. Handles S.meaning S.Source.meaning udp.now.port from bytes.now server.old
             server.new journal.old.events journal.new.events step) }

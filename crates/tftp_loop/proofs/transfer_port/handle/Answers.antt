@@ -6,7 +6,7 @@ use Rattle.tftp_server.specs.State.{HeldTransfer}
 use Rattle.tftp_loop.proofs.transfer_port.handle.Goals as goal
 
 pub returns-in_default-clause-handled : goal.returns-in_default-clause-handled
-returns-in_default-clause-handled g c = (lost g.S.Store.meaning g.S.Source.Source.meaning _ _ c.args.server.now _ c.port-tid.ensures c.in_default.ensures.err c.in_default.ensures.rest, refl)
+returns-in_default-clause-handled g c = (lost g.S.Store.meaning g.S.Source.Source.meaning c.port-tid.result c.args.udp.now.port c.args.from c.args.bytes.now c.args.server.now c.handle_datagram.new.self c.in_default.field-0 c.port-tid.ensures c.in_default.ensures.fault c.in_default.ensures.err c.in_default.ensures.rest, refl)
 
 pub returns-clause-handled : goal.returns-clause-handled
 returns-clause-handled g c =
