@@ -1,6 +1,6 @@
 //! The requests of `tftpd`: what is received at its request port, and the transfers that open by it.
 
-ghost use Rattle.std.specs.Prelude.{◌≡◌, ◌<◌, ◌++◌, ◌∷◌, [], false, None, IfOk, IfSome, vec_len};
+ghost use Rattle.std.specs.Prelude.{◌≡◌, ◌<◌, ◌++◌, ◌∷◌, [], true, false, None, IfOk, IfSome, vec_len};
 ghost use Rattle.std.specs.Prelude.{vec_capacity, map};
 ghost use Rattle.tftp_server.specs.Port.{asks_store};
 ghost use Rattle.tftp_server.specs.Request.{Admits};
@@ -115,14 +115,15 @@ impl<S: ServedStore + Drop> Daemon<S> {
         bytes: &[u8],
         admission: Admission<'_>,
     )
-        requires { IsAdmission self.old.server from bytes.now admission }
+        requires admitted { IsAdmission self.old.server from bytes.now admission }
+        requires may_open { asks_store admission.ask ≡ true }
         ensures { AnswersPending S.meaning S.Source.meaning from bytes.now self.old self.new }
     {
         if self.ports.try_reserve(1).is_err() {
             self.lose(rt, from, bytes, Lost::Memory);
             return;
         }
-        let Some(spare) = self.sockets.take_spare(rt) else {
+        let Some(spare) = self.sockets.port_for(rt, &admission) else {
             self.lose(rt, from, bytes, Lost::Port);
             return;
         };

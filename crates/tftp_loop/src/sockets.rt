@@ -1,7 +1,8 @@
 //! The sockets of `tftpd` that no transfer has: the request port, and the port of the next
 //! transfer.
 
-ghost use Rattle.std.specs.Prelude.{◌≡◌, ◌≤◌, ◌∷◌, length, take, IfOk, IfSome, MatchOption};
+ghost use Rattle.std.specs.Prelude.{◌≡◌, ◌≤◌, ◌∷◌, length, take, true, IfOk, IfSome, MatchOption};
+ghost use Rattle.tftp_server.specs.Port.{asks_store};
 ghost use Rattle.tftp_sockets.specs.Journal.Event.{Received, Watched};
 
 use crate::udp::Udp;
@@ -10,6 +11,7 @@ use std::io;
 use std::time::{Clock, Duration};
 use tftp_ends::Endpoint;
 use tftp_host::{Watch, address_of, read_clock};
+use tftp_server::Admission;
 use tftp_sockets::{Journal, ServerSocket, read_watch};
 
 /// The token of the request port; a transfer's is its port, which is never 0.
@@ -98,8 +100,13 @@ impl Sockets {
         received
     }
 
-    /// Takes the port for the next transfer, which is bound if none is there.
-    pub(crate) fn take_spare<N: Udp>(&mut self, net: &N) -> Option<ServerSocket>
+    /// Takes the port for a transfer that may open, which is bound if none is there.
+    pub(crate) fn port_for<N: Udp>(
+        &mut self,
+        net: &N,
+        _admission: &Admission<'_>,
+    ) -> Option<ServerSocket>
+        requires { asks_store _admission.now.ask ≡ true }
         ensures { self.new ≡ record self.old { spare = self.new.spare } }
     {
         match self.spare.take() {

@@ -13,4 +13,4 @@ returns-then-is_err g c =
 pub returns-in_default : goal.returns-in_default
 returns-in_default g c =
     loses_as g.S.Store.meaning g.S.Source.Source.meaning (loop_state (Some (c.args.from, c.args.bytes.now)) c.args.self.now) _ c.args.from c.args.bytes.now
-    refl (ap (λ (s : Sockets). s.requests.port) c.take_spare.ensures) refl refl (ap (map timer_of) c.try_reserve.ensures.items) (ap (λ (s : Sockets). s.watch.now) c.take_spare.ensures) refl
+    refl (ap (λ (s : Sockets). s.requests.port) c.port_for.ensures) refl refl (ap (map timer_of) c.try_reserve.ensures.items) (ap (λ (s : Sockets). s.watch.now) c.port_for.ensures) refl
