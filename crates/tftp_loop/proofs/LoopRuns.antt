@@ -1,10 +1,9 @@
 -- What happens at all ports, call by call.
-use Rattle.std.proofs.Common.{◌≡◌, ◌≤◌, ◌<◌, ℕ, Bool, true, false, List, [], ◌∷◌, map, length, Option, Some, None, IsSome, refl, sym, ap, subst, ◌∙◌}
+use Rattle.std.proofs.Common.{◌≡◌, ◌≤◌, ◌<◌, ℕ, List, ◌∷◌, map, length, Option, Some, None, IsSome, refl, sym, ap, subst, ◌∙◌}
 use Rattle.std.specs.Prelude.{slice_set, slice_index_or, option_map, is_some, if◌then◌else◌}
 use Rattle.std.specs.List.{swap_remove}
 use Rattle.std.proofs.lemmas.Bool.{false≢true}
 use Rattle.tftp_file.specs.Source.{SourceMeaning}
-use Rattle.tftp_ends.specs.declared.endpoint.Endpoint.{Endpoint}
 use Rattle.tftp_ends.specs.declared.record.Record.{Record}
 use Rattle.tftp_store.specs.Store.{StoreMeaning}
 use Rattle.tftp_ends.specs.declared.outcome.Outcome.{Outcome}
@@ -21,7 +20,7 @@ use Rattle.tftp_loop.specs.Serves.{Timer, PortState, LoopState, AtPort, Does, po
 use Rattle.tftp_loop.specs.Serves.Does.{At_port, Clock_read, Transfer_closed}
 use Rattle.tftp_loop.specs.declared.daemon.Daemon.{Daemon}
 use Rattle.tftp_loop.specs.Served.{timer_of, close_printed, close_reported, ClosedAt}
-use Rattle.tftp_loop.proofs.RunLemmas.{once, idle, onward}
+use Rattle.tftp_loop.proofs.RunLemmas.{once, idle}
 use Rattle.tftp_loop.proofs.PortRuns.{here}
 use Rattle.tftp_loop.proofs.ListLemmas.{map_is, map_within, map_set, set_itself, set_again, set_is, set_within}
 
@@ -68,7 +67,7 @@ module _ {S F D : Type 0} (meaning : StoreMeaning S D) (sources : SourceMeaning 
   at_place s ports place port port' server es listed within is r =
       let At : List Timer → Type 0 = λ ts. Runs s (record s { server = server; timers = ts; events = es }) in
       let timers : slice_set s.timers place (timer_of port') ≡ map timer_of (slice_set ports place port') =
-          ap (λ (ts : List Timer). slice_set ts place (timer_of port')) listed ∙ sym (map_set timer_of ports place port') in
+      ap (λ (ts : List Timer). slice_set ts place (timer_of port')) listed ∙ sym (map_set timer_of ports place port') in
       subst At timers
       (lifted s place (timer_of port) (here meaning sources s.now server (timer_of port') es)
       (subst (λ (ts : List Timer). place < length ts) (sym listed) (map_within timer_of ports place within))

@@ -1,5 +1,5 @@
 -- A server's calls and what its socket sends, as what happens at a port.
-use Rattle.std.proofs.Common.{◌≡◌, ◌≤◌, ℕ, Bool, true, false, List, [], ◌∷◌, cond, Option, Some, None, IsSome, refl, sym, ap, subst, ◌∙◌, Bor}
+use Rattle.std.proofs.Common.{◌≡◌, ℕ, Bool, true, false, List, [], ◌∷◌, cond, Option, Some, None, IsSome, refl, sym, ap, subst, ◌∙◌, Bor}
 use Rattle.std.specs.Prelude.{option_map, unwrap_or, is_some, if◌then◌else◌}
 use Rattle.std.specs.Map.{lookup, set_value}
 use Rattle.std.specs.BTreeMap.{is_at}
@@ -11,9 +11,9 @@ use Rattle.tftp_ends.specs.declared.outgoing.Outgoing.{Outgoing}
 use Rattle.tftp_ends.specs.declared.record.Record.{Record}
 use Rattle.tftp_ends.specs.declared.record.Step.{Step}
 use Rattle.tftp_ends.specs.End.{EndState, outcome_of, record_of}
-use Rattle.tftp_ends.specs.Step.{Reply, Turn, Lends, lent, reply_bytes, timeout_turn}
+use Rattle.tftp_ends.specs.Step.{Reply, lent, reply_bytes, timeout_turn}
 use Rattle.tftp_store.specs.Store.{StoreMeaning}
-use Rattle.tftp_server.specs.State.{HeldTransfer, ServerState, at, draft_of, taken_of, with_next}
+use Rattle.tftp_server.specs.State.{HeldTransfer, ServerState, at, draft_of, taken_of}
 use Rattle.tftp_server.specs.Steps.{TakesDatagramLent, TimesOutLent, DatagramFaultLent, KeepsHeld, with_end}
 use Rattle.tftp_server.specs.declared.fault.ServerFault.{ServerFault}
 use Rattle.tftp_sockets.specs.Journal.{Event, replied, answered}
@@ -67,12 +67,12 @@ module _ {S F D : Type 0} (meaning : StoreMeaning S D) (sources : SourceMeaning 
       let At : ℕ → Type 0 = λ p. after ≡ replied p step.to sent before → Handles meaning sources p from bytes old new before after step in
       subst At same
       (λ es.
-        record {
-          outgoing = outgoing;
-          takes = takes;
-          config = ap (λ (s : ServerState S F D). s.config) rest;
-          events = es ∙ answered_lent tid takes.takes.turn.reply step.to sent before takes.takes.carries.goes (lends ∙ takes.takes.carries.bytes);
-        })
+      record {
+        outgoing = outgoing;
+        takes = takes;
+        config = ap (λ (s : ServerState S F D). s.config) rest;
+        events = es ∙ answered_lent tid takes.takes.turn.reply step.to sent before takes.takes.carries.goes (lends ∙ takes.takes.carries.bytes);
+      })
       events
 
   -- the transfer closed by the step
@@ -104,12 +104,12 @@ module _ {S F D : Type 0} (tid : ℕ) (old new : ServerState S F D) (step : Step
       let At : ℕ → Type 0 = λ p. after ≡ replied p step.to sent before → TimesOut p old new before after step in
       subst At same
       (λ es.
-        record {
-          outgoing = outgoing;
-          times_out = t;
-          rest = rest;
-          events = es ∙ answered_lent tid (timeout_turn t.transfer.end).reply step.to sent before t.carries.goes (lends ∙ t.carries.bytes);
-        })
+      record {
+        outgoing = outgoing;
+        times_out = t;
+        rest = rest;
+        events = es ∙ answered_lent tid (timeout_turn t.transfer.end).reply step.to sent before t.carries.goes (lends ∙ t.carries.bytes);
+      })
       events
 
   -- the transfer closed by its timeout

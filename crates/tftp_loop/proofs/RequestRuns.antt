@@ -9,14 +9,12 @@ use Rattle.tftp_server.specs.State.{ServerState, at}
 use Rattle.tftp_server.specs.Request.{Admits, AdmissionState, CarriesOut, RequestStep, Left, Goes, Came, left_by}
 use Rattle.tftp_server.specs.Port.{Ask, Ignores, Refuses, Reads, Writes, asks_store}
 use Rattle.tftp_server.specs.declared.opened.Opened.{Opened}
-use Rattle.tftp_sockets.specs.Journal.{Event, replied}
+use Rattle.tftp_sockets.specs.Journal.{replied}
 use Rattle.tftp_sockets.specs.Journal.Event.{Received}
-use Rattle.tftp_loop.specs.Run.{Run}
-use Rattle.tftp_loop.specs.Run.Run.{Start, Then}
-use Rattle.tftp_loop.specs.Serves.{LoopState, Does, after_request, answering_port, with_timer}
+use Rattle.tftp_loop.specs.Serves.{LoopState, after_request, answering_port, with_timer}
 use Rattle.tftp_loop.specs.Serves.Does.{Request_received, Request_answered, Request_lost, Store_set}
 use Rattle.tftp_loop.specs.Served.{IsAdmission}
-use Rattle.tftp_loop.proofs.RunLemmas.{once, idle, onward}
+use Rattle.tftp_loop.proofs.RunLemmas.{once, onward}
 use Rattle.tftp_loop.proofs.LoopRuns.{Runs, same_state}
 
 module _ {S F D : Type 0} (meaning : StoreMeaning S D) (sources : SourceMeaning F) where

@@ -50,7 +50,7 @@ abbrev pub AnswersReceived : {S F D : Type 0} → StoreMeaning S D → SourceMea
 AnswersReceived meaning sources now from bytes old port before new port' after =
     (events : List Event) → before.events ≡ Received port.socket.udp.port from bytes ∷ events
     → Run (AtPort meaning sources now)
-      (record { server = old; timer = timer_of port; events = events }) (at_port new port' after)
+    (record { server = old; timer = timer_of port; events = events }) (at_port new port' after)
 
 -- the journal after the close of a transfer with this outcome, if it has one
 abbrev pub close_printed : ℕ → Endpoint → Option Outcome → List Event → List Event

@@ -142,9 +142,12 @@ impl<S: ServedStore + Drop> Daemon<S> {
     pub(crate) fn look<C: Clock>(&mut self, clock: &C, events: &mut Events, millis: u64)
         ensures { OnlyServes S.meaning S.Source.meaning self.old self.new }
     {
-        self.sockets
-            .wait(clock, &mut self.journal, events, millis);
-        note_all(events, &mut self.sockets.is_ready, self.ports.as_mut_slice());
+        self.sockets.wait(clock, &mut self.journal, events, millis);
+        note_all(
+            events,
+            &mut self.sockets.is_ready,
+            self.ports.as_mut_slice(),
+        );
     }
 
     /// Takes what came to the ports of transfers. `left` counts the transfers that are yet to

@@ -14,7 +14,6 @@ mod log_entry;
 mod report;
 mod requests;
 mod serving;
-
 mod sockets;
 mod store;
 mod transfer_port;

@@ -77,7 +77,7 @@ pub(crate) fn report_close<P: Print + Eprint>(
 ) -> Result<(), LoopFault>
     ensures { journal.new.events
         ≡ close_reported port.now.socket.udp.port port.now.socket.peer closed
-            journal.old.events }
+        journal.old.events }
 {
     let Some(record) = closed else {
         return Ok(());

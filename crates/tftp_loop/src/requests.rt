@@ -47,7 +47,8 @@ impl<S: ServedStore + Drop> Daemon<S> {
             if self.ports.try_reserve(1).is_err() {
                 return Ok(left);
             }
-            let Some((from, count)) = self.sockets.receive_request(&mut self.journal, request) else {
+            let Some((from, count)) = self.sockets.receive_request(&mut self.journal, request)
+            else {
                 return Ok(left);
             };
             let bytes = &request[..count];

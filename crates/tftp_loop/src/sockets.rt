@@ -87,8 +87,8 @@ impl Sockets {
         ensures noted { MatchOption result
             (journal.new.events ≡ journal.old.events)
             (λ datagram. journal.new.events
-                ≡ Received self.old.requests.port datagram.0 (take datagram.1 buffer.new)
-                    ∷ journal.old.events) }
+            ≡ Received self.old.requests.port datagram.0 (take datagram.1 buffer.new)
+            ∷ journal.old.events) }
         ensures count { IfSome result (λ datagram. datagram.1 ≤ length buffer.new) }
         ensures same { self.new ≡ record self.old { is_ready = self.new.is_ready } }
     {

@@ -52,7 +52,12 @@ pub(crate) struct TransferSocket {
 pub(crate) type TransferPort = Port<TransferSocket>;
 
 /// Sends the answer of a step, if it has one.
-pub(crate) fn reply(socket: &ServerSocket, journal: &mut Journal, to: Option<Endpoint>, bytes: &[u8])
+pub(crate) fn reply(
+    socket: &ServerSocket,
+    journal: &mut Journal,
+    to: Option<Endpoint>,
+    bytes: &[u8],
+)
     ensures { journal.new.events ≡ replied socket.now.port to bytes.now journal.old.events }
 {
     match to {
@@ -73,9 +78,9 @@ fn handle<S: Store>(
 ) -> Option<Step>
     ensures handled { MatchOption result
         (Loses S.meaning S.Source.meaning udp.now.port from bytes.now server.old server.new
-            × (journal.new.events ≡ journal.old.events))
+        × (journal.new.events ≡ journal.old.events))
         (λ step. Handles S.meaning S.Source.meaning udp.now.port from bytes.now server.old
-            server.new journal.old.events journal.new.events step) }
+        server.new journal.old.events journal.new.events step) }
     ensures closed { IfSome result (λ step. IsSome step.closed
         → IsSome (taken_of (at udp.now.port server.new.held))) }
 {
@@ -175,7 +180,14 @@ fn answer_received<S: Store>(
         → IsSome (taken_of (at port.new.socket.udp.port server.new.held)) }
 {
     let socket = &mut port.socket;
-    let Some(step) = handle(server, &socket.udp, &mut socket.log_entry, journal, from, bytes) else {
+    let Some(step) = handle(
+        server,
+        &socket.udp,
+        &mut socket.log_entry,
+        journal,
+        from,
+        bytes,
+    ) else {
         return PortStatus::Unfinished;
     };
     restart_by(port, now, step.progress);
@@ -325,9 +337,9 @@ fn time_out<S: Store>(
 ) -> Option<Step>
     ensures steps { MatchOption result
         ((is_open (at udp.now.port server.old.held) ≡ false) × (server.new ≡ server.old)
-            × (journal.new.events ≡ journal.old.events))
+        × (journal.new.events ≡ journal.old.events))
         (λ step. TimesOut udp.now.port server.old server.new journal.old.events
-            journal.new.events step) }
+        journal.new.events step) }
     ensures closed { IfSome result (λ step. IsSome step.closed
         → IsSome (taken_of (at udp.now.port server.new.held))) }
 {

@@ -1,4 +1,4 @@
-use Rattle.std.proofs.Common.{List, ◌∷◌, refl, ap, sym, subst, ◌∙◌}
+use Rattle.std.proofs.Common.{List, ◌∷◌, ap, subst, ◌∙◌}
 use Rattle.tftp_ends.specs.declared.endpoint.Endpoint.{Endpoint}
 use Rattle.tftp_host.specs.Printed.{line_text}
 use Rattle.tftp_host.specs.declared.server.printed.Printed.TheVariants.{Listening}

@@ -14,13 +14,12 @@ returns-in_default g c = (at_start c.args.sockets.requests.port c.args.server c.
 
 pub returns : goal.returns
 returns g c =
-    let made = c.new-daemon.ensures in
-    (
+    let made = c.new-daemon.ensures in (
       loop_state None c.take_rounds-result.new.self,
       onward
-      (idle (same_state (loop_state None c.new-daemon.result) (at_start c.args.sockets.requests.port c.args.server c.args.journal.events)
-      (ap (λ (s : Sockets). s.requests.port) made.sockets) made.server refl (ap (map timer_of) made.ports)
-      (ap (λ (s : Sockets). s.watch.now) made.sockets ∙ c.requires) (ap (λ (j : Journal). j.events) made.journal)))
-      c.take_rounds-result.ensures,
-      refl
+          (idle (same_state (loop_state None c.new-daemon.result) (at_start c.args.sockets.requests.port c.args.server c.args.journal.events)
+          (ap (λ (s : Sockets). s.requests.port) made.sockets) made.server refl (ap (map timer_of) made.ports)
+          (ap (λ (s : Sockets). s.watch.now) made.sockets ∙ c.requires) (ap (λ (j : Journal). j.events) made.journal)))
+          c.take_rounds-result.ensures,
+      refl,
     )

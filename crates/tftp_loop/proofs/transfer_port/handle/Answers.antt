@@ -1,8 +1,7 @@
-use Rattle.std.proofs.Common.{refl, sym, ap, ◌∙◌, Option, Some, ◌≡◌, ℕ, subst}
+use Rattle.std.proofs.Common.{refl, ap}
 use Rattle.tftp_loop.proofs.PortLemmas.{handled, closed_by, bytes_lent, found_next, lost}
 use Rattle.std.specs.Prelude.{option_map}
 use Rattle.tftp_ends.specs.Step.{lent}
-use Rattle.tftp_server.specs.State.{HeldTransfer}
 use Rattle.tftp_loop.proofs.transfer_port.handle.Goals as goal
 
 pub returns-in_default-clause-handled : goal.returns-in_default-clause-handled
@@ -12,8 +11,8 @@ pub returns-clause-handled : goal.returns-clause-handled
 returns-clause-handled g c =
     let found = found_next g.S.Store.meaning g.S.Source.Source.meaning c.port-tid.result c.args.server.now c.handle_datagram.new.self c.in-Ok.step c.in-Ok.outgoing c.args.from c.args.bytes.now c.in-Ok.ensures.takes in
     let sent =
-        bytes_lent c.bytes_of.result _ c.unwrap_or-answer.result _ (lent c.in-Ok.outgoing c.in-Ok.ensures.takes.next.end) c.bytes_of.ensures
-        (ap (option_map (λ held. lent c.in-Ok.outgoing held.end)) found) c.unwrap_or-answer.ensures in
+    bytes_lent c.bytes_of.result _ c.unwrap_or-answer.result _ (lent c.in-Ok.outgoing c.in-Ok.ensures.takes.next.end) c.bytes_of.ensures
+    (ap (option_map (λ held. lent c.in-Ok.outgoing held.end)) found) c.unwrap_or-answer.ensures in
     handled g.S.Store.meaning g.S.Source.Source.meaning c.port-tid.result c.args.server.now c.handle_datagram.new.self c.in-Ok.step c.in-Ok.outgoing c.args.udp.now.port c.args.from c.args.bytes.now
     c.args.journal.now.events c.reply.new.journal.events c.unwrap_or-answer.result.now c.port-tid.ensures c.in-Ok.ensures.takes c.in-Ok.ensures.rest sent c.reply.ensures
 

@@ -1,8 +1,6 @@
-use Rattle.std.proofs.Common.{refl, sym, ap, ◌∙◌}
+use Rattle.std.proofs.Common.{ap}
 use Rattle.std.specs.Prelude.{option_map}
 use Rattle.tftp_ends.specs.Step.{lent}
-use Rattle.tftp_server.specs.Steps.{with_end}
-use Rattle.tftp_server.specs.State.{at}
 use Rattle.tftp_loop.proofs.PortLemmas.{bytes_lent, found_timed, timed_out, closed_by_timeout}
 use Rattle.tftp_loop.proofs.transfer_port.time_out.Goals as goal
 
@@ -11,8 +9,8 @@ returns-clause-steps g c =
     let t = c.in-Ok.ensures.steps in
     let found = found_timed c.port-tid.result c.args.server.now c.handle_timeout.new.self c.in-Ok.step c.in-Ok.outgoing t in
     let sent =
-        bytes_lent c.bytes_of.result _ c.unwrap_or-answer.result _ (lent c.in-Ok.outgoing t.end) c.bytes_of.ensures
-        (ap (option_map (λ held. lent c.in-Ok.outgoing held.end)) found) c.unwrap_or-answer.ensures in
+    bytes_lent c.bytes_of.result _ c.unwrap_or-answer.result _ (lent c.in-Ok.outgoing t.end) c.bytes_of.ensures
+    (ap (option_map (λ held. lent c.in-Ok.outgoing held.end)) found) c.unwrap_or-answer.ensures in
     timed_out c.port-tid.result c.args.server.now c.handle_timeout.new.self c.in-Ok.step c.in-Ok.outgoing c.args.udp.now.port
     c.args.journal.now.events c.reply.new.journal.events c.unwrap_or-answer.result.now c.port-tid.ensures t c.in-Ok.ensures.rest sent c.reply.ensures
 

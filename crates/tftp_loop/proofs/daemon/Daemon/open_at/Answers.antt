@@ -1,4 +1,4 @@
-use Rattle.std.proofs.Common.{◌≡◌, refl, sym, ap, ◌∙◌}
+use Rattle.std.proofs.Common.{refl, ap}
 use Rattle.tftp_server.specs.State.{at}
 use Rattle.tftp_loop.specs.declared.sockets.Sockets.{Sockets}
 use Rattle.std.specs.Prelude.{Some, None}

@@ -1,5 +1,5 @@
-use Rattle.std.proofs.Common.{map, refl, sym, ap, ◌∙◌}
-use Rattle.std.specs.Prelude.{Some, None}
+use Rattle.std.proofs.Common.{map, refl, ap}
+use Rattle.std.specs.Prelude.{Some}
 use Rattle.tftp_loop.specs.declared.sockets.Sockets.{Sockets}
 use Rattle.tftp_loop.specs.Served.{loop_state, timer_of}
 use Rattle.tftp_loop.proofs.RequestRuns.{loses_as}

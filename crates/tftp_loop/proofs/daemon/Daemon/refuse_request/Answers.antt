@@ -1,4 +1,4 @@
-use Rattle.std.proofs.Common.{◌≡◌, refl, sym, ap, ◌∙◌, ℕ, Option}
+use Rattle.std.proofs.Common.{refl, sym, ap, ◌∙◌, ℕ, Option}
 use Rattle.std.specs.Prelude.{Some, None}
 use Rattle.tftp_server.specs.State.{at}
 use Rattle.tftp_sockets.specs.Journal.{replied}

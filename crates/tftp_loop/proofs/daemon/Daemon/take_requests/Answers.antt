@@ -1,5 +1,5 @@
 use Rattle.std.proofs.Common.{map, take, refl, ap}
-use Rattle.std.specs.Prelude.{Some, None}
+use Rattle.std.specs.Prelude.{None}
 use Rattle.tftp_loop.specs.Run.Run.{Start}
 use Rattle.tftp_loop.specs.declared.sockets.Sockets.{Sockets}
 use Rattle.tftp_loop.specs.Served.{loop_state, timer_of}
