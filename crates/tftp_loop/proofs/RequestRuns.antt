@@ -118,7 +118,7 @@ module _ {S F D : Type 0} (meaning : StoreMeaning S D) (sources : SourceMeaning 
   opens_none old from bytes (Reads path mode options) tid left o none = absurd (true≢false none)
   opens_none old from bytes (Writes path mode agreed) tid left o none = absurd (true≢false none)
 
--- what is not there is none
+-- where nothing is there
 pub is_free : {T : Type 0} (o : Option T) → (IsSome o → ⊥) → o ≡ None
 is_free None h = refl
 is_free (Some x) h = absurd (h refl)

@@ -1,5 +1,6 @@
 -- What the loop's own values are to what it did.
-use Rattle.std.specs.Prelude.{ℕ, ◌≡◌, ◌<◌, List, ◌∷◌, map, length, slice_index_or, Option, Some, None, IsSome}
+use Rattle.std.specs.Prelude.{ℕ, ◌≡◌, ◌<◌, List, ◌∷◌, map, length, slice_index_or}
+use Rattle.std.specs.Prelude.{Option, Some, None, IsSome}
 use Rattle.tftp_file.specs.Source.{SourceMeaning}
 use Rattle.tftp_ends.specs.declared.endpoint.Endpoint.{Endpoint}
 use Rattle.tftp_store.specs.Store.{StoreMeaning}
@@ -83,7 +84,8 @@ module _ {S F D : Type 0} where
       → Run (Does meaning sources) (loop_state pending old) (loop_state pending new)
 
   -- between two moments where none is
-  abbrev pub ServesRounds : StoreMeaning S D → SourceMeaning F → Daemon S F D → Daemon S F D → Type 0
+  abbrev pub ServesRounds : StoreMeaning S D → SourceMeaning F
+      → Daemon S F D → Daemon S F D → Type 0
   ServesRounds meaning sources old new =
       Run (Does meaning sources) (loop_state None old) (loop_state None new)
 
@@ -94,14 +96,17 @@ module _ {S F D : Type 0} where
       Run (Does meaning sources) (loop_state (Some (from, bytes)) old) (loop_state None new)
 
   -- the answer to a datagram of the request port was sent, and a transfer that opened has its port
-  pub record HasAnswered (from : Endpoint) (opened : Opened) (sent : List ℕ) (old new : Daemon S F D) : Type 0 where
+  pub record HasAnswered (from : Endpoint) (opened : Opened) (sent : List ℕ)
+      (old new : Daemon S F D) : Type 0 where
     pub requests : new.sockets.requests.port ≡ old.sockets.requests.port
     pub server : new.server ≡ old.server
     pub timers : map timer_of new.ports.items
-        ≡ with_timer old.sockets.watch.now from opened.tid old.server.held (map timer_of old.ports.items)
+        ≡ with_timer old.sockets.watch.now from opened.tid old.server.held
+        (map timer_of old.ports.items)
     pub now : new.sockets.watch.now ≡ old.sockets.watch.now
     pub events : new.journal.events
-        ≡ replied (answering_port old.sockets.requests.port opened.tid) opened.to sent old.journal.events
+        ≡ replied (answering_port old.sockets.requests.port opened.tid) opened.to sent
+        old.journal.events
 
   -- the transfer of the port at this place has closed
   pub record ClosedAt (place : ℕ) (d : Daemon S F D) : Type 0 where
@@ -111,7 +116,8 @@ module _ {S F D : Type 0} where
     pub closed : IsSome (taken_of (at timer.port d.server.held))
 
   -- an admission is of this datagram, and of the server as it is
-  pub record IsAdmission (server : ServerState S F D) (from : Endpoint) (bytes : List ℕ) (admission : AdmissionState) : Type 0 where
+  pub record IsAdmission (server : ServerState S F D) (from : Endpoint) (bytes : List ℕ)
+      (admission : AdmissionState) : Type 0 where
     pub admits : Admits server from bytes admission.ask
     pub same_from : admission.from ≡ from
     pub same_bytes : admission.bytes ≡ bytes

@@ -27,9 +27,9 @@ use Rattle.tftp_loop.specs.Run.{Run}
 
 -- ---- the state
 
--- the timer of a transfer: the port that is the transfer's identifier, the peer, which asked for it
--- (RFC 1350, section 4), the interval in seconds and the deadline in milliseconds (RFC 2349, "Timeout
--- Interval Option Specification")
+-- the timer of a transfer: the port that is the transfer's identifier, the peer, which asked for
+-- it (RFC 1350, section 4), the interval in seconds and the deadline in milliseconds (RFC 2349,
+-- "Timeout Interval Option Specification")
 pub record Timer : Type 0 where
   pub port : ℕ
   pub peer : Endpoint
@@ -73,8 +73,8 @@ started now port peer interval =
 -- ---- at the port of a transfer
 
 module _ {S F D : Type 0} where
-  -- the transfer at the port makes the step of a timeout, and at once its datagram is sent from that
-  -- port, to where the step says (RFC 1350, section 2)
+  -- the transfer at the port makes the step of a timeout, and at once its datagram is sent from
+  -- that port, to where the step says (RFC 1350, section 2)
   pub record TimesOut (port : ℕ) (old new : ServerState S F D) (before after : List Event)
       (step : Step) : Type 0 where
     pub outgoing : Outgoing
@@ -92,8 +92,8 @@ module _ {S F D : Type 0} (meaning : StoreMeaning S D) (sources : SourceMeaning 
     pub config : new.config ≡ old.config
     pub events : after ≡ answered port takes.takes.turn.reply before
 
-  -- the datagram is lost, and only where no transfer is open, or where a block is read or stored and
-  -- there is no memory for it
+  -- the datagram is lost, and only where no transfer is open, or where a block is read or stored
+  -- and there is no memory for it
   pub record Loses (port : ℕ) (from : Endpoint) (bytes : List ℕ) (old new : ServerState S F D)
       : Type 0 where
     pub fault : ServerFault
@@ -191,7 +191,8 @@ module _ {S F D : Type 0} where
             old.events;
       }
 
-module _ {S F D : Type 0} (meaning : StoreMeaning S D) (sources : SourceMeaning F) (old new : LoopState S F D) where
+module _ {S F D : Type 0} (meaning : StoreMeaning S D) (sources : SourceMeaning F)
+    (old new : LoopState S F D) where
   -- something happens at the port of a transfer, which one of the timers is of
   pub record ServesPort : Type 0 where
     pub place : ℕ
@@ -278,7 +279,14 @@ module _ {S F D : Type 0} (meaning : StoreMeaning S D) (sources : SourceMeaning 
 -- a server that has its request port, and has received nothing
 abbrev pub at_start : {S F D : Type 0} → ℕ → ServerState S F D → List Event → LoopState S F D
 at_start requests server events =
-    record { requests = requests; server = server; pending = None; timers = []; now = 0; events = events }
+    record {
+      requests = requests;
+      server = server;
+      pending = None;
+      timers = [];
+      now = 0;
+      events = events;
+    }
 
 -- the journal after the line of the request port was printed
 abbrev pub listening : List ℕ → ℕ → List Event → List Event
@@ -297,5 +305,6 @@ ServesFrom {S} {F} {D} meaning sources port server before after =
 pub data Serves {S F D : Type 0} (meaning : StoreMeaning S D) (sources : SourceMeaning F)
     (listen : Endpoint) (server : ServerState S F D) (before after : List Event) : Type 0 where
   Unbound : after ≡ before → Serves meaning sources listen server before after
-  Bound : (port : ℕ) → ServesFrom meaning sources port server (listening listen.ip port before) after
+  Bound : (port : ℕ)
+      → ServesFrom meaning sources port server (listening listen.ip port before) after
       → Serves meaning sources listen server before after
