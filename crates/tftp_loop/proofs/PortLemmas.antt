@@ -82,7 +82,7 @@ module _ {S F D : Type 0} (meaning : StoreMeaning S D) (sources : SourceMeaning 
       let At : ℕ → Type 0 = λ p. IsSome (taken_of (at p new.held)) in
       subst At same
       (closed_taken (at tid new.held) takes.next (found_next from bytes takes)
-      (ap (λ (e : EndState). is_some (outcome_of e.position.phase)) takes.takes.carries.state ∙ sym (ap (λ (s : Step). is_some s.closed) takes.takes.tells) ∙ h))
+      (ap (λ (e : EndState). is_some (outcome_of e.position.phase)) takes.takes.carries.state ∙ sym (ap (λ (s : Step). is_some s.closed) takes.takes.reports) ∙ h))
 
 -- a datagram was not handled
 pub lost : {S F D : Type 0} (meaning : StoreMeaning S D) (sources : SourceMeaning F) (tid port : ℕ) (from : Endpoint) (bytes : List ℕ) (old new : ServerState S F D) (fault : ServerFault)
@@ -118,4 +118,4 @@ module _ {S F D : Type 0} (tid : ℕ) (old new : ServerState S F D) (step : Step
       let At : ℕ → Type 0 = λ p. IsSome (taken_of (at p new.held)) in
       subst At same
       (closed_taken (at tid new.held) (with_end t.end t.transfer) (found_timed t)
-      (ap (λ (e : EndState). is_some (outcome_of e.position.phase)) t.carries.state ∙ sym (ap (λ (s : Step). is_some s.closed) t.tells) ∙ h))
+      (ap (λ (e : EndState). is_some (outcome_of e.position.phase)) t.carries.state ∙ sym (ap (λ (s : Step). is_some s.closed) t.reports) ∙ h))

@@ -13,7 +13,7 @@ use crate::udp::Udp;
 use mio::{Events, Token};
 use std::alloc::{AllocError, Global};
 use std::time::Clock;
-use tftp_host::{DATAGRAM_BUFFER, Port, place_of, wait_for};
+use tftp_host::{DATAGRAM_BUFFER, Port, index_of, wait_for};
 use tftp_server::{Server, Store};
 use tftp_sockets::Journal;
 
@@ -219,7 +219,7 @@ impl<S: ServedStore + Drop> Daemon<S> {
         let Some(tid) = self.tids.get(at).copied() else {
             return Ok(left);
         };
-        let Some(place) = place_of(tid, self.ports.as_slice()) else {
+        let Some(place) = index_of(tid, self.ports.as_slice()) else {
             return Ok(left);
         };
         let status = self.take_due_at(place, buffer);
@@ -308,7 +308,7 @@ fn note_ready(token: Token, ports: &mut [TransferPort])
     let Ok(tid) = u16::try_from(token.0) else {
         return;
     };
-    let Some(place) = place_of(tid, ports) else {
+    let Some(place) = index_of(tid, ports) else {
         return;
     };
     if place < ports.len() {
