@@ -66,16 +66,18 @@ pub(crate) fn reply(
     }
 }
 
-/// Has the transfer at the socket's port handle a datagram, and sends the answer. There is no step
+/// Has the transfer of the socket's port handle a datagram, and sends the answer. There is no step
 /// when out of memory, and where no transfer is open.
 fn handle<S: Store>(
     server: &mut Server<S>,
+    tid: u16,
     udp: &ServerSocket,
     log_entry: &mut Option<LogEntry>,
     journal: &mut Journal,
     from: Endpoint,
     bytes: &[u8],
 ) -> Option<Step>
+    requires { tid ≡ udp.now.port }
     ensures handled { MatchOption result
         (Loses S.meaning S.Source.meaning udp.now.port from bytes.now server.old server.new
         × (journal.new.events ≡ journal.old.events))
@@ -84,7 +86,6 @@ fn handle<S: Store>(
     ensures closed { IfSome result (λ step. IsSome step.closed
         → IsSome (taken_of (at udp.now.port server.new.held))) }
 {
-    let tid = udp.port();
     let Ok((step, outgoing)) = server.handle_datagram(tid, from, bytes) else {
         return None;
     };
@@ -179,9 +180,11 @@ fn answer_received<S: Store>(
     ensures closed { result ≡ PortStatus.Closed
         → IsSome (taken_of (at port.new.socket.udp.port server.new.held)) }
 {
+    let tid = port.socket.udp.port();
     let socket = &mut port.socket;
     let Some(step) = handle(
         server,
+        tid,
         &socket.udp,
         &mut socket.log_entry,
         journal,
