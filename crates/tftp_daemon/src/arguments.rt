@@ -24,7 +24,6 @@ Examples:
   tftpd /srv/tftp --listen 192.0.2.1:6969 --forever --read-only
   tftpd . --listen 127.0.0.1:0 --max-block 8192 --cap 64";
 
-/// Arguments that say when the server ends.
 const TRANSFERS: &str = "transfers";
 
 const ROUNDS: &str = "rounds";
@@ -43,8 +42,7 @@ pub fn tftpd_command<R: Runtime + AllocGlobal + Net>(rt: &R) -> u8
     }
 }
 
-/// Runs `tftpd` as a command line says, and returns its status. The first word is the program's
-/// name.
+/// Runs `tftpd` by a command line, and returns its status. The first word is the program's name.
 ///
 /// `--help` and `--version` print and return 0. The status is 2 for a command line that is not
 /// understood, a root that is no folder, a port that cannot be bound and output that cannot be
@@ -55,7 +53,7 @@ pub fn tftpd_words<R: Runtime + AllocGlobal + Net, S: AsStr>(rt: &R, words: &[S]
     serve_words(rt, words).unwrap_or(2)
 }
 
-/// As [`tftpd_words`]; it fails when out of memory, or where standard error cannot be written.
+/// As [`tftpd_words`]; it fails when out of memory, or if standard error cannot be written.
 fn serve_words<'a, R: Runtime + AllocGlobal + Net, S: AsStr>(rt: &R, words: &'a [S]) -> Result<u8>
     ensures { IfOk result (λ status. status ≤ 2) }
 {
@@ -63,7 +61,7 @@ fn serve_words<'a, R: Runtime + AllocGlobal + Net, S: AsStr>(rt: &R, words: &'a 
     serve_texts(rt, rt.alloc(), &texts, words)
 }
 
-/// Reads the words, and serves as they say.
+/// Reads the words, and serves by them.
 fn serve_texts<'a, R: Files + Clone + Drop + Udp + Clock + Print + Eprint, S: AsStr>(
     rt: &R,
     alloc: Global,
@@ -78,7 +76,7 @@ fn serve_texts<'a, R: Files + Clone + Drop + Udp + Clock + Print + Eprint, S: As
     }
 }
 
-/// Serves as the words say that were read.
+/// Serves by the words read.
 fn serve_asked<R: Files + Clone + Drop + Udp + Clock + Print + Eprint>(
     rt: &R,
     alloc: Global,
@@ -94,10 +92,10 @@ fn serve_asked<R: Files + Clone + Drop + Udp + Clock + Print + Eprint>(
     }
 }
 
-/// What a command line asks for, or the status where it was answered at once.
+/// The configuration of a command line, or the status if there is nothing to serve.
 type Asked<'a> = std::result::Result<DaemonConfig<'a>, u8>;
 
-/// Reads the words by what `tftpd` understands.
+/// Reads the words.
 fn read_words<'a, P: Print + Eprint, S: AsStr>(
     rt: &P,
     alloc: Global,
@@ -128,7 +126,7 @@ fn match_words<'a, P: Print + Eprint, S: AsStr>(
     }
 }
 
-/// What the words ask for that were understood.
+/// The configuration of the matched words.
 fn read_matches<'a, P: Print + Eprint>(
     rt: &P,
     command: &mut Command<'a>,
@@ -143,7 +141,7 @@ fn read_matches<'a, P: Print + Eprint>(
     }
 }
 
-/// Reports that the word for the request port is no address.
+/// Reports an invalid address of the request port.
 fn report_address<P: Print + Eprint>(rt: &P, command: &mut Command<'_>) -> Result<u8>
     ensures { IfOk result (λ status. status ≤ 2) }
 {
@@ -152,7 +150,7 @@ fn report_address<P: Print + Eprint>(rt: &P, command: &mut Command<'_>) -> Resul
     Ok(print_usage(rt, &error))
 }
 
-/// Prints why the server ended, unless it was done, and returns the status.
+/// Prints the fault, if there is one, and returns the status.
 fn report<R: Eprint>(rt: &R, served: std::result::Result<(), DaemonFault>) -> io::Result<u8>
     ensures { IfOk result (λ status. status ≤ 2) }
 {
@@ -167,7 +165,7 @@ fn report<R: Eprint>(rt: &R, served: std::result::Result<(), DaemonFault>) -> io
     Ok(2)
 }
 
-/// What the words of a command line that is understood say, if the address is one.
+/// The configuration of the matched words, or `None` if the address is invalid.
 fn service<'a>(matches: &ArgMatches<'a>) -> Option<DaemonConfig<'a>>
     ensures { IfSome result (λ service. IsConfig service.config) }
 {
@@ -198,7 +196,7 @@ fn ending(matches: &ArgMatches<'_>) -> Option<Ending> {
     })
 }
 
-/// What transfers are allowed.
+/// The limits of transfers.
 fn config(matches: &ArgMatches<'_>) -> Option<Config>
     ensures { IfSome result IsConfig }
 {
@@ -218,7 +216,7 @@ fn config(matches: &ArgMatches<'_>) -> Option<Config>
     }
 }
 
-/// What the help says of numbers that other crates own.
+/// The texts of the help with numbers that other crates define.
 #[derive(Drop)]
 struct Texts {
     block_range: String,
@@ -230,7 +228,7 @@ struct Texts {
 }
 
 impl Texts {
-    /// The range of a block size, and what a server is set to where nothing else is said.
+    /// The range of a block size, and the defaults of a server.
     fn new(alloc: Global, config: &Config) -> Result<Texts> {
         Ok(Texts {
             block_range: format!(in alloc; "{MIN_BLOCK}..{MAX_BLOCK}")?,
@@ -245,7 +243,7 @@ impl Texts {
     }
 }
 
-/// What `tftpd` understands.
+/// The command line of `tftpd`.
 fn command<'a>(alloc: Global, texts: &'a Texts) -> Result<Command<'a>> {
     let command = Command::new(alloc, "tftpd")
         .bin_name("tftpd")?
@@ -259,7 +257,7 @@ fn command<'a>(alloc: Global, texts: &'a Texts) -> Result<Command<'a>> {
     with_log(alloc, command)
 }
 
-/// The folder, and where requests come to.
+/// Adds the folder and the address of the request port.
 fn with_places<'a>(alloc: Global, command: Command<'a>) -> Result<Command<'a>> {
     let listen = Arg::new(alloc, "listen")
         .long("listen")
@@ -270,7 +268,7 @@ fn with_places<'a>(alloc: Global, command: Command<'a>) -> Result<Command<'a>> {
     Ok(command.arg(root)?.arg(listen)?)
 }
 
-/// What transfers are allowed.
+/// Adds the limits of transfers.
 fn with_limits<'a>(alloc: Global, command: Command<'a>, texts: &'a Texts) -> Result<Command<'a>> {
     let block = number(
         alloc,
@@ -306,7 +304,7 @@ fn with_limits<'a>(alloc: Global, command: Command<'a>, texts: &'a Texts) -> Res
     Ok(command.arg(cap.default_value(texts.cap.as_str()))?)
 }
 
-/// Which writes are taken.
+/// Adds the flags of writes.
 fn with_writes<'a>(alloc: Global, command: Command<'a>) -> Result<Command<'a>> {
     let overwrite = flag(alloc, "overwrite", "A write replaces a file that is there");
     let read_only = flag(
@@ -317,7 +315,7 @@ fn with_writes<'a>(alloc: Global, command: Command<'a>) -> Result<Command<'a>> {
     Ok(command.arg(overwrite)?.arg(read_only)?)
 }
 
-/// When the server ends.
+/// Adds when the server ends.
 fn with_ending<'a>(alloc: Global, command: Command<'a>) -> Result<Command<'a>> {
     let transfers = number(
         alloc,
@@ -344,7 +342,7 @@ fn with_ending<'a>(alloc: Global, command: Command<'a>) -> Result<Command<'a>> {
     Ok(command.arg(forever)?)
 }
 
-/// What the server reports of each request.
+/// Adds the log.
 fn with_log<'a>(alloc: Global, command: Command<'a>) -> Result<Command<'a>> {
     let log = flag(
         alloc,

@@ -10,23 +10,23 @@ use tftp_loop::{LoopConfig, LoopFault, Udp};
 use tftp_server::{Config, Server};
 use tftp_sockets::Journal;
 
-/// What `tftpd` is told to do.
+/// The configuration of `tftpd`.
 #[derive(Clone, Copy)]
 pub(crate) struct DaemonConfig<'a> {
-    /// The folder whose files are served.
+    /// The path of the served folder.
     pub(crate) root: &'a str,
-    /// What transfers are allowed.
+    /// The limits of transfers.
     pub(crate) config: Config,
     /// Every write is refused.
     pub(crate) read_only: bool,
-    /// Where it listens, when it ends and whether it logs.
+    /// The address, the end and the log.
     pub(crate) service: LoopConfig,
 }
 
 /// Why `tftpd` did not serve, or stopped.
 #[derive(Clone, Copy)]
 pub(crate) enum DaemonFault {
-    /// The root is no folder.
+    /// The store over the root could not be opened.
     File,
     /// Out of memory.
     Memory,
@@ -34,7 +34,7 @@ pub(crate) enum DaemonFault {
     Loop(LoopFault),
 }
 
-/// Serves until so many transfers have closed, or so many waits are over.
+/// Serves until the configured number of transfers has closed, or of waits is over.
 pub(crate) fn serve<R: Files + Clone + Drop + Udp + Clock + Print + Eprint>(
     rt: &R,
     alloc: Global,
@@ -71,7 +71,7 @@ fn open_server<R: Files + Clone + Drop>(
     }
 }
 
-/// Serves from the request port; the journal is this run's.
+/// Serves from the request port, with a journal of this run.
 fn serve_loop<N: Udp + Clock + Print + Eprint, R: Files + Drop>(
     rt: &N,
     alloc: Global,

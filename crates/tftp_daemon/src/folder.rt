@@ -1,4 +1,4 @@
-//! A store over a folder: a server's files are those in it and below it.
+//! A store over the files in a folder and its subfolders.
 
 ghost use Rattle.std.specs.Prelude.{◌≡◌, ◌≢◌, IfErr, true};
 ghost use Rattle.tftp_host.specs.DiskFault.{MayNotOpen, MayNotStore, MayNotBegin, MayNotName};
@@ -18,47 +18,47 @@ use tftp_loop::ServedStore;
 use tftp_server::{Opening, Store};
 use tftp_wire::Mode;
 
-/// The most bytes of a file that are read into a buffer at once. Blocks of this size and more pass
-/// it.
+/// The capacity of a read buffer in bytes. Blocks of at least this size bypass it.
 const READ_BUFFER: usize = 32_768;
 
-/// A file of a [`FolderStore`] that is read.
+/// The source of a file of a [`FolderStore`].
 pub type FolderSource<F> = Ahead<ReadSource<BufReader<F>>>;
 
-/// The files in a folder and below it. It tells no meaning: what a disk holds between calls is not
-/// known.
+/// The files in a folder and its subfolders. It has no model: the contents of a disk can change
+/// between calls.
 ///
-/// A name is opened where it leads to a regular file in the folder, and through links as long as
-/// these stay in it. A new file is written as a draft in the folder, `.tftp-PORT`, and gets its
-/// name at the commit.
+/// A name opens only a regular file within the folder. Links are followed if their target is within
+/// the folder. A new file is written as a draft, `.tftp-PORT` in the folder, and is renamed at the
+/// commit.
 #[derive(Drop)]
 pub struct FolderStore<R: Files + Drop> {
     files: R,
-    /// Without links, and without a slash at its end.
+    /// The canonical path, without a trailing slash.
     root: String,
-    /// No write is taken.
+    /// Every write is refused.
     is_read_only: bool,
     port: u16,
     lengths: WireLengths,
-    /// Why the system refused the newest call, until it is taken.
+    /// The system's reason for the last refused call, until it is taken.
     reason: Cell<Option<Reason>>,
 }
 
-/// Where a path of the store leads.
+/// A path of the store, resolved on the system.
 #[derive(Drop)]
 struct Place {
     /// The path on the system.
     path: String,
-    /// A link stands on the way, or at its end.
+    /// A component of the path is a link.
     has_link: bool,
-    /// The device of the folder in which it stands, where that is not the root.
+    /// The device of the parent folder, if that is not the root.
     device: Option<u64>,
-    /// What is there, links not followed.
+    /// The metadata of the path itself; links are not followed.
     found: Option<Metadata>,
 }
 
 impl<R: Files + Drop> FolderStore<R> {
-    /// The store over a folder. It fails where there is no such folder, or when out of memory.
+    /// The store over a folder. It fails with `NotADirectory` if `root` is no folder, with the
+    /// system's error if `root` cannot be resolved, or when out of memory.
     pub fn new(files: R, alloc: Global, root: &str) -> io::Result<FolderStore<R>> {
         let rt = (&files, alloc);
         let canonical = fs::canonicalize(&rt, root)?;
@@ -77,21 +77,21 @@ impl<R: Files + Drop> FolderStore<R> {
         })
     }
 
-    /// Refuses every write from now on: each is an access violation to its client.
+    /// Refuses every later write; the client receives an access violation.
     pub fn refuse_writes(&mut self)
         ensures { self.new ≡ record self.old { is_read_only = true } }
     {
         self.is_read_only = true;
     }
 
-    /// Keeps why the system refused a call with this fault, where the fault does not say it.
+    /// Keeps the system's reason, unless the fault is `Missing` or `Exists`.
     fn keep_reason(&self, fault: StoreFault, reason: Reason) {
         if fault != StoreFault::Missing && fault != StoreFault::Exists {
             self.reason.set(Some(reason));
         }
     }
 
-    /// Why a file was not opened; the reason is kept.
+    /// The fault of a failed open; keeps the reason.
     fn open_refused(&self, error: &io::Error) -> StoreFault
         ensures { MayNotOpen result }
     {
@@ -100,7 +100,7 @@ impl<R: Files + Drop> FolderStore<R> {
         fault
     }
 
-    /// Why bytes were not stored; the reason is kept.
+    /// The fault of a failed write; keeps the reason.
     fn write_refused(&self, error: &io::Error) -> StoreFault
         ensures stored { MayNotStore result }
         ensures not_memory { result ≢ StoreFault.Memory }
@@ -110,7 +110,7 @@ impl<R: Files + Drop> FolderStore<R> {
         fault
     }
 
-    /// Why a draft did not get its name; the reason is kept.
+    /// The fault of a failed rename or link; keeps the reason.
     fn name_refused(&self, error: &io::Error, replace: bool) -> StoreFault
         ensures named { MayNotName replace result }
         ensures not_memory { result ≢ StoreFault.Memory }
@@ -120,7 +120,7 @@ impl<R: Files + Drop> FolderStore<R> {
         fault
     }
 
-    /// Goes along a path, from the folder on. `Missing` if a folder on the way is.
+    /// Resolves a path from the root, component by component. `Missing` if a parent folder is.
     fn walk(&self, alloc: Global, path: &Path) -> Result<Place, StoreFault>
         ensures { IfErr result MayNotOpen }
     {
@@ -158,7 +158,7 @@ impl<R: Files + Drop> FolderStore<R> {
         Ok(place)
     }
 
-    /// Where a path with links leads, if that is in the folder; else `Io`.
+    /// The target of a path with links. `Io` if it is outside the folder.
     fn follow(&self, alloc: Global, path: &str) -> Result<Place, StoreFault>
         ensures { IfErr result MayNotOpen }
     {
@@ -185,9 +185,9 @@ impl<R: Files + Drop> FolderStore<R> {
         }
     }
 
-    /// Opens the regular file at the path, and returns what the system says of it. A folder is
-    /// `Missing`, what else is no regular file `Io`: it is looked at before it is opened, since
-    /// opening a FIFO would wait.
+    /// Opens the regular file at the path, and returns it with its metadata. A folder is `Missing`,
+    /// and any other file that is not regular is `Io`. The type is checked before the open, because
+    /// opening a FIFO blocks.
     fn open_file(&self, alloc: Global, path: &Path) -> Result<(R::File, Metadata), StoreFault>
         ensures { IfErr result MayNotOpen }
     {
@@ -211,22 +211,22 @@ impl<R: Files + Drop> FolderStore<R> {
         let Ok(opened) = file.metadata() else {
             return Err(StoreFault::Io);
         };
-        // Another file came to its place in between.
+        // The file was replaced between the check and the open.
         if !is_same_file(&opened, &found) {
             return Err(StoreFault::Io);
         }
         Ok((file, opened))
     }
 
-    /// Where a file is to be written: nothing is there, or a file that is to be replaced, and the
-    /// way has no link and stays on the device of the root.
+    /// The path to write a file at. It has no link and is on the device of the root. A regular file
+    /// may exist there only if it is to be replaced.
     fn place_to_write(&self, alloc: Global, path: &Path, replace: bool) -> Result<Place, StoreFault>
         ensures { IfErr result (MayNotBegin replace) }
     {
         let place = match self.walk(alloc, path) {
             Ok(place) => place,
             Err(StoreFault::Memory) => return Err(StoreFault::Memory),
-            // A folder that is missing is not made.
+            // A missing folder is not created.
             Err(_) => return Err(StoreFault::Io),
         };
         if place.found.is_some() && !replace {
@@ -242,7 +242,7 @@ impl<R: Files + Drop> FolderStore<R> {
         Ok(place)
     }
 
-    /// Whether the root, and so each draft, is on this device.
+    /// Whether the root, which holds the drafts, is on this device.
     fn is_on(&self, device: u64) -> bool {
         let root = self.root.as_str();
         let root = if root.is_empty() { "/" } else { root };
@@ -252,7 +252,7 @@ impl<R: Files + Drop> FolderStore<R> {
         }
     }
 
-    /// Makes the draft of the next transfer anew, in the place of an old one.
+    /// Creates the draft file, after removing an old one of that name.
     fn make_draft(&self, draft: &str) -> Result<R::File, StoreFault>
         ensures { IfErr result MayNotStore }
     {
@@ -267,8 +267,8 @@ impl<R: Files + Drop> FolderStore<R> {
         }
     }
 
-    /// Whether the file of a draft stands under its path. A server that has the same port at
-    /// another address removes it, and makes its own.
+    /// Whether the path of a draft still names its file. A server with the same port at another
+    /// address can replace it.
     fn has_draft(&self, draft: &FolderDraft<R::File>) -> bool {
         match fs::symlink_metadata(&self.files, draft.draft.as_str()) {
             Ok(found) => draft.is_file(&found),
@@ -286,7 +286,7 @@ impl<R: Files + Drop> ServedStore for FolderStore<R> {
         self.lengths.set_longest(bytes);
     }
 
-    /// There is none where it did not refuse, nor for a file that is missing or exists.
+    /// `None` if no call was refused, or if the fault was `Missing` or `Exists`.
     fn take_reason(&self) -> Option<Reason> {
         self.reason.replace(None)
     }
@@ -322,7 +322,6 @@ impl<R: Files + Drop> Store for FolderStore<R> {
             return Err(StoreFault::Io);
         };
         let length = length.unwrap_or(MAX_WIRE + 1);
-        // A short file has a short buffer.
         let room = length.min(READ_BUFFER as u64) as usize;
         let Ok(reader) = BufReader::with_capacity(alloc, room, file) else {
             return Err(StoreFault::Memory);
@@ -331,8 +330,8 @@ impl<R: Files + Drop> Store for FolderStore<R> {
         Ok(Opening { source, length })
     }
 
-    /// It follows no link, and makes no folder. What is no regular file is never replaced. A store
-    /// that refuses every write answers `Io`, and looks at no file for it.
+    /// It follows no link, creates no folder and replaces only regular files. A store that refuses
+    /// writes returns `Io` without any file access.
     fn begin(
         &mut self,
         alloc: Global,
@@ -365,10 +364,10 @@ impl<R: Files + Drop> Store for FolderStore<R> {
         }
     }
 
-    /// The draft is on the disk before it gets its name, and so is the name before this returns. A
-    /// new name is given by a hard link, which never takes the place of a file, or, where the
-    /// system makes none, by a rename once no file was found; to replace one the draft is renamed,
-    /// which leaves the old file or the new one. Another file under the path of the draft is `Io`.
+    /// The draft is synced before it gets its name, and the folder before this returns. A new name
+    /// is a hard link, which never replaces a file. If the system refuses the link, the draft is
+    /// renamed once no file was found. To replace a file the draft is renamed, which leaves the old
+    /// file or the new one. `Io` if the path of the draft names another file.
     fn commit(
         &mut self,
         _path: &Path,

@@ -6,29 +6,28 @@ use std::fs::{Metadata, OpenFile};
 use std::io::{self, Write};
 use tftp_host::BlockWriter;
 
-/// The most bytes that are written until they are synced.
+/// The number of unsynced bytes at which a draft is synced.
 const MOST_UNSYNCED: u64 = 4 << 20;
 
 /// A file that is being written to a [`FolderStore`](crate::FolderStore).
 ///
-/// It holds back what is appended and writes it behind a datagram, and every few megabytes it
-/// brings to the disk what is written, so that little is left for the commit. Once it failed to
-/// write or to sync, each append and commit is refused.
+/// It buffers appended bytes and writes them after a datagram. It syncs every few megabytes, so that
+/// the commit has little left to sync. After a failed write or sync, each append and commit fails.
 #[derive(Drop)]
 pub struct FolderDraft<F: Write + Drop> {
     writer: BlockWriter<F>,
-    /// The path of the draft on the system.
+    /// The path of the draft.
     pub(crate) draft: String,
-    /// The path that it is to have.
+    /// The path of the file after the commit.
     pub(crate) target: String,
-    /// The bytes that were appended since the last sync.
+    /// The number of bytes appended since the last sync.
     unsynced: u64,
-    /// Why it is refused.
+    /// The first failure, which each later call returns.
     failure: Option<io::Error>,
 }
 
 impl<F: Write + Drop> FolderDraft<F> {
-    /// A draft of which nothing is written yet.
+    /// A draft with nothing written.
     pub(crate) fn new(
         alloc: Global,
         file: F,
@@ -47,7 +46,7 @@ impl<F: Write + Drop> FolderDraft<F> {
         }
     }
 
-    /// Holds bytes to be written.
+    /// Buffers bytes to be written.
     pub(crate) fn append(&mut self, bytes: &[u8]) -> io::Result<()> {
         if let Some(error) = self.failure {
             return Err(error);
@@ -59,13 +58,13 @@ impl<F: Write + Drop> FolderDraft<F> {
         Ok(())
     }
 
-    /// Keeps why its writer failed.
+    /// Keeps the failure.
     fn fail(&mut self, error: io::Error) -> io::Error {
         self.failure = Some(error);
         error
     }
 
-    /// Writes what it holds back.
+    /// Writes the buffered bytes.
     fn flush(&mut self) -> io::Result<()> {
         if let Some(error) = self.failure {
             return Err(error);
@@ -78,14 +77,14 @@ impl<F: Write + Drop> FolderDraft<F> {
 }
 
 impl<F: Write + OpenFile + Drop> FolderDraft<F> {
-    /// Writes what it holds back once that is much, and syncs what is written once that is.
+    /// Writes the buffered bytes once they are due, and then syncs once enough are unsynced.
     pub(crate) fn write_behind(&mut self) {
         if self.writer.is_due() && self.flush().is_ok() && self.unsynced >= MOST_UNSYNCED {
             self.sync();
         }
     }
 
-    /// Brings what is written to the disk.
+    /// Syncs the written bytes.
     fn sync(&mut self) {
         self.unsynced = 0;
         if let Err(error) = self.file().sync_data() {
@@ -93,7 +92,7 @@ impl<F: Write + OpenFile + Drop> FolderDraft<F> {
         }
     }
 
-    /// Brings all that was appended to the disk.
+    /// Writes and syncs all appended bytes.
     pub(crate) fn finish(&mut self) -> io::Result<()> {
         match self.flush() {
             Ok(()) => self.file().sync_all(),
@@ -101,7 +100,7 @@ impl<F: Write + OpenFile + Drop> FolderDraft<F> {
         }
     }
 
-    /// Whether this is the file that is open.
+    /// Whether this metadata is of the open file.
     pub(crate) fn is_file(&self, found: &Metadata) -> bool {
         match self.file().metadata() {
             Ok(opened) => is_same_file(&opened, found),

@@ -1,31 +1,30 @@
-//! How a draft gets its name on the disk.
+//! Gives a draft its name on the disk.
 
 use std::fs::{self, Metadata, OpenFile};
 use std::io::{self, ErrorKind};
 use std::os::unix::fs::MetadataExt;
 use std::rt::Files;
 
-/// Whether both are of one file.
+/// Whether both describe the same file.
 pub(crate) fn is_same_file(one: &Metadata, other: &Metadata) -> bool {
     one.dev() == other.dev() && one.ino() == other.ino()
 }
 
-/// Gives a draft its name, and brings the name to the disk. Where the folder cannot be synced, a
-/// new name is taken back.
+/// Gives a draft its name, and syncs the folder. If the sync fails, a new name is removed.
 pub(crate) fn give_name<R: Files>(
     files: &R,
     draft: &str,
     target: &str,
     replace: bool,
 ) -> io::Result<()> {
-    // The folder is opened first, so that a name is given only where it can be synced.
+    // The folder is opened first: if that fails, no name is given.
     match open_folder(files, folder_of(target)) {
         Ok(folder) => name_in(files, folder, draft, target, replace),
         Err(error) => Err(error),
     }
 }
 
-/// Gives a draft its name in an open folder, which is then synced.
+/// Gives a draft its name, and syncs the open folder.
 fn name_in<R: Files>(
     files: &R,
     folder: Option<R::File>,
@@ -45,8 +44,8 @@ fn name_in<R: Files>(
     synced
 }
 
-/// Gives a draft a name that no file has. A hard link never takes the place of a file; where the
-/// system makes none, the draft is renamed once no file was found.
+/// Gives a draft a new name. A hard link never replaces a file. If the system refuses the link, the
+/// draft is renamed once no file was found.
 fn name_new<R: Files>(files: &R, draft: &str, target: &str) -> io::Result<()> {
     match fs::hard_link(files, draft, target) {
         Ok(()) => {
@@ -58,7 +57,7 @@ fn name_new<R: Files>(files: &R, draft: &str, target: &str) -> io::Result<()> {
     }
 }
 
-/// Renames a draft, where no file has the name.
+/// Renames a draft if no file has the name.
 fn rename_new<R: Files>(files: &R, draft: &str, target: &str) -> io::Result<()> {
     match fs::symlink_metadata(files, target) {
         Ok(_) => Err(io::Error::from(ErrorKind::AlreadyExists)),
@@ -75,7 +74,7 @@ fn folder_of(path: &str) -> &str {
     }
 }
 
-/// Opens a folder to be synced; one that may not be read cannot be.
+/// Opens a folder to sync it; `None` if permission is denied.
 fn open_folder<R: Files>(files: &R, folder: &str) -> io::Result<Option<R::File>> {
     match fs::open(files, folder) {
         Ok(file) => Ok(Some(file)),
@@ -84,7 +83,7 @@ fn open_folder<R: Files>(files: &R, folder: &str) -> io::Result<Option<R::File>>
     }
 }
 
-/// Brings the names in a folder to the disk, where its file system does that.
+/// Syncs a folder, if it is open and its file system supports that.
 fn sync_folder<F: OpenFile + Drop>(folder: Option<F>) -> io::Result<()> {
     let Some(folder) = folder else {
         return Ok(());
@@ -95,7 +94,7 @@ fn sync_folder<F: OpenFile + Drop>(folder: Option<F>) -> io::Result<()> {
     }
 }
 
-/// Whether a file system that syncs no folder answers so.
+/// Whether the error means that the file system cannot sync a folder.
 fn is_unsupported(kind: ErrorKind) -> bool {
     kind == ErrorKind::InvalidInput || kind == ErrorKind::Unsupported
 }

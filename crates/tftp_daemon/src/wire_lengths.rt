@@ -14,7 +14,7 @@ use tftp_wire::Mode;
 /// How many lengths are remembered.
 const MOST_LENGTHS: usize = 1_024;
 
-/// The contents of a file, as they were at a time: another file, or a change of one, gives another.
+/// Identifies the contents of a file: another file, or a changed one, has another value.
 #[derive(Clone, Copy, PartialEq, Eq, Hash)]
 struct Contents {
     device: u64,
@@ -25,7 +25,7 @@ struct Contents {
 }
 
 impl Contents {
-    /// The contents of the file with these data.
+    /// The contents of the file with this metadata.
     fn of(file: &Metadata) -> Contents {
         Contents {
             device: file.dev(),
@@ -37,20 +37,20 @@ impl Contents {
     }
 }
 
-/// What is known of the length of a text.
+/// A measured length.
 #[derive(Clone, Copy)]
 enum Measured {
-    /// Its bytes.
+    /// The length in bytes.
     Exactly(u64),
-    /// It has more bytes than these.
+    /// The length exceeds this number of bytes.
     MoreThan(u64),
 }
 
-/// The lengths that were measured, and the longest text that can be sent.
+/// The measured lengths, and the longest length that can be sent.
 #[derive(Drop)]
 pub(crate) struct WireLengths {
     measured: RefCell<LruCache<Contents, Measured>>,
-    /// The longest text on the wire that can be sent, in bytes.
+    /// The longest length on the wire that can be sent, in bytes.
     longest: u64,
 }
 
@@ -64,14 +64,14 @@ impl WireLengths {
         })
     }
 
-    /// Sets the longest text that can be sent.
+    /// Sets the longest length that can be sent.
     pub(crate) fn set_longest(&mut self, bytes: u64) {
         self.longest = bytes;
     }
 
-    /// The length of an open file on the wire, or `None` if it is too long to be sent. A wire text
-    /// is never shorter than its file, so a file that is too long itself is not read, and one that
-    /// was measured is not read again until it changes or more of it can be sent.
+    /// The length of an open file on the wire, or `None` if it is too long to be sent. The length on
+    /// the wire is at least that of the file, so a file that is too long is not read. A measured file
+    /// is not read again until it changes or the longest length grows.
     pub(crate) fn length_of<F: Read + Seek>(
         &self,
         file: &mut F,
@@ -98,7 +98,7 @@ impl WireLengths {
         Ok(length)
     }
 
-    /// What was measured of these contents.
+    /// The remembered length of these contents.
     fn recall(&self, contents: Contents) -> Option<Measured> {
         match self.measured.try_borrow_mut() {
             Ok(mut measured) => measured.get(&contents).copied(),
@@ -106,7 +106,7 @@ impl WireLengths {
         }
     }
 
-    /// Remembers what was measured. Out of memory it is measured again.
+    /// Remembers a length. When out of memory, it is measured again later.
     fn remember(&self, contents: Contents, length: Measured) {
         if let Ok(mut measured) = self.measured.try_borrow_mut() {
             let _ = measured.put(contents, length);
