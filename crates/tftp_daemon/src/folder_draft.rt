@@ -11,8 +11,9 @@ const MOST_UNSYNCED: u64 = 4 << 20;
 
 /// A file that is being written to a [`FolderStore`](crate::FolderStore).
 ///
-/// It buffers appended bytes and writes them after a datagram. It syncs every few megabytes, so that
-/// the commit has little left to sync. After a failed write or sync, each append and commit fails.
+/// It buffers appended bytes and writes them after a datagram. It syncs every few megabytes, so
+/// that the commit has little left to sync. After a failed write or sync, each append and commit
+/// fails.
 #[derive(Drop)]
 pub struct FolderDraft<F: Write + Drop> {
     writer: BlockWriter<F>,

@@ -69,9 +69,9 @@ impl WireLengths {
         self.longest = bytes;
     }
 
-    /// The length of an open file on the wire, or `None` if it is too long to be sent. The length on
-    /// the wire is at least that of the file, so a file that is too long is not read. A measured file
-    /// is not read again until it changes or the longest length grows.
+    /// The length of an open file on the wire, or `None` if it is too long to be sent. The length
+    /// on the wire is at least that of the file, so a file that is too long is not read. A measured
+    /// file is not read again until it changes or more of it can be sent.
     pub(crate) fn length_of<F: Read + Seek>(
         &self,
         file: &mut F,
