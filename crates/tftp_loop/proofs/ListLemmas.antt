@@ -1,17 +1,17 @@
--- Ports and their timers, place by place.
+-- Ports and their timers, index by index.
 use Rattle.std.proofs.Common.{◌≡◌, ◌<◌, ◌-◌, ℕ, zero, suc, List, [], ◌∷◌, map, length, take, refl, sym, ap, ◌∙◌, arith}
 use Rattle.std.specs.Prelude.{slice_set, slice_index_or}
 use Rattle.std.specs.List.{swap_remove}
 use Rattle.std.proofs.lemmas.List.{map-set, take-map, length-map}
 
 module _ {A B : Type 0} (f : A → B) where
-  -- what is at a place, mapped
+  -- the element at an index, mapped
   pub map_at : (xs : List A) (i : ℕ) (d : A) → slice_index_or (map f xs) i (f d) ≡ f (slice_index_or xs i d)
   map_at [] i d = refl
   map_at (x ∷ xs) zero d = refl
   map_at (x ∷ xs) (suc i) d = map_at xs i d
 
-  -- the one at a place
+  -- the element at an index
   pub map_is : (xs : List A) (i : ℕ) (x : A) → x ≡ slice_index_or xs i x → f x ≡ slice_index_or (map f xs) i (f x)
   map_is xs i x e = ap f e ∙ sym (map_at xs i x)
 
@@ -29,7 +29,7 @@ module _ {A B : Type 0} (f : A → B) where
       ∙ ap (λ (m : ℕ). take (m - 1) (slice_set (map f xs) i (slice_index_or (map f xs) (m - 1) (f x)))) (sym (length-map xs f))
 
 module _ {A : Type 0} where
-  -- what is at a place, put there
+  -- the element at an index, set there again
   pub set_itself : (xs : List A) (i : ℕ) (x : A) → x ≡ slice_index_or xs i x → slice_set xs i x ≡ xs
   set_itself [] i x e = refl
   set_itself (y ∷ xs) zero x e = ap (λ (z : A). z ∷ xs) e
@@ -53,12 +53,12 @@ module _ {A : Type 0} where
   pub set_within : (xs : List A) (i j : ℕ) (x : A) → j < length xs → j < length (slice_set xs i x)
   set_within xs i j x h = let e = set_long xs i x in omega (arith, e, h)
 
--- another element at a place that is the same to a function
+-- setting an element with the same image leaves the mapped list unchanged
 pub map_same : {A B : Type 0} (f : A → B) (xs : List A) (i : ℕ) (x y : A) → x ≡ slice_index_or xs i x → f y ≡ f x → map f (slice_set xs i y) ≡ map f xs
 map_same f xs i x y e same =
     map-set f xs i y ∙ ap (slice_set (map f xs) i) same ∙ set_itself (map f xs) i (f x) (map_is f xs i x e)
 
--- an element at a place within the list is one
+-- an index within the list has an element
 pub one_at : {A : Type 0} (xs : List A) (i : ℕ) (x y : A) → i < length xs → x ≡ slice_index_or xs i x → y ≡ slice_index_or xs i y → x ≡ y
 one_at [] i x y h e f = absurd (omega (arith, h))
 one_at (z ∷ xs) zero x y h e f = e ∙ sym f

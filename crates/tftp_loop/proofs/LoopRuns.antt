@@ -128,7 +128,7 @@ module _ {S F D : Type 0} (meaning : StoreMeaning S D) (sources : SourceMeaning 
       (held ∙ ap (λ (o : Option Record). if is_some o then without timer.port s.server.held else s.server.held) found) rest
       (printed ∙ ap (λ (o : Option Record). close_reported timer.port timer.peer o s.events) found)
 
-  -- the same, where the server was asked for another number of the port
+  -- the same, for an identifier equal to the port
   pub closes_at : (s : LoopState S F D) (place : ℕ) (timer : Timer) (tid : ℕ) (closed : Option Record) (server : ServerState S F D) (es : List Event)
       → place < length s.timers → timer ≡ slice_index_or s.timers place timer → tid ≡ timer.port
       → IsSome (taken_of (at timer.port s.server.held)) → closed ≡ option_map (λ (t : Record × Option D). t.0) (taken_of (at tid s.server.held))
@@ -140,7 +140,7 @@ module _ {S F D : Type 0} (meaning : StoreMeaning S D) (sources : SourceMeaning 
       (found ∙ ap (λ (p : ℕ). option_map (λ (t : Record × Option D). t.0) (taken_of (at p s.server.held))) same)
       (held ∙ ap (λ (p : ℕ). if is_some closed then without p s.server.held else s.server.held) same) rest printed
 
--- the transfer of a port that was put at its place has closed
+-- the transfer of a port that was set at its index has closed
 pub closed_at : {S F D : Type 0} {d : Daemon S F D} (ports : List (Port TransferSocket)) (place : ℕ) (port : Port TransferSocket)
     → d.ports.items ≡ slice_set ports place port → place < length ports → IsSome (taken_of (at port.socket.udp.port d.server.held)) → ClosedAt place d
 closed_at {d = d} ports place port put within closed =

@@ -1,4 +1,4 @@
--- A server's calls and what its socket sends, as what happens at a port.
+-- A server's calls and its socket's datagrams, as steps at a port.
 use Rattle.std.proofs.Common.{◌≡◌, ℕ, Bool, true, false, List, [], ◌∷◌, cond, Option, Some, None, IsSome, refl, sym, ap, subst, ◌∙◌, Bor}
 use Rattle.std.specs.Prelude.{option_map, unwrap_or, is_some, if◌then◌else◌}
 use Rattle.std.specs.Map.{lookup, set_value}
@@ -19,7 +19,7 @@ use Rattle.tftp_server.specs.declared.fault.ServerFault.{ServerFault}
 use Rattle.tftp_sockets.specs.Journal.{Event, replied, answered}
 use Rattle.tftp_loop.specs.Serves.{Handles, Loses, TimesOut}
 
--- the answer that an end lends, sent where the step says, is the reply of its turn
+-- the answer that an end lends, sent to the endpoint of the step, is the reply of its turn
 pub answered_lent : (port : ℕ) (reply : Option Reply) (to : Option Endpoint) (bytes : List ℕ) (events : List Event)
     → to ≡ option_map (λ (r : Reply). r.to) reply → bytes ≡ reply_bytes reply → replied port to bytes events ≡ answered port reply events
 answered_lent port None to bytes events t b = ap (λ (o : Option Endpoint). replied port o bytes events) t

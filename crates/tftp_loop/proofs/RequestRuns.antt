@@ -110,7 +110,7 @@ module _ {S F D : Type 0} (meaning : StoreMeaning S D) (sources : SourceMeaning 
       (answers_request (record s { server = set }) t from bytes tid left pending free steps requests server none timers now
       (events ∙ ap (λ (bs : List ℕ). replied (answering_port s.requests opened.tid) opened.to bs s.events) put))
 
-  -- where the store is not asked, no transfer opens
+  -- if the store is not asked, no transfer opens
   pub opens_none : (old : ServerState S F D) (from : Endpoint) (bytes : List ℕ) (ask : Ask) (tid : ℕ) (left : Left S F D) → CarriesOut meaning sources old from bytes ask tid left
       → asks_store ask ≡ false → left.opened.tid ≡ None
   opens_none old from bytes Ignores tid left o none = ap (λ (l : Left S F D). l.opened.tid) (o.left ∙ ap (λ (c : Came S F D). left_by c old from tid) o.goes)
@@ -118,7 +118,7 @@ module _ {S F D : Type 0} (meaning : StoreMeaning S D) (sources : SourceMeaning 
   opens_none old from bytes (Reads path mode options) tid left o none = absurd (true≢false none)
   opens_none old from bytes (Writes path mode agreed) tid left o none = absurd (true≢false none)
 
--- where nothing is there
+-- an empty option
 pub is_free : {T : Type 0} (o : Option T) → (IsSome o → ⊥) → o ≡ None
 is_free None h = refl
 is_free (Some x) h = absurd (h refl)

@@ -1,6 +1,6 @@
--- Steps of one kind, one after the other (own).
+-- Sequences of steps (own).
 
--- from a state, by as many steps as there are
+-- zero or more steps from a state
 pub data Run {A : Type 0} (Does : A → A → Type 0) (start : A) : A → Type 0 where
   Start : Run Does start start
   Then : {middle last : A} → Run Does start middle → Does middle last → Run Does start last

@@ -1,4 +1,4 @@
--- What the loop's own values are to what it did.
+-- The loop's own values as states of its run.
 use Rattle.std.specs.Prelude.{ℕ, ◌≡◌, ◌<◌, List, ◌∷◌, map, length, slice_index_or}
 use Rattle.std.specs.Prelude.{Option, Some, None, IsSome}
 use Rattle.tftp_file.specs.Source.{SourceMeaning}
@@ -37,14 +37,14 @@ module _ {S F D : Type 0} where
   at_port server port journal =
       record { server = server; timer = timer_of port; events = journal.events }
 
-  -- between two moments of a port, one time of the watch
+  -- from one state of a port to another, at one time of the watch
   abbrev pub OnlyServesPort : StoreMeaning S D → SourceMeaning F → ℕ
       → ServerState S F D → Port TransferSocket → Journal
       → ServerState S F D → Port TransferSocket → Journal → Type 0
   OnlyServesPort meaning sources now old port before new port' after =
       Run (AtPort meaning sources now) (at_port old port before) (at_port new port' after)
 
--- from the datagram that was noted to what followed at its port
+-- from a received datagram to the steps after it at its port
 abbrev pub AnswersReceived : {S F D : Type 0} → StoreMeaning S D → SourceMeaning F → ℕ
     → Endpoint → List ℕ → ServerState S F D → Port TransferSocket → Journal
     → ServerState S F D → Port TransferSocket → Journal → Type 0
@@ -59,13 +59,13 @@ close_printed port peer None events = events
 close_printed port peer (Some outcome) events =
     Printed (line_text (Closed port peer.port outcome)) ∷ events
 
--- the journal after the close of a transfer that was taken, if one was
+-- the journal after the close of a transfer with this record, if there is one
 abbrev pub close_reported : ℕ → Endpoint → Option Record → List Event → List Event
 close_reported port peer None events = events
 close_reported port peer (Some r) events = close_printed port peer r.outcome events
 
 module _ {S F D : Type 0} where
-  -- a daemon, where this datagram of the request port is pending
+  -- the state of a daemon with this datagram pending, if there is one
   abbrev pub loop_state : Option (Endpoint × List ℕ) → Daemon S F D → LoopState S F D
   loop_state pending d =
       record {
@@ -77,19 +77,19 @@ module _ {S F D : Type 0} where
         events = d.journal.events;
       }
 
-  -- between two moments of a daemon, whether a datagram of the request port is pending or not
+  -- from one state of a daemon to another, whether a datagram is pending or not
   abbrev pub OnlyServes : StoreMeaning S D → SourceMeaning F → Daemon S F D → Daemon S F D → Type 0
   OnlyServes meaning sources old new =
       (pending : Option (Endpoint × List ℕ))
       → Run (Does meaning sources) (loop_state pending old) (loop_state pending new)
 
-  -- between two moments where none is
+  -- from one state of a daemon to another, without a pending datagram
   abbrev pub ServesRounds : StoreMeaning S D → SourceMeaning F
       → Daemon S F D → Daemon S F D → Type 0
   ServesRounds meaning sources old new =
       Run (Does meaning sources) (loop_state None old) (loop_state None new)
 
-  -- from a moment where this one is pending to one where none is
+  -- from a state with this datagram pending to one without
   abbrev pub AnswersPending : StoreMeaning S D → SourceMeaning F → Endpoint → List ℕ
       → Daemon S F D → Daemon S F D → Type 0
   AnswersPending meaning sources from bytes old new =
@@ -108,14 +108,14 @@ module _ {S F D : Type 0} where
         ≡ replied (answering_port old.sockets.requests.port opened.tid) opened.to sent
         old.journal.events
 
-  -- the transfer of the port at this place has closed
+  -- the transfer of the port at this index has closed
   pub record ClosedAt (place : ℕ) (d : Daemon S F D) : Type 0 where
     pub timer : Timer
     pub within : place < length (map timer_of d.ports.items)
     pub is_timer : timer ≡ slice_index_or (map timer_of d.ports.items) place timer
     pub closed : IsSome (taken_of (at timer.port d.server.held))
 
-  -- an admission is of this datagram, and of the server as it is
+  -- the admission is of this datagram by this server
   pub record IsAdmission (server : ServerState S F D) (from : Endpoint) (bytes : List ℕ)
       (admission : AdmissionState) : Type 0 where
     pub admits : Admits server from bytes admission.ask

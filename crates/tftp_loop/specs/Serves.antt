@@ -1,5 +1,5 @@
--- What `tftpd` did over UDP: the steps of its server, each followed at once by its answer, and
--- nothing else is ever sent or printed (RFC 1350, sections 2 and 4).
+-- A run of a server over UDP: each step is followed at once by its answer, and nothing else is
+-- sent or printed (RFC 1350, sections 2 and 4).
 use Rattle.std.specs.Prelude.{ℕ, ◌≡◌, ◌≤◌, ◌<◌, Bool, true, false, List, [], ◌∷◌, ◌++◌, length}
 use Rattle.std.specs.Prelude.{slice_set, slice_index_or, Option, Some, None}
 use Rattle.std.specs.List.{swap_remove}
@@ -27,9 +27,9 @@ use Rattle.tftp_loop.specs.Run.{Run}
 
 -- ---- the state
 
--- the timer of a transfer: the port that is the transfer's identifier, the peer, which asked for
--- it (RFC 1350, section 4), the interval in seconds and the deadline in milliseconds (RFC 2349,
--- "Timeout Interval Option Specification")
+-- the timer of a transfer: the port, which is its identifier, the peer that requested it (RFC 1350,
+-- section 4), the interval in seconds and the deadline in milliseconds (RFC 2349, "Timeout Interval
+-- Option Specification")
 pub record Timer : Type 0 where
   pub port : ℕ
   pub peer : Endpoint
@@ -47,20 +47,20 @@ pub record LoopState (S F D : Type 0) : Type 0 where
   -- the request port
   pub requests : ℕ
   pub server : ServerState S F D
-  -- the datagram that was received there and is not handled yet
+  -- the datagram received there and not handled yet
   pub pending : Option (Endpoint × List ℕ)
-  -- one for the port of each transfer, in no order
+  -- one for each transfer, in no order
   pub timers : List Timer
-  -- the newest reading of the clock, in milliseconds
+  -- the last reading of the clock, in milliseconds
   pub now : ℕ
-  -- the newest first
+  -- the last event first
   pub events : List Event
 
--- the timer set to its interval from now
+-- the timer, expiring one interval from now
 abbrev pub restarted : ℕ → Timer → Timer
 restarted now timer = record timer { deadline = deadline_of now timer.interval }
 
--- the timer after a step, which restarts it if it is progress
+-- the timer after a step: progress restarts it
 abbrev pub timer_after : ℕ → Bool → Timer → Timer
 timer_after now true timer = restarted now timer
 timer_after now false timer = timer
@@ -73,8 +73,8 @@ started now port peer interval =
 -- ---- at the port of a transfer
 
 module _ {S F D : Type 0} where
-  -- the transfer at the port makes the step of a timeout, and at once its datagram is sent from
-  -- that port, to where the step says (RFC 1350, section 2)
+  -- the transfer at the port makes the step of a timeout, and its datagram is sent at once, from
+  -- that port to the endpoint that the step returns (RFC 1350, section 2)
   pub record TimesOut (port : ℕ) (old new : ServerState S F D) (before after : List Event)
       (step : Step) : Type 0 where
     pub outgoing : Outgoing
@@ -83,8 +83,8 @@ module _ {S F D : Type 0} where
     pub events : after ≡ answered port (timeout_turn times_out.transfer.end).reply before
 
 module _ {S F D : Type 0} (meaning : StoreMeaning S D) (sources : SourceMeaning F) where
-  -- the transfer at the port handles a datagram, and at once the answer is sent from that port, to
-  -- where the step says (RFC 1350, section 4)
+  -- the transfer at the port handles a datagram, and the answer is sent at once, from that port to
+  -- the endpoint that the step returns (RFC 1350, section 4)
   pub record Handles (port : ℕ) (from : Endpoint) (bytes : List ℕ) (old new : ServerState S F D)
       (before after : List Event) (step : Step) : Type 0 where
     pub outgoing : Outgoing
@@ -92,8 +92,8 @@ module _ {S F D : Type 0} (meaning : StoreMeaning S D) (sources : SourceMeaning 
     pub config : new.config ≡ old.config
     pub events : after ≡ answered port takes.takes.turn.reply before
 
-  -- the datagram is lost, and only where no transfer is open, or where a block is read or stored
-  -- and there is no memory for it
+  -- the datagram is lost, only if no transfer is open, or if a block is read or stored and there is
+  -- no memory for it
   pub record Loses (port : ℕ) (from : Endpoint) (bytes : List ℕ) (old new : ServerState S F D)
       : Type 0 where
     pub fault : ServerFault
@@ -124,7 +124,7 @@ module _ {S F D : Type 0} (meaning : StoreMeaning S D) (sources : SourceMeaning 
       pub timer : new.timer ≡ old.timer
       pub events : new.events ≡ Received old.timer.port from bytes ∷ old.events
 
-    -- a timeout is delivered once it is due, and the timer is restarted (RFC 1350, section 2)
+    -- a due timeout is delivered, and the timer restarts (RFC 1350, section 2)
     pub record DeliversTimeout : Type 0 where
       pub step : Step
       pub due : old.timer.deadline ≤ now
@@ -132,7 +132,7 @@ module _ {S F D : Type 0} (meaning : StoreMeaning S D) (sources : SourceMeaning 
           (Elapsed old.timer.port now ∷ old.events) new.events step
       pub timer : new.timer ≡ restarted now old.timer
 
-    -- or it finds no open transfer, and nothing is sent
+    -- a due timeout finds no open transfer, and nothing is sent
     pub record MissesTimeout : Type 0 where
       pub due : old.timer.deadline ≤ now
       pub closed : is_open (at old.timer.port old.server.held) ≡ false
@@ -140,7 +140,7 @@ module _ {S F D : Type 0} (meaning : StoreMeaning S D) (sources : SourceMeaning 
       pub timer : new.timer ≡ restarted now old.timer
       pub events : new.events ≡ Elapsed old.timer.port now ∷ old.events
 
-    -- the file of the transfer works
+    -- the file of the transfer reads ahead or is written back
     pub record FileWorks : Type 0 where
       pub works : Works old.timer.port old.server new.server
       pub timer : new.timer ≡ old.timer
@@ -156,7 +156,7 @@ module _ {S F D : Type 0} (meaning : StoreMeaning S D) (sources : SourceMeaning 
 
 -- ---- at all ports
 
--- the port from which a datagram of the request port is answered: the transfer's own, if one opens
+-- the port that answers a datagram of the request port: the port of the transfer, if one opens
 -- (RFC 1350, section 4)
 abbrev pub answering_port : ℕ → Option ℕ → ℕ
 answering_port requests None = requests
@@ -168,7 +168,7 @@ module _ {F D : Type 0} where
   interval_at None = DEFAULT_INTERVAL
   interval_at (Some held) = interval_of (terms_of held.end.position.phase)
 
-  -- the timers after a request: a transfer that opened has one that starts now
+  -- the timers after a request: the timer of an opened transfer starts now
   abbrev pub with_timer : ℕ → Endpoint → Option ℕ → List (ℕ × HeldTransfer F D)
       → List Timer → List Timer
   with_timer now from None held timers = timers
@@ -176,7 +176,7 @@ module _ {F D : Type 0} where
       timers ++ started now port from (interval_at (at port held)) ∷ []
 
 module _ {S F D : Type 0} where
-  -- what the port of a transfer is, by its timer
+  -- the state at the port of a transfer with this timer
   abbrev pub port_state : LoopState S F D → Timer → PortState S F D
   port_state old timer = record { server = old.server; timer = timer; events = old.events }
 
@@ -193,7 +193,7 @@ module _ {S F D : Type 0} where
 
 module _ {S F D : Type 0} (meaning : StoreMeaning S D) (sources : SourceMeaning F)
     (old new : LoopState S F D) where
-  -- something happens at the port of a transfer, which one of the timers is of
+  -- a step at the port of a transfer
   pub record ServesPort : Type 0 where
     pub place : ℕ
     pub timer : Timer
@@ -207,7 +207,7 @@ module _ {S F D : Type 0} (meaning : StoreMeaning S D) (sources : SourceMeaning 
       events = next.events;
     }
 
-  -- a datagram is received at the request port, where none is pending
+  -- a datagram is received at the request port while none is pending
   pub record ReceivesRequest : Type 0 where
     pub from : Endpoint
     pub bytes : List ℕ
@@ -217,7 +217,7 @@ module _ {S F D : Type 0} (meaning : StoreMeaning S D) (sources : SourceMeaning 
       events = Received old.requests from bytes ∷ old.events;
     }
 
-  -- the pending datagram is handled by the server as it is now, and at once its answer is sent: an
+  -- the server, as it is now, handles the pending datagram, and the answer is sent at once: an
   -- ERROR from the request port, or the first datagram of a transfer from a port that no transfer
   -- has (RFC 1350, section 4; RFC 2347, "Negotiation Protocol")
   pub record AnswersRequest : Type 0 where
@@ -230,7 +230,7 @@ module _ {S F D : Type 0} (meaning : StoreMeaning S D) (sources : SourceMeaning 
     pub steps : RequestStep meaning sources old.server from bytes tid left
     pub is : new ≡ after_request old from left
 
-  -- the pending datagram is lost: there is no memory or no port, or the loop ends
+  -- the pending datagram is lost: out of memory, no port, or the loop ends
   pub record LosesRequest : Type 0 where
     pub from : Endpoint
     pub bytes : List ℕ
@@ -243,14 +243,14 @@ module _ {S F D : Type 0} (meaning : StoreMeaning S D) (sources : SourceMeaning 
     pub forward : old.now ≤ time
     pub is : new ≡ record old { now = time; events = Watched time ∷ old.events }
 
-  -- the store is set for the next transfer, and holds the same
+  -- the store is set for the next transfer; its stored files do not change
   pub record SetsStore : Type 0 where
     pub store : S
     pub same : meaning.stored store ≡ meaning.stored old.server.store
     pub is : new ≡ record old { server = record old.server { store = store } }
 
-  -- a transfer that closed is taken out with its timer, and at once its line is printed, with its
-  -- port, its peer's and its outcome; its identifier is free
+  -- a closed transfer is removed with its timer, and its line is printed at once, with its port,
+  -- the peer's port and its outcome; its identifier is free
   pub record Closes : Type 0 where
     pub place : ℕ
     pub timer : Timer
@@ -266,7 +266,7 @@ module _ {S F D : Type 0} (meaning : StoreMeaning S D) (sources : SourceMeaning 
       events = Printed (line_text (Closed timer.port timer.peer.port outcome)) ∷ old.events;
     }
 
-  -- what `tftpd` does
+  -- the steps of the loop
   pub data Does : Type 0 where
     At_port : ServesPort → Does
     Request_received : ReceivesRequest → Does
@@ -276,7 +276,7 @@ module _ {S F D : Type 0} (meaning : StoreMeaning S D) (sources : SourceMeaning 
     Store_set : SetsStore → Does
     Transfer_closed : Closes → Does
 
--- a server that has its request port, and has received nothing
+-- a server with a bound request port that has received nothing
 abbrev pub at_start : {S F D : Type 0} → ℕ → ServerState S F D → List Event → LoopState S F D
 at_start requests server events =
     record {
@@ -293,15 +293,15 @@ abbrev pub listening : List ℕ → ℕ → List Event → List Event
 listening ip port events =
     Printed (line_text (Listening (record { ip = ip; port = port }))) ∷ events
 
--- a server that has its request port served there, from one journal to the other
+-- a server with a bound request port serves there, from one journal to the other
 abbrev pub ServesFrom : {S F D : Type 0} → StoreMeaning S D → SourceMeaning F → ℕ
     → ServerState S F D → List Event → List Event → Type 0
 ServesFrom {S} {F} {D} meaning sources port server before after =
     (last : LoopState S F D) × Run (Does meaning sources) (at_start port server before) last
     × (after ≡ last.events)
 
--- the whole of a server, from one journal to the other: no port could be bound, or the line of the
--- request port is printed, and then the server serves
+-- a whole run, from one journal to the other: the request port could not be bound, or its line is
+-- printed and then the server serves
 pub data Serves {S F D : Type 0} (meaning : StoreMeaning S D) (sources : SourceMeaning F)
     (listen : Endpoint) (server : ServerState S F D) (before after : List Event) : Type 0 where
   Unbound : after ≡ before → Serves meaning sources listen server before after

@@ -1,4 +1,4 @@
-//! A server at its ports, in one thread.
+//! The loop over the ports of a server, in one thread.
 
 ghost use Rattle.std.specs.Prelude.{◌≡◌, map, []};
 ghost use Rattle.tftp_loop.specs.Served.{ClosedAt, OnlyServes, ServesRounds, timer_of};
@@ -27,14 +27,14 @@ pub(crate) struct Daemon<S: Store + Drop> {
     pub(crate) sockets: Sockets,
     pub(crate) ports: Vec<TransferPort>,
     pub(crate) journal: Journal,
-    /// What the request port appends.
+    /// The answer to a datagram of the request port.
     pub(crate) out: Vec<u8>,
     tids: Vec<u16>,
     pub(crate) logs: bool,
     pub(crate) alloc: Global,
 }
 
-/// Buffers: what a wait reports, a datagram of the request port, and one of a transfer.
+/// Buffers for events, a datagram of the request port and one of a transfer.
 #[derive(Drop)]
 pub(crate) struct Buffers {
     events: Events,
@@ -54,7 +54,7 @@ impl Buffers {
 }
 
 impl<S: ServedStore + Drop> Daemon<S> {
-    /// A server that has no transfer yet.
+    /// A server without ports of transfers.
     pub(crate) fn new(
         alloc: Global,
         server: Server<S>,
@@ -79,8 +79,7 @@ impl<S: ServedStore + Drop> Daemon<S> {
         }
     }
 
-    /// Takes what comes, wait by wait, until so many transfers have closed, or so many waits are
-    /// over.
+    /// Serves, wait by wait, until a count of `ending` is reached.
     pub(crate) fn take_rounds<N: Udp + Clock + Print + Eprint>(
         &mut self,
         rt: &N,
@@ -99,9 +98,9 @@ impl<S: ServedStore + Drop> Daemon<S> {
         Ok(())
     }
 
-    /// Waits once, and takes what came and what is due: of transfers before requests, since an
-    /// acknowledgement may free the place that its client's next request needs. `left` counts the
-    /// transfers that are yet to close.
+    /// Waits once, and handles datagrams and due timeouts. Transfers precede requests, because an
+    /// acknowledgement may free the slot that its client's next request needs. `left` is the number
+    /// of transfers yet to close.
     fn take_round<N: Udp + Clock + Print + Eprint>(
         &mut self,
         rt: &N,
@@ -122,7 +121,7 @@ impl<S: ServedStore + Drop> Daemon<S> {
         self.take_timeouts(rt, left, buffers.datagram.as_mut_slice())
     }
 
-    /// Waits until a datagram is there or a transfer is due, and a second at most.
+    /// Waits until a datagram is ready or a transfer is due, for at most a second.
     fn wait<C: Clock>(&mut self, clock: &C, events: &mut Events)
         ensures { OnlyServes S.meaning S.Source.meaning self.old self.new }
     {
@@ -130,7 +129,7 @@ impl<S: ServedStore + Drop> Daemon<S> {
         self.look(clock, events, millis);
     }
 
-    /// How long to wait, in milliseconds.
+    /// The longest wait, in milliseconds.
     fn millis_to_wait(&self) -> u64 {
         if self.sockets.is_ready {
             return 0;
@@ -138,7 +137,7 @@ impl<S: ServedStore + Drop> Daemon<S> {
         millis_to_wait(self.sockets.watch.now, self.ports.as_slice())
     }
 
-    /// Waits until a datagram is there, for so many milliseconds at most, and notes which are.
+    /// Waits until a datagram is ready, for at most `millis` milliseconds, and marks ready ports.
     pub(crate) fn look<C: Clock>(&mut self, clock: &C, events: &mut Events, millis: u64)
         ensures { OnlyServes S.meaning S.Source.meaning self.old self.new }
     {
@@ -150,7 +149,7 @@ impl<S: ServedStore + Drop> Daemon<S> {
         );
     }
 
-    /// Takes what came to the ports of transfers. `left` counts the transfers that are yet to
+    /// Handles the datagrams at the ports of transfers. `left` is the number of transfers yet to
     /// close.
     pub(crate) fn take_transfers<P: Print + Eprint>(
         &mut self,
@@ -161,7 +160,7 @@ impl<S: ServedStore + Drop> Daemon<S> {
         ensures { OnlyServes S.meaning S.Source.meaning self.old self.new }
     {
         let mut left = left;
-        // From the end, since a port that closes gives its place to the last.
+        // In reverse order, because a close moves the last port to the freed index.
         for place in (0..self.ports.len()).rev() {
             let status = self.take_ready_at(place, buffer);
             left = self.finish(rt, left, place, status)?;
@@ -169,7 +168,7 @@ impl<S: ServedStore + Drop> Daemon<S> {
         Ok(left)
     }
 
-    /// Takes what came to the port of a transfer, where a datagram may be.
+    /// Handles the datagrams at the port of a transfer, if it is marked ready.
     fn take_ready_at(&mut self, place: usize, buffer: &mut [u8]) -> PortStatus
         ensures serves { OnlyServes S.meaning S.Source.meaning self.old self.new }
         ensures closed { result ≡ statuses.Closed → ClosedAt place self.new }
@@ -182,8 +181,8 @@ impl<S: ServedStore + Drop> Daemon<S> {
         take_ready(&mut self.server, port, &mut self.journal, now, buffer)
     }
 
-    /// Takes the timeouts that are due, by the identifiers of the transfers, once nothing is left at
-    /// their ports.
+    /// Serves the due ports, in the order of the server's identifiers: datagrams first, then the
+    /// timeout.
     fn take_timeouts<P: Print + Eprint>(
         &mut self,
         rt: &P,
@@ -206,7 +205,7 @@ impl<S: ServedStore + Drop> Daemon<S> {
         Ok(left)
     }
 
-    /// Takes what is due of the transfer whose identifier is this one of the list.
+    /// Serves the port of the transfer at this index of the identifiers, if it is due.
     fn take_timeout_of<P: Print + Eprint>(
         &mut self,
         rt: &P,
@@ -226,7 +225,7 @@ impl<S: ServedStore + Drop> Daemon<S> {
         self.finish(rt, left, place, status)
     }
 
-    /// Takes what is left at the port of a transfer that is due, and else its timeout.
+    /// Handles the datagrams at a due port, or else its timeout.
     fn take_due_at(&mut self, place: usize, buffer: &mut [u8]) -> PortStatus
         ensures serves { OnlyServes S.meaning S.Source.meaning self.old self.new }
         ensures closed { result ≡ statuses.Closed → ClosedAt place self.new }
@@ -239,7 +238,7 @@ impl<S: ServedStore + Drop> Daemon<S> {
         take_due(&mut self.server, port, &mut self.journal, now, buffer)
     }
 
-    /// Closes the port of a transfer that closed. One transfer less is left then.
+    /// Closes the port of a closed transfer, and returns how many transfers are yet to close.
     fn finish<P: Print + Eprint>(
         &mut self,
         rt: &P,
@@ -259,7 +258,7 @@ impl<S: ServedStore + Drop> Daemon<S> {
         }
     }
 
-    /// Takes a closed transfer out of the server, with its port, and prints how it ended.
+    /// Removes a closed transfer and its port, and prints its outcome.
     fn close<P: Print + Eprint>(&mut self, rt: &P, place: usize) -> Result<(), LoopFault>
         requires { ClosedAt place self.old }
         ensures { OnlyServes S.meaning S.Source.meaning self.old self.new }
@@ -272,7 +271,7 @@ impl<S: ServedStore + Drop> Daemon<S> {
     }
 }
 
-/// How long to wait, in milliseconds, where no request is there.
+/// The longest wait, in milliseconds, if the request port is not ready.
 fn millis_to_wait<S>(now: u64, ports: &[Port<S>]) -> u64 {
     if ports.iter().any(|port| port.is_ready) {
         0
@@ -281,7 +280,7 @@ fn millis_to_wait<S>(now: u64, ports: &[Port<S>]) -> u64 {
     }
 }
 
-/// Notes where a datagram is.
+/// Marks the ready ports.
 fn note_all(events: &Events, is_ready: &mut bool, ports: &mut [TransferPort])
     ensures { map timer_of ports.new ≡ map timer_of ports.old }
 {
@@ -290,7 +289,7 @@ fn note_all(events: &Events, is_ready: &mut bool, ports: &mut [TransferPort])
     }
 }
 
-/// Notes that a datagram is there.
+/// Marks the port of a token ready.
 fn note(token: Token, is_ready: &mut bool, ports: &mut [TransferPort])
     ensures { map timer_of ports.new ≡ map timer_of ports.old }
 {
@@ -301,7 +300,7 @@ fn note(token: Token, is_ready: &mut bool, ports: &mut [TransferPort])
     note_ready(token, ports);
 }
 
-/// Notes that a datagram is there at the port of a transfer.
+/// Marks the port of a transfer ready.
 fn note_ready(token: Token, ports: &mut [TransferPort])
     ensures { map timer_of ports.new ≡ map timer_of ports.old }
 {

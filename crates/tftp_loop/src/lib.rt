@@ -1,8 +1,8 @@
-//! The loop of a TFTP server over UDP: its sockets, its time and its lines (RFC 1350, sections 2
+//! The loop of a TFTP server over UDP: sockets, clock and printed lines (RFC 1350, sections 2
 //! and 4).
 //!
-//! It knows no packet's bytes and no rule of the protocol, and has no files but its server's. All
-//! that it sends and prints is a step of its server: [`serve`] says so of the [`Journal`].
+//! It has no packet format, no protocol rule and no files of its own. All that it sends and prints
+//! is a step of its server: the clause of [`serve`] states this of the [`Journal`].
 //!
 //! Begin with [`serve`].
 //!

@@ -1,23 +1,23 @@
-//! What the log says of a transfer.
+//! The log entry of a transfer.
 
 use std::alloc::Global;
 use tftp_ends::{Endpoint, Outcome};
 use tftp_host::{LogLine, Reason};
 use tftp_wire::{PacketRef, decode_ref, show_datagram};
 
-/// What the log says of a transfer.
+/// The content of a transfer's log lines.
 #[derive(Drop)]
 pub(crate) struct LogEntry {
     peer: Endpoint,
     request: String,
     answer: String,
     opened_at: u64,
-    /// The bytes of DATA that were sent or taken, each once.
+    /// The number of DATA bytes sent or received, without repetitions.
     bytes: u64,
 }
 
 impl LogEntry {
-    /// A transfer that this request opens at this time, with this answer.
+    /// The entry of a transfer that a request opened, with its answer.
     pub(crate) fn new(
         alloc: Global,
         peer: Endpoint,
@@ -34,12 +34,12 @@ impl LogEntry {
         }
     }
 
-    /// Counts the bytes of DATA that a datagram carries.
+    /// Adds the DATA bytes of a datagram.
     pub(crate) fn count(&mut self, datagram: &[u8]) {
         self.bytes = self.bytes.saturating_add(data_length(datagram));
     }
 
-    /// The line of its opening.
+    /// The line of the opening.
     pub(crate) fn opened(&self, port: u16) -> LogLine<'_> {
         LogLine::Opened {
             port,
@@ -49,7 +49,7 @@ impl LogEntry {
         }
     }
 
-    /// The line of its close. `reason` is why the system refused the newest call on a file.
+    /// The line of the close. `reason` is the system's reason for refusing the last file call.
     pub(crate) fn closed(
         &self,
         port: u16,
@@ -74,14 +74,14 @@ impl LogEntry {
     }
 }
 
-/// A datagram as its packet's line, or as its first fault. Out of memory it is cut short.
+/// A datagram as the line of its packet, or as its first fault. Truncated when out of memory.
 pub(crate) fn shown(alloc: Global, bytes: &[u8]) -> String {
     let mut line = String::new(alloc);
     let _ = show_datagram(bytes, &mut line);
     line
 }
 
-/// The bytes of a file that a datagram carries.
+/// The number of DATA bytes in a datagram.
 fn data_length(datagram: &[u8]) -> u64 {
     match decode_ref(datagram) {
         Ok(PacketRef::Data { bytes, .. }) => bytes.len() as u64,

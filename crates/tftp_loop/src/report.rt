@@ -1,4 +1,4 @@
-//! What `tftpd` prints of its transfers, and of datagrams that opened none.
+//! The printed and logged lines of transfers and requests.
 
 ghost use Rattle.std.specs.Prelude.{◌≡◌, is_some, option_map, if◌then◌else◌};
 ghost use Rattle.tftp_server.specs.State.{at, taken_of, without};
@@ -13,8 +13,8 @@ use tftp_host::{LogLine, Lost, Printed, Reason};
 use tftp_server::{Server, Store};
 use tftp_sockets::{Journal, print_line};
 
-/// Writes the line of a datagram that opened no transfer, with the reason for which the system
-/// refused a call on a file, if it did.
+/// Logs a datagram that opened no transfer. `reason` is the system's reason for refusing a file
+/// call, if it refused one.
 pub(crate) fn log_unopened<E: Eprint>(
     rt: &E,
     alloc: Global,
@@ -41,7 +41,7 @@ pub(crate) fn log_unopened<E: Eprint>(
     let _ = eprintln!(rt; "{line}");
 }
 
-/// Writes the line of a request that is lost.
+/// Logs a lost request.
 pub(crate) fn log_lost<E: Eprint>(rt: &E, alloc: Global, peer: Endpoint, bytes: &[u8], lost: Lost) {
     let request = shown(alloc, bytes);
     let line = LogLine::Lost {
@@ -52,7 +52,7 @@ pub(crate) fn log_lost<E: Eprint>(rt: &E, alloc: Global, peer: Endpoint, bytes: 
     let _ = eprintln!(rt; "{line}");
 }
 
-/// Takes a closed transfer out of the server; how far it came.
+/// Removes a closed transfer from the server, and returns its record.
 pub(crate) fn record_of_closed<S: Store + Drop>(server: &mut Server<S>, tid: u16) -> Option<Record>
     ensures found { result ≡ option_map (λ taken. taken.0) (taken_of (at tid server.old.held)) }
     ensures held { server.new.held ≡ (if is_some result then without tid server.old.held else
@@ -65,8 +65,8 @@ pub(crate) fn record_of_closed<S: Store + Drop>(server: &mut Server<S>, tid: u16
     }
 }
 
-/// Prints how a transfer ended, and writes its line where there is a log. `reason` is why the system
-/// refused the newest call on a file.
+/// Prints the outcome of a transfer, and logs its close. `reason` is the system's reason for
+/// refusing the last file call.
 pub(crate) fn report_close<P: Print + Eprint>(
     rt: &P,
     journal: &mut Journal,
@@ -97,7 +97,7 @@ pub(crate) fn report_close<P: Print + Eprint>(
     }
 }
 
-/// Writes the line of a transfer's close, where there is a log.
+/// Logs the close of a transfer, if there is a log.
 fn log_closed<E: Eprint>(
     rt: &E,
     port: &TransferPort,

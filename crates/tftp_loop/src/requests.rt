@@ -1,4 +1,4 @@
-//! The requests of `tftpd`: what is received at its request port, and the transfers that open by it.
+//! The datagrams of the request port, and the transfers that they open.
 
 ghost use Rattle.std.specs.Prelude.{◌≡◌, ◌<◌, ◌++◌, ◌∷◌, [], true, false, None, IfOk, IfSome, vec_len};
 ghost use Rattle.std.specs.Prelude.{vec_capacity, map};
@@ -23,12 +23,12 @@ use tftp_host::{Lost, Port, Reason, deadline};
 use tftp_server::{Admission, Opened, Server, Store};
 use tftp_sockets::ServerSocket;
 
-/// The identifier with which the server handles a datagram that opens no transfer.
+/// The identifier passed to the server for a datagram that opens no transfer.
 const NO_PORT: u16 = 0;
 
 impl<S: ServedStore + Drop> Daemon<S> {
-    /// Takes requests that are there, as many as a wake-up takes. `left` counts the transfers that
-    /// are yet to close.
+    /// Handles the datagrams at the request port, at most `MOST_AT_ONCE`. `left` is the number of
+    /// transfers yet to close.
     pub(crate) fn take_requests<N: Udp + Clock + Print + Eprint>(
         &mut self,
         rt: &N,
@@ -57,9 +57,9 @@ impl<S: ServedStore + Drop> Daemon<S> {
         Ok(left)
     }
 
-    /// Handles a datagram of the request port. Where it would open no transfer as the server is,
-    /// what came to transfers is taken before it: its client may have sent the acknowledgement that
-    /// frees a place just ahead of it, and then it is admitted again.
+    /// Handles a datagram of the request port. If it would open no transfer, the datagrams of
+    /// transfers are handled first, and then it is admitted again: an acknowledgement that its
+    /// client sent just before may free a slot.
     fn take_request<N: Udp + Clock + Print + Eprint>(
         &mut self,
         rt: &N,
@@ -89,7 +89,7 @@ impl<S: ServedStore + Drop> Daemon<S> {
         }
     }
 
-    /// Answers a datagram of the request port, unless no transfer is left that is to close.
+    /// Answers a datagram of the request port, unless no transfer is yet to close.
     fn answer_later<N: Udp + Eprint>(&mut self, rt: &N, left: u64, from: Endpoint, bytes: &[u8])
         ensures { AnswersPending S.meaning S.Source.meaning from bytes.now self.old self.new }
     {
@@ -107,8 +107,8 @@ impl<S: ServedStore + Drop> Daemon<S> {
         self.refuse_request(rt, from, bytes, admission);
     }
 
-    /// Carries out the admission of a datagram that may open a transfer, which gets a port of its
-    /// own. The datagram is lost where no port can be bound, and when out of memory.
+    /// Carries out the admission of a datagram that may open a transfer, at a port of its own. The
+    /// datagram is lost if no port can be bound, or when out of memory.
     fn open_request<N: Udp + Eprint>(
         &mut self,
         rt: &N,
@@ -158,8 +158,8 @@ impl<S: ServedStore + Drop> Daemon<S> {
         }
     }
 
-    /// Sends the answer to a datagram that might have opened a transfer at this port: from there if
-    /// it did.
+    /// Sends the answer to a datagram: from this port if it opened a transfer there, else from the
+    /// request port.
     fn answer_opened<E: Eprint>(
         &mut self,
         rt: &E,
@@ -204,15 +204,15 @@ impl<S: ServedStore + Drop> Daemon<S> {
         }
     }
 
-    /// Writes the line of a request that is lost, where there is a log.
+    /// Logs a lost request, if there is a log.
     fn lose<E: Eprint>(&self, rt: &E, from: Endpoint, bytes: &[u8], lost: Lost) {
         if self.logs {
             log_lost(rt, self.alloc, from, bytes, lost);
         }
     }
 
-    /// Sends the answer to a datagram that opened no transfer from the request port, if there is
-    /// one.
+    /// Sends the answer, if there is one, to a datagram that opened no transfer, from the request
+    /// port.
     fn refuse<E: Eprint>(
         &mut self,
         rt: &E,
@@ -231,7 +231,7 @@ impl<S: ServedStore + Drop> Daemon<S> {
         }
     }
 
-    /// Sends the first datagram of a transfer that opened from its port, and serves that port.
+    /// Sends the first datagram of an opened transfer from its port, and adds the port.
     fn begin<E: Eprint>(
         &mut self,
         rt: &E,
@@ -250,7 +250,7 @@ impl<S: ServedStore + Drop> Daemon<S> {
         self.ports.push_reserved(port);
     }
 
-    /// The port of a transfer that opened.
+    /// The port of an opened transfer.
     fn port_of(
         &self,
         spare: ServerSocket,
@@ -279,8 +279,8 @@ impl<S: ServedStore + Drop> Daemon<S> {
         }
     }
 
-    /// Writes the line of a request that opened a transfer at the port, where there is a log; what
-    /// its close is to say of it.
+    /// Logs a request that opened a transfer, if there is a log, and returns the entry for its
+    /// close.
     fn log_opened<E: Eprint>(
         &self,
         rt: &E,
@@ -320,8 +320,8 @@ fn interval_of<S: Store>(server: &Server<S>, tid: u16) -> u8
     }
 }
 
-/// The longest text that can be sent in blocks of this size, in bytes: 65,535 blocks, the last of
-/// them one byte short (RFC 1350, section 6).
+/// The longest length that can be sent in blocks of this size, in bytes: 65,535 blocks, the last
+/// one byte short (RFC 1350, section 6).
 fn longest_text(block_size: u16) -> u64 {
     (u64::from(block_size) * 65_535).saturating_sub(1)
 }

@@ -1,4 +1,4 @@
-//! A server over UDP, from its sockets to its end.
+//! Serves over UDP, from the bind of the request port to the end.
 
 ghost use Rattle.std.specs.Prelude.{◌≡◌};
 ghost use Rattle.tftp_loop.specs.Serves.{Serves, ServesFrom, listening};
@@ -14,29 +14,28 @@ use tftp_host::Printed;
 use tftp_server::Server;
 use tftp_sockets::{Journal, print_line};
 
-/// What a server's loop is set to.
+/// The configuration of a server's loop.
 #[derive(Clone, Copy)]
 pub struct LoopConfig {
-    /// Where requests are received.
+    /// The endpoint of the request port.
     pub listen: Endpoint,
-    /// When it ends.
+    /// When the loop ends.
     pub ending: Ending,
-    /// Each request and each close is a line on standard error.
+    /// Whether each request and each close is logged as a line on standard error.
     pub logs: bool,
 }
 
-/// When a server ends: by the first of two counts that is reached.
+/// When a server ends: once either count is reached.
 #[derive(Clone, Copy)]
 pub struct Ending {
-    /// After how many closed transfers.
+    /// The number of closed transfers.
     pub transfers: u64,
-    /// After how many waits.
+    /// The number of waits.
     pub rounds: u64,
 }
 
 impl Ending {
-    /// By no count: so many waits take longer than any machine lives, thousands of years even where
-    /// each is over at once.
+    /// Never in practice: that many waits take thousands of years even if each returns at once.
     pub const NEVER: Ending = Ending {
         transfers: u64::MAX,
         rounds: u64::MAX,
@@ -48,14 +47,13 @@ impl Ending {
 pub enum LoopFault {
     /// The request port could not be bound.
     Socket,
-    /// Writing failed.
+    /// A line could not be printed.
     Output,
     /// Out of memory.
     Memory,
 }
 
-/// Serves until so many transfers have closed, or so many waits are over. The journal goes on from
-/// what it holds, and is handed back.
+/// Serves until the end of `config`. Adds its events to the journal, and returns it.
 pub fn serve<N: Udp + Clock + Print + Eprint, S: ServedStore + Drop>(
     rt: &N,
     alloc: Global,
@@ -72,7 +70,7 @@ pub fn serve<N: Udp + Clock + Print + Eprint, S: ServedStore + Drop>(
     }
 }
 
-/// Prints where the request port is, and serves what comes to it.
+/// Prints the endpoint of the request port, and serves it.
 fn listen<N: Udp + Clock + Print + Eprint, S: ServedStore + Drop>(
     rt: &N,
     alloc: Global,
@@ -93,7 +91,7 @@ fn listen<N: Udp + Clock + Print + Eprint, S: ServedStore + Drop>(
     }
 }
 
-/// Serves what comes to the request port.
+/// Serves the request port.
 fn run<N: Udp + Clock + Print + Eprint, S: ServedStore + Drop>(
     rt: &N,
     alloc: Global,

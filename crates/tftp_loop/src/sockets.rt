@@ -1,5 +1,4 @@
-//! The sockets of `tftpd` that no transfer has: the request port, and the port of the next
-//! transfer.
+//! The request port of a server, and the spare port for its next transfer.
 
 ghost use Rattle.std.specs.Prelude.{◌≡◌, ◌≤◌, ◌∷◌, length, take, true, IfOk, IfSome, MatchOption};
 ghost use Rattle.tftp_server.specs.Port.{asks_store};
@@ -14,21 +13,21 @@ use tftp_host::{Watch, address_of, read_clock};
 use tftp_server::Admission;
 use tftp_sockets::{Journal, ServerSocket, read_watch};
 
-/// The token of the request port; a transfer's is its port, which is never 0.
+/// The token of the request port. The token of a transfer is its port, which is never 0.
 pub(crate) const REQUESTS: Token = Token(0);
 
-/// The request port, with what waits for it and for the ports of transfers, and the time.
+/// The request port, the poll of all ports, and the time.
 #[derive(Drop)]
 pub(crate) struct Sockets {
     poll: Poll,
     pub(crate) requests: ServerSocket,
     /// The address of the request port.
     ip: [u8; 4],
-    /// A request may have come that was not received yet.
+    /// A datagram may be ready at the request port.
     pub(crate) is_ready: bool,
-    /// A port that no transfer has yet.
+    /// A bound port without a transfer.
     spare: Option<ServerSocket>,
-    /// The time, which each wait reads.
+    /// The time, read after each wait.
     pub(crate) watch: Watch,
 }
 
@@ -51,7 +50,7 @@ impl Sockets {
         })
     }
 
-    /// Where requests are received.
+    /// The endpoint of the request port.
     pub(crate) fn listening(&self) -> Endpoint
         ensures { result ≡ record { ip = self.now.ip; port = self.now.requests.port } }
     {
@@ -62,7 +61,7 @@ impl Sockets {
         }
     }
 
-    /// Waits for a datagram, for so many milliseconds at most, and reads the clock.
+    /// Waits for a datagram, for at most `millis` milliseconds, and reads the clock.
     pub(crate) fn wait<C: Clock>(
         &mut self,
         clock: &C,
@@ -78,7 +77,7 @@ impl Sockets {
         read_watch(clock, journal, &mut self.watch);
     }
 
-    /// Receives from the request port, where a request may have come.
+    /// Receives from the request port, if it may be ready.
     pub(crate) fn receive_request(
         &mut self,
         journal: &mut Journal,
@@ -100,7 +99,7 @@ impl Sockets {
         received
     }
 
-    /// Takes the port for a transfer that may open, which is bound if none is there.
+    /// Takes the spare port for a transfer that may open, or binds one. `None` if that fails.
     pub(crate) fn port_for<N: Udp>(
         &mut self,
         net: &N,
@@ -115,24 +114,24 @@ impl Sockets {
         }
     }
 
-    /// Gives a port back, for the next transfer.
+    /// Keeps a port for the next transfer.
     pub(crate) fn give_back(&mut self, spare: ServerSocket)
         ensures { self.new ≡ record self.old { spare = self.new.spare } }
     {
         self.spare = Some(spare);
     }
 
-    /// Waits for what comes to the port of a transfer too.
+    /// Adds the port of a transfer to the poll.
     pub(crate) fn register(&self, spare: &mut ServerSocket)
         ensures { spare.new.port ≡ spare.old.port }
     {
-        // Without readiness the transfer's datagrams are received before its timeouts.
+        // If this fails, the transfer's datagrams are received when its port is due.
         let token = Token(usize::from(spare.port()));
         let _ = spare.register(self.poll.registry(), token);
     }
 }
 
-/// What waits for the request port.
+/// A poll of the request port.
 fn poll_for<N: Udp>(net: &N, requests: &mut ServerSocket) -> io::Result<Poll>
     ensures { requests.new.port ≡ requests.old.port }
 {
@@ -141,7 +140,7 @@ fn poll_for<N: Udp>(net: &N, requests: &mut ServerSocket) -> io::Result<Poll>
     Ok(poll)
 }
 
-/// Binds a port of the system's choice at the address.
+/// Binds a port chosen by the system at the address.
 fn bind_spare<N: Udp>(net: &N, ip: [u8; 4]) -> Option<ServerSocket> {
     match net.bind(address_of(Endpoint { ip, port: 0 })) {
         Ok(socket) => Some(socket),

@@ -1,4 +1,4 @@
-//! A transfer of `tftpd` at its port: what is received there, and what is sent.
+//! The port of a transfer: its datagrams and its timeouts.
 
 ghost use Rattle.std.specs.Prelude.{◌≡◌, ◌≤◌, ◌⊎◌, IsSome, MatchOption, IfSome, true, false};
 ghost use Rattle.tftp_server.specs.State.{at, is_open, taken_of};
@@ -12,29 +12,29 @@ use tftp_host::{Port, deadline, is_due};
 use tftp_server::{Server, Store};
 use tftp_sockets::{Journal, ServerSocket};
 
-/// The most datagrams that are received from one socket in a wake-up: a flood at one port does not
+/// The most datagrams received from one socket in a wake-up, so that a flood at one port does not
 /// starve the others.
 pub(crate) const MOST_AT_ONCE: usize = 32;
 
-/// How long after the newest datagram that took a transfer onward its port is looked at again where
-/// no other is noted, in milliseconds: a second datagram that came with it shows by no readiness.
+/// The time after progress at which a port is read again without a readiness event, in
+/// milliseconds. A second datagram that arrived with the first causes no event of its own.
 const LOOK_AFTER: u64 = 500;
 
-/// The result of the datagrams at a transfer's port.
+/// The result of serving a transfer's port.
 #[derive(Clone, Copy, PartialEq, Eq)]
 pub(crate) enum PortStatus {
-    /// Nothing more is there.
+    /// No datagram is left.
     Empty,
-    /// The transfer advanced. What may be left is received at the next readiness, or when its port
-    /// is due.
+    /// The transfer advanced. Datagrams that are left are received at the next readiness event, or
+    /// when the port is due.
     Onward,
-    /// More may be there.
+    /// Datagrams may be left.
     Unfinished,
     /// The transfer closed.
     Closed,
 }
 
-/// A transfer's socket, with what is reported of the transfer at its close.
+/// The socket, the timer and the log entry of a transfer.
 #[derive(Drop)]
 pub(crate) struct TransferSocket {
     pub(crate) udp: ServerSocket,
@@ -42,9 +42,9 @@ pub(crate) struct TransferSocket {
     pub(crate) peer: Endpoint,
     /// The seconds without progress before a timeout.
     pub(crate) interval: u8,
-    /// When the transfer times out. Its port may be due before, to be looked at.
+    /// When the transfer times out, in milliseconds. The port may be due earlier, to be read again.
     pub(crate) times_out_at: u64,
-    /// What the log says of it, where there is a log.
+    /// The log entry, if there is a log.
     pub(crate) log_entry: Option<LogEntry>,
 }
 
@@ -66,8 +66,8 @@ pub(crate) fn reply(
     }
 }
 
-/// Has the transfer of the socket's port handle a datagram, and sends the answer. There is no step
-/// when out of memory, and where no transfer is open.
+/// Handles a datagram for the transfer at the socket's port, and sends the answer. `None` when out
+/// of memory, or if no transfer is open.
 fn handle<S: Store>(
     server: &mut Server<S>,
     tid: u16,
@@ -96,8 +96,7 @@ fn handle<S: Store>(
     Some(step)
 }
 
-/// Counts the bytes of DATA that a datagram carries, where it took a transfer onward and there is a
-/// log.
+/// Counts the DATA bytes of a datagram, if its step was progress and there is a log.
 fn count_data(log_entry: &mut Option<LogEntry>, is_progress: bool, datagram: &[u8]) {
     if let Some(entry) = log_entry {
         if is_progress {
@@ -106,7 +105,7 @@ fn count_data(log_entry: &mut Option<LogEntry>, is_progress: bool, datagram: &[u
     }
 }
 
-/// Restarts the timer of a transfer where a step was progress.
+/// Restarts the timer of a transfer if a step was progress.
 fn restart_by(port: &mut TransferPort, now: u64, is_progress: bool)
     ensures { timer_of port.new ≡ timer_after now is_progress (timer_of port.old) }
 {
@@ -116,7 +115,7 @@ fn restart_by(port: &mut TransferPort, now: u64, is_progress: bool)
     }
 }
 
-/// Has the file of the transfer work, where the step was progress and did not close it.
+/// Lets the file read ahead or be written back, if the step was progress and did not close it.
 fn work_after<S: Store>(server: &mut Server<S>, tid: u16, step: &Step)
     ensures works { (server.new ≡ server.old)
         ⊎ Works S.meaning S.Source.meaning tid server.old server.new }
@@ -145,8 +144,8 @@ fn status_of(step: &Step) -> PortStatus
     }
 }
 
-/// Takes a datagram from a transfer's port, if one is there. One for whose handling there is no
-/// memory is a lost one.
+/// Receives a datagram at a transfer's port, if there is one, and handles it. The datagram is lost
+/// when out of memory.
 fn take_datagram<S: Store>(
     server: &mut Server<S>,
     port: &mut TransferPort,
@@ -165,8 +164,8 @@ fn take_datagram<S: Store>(
     answer_received(server, port, journal, now, from, &buffer[..count])
 }
 
-/// Has the transfer at the port handle a datagram that was received there, and sends the answer; the
-/// file does its work after that.
+/// Handles a datagram received at the port of a transfer, and sends the answer. After that the file
+/// reads ahead or is written back.
 fn answer_received<S: Store>(
     server: &mut Server<S>,
     port: &mut TransferPort,
@@ -198,7 +197,7 @@ fn answer_received<S: Store>(
     status_of(&step)
 }
 
-/// Takes datagrams from a transfer's port, until one takes the transfer onward or none is left.
+/// Handles datagrams at a transfer's port, until the transfer advances or closes, or none is left.
 fn take_datagrams<S: Store>(
     server: &mut Server<S>,
     port: &mut TransferPort,
@@ -220,7 +219,7 @@ fn take_datagrams<S: Store>(
     PortStatus::Unfinished
 }
 
-/// As [`take_datagrams`], and notes whether more may be there.
+/// As [`take_datagrams`], and marks the port ready if datagrams may be left.
 fn take_noted<S: Store>(
     server: &mut Server<S>,
     port: &mut TransferPort,
@@ -238,7 +237,7 @@ fn take_noted<S: Store>(
     status
 }
 
-/// Takes what came to a transfer's port, where a datagram may be.
+/// Handles the datagrams at a transfer's port, if it is marked ready.
 pub(crate) fn take_ready<S: Store>(
     server: &mut Server<S>,
     port: &mut TransferPort,
@@ -257,7 +256,7 @@ pub(crate) fn take_ready<S: Store>(
     take_noted(server, port, journal, now, buffer)
 }
 
-/// Takes what is left at a port that is due, and else its timeout if that is due.
+/// Handles the datagrams at a due port. Without progress, delivers the timeout if that is due.
 pub(crate) fn take_due<S: Store>(
     server: &mut Server<S>,
     port: &mut TransferPort,
@@ -283,7 +282,7 @@ pub(crate) fn take_due<S: Store>(
     take_silence(server, port, journal, now)
 }
 
-/// Nothing took a transfer onward whose port is due: it times out where that is due too.
+/// Handles a due port without progress: delivers the timeout if that is due.
 fn take_silence<S: Store>(
     server: &mut Server<S>,
     port: &mut TransferPort,
@@ -302,7 +301,7 @@ fn take_silence<S: Store>(
     take_timeout(server, port, journal, now)
 }
 
-/// Delivers a timeout to a transfer, and sends its datagram again.
+/// Delivers a timeout to a transfer, and sends the datagram of its step.
 fn take_timeout<S: Store>(
     server: &mut Server<S>,
     port: &mut TransferPort,
@@ -331,8 +330,8 @@ fn restart(port: &mut TransferPort, now: u64)
     port.socket.times_out_at = port.due;
 }
 
-/// Has the transfer at the socket's port make the step of a timeout, and sends its datagram. There is
-/// no step where no transfer is open.
+/// Makes the timeout step of the transfer at the socket's port, and sends its datagram. `None` if
+/// no transfer is open.
 fn time_out<S: Store>(
     server: &mut Server<S>,
     udp: &ServerSocket,

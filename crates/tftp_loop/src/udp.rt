@@ -1,16 +1,16 @@
-//! What a server opens of UDP.
+//! Opens the UDP sockets of a server.
 
 use mio::Poll;
 use std::io;
 use std::net::{Net, SocketAddr};
 use tftp_sockets::ServerSocket;
 
-/// What opens sockets for UDP: a [`Net`] without its streams and listeners.
+/// Opens UDP sockets: a [`Net`] without its streams and listeners.
 pub trait Udp {
-    /// Binds a socket that does not wait.
+    /// Binds a non-blocking socket.
     fn bind(&self, address: SocketAddr) -> io::Result<ServerSocket>;
 
-    /// What waits for sockets that do not wait.
+    /// Creates the poll of non-blocking sockets.
     fn poll(&self) -> io::Result<Poll>;
 }
 
