@@ -115,7 +115,7 @@ fn restart_by(port: &mut TransferPort, now: u64, is_progress: bool)
     }
 }
 
-/// Lets the file read ahead or be written back, if the step was progress and did not close it.
+/// Lets the file read ahead or be written back after progress, if the transfer is still open.
 fn work_after<S: Store>(server: &mut Server<S>, tid: u16, step: &Step)
     ensures works { (server.new ≡ server.old)
         ⊎ Works S.meaning S.Source.meaning tid server.old server.new }
