@@ -89,22 +89,22 @@ IsLost from bytes end =
 
 module _ {S K : Type 0} (sources : SourceMeaning S) (sinks : SinkMeaning K) where
   -- a file did its work between two datagrams
-  abbrev pub Works : Files S K → Files S K → Type 0
-  Works (Source old) (Source new) = ReadsAhead sources old new
-  Works (Sink old) (Sink new) = WritesBehind sinks old new × sinks.becomes old new false
-  Works (Source old) (Sink new) = ⊥
-  Works (Sink old) (Source new) = ⊥
+  abbrev pub WorksOnFile : Files S K → Files S K → Type 0
+  WorksOnFile (Source old) (Source new) = ReadsAhead sources old new
+  WorksOnFile (Sink old) (Sink new) = WritesBehind sinks old new × sinks.becomes old new false
+  WorksOnFile (Source old) (Sink new) = ⊥
+  WorksOnFile (Sink old) (Source new) = ⊥
 
   -- what a client does at a datagram of these bytes from there, once the clock was read
-  pub data Handles (port : ℕ) (from : Endpoint) (bytes : List ℕ) (s : State) (files : Files S K)
-      : State → Files S K → Type 0 where
+  pub data HandlesReceived (port : ℕ) (from : Endpoint) (bytes : List ℕ)
+      (s : State) (files : Files S K) : State → Files S K → Type 0 where
     -- the end's step, and at once its answer from the same port to where the step says
     Answers : {turn : Turn} {files' : Files S K} → IsOpen s.end
         → DatagramStep sources sinks from bytes s.end files turn files'
-        → Handles port from bytes s files (turned port turn s) files'
+        → HandlesReceived port from bytes s files (turned port turn s) files'
     -- no answer, and the end is as it was
     Loses : {files' : Files S K} → IsLost from bytes s.end → KeepsFiles sources sinks files files'
-        → Handles port from bytes s files s files'
+        → HandlesReceived port from bytes s files s files'
 
   -- what a client did from one state to another: nothing is sent but the answers of the steps of
   -- its end
@@ -115,7 +115,7 @@ module _ {S K : Type 0} (sources : SourceMeaning S) (sinks : SinkMeaning K) wher
     Receives : {s next : State} {files files' : Files S K}
         {from : Endpoint} {bytes : List ℕ} {time : ℕ}
         → Converses port first file s files → s.now ≤ time
-        → Handles port from bytes (received port from bytes time s) files next files'
+        → HandlesReceived port from bytes (received port from bytes time s) files next files'
         → Converses port first file next files'
     -- none was received until this time
     Waits : {s : State} {files : Files S K} {time : ℕ}
@@ -127,5 +127,5 @@ module _ {S K : Type 0} (sources : SourceMeaning S) (sinks : SinkMeaning K) wher
         → Converses port first file next files
     -- the file did its work
     Rests : {s : State} {files files' : Files S K}
-        → Converses port first file s files → Works files files'
+        → Converses port first file s files → WorksOnFile files files'
         → Converses port first file s files'

@@ -8,9 +8,9 @@ ghost use Rattle.tftp_client.specs.Conversation.{state_of};
 ghost use Rattle.tftp_client.specs.Runs.{Completes, GoesOn, Succeeds, printed};
 ghost use Rattle.tftp_client.specs.Stored.{stored};
 
+use crate::client_udp::ClientUdp;
 use crate::local::{LocalFile, LocalSource};
 use crate::transfer::{Completed, Failure, Job, transfer};
-use crate::udp::Udp;
 use clap::error::ErrorKind;
 use clap::{Arg, ArgMatches, Command, value_parser};
 use std::alloc::{AllocError, Global};
@@ -97,7 +97,7 @@ fn transfer_words<'a, R: Runtime + AllocGlobal + Net, S: AsStr>(
 }
 
 /// Parses the words, and runs the order.
-fn transfer_texts<'a, R: Files + Clone + Drop + Udp + Clock + Print + Eprint, S: AsStr>(
+fn transfer_texts<'a, R: Files + Clone + Drop + ClientUdp + Clock + Print + Eprint, S: AsStr>(
     rt: &R,
     alloc: Global,
     texts: &'a BlockTexts,
@@ -116,7 +116,7 @@ fn transfer_texts<'a, R: Files + Clone + Drop + Udp + Clock + Print + Eprint, S:
 }
 
 /// Runs an order. Without one, returns the status.
-fn run_ordered<R: Files + Clone + Drop + Udp + Clock + Print + Eprint>(
+fn run_ordered<R: Files + Clone + Drop + ClientUdp + Clock + Print + Eprint>(
     rt: &R,
     alloc: Global,
     ordered: &Ordered<'_>,
@@ -218,7 +218,7 @@ fn report_address<P: Print + Eprint>(rt: &P, command: &mut Command<'_>) -> anyho
 }
 
 /// Runs the transfer, prints its outcome, and returns the status.
-fn run_order<R: Files + Clone + Drop + Udp + Clock + Print + Eprint>(
+fn run_order<R: Files + Clone + Drop + ClientUdp + Clock + Print + Eprint>(
     rt: &R,
     alloc: Global,
     order: &Order<'_>,

@@ -4,8 +4,8 @@
 #![tactic(auto)]
 
 mod arguments;
+mod client_udp;
 mod local;
 mod transfer;
-mod udp;
 
 pub use arguments::{tftp_command, tftp_noted, tftp_words};

@@ -16,12 +16,12 @@ ghost use Rattle.tftp_client.specs.Runs.{FailsBy, FailsEnd, FailsTransfer, MayFa
 ghost use Rattle.tftp_client.specs.Runs.{RunsJob, Stops, Transfers};
 ghost use Rattle.tftp_client.specs.Runs.{begun, measured, opens, plain, sent_from};
 
+use crate::client_udp::ClientUdp;
 use crate::local::{LocalFile, LocalSource, Outbound, read_error};
 pub(crate) use crate::transfer::completed::Completed;
 use crate::transfer::conversation::Conversation;
 pub(crate) use crate::transfer::failure::Failure;
 use crate::transfer::failure::Reason;
-use crate::udp::Udp;
 use std::alloc::Global;
 use std::io::Read;
 use std::net::{Ipv4Addr, SocketAddr};
@@ -74,7 +74,7 @@ impl Job<'_> {
 }
 
 /// Transfers a file.
-pub(crate) fn transfer<R: FileSystem + Clone + Drop + Udp + Clock + Eprint>(
+pub(crate) fn transfer<R: FileSystem + Clone + Drop + ClientUdp + Clock + Eprint>(
     rt: &R,
     alloc: Global,
     job: &Job<'_>,
@@ -123,7 +123,7 @@ fn plain<'a>(job: &Job<'a>) -> Job<'a>
 }
 
 /// Runs one transfer, on a new socket.
-fn transfer_once<R: FileSystem + Clone + Drop + Udp + Clock + Eprint>(
+fn transfer_once<R: FileSystem + Clone + Drop + ClientUdp + Clock + Eprint>(
     rt: &R,
     alloc: Global,
     job: &Job<'_>,
@@ -144,7 +144,7 @@ fn transfer_once<R: FileSystem + Clone + Drop + Udp + Clock + Eprint>(
 }
 
 /// Fetches a file.
-fn get<R: FileSystem + Clone + Drop + Udp + Clock + Eprint>(
+fn get<R: FileSystem + Clone + Drop + ClientUdp + Clock + Eprint>(
     rt: &R,
     alloc: Global,
     job: &Job<'_>,
@@ -182,7 +182,7 @@ fn create_local<R: FileSystem + Clone + Drop>(
 }
 
 /// Fetches a file into the local file.
-fn get_into<N: Udp + Clock + Eprint, R: FileSystem + Drop>(
+fn get_into<N: ClientUdp + Clock + Eprint, R: FileSystem + Drop>(
     rt: &N,
     alloc: Global,
     job: &Job<'_>,
@@ -204,7 +204,7 @@ fn get_into<N: Udp + Clock + Eprint, R: FileSystem + Drop>(
 }
 
 /// Sends the read request.
-fn ask_to_get<N: Udp + Clock>(
+fn ask_to_get<N: ClientUdp + Clock>(
     rt: &N,
     alloc: Global,
     job: &Job<'_>,
@@ -233,7 +233,7 @@ fn ask_to_get<N: Udp + Clock>(
 }
 
 /// Binds the socket of a transfer, to every address of this host and a port chosen by the system.
-fn bind_socket<N: Udp>(net: &N) -> Result<ClientSocket, Failure>
+fn bind_socket<N: ClientUdp>(net: &N) -> Result<ClientSocket, Failure>
     ensures { IfErr result (λ failure. status_of failure.end ≡ 2) }
 {
     match net.bind(SocketAddr::from((Ipv4Addr::UNSPECIFIED, 0))) {
@@ -268,7 +268,7 @@ fn begin<C: Clock>(
 }
 
 /// Sends a file.
-fn put<R: FileSystem + Clone + Drop + Udp + Clock + Eprint>(
+fn put<R: FileSystem + Clone + Drop + ClientUdp + Clock + Eprint>(
     rt: &R,
     alloc: Global,
     job: &Job<'_>,
@@ -289,7 +289,7 @@ fn put<R: FileSystem + Clone + Drop + Udp + Clock + Eprint>(
 }
 
 /// Sends the local file.
-fn put_from<R: FileSystem + Drop + Udp + Clock + Eprint>(
+fn put_from<R: FileSystem + Drop + ClientUdp + Clock + Eprint>(
     rt: &R,
     alloc: Global,
     job: &Job<'_>,
@@ -315,7 +315,7 @@ fn put_from<R: FileSystem + Drop + Udp + Clock + Eprint>(
 }
 
 /// Sends the write request for a file of `length` bytes on the wire.
-fn ask_to_put<N: Udp + Clock>(
+fn ask_to_put<N: ClientUdp + Clock>(
     rt: &N,
     alloc: Global,
     job: &Job<'_>,

@@ -15,7 +15,7 @@ use std::rt::{Files, Runtime};
 use std::time::Clock;
 use tftp_arguments::{VERSION, flag, number, own_words, print_usage, word};
 use tftp_host::endpoint_in;
-use tftp_loop::{Ending, LoopConfig, LoopFault, Udp};
+use tftp_loop::{Ending, LoopConfig, LoopFault, ServerUdp};
 use tftp_negotiate::{Limits, MAX_BLOCK, MIN_BLOCK};
 use tftp_server::Config;
 
@@ -62,7 +62,7 @@ fn serve_words<'a, R: Runtime + AllocGlobal + Net, S: AsStr>(rt: &R, words: &'a 
 }
 
 /// Reads the words, and serves by them.
-fn serve_texts<'a, R: Files + Clone + Drop + Udp + Clock + Print + Eprint, S: AsStr>(
+fn serve_texts<'a, R: Files + Clone + Drop + ServerUdp + Clock + Print + Eprint, S: AsStr>(
     rt: &R,
     alloc: Global,
     texts: &'a Texts,
@@ -77,7 +77,7 @@ fn serve_texts<'a, R: Files + Clone + Drop + Udp + Clock + Print + Eprint, S: As
 }
 
 /// Serves by the words read.
-fn serve_asked<R: Files + Clone + Drop + Udp + Clock + Print + Eprint>(
+fn serve_asked<R: Files + Clone + Drop + ServerUdp + Clock + Print + Eprint>(
     rt: &R,
     alloc: Global,
     asked: &Asked<'_>,

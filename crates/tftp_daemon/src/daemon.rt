@@ -6,7 +6,7 @@ use crate::folder::FolderStore;
 use std::alloc::Global;
 use std::rt::Files;
 use std::time::Clock;
-use tftp_loop::{LoopConfig, LoopFault, Udp};
+use tftp_loop::{LoopConfig, LoopFault, ServerUdp};
 use tftp_server::{Config, Server};
 use tftp_sockets::Journal;
 
@@ -35,7 +35,7 @@ pub(crate) enum DaemonFault {
 }
 
 /// Serves until the configured number of transfers has closed, or of waits is over.
-pub(crate) fn serve<R: Files + Clone + Drop + Udp + Clock + Print + Eprint>(
+pub(crate) fn serve<R: Files + Clone + Drop + ServerUdp + Clock + Print + Eprint>(
     rt: &R,
     alloc: Global,
     config: &DaemonConfig<'_>,
@@ -72,7 +72,7 @@ fn open_server<R: Files + Clone + Drop>(
 }
 
 /// Serves from the request port, with a journal of this run.
-fn serve_loop<N: Udp + Clock + Print + Eprint, R: Files + Drop>(
+fn serve_loop<N: ServerUdp + Clock + Print + Eprint, R: Files + Drop>(
     rt: &N,
     alloc: Global,
     server: Server<FolderStore<R>>,

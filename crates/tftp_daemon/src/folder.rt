@@ -45,7 +45,7 @@ pub struct FolderStore<R: Files + Drop> {
 
 /// A path of the store, resolved on the system.
 #[derive(Drop)]
-struct Place {
+struct Location {
     /// The path on the system.
     path: String,
     /// A component of the path is a link.
@@ -121,13 +121,13 @@ impl<R: Files + Drop> FolderStore<R> {
     }
 
     /// Resolves a path from the root, component by component. `Missing` if a parent folder is.
-    fn walk(&self, alloc: Global, path: &Path) -> Result<Place, StoreFault>
+    fn walk(&self, alloc: Global, path: &Path) -> Result<Location, StoreFault>
         ensures { IfErr result MayNotOpen }
     {
         let Ok(name) = str::from_utf8(path.as_bytes()) else {
             return Err(StoreFault::Missing);
         };
-        let mut place = Place {
+        let mut location = Location {
             path: String::from_str(alloc, self.root.as_str())?,
             has_link: false,
             device: None,
@@ -138,28 +138,28 @@ impl<R: Files + Drop> FolderStore<R> {
             if is_missing {
                 return Err(StoreFault::Missing);
             }
-            if let Some(folder) = &place.found {
-                place.device = Some(folder.dev());
+            if let Some(folder) = &location.found {
+                location.device = Some(folder.dev());
             }
-            place.path.push('/')?;
-            place.path.push_str(segment)?;
-            match fs::symlink_metadata(&self.files, place.path.as_str()) {
+            location.path.push('/')?;
+            location.path.push_str(segment)?;
+            match fs::symlink_metadata(&self.files, location.path.as_str()) {
                 Ok(found) => {
-                    place.has_link |= found.is_symlink();
-                    place.found = Some(found);
+                    location.has_link |= found.is_symlink();
+                    location.found = Some(found);
                 }
                 Err(error) if error.kind() == ErrorKind::NotFound => {
                     is_missing = true;
-                    place.found = None;
+                    location.found = None;
                 }
                 Err(error) => return Err(self.open_refused(&error)),
             }
         }
-        Ok(place)
+        Ok(location)
     }
 
     /// The target of a path with links. `Io` if it is outside the folder.
-    fn follow(&self, alloc: Global, path: &str) -> Result<Place, StoreFault>
+    fn follow(&self, alloc: Global, path: &str) -> Result<Location, StoreFault>
         ensures { IfErr result MayNotOpen }
     {
         let rt = (&self.files, alloc);
@@ -175,7 +175,7 @@ impl<R: Files + Drop> FolderStore<R> {
             return Err(StoreFault::Io);
         }
         match fs::symlink_metadata(&self.files, text) {
-            Ok(found) => Ok(Place {
+            Ok(found) => Ok(Location {
                 path: String::from_str(alloc, text)?,
                 has_link: false,
                 device: None,
@@ -191,11 +191,11 @@ impl<R: Files + Drop> FolderStore<R> {
     fn open_file(&self, alloc: Global, path: &Path) -> Result<(R::File, Metadata), StoreFault>
         ensures { IfErr result MayNotOpen }
     {
-        let mut place = self.walk(alloc, path)?;
-        if place.has_link {
-            place = self.follow(alloc, place.path.as_str())?;
+        let mut location = self.walk(alloc, path)?;
+        if location.has_link {
+            location = self.follow(alloc, location.path.as_str())?;
         }
-        let Some(found) = place.found else {
+        let Some(found) = location.found else {
             return Err(StoreFault::Missing);
         };
         if found.is_dir() {
@@ -204,7 +204,7 @@ impl<R: Files + Drop> FolderStore<R> {
         if !found.is_file() {
             return Err(StoreFault::Io);
         }
-        let file = match fs::open(&self.files, place.path.as_str()) {
+        let file = match fs::open(&self.files, location.path.as_str()) {
             Ok(file) => file,
             Err(error) => return Err(self.open_refused(&error)),
         };
@@ -220,26 +220,36 @@ impl<R: Files + Drop> FolderStore<R> {
 
     /// The path to write a file at. It has no link and is on the device of the root. A regular file
     /// may exist there only if it is to be replaced.
-    fn place_to_write(&self, alloc: Global, path: &Path, replace: bool) -> Result<Place, StoreFault>
+    fn location_to_write(
+        &self,
+        alloc: Global,
+        path: &Path,
+        replace: bool,
+    ) -> Result<Location, StoreFault>
         ensures { IfErr result (MayNotBegin replace) }
     {
-        let place = match self.walk(alloc, path) {
-            Ok(place) => place,
+        let location = match self.walk(alloc, path) {
+            Ok(location) => location,
             Err(StoreFault::Memory) => return Err(StoreFault::Memory),
             // A missing folder is not created.
             Err(_) => return Err(StoreFault::Io),
         };
-        if place.found.is_some() && !replace {
+        if location.found.is_some() && !replace {
             return Err(StoreFault::Exists);
         }
-        if place.has_link || place.found.as_ref().is_some_and(|found| !found.is_file()) {
+        if location.has_link
+            || location
+                .found
+                .as_ref()
+                .is_some_and(|found| !found.is_file())
+        {
             return Err(StoreFault::Io);
         }
-        if place.device.is_some_and(|device| !self.is_on(device)) {
+        if location.device.is_some_and(|device| !self.is_on(device)) {
             self.reason.set(Some(Reason::AnotherDevice));
             return Err(StoreFault::Io);
         }
-        Ok(place)
+        Ok(location)
     }
 
     /// Whether the root, which holds the drafts, is on this device.
@@ -346,12 +356,12 @@ impl<R: Files + Drop> Store for FolderStore<R> {
         if self.is_read_only {
             return Err(StoreFault::Io);
         }
-        let place = self.place_to_write(alloc, path, replace)?;
+        let location = self.location_to_write(alloc, path, replace)?;
         let root = self.root.as_str();
         let port = self.port;
         let draft = format!(in alloc; "{root}/.tftp-{port}")?;
         let file = self.make_draft(draft.as_str())?;
-        match FolderDraft::new(alloc, file, draft, place.path) {
+        match FolderDraft::new(alloc, file, draft, location.path) {
             Ok(draft) => Ok(draft),
             Err(_) => Err(StoreFault::Memory),
         }

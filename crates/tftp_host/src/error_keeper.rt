@@ -1,5 +1,7 @@
 //! A file that keeps its newest error.
 
+ghost use Rattle.std.specs.Prelude.{◌≡◌, None};
+
 use std::io::{self, Read, Write};
 
 /// A reader or a writer that keeps its newest error.
@@ -11,17 +13,24 @@ pub struct ErrorKeeper<F> {
 
 impl<F> ErrorKeeper<F> {
     /// A file without an error.
-    pub fn new(file: F) -> ErrorKeeper<F> {
+    pub fn new(file: F) -> ErrorKeeper<F>
+        ensures file { result.file ≡ file }
+        ensures error { result.error ≡ None }
+    {
         ErrorKeeper { file, error: None }
     }
 
     /// The file.
-    pub fn get_ref(&self) -> &F {
+    pub fn get_ref(&self) -> &F
+        ensures { result.now ≡ self.now.file }
+    {
         &self.file
     }
 
     /// Its newest error, if it has failed.
-    pub fn error(&self) -> Option<io::Error> {
+    pub fn error(&self) -> Option<io::Error>
+        ensures { result ≡ self.now.error }
+    {
         self.error
     }
 }

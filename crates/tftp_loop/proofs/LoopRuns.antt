@@ -41,37 +41,37 @@ module _ {S F D : Type 0} (meaning : StoreMeaning S D) (sources : SourceMeaning 
 
   -- the state of all ports after that of one
   abbrev pub with_port : LoopState S F D → ℕ → PortState S F D → LoopState S F D
-  with_port s place p = record s { server = p.server; timers = slice_set s.timers place p.timer; events = p.events }
+  with_port s index p = record s { server = p.server; timers = slice_set s.timers index p.timer; events = p.events }
 
   -- what happens at one port happens at all
-  pub lifted : (s : LoopState S F D) (place : ℕ) (timer : Timer) (p : PortState S F D) → place < length s.timers → timer ≡ slice_index_or s.timers place timer
-      → Run (AtPort meaning sources s.now) (port_state s timer) p → Runs s (with_port s place p)
-  lifted s place timer p within is Start = idle (ap (λ (ts : List Timer). record s { timers = ts }) (set_itself s.timers place timer is))
-  lifted s place timer p within is (Then {middle} q d) =
-      Then (lifted s place timer middle within is q)
+  pub lifted : (s : LoopState S F D) (index : ℕ) (timer : Timer) (p : PortState S F D) → index < length s.timers → timer ≡ slice_index_or s.timers index timer
+      → Run (AtPort meaning sources s.now) (port_state s timer) p → Runs s (with_port s index p)
+  lifted s index timer p within is Start = idle (ap (λ (ts : List Timer). record s { timers = ts }) (set_itself s.timers index timer is))
+  lifted s index timer p within is (Then {middle} q d) =
+      Then (lifted s index timer middle within is q)
       (At_port (record {
-        place = place;
+        index = index;
         timer = middle.timer;
-        within = set_within s.timers place place middle.timer within;
-        is_timer = set_is s.timers place middle.timer;
+        within = set_within s.timers index index middle.timer within;
+        is_timer = set_is s.timers index middle.timer;
         next = p;
         does = d;
-        is = ap (λ (ts : List Timer). record s { server = p.server; timers = ts; events = p.events }) (sym (set_again s.timers place middle.timer p.timer));
+        is = ap (λ (ts : List Timer). record s { server = p.server; timers = ts; events = p.events }) (sym (set_again s.timers index middle.timer p.timer));
       }))
 
   -- the same, for a list of ports
-  pub at_place : (s : LoopState S F D) (ports : List (Port TransferSocket)) (place : ℕ) (port port' : Port TransferSocket) (server : ServerState S F D) (es : List Event)
-      → s.timers ≡ map timer_of ports → place < length ports → port ≡ slice_index_or ports place port
+  pub at_place : (s : LoopState S F D) (ports : List (Port TransferSocket)) (index : ℕ) (port port' : Port TransferSocket) (server : ServerState S F D) (es : List Event)
+      → s.timers ≡ map timer_of ports → index < length ports → port ≡ slice_index_or ports index port
       → Run (AtPort meaning sources s.now) (here meaning sources s.now s.server (timer_of port) s.events) (here meaning sources s.now server (timer_of port') es)
-      → Runs s (record s { server = server; timers = map timer_of (slice_set ports place port'); events = es })
-  at_place s ports place port port' server es listed within is r =
+      → Runs s (record s { server = server; timers = map timer_of (slice_set ports index port'); events = es })
+  at_place s ports index port port' server es listed within is r =
       let At : List Timer → Type 0 = λ ts. Runs s (record s { server = server; timers = ts; events = es }) in
-      let timers : slice_set s.timers place (timer_of port') ≡ map timer_of (slice_set ports place port') =
-      ap (λ (ts : List Timer). slice_set ts place (timer_of port')) listed ∙ sym (map_set timer_of ports place port') in
+      let timers : slice_set s.timers index (timer_of port') ≡ map timer_of (slice_set ports index port') =
+      ap (λ (ts : List Timer). slice_set ts index (timer_of port')) listed ∙ sym (map_set timer_of ports index port') in
       subst At timers
-      (lifted s place (timer_of port) (here meaning sources s.now server (timer_of port') es)
-      (subst (λ (ts : List Timer). place < length ts) (sym listed) (map_within timer_of ports place within))
-      (map_is timer_of ports place port is ∙ ap (λ (ts : List Timer). slice_index_or ts place (timer_of port)) (sym listed)) r)
+      (lifted s index (timer_of port) (here meaning sources s.now server (timer_of port') es)
+      (subst (λ (ts : List Timer). index < length ts) (sym listed) (map_within timer_of ports index within))
+      (map_is timer_of ports index port is ∙ ap (λ (ts : List Timer). slice_index_or ts index (timer_of port)) (sym listed)) r)
 
   -- the clock was read
   pub reads_clock : (s : LoopState S F D) (time : ℕ) (es : List Event) → s.now ≤ time → es ≡ Watched time ∷ s.events → Runs s (record s { now = time; events = es })
@@ -79,16 +79,16 @@ module _ {S F D : Type 0} (meaning : StoreMeaning S D) (sources : SourceMeaning 
       once (Clock_read (record { time = time; forward = forward; is = ap (λ (fs : List Event). record s { now = time; events = fs }) noted }))
 
   -- a transfer was taken that had an outcome
-  closes_with : (s : LoopState S F D) (place : ℕ) (timer : Timer) (t : Record × Option D) (outcome : Option Outcome) (server : ServerState S F D) (es : List Event)
-      → place < length s.timers → timer ≡ slice_index_or s.timers place timer
+  closes_with : (s : LoopState S F D) (index : ℕ) (timer : Timer) (t : Record × Option D) (outcome : Option Outcome) (server : ServerState S F D) (es : List Event)
+      → index < length s.timers → timer ≡ slice_index_or s.timers index timer
       → taken_of (at timer.port s.server.held) ≡ Some t → t.0.outcome ≡ outcome → IsSome outcome
       → server.held ≡ without timer.port s.server.held
       → server ≡ record s.server { held = server.held } → es ≡ close_printed timer.port timer.peer outcome s.events
-      → Runs s (record s { server = server; timers = swap_remove s.timers place timer; events = es })
-  closes_with s place timer t None server es within is taken has some held rest printed = absurd (false≢true some)
-  closes_with s place timer t (Some outcome) server es within is taken has some held rest printed =
+      → Runs s (record s { server = server; timers = swap_remove s.timers index timer; events = es })
+  closes_with s index timer t None server es within is taken has some held rest printed = absurd (false≢true some)
+  closes_with s index timer t (Some outcome) server es within is taken has some held rest printed =
       once (Transfer_closed (record {
-        place = place;
+        index = index;
         timer = timer;
         within = within;
         is_timer = is;
@@ -97,53 +97,53 @@ module _ {S F D : Type 0} (meaning : StoreMeaning S D) (sources : SourceMeaning 
         outcome = outcome;
         has_outcome = has;
         is =
-            same_state (record s { server = server; timers = swap_remove s.timers place timer; events = es })
+            same_state (record s { server = server; timers = swap_remove s.timers index timer; events = es })
             (record s {
               server = record s.server { held = without timer.port s.server.held };
-              timers = swap_remove s.timers place timer;
+              timers = swap_remove s.timers index timer;
               events = close_printed timer.port timer.peer (Some outcome) s.events;
             })
             refl (rest ∙ ap (λ h. record s.server { held = h }) held) refl refl refl printed;
       }))
 
   -- a transfer was taken
-  closes_by : (s : LoopState S F D) (place : ℕ) (timer : Timer) (o : Option (Record × Option D)) (server : ServerState S F D) (es : List Event)
-      → place < length s.timers → timer ≡ slice_index_or s.timers place timer
+  closes_by : (s : LoopState S F D) (index : ℕ) (timer : Timer) (o : Option (Record × Option D)) (server : ServerState S F D) (es : List Event)
+      → index < length s.timers → timer ≡ slice_index_or s.timers index timer
       → taken_of (at timer.port s.server.held) ≡ o → IsSome o
       → server.held ≡ (if is_some (option_map (λ (t : Record × Option D). t.0) o) then without timer.port s.server.held else s.server.held)
       → server ≡ record s.server { held = server.held } → es ≡ close_reported timer.port timer.peer (option_map (λ (t : Record × Option D). t.0) o) s.events
-      → Runs s (record s { server = server; timers = swap_remove s.timers place timer; events = es })
-  closes_by s place timer None server es within is taken some held rest printed = absurd (false≢true some)
-  closes_by s place timer (Some t) server es within is taken some held rest printed =
-      closes_with s place timer t t.0.outcome server es within is taken refl (outcome_taken (at timer.port s.server.held) t taken) held rest printed
+      → Runs s (record s { server = server; timers = swap_remove s.timers index timer; events = es })
+  closes_by s index timer None server es within is taken some held rest printed = absurd (false≢true some)
+  closes_by s index timer (Some t) server es within is taken some held rest printed =
+      closes_with s index timer t t.0.outcome server es within is taken refl (outcome_taken (at timer.port s.server.held) t taken) held rest printed
 
-  pub closes : (s : LoopState S F D) (place : ℕ) (timer : Timer) (closed : Option Record) (server : ServerState S F D) (es : List Event)
-      → place < length s.timers → timer ≡ slice_index_or s.timers place timer
+  pub closes : (s : LoopState S F D) (index : ℕ) (timer : Timer) (closed : Option Record) (server : ServerState S F D) (es : List Event)
+      → index < length s.timers → timer ≡ slice_index_or s.timers index timer
       → IsSome (taken_of (at timer.port s.server.held)) → closed ≡ option_map (λ (t : Record × Option D). t.0) (taken_of (at timer.port s.server.held))
       → server.held ≡ (if is_some closed then without timer.port s.server.held else s.server.held)
       → server ≡ record s.server { held = server.held } → es ≡ close_reported timer.port timer.peer closed s.events
-      → Runs s (record s { server = server; timers = swap_remove s.timers place timer; events = es })
-  closes s place timer closed server es within is some found held rest printed =
-      closes_by s place timer (taken_of (at timer.port s.server.held)) server es within is refl some
+      → Runs s (record s { server = server; timers = swap_remove s.timers index timer; events = es })
+  closes s index timer closed server es within is some found held rest printed =
+      closes_by s index timer (taken_of (at timer.port s.server.held)) server es within is refl some
       (held ∙ ap (λ (o : Option Record). if is_some o then without timer.port s.server.held else s.server.held) found) rest
       (printed ∙ ap (λ (o : Option Record). close_reported timer.port timer.peer o s.events) found)
 
   -- the same, for an identifier equal to the port
-  pub closes_at : (s : LoopState S F D) (place : ℕ) (timer : Timer) (tid : ℕ) (closed : Option Record) (server : ServerState S F D) (es : List Event)
-      → place < length s.timers → timer ≡ slice_index_or s.timers place timer → tid ≡ timer.port
+  pub closes_at : (s : LoopState S F D) (index : ℕ) (timer : Timer) (tid : ℕ) (closed : Option Record) (server : ServerState S F D) (es : List Event)
+      → index < length s.timers → timer ≡ slice_index_or s.timers index timer → tid ≡ timer.port
       → IsSome (taken_of (at timer.port s.server.held)) → closed ≡ option_map (λ (t : Record × Option D). t.0) (taken_of (at tid s.server.held))
       → server.held ≡ (if is_some closed then without tid s.server.held else s.server.held)
       → server ≡ record s.server { held = server.held } → es ≡ close_reported timer.port timer.peer closed s.events
-      → Runs s (record s { server = server; timers = swap_remove s.timers place timer; events = es })
-  closes_at s place timer tid closed server es within is same some found held rest printed =
-      closes s place timer closed server es within is some
+      → Runs s (record s { server = server; timers = swap_remove s.timers index timer; events = es })
+  closes_at s index timer tid closed server es within is same some found held rest printed =
+      closes s index timer closed server es within is some
       (found ∙ ap (λ (p : ℕ). option_map (λ (t : Record × Option D). t.0) (taken_of (at p s.server.held))) same)
       (held ∙ ap (λ (p : ℕ). if is_some closed then without p s.server.held else s.server.held) same) rest printed
 
 -- the transfer of a port that was set at its index has closed
-pub closed_at : {S F D : Type 0} {d : Daemon S F D} (ports : List (Port TransferSocket)) (place : ℕ) (port : Port TransferSocket)
-    → d.ports.items ≡ slice_set ports place port → place < length ports → IsSome (taken_of (at port.socket.udp.port d.server.held)) → ClosedAt place d
-closed_at {d = d} ports place port put within closed =
-    let At : List (Port TransferSocket) → Type 0 = λ ps. (place < length (map timer_of ps)) × (timer_of port ≡ slice_index_or (map timer_of ps) place (timer_of port)) in
-    let here = subst At (sym put) (map_within timer_of (slice_set ports place port) place (set_within ports place place port within), map_is timer_of (slice_set ports place port) place port (set_is ports place port)) in
+pub closed_at : {S F D : Type 0} {d : Daemon S F D} (ports : List (Port TransferSocket)) (index : ℕ) (port : Port TransferSocket)
+    → d.ports.items ≡ slice_set ports index port → index < length ports → IsSome (taken_of (at port.socket.udp.port d.server.held)) → ClosedAt index d
+closed_at {d = d} ports index port put within closed =
+    let At : List (Port TransferSocket) → Type 0 = λ ps. (index < length (map timer_of ps)) × (timer_of port ≡ slice_index_or (map timer_of ps) index (timer_of port)) in
+    let here = subst At (sym put) (map_within timer_of (slice_set ports index port) index (set_within ports index index port within), map_is timer_of (slice_set ports index port) index port (set_is ports index port)) in
     record { timer = timer_of port; within = here.0; is_timer = here.1; closed = closed }

@@ -17,7 +17,7 @@ use Rattle.tftp_server.specs.State.{HeldTransfer, ServerState, at, draft_of, tak
 use Rattle.tftp_server.specs.Steps.{TakesDatagramLent, TimesOutLent, DatagramFaultLent, KeepsHeld, with_end}
 use Rattle.tftp_server.specs.declared.fault.ServerFault.{ServerFault}
 use Rattle.tftp_sockets.specs.Journal.{Event, replied, answered}
-use Rattle.tftp_loop.specs.Serves.{Handles, Loses, TimesOut}
+use Rattle.tftp_loop.specs.Serves.{AnswersDatagram, LosesDatagram, AnswersTimeout}
 
 -- the answer that an end lends, sent to the endpoint of the step, is the reply of its turn
 pub answered_lent : (port : ℕ) (reply : Option Reply) (to : Option Endpoint) (bytes : List ℕ) (events : List Event)
@@ -62,9 +62,9 @@ module _ {S F D : Type 0} (meaning : StoreMeaning S D) (sources : SourceMeaning 
   pub handled : (port : ℕ) (from : Endpoint) (bytes : List ℕ) (before after : List Event) (sent : List ℕ)
       → tid ≡ port → (takes : TakesDatagramLent meaning sources tid from bytes old new step outgoing)
       → new ≡ record old { store = new.store; held = new.held } → sent ≡ lent outgoing takes.next.end
-      → after ≡ replied port step.to sent before → Handles meaning sources port from bytes old new before after step
+      → after ≡ replied port step.to sent before → AnswersDatagram meaning sources port from bytes old new before after step
   handled port from bytes before after sent same takes rest lends events =
-      let At : ℕ → Type 0 = λ p. after ≡ replied p step.to sent before → Handles meaning sources p from bytes old new before after step in
+      let At : ℕ → Type 0 = λ p. after ≡ replied p step.to sent before → AnswersDatagram meaning sources p from bytes old new before after step in
       subst At same
       (λ es.
       record {
@@ -87,9 +87,9 @@ module _ {S F D : Type 0} (meaning : StoreMeaning S D) (sources : SourceMeaning 
 -- a datagram was not handled
 pub lost : {S F D : Type 0} (meaning : StoreMeaning S D) (sources : SourceMeaning F) (tid port : ℕ) (from : Endpoint) (bytes : List ℕ) (old new : ServerState S F D) (fault : ServerFault)
     → tid ≡ port → DatagramFaultLent from bytes (at tid old.held) fault → KeepsHeld meaning sources tid (at tid old.held) old new
-    → new ≡ record old { store = new.store; held = new.held } → Loses meaning sources port from bytes old new
+    → new ≡ record old { store = new.store; held = new.held } → LosesDatagram meaning sources port from bytes old new
 lost {S = S} {F = F} {D = D} meaning sources tid port from bytes old new fault same why keeps rest =
-    let At : ℕ → Type 0 = λ p. Loses meaning sources p from bytes old new in
+    let At : ℕ → Type 0 = λ p. LosesDatagram meaning sources p from bytes old new in
     subst At same (record { fault = fault; why = why; keeps = keeps; config = ap (λ (s : ServerState S F D). s.config) rest })
 
 module _ {S F D : Type 0} (tid : ℕ) (old new : ServerState S F D) (step : Step) (outgoing : Outgoing) where
@@ -99,9 +99,9 @@ module _ {S F D : Type 0} (tid : ℕ) (old new : ServerState S F D) (step : Step
 
   -- the transfer timed out, and its datagram was sent from the port
   pub timed_out : (port : ℕ) (before after : List Event) (sent : List ℕ) → tid ≡ port → (t : TimesOutLent tid old.held new.held step outgoing)
-      → new ≡ record old { held = new.held } → sent ≡ lent outgoing t.end → after ≡ replied port step.to sent before → TimesOut port old new before after step
+      → new ≡ record old { held = new.held } → sent ≡ lent outgoing t.end → after ≡ replied port step.to sent before → AnswersTimeout port old new before after step
   timed_out port before after sent same t rest lends events =
-      let At : ℕ → Type 0 = λ p. after ≡ replied p step.to sent before → TimesOut p old new before after step in
+      let At : ℕ → Type 0 = λ p. after ≡ replied p step.to sent before → AnswersTimeout p old new before after step in
       subst At same
       (λ es.
       record {

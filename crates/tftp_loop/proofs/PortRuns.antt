@@ -9,7 +9,7 @@ use Rattle.tftp_sockets.specs.Journal.{Event}
 use Rattle.tftp_sockets.specs.Journal.Event.{Received, Elapsed}
 use Rattle.tftp_loop.specs.Run.{Run}
 use Rattle.tftp_loop.specs.Run.Run.{Then}
-use Rattle.tftp_loop.specs.Serves.{Timer, PortState, AtPort, Handles, Loses, Works, TimesOut, restarted, timer_after}
+use Rattle.tftp_loop.specs.Serves.{Timer, PortState, AtPort, AnswersDatagram, LosesDatagram, WorksAtPort, AnswersTimeout, restarted, timer_after}
 use Rattle.tftp_loop.specs.Serves.AtPort.{A_datagram, A_lost_datagram, A_timeout, A_missed_timeout, Work}
 use Rattle.tftp_loop.proofs.RunLemmas.{once, idle, onward}
 
@@ -26,32 +26,32 @@ module _ {S F D : Type 0} (meaning : StoreMeaning S D) (sources : SourceMeaning 
 
   -- a datagram was received, handled and answered
   pub receives : (old new : ServerState S F D) (timer timer' : Timer) (es before es' : List Event) (from : Endpoint) (bytes : List ℕ) (step : Step)
-      → before ≡ Received timer.port from bytes ∷ es → Handles meaning sources timer.port from bytes old new before es' step
+      → before ≡ Received timer.port from bytes ∷ es → AnswersDatagram meaning sources timer.port from bytes old new before es' step
       → timer' ≡ timer_after now step.progress timer → Runs (here old timer es) (here new timer' es')
   receives old new timer timer' es before es' from bytes step noted handles timed =
-      let At : List Event → Type 0 = λ before. Handles meaning sources timer.port from bytes old new before es' step in
+      let At : List Event → Type 0 = λ before. AnswersDatagram meaning sources timer.port from bytes old new before es' step in
       once (A_datagram (record { from = from; bytes = bytes; step = step; handles = subst At noted handles; timer = timed }))
 
   -- a datagram was received and lost
   pub receives_lost : (old new : ServerState S F D) (timer : Timer) (es before es' : List Event) (from : Endpoint) (bytes : List ℕ)
-      → before ≡ Received timer.port from bytes ∷ es → Loses meaning sources timer.port from bytes old new → es' ≡ before → Runs (here old timer es) (here new timer es')
+      → before ≡ Received timer.port from bytes ∷ es → LosesDatagram meaning sources timer.port from bytes old new → es' ≡ before → Runs (here old timer es) (here new timer es')
   receives_lost old new timer es before es' from bytes noted loses same =
       once (A_lost_datagram (record { from = from; bytes = bytes; loses = loses; timer = refl; events = same ∙ noted }))
 
   -- the file of the transfer worked, or did not
   pub then_works : (start : PortState S F D) (old new : ServerState S F D) (timer : Timer) (es : List Event) (tid : ℕ)
-      → Runs start (here old timer es) → tid ≡ timer.port → (new ≡ old) ⊎ Works meaning sources tid old new → Runs start (here new timer es)
+      → Runs start (here old timer es) → tid ≡ timer.port → (new ≡ old) ⊎ WorksAtPort meaning sources tid old new → Runs start (here new timer es)
   then_works start old new timer es tid r same (inl e) = onward r (idle (ap (λ (s : ServerState S F D). here s timer es) e))
   then_works start old new timer es tid r same (inr w) =
-      let At : ℕ → Type 0 = λ p. Works meaning sources p old new in
+      let At : ℕ → Type 0 = λ p. WorksAtPort meaning sources p old new in
       Then r (Work (record { works = subst At same w; timer = refl; events = refl }))
 
   -- a timeout was delivered, and what was sent again
   pub elapses : (old new : ServerState S F D) (timer timer' : Timer) (es before es' : List Event) (tid : ℕ) (step : Step)
-      → timer.deadline ≤ now → before ≡ Elapsed tid now ∷ es → tid ≡ timer.port → TimesOut timer.port old new before es' step
+      → timer.deadline ≤ now → before ≡ Elapsed tid now ∷ es → tid ≡ timer.port → AnswersTimeout timer.port old new before es' step
       → timer' ≡ restarted now timer → Runs (here old timer es) (here new timer' es')
   elapses old new timer timer' es before es' tid step due noted same times_out timed =
-      let At : List Event → Type 0 = λ before. TimesOut timer.port old new before es' step in
+      let At : List Event → Type 0 = λ before. AnswersTimeout timer.port old new before es' step in
       once (A_timeout (record { step = step; due = due; times_out = subst At (noted ∙ ap (λ (p : ℕ). Elapsed p now ∷ es) same) times_out; timer = timed }))
 
   pub elapses_missed : (old new : ServerState S F D) (timer timer' : Timer) (es before es' : List Event) (tid : ℕ)

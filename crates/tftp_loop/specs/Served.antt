@@ -109,10 +109,10 @@ module _ {S F D : Type 0} where
         old.journal.events
 
   -- the transfer of the port at this index has closed
-  pub record ClosedAt (place : ℕ) (d : Daemon S F D) : Type 0 where
+  pub record ClosedAt (index : ℕ) (d : Daemon S F D) : Type 0 where
     pub timer : Timer
-    pub within : place < length (map timer_of d.ports.items)
-    pub is_timer : timer ≡ slice_index_or (map timer_of d.ports.items) place timer
+    pub within : index < length (map timer_of d.ports.items)
+    pub is_timer : timer ≡ slice_index_or (map timer_of d.ports.items) index timer
     pub closed : IsSome (taken_of (at timer.port d.server.held))
 
   -- the admission is of this datagram by this server

@@ -75,7 +75,7 @@ started now port peer interval =
 module _ {S F D : Type 0} where
   -- the transfer at the port makes the step of a timeout, and its datagram is sent at once, from
   -- that port to the endpoint that the step returns (RFC 1350, section 2)
-  pub record TimesOut (port : ℕ) (old new : ServerState S F D) (before after : List Event)
+  pub record AnswersTimeout (port : ℕ) (old new : ServerState S F D) (before after : List Event)
       (step : Step) : Type 0 where
     pub outgoing : Outgoing
     pub times_out : TimesOutLent port old.held new.held step outgoing
@@ -85,8 +85,8 @@ module _ {S F D : Type 0} where
 module _ {S F D : Type 0} (meaning : StoreMeaning S D) (sources : SourceMeaning F) where
   -- the transfer at the port handles a datagram, and the answer is sent at once, from that port to
   -- the endpoint that the step returns (RFC 1350, section 4)
-  pub record Handles (port : ℕ) (from : Endpoint) (bytes : List ℕ) (old new : ServerState S F D)
-      (before after : List Event) (step : Step) : Type 0 where
+  pub record AnswersDatagram (port : ℕ) (from : Endpoint) (bytes : List ℕ)
+      (old new : ServerState S F D) (before after : List Event) (step : Step) : Type 0 where
     pub outgoing : Outgoing
     pub takes : TakesDatagramLent meaning sources port from bytes old new step outgoing
     pub config : new.config ≡ old.config
@@ -94,15 +94,15 @@ module _ {S F D : Type 0} (meaning : StoreMeaning S D) (sources : SourceMeaning 
 
   -- the datagram is lost, only if no transfer is open, or if a block is read or stored and there is
   -- no memory for it
-  pub record Loses (port : ℕ) (from : Endpoint) (bytes : List ℕ) (old new : ServerState S F D)
-      : Type 0 where
+  pub record LosesDatagram (port : ℕ) (from : Endpoint) (bytes : List ℕ)
+      (old new : ServerState S F D) : Type 0 where
     pub fault : ServerFault
     pub why : DatagramFaultLent from bytes (at port old.held) fault
     pub keeps : KeepsHeld meaning sources port (at port old.held) old new
     pub config : new.config ≡ old.config
 
   -- a source reads ahead, or a draft is written back
-  pub record Works (port : ℕ) (old new : ServerState S F D) : Type 0 where
+  pub record WorksAtPort (port : ℕ) (old new : ServerState S F D) : Type 0 where
     pub works : WorksAt meaning sources port (at port old.held) old new
     pub config : new.config ≡ old.config
 
@@ -112,7 +112,7 @@ module _ {S F D : Type 0} (meaning : StoreMeaning S D) (sources : SourceMeaning 
       pub from : Endpoint
       pub bytes : List ℕ
       pub step : Step
-      pub handles : Handles old.timer.port from bytes old.server new.server
+      pub handles : AnswersDatagram old.timer.port from bytes old.server new.server
           (Received old.timer.port from bytes ∷ old.events) new.events step
       pub timer : new.timer ≡ timer_after now step.progress old.timer
 
@@ -120,7 +120,7 @@ module _ {S F D : Type 0} (meaning : StoreMeaning S D) (sources : SourceMeaning 
     pub record ReceivesAndLoses : Type 0 where
       pub from : Endpoint
       pub bytes : List ℕ
-      pub loses : Loses old.timer.port from bytes old.server new.server
+      pub loses : LosesDatagram old.timer.port from bytes old.server new.server
       pub timer : new.timer ≡ old.timer
       pub events : new.events ≡ Received old.timer.port from bytes ∷ old.events
 
@@ -128,7 +128,7 @@ module _ {S F D : Type 0} (meaning : StoreMeaning S D) (sources : SourceMeaning 
     pub record DeliversTimeout : Type 0 where
       pub step : Step
       pub due : old.timer.deadline ≤ now
-      pub times_out : TimesOut old.timer.port old.server new.server
+      pub times_out : AnswersTimeout old.timer.port old.server new.server
           (Elapsed old.timer.port now ∷ old.events) new.events step
       pub timer : new.timer ≡ restarted now old.timer
 
@@ -142,7 +142,7 @@ module _ {S F D : Type 0} (meaning : StoreMeaning S D) (sources : SourceMeaning 
 
     -- the file of the transfer reads ahead or is written back
     pub record FileWorks : Type 0 where
-      pub works : Works old.timer.port old.server new.server
+      pub works : WorksAtPort old.timer.port old.server new.server
       pub timer : new.timer ≡ old.timer
       pub events : new.events ≡ old.events
 
@@ -195,15 +195,15 @@ module _ {S F D : Type 0} (meaning : StoreMeaning S D) (sources : SourceMeaning 
     (old new : LoopState S F D) where
   -- a step at the port of a transfer
   pub record ServesPort : Type 0 where
-    pub place : ℕ
+    pub index : ℕ
     pub timer : Timer
-    pub within : place < length old.timers
-    pub is_timer : timer ≡ slice_index_or old.timers place timer
+    pub within : index < length old.timers
+    pub is_timer : timer ≡ slice_index_or old.timers index timer
     pub next : PortState S F D
     pub does : AtPort meaning sources old.now (port_state old timer) next
     pub is : new ≡ record old {
       server = next.server;
-      timers = slice_set old.timers place next.timer;
+      timers = slice_set old.timers index next.timer;
       events = next.events;
     }
 
@@ -252,17 +252,17 @@ module _ {S F D : Type 0} (meaning : StoreMeaning S D) (sources : SourceMeaning 
   -- a closed transfer is removed with its timer, and its line is printed at once, with its port,
   -- the peer's port and its outcome; its identifier is free
   pub record Closes : Type 0 where
-    pub place : ℕ
+    pub index : ℕ
     pub timer : Timer
-    pub within : place < length old.timers
-    pub is_timer : timer ≡ slice_index_or old.timers place timer
+    pub within : index < length old.timers
+    pub is_timer : timer ≡ slice_index_or old.timers index timer
     pub taken : Record × Option D
     pub is_taken : taken_of (at timer.port old.server.held) ≡ Some taken
     pub outcome : Outcome
     pub has_outcome : taken.0.outcome ≡ Some outcome
     pub is : new ≡ record old {
       server = record old.server { held = without timer.port old.server.held };
-      timers = swap_remove old.timers place timer;
+      timers = swap_remove old.timers index timer;
       events = Printed (line_text (Closed timer.port timer.peer.port outcome)) ∷ old.events;
     }
 

@@ -5,11 +5,11 @@ ghost use Rattle.tftp_loop.specs.Served.{ClosedAt, OnlyServes, ServesRounds, tim
 ghost use Rattle.tftp_loop.specs.declared.transfer_port.PortStatus.TheVariants as statuses;
 
 use crate::report::{record_of_closed, report_close};
+use crate::server_udp::ServerUdp;
 use crate::serving::{Ending, LoopFault};
 use crate::sockets::{REQUESTS, Sockets};
 use crate::store::ServedStore;
 use crate::transfer_port::{PortStatus, TransferPort, take_due, take_ready};
-use crate::udp::Udp;
 use mio::{Events, Token};
 use std::alloc::{AllocError, Global};
 use std::time::Clock;
@@ -80,7 +80,7 @@ impl<S: ServedStore + Drop> Daemon<S> {
     }
 
     /// Serves, wait by wait, until a count of `ending` is reached.
-    pub(crate) fn take_rounds<N: Udp + Clock + Print + Eprint>(
+    pub(crate) fn take_rounds<N: ServerUdp + Clock + Print + Eprint>(
         &mut self,
         rt: &N,
         ending: Ending,
@@ -101,7 +101,7 @@ impl<S: ServedStore + Drop> Daemon<S> {
     /// Waits once, and handles datagrams and due timeouts. Transfers precede requests, because an
     /// acknowledgement may free the slot that its client's next request needs. `left` is the number
     /// of transfers yet to close.
-    fn take_round<N: Udp + Clock + Print + Eprint>(
+    fn take_round<N: ServerUdp + Clock + Print + Eprint>(
         &mut self,
         rt: &N,
         left: u64,
@@ -161,23 +161,23 @@ impl<S: ServedStore + Drop> Daemon<S> {
     {
         let mut left = left;
         // In reverse order, because a close moves the last port to the freed index.
-        for place in (0..self.ports.len()).rev() {
-            let status = self.take_ready_at(place, buffer);
-            left = self.finish(rt, left, place, status)?;
+        for index in (0..self.ports.len()).rev() {
+            let status = self.take_ready_at(index, buffer);
+            left = self.finish(rt, left, index, status)?;
         }
         Ok(left)
     }
 
     /// Handles the datagrams at the port of a transfer, if it is marked ready.
-    fn take_ready_at(&mut self, place: usize, buffer: &mut [u8]) -> PortStatus
+    fn take_ready_at(&mut self, index: usize, buffer: &mut [u8]) -> PortStatus
         ensures serves { OnlyServes S.meaning S.Source.meaning self.old self.new }
-        ensures closed { result ≡ statuses.Closed → ClosedAt place self.new }
+        ensures closed { result ≡ statuses.Closed → ClosedAt index self.new }
     {
-        if place >= self.ports.len() {
+        if index >= self.ports.len() {
             return PortStatus::Empty;
         }
         let now = self.sockets.watch.now;
-        let port = &mut self.ports[place];
+        let port = &mut self.ports[index];
         take_ready(&mut self.server, port, &mut self.journal, now, buffer)
     }
 
@@ -218,23 +218,23 @@ impl<S: ServedStore + Drop> Daemon<S> {
         let Some(tid) = self.tids.get(at).copied() else {
             return Ok(left);
         };
-        let Some(place) = index_of(tid, self.ports.as_slice()) else {
+        let Some(index) = index_of(tid, self.ports.as_slice()) else {
             return Ok(left);
         };
-        let status = self.take_due_at(place, buffer);
-        self.finish(rt, left, place, status)
+        let status = self.take_due_at(index, buffer);
+        self.finish(rt, left, index, status)
     }
 
     /// Handles the datagrams at a due port, or else its timeout.
-    fn take_due_at(&mut self, place: usize, buffer: &mut [u8]) -> PortStatus
+    fn take_due_at(&mut self, index: usize, buffer: &mut [u8]) -> PortStatus
         ensures serves { OnlyServes S.meaning S.Source.meaning self.old self.new }
-        ensures closed { result ≡ statuses.Closed → ClosedAt place self.new }
+        ensures closed { result ≡ statuses.Closed → ClosedAt index self.new }
     {
-        if place >= self.ports.len() {
+        if index >= self.ports.len() {
             return PortStatus::Empty;
         }
         let now = self.sockets.watch.now;
-        let port = &mut self.ports[place];
+        let port = &mut self.ports[index];
         take_due(&mut self.server, port, &mut self.journal, now, buffer)
     }
 
@@ -243,27 +243,27 @@ impl<S: ServedStore + Drop> Daemon<S> {
         &mut self,
         rt: &P,
         left: u64,
-        place: usize,
+        index: usize,
         status: PortStatus,
     ) -> Result<u64, LoopFault>
-        requires { status ≡ statuses.Closed → ClosedAt place self.old }
+        requires { status ≡ statuses.Closed → ClosedAt index self.old }
         ensures { OnlyServes S.meaning S.Source.meaning self.old self.new }
     {
         if status != PortStatus::Closed {
             return Ok(left);
         }
-        match self.close(rt, place) {
+        match self.close(rt, index) {
             Ok(()) => Ok(left.saturating_sub(1)),
             Err(fault) => Err(fault),
         }
     }
 
     /// Removes a closed transfer and its port, and prints its outcome.
-    fn close<P: Print + Eprint>(&mut self, rt: &P, place: usize) -> Result<(), LoopFault>
-        requires { ClosedAt place self.old }
+    fn close<P: Print + Eprint>(&mut self, rt: &P, index: usize) -> Result<(), LoopFault>
+        requires { ClosedAt index self.old }
         ensures { OnlyServes S.meaning S.Source.meaning self.old self.new }
     {
-        let port = self.ports.swap_remove(place);
+        let port = self.ports.swap_remove(index);
         let reason = self.server.store().take_reason();
         let record = record_of_closed(&mut self.server, port.socket.udp.port());
         let now = self.sockets.watch.now;
@@ -307,10 +307,10 @@ fn note_ready(token: Token, ports: &mut [TransferPort])
     let Ok(tid) = u16::try_from(token.0) else {
         return;
     };
-    let Some(place) = index_of(tid, ports) else {
+    let Some(index) = index_of(tid, ports) else {
         return;
     };
-    if place < ports.len() {
-        ports[place].is_ready = true;
+    if index < ports.len() {
+        ports[index].is_ready = true;
     }
 }

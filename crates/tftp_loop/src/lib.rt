@@ -13,12 +13,12 @@ mod daemon;
 mod log_entry;
 mod report;
 mod requests;
+mod server_udp;
 mod serving;
 mod sockets;
 mod store;
 mod transfer_port;
-mod udp;
 
+pub use server_udp::ServerUdp;
 pub use serving::{Ending, LoopConfig, LoopFault, serve};
 pub use store::ServedStore;
-pub use udp::Udp;

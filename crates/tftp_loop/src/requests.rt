@@ -1,7 +1,7 @@
 //! The datagrams of the request port, and the transfers that they open.
 
-ghost use Rattle.std.specs.Prelude.{◌≡◌, ◌<◌, ◌++◌, ◌∷◌, [], true, false, None, IfOk, IfSome, vec_len};
-ghost use Rattle.std.specs.Prelude.{vec_capacity, map};
+ghost use Rattle.std.specs.Prelude.{◌≡◌, ◌<◌, ◌++◌, ◌∷◌, [], true, false, None, IfOk, IfSome};
+ghost use Rattle.std.specs.Prelude.{vec_len, vec_capacity, map};
 ghost use Rattle.tftp_server.specs.Port.{asks_store};
 ghost use Rattle.tftp_server.specs.Request.{Admits};
 ghost use Rattle.tftp_server.specs.State.{at};
@@ -12,10 +12,10 @@ ghost use Rattle.tftp_loop.specs.Served.{timer_of};
 use crate::daemon::Daemon;
 use crate::log_entry::LogEntry;
 use crate::report::{log_lost, log_unopened};
+use crate::server_udp::ServerUdp;
 use crate::serving::LoopFault;
 use crate::store::ServedStore;
 use crate::transfer_port::{MOST_AT_ONCE, TransferPort, TransferSocket, reply};
-use crate::udp::Udp;
 use mio::Events;
 use std::time::Clock;
 use tftp_ends::{DEFAULT_INTERVAL, Endpoint};
@@ -29,7 +29,7 @@ const NO_PORT: u16 = 0;
 impl<S: ServedStore + Drop> Daemon<S> {
     /// Handles the datagrams at the request port, at most `MOST_AT_ONCE`. `left` is the number of
     /// transfers yet to close.
-    pub(crate) fn take_requests<N: Udp + Clock + Print + Eprint>(
+    pub(crate) fn take_requests<N: ServerUdp + Clock + Print + Eprint>(
         &mut self,
         rt: &N,
         left: u64,
@@ -60,7 +60,7 @@ impl<S: ServedStore + Drop> Daemon<S> {
     /// Handles a datagram of the request port. If it would open no transfer, the datagrams of
     /// transfers are handled first, and then it is admitted again: an acknowledgement that its
     /// client sent just before may free a slot.
-    fn take_request<N: Udp + Clock + Print + Eprint>(
+    fn take_request<N: ServerUdp + Clock + Print + Eprint>(
         &mut self,
         rt: &N,
         left: u64,
@@ -90,7 +90,13 @@ impl<S: ServedStore + Drop> Daemon<S> {
     }
 
     /// Answers a datagram of the request port, unless no transfer is yet to close.
-    fn answer_later<N: Udp + Eprint>(&mut self, rt: &N, left: u64, from: Endpoint, bytes: &[u8])
+    fn answer_later<N: ServerUdp + Eprint>(
+        &mut self,
+        rt: &N,
+        left: u64,
+        from: Endpoint,
+        bytes: &[u8],
+    )
         ensures { AnswersPending S.meaning S.Source.meaning from bytes.now self.old self.new }
     {
         if left == 0 {
@@ -109,7 +115,7 @@ impl<S: ServedStore + Drop> Daemon<S> {
 
     /// Carries out the admission of a datagram that may open a transfer, at a port of its own. The
     /// datagram is lost if no port can be bound, or when out of memory.
-    fn open_request<N: Udp + Eprint>(
+    fn open_request<N: ServerUdp + Eprint>(
         &mut self,
         rt: &N,
         from: Endpoint,

@@ -4,9 +4,9 @@ ghost use Rattle.std.specs.Prelude.{◌≡◌};
 ghost use Rattle.tftp_loop.specs.Serves.{Serves, ServesFrom, listening};
 
 use crate::daemon::{Buffers, Daemon};
+use crate::server_udp::ServerUdp;
 use crate::sockets::Sockets;
 use crate::store::ServedStore;
-use crate::udp::Udp;
 use std::alloc::Global;
 use std::time::Clock;
 use tftp_ends::Endpoint;
@@ -54,7 +54,7 @@ pub enum LoopFault {
 }
 
 /// Serves until the end of `config`. Adds its events to the journal, and returns it.
-pub fn serve<N: Udp + Clock + Print + Eprint, S: ServedStore + Drop>(
+pub fn serve<N: ServerUdp + Clock + Print + Eprint, S: ServedStore + Drop>(
     rt: &N,
     alloc: Global,
     server: Server<S>,
@@ -71,7 +71,7 @@ pub fn serve<N: Udp + Clock + Print + Eprint, S: ServedStore + Drop>(
 }
 
 /// Prints the endpoint of the request port, and serves it.
-fn listen<N: Udp + Clock + Print + Eprint, S: ServedStore + Drop>(
+fn listen<N: ServerUdp + Clock + Print + Eprint, S: ServedStore + Drop>(
     rt: &N,
     alloc: Global,
     server: Server<S>,
@@ -92,7 +92,7 @@ fn listen<N: Udp + Clock + Print + Eprint, S: ServedStore + Drop>(
 }
 
 /// Serves the request port.
-fn run<N: Udp + Clock + Print + Eprint, S: ServedStore + Drop>(
+fn run<N: ServerUdp + Clock + Print + Eprint, S: ServedStore + Drop>(
     rt: &N,
     alloc: Global,
     server: Server<S>,

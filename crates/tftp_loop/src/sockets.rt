@@ -4,7 +4,7 @@ ghost use Rattle.std.specs.Prelude.{◌≡◌, ◌≤◌, ◌∷◌, length, tak
 ghost use Rattle.tftp_server.specs.Port.{asks_store};
 ghost use Rattle.tftp_sockets.specs.Journal.Event.{Received, Watched};
 
-use crate::udp::Udp;
+use crate::server_udp::ServerUdp;
 use mio::{Events, Poll, Token};
 use std::io;
 use std::time::{Clock, Duration};
@@ -33,7 +33,7 @@ pub(crate) struct Sockets {
 
 impl Sockets {
     /// Binds the request port.
-    pub(crate) fn bind<N: Udp + Clock>(net: &N, listen: Endpoint) -> io::Result<Sockets>
+    pub(crate) fn bind<N: ServerUdp + Clock>(net: &N, listen: Endpoint) -> io::Result<Sockets>
         ensures time { IfOk result (λ sockets. sockets.watch.now ≡ 0) }
         ensures address { IfOk result (λ sockets. sockets.ip ≡ listen.ip) }
     {
@@ -100,7 +100,7 @@ impl Sockets {
     }
 
     /// Takes the spare port for a transfer that may open, or binds one. `None` if that fails.
-    pub(crate) fn port_for<N: Udp>(
+    pub(crate) fn port_for<N: ServerUdp>(
         &mut self,
         net: &N,
         _admission: &Admission<'_>,
@@ -132,7 +132,7 @@ impl Sockets {
 }
 
 /// A poll of the request port.
-fn poll_for<N: Udp>(net: &N, requests: &mut ServerSocket) -> io::Result<Poll>
+fn poll_for<N: ServerUdp>(net: &N, requests: &mut ServerSocket) -> io::Result<Poll>
     ensures { requests.new.port ≡ requests.old.port }
 {
     let poll = net.poll()?;
@@ -141,7 +141,7 @@ fn poll_for<N: Udp>(net: &N, requests: &mut ServerSocket) -> io::Result<Poll>
 }
 
 /// Binds a port chosen by the system at the address.
-fn bind_spare<N: Udp>(net: &N, ip: [u8; 4]) -> Option<ServerSocket> {
+fn bind_spare<N: ServerUdp>(net: &N, ip: [u8; 4]) -> Option<ServerSocket> {
     match net.bind(address_of(Endpoint { ip, port: 0 })) {
         Ok(socket) => Some(socket),
         Err(_) => None,

@@ -3,7 +3,8 @@
 ghost use Rattle.std.specs.Prelude.{◌≡◌, ◌≤◌, ◌⊎◌, IsSome, MatchOption, IfSome, true, false};
 ghost use Rattle.tftp_server.specs.State.{at, is_open, taken_of};
 ghost use Rattle.tftp_sockets.specs.Journal.{replied};
-ghost use Rattle.tftp_loop.specs.Serves.{Handles, Loses, Works, TimesOut, restarted, timer_after};
+ghost use Rattle.tftp_loop.specs.Serves.{AnswersDatagram, AnswersTimeout, LosesDatagram};
+ghost use Rattle.tftp_loop.specs.Serves.{WorksAtPort, restarted, timer_after};
 ghost use Rattle.tftp_loop.specs.Served.{AnswersReceived, OnlyServesPort, timer_of};
 
 use crate::log_entry::LogEntry;
@@ -79,9 +80,9 @@ fn handle<S: Store>(
 ) -> Option<Step>
     requires { tid ≡ udp.now.port }
     ensures handled { MatchOption result
-        (Loses S.meaning S.Source.meaning udp.now.port from bytes.now server.old server.new
+        (LosesDatagram S.meaning S.Source.meaning udp.now.port from bytes.now server.old server.new
         × (journal.new.events ≡ journal.old.events))
-        (λ step. Handles S.meaning S.Source.meaning udp.now.port from bytes.now server.old
+        (λ step. AnswersDatagram S.meaning S.Source.meaning udp.now.port from bytes.now server.old
         server.new journal.old.events journal.new.events step) }
     ensures closed { IfSome result (λ step. IsSome step.closed
         → IsSome (taken_of (at udp.now.port server.new.held))) }
@@ -118,7 +119,7 @@ fn restart_by(port: &mut TransferPort, now: u64, is_progress: bool)
 /// Lets the file read ahead or be written back after progress, if the transfer is still open.
 fn work_after<S: Store>(server: &mut Server<S>, tid: u16, step: &Step)
     ensures works { (server.new ≡ server.old)
-        ⊎ Works S.meaning S.Source.meaning tid server.old server.new }
+        ⊎ WorksAtPort S.meaning S.Source.meaning tid server.old server.new }
     ensures closed { IsSome step.now.closed → server.new ≡ server.old }
 {
     if !step.progress {
@@ -340,7 +341,7 @@ fn time_out<S: Store>(
     ensures steps { MatchOption result
         ((is_open (at udp.now.port server.old.held) ≡ false) × (server.new ≡ server.old)
         × (journal.new.events ≡ journal.old.events))
-        (λ step. TimesOut udp.now.port server.old server.new journal.old.events
+        (λ step. AnswersTimeout udp.now.port server.old server.new journal.old.events
         journal.new.events step) }
     ensures closed { IfSome result (λ step. IsSome step.closed
         → IsSome (taken_of (at udp.now.port server.new.held))) }

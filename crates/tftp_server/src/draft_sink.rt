@@ -1,11 +1,5 @@
 //! A draft of a store, as the sink of an end.
 
-ghost use Rattle.std.specs.Prelude.{◌≡◌, ◌↔◌, true, false, IfOk, OnErr, IsErrOf, Option};
-ghost use Rattle.tftp_ends.specs.Action.{Decodes, datagram_action};
-ghost use Rattle.tftp_ends.specs.End.{is_sender, outcome_of};
-ghost use Rattle.tftp_ends.specs.Step.{IsAnswered, UsesFile};
-ghost use Rattle.tftp_wire.specs.declared.packet.Packet.{Packet};
-
 use tftp_file::{Path, Sink, StoreFault};
 use tftp_store::Store;
 

@@ -1,10 +1,11 @@
 //! UDP sockets, the clock and the printer, with notes in a [`Journal`].
 //!
 //! **The bodies of this file are trusted: review alone shows that a note is true.** The sockets,
-//! the clock and the printer of std and `mio` have no model. Each datagram, reading of the clock and
-//! printed line has one note: what was passed to the system or returned by it, and for a datagram
-//! the port that the socket is bound to. `tftp` and `tftpd` call no socket and print no line of
-//! standard output elsewhere, and read the clock elsewhere only to start their watch.
+//! the clock and the printer of std and `mio` have no model. Each datagram, reading of the clock
+//! and printed line has one note: what was passed to the system or returned by it, and for a
+//! datagram the port that the socket is bound to. Once they have their command line, `tftp` and
+//! `tftpd` call no socket and print no line of standard output elsewhere, and read the clock
+//! elsewhere only to start their watch. Help and versions are printed before that.
 //!
 //! A failed send counts as a lost datagram. A failed receive is no event.
 

@@ -4,7 +4,7 @@ ghost use Rattle.std.specs.Prelude.{◌≡◌, ◌≤◌, true, length, take, If
 ghost use Rattle.tftp_ends.specs.End.{is_complete};
 ghost use Rattle.tftp_ends.specs.Files.{AreFilesOf};
 ghost use Rattle.tftp_sockets.specs.Journal.{replied};
-ghost use Rattle.tftp_client.specs.Converses.{Converses, Handles, MayElapse, Works};
+ghost use Rattle.tftp_client.specs.Converses.{Converses, HandlesReceived, MayElapse, WorksOnFile};
 ghost use Rattle.tftp_client.specs.Converses.{EndsBy, deadline_at, due_after};
 
 use crate::transfer::failure::Reason;
@@ -202,7 +202,7 @@ impl Conversation {
     ) -> Step
         requires files { AreFilesOf self.old.end.role.side files.old }
         requires count { count ≤ length self.old.buffer.items }
-        ensures handles { Handles S.meaning K.meaning self.old.socket.port
+        ensures handles { HandlesReceived S.meaning K.meaning self.old.socket.port
             from (take count self.old.buffer.items)
             (state_of self.old journal.old.events) files.old
             (state_of self.new journal.new.events) files.new }
@@ -223,7 +223,7 @@ impl Conversation {
     /// Reads the source ahead, or writes the sink's buffer, after the datagram is sent.
     fn work<S: Source, K: Sink>(&self, files: &mut Files<S, K>)
         requires { AreFilesOf self.now.end.role.side files.old }
-        ensures works { Works S.meaning K.meaning files.old files.new }
+        ensures works { WorksOnFile S.meaning K.meaning files.old files.new }
         ensures files { AreFilesOf self.now.end.role.side files.new }
     {
         match files {

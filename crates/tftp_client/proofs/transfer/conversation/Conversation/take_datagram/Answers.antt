@@ -4,8 +4,8 @@ use Rattle.tftp_ends.specs.End.{EndState, interval_of, terms_of}
 use Rattle.tftp_ends.specs.Step.{reported}
 use Rattle.tftp_ends.specs.declared.record.Step.{Step}
 use Rattle.tftp_client.specs.Conversation.{state_of}
-use Rattle.tftp_client.specs.Converses.{Handles, State, due_after, turned}
-use Rattle.tftp_client.specs.Converses.Handles.{Answers, Loses}
+use Rattle.tftp_client.specs.Converses.{HandlesReceived, State, due_after, turned}
+use Rattle.tftp_client.specs.Converses.HandlesReceived.{Answers, Loses}
 use Rattle.tftp_client.proofs.Conversing.{lost, not_refused, replies, state_is}
 use Rattle.tftp_client.proofs.transfer.conversation.Conversation.take_datagram.Goals as goal
 
@@ -13,7 +13,7 @@ pub returns-in_default-clause-handles : goal.returns-in_default-clause-handles
 returns-in_default-clause-handles g c =
     let port = c.args.self.now.socket.port in
     let s : State = state_of c.args.self.now c.args.journal.now.events in
-    let handles : List ℕ → State → Type 0 = λ b t. Handles g.S.Source.meaning g.K.Sink.meaning port c.args.from b s c.args.files.now t c.handle_datagram.new.files in
+    let handles : List ℕ → State → Type 0 = λ b t. HandlesReceived g.S.Source.meaning g.K.Sink.meaning port c.args.from b s c.args.files.now t c.handle_datagram.new.files in
     let At : State → Type 0 = λ t. handles (take c.args.count c.args.self.now.buffer.items) t in
     let whole = c.datagram_in-bytes.ensures ∙ ap (λ (b : List ℕ). take c.args.count b) c.as_slice.ensures.value in
     let Of : List ℕ → Type 0 = λ b. handles b s in
@@ -25,7 +25,7 @@ pub returns-clause-handles : goal.returns-clause-handles
 returns-clause-handles g c =
     let port = c.args.self.now.socket.port in
     let s : State = state_of c.args.self.now c.args.journal.now.events in
-    let handles : List ℕ → State → Type 0 = λ b t. Handles g.S.Source.meaning g.K.Sink.meaning port c.args.from b s c.args.files.now t c.handle_datagram.new.files in
+    let handles : List ℕ → State → Type 0 = λ b t. HandlesReceived g.S.Source.meaning g.K.Sink.meaning port c.args.from b s c.args.files.now t c.handle_datagram.new.files in
     let At : State → Type 0 = λ t. handles (take c.args.count c.args.self.now.buffer.items) t in
     let whole = c.datagram_in-bytes.ensures ∙ ap (λ (b : List ℕ). take c.args.count b) c.as_slice.ensures.value in
     let turn = c.in-Ok.ensures.steps.0 in

@@ -2,7 +2,7 @@
 use Rattle.std.proofs.Common.{rules, ◌∙◌, ap, refl, ◌∷◌, ℕ, List, take, sym, subst}
 use Rattle.std.proofs.lemmas.List.{with_items_is, places}
 use Rattle.tftp_client.specs.Conversation.{state_of}
-use Rattle.tftp_client.specs.Converses.{Converses, Handles, State}
+use Rattle.tftp_client.specs.Converses.{Converses, HandlesReceived, State}
 use Rattle.tftp_client.specs.Converses.Converses.{Begins, Receives, Waits}
 use Rattle.tftp_sockets.specs.Journal.{Event}
 use Rattle.tftp_sockets.specs.Journal.Event.{Watched}
@@ -16,7 +16,7 @@ returns-in-Some-clause-converses g c =
     let from = c.in-Some.from in
     let time = c.read_watch.result in
     let next : State = state_of c.take_datagram.new.self c.take_datagram.new.journal.events in
-    let handles : List ℕ → ℕ → State → Type 0 = λ b p t. Handles g.S.Source.meaning g.K.Sink.meaning p from (take c.in-Some.count b) t c.args.files.now next c.take_datagram.new.files in
+    let handles : List ℕ → ℕ → State → Type 0 = λ b p t. HandlesReceived g.S.Source.meaning g.K.Sink.meaning p from (take c.in-Some.count b) t c.args.files.now next c.take_datagram.new.files in
     let t : State = record { end = s.end; now = c.read_watch.new.watch.now; due = s.due; events = c.read_watch.new.journal.events } in
     let At : State → Type 0 = λ t. handles c.receive-received.new.buffer port t in
     let Of : ℕ → Type 0 = λ p. handles c.receive-received.new.buffer p t in

@@ -6,7 +6,7 @@ use std::net::{Net, SocketAddr};
 use tftp_sockets::ServerSocket;
 
 /// Opens UDP sockets: a [`Net`] without its streams and listeners.
-pub trait Udp {
+pub trait ServerUdp {
     /// Binds a non-blocking socket.
     fn bind(&self, address: SocketAddr) -> io::Result<ServerSocket>;
 
@@ -14,7 +14,7 @@ pub trait Udp {
     fn poll(&self) -> io::Result<Poll>;
 }
 
-impl<N: Net> Udp for N {
+impl<N: Net> ServerUdp for N {
     fn bind(&self, address: SocketAddr) -> io::Result<ServerSocket> {
         ServerSocket::bind(self, address)
     }
