@@ -3,7 +3,7 @@
 
 TFTPD is the built tftpd; without words, the one that `rt ci` built. A client asks for a file, and again where it gets
 no answer. Whichever request for memory is refused, the transfer completes, and a request that is lost is a line of the
-log that says so. The counter is refuse_memory.c, compiled into a temporary folder.
+log that says so. Before the server serves, whichever is refused, it says that it is out of memory. The counter is refuse_memory.c, compiled into a temporary folder.
 """
 import os
 import re
@@ -60,18 +60,40 @@ def served(program, counter, folder, refused):
     return requests, log, int(counts[1]), int(counts[2])
 
 
+def begun(program, counter, folder, refused):
+    """What a server says that is refused a request for memory before it serves, and how many such requests there are."""
+    words = [program, folder, "--listen", "127.0.0.1:0", "--rounds", "1"]
+    env = {"LD_PRELOAD": str(counter), "REFUSED": str(refused), "FROM_START": "1"}
+    done = subprocess.run(words, env=env, capture_output=True, text=True, timeout=PATIENCE)
+    said, counts = re.fullmatch(r"(.*)counted (\d+) refused \d+\n", done.stderr, re.S).groups()
+    return (done.returncode, done.stdout, said), int(counts)
+
+
+def unbegun(program, counter, folder):
+    """How many requests for memory a server makes before it serves, and how many of them do not end it as they should."""
+    wrong = 0
+    _, count = begun(program, counter, folder, 0)
+    for refused in range(1, count + 1):
+        end, _ = begun(program, counter, folder, refused)
+        if end not in ((2, "", "tftpd: out of memory\n"), (2, "", "error: out of memory\n")):
+            wrong += 1
+            print(f"lost requests: {refused} of {count} at the start: {end}")
+    return count, wrong
+
+
 def main():
     if len(sys.argv) > 2:
         sys.exit(__doc__)
     program = os.path.abspath(sys.argv[1] if len(sys.argv) == 2 else TFTPD)
     if not os.path.exists(program):
         sys.exit(f"lost requests: {program} is not there; `rt ci` builds it")
-    lost, unserved, wrong = 0, 0, 0
+    lost, unserved = 0, 0
     with tempfile.TemporaryDirectory(prefix="tftp-lost-") as folder:
         counter = compiled(folder)
         files = Path(folder, "files")
         files.mkdir()
         Path(files, "a").write_bytes(b"fortytwo")
+        starts, wrong = unbegun(program, counter, str(files))
         _, _, count, _ = served(program, counter, str(files), 0)
         for request in range(1, count + 1):
             requests, log, _, refused = served(program, counter, str(files), request)
@@ -82,7 +104,7 @@ def main():
                 wrong += 1
                 print(f"lost requests: {request} of {count}, refused {refused}, asked {requests} times", log, sep="\n")
     print(f"lost requests: {count} requests for memory, each refused in turn: {lost} requests of the client lost, "
-          f"{unserved} servers not begun")
+          f"{unserved} servers not begun; {starts} before the server serves")
     sys.exit(1 if wrong or not lost else 0)
 
 

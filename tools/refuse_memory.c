@@ -1,8 +1,8 @@
 /* Preloaded before a program: counts its requests for memory, and refuses the one that REFUSED names,
    counted from 1; 0 refuses none. A request counts while a call is made: from a line of standard
    output that ends in a colon to the next output; or, where FROM_OUTPUT is set, always after the
-   first output. At the end it writes how many counted, and how many of them were refused. It is for
-   Linux on x86-64, and needs no headers. */
+   first output; or, where FROM_START is set, until the first output. At the end it writes how many
+   counted, and how many of them were refused. It is for Linux on x86-64, and needs no headers. */
 
 #define ENOMEM 12
 #define SYS_WRITE 1
@@ -24,6 +24,7 @@ __attribute__((constructor)) static void begin(void) {
     const char *text = getenv("REFUSED");
     wanted = text ? atol(text) : 0;
     from_output = getenv("FROM_OUTPUT") != 0;
+    counts = getenv("FROM_START") != 0;
 }
 
 __attribute__((destructor)) static void end(void) {

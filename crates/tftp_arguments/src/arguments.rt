@@ -1,6 +1,6 @@
 //! The words of a command line, and the messages for faulty ones.
 
-ghost use Rattle.std.specs.Prelude.{◌≤◌};
+ghost use Rattle.std.specs.Prelude.{◌≡◌, ◌≤◌};
 
 use anyhow::Result;
 use clap::builder::ValueParser;
@@ -31,6 +31,14 @@ pub fn print_usage<R: Print + Eprint>(rt: &R, error: &clap::Error) -> u8
     } else {
         0
     }
+}
+
+/// Reports on standard error that the program is out of memory, and returns the status for it.
+pub fn print_no_memory<R: Eprint>(rt: &R, program: &str) -> u8
+    ensures { result ≡ 2 }
+{
+    let _ = eprintln!(rt; "{program}: out of memory");
+    2
 }
 
 /// A required positional word.

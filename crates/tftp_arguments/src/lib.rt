@@ -6,4 +6,4 @@
 
 mod arguments;
 
-pub use arguments::{VERSION, flag, number, own_words, print_usage, word};
+pub use arguments::{VERSION, flag, number, own_words, print_no_memory, print_usage, word};

@@ -13,7 +13,7 @@ use std::io;
 use std::net::Net;
 use std::rt::{Files, Runtime};
 use std::time::Clock;
-use tftp_arguments::{VERSION, flag, number, own_words, print_usage, word};
+use tftp_arguments::{VERSION, flag, number, own_words, print_no_memory, print_usage, word};
 use tftp_host::endpoint_in;
 use tftp_loop::{Ending, LoopConfig, LoopFault, ServerUdp};
 use tftp_negotiate::{Limits, MAX_BLOCK, MIN_BLOCK};
@@ -38,7 +38,7 @@ pub fn tftpd_command<R: Runtime + AllocGlobal + Net>(rt: &R) -> u8
 {
     match own_words(rt) {
         Ok(words) => tftpd_words(rt, words.as_slice()),
-        Err(_) => 2,
+        Err(_) => print_no_memory(rt, "tftpd"),
     }
 }
 
@@ -50,7 +50,10 @@ pub fn tftpd_command<R: Runtime + AllocGlobal + Net>(rt: &R) -> u8
 pub fn tftpd_words<R: Runtime + AllocGlobal + Net, S: AsStr>(rt: &R, words: &[S]) -> u8
     ensures { result ≤ 2 }
 {
-    serve_words(rt, words).unwrap_or(2)
+    match serve_words(rt, words) {
+        Ok(status) => status,
+        Err(_) => print_no_memory(rt, "tftpd"),
+    }
 }
 
 /// As [`tftpd_words`]; it fails when out of memory, or if standard error cannot be written.

@@ -4,6 +4,7 @@ ghost use Rattle.tftp_server.specs.Config.{IsConfig};
 
 use crate::folder::FolderStore;
 use std::alloc::Global;
+use std::io::{self, ErrorKind};
 use std::rt::Files;
 use std::time::Clock;
 use tftp_loop::{LoopConfig, LoopFault, ServerUdp};
@@ -59,8 +60,9 @@ fn open_server<R: Files + Clone + Drop>(
     let Ok(files) = rt.clone() else {
         return Err(DaemonFault::Memory);
     };
-    let Ok(mut store) = FolderStore::new(files, alloc, config.root) else {
-        return Err(DaemonFault::File);
+    let mut store = match FolderStore::new(files, alloc, config.root) {
+        Ok(store) => store,
+        Err(error) => return Err(store_fault(&error)),
     };
     if config.read_only {
         store.refuse_writes();
@@ -68,6 +70,15 @@ fn open_server<R: Files + Clone + Drop>(
     match Server::new(alloc, config.config, store) {
         Ok(server) => Ok(server),
         Err(_) => Err(DaemonFault::Memory),
+    }
+}
+
+/// The fault if the store could not be opened.
+fn store_fault(error: &io::Error) -> DaemonFault {
+    if error.kind() == ErrorKind::OutOfMemory {
+        DaemonFault::Memory
+    } else {
+        DaemonFault::File
     }
 }
 

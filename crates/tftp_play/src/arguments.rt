@@ -15,12 +15,12 @@ use tftp_arguments::{VERSION, own_words, print_usage};
 /// standard error.
 ///
 /// See [`play_words`].
-pub fn play_command<R: Runtime + AllocGlobal, E: Write + Drop>(rt: &R, errors: E) -> u8
+pub fn play_command<R: Runtime + AllocGlobal, E: Write + Drop>(rt: &R, mut errors: E) -> u8
     ensures { result ≤ 2 }
 {
     match own_words(rt) {
         Ok(words) => play_words(rt, words.as_slice(), errors),
-        Err(_) => 2,
+        Err(_) => PlayFault::Memory.report(&mut errors),
     }
 }
 

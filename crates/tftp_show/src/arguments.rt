@@ -7,7 +7,7 @@ use clap::Command;
 use std::convert::AsStr;
 use std::io;
 use std::rt::Runtime;
-use tftp_arguments::{VERSION, own_words, print_usage};
+use tftp_arguments::{VERSION, own_words, print_no_memory, print_usage};
 
 /// Runs `tftp-show` with the program's own command line, and returns its status.
 ///
@@ -17,7 +17,7 @@ pub fn show_command<R: Runtime + AllocGlobal>(rt: &R) -> u8
 {
     match own_words(rt) {
         Ok(words) => show_words(rt, words.as_slice()),
-        Err(_) => 2,
+        Err(_) => print_no_memory(rt, "tftp-show"),
     }
 }
 
