@@ -2,7 +2,7 @@
 use Rattle.std.proofs.Common.{[], ◌∷◌, sym, subst}
 use Rattle.std.specs.Prelude.{◌≢◌}
 use Rattle.std.specs.List.{Contains}
-use Rattle.tftp_machine.specs.Machine.{Endpoint, Elsewhere, host_of, Packet, Message, Party, with_end}
+use Rattle.tftp_machine.specs.Machine.{Endpoint, Elsewhere, Packet, Message, Party, with_end, Network}
 use Rattle.tftp_machine.specs.Rules.{message}
 use Rattle.tftp_machine.specs.Facts.{Attests}
 use Rattle.tftp_machine.proofs.Grows.{with_at}
@@ -11,10 +11,11 @@ use Rattle.tftp_machine.proofs.Steps.{none_sent, one_sent}
 pub attested_at : (ends : Endpoint → Party) (a : Endpoint) (x : Party) (to : Endpoint) (k : Packet) → Attests x to k → Attests (with_end ends a x a) to k
 attested_at ends a x to k t = subst (λ (y : Party). Attests y to k) (sym (with_at ends a x)) t
 
--- the datagram that an end at a, which is now x, sends
-pub attested_one : (ends : Endpoint → Party) (a : Endpoint) (x : Party) (to : Endpoint) (k : Packet) → Attests x to k → (d : Message) → Contains (message a to k ∷ []) d → host_of d.from ≢ Elsewhere → Attests (with_end ends a x d.from) d.to d.packet
-attested_one ends a x to k t =
-    one_sent (λ d. host_of d.from ≢ Elsewhere → Attests (with_end ends a x d.from) d.to d.packet) (message a to k) (λ _. attested_at ends a x to k t)
+module _ (network : Network) where
+  -- the datagram that an end at a, which is now x, sends
+  pub attested_one : (ends : Endpoint → Party) (a : Endpoint) (x : Party) (to : Endpoint) (k : Packet) → Attests x to k → (d : Message) → Contains (message a to k ∷ []) d → network.host_of d.from ≢ Elsewhere → Attests (with_end ends a x d.from) d.to d.packet
+  attested_one ends a x to k t =
+      one_sent (λ d. network.host_of d.from ≢ Elsewhere → Attests (with_end ends a x d.from) d.to d.packet) (message a to k) (λ _. attested_at ends a x to k t)
 
-pub attested_none : (ends : Endpoint → Party) (d : Message) → Contains [] d → host_of d.from ≢ Elsewhere → Attests (ends d.from) d.to d.packet
-attested_none ends = none_sent (λ d. host_of d.from ≢ Elsewhere → Attests (ends d.from) d.to d.packet)
+  pub attested_none : (ends : Endpoint → Party) (d : Message) → Contains [] d → network.host_of d.from ≢ Elsewhere → Attests (ends d.from) d.to d.packet
+  attested_none ends = none_sent (λ d. network.host_of d.from ≢ Elsewhere → Attests (ends d.from) d.to d.packet)

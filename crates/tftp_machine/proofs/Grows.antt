@@ -4,7 +4,7 @@ use Rattle.std.specs.Prelude.{◌≢◌}
 use Rattle.std.specs.List.{Contains}
 use Rattle.std.proofs.lemmas.Bool.{cases_Bool, cond-true, cond-false}
 use Rattle.std.proofs.lemmas.List.Elements.{Contains-append_cases}
-use Rattle.tftp_machine.specs.Machine.{Endpoint, is_same, Elsewhere, host_of, Packet, Request, Data, Ack, Oack, Error, Message, Party, Machine, with_end}
+use Rattle.tftp_machine.specs.Machine.{Endpoint, is_same, Elsewhere, Packet, Request, Data, Ack, Oack, Error, Message, Party, Machine, with_end, Network}
 use Rattle.tftp_machine.proofs.Endpoints.{cases_same, same_self, same_other}
 use Rattle.tftp_machine.specs.Facts.{Attests, IsServing, HasAsked, HasReceived, IsSoundParty, Holds}
 
@@ -73,44 +73,45 @@ pub record HasPeer (x y : Party) : Type 0 where
   pub mode : y.mode ≡ x.mode
   pub sender : y.sender ≡ not x.sender
 
-pub peer_of : (ends : Endpoint → Party) (a : Endpoint) (x : Party) → IsSoundParty ends a x → (p : Endpoint) → x.peer ≡ Some p → host_of p ≢ Elsewhere → HasPeer x (ends p)
-peer_of ends a x h p e o = elim (cases_Bool x.client) [
-  | inl c ↦ let s = (h.serving c p e).1 in record { is_open = s.is_open; client = rw c s.client; mode = s.mode; sender = s.sender }
-  | inr c ↦ let s = h.asked c p e o in record { is_open = s.is_open; client = rw c s.client; mode = s.mode; sender = s.sender }
-]
+module _ (network : Network) where
+  pub peer_of : (ends : Endpoint → Party) (a : Endpoint) (x : Party) → IsSoundParty network ends a x → (p : Endpoint) → x.peer ≡ Some p → network.host_of p ≢ Elsewhere → HasPeer x (ends p)
+  peer_of ends a x h p e o = elim (cases_Bool x.client) [
+    | inl c ↦ let s = (h.serving c p e).1 in record { is_open = s.is_open; client = rw c s.client; mode = s.mode; sender = s.sender }
+    | inr c ↦ let s = h.asked c p e o in record { is_open = s.is_open; client = rw c s.client; mode = s.mode; sender = s.sender }
+  ]
 
-pub IsSound-grows : (ends new : Endpoint → Party) → AllGrow ends new → (a : Endpoint) (x : Party) → IsSoundParty ends a x → IsSoundParty new a x
-IsSound-grows ends new g a x h = record {
-  at_home = h.at_home;
-  positive = h.positive;
-  no_peer = h.no_peer;
-  serving = λ c p e. let s = h.serving c p e in (s.0, IsServing-grows a x (ends p) (new p) (g.grows p s.1.is_open) s.1);
-  has_peer = h.has_peer;
-  asked = λ c p e o. let s = h.asked c p e o in HasAsked-grows x (ends p) (new p) (g.grows p s.is_open) s;
-  plain = h.plain;
-  begun = λ c s f n p e o. (g.grows p (peer_of ends a x h p e o).is_open).peer a (h.begun c s f n p e o);
-  received = λ s p e o. let y = peer_of ends a x h p e o in HasReceived-grows x (ends p) (new p) (g.grows p y.is_open) (rw s at y.sender) (h.received s p e o);
-  ended = λ s d p e o. let k = g.grows p (peer_of ends a x h p e o).is_open in let b = h.ended s d p e o in (k.peer a b.0, k.done b.1);
-}
+  pub IsSound-grows : (ends new : Endpoint → Party) → AllGrow ends new → (a : Endpoint) (x : Party) → IsSoundParty network ends a x → IsSoundParty network new a x
+  IsSound-grows ends new g a x h = record {
+    at_home = h.at_home;
+    positive = h.positive;
+    no_peer = h.no_peer;
+    serving = λ c p e. let s = h.serving c p e in (s.0, IsServing-grows a x (ends p) (new p) (g.grows p s.1.is_open) s.1);
+    has_peer = h.has_peer;
+    asked = λ c p e o. let s = h.asked c p e o in HasAsked-grows x (ends p) (new p) (g.grows p s.is_open) s;
+    plain = h.plain;
+    begun = λ c s f n p e o. (g.grows p (peer_of ends a x h p e o).is_open).peer a (h.begun c s f n p e o);
+    received = λ s p e o. let y = peer_of ends a x h p e o in HasReceived-grows x (ends p) (new p) (g.grows p y.is_open) (rw s at y.sender) (h.received s p e o);
+    ended = λ s d p e o. let k = g.grows p (peer_of ends a x h p e o).is_open in let b = h.ended s d p e o in (k.peer a b.0, k.done b.1);
+  }
 
--- the end at a became x, and these messages were added
-pub kept : (m : Machine) (a : Endpoint) (x : Party) (added : List Message) → Holds m →
-    ((m.party a).is_open ≡ true → Grows (m.party a) x) →
-    (x.is_open ≡ true → IsSoundParty (with_end m.party a x) a x) →
-    ((d : Message) → Contains added d → host_of d.from ≢ Elsewhere → Attests (with_end m.party a x d.from) d.to d.packet) →
-    Holds (record { sent = m.sent ++ added; party = with_end m.party a x })
-kept m a x added h g s t =
-    let all = AllGrow-with m.party a x g in
-    let new = with_end m.party a x in
-    record {
-      ends = λ q o. elim (cases_same q a) [
-        | inl e ↦ let at_a : new q ≡ x = ap new e ∙ with_at m.party a x in
-            subst (λ (z : Endpoint). IsSoundParty new z (new q)) (sym e) (subst (λ (y : Party). IsSoundParty new a y) (sym at_a) (s (subst (λ (y : Party). y.is_open ≡ true) at_a o)))
-        | inr n ↦ let at_q : new q ≡ m.party q = with_other m.party a x q n in
-            subst (λ (y : Party). IsSoundParty new q y) (sym at_q) (IsSound-grows m.party new all q (m.party q) (h.ends q (subst (λ (y : Party). y.is_open ≡ true) at_q o)))
-      ];
-      attested = λ d i o. elim (Contains-append_cases m.sent added d i) [
-        | inl old ↦ Attests-grows (m.party d.from) (new d.from) (all.grows d.from) d.to d.packet (h.attested d old o)
-        | inr fresh ↦ t d fresh o
-      ];
-    }
+  -- the end at a became x, and these messages were added
+  pub kept : (m : Machine) (a : Endpoint) (x : Party) (added : List Message) → Holds network m →
+      ((m.party a).is_open ≡ true → Grows (m.party a) x) →
+      (x.is_open ≡ true → IsSoundParty network (with_end m.party a x) a x) →
+      ((d : Message) → Contains added d → network.host_of d.from ≢ Elsewhere → Attests (with_end m.party a x d.from) d.to d.packet) →
+      Holds network (record { sent = m.sent ++ added; party = with_end m.party a x })
+  kept m a x added h g s t =
+      let all = AllGrow-with m.party a x g in
+      let new = with_end m.party a x in
+      record {
+        ends = λ q o. elim (cases_same q a) [
+          | inl e ↦ let at_a : new q ≡ x = ap new e ∙ with_at m.party a x in
+              subst (λ (z : Endpoint). IsSoundParty network new z (new q)) (sym e) (subst (λ (y : Party). IsSoundParty network new a y) (sym at_a) (s (subst (λ (y : Party). y.is_open ≡ true) at_a o)))
+          | inr n ↦ let at_q : new q ≡ m.party q = with_other m.party a x q n in
+              subst (λ (y : Party). IsSoundParty network new q y) (sym at_q) (IsSound-grows m.party new all q (m.party q) (h.ends q (subst (λ (y : Party). y.is_open ≡ true) at_q o)))
+        ];
+        attested = λ d i o. elim (Contains-append_cases m.sent added d i) [
+          | inl old ↦ Attests-grows (m.party d.from) (new d.from) (all.grows d.from) d.to d.packet (h.attested d old o)
+          | inr fresh ↦ t d fresh o
+        ];
+      }

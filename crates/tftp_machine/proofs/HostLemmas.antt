@@ -2,7 +2,8 @@
 use Rattle.std.proofs.Common.{◌≡◌, Bool, true, false, sym, refl, ap, ◌∙◌}
 use Rattle.std.specs.Prelude.{◌&&◌, ◌↔◌, IsTrue, not, if◌then◌else◌}
 use Rattle.std.proofs.lemmas.Bool.{true≢false}
-use Rattle.tftp_machine.specs.Machine.{Endpoint, Host, At_server, At_client, Elsewhere, host_of, server_ip, client_ip, is_same_ip}
+use Rattle.tftp_machine.specs.Hosts.{host_of, server_ip, client_ip}
+use Rattle.tftp_machine.specs.Machine.{Endpoint, Host, At_server, At_client, Elsewhere, is_same_ip}
 
 -- the host of an endpoint, by whether its address is the server's or the clients'
 host_by : (a : Endpoint) (s c : Bool) → is_same_ip a.ip server_ip ≡ s → is_same_ip a.ip client_ip ≡ c → host_of a ≡ (if s then At_server else if c then At_client else Elsewhere)

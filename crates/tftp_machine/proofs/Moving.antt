@@ -4,7 +4,7 @@ use Rattle.std.specs.Prelude.{◌≢◌, nat_lt}
 use Rattle.std.specs.List.{Contains}
 use Rattle.std.proofs.lemmas.Bool.{true≢false, cases_Bool, ltb-true, ltb-false}
 use Rattle.tftp_file.specs.Block.{block_count, IsBeginningOf}
-use Rattle.tftp_machine.specs.Machine.{Endpoint, Elsewhere, host_of, Data, Ack, Message, Party, Machine, with_end}
+use Rattle.tftp_machine.specs.Machine.{Endpoint, Elsewhere, Data, Ack, Message, Party, Machine, with_end, Network}
 use Rattle.tftp_machine.specs.Rules.{Fails, message, IsLive, IsNext, IsAcked, after}
 use Rattle.tftp_machine.specs.Facts.{Attests, HasReceived, Holds}
 use Rattle.tftp_machine.proofs.Grows.{Grows, Grows-same, AllGrow-with, HasReceived-grows, IsSound-grows, kept}
@@ -38,127 +38,128 @@ received_failed x y piece n q = record {
   room = λ _. q.room;
 }
 
--- a receiver becomes x, with this part of its peer's text
-pub receives : (m : Machine) → Holds m → (at peer : Endpoint) (bytes : List ℕ) → IsNext m.sent (m.party at) at peer bytes → (x : Party) → Moves (m.party at) x → (m.party at).number ≤ x.number →
-    ((y : Party) → GoesOn (m.party at) y bytes → HasReceived x y) →
-    (added : List Message) →
-    ((d : Message) → Contains added d → host_of d.from ≢ Elsewhere → Attests (with_end m.party at x d.from) d.to d.packet) →
-    Holds (record { sent = m.sent ++ added; party = with_end m.party at x })
-receives m h at peer bytes g x v up f added attested =
-    let old = m.party at in
-    let grows : old.is_open ≡ true → Grows old x = λ o. record {
-      is_open = v.is_open ∙ o;
-      client = v.client;
-      sender = v.sender;
-      plain = v.plain;
-      mode = v.mode;
-      peer = λ p e. v.peer ∙ e;
-      size = λ p e. v.size;
-      number = up;
-      done = λ d. absurd (true≢false (sym d ∙ g.0.1));
-      text = λ s. absurd (true≢false (sym s ∙ g.1));
-    } in
-    let all = AllGrow-with m.party at x grows in
-    let new = with_end m.party at x in
-    let has : x.peer ≡ Some peer = v.peer ∙ g.2 in
-    let receiver : x.sender ≡ false = v.sender ∙ g.1 in
-    kept m at x added h grows
-    (λ _. IsSound-moves new at old x v (IsSound-grows m.party new all at old (h.ends at g.0.0))
-    (λ e. absurd (let k : Some peer ≡ None = sym has ∙ e in cc))
-    (λ c s b n p e o. absurd (true≢false (sym s ∙ receiver)))
-    (λ s p e o.
-    let same : peer ≡ p = (let k : Some peer ≡ Some p = sym has ∙ e in cc) in
-    let t = h.attested (message peer at (Data (old.number + 1) bytes)) g.3 (rw same o) in
-    subst (λ (q : Endpoint). HasReceived x (new q)) same
-    (HasReceived-grows x (m.party peer) (new peer) (all.grows peer t.is_open) t.sender (f (m.party peer) (next_block m h at peer bytes g (rw same o)))))
-    (λ s d p e o. absurd (true≢false (sym s ∙ receiver))))
-    attested
+module _ (network : Network) where
+  -- a receiver becomes x, with this part of its peer's text
+  pub receives : (m : Machine) → Holds network m → (at peer : Endpoint) (bytes : List ℕ) → IsNext m.sent (m.party at) at peer bytes → (x : Party) → Moves (m.party at) x → (m.party at).number ≤ x.number →
+      ((y : Party) → GoesOn (m.party at) y bytes → HasReceived x y) →
+      (added : List Message) →
+      ((d : Message) → Contains added d → network.host_of d.from ≢ Elsewhere → Attests (with_end m.party at x d.from) d.to d.packet) →
+      Holds network (record { sent = m.sent ++ added; party = with_end m.party at x })
+  receives m h at peer bytes g x v up f added attested =
+      let old = m.party at in
+      let grows : old.is_open ≡ true → Grows old x = λ o. record {
+        is_open = v.is_open ∙ o;
+        client = v.client;
+        sender = v.sender;
+        plain = v.plain;
+        mode = v.mode;
+        peer = λ p e. v.peer ∙ e;
+        size = λ p e. v.size;
+        number = up;
+        done = λ d. absurd (true≢false (sym d ∙ g.0.1));
+        text = λ s. absurd (true≢false (sym s ∙ g.1));
+      } in
+      let all = AllGrow-with m.party at x grows in
+      let new = with_end m.party at x in
+      let has : x.peer ≡ Some peer = v.peer ∙ g.2 in
+      let receiver : x.sender ≡ false = v.sender ∙ g.1 in
+      kept network m at x added h grows
+      (λ _. IsSound-moves network new at old x v (IsSound-grows network m.party new all at old (h.ends at g.0.0))
+      (λ e. absurd (let k : Some peer ≡ None = sym has ∙ e in cc))
+      (λ c s b n p e o. absurd (true≢false (sym s ∙ receiver)))
+      (λ s p e o.
+      let same : peer ≡ p = (let k : Some peer ≡ Some p = sym has ∙ e in cc) in
+      let t = h.attested (message peer at (Data (old.number + 1) bytes)) g.3 (rw same o) in
+      subst (λ (q : Endpoint). HasReceived x (new q)) same
+      (HasReceived-grows x (m.party peer) (new peer) (all.grows peer t.is_open) t.sender (f (m.party peer) (next_block network m h at peer bytes g (rw same o)))))
+      (λ s d p e o. absurd (true≢false (sym s ∙ receiver))))
+      attested
 
--- a sender with its newest block acknowledged becomes x
-pub sends : (m : Machine) → Holds m → (at peer : Endpoint) → IsAcked m.sent (m.party at) at peer → (x : Party) → Moves (m.party at) x → (m.party at).number ≤ x.number → x.text ≡ (m.party at).text →
-    (x.done ≡ true → host_of peer ≢ Elsewhere → (m.party peer).done ≡ true) →
-    (added : List Message) →
-    ((d : Message) → Contains added d → host_of d.from ≢ Elsewhere → Attests (with_end m.party at x d.from) d.to d.packet) →
-    Holds (record { sent = m.sent ++ added; party = with_end m.party at x })
-sends m h at peer g x v up t ends added attested =
-    let old = m.party at in
-    let grows : old.is_open ≡ true → Grows old x = λ o. record {
-      is_open = v.is_open ∙ o;
-      client = v.client;
-      sender = v.sender;
-      plain = v.plain;
-      mode = v.mode;
-      peer = λ p e. v.peer ∙ e;
-      size = λ p e. v.size;
-      number = up;
-      done = λ d. absurd (true≢false (sym d ∙ g.0.1));
-      text = λ _. t;
-    } in
-    let all = AllGrow-with m.party at x grows in
-    let new = with_end m.party at x in
-    let has : x.peer ≡ Some peer = v.peer ∙ g.2 in
-    let sender : x.sender ≡ true = v.sender ∙ g.1 in
-    let decoded : host_of peer ≢ Elsewhere → Attests (m.party peer) at (Ack old.number) = h.attested (message peer at (Ack old.number)) g.3 in
-    let back : host_of peer ≢ Elsewhere → (new peer).peer ≡ Some at = λ o. let k = decoded o in (all.grows peer k.is_open).peer at k.peer in
-    kept m at x added h grows
-    (λ _. IsSound-moves new at old x v (IsSound-grows m.party new all at old (h.ends at g.0.0))
-    (λ e. absurd (let k : Some peer ≡ None = sym has ∙ e in cc))
-    (λ c s b n p e o. let same : peer ≡ p = (let k : Some peer ≡ Some p = sym has ∙ e in cc) in
-    subst (λ (q : Endpoint). (new q).peer ≡ Some at) same (back (rw same o)))
-    (λ s p e o. absurd (true≢false (sym sender ∙ s)))
-    (λ s d p e o. let same : peer ≡ p = (let k : Some peer ≡ Some p = sym has ∙ e in cc) in
-    let own : host_of peer ≢ Elsewhere = rw same o in
-    subst (λ (q : Endpoint). ((new q).peer ≡ Some at) × ((new q).done ≡ true)) same
-    (back own, (all.grows peer (decoded own).is_open).done (ends d own))))
-    attested
+  -- a sender with its newest block acknowledged becomes x
+  pub sends : (m : Machine) → Holds network m → (at peer : Endpoint) → IsAcked m.sent (m.party at) at peer → (x : Party) → Moves (m.party at) x → (m.party at).number ≤ x.number → x.text ≡ (m.party at).text →
+      (x.done ≡ true → network.host_of peer ≢ Elsewhere → (m.party peer).done ≡ true) →
+      (added : List Message) →
+      ((d : Message) → Contains added d → network.host_of d.from ≢ Elsewhere → Attests (with_end m.party at x d.from) d.to d.packet) →
+      Holds network (record { sent = m.sent ++ added; party = with_end m.party at x })
+  sends m h at peer g x v up t ends added attested =
+      let old = m.party at in
+      let grows : old.is_open ≡ true → Grows old x = λ o. record {
+        is_open = v.is_open ∙ o;
+        client = v.client;
+        sender = v.sender;
+        plain = v.plain;
+        mode = v.mode;
+        peer = λ p e. v.peer ∙ e;
+        size = λ p e. v.size;
+        number = up;
+        done = λ d. absurd (true≢false (sym d ∙ g.0.1));
+        text = λ _. t;
+      } in
+      let all = AllGrow-with m.party at x grows in
+      let new = with_end m.party at x in
+      let has : x.peer ≡ Some peer = v.peer ∙ g.2 in
+      let sender : x.sender ≡ true = v.sender ∙ g.1 in
+      let decoded : network.host_of peer ≢ Elsewhere → Attests (m.party peer) at (Ack old.number) = h.attested (message peer at (Ack old.number)) g.3 in
+      let back : network.host_of peer ≢ Elsewhere → (new peer).peer ≡ Some at = λ o. let k = decoded o in (all.grows peer k.is_open).peer at k.peer in
+      kept network m at x added h grows
+      (λ _. IsSound-moves network new at old x v (IsSound-grows network m.party new all at old (h.ends at g.0.0))
+      (λ e. absurd (let k : Some peer ≡ None = sym has ∙ e in cc))
+      (λ c s b n p e o. let same : peer ≡ p = (let k : Some peer ≡ Some p = sym has ∙ e in cc) in
+      subst (λ (q : Endpoint). (new q).peer ≡ Some at) same (back (rw same o)))
+      (λ s p e o. absurd (true≢false (sym sender ∙ s)))
+      (λ s d p e o. let same : peer ≡ p = (let k : Some peer ≡ Some p = sym has ∙ e in cc) in
+      let own : network.host_of peer ≢ Elsewhere = rw same o in
+      subst (λ (q : Endpoint). ((new q).peer ≡ Some at) × ((new q).done ≡ true)) same
+      (back own, (all.grows peer (decoded own).is_open).done (ends d own))))
+      attested
 
--- the peer of a sender whose last block is acknowledged is done
-pub last_acked : (m : Machine) → Holds m → (at peer : Endpoint) → IsAcked m.sent (m.party at) at peer → (m.party at).number ≡ block_count (m.party at).text (m.party at).size → host_of peer ≢ Elsewhere → (m.party peer).done ≡ true
-last_acked m h at peer g n o =
-    let x = m.party at in
-    let y = m.party peer in
-    let t = h.attested (message peer at (Ack x.number)) g.3 o in
-    let s = h.ends peer t.is_open in
-    let same = same_size m h at peer (g.0.0, t.is_open, g.2, t.peer) in
-    elim (cases_Bool y.done) [
-      | inl d ↦ d
-      | inr d ↦ absurd (let room = (s.received t.sender at t.peer (own_of m h at g.0.0)).room d in
-          let past = count_is_past x.text y.number y.size s.positive (rw (← same, ← n) t.number) in
-          omega arith)
-    ]
+  -- the peer of a sender whose last block is acknowledged is done
+  pub last_acked : (m : Machine) → Holds network m → (at peer : Endpoint) → IsAcked m.sent (m.party at) at peer → (m.party at).number ≡ block_count (m.party at).text (m.party at).size → network.host_of peer ≢ Elsewhere → (m.party peer).done ≡ true
+  last_acked m h at peer g n o =
+      let x = m.party at in
+      let y = m.party peer in
+      let t = h.attested (message peer at (Ack x.number)) g.3 o in
+      let s = h.ends peer t.is_open in
+      let same = same_size network m h at peer (g.0.0, t.is_open, g.2, t.peer) in
+      elim (cases_Bool y.done) [
+        | inl d ↦ d
+        | inr d ↦ absurd (let room = (s.received t.sender at t.peer (own_of network m h at g.0.0)).room d in
+            let past = count_is_past x.text y.number y.size s.positive (rw (← same, ← n) t.number) in
+            omega arith)
+      ]
 
--- an end that is neither done nor failed fails
-pub fails : (m : Machine) → Holds m → (at : Endpoint) → IsLive (m.party at) → Holds (after (Fails at) m)
-fails m h at g =
-    let old = m.party at in
-    let x = record old { failed = true } in
-    let v : Moves old x = record { is_open = refl; client = refl; sender = refl; plain = refl; mode = refl; peer = refl; size = refl } in
-    let grows : old.is_open ≡ true → Grows old x = λ o. record {
-      is_open = o;
-      client = refl;
-      sender = refl;
-      plain = refl;
-      mode = refl;
-      peer = λ p e. e;
-      size = λ p e. refl;
-      number = omega arith;
-      done = λ d. d;
-      text = λ _. refl;
-    } in
-    let all = AllGrow-with m.party at x grows in
-    let new = with_end m.party at x in
-    let s = IsSound-grows m.party new all at old (h.ends at g.0) in
-    kept m at x [] h grows
-    (λ _. IsSound-moves new at old x v s s.no_peer s.begun
-    (λ e p b o. let r = s.received e p b o in record { beginning = r.beginning; whole = r.whole; so_far = λ _ f. absurd (true≢false f); room = r.room })
-    s.ended)
-    (attested_none new)
+  -- an end that is neither done nor failed fails
+  pub fails : (m : Machine) → Holds network m → (at : Endpoint) → IsLive (m.party at) → Holds network (after network (Fails at) m)
+  fails m h at g =
+      let old = m.party at in
+      let x = record old { failed = true } in
+      let v : Moves old x = record { is_open = refl; client = refl; sender = refl; plain = refl; mode = refl; peer = refl; size = refl } in
+      let grows : old.is_open ≡ true → Grows old x = λ o. record {
+        is_open = o;
+        client = refl;
+        sender = refl;
+        plain = refl;
+        mode = refl;
+        peer = λ p e. e;
+        size = λ p e. refl;
+        number = omega arith;
+        done = λ d. d;
+        text = λ _. refl;
+      } in
+      let all = AllGrow-with m.party at x grows in
+      let new = with_end m.party at x in
+      let s = IsSound-grows network m.party new all at old (h.ends at g.0) in
+      kept network m at x [] h grows
+      (λ _. IsSound-moves network new at old x v s s.no_peer s.begun
+      (λ e p b o. let r = s.received e p b o in record { beginning = r.beginning; whole = r.whole; so_far = λ _ f. absurd (true≢false f); room = r.room })
+      s.ended)
+      (attested_none network new)
 
--- only the datagrams sent change
-pub says : (m : Machine) → Holds m → (d : Message) → (host_of d.from ≢ Elsewhere → Attests (m.party d.from) d.to d.packet) → Holds (record { sent = m.sent ++ d ∷ []; party = with_end m.party d.from (m.party d.from) })
-says m h d t =
-    let at = d.from in
-    let x = m.party at in
-    let all = AllGrow-with m.party at x (Grows-same x) in
-    kept m at x (d ∷ []) h (Grows-same x) (λ o. IsSound-grows m.party (with_end m.party at x) all at x (h.ends at o))
-    (one_sent (λ e. host_of e.from ≢ Elsewhere → Attests (with_end m.party at x e.from) e.to e.packet) d (λ o. attested_at m.party at x d.to d.packet (t o)))
+  -- only the datagrams sent change
+  pub says : (m : Machine) → Holds network m → (d : Message) → (network.host_of d.from ≢ Elsewhere → Attests (m.party d.from) d.to d.packet) → Holds network (record { sent = m.sent ++ d ∷ []; party = with_end m.party d.from (m.party d.from) })
+  says m h d t =
+      let at = d.from in
+      let x = m.party at in
+      let all = AllGrow-with m.party at x (Grows-same x) in
+      kept network m at x (d ∷ []) h (Grows-same x) (λ o. IsSound-grows network m.party (with_end m.party at x) all at x (h.ends at o))
+      (one_sent (λ e. network.host_of e.from ≢ Elsewhere → Attests (with_end m.party at x e.from) e.to e.packet) d (λ o. attested_at m.party at x d.to d.packet (t o)))

@@ -2,7 +2,7 @@
 use Rattle.std.proofs.Common.{◌≡◌, true, List, [], ◌∷◌, ◌++◌, Option, Some, None, sym, refl, ◌∙◌}
 use Rattle.std.specs.Prelude.{◌≢◌}
 use Rattle.std.proofs.lemmas.Bool.{true≢false}
-use Rattle.tftp_machine.specs.Machine.{Endpoint, Elsewhere, host_of, Machine, start}
+use Rattle.tftp_machine.specs.Machine.{Endpoint, Elsewhere, Machine, start, Network}
 use Rattle.tftp_machine.specs.Rules.{Rule, IsLegal, run, after}
 use Rattle.tftp_machine.specs.Facts.{Attests, Holds}
 use Rattle.tftp_machine.specs.MachineSafety.{IsSafeMachine}
@@ -10,41 +10,42 @@ use Rattle.tftp_machine.proofs.Grows.{peer_of}
 use Rattle.tftp_machine.proofs.Steps.{none_sent, same_size}
 use Rattle.tftp_machine.proofs.Keeps.{keeps}
 
-pub Holds-start : Holds start
-Holds-start = record {
-  ends = λ a o. absurd (true≢false (sym o));
-  attested = none_sent (λ d. host_of d.from ≢ Elsewhere → Attests (start.party d.from) d.to d.packet);
-}
+module _ (network : Network) where
+  pub Holds-start : Holds network start
+  Holds-start = record {
+    ends = λ a o. absurd (true≢false (sym o));
+    attested = none_sent (λ d. network.host_of d.from ≢ Elsewhere → Attests (start.party d.from) d.to d.packet);
+  }
 
-pub Holds-run : (rules : List Rule) (m : Machine) → Holds m → IsLegal rules m → Holds (run rules m)
-Holds-run [] m h g = h
-Holds-run (r ∷ rules) m h g = Holds-run rules (after r m) (keeps r m h g.0) g.2
+  pub Holds-run : (rules : List Rule) (m : Machine) → Holds network m → IsLegal network rules m → Holds network (run network rules m)
+  Holds-run [] m h g = h
+  Holds-run (r ∷ rules) m h g = Holds-run rules (after network r m) (keeps network r m h g.0) g.2
 
--- rules after rules
-pub run_then : (rs qs : List Rule) (m : Machine) → run (rs ++ qs) m ≡ run qs (run rs m)
-run_then [] qs m = refl
-run_then (r ∷ rs) qs m = run_then rs qs (after r m)
+  -- rules after rules
+  pub run_then : (rs qs : List Rule) (m : Machine) → run network (rs ++ qs) m ≡ run network qs (run network rs m)
+  run_then [] qs m = refl
+  run_then (r ∷ rs) qs m = run_then rs qs (after network r m)
 
-pub legal_then : (rs qs : List Rule) (m : Machine) → IsLegal rs m → IsLegal qs (run rs m) → IsLegal (rs ++ qs) m
-legal_then [] qs m g h = h
-legal_then (r ∷ rs) qs m g h = (g.0, g.1, legal_then rs qs (after r m) g.2 h)
+  pub legal_then : (rs qs : List Rule) (m : Machine) → IsLegal network rs m → IsLegal network qs (run network rs m) → IsLegal network (rs ++ qs) m
+  legal_then [] qs m g h = h
+  legal_then (r ∷ rs) qs m g h = (g.0, g.1, legal_then rs qs (after network r m) g.2 h)
 
-pub some_peer : (m : Machine) → Holds m → (x : Endpoint) → (m.party x).is_open ≡ true → (m.party x).done ≡ true → (o : Option Endpoint) → (m.party x).peer ≡ o → (y : Endpoint) × ((m.party x).peer ≡ Some y)
-some_peer m h x o d None e = absurd (true≢false (sym d ∙ ((h.ends x o).no_peer e).1))
-some_peer m h x o d (Some y) e = (y, e)
+  pub some_peer : (m : Machine) → Holds network m → (x : Endpoint) → (m.party x).is_open ≡ true → (m.party x).done ≡ true → (o : Option Endpoint) → (m.party x).peer ≡ o → (y : Endpoint) × ((m.party x).peer ≡ Some y)
+  some_peer m h x o d None e = absurd (true≢false (sym d ∙ ((h.ends x o).no_peer e).1))
+  some_peer m h x o d (Some y) e = (y, e)
 
-pub IsSafeMachine-holds : (m : Machine) → Holds m → IsSafeMachine m
-IsSafeMachine-holds m h = record {
-  same_size = same_size m h;
-  is_empty = λ x o s e. ((h.ends x o).no_peer e).2 s;
-  is_beginning = λ x y o s e own.
-      let p = peer_of m.party x (m.party x) (h.ends x o) y e own in
-      (rw s at p.sender, p.mode, ((h.ends x o).received s y e own).beginning);
-  is_whole = λ x o s d.
-      let p = some_peer m h x o d (m.party x).peer refl in
-      (p.0, p.1, λ own. ((h.ends x o).received s p.0 p.1 own).whole d);
-  sender_last = λ x y o s d e own.
-      let p = peer_of m.party x (m.party x) (h.ends x o) y e own in
-      let b = (h.ends x o).ended s d y e own in
-      ((o, p.is_open, e, b.0), b.1);
-}
+  pub IsSafeMachine-holds : (m : Machine) → Holds network m → IsSafeMachine network m
+  IsSafeMachine-holds m h = record {
+    same_size = same_size network m h;
+    is_empty = λ x o s e. ((h.ends x o).no_peer e).2 s;
+    is_beginning = λ x y o s e own.
+        let p = peer_of network m.party x (m.party x) (h.ends x o) y e own in
+        (rw s at p.sender, p.mode, ((h.ends x o).received s y e own).beginning);
+    is_whole = λ x o s d.
+        let p = some_peer m h x o d (m.party x).peer refl in
+        (p.0, p.1, λ own. ((h.ends x o).received s p.0 p.1 own).whole d);
+    sender_last = λ x y o s d e own.
+        let p = peer_of network m.party x (m.party x) (h.ends x o) y e own in
+        let b = (h.ends x o).ended s d y e own in
+        ((o, p.is_open, e, b.0), b.1);
+  }

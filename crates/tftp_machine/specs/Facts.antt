@@ -4,11 +4,11 @@ use Rattle.std.specs.Prelude.{None, Some}
 use Rattle.std.specs.List.{Contains}
 use Rattle.tftp_negotiate.specs.declared.limits.TheConstants.{DEFAULT_BLOCK}
 use Rattle.tftp_file.specs.Block.{block, IsBeginningOf}
-use Rattle.tftp_machine.specs.Machine.{Endpoint, Host, At_server, At_client, Elsewhere, host_of}
+use Rattle.tftp_machine.specs.Machine.{Endpoint, Host, At_server, At_client, Elsewhere}
 use Rattle.tftp_machine.specs.Machine.{Packet, Request, Data, Ack, Oack, Error, Message, Party}
-use Rattle.tftp_machine.specs.Machine.{Machine}
+use Rattle.tftp_machine.specs.Machine.{Machine, Network}
 
--- the host of a client's end, and of a server's
+-- where a client's end is, and a server's
 abbrev pub home : Bool → Host
 home true = At_client
 home false = At_server
@@ -72,35 +72,38 @@ pub record HasReceived (x y : Party) : Type 0 where
   pub so_far : x.done ≡ false → x.failed ≡ false → x.text ≡ take (x.number * x.size) y.text
   pub room : x.done ≡ false → x.number * x.size ≤ length y.text
 
--- what holds of the open end x at this endpoint; of a peer at neither host nothing is known
-pub record IsSoundParty (ends : Endpoint → Party) (a : Endpoint) (x : Party) : Type 0 where
-  -- its address is that of its kind
-  pub at_home : host_of a ≡ home x.client
-  pub positive : 0 < x.size
-  -- without a peer the transfer has not begun
-  pub no_peer : x.peer ≡ None → (x.number ≡ 0) × (x.done ≡ false) × (x.sender ≡ false → x.text ≡ [])
-  -- a client's peer is an end of the server that serves it
-  pub serving : x.client ≡ true → (p : Endpoint) → x.peer ≡ Some p →
-      (host_of p ≡ At_server) × IsServing a x (ends p)
-  -- an end of the server has a peer
-  pub has_peer : x.client ≡ false → (p : Endpoint) × (x.peer ≡ Some p)
-  -- and the peer is a client that sent the request
-  pub asked : x.client ≡ false → (p : Endpoint) → x.peer ≡ Some p → host_of p ≢ Elsewhere →
-      HasAsked x (ends p)
-  -- an end that was opened without options has blocks of 512 bytes
-  pub plain : x.client ≡ false → x.plain ≡ true → x.size ≡ DEFAULT_BLOCK
-  -- a server's sender that was opened with options begins after its peer has it as its own peer
-  pub begun : x.client ≡ false → x.sender ≡ true → x.plain ≡ false → 1 ≤ x.number →
-      (p : Endpoint) → x.peer ≡ Some p → host_of p ≢ Elsewhere → (ends p).peer ≡ Some a
-  -- a receiver has blocks of its peer's text
-  pub received : x.sender ≡ false → (p : Endpoint) → x.peer ≡ Some p → host_of p ≢ Elsewhere →
-      HasReceived x (ends p)
-  -- the peer of a sender that is done has it as its own peer, and is done
-  pub ended : x.sender ≡ true → x.done ≡ true → (p : Endpoint) → x.peer ≡ Some p →
-      host_of p ≢ Elsewhere → ((ends p).peer ≡ Some a) × ((ends p).done ≡ true)
+module _ (network : Network) where
+  -- what holds of the open end x at this endpoint; of a peer elsewhere nothing is known
+  pub record IsSoundParty (ends : Endpoint → Party) (a : Endpoint) (x : Party) : Type 0 where
+    -- its address is that of its kind
+    pub at_home : network.host_of a ≡ home x.client
+    pub positive : 0 < x.size
+    -- without a peer the transfer has not begun
+    pub no_peer : x.peer ≡ None →
+        (x.number ≡ 0) × (x.done ≡ false) × (x.sender ≡ false → x.text ≡ [])
+    -- a client's peer is an end of the server that serves it
+    pub serving : x.client ≡ true → (p : Endpoint) → x.peer ≡ Some p →
+        (network.host_of p ≡ At_server) × IsServing a x (ends p)
+    -- an end of the server has a peer
+    pub has_peer : x.client ≡ false → (p : Endpoint) × (x.peer ≡ Some p)
+    -- and the peer is a client that sent the request
+    pub asked : x.client ≡ false → (p : Endpoint) → x.peer ≡ Some p →
+        network.host_of p ≢ Elsewhere → HasAsked x (ends p)
+    -- an end that was opened without options has blocks of 512 bytes
+    pub plain : x.client ≡ false → x.plain ≡ true → x.size ≡ DEFAULT_BLOCK
+    -- a server's sender that was opened with options begins after its peer has it as its own peer
+    pub begun : x.client ≡ false → x.sender ≡ true → x.plain ≡ false → 1 ≤ x.number →
+        (p : Endpoint) → x.peer ≡ Some p → network.host_of p ≢ Elsewhere → (ends p).peer ≡ Some a
+    -- a receiver has blocks of its peer's text
+    pub received : x.sender ≡ false → (p : Endpoint) → x.peer ≡ Some p →
+        network.host_of p ≢ Elsewhere → HasReceived x (ends p)
+    -- the peer of a sender that is done has it as its own peer, and is done
+    pub ended : x.sender ≡ true → x.done ≡ true → (p : Endpoint) → x.peer ≡ Some p →
+        network.host_of p ≢ Elsewhere → ((ends p).peer ≡ Some a) × ((ends p).done ≡ true)
 
--- every open end is sound, and every datagram from the two hosts is true of its sender
-pub record Holds (m : Machine) : Type 0 where
-  pub ends : (a : Endpoint) → (m.party a).is_open ≡ true → IsSoundParty m.party a (m.party a)
-  pub attested : (d : Message) → Contains m.sent d → host_of d.from ≢ Elsewhere →
-      Attests (m.party d.from) d.to d.packet
+  -- every open end is sound, and every datagram of the server and its clients is true of its
+  -- sender
+  pub record Holds (m : Machine) : Type 0 where
+    pub ends : (a : Endpoint) → (m.party a).is_open ≡ true → IsSoundParty m.party a (m.party a)
+    pub attested : (d : Message) → Contains m.sent d → network.host_of d.from ≢ Elsewhere →
+        Attests (m.party d.from) d.to d.packet

@@ -1,4 +1,5 @@
 pub mod Machine
+pub mod Hosts
 pub mod Rules
 pub mod MachineSafety
 pub mod Facts

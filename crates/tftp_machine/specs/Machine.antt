@@ -1,5 +1,5 @@
 -- The guarded machine: the datagrams that were ever sent, and the ends of all transfers.
-use Rattle.std.specs.Prelude.{ℕ, ◌==◌, nat_eq, if◌then◌else◌, Bool, false, List, [], ◌∷◌, Option}
+use Rattle.std.specs.Prelude.{ℕ, ◌==◌, nat_eq, if◌then◌else◌, Bool, false, List, [], Option}
 use Rattle.std.specs.Prelude.{None}
 use Rattle.std.specs.Cmp.Lexicographic.{pointwise}
 use Rattle.tftp_negotiate.specs.declared.limits.TheConstants.{DEFAULT_BLOCK}
@@ -16,33 +16,16 @@ is_same_ip a b = pointwise nat_eq a b
 abbrev pub is_same : Endpoint → Endpoint → Bool
 is_same a b = if is_same_ip a.ip b.ip then a.port == b.port else false
 
--- the hosts: one server, one that the clients share, and any other
+-- where an endpoint is: at the server, at a client, or elsewhere
 pub data Host : Type 0 where
   At_server : Host
   At_client : Host
   Elsewhere : Host
 
--- 10.0.0.1
-abbrev pub server_ip : List ℕ
-server_ip = 10 ∷ 0 ∷ 0 ∷ 1 ∷ []
-
--- 10.0.0.2
-abbrev pub client_ip : List ℕ
-client_ip = 10 ∷ 0 ∷ 0 ∷ 2 ∷ []
-
--- the host of this address
-abbrev pub host_at : List ℕ → Host
-host_at ip =
-    if is_same_ip ip server_ip then At_server
-    else if is_same_ip ip client_ip then At_client else Elsewhere
-
--- the host of this endpoint
-unfoldable pub host_of : Endpoint → Host
-host_of e = host_at e.ip
-
--- the server's request port (RFC 1350, section 4)
-abbrev pub request_port : Endpoint
-request_port = record { ip = server_ip; port = 69 }
+-- a network: where each endpoint is, and the server's request port (RFC 1350, section 4)
+pub record Network : Type 0 where
+  pub host_of : Endpoint → Host
+  pub request_port : Endpoint
 
 -- the packet of a datagram, as the machine models it: the whole request, and the block size of an
 -- OACK

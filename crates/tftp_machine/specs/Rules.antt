@@ -5,9 +5,9 @@ use Rattle.std.specs.List.{Contains}
 use Rattle.tftp_negotiate.specs.declared.limits.TheConstants.{DEFAULT_BLOCK}
 use Rattle.tftp_wire.specs.declared.packet.Request.{Request as WireRequest}
 use Rattle.tftp_file.specs.Block.{block, block_count, Fits}
-use Rattle.tftp_machine.specs.Machine.{Endpoint, At_server, At_client, Elsewhere, host_of}
-use Rattle.tftp_machine.specs.Machine.{request_port, Packet, Request, Data, Ack, Oack, Error}
-use Rattle.tftp_machine.specs.Machine.{Message, Party, nobody, Machine, with_end}
+use Rattle.tftp_machine.specs.Machine.{Endpoint, At_server, At_client, Elsewhere}
+use Rattle.tftp_machine.specs.Machine.{Packet, Request, Data, Ack, Oack, Error}
+use Rattle.tftp_machine.specs.Machine.{Message, Party, nobody, Machine, with_end, Network}
 pub use Rattle.tftp_machine.specs.Machine.{start}
 
 -- the rules: `at` is the endpoint of the acting end, and `peer` that of the other end
@@ -41,7 +41,7 @@ pub data Rule : Type 0 where
   Says_error : (at to : Endpoint) → Rule
   -- a datagram is repeated
   Repeats : Message → Rule
-  -- another host sends any datagram
+  -- any datagram is sent from elsewhere
   Strays : Message → Rule
 
 -- a datagram
@@ -51,10 +51,6 @@ message from to packet = record { from = from; to = to; packet = packet }
 -- open, and neither done nor failed
 abbrev pub IsLive : Party → Type 0
 IsLive x = (x.is_open ≡ true) × (x.done ≡ false) × (x.failed ≡ false)
-
--- a client that waits for its first answer, from any port of the server
-abbrev pub Waits : Party → Endpoint → Type 0
-Waits x peer = IsLive x × (x.client ≡ true) × (x.peer ≡ None) × (host_of peer ≡ At_server)
 
 -- the next block of the receiver x was sent to it
 abbrev pub IsNext : List Message → Party → Endpoint → Endpoint → List ℕ → Type 0
@@ -72,35 +68,6 @@ IsAcked sent x at peer =
 abbrev pub HasText : Bool → List ℕ → ℕ → Type 0
 HasText true text size = text ≡ []
 HasText false text size = Fits text size
-
--- when the rule may act, by the datagrams sent and the acting end x
-abbrev pub MayAct : Rule → List Message → Party → Type 0
-MayAct (Asks at write request text) sent x =
-    (x.is_open ≡ false) × (host_of at ≡ At_client) × (write ≡ false → text ≡ [])
-MayAct (Opens_plainly at peer write request text) sent x =
-    (x.is_open ≡ false) × (host_of at ≡ At_server)
-    × Contains sent (message peer request_port (Request write request))
-    × HasText write text DEFAULT_BLOCK
-MayAct (Opens_with at peer write request text size) sent x =
-    (x.is_open ≡ false) × (host_of at ≡ At_server)
-    × Contains sent (message peer request_port (Request write request)) × HasText write text size
-    × (0 < size)
-MayAct (Takes_oack at peer size) sent x =
-    Waits x peer × Contains sent (message peer at (Oack size))
-    × (x.sender ≡ true → Fits x.text size)
-MayAct (Takes_ack at peer) sent x =
-    Waits x peer × (x.sender ≡ true) × Contains sent (message peer at (Ack 0))
-    × Fits x.text DEFAULT_BLOCK
-MayAct (Takes_data at peer bytes) sent x =
-    Waits x peer × (x.sender ≡ false) × Contains sent (message peer at (Data 1 bytes))
-MayAct (Appends at peer bytes) sent x = IsNext sent x at peer bytes
-MayAct (Sends_next at peer) sent x = IsAcked sent x at peer × (x.number < block_count x.text x.size)
-MayAct (Completes at peer) sent x = IsAcked sent x at peer × (x.number ≡ block_count x.text x.size)
-MayAct (Fails at) sent x = IsLive x
-MayAct (Fails_with at peer bytes) sent x = IsNext sent x at peer bytes
-MayAct (Says_error at to) sent x = Unit {0}
-MayAct (Repeats old) sent x = Contains sent old
-MayAct (Strays stray) sent x = host_of stray.from ≡ Elsewhere
 
 -- a client after its request
 abbrev pub asking : Bool → WireRequest → List ℕ → Party
@@ -174,38 +141,6 @@ party_after (Says_error at to) x = x
 party_after (Repeats old) x = x
 party_after (Strays stray) x = x
 
--- the datagrams that the rule sends, if the acting end was x
-abbrev pub packets : Rule → Party → List Message
-packets (Asks at write request text) x = message at request_port (Request write request) ∷ []
-packets (Opens_plainly at peer write request text) x =
-    message at peer (if write then Ack 0 else Data 1 (block text DEFAULT_BLOCK 1)) ∷ []
-packets (Opens_with at peer write request text size) x = message at peer (Oack size) ∷ []
-packets (Takes_oack at peer size) x =
-    message at peer (if x.sender then Data 1 (block x.text size 1) else Ack 0) ∷ []
-packets (Takes_ack at peer) x = message at peer (Data 1 (block x.text DEFAULT_BLOCK 1)) ∷ []
-packets (Takes_data at peer bytes) x = []
-packets (Appends at peer bytes) x = message at peer (Ack (x.number + 1)) ∷ []
-packets (Sends_next at peer) x =
-    message at peer (Data (x.number + 1) (block x.text x.size (x.number + 1))) ∷ []
-packets (Completes at peer) x = []
-packets (Fails at) x = []
-packets (Fails_with at peer bytes) x = []
-packets (Says_error at to) x = message at to Error ∷ []
-packets (Repeats old) x = old ∷ []
-packets (Strays stray) x = stray ∷ []
-
--- when the rule may act in the machine
-abbrev pub Guard : Rule → Machine → Type 0
-Guard r m = MayAct r m.sent (m.party (actor r))
-
--- the machine, after the rule
-abbrev pub after : Rule → Machine → Machine
-after r m =
-    record {
-      sent = m.sent ++ packets r (m.party (actor r));
-      party = with_end m.party (actor r) (party_after r (m.party (actor r)));
-    }
-
 -- this request of this client opened the end
 pub record IsOpenedBy (x : Party) (peer : Endpoint) (write : Bool)
     (request : WireRequest) : Type 0 where
@@ -227,12 +162,81 @@ OpensNoDuplicate (Opens_plainly at peer write request text) m = AreOver m peer w
 OpensNoDuplicate (Opens_with at peer write request text size) m = AreOver m peer write request
 OpensNoDuplicate r m = Unit {0}
 
--- each rule may act in its turn
-abbrev pub IsLegal : List Rule → Machine → Type 0
-IsLegal [] m = Unit {0}
-IsLegal (r ∷ rs) m = Guard r m × OpensNoDuplicate r m × IsLegal rs (after r m)
+module _ (network : Network) where
+  -- a client that waits for its first answer, from any port of the server
+  abbrev pub Waits : Party → Endpoint → Type 0
+  Waits x peer = IsLive x × (x.client ≡ true) × (x.peer ≡ None) × (network.host_of peer ≡ At_server)
 
--- the machine, after the rules
-abbrev pub run : List Rule → Machine → Machine
-run [] m = m
-run (r ∷ rs) m = run rs (after r m)
+  -- when the rule may act, by the datagrams sent and the acting end x
+  abbrev pub MayAct : Rule → List Message → Party → Type 0
+  MayAct (Asks at write request text) sent x =
+      (x.is_open ≡ false) × (network.host_of at ≡ At_client) × (write ≡ false → text ≡ [])
+  MayAct (Opens_plainly at peer write request text) sent x =
+      (x.is_open ≡ false) × (network.host_of at ≡ At_server)
+      × Contains sent (message peer network.request_port (Request write request))
+      × HasText write text DEFAULT_BLOCK
+  MayAct (Opens_with at peer write request text size) sent x =
+      (x.is_open ≡ false) × (network.host_of at ≡ At_server)
+      × Contains sent (message peer network.request_port (Request write request))
+      × HasText write text size × (0 < size)
+  MayAct (Takes_oack at peer size) sent x =
+      Waits x peer × Contains sent (message peer at (Oack size))
+      × (x.sender ≡ true → Fits x.text size)
+  MayAct (Takes_ack at peer) sent x =
+      Waits x peer × (x.sender ≡ true) × Contains sent (message peer at (Ack 0))
+      × Fits x.text DEFAULT_BLOCK
+  MayAct (Takes_data at peer bytes) sent x =
+      Waits x peer × (x.sender ≡ false) × Contains sent (message peer at (Data 1 bytes))
+  MayAct (Appends at peer bytes) sent x = IsNext sent x at peer bytes
+  MayAct (Sends_next at peer) sent x =
+      IsAcked sent x at peer × (x.number < block_count x.text x.size)
+  MayAct (Completes at peer) sent x =
+      IsAcked sent x at peer × (x.number ≡ block_count x.text x.size)
+  MayAct (Fails at) sent x = IsLive x
+  MayAct (Fails_with at peer bytes) sent x = IsNext sent x at peer bytes
+  MayAct (Says_error at to) sent x = Unit {0}
+  MayAct (Repeats old) sent x = Contains sent old
+  MayAct (Strays stray) sent x = network.host_of stray.from ≡ Elsewhere
+
+  -- the datagrams that the rule sends, if the acting end was x
+  abbrev pub packets : Rule → Party → List Message
+  packets (Asks at write request text) x =
+      message at network.request_port (Request write request) ∷ []
+  packets (Opens_plainly at peer write request text) x =
+      message at peer (if write then Ack 0 else Data 1 (block text DEFAULT_BLOCK 1)) ∷ []
+  packets (Opens_with at peer write request text size) x = message at peer (Oack size) ∷ []
+  packets (Takes_oack at peer size) x =
+      message at peer (if x.sender then Data 1 (block x.text size 1) else Ack 0) ∷ []
+  packets (Takes_ack at peer) x = message at peer (Data 1 (block x.text DEFAULT_BLOCK 1)) ∷ []
+  packets (Takes_data at peer bytes) x = []
+  packets (Appends at peer bytes) x = message at peer (Ack (x.number + 1)) ∷ []
+  packets (Sends_next at peer) x =
+      message at peer (Data (x.number + 1) (block x.text x.size (x.number + 1))) ∷ []
+  packets (Completes at peer) x = []
+  packets (Fails at) x = []
+  packets (Fails_with at peer bytes) x = []
+  packets (Says_error at to) x = message at to Error ∷ []
+  packets (Repeats old) x = old ∷ []
+  packets (Strays stray) x = stray ∷ []
+
+  -- when the rule may act in the machine
+  abbrev pub Guard : Rule → Machine → Type 0
+  Guard r m = MayAct r m.sent (m.party (actor r))
+
+  -- the machine, after the rule
+  abbrev pub after : Rule → Machine → Machine
+  after r m =
+      record {
+        sent = m.sent ++ packets r (m.party (actor r));
+        party = with_end m.party (actor r) (party_after r (m.party (actor r)));
+      }
+
+  -- each rule may act in its turn
+  abbrev pub IsLegal : List Rule → Machine → Type 0
+  IsLegal [] m = Unit {0}
+  IsLegal (r ∷ rs) m = Guard r m × OpensNoDuplicate r m × IsLegal rs (after r m)
+
+  -- the machine, after the rules
+  abbrev pub run : List Rule → Machine → Machine
+  run [] m = m
+  run (r ∷ rs) m = run rs (after r m)

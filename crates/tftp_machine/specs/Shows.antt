@@ -1,5 +1,5 @@
 -- Which ends and datagrams the guarded machine shows.
-use Rattle.std.specs.Prelude.{◌≡◌, ℕ, ◌+◌, ◌≤◌, Bool, true, false, not, List, [], ◌∷◌, ◌++◌, length}
+use Rattle.std.specs.Prelude.{◌≡◌, ◌≢◌, ℕ, ◌≤◌, Bool, true, false, not, List, [], ◌∷◌, ◌++◌, length}
 use Rattle.std.specs.Prelude.{slice_get, Option, Some}
 use Rattle.tftp_wire.specs.Spelling.{Spells}
 use Rattle.tftp_wire.specs.declared.mode.Mode.{Mode}
@@ -8,6 +8,7 @@ use Rattle.tftp_wire.specs.declared.packet.Packet.TheVariants.{Read, Write}
 use Rattle.tftp_wire.specs.declared.packet.Request.{Request as WireRequest}
 use Rattle.tftp_file.specs.Block.{IsBeginningOf}
 use Rattle.tftp_machine.specs.Machine.{Endpoint, Message, Party, no_request, Machine, start}
+use Rattle.tftp_machine.specs.Machine.{Network}
 use Rattle.tftp_machine.specs.Rules.{Rule, Asks, Opens_plainly, Opens_with, Says_error, Repeats}
 use Rattle.tftp_machine.specs.Rules.{Strays, actor, MayAct, packets, party_after, IsLegal, run}
 
@@ -93,44 +94,30 @@ answered_by x = requested (not x.sender) x.request
 abbrev pub IsInService : EndView → Type 0
 IsInService e = (e.client ≡ false) × (e.done ≡ false) × (e.failed ≡ false)
 
--- the views, of which that at index k has port 1024 + k, and the messages are those of the machine
+-- no two of the ends are at one endpoint
+abbrev pub AreApart : List EndView → Type 0
+AreApart views =
+    (j k : ℕ) (e f : EndView) → slice_get views j ≡ Some e → slice_get views k ≡ Some f →
+    e.address ≡ f.address → j ≡ k
+
+-- none of the ends is at this endpoint
+abbrev pub NoneAt : List EndView → Endpoint → Type 0
+NoneAt views a = (k : ℕ) (e : EndView) → slice_get views k ≡ Some e → e.address ≢ a
+
+-- the views and the messages are those of the machine
 pub record Shows (views : List EndView) (messages : List Message) (m : Machine) : Type 0 where
   pub sent : m.sent ≡ messages
-  pub ends : (k : ℕ) (e : EndView) → slice_get views k ≡ Some e →
-      Matches e (m.party e.address) × (e.address.port ≡ 1024 + k)
+  pub ends : (k : ℕ) (e : EndView) → slice_get views k ≡ Some e → Matches e (m.party e.address)
+  pub apart : AreApart views
   pub asked : (k : ℕ) (e : EndView) → slice_get views k ≡ Some e → IsInService e →
       Spells (answered_by (m.party e.address)) e.request
   pub only : (a : Endpoint) → (m.party a).is_open ≡ true →
       (k : ℕ) × (e : EndView) × (slice_get views k ≡ Some e) × (e.address ≡ a)
 
--- the rules are legal from the start, and the machine after them shows these
-abbrev pub IsShownAt : List Rule → List EndView → List Message → Type 0
-IsShownAt rules views messages = IsLegal rules start × Shows views messages (run rules start)
-
--- there are such rules
-abbrev pub IsShown : List EndView → List Message → Type 0
-IsShown views messages = (rules : List Rule) × IsShownAt rules views messages
-
--- there are such rules that extend these by at most `most`
-abbrev pub IsShownWithin : ℕ → List Rule → List EndView → List Message → Type 0
-IsShownWithin most rules views messages =
-    (more : List Rule) × (length more ≤ most) × IsShownAt (rules ++ more) views messages
-
--- the rules may act in sequence at the endpoint of the end x, by the datagrams sent before
-abbrev pub ActInTurn : List Rule → Endpoint → List Message → Party → Type 0
-ActInTurn [] at sent x = Unit {0}
-ActInTurn (r ∷ rs) at sent x =
-    (actor r ≡ at) × MayAct r sent x × ActInTurn rs at sent (party_after r x)
-
 -- the end after them
 abbrev pub party_then : List Rule → Party → Party
 party_then [] x = x
 party_then (r ∷ rs) x = party_then rs (party_after r x)
-
--- the datagrams that they send
-abbrev pub sent_by : List Rule → Party → List Message
-sent_by [] x = []
-sent_by (r ∷ rs) x = packets r x ++ sent_by rs (party_after r x)
 
 -- the rule opens an end
 abbrev pub Opens : Rule → Type 0
@@ -165,3 +152,29 @@ AsksUnanswered (Opens_plainly at peer write request text) bytes views =
 AsksUnanswered (Opens_with at peer write request text size) bytes views =
     Spells (requested write request) bytes × NoneAnswers views peer (requested write request)
 AsksUnanswered rule bytes views = Unit {0}
+
+module _ (network : Network) where
+  -- the rules are legal from the start, and the machine after them shows these
+  abbrev pub IsShownAt : List Rule → List EndView → List Message → Type 0
+  IsShownAt rules views messages =
+      IsLegal network rules start × Shows views messages (run network rules start)
+
+  -- there are such rules
+  abbrev pub IsShown : List EndView → List Message → Type 0
+  IsShown views messages = (rules : List Rule) × IsShownAt rules views messages
+
+  -- there are such rules that extend these by at most `most`
+  abbrev pub IsShownWithin : ℕ → List Rule → List EndView → List Message → Type 0
+  IsShownWithin most rules views messages =
+      (more : List Rule) × (length more ≤ most) × IsShownAt (rules ++ more) views messages
+
+  -- the rules may act in sequence at the endpoint of the end x, by the datagrams sent before
+  abbrev pub ActInTurn : List Rule → Endpoint → List Message → Party → Type 0
+  ActInTurn [] at sent x = Unit {0}
+  ActInTurn (r ∷ rs) at sent x =
+      (actor r ≡ at) × MayAct network r sent x × ActInTurn rs at sent (party_after r x)
+
+  -- the datagrams that they send
+  abbrev pub sent_by : List Rule → Party → List Message
+  sent_by [] x = []
+  sent_by (r ∷ rs) x = packets network r x ++ sent_by rs (party_after r x)

@@ -1,7 +1,8 @@
-//! The two hosts between which transfers run.
+//! A network of two hosts, between which transfers run.
 
 ghost use Rattle.std.specs.Prelude.{IsTrue, ◌≡◌, ◌↔◌};
-ghost use Rattle.tftp_machine.specs.Machine.{host_of, Elsewhere, is_same_ip, server_ip, client_ip};
+ghost use Rattle.tftp_machine.specs.Hosts.{host_of, server_ip, client_ip};
+ghost use Rattle.tftp_machine.specs.Machine.{Elsewhere, is_same_ip};
 
 use tftp_ends::Endpoint;
 

@@ -1,5 +1,6 @@
 //! A machine of guarded rules for the transfers of one TFTP server and its clients, over a network
-//! that loses, repeats and reorders datagrams, and the invariants of every run.
+//! that loses, repeats and reorders datagrams, and the invariants of every run. Where the endpoints
+//! are is its parameter.
 //!
 //! It has definitions and laws, and one function, [`is_foreign`]. Ends, or a whole world of them,
 //! that the machine shows have its invariants.

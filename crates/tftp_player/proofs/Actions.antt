@@ -8,9 +8,10 @@ use Rattle.tftp_negotiate.specs.declared.limits.TheConstants.{DEFAULT_BLOCK}
 use Rattle.tftp_wire.specs.declared.packet.Request.{Request as WireRequest}
 use Rattle.tftp_wire.specs.Spelling.{Spells}
 use Rattle.tftp_file.specs.Block.{block, block_count, Fits, IsBeginningOf}
-use Rattle.tftp_machine.specs.Machine.{Endpoint, server_ip, client_ip, At_server, At_client, Elsewhere, host_of, request_port, Packet, Request, Data, Ack, Oack, Error, Message, Party}
+use Rattle.tftp_machine.specs.Hosts.{server_ip, client_ip, host_of, request_port, two_hosts}
+use Rattle.tftp_machine.specs.Machine.{Endpoint, At_server, At_client, Elsewhere, Packet, Request, Data, Ack, Oack, Error, Message, Party}
 use Rattle.tftp_machine.specs.Rules.{Rule, Asks, Opens_plainly, Opens_with, Takes_oack, Takes_ack, Takes_data, Appends, Sends_next, Completes, Fails, Fails_with, Says_error, Repeats, Strays, message, asking, opened, HasText}
-use Rattle.tftp_machine.specs.Shows.{EndView, party_of, view_of, Matches, requested, IsShownAt, IsShownWithin, ActInTurn, party_then, sent_by, NoneAnswers}
+use Rattle.tftp_machine.specs.Shows.{NoneAt, EndView, party_of, view_of, Matches, requested, IsShownAt, IsShownWithin, ActInTurn, party_then, sent_by, NoneAnswers}
 use Rattle.tftp_machine.proofs.Acting.{stays_open}
 use Rattle.tftp_machine.proofs.Shown.{shown_acts, shown_opens, shown_speaks, shown_within}
 
@@ -69,7 +70,7 @@ match_cut a asks x t o f d b s = record {
 
 -- the end e is at index k of the ends that are shown
 pub record Stands (first : List Rule) (views : List EndView) (messages : List Message) (k : ℕ) (e : EndView) : Type 0 where
-  pub shown : IsShownAt first views messages
+  pub shown : IsShownAt two_hosts first views messages
   pub viewed : slice_get views k ≡ Some e
 
 -- neither done nor failed
@@ -90,26 +91,26 @@ says e to packet = message e.address to packet ∷ []
 
 module _ (first : List Rule) (views : List EndView) (messages : List Message) (k : ℕ) (e : EndView) (s : Stands first views messages k e) where
   -- they are a few
-  acted : (rs : List Rule) → length rs ≤ 3 → (f : EndView) → IsShownWithin (length rs) first (set views k f) (messages ++ sent_by rs (party_of e)) →
-      IsShownWithin 3 first (set views k f) (messages ++ sent_by rs (party_of e))
-  acted rs few f h = shown_within (length rs) 3 first (set views k f) (messages ++ sent_by rs (party_of e)) few h
+  acted : (rs : List Rule) → length rs ≤ 3 → (f : EndView) → IsShownWithin two_hosts (length rs) first (set views k f) (messages ++ sent_by two_hosts rs (party_of e)) →
+      IsShownWithin two_hosts 3 first (set views k f) (messages ++ sent_by two_hosts rs (party_of e))
+  acted rs few f h = shown_within two_hosts (length rs) 3 first (set views k f) (messages ++ sent_by two_hosts rs (party_of e)) few h
 
   -- the rules of the end act in turn
-  pub goes : (rs : List Rule) → length rs ≤ 3 → e.failed ≡ false → ActInTurn rs e.address messages (party_of e) →
-      IsShownWithin 3 first (set views k (view_of e.address e.request (party_then rs (party_of e)))) (messages ++ sent_by rs (party_of e))
-  goes rs few f t = acted rs few (view_of e.address e.request (party_then rs (party_of e))) (shown_acts first views messages k e (view_of e.address e.request (party_then rs (party_of e))) rs s.shown s.viewed f t refl refl
-      (match_self e.address e.request (party_then rs (party_of e)) (stays_open rs e.address messages (party_of e) refl t)))
+  pub goes : (rs : List Rule) → length rs ≤ 3 → e.failed ≡ false → ActInTurn two_hosts rs e.address messages (party_of e) →
+      IsShownWithin two_hosts 3 first (set views k (view_of e.address e.request (party_then rs (party_of e)))) (messages ++ sent_by two_hosts rs (party_of e))
+  goes rs few f t = acted rs few (view_of e.address e.request (party_then rs (party_of e))) (shown_acts two_hosts first views messages k e (view_of e.address e.request (party_then rs (party_of e))) rs s.shown s.viewed f t refl refl
+      (match_self e.address e.request (party_then rs (party_of e)) (stays_open two_hosts rs e.address messages (party_of e) refl t)))
 
   -- they act in turn and it fails, so that only a beginning of its text is shown
-  pub goes_cut : (rs : List Rule) → length rs ≤ 3 → (t : List ℕ) → e.failed ≡ false → ActInTurn rs e.address messages (party_of e) →
+  pub goes_cut : (rs : List Rule) → length rs ≤ 3 → (t : List ℕ) → e.failed ≡ false → ActInTurn two_hosts rs e.address messages (party_of e) →
       (party_then rs (party_of e)).failed ≡ true → (party_then rs (party_of e)).done ≡ false → IsBeginningOf t (party_then rs (party_of e)).text → ((party_then rs (party_of e)).sender ≡ true → (party_then rs (party_of e)).text ≡ t) →
-      IsShownWithin 3 first (set views k (record (view_of e.address e.request (party_then rs (party_of e))) { text = t })) (messages ++ sent_by rs (party_of e))
-  goes_cut rs few t f turns failed done b same = acted rs few (record (view_of e.address e.request (party_then rs (party_of e))) { text = t }) (shown_acts first views messages k e (record (view_of e.address e.request (party_then rs (party_of e))) { text = t }) rs s.shown s.viewed f turns refl refl
-      (match_cut e.address e.request (party_then rs (party_of e)) t (stays_open rs e.address messages (party_of e) refl turns) failed done b same))
+      IsShownWithin two_hosts 3 first (set views k (record (view_of e.address e.request (party_then rs (party_of e))) { text = t })) (messages ++ sent_by two_hosts rs (party_of e))
+  goes_cut rs few t f turns failed done b same = acted rs few (record (view_of e.address e.request (party_then rs (party_of e))) { text = t }) (shown_acts two_hosts first views messages k e (record (view_of e.address e.request (party_then rs (party_of e))) { text = t }) rs s.shown s.viewed f turns refl refl
+      (match_cut e.address e.request (party_then rs (party_of e)) t (stays_open two_hosts rs e.address messages (party_of e) refl turns) failed done b same))
 
   -- a waiting reader stores DATA 1
   pub stores_first : (from : Endpoint) (bytes : List ℕ) → IsWaiting e from → e.sender ≡ false → HasCome messages e from (Data 1 bytes) → length bytes ≤ DEFAULT_BLOCK →
-      IsShownWithin 3 first (set views k (record e { peer = Some from; size = DEFAULT_BLOCK; number = 1; done = nat_lt (length bytes) DEFAULT_BLOCK; text = e.text ++ bytes })) (messages ++ says e from (Ack 1))
+      IsShownWithin two_hosts 3 first (set views k (record e { peer = Some from; size = DEFAULT_BLOCK; number = 1; done = nat_lt (length bytes) DEFAULT_BLOCK; text = e.text ++ bytes })) (messages ++ says e from (Ack 1))
   stores_first from bytes w r c l =
       let n = reader_begins e.sender r in
       let a = goes (Takes_data e.address from bytes ∷ Appends e.address from bytes ∷ []) (omega arith) w.0.1
@@ -118,7 +119,7 @@ module _ (first : List Rule) (views : List EndView) (messages : List Message) (k
 
   -- a waiting reader refuses DATA 1, of which it stored a part at most
   pub refuses_first : (from : Endpoint) (bytes t : List ℕ) → IsWaiting e from → e.sender ≡ false → HasCome messages e from (Data 1 bytes) → length bytes ≤ DEFAULT_BLOCK → IsBeginningOf t (e.text ++ bytes) →
-      IsShownWithin 3 first (set views k (record e { peer = Some from; size = DEFAULT_BLOCK; number = 0; failed = true; text = t })) (messages ++ says e from Error)
+      IsShownWithin two_hosts 3 first (set views k (record e { peer = Some from; size = DEFAULT_BLOCK; number = 0; failed = true; text = t })) (messages ++ says e from Error)
   refuses_first from bytes t w r c l b =
       let n = reader_begins e.sender r in
       let a = goes_cut (Takes_data e.address from bytes ∷ Fails_with e.address from bytes ∷ Says_error e.address from ∷ []) (omega arith) t w.0.1
@@ -128,7 +129,7 @@ module _ (first : List Rule) (views : List EndView) (messages : List Message) (k
 
   -- a waiting reader handles an OACK
   pub accepts : (from : Endpoint) (size : ℕ) → IsWaiting e from → e.sender ≡ false → HasCome messages e from (Oack size) →
-      IsShownWithin 3 first (set views k (record e { peer = Some from; size = size; number = 0 })) (messages ++ says e from (Ack 0))
+      IsShownWithin two_hosts 3 first (set views k (record e { peer = Some from; size = size; number = 0 })) (messages ++ says e from (Ack 0))
   accepts from size w r c =
       let n = reader_begins e.sender r in
       let d : (if e.sender then Data 1 (block e.text size 1) else Ack 0) ≡ Ack 0 = rw r refl in
@@ -138,7 +139,7 @@ module _ (first : List Rule) (views : List EndView) (messages : List Message) (k
 
   -- a waiting writer handles an OACK
   pub sends_first_with : (from : Endpoint) (size : ℕ) → IsWaiting e from → e.sender ≡ true → HasCome messages e from (Oack size) → Fits e.text size →
-      IsShownWithin 3 first (set views k (record e { peer = Some from; size = size; number = 1 })) (messages ++ says e from (Data 1 (block e.text size 1)))
+      IsShownWithin two_hosts 3 first (set views k (record e { peer = Some from; size = size; number = 1 })) (messages ++ says e from (Data 1 (block e.text size 1)))
   sends_first_with from size w r c fits =
       let n = writer_begins e.sender r in
       let d : (if e.sender then Data 1 (block e.text size 1) else Ack 0) ≡ Data 1 (block e.text size 1) = rw r refl in
@@ -148,7 +149,7 @@ module _ (first : List Rule) (views : List EndView) (messages : List Message) (k
 
   -- a waiting writer handles ACK 0
   pub sends_first : (from : Endpoint) → IsWaiting e from → e.sender ≡ true → HasCome messages e from (Ack 0) → Fits e.text DEFAULT_BLOCK →
-      IsShownWithin 3 first (set views k (record e { peer = Some from; size = DEFAULT_BLOCK; number = 1 })) (messages ++ says e from (Data 1 (block e.text DEFAULT_BLOCK 1)))
+      IsShownWithin two_hosts 3 first (set views k (record e { peer = Some from; size = DEFAULT_BLOCK; number = 1 })) (messages ++ says e from (Data 1 (block e.text DEFAULT_BLOCK 1)))
   sends_first from w r c fits =
       let n = writer_begins e.sender r in
       let a = goes (Takes_ack e.address from ∷ []) (omega arith) w.0.1
@@ -157,80 +158,80 @@ module _ (first : List Rule) (views : List EndView) (messages : List Message) (k
 
   -- a receiver stores the next block
   pub stores : (from : Endpoint) (bytes : List ℕ) → IsGoing e → e.sender ≡ false → e.peer ≡ Some from → HasCome messages e from (Data (e.number + 1) bytes) → length bytes ≤ e.size →
-      IsShownWithin 3 first (set views k (record e { number = e.number + 1; done = nat_lt (length bytes) e.size; text = e.text ++ bytes })) (messages ++ says e from (Ack (e.number + 1)))
+      IsShownWithin two_hosts 3 first (set views k (record e { number = e.number + 1; done = nat_lt (length bytes) e.size; text = e.text ++ bytes })) (messages ++ says e from (Ack (e.number + 1)))
   stores from bytes g r p c l =
       goes (Appends e.address from bytes ∷ []) (omega arith) g.1 ((refl, ((refl, g.0, g.1), r, p, c, l), tt))
 
   -- a receiver refuses the next block, of which it stored a part at most
   pub refuses_next : (from : Endpoint) (bytes t : List ℕ) → IsGoing e → e.sender ≡ false → e.peer ≡ Some from → HasCome messages e from (Data (e.number + 1) bytes) → length bytes ≤ e.size → IsBeginningOf t (e.text ++ bytes) →
-      IsShownWithin 3 first (set views k (record e { failed = true; text = t })) (messages ++ says e from Error)
+      IsShownWithin two_hosts 3 first (set views k (record e { failed = true; text = t })) (messages ++ says e from Error)
   refuses_next from bytes t g r p c l b =
       goes_cut (Fails_with e.address from bytes ∷ Says_error e.address from ∷ []) (omega arith) t g.1
       ((refl, ((refl, g.0, g.1), r, p, c, l), (refl, tt, tt))) refl g.0 b (λ q. absurd (true≢false (sym q ∙ r)))
 
   -- a sender whose newest block is acknowledged sends the next one
   pub sends : (from : Endpoint) → IsGoing e → e.sender ≡ true → e.peer ≡ Some from → HasCome messages e from (Ack e.number) → e.number < block_count e.text e.size →
-      IsShownWithin 3 first (set views k (record e { number = e.number + 1 })) (messages ++ says e from (Data (e.number + 1) (block e.text e.size (e.number + 1))))
+      IsShownWithin two_hosts 3 first (set views k (record e { number = e.number + 1 })) (messages ++ says e from (Data (e.number + 1) (block e.text e.size (e.number + 1))))
   sends from g r p c l =
       goes (Sends_next e.address from ∷ []) (omega arith) g.1 ((refl, (((refl, g.0, g.1), r, p, c), l), tt))
 
   -- a sender whose last block is acknowledged is done
   pub completes : (from : Endpoint) → IsGoing e → e.sender ≡ true → e.peer ≡ Some from → HasCome messages e from (Ack e.number) → e.number ≡ block_count e.text e.size →
-      IsShownWithin 3 first (set views k (record e { done = true })) messages
+      IsShownWithin two_hosts 3 first (set views k (record e { done = true })) messages
   completes from g r p c l =
       let a = goes (Completes e.address from ∷ []) (omega arith) g.1 ((refl, (((refl, g.0, g.1), r, p, c), l), tt)) in
-      subst (λ (ds : List Message). IsShownWithin 3 first (set views k (record e { done = true })) ds) (append-nil messages) a
+      subst (λ (ds : List Message). IsShownWithin two_hosts 3 first (set views k (record e { done = true })) ds) (append-nil messages) a
 
   -- an end closes without a reply; of a receiver's text a beginning is shown from then on
   pub closes : (t : List ℕ) → IsGoing e → IsBeginningOf t e.text → (e.sender ≡ true → e.text ≡ t) →
-      IsShownWithin 3 first (set views k (record e { failed = true; text = t })) messages
+      IsShownWithin two_hosts 3 first (set views k (record e { failed = true; text = t })) messages
   closes t g b same =
       let a = goes_cut (Fails e.address ∷ []) (omega arith) t g.1 ((refl, (refl, g.0, g.1), tt)) refl g.0 b same in
-      subst (λ (ds : List Message). IsShownWithin 3 first (set views k (record e { failed = true; text = t })) ds) (append-nil messages) a
+      subst (λ (ds : List Message). IsShownWithin two_hosts 3 first (set views k (record e { failed = true; text = t })) ds) (append-nil messages) a
 
   -- an end gives up and sends an ERROR
   pub refuses : (to : Endpoint) (t : List ℕ) → IsGoing e → IsBeginningOf t e.text → (e.sender ≡ true → e.text ≡ t) →
-      IsShownWithin 3 first (set views k (record e { failed = true; text = t })) (messages ++ says e to Error)
+      IsShownWithin two_hosts 3 first (set views k (record e { failed = true; text = t })) (messages ++ says e to Error)
   refuses to t g b same =
       goes_cut (Fails e.address ∷ Says_error e.address to ∷ []) (omega arith) t g.1 ((refl, (refl, g.0, g.1), (refl, tt, tt))) refl g.0 b same
 
 -- one rule is a few
-one_more : (first : List Rule) (views : List EndView) (messages : List Message) → IsShownWithin 1 first views messages → IsShownWithin 3 first views messages
-one_more first views messages h = shown_within 1 3 first views messages (omega arith) h
+one_more : (first : List Rule) (views : List EndView) (messages : List Message) → IsShownWithin two_hosts 1 first views messages → IsShownWithin two_hosts 3 first views messages
+one_more first views messages h = shown_within two_hosts 1 3 first views messages (omega arith) h
 
 -- a datagram is sent again
-pub repeats : (first : List Rule) (views : List EndView) (messages : List Message) → IsShownAt first views messages → (old : Message) → Contains messages old → IsShownWithin 3 first views (messages ++ old ∷ [])
-repeats first views messages h old c = one_more first _ _ (shown_speaks first views messages (Repeats old) h tt c)
+pub repeats : (first : List Rule) (views : List EndView) (messages : List Message) → IsShownAt two_hosts first views messages → (old : Message) → Contains messages old → IsShownWithin two_hosts 3 first views (messages ++ old ∷ [])
+repeats first views messages h old c = one_more first _ _ (shown_speaks two_hosts first views messages (Repeats old) h tt c)
 
 -- an ERROR is sent, to a stranger or from the request port
-pub says_error : (first : List Rule) (views : List EndView) (messages : List Message) → IsShownAt first views messages → (from to : Endpoint) → IsShownWithin 3 first views (messages ++ message from to Error ∷ [])
-says_error first views messages h from to = one_more first _ _ (shown_speaks first views messages (Says_error from to) h tt tt)
+pub says_error : (first : List Rule) (views : List EndView) (messages : List Message) → IsShownAt two_hosts first views messages → (from to : Endpoint) → IsShownWithin two_hosts 3 first views (messages ++ message from to Error ∷ [])
+says_error first views messages h from to = one_more first _ _ (shown_speaks two_hosts first views messages (Says_error from to) h tt tt)
 
 -- a stranger sends any message
-pub strays : (first : List Rule) (views : List EndView) (messages : List Message) → IsShownAt first views messages → (stray : Message) → host_of stray.from ≡ Elsewhere → IsShownWithin 1 first views (messages ++ stray ∷ [])
-strays first views messages h stray o = shown_speaks first views messages (Strays stray) h tt o
+pub strays : (first : List Rule) (views : List EndView) (messages : List Message) → IsShownAt two_hosts first views messages → (stray : Message) → host_of stray.from ≡ Elsewhere → IsShownWithin two_hosts 1 first views (messages ++ stray ∷ [])
+strays first views messages h stray o = shown_speaks two_hosts first views messages (Strays stray) h tt o
 
 -- a client opens; a reader has no text
-pub asks : (first : List Rule) (views : List EndView) (messages : List Message) → IsShownAt first views messages → (a : Endpoint) (write : Bool) (request : WireRequest) (text : List ℕ) →
-    a.ip ≡ client_ip → a.port ≡ 1024 + length views → (write ≡ false → text ≡ []) →
-    IsShownWithin 3 first (views ++ view_of a [] (asking write request text) ∷ []) (messages ++ message a request_port (Request write request) ∷ [])
-asks first views messages h a write request text ip port none =
-    one_more first _ _ (shown_opens first views messages (view_of a [] (asking write request text)) (Asks a write request text) h tt (refl, host_client a ip, none) refl port (match_self a [] (asking write request text) refl) tt)
+pub asks : (first : List Rule) (views : List EndView) (messages : List Message) → IsShownAt two_hosts first views messages → (a : Endpoint) (write : Bool) (request : WireRequest) (text : List ℕ) →
+    a.ip ≡ client_ip → NoneAt views a → (write ≡ false → text ≡ []) →
+    IsShownWithin two_hosts 3 first (views ++ view_of a [] (asking write request text) ∷ []) (messages ++ message a request_port (Request write request) ∷ [])
+asks first views messages h a write request text ip new none =
+    one_more first _ _ (shown_opens two_hosts first views messages (view_of a [] (asking write request text)) (Asks a write request text) h tt (refl, host_client a ip, none) refl new (match_self a [] (asking write request text) refl) tt)
 
 -- a request opens an end at the server, with no options
-pub serves_plainly : (first : List Rule) (views : List EndView) (messages : List Message) → IsShownAt first views messages → (a peer : Endpoint) (asked : List ℕ) (write : Bool) (request : WireRequest) (text : List ℕ) →
-    a.ip ≡ server_ip → a.port ≡ 1024 + length views → Contains messages (message peer request_port (Request write request)) → HasText write text DEFAULT_BLOCK →
+pub serves_plainly : (first : List Rule) (views : List EndView) (messages : List Message) → IsShownAt two_hosts first views messages → (a peer : Endpoint) (asked : List ℕ) (write : Bool) (request : WireRequest) (text : List ℕ) →
+    a.ip ≡ server_ip → NoneAt views a → Contains messages (message peer request_port (Request write request)) → HasText write text DEFAULT_BLOCK →
     Spells (requested write request) asked → NoneAnswers views peer (requested write request) →
-    IsShownWithin 3 first (views ++ view_of a asked (opened true peer write request text DEFAULT_BLOCK (if write then 0 else 1)) ∷ []) (messages ++ message a peer (if write then Ack 0 else Data 1 (block text DEFAULT_BLOCK 1)) ∷ [])
-serves_plainly first views messages h a peer asked write request text ip port c has spells none =
+    IsShownWithin two_hosts 3 first (views ++ view_of a asked (opened true peer write request text DEFAULT_BLOCK (if write then 0 else 1)) ∷ []) (messages ++ message a peer (if write then Ack 0 else Data 1 (block text DEFAULT_BLOCK 1)) ∷ [])
+serves_plainly first views messages h a peer asked write request text ip new c has spells none =
     let x = opened true peer write request text DEFAULT_BLOCK (if write then 0 else 1) in
-    one_more first _ _ (shown_opens first views messages (view_of a asked x) (Opens_plainly a peer write request text) h tt (refl, host_server a ip, c, has) refl port (match_self a asked x refl) (spells, none))
+    one_more first _ _ (shown_opens two_hosts first views messages (view_of a asked x) (Opens_plainly a peer write request text) h tt (refl, host_server a ip, c, has) refl new (match_self a asked x refl) (spells, none))
 
 -- a request opens an end at the server, with options
-pub serves_with : (first : List Rule) (views : List EndView) (messages : List Message) → IsShownAt first views messages → (a peer : Endpoint) (asked : List ℕ) (write : Bool) (request : WireRequest) (text : List ℕ) (size : ℕ) →
-    a.ip ≡ server_ip → a.port ≡ 1024 + length views → Contains messages (message peer request_port (Request write request)) → HasText write text size → 0 < size →
+pub serves_with : (first : List Rule) (views : List EndView) (messages : List Message) → IsShownAt two_hosts first views messages → (a peer : Endpoint) (asked : List ℕ) (write : Bool) (request : WireRequest) (text : List ℕ) (size : ℕ) →
+    a.ip ≡ server_ip → NoneAt views a → Contains messages (message peer request_port (Request write request)) → HasText write text size → 0 < size →
     Spells (requested write request) asked → NoneAnswers views peer (requested write request) →
-    IsShownWithin 3 first (views ++ view_of a asked (opened false peer write request text size 0) ∷ []) (messages ++ message a peer (Oack size) ∷ [])
-serves_with first views messages h a peer asked write request text size ip port c has positive spells none =
+    IsShownWithin two_hosts 3 first (views ++ view_of a asked (opened false peer write request text size 0) ∷ []) (messages ++ message a peer (Oack size) ∷ [])
+serves_with first views messages h a peer asked write request text size ip new c has positive spells none =
     let x = opened false peer write request text size 0 in
-    one_more first _ _ (shown_opens first views messages (view_of a asked x) (Opens_with a peer write request text size) h tt (refl, host_server a ip, c, has, positive) refl port (match_self a asked x refl) (spells, none))
+    one_more first _ _ (shown_opens two_hosts first views messages (view_of a asked x) (Opens_with a peer write request text size) h tt (refl, host_server a ip, c, has, positive) refl new (match_self a asked x refl) (spells, none))

@@ -4,7 +4,9 @@ use Rattle.std.specs.Prelude.{◌⊎◌, slice_get, slice_index_or}
 use Rattle.std.proofs.lemmas.List.{append-nil}
 use Rattle.std.proofs.lemmas.Option.{same_Some, slice_get_within}
 use Rattle.tftp_server.specs.declared.config.Config.{Config}
-use Rattle.tftp_machine.specs.Machine.{Endpoint, request_port}
+use Rattle.tftp_machine.specs.Hosts.{request_port}
+use Rattle.tftp_machine.specs.Machine.{Endpoint}
+use Rattle.tftp_player.specs.WorldKept.{HasPorts}
 use Rattle.tftp_player.specs.Effect.{no_effect, said_by, report_by}
 use Rattle.tftp_player.specs.Played.{ends_from, end_at, address_of, AllKept}
 use Rattle.tftp_player.specs.Serving.{PlayedServer, Transfer}
@@ -21,7 +23,7 @@ use Rattle.tftp_player.specs.declared.player.Player.{Player}
 use Rattle.tftp_player.specs.declared.player.Player.TheVariants.{Client, Server}
 use Rattle.tftp_player.specs.declared.report.Report.{Report}
 use Rattle.tftp_player.proofs.PlayLemmas.{ends_length, said_is, report_is, address_is, none_here, list_get}
-use Rattle.tftp_player.proofs.StepLemmas.{HasPorts, open_arrives, closed_arrives, none_arrives, other_arrives}
+use Rattle.tftp_player.proofs.StepLemmas.{open_arrives, closed_arrives, none_arrives, other_arrives}
 
 -- each end has the port of its index
 port_is : (port : ℕ) (p : Player) → (address_of port p).port ≡ port

@@ -19,7 +19,8 @@ use Rattle.tftp_store.specs.Store.{Stored}
 use Rattle.tftp_player.specs.Arriving.{StageAsks}
 use Rattle.tftp_player.specs.Clients.{server_at, left_in}
 use Rattle.tftp_player.specs.Effect.{said_by, report_by}
-use Rattle.tftp_machine.specs.Machine.{Endpoint, request_port}
+use Rattle.tftp_machine.specs.Hosts.{request_port}
+use Rattle.tftp_machine.specs.Machine.{Endpoint}
 use Rattle.tftp_player.specs.Played.{PlayerKept, end_at, ends_from, records_from, served_as, served_end}
 use Rattle.tftp_player.specs.Requested.{IsRequested, OpensNone, IsAdmitted, new_served, requested_by}
 use Rattle.tftp_player.specs.Requests.{is_transfer, IsRepeated, open_transfers, served, service}

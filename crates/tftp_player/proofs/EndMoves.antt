@@ -24,6 +24,7 @@ use Rattle.tftp_ends.specs.declared.action.Response.TheVariants.{Ignore, Strange
 use Rattle.tftp_ends.specs.End.{is_sender, terms_of, is_complete, outcome_of}
 use Rattle.tftp_ends.specs.ErrorReply.{code_of, text_of, error_packet}
 use Rattle.tftp_ends.specs.Step.{Turn, Reply, response_turn, after, with_position}
+use Rattle.tftp_machine.specs.Hosts.{two_hosts}
 use Rattle.tftp_machine.specs.Machine.{Endpoint, Error, Message}
 use Rattle.tftp_machine.specs.Rules.{Rule, Says_error, Repeats, message}
 use Rattle.tftp_player.specs.Said.{said}
@@ -119,7 +120,7 @@ IsThere messages from to bytes = (p : WirePacket) × Spells p bytes × Contains 
 -- a turn of the end x at index k, after which it is y, is shown
 pub record Goes (first : List Rule) (views : List EndView) (messages : List Message) (k : ℕ) (x : OpenEnd) (turn : Turn) (y : OpenEnd) : Type 0 where
   pub said_now : List Message
-  pub shown : IsShownWithin 3 first (set views k (open_view y)) (messages ++ said_now)
+  pub shown : IsShownWithin two_hosts 3 first (set views k (open_view y)) (messages ++ said_now)
   pub replies : Replies x.address turn.reply said_now
   pub kept : EndKept y
   pub side : y.state.role.side ≡ x.state.role.side
@@ -259,8 +260,8 @@ module _ (first : List Rule) (views : List EndView) (messages : List Message) (k
       (text_sent b (goes_on x.state.position.phase) f w x.state.position.held) in
       record {
         said_now = [];
-        shown = subst (λ (ms : List Message). IsShownWithin 3 first (set views k (open_view y)) ms) (sym (append-nil messages))
-            (subst (λ (v : EndView). IsShownWithin 3 first (set views k v) messages)
+        shown = subst (λ (ms : List Message). IsShownWithin two_hosts 3 first (set views k (open_view y)) ms) (sym (append-nil messages))
+            (subst (λ (v : EndView). IsShownWithin two_hosts 3 first (set views k v) messages)
             (failed_view (open_view x) (text_of_end y) (is_complete x.state.position.phase) (open_view x).peer (open_view x).size live.0) shown_now);
         replies = refl;
         kept = closed_kept (terms_of x.state.position.phase) outcome;
@@ -282,7 +283,7 @@ module _ (first : List Rule) (views : List EndView) (messages : List Message) (k
       (text_sent b (goes_on x.state.position.phase) f w x.state.position.held) in
       record {
         said_now = message x.address from Error ∷ [];
-        shown = subst (λ (v : EndView). IsShownWithin 3 first (set views k v) (messages ++ message x.address from Error ∷ []))
+        shown = subst (λ (v : EndView). IsShownWithin two_hosts 3 first (set views k v) (messages ++ message x.address from Error ∷ []))
             (failed_view (open_view x) (text_of_end y) (is_complete x.state.position.phase) (open_view x).peer (open_view x).size live.0) shown_now;
         replies = error_says reply x.address from;
         kept = closed_kept (terms_of x.state.position.phase) outcome;

@@ -21,7 +21,8 @@ use Rattle.tftp_ends.specs.Action.{same_address, same_endpoint, is_stranger, gar
 use Rattle.tftp_wire.specs.Reading.{has_error_opcode}
 use Rattle.tftp_ends.specs.Step.{response_turn, after, with_position}
 use Rattle.tftp_ends.specs.Waiting.{reader_action, writer_action}
-use Rattle.tftp_machine.specs.Machine.{Endpoint, server_ip, Message}
+use Rattle.tftp_machine.specs.Hosts.{server_ip}
+use Rattle.tftp_machine.specs.Machine.{Endpoint, Message}
 use Rattle.tftp_machine.specs.Rules.{Rule}
 use Rattle.tftp_machine.specs.Shows.{EndView}
 use Rattle.tftp_player.specs.World.{OpenEnd, in_state, goes_on}

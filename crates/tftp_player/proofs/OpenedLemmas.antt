@@ -12,7 +12,7 @@ use Rattle.tftp_ends.specs.End.{is_client, record_of}
 use Rattle.tftp_ends.specs.Files.{AreFilesOf}
 use Rattle.tftp_ends.specs.Opening.{MayGet, MayPut, getting, putting}
 use Rattle.tftp_server.specs.declared.config.Config.{Config}
-use Rattle.tftp_machine.specs.Machine.{request_port}
+use Rattle.tftp_machine.specs.Hosts.{request_port}
 use Rattle.tftp_player.specs.Clients.{asking_client, asking_effect, sending_client, sending_effect}
 use Rattle.tftp_player.specs.Effect.{said_by, report_by}
 use Rattle.tftp_player.specs.PlayedClient.{PlayedClient}

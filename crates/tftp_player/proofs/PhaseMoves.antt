@@ -29,6 +29,7 @@ use Rattle.tftp_ends.specs.Action.{same_address, same_endpoint}
 use Rattle.tftp_ends.specs.Sender.{sender_action, acked_action, illegal_action}
 use Rattle.tftp_ends.specs.Step.{Turn, Acts, StoresIn}
 use Rattle.tftp_ends.specs.Text.{is_readable}
+use Rattle.tftp_machine.specs.Hosts.{two_hosts}
 use Rattle.tftp_machine.specs.Machine.{Endpoint, Data as Says_data, Ack as Says_ack, Message}
 use Rattle.tftp_machine.specs.Rules.{Rule, message}
 use Rattle.tftp_player.specs.Said.{said}
@@ -170,7 +171,7 @@ module _ (first : List Rule) (views : List EndView) (messages : List Message) (k
         incomplete = refl;
         peer = sym peer;
         fits = spelled.valid.1;
-        stored = subst (λ (m : ℕ). IsShownWithin 3 first (set views k (record (open_view receiver) { number = m; done = last; text = text_of_end receiver ++ piece })) (messages ++ message x0.address from (Says_ack m) ∷ [])) (sym is)
+        stored = subst (λ (m : ℕ). IsShownWithin two_hosts 3 first (set views k (record (open_view receiver) { number = m; done = last; text = text_of_end receiver ++ piece })) (messages ++ message x0.address from (Says_ack m) ∷ [])) (sym is)
             (stores first views messages k (open_view receiver) s from piece (refl, refl) kept.phase.0 (ap Some peer) here l);
         refused = λ t b. refuses_next first views messages k (open_view receiver) s from piece t (refl, refl) kept.phase.0 (ap Some peer) here l b;
       } in

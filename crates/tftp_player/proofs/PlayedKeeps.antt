@@ -27,6 +27,7 @@ kept_anyway w ok =
       sent = ok.sent;
       only = ok.only;
       speakers = λ m c e. absurd (true≢false e);
+      ports = ok.ports;
       max_block = ok.max_block;
       ends = ok.ends;
     }

@@ -21,7 +21,8 @@ use Rattle.tftp_server.specs.Port.{Ask, Ignores, Refuses, Reads, Writes, Service
 use Rattle.tftp_server.specs.State.{draft_of, with_new}
 use Rattle.tftp_store.specs.Store.{measured}
 use Rattle.tftp_player.specs.Clients.{server_at, left_in}
-use Rattle.tftp_machine.specs.Machine.{Endpoint, request_port}
+use Rattle.tftp_machine.specs.Hosts.{request_port}
+use Rattle.tftp_machine.specs.Machine.{Endpoint}
 use Rattle.tftp_player.specs.Openings.{sending_end, receiving_end}
 use Rattle.tftp_player.specs.Played.{served_as}
 use Rattle.tftp_player.specs.Requested.{new_served, receiver_at, requested_by, sender_at}

@@ -21,11 +21,12 @@ use Rattle.tftp_ends.specs.declared.error_reply.ErrorReply.TheVariants.{IllegalO
 use Rattle.tftp_ends.specs.Action.{Decodes}
 use Rattle.tftp_ends.specs.Step.{Turn, timeout_turn}
 use Rattle.tftp_server.specs.Port.{Service, Silent, Refused, Sends, Takes, Ignores, Refuses}
-use Rattle.tftp_machine.specs.Machine.{Endpoint, request_port}
+use Rattle.tftp_machine.specs.Hosts.{request_port}
+use Rattle.tftp_machine.specs.Machine.{Endpoint}
 use Rattle.tftp_player.specs.Openings.{sending_end, receiving_end}
 use Rattle.tftp_player.specs.Repeating.{AsksForTransfer, RepeatsOpenNothing, IsNewRequest, OnlyNewRequestsOpen, RequestsLast}
 use Rattle.tftp_player.specs.Requests.{IsRepeated, WasAskedBy, Repeats, AnyRepeats, served, service}
-use Rattle.tftp_player.specs.World.{WorldState, OpenEnd, WorldEnd, Open_end, Closed_end, by_outcome, standing, end_after, files_of, is_closed, peer_of, view_of_end}
+use Rattle.tftp_player.specs.World.{WorldState, OpenEnd, WorldEnd, Open_end, Closed_end, by_outcome, standing, end_after, files_of, is_closed, peer_of}
 use Rattle.tftp_player.specs.WorldKept.{IsOk}
 use Rattle.tftp_player.specs.WorldSteps.{Serves, Arrives, At_request_port, At_open_end, At_closed_end, At_nobody, Opens, Stays, Turns, TimesOut, armed_end, WorldStep}
 use Rattle.tftp_player.specs.declared.event.Event.{Event}
@@ -34,14 +35,13 @@ use Rattle.tftp_player.specs.declared.report.Report.{Report}
 use Rattle.tftp_machine.proofs.Indices.{slice_get-push_old, slice_get-set_cases}
 use Rattle.tftp_player.proofs.ServerLemmas.{says_one}
 use Rattle.tftp_player.proofs.TermsKept.{step_has, timeout_has}
-use Rattle.tftp_player.proofs.WorldTurns.{view_at}
 
 -- ---- what repeats a request is ignored
 
 -- no end is at the request port
 none_at_port : (strangers : Bool) (w : WorldState) (k : ℕ) (x : OpenEnd) → IsOk strangers w → slice_get w.ends k ≡ Some (Open_end x) → x.address ≡ request_port → ⊥
 none_at_port strangers w k x ok there at =
-    let p = (ok.shown.1.1.ends k (view_of_end (Open_end x)) (view_at w.ends k (Open_end x) there)).1 in
+    let p = ok.ports k (Open_end x) there in
     let q : x.address.port ≡ 69 = ap (λ (e : Endpoint). e.port) at in
     omega (arith, p, q)
 

@@ -25,6 +25,7 @@ use Rattle.tftp_ends.specs.declared.phase.Terms.{Terms}
 use Rattle.tftp_ends.specs.End.{EndState, is_sender, is_complete, number_of}
 use Rattle.tftp_ends.specs.Step.{Done, Turn, Appended, Committed, GoesOn, Stores, StoresIn, sent_turn, refused_turn, committed_turn, commit_reply, holding, ack_bytes}
 use Rattle.tftp_ends.specs.Text.{Decoded, is_readable, begins_netascii, ends_in_cr}
+use Rattle.tftp_machine.specs.Hosts.{two_hosts}
 use Rattle.tftp_machine.specs.Machine.{Endpoint, Ack as Says_ack, Error, Message}
 use Rattle.tftp_machine.specs.Rules.{Rule, message}
 use Rattle.tftp_machine.specs.Shows.{EndView, IsShownWithin}
@@ -131,9 +132,9 @@ pub record Receives (first : List Rule) (views : List EndView) (messages : List 
   pub incomplete : is_complete x.state.position.phase ≡ false
   pub peer : from ≡ terms.peer
   pub fits : number < 2 ^ 16
-  pub stored : IsShownWithin 3 first (set views k (record (open_view x) { peer = Some terms.peer; size = terms.size; number = number; done = nat_lt (length piece) terms.size; text = text_of_end x ++ piece })) (messages ++ message x.address from (Says_ack number) ∷ [])
+  pub stored : IsShownWithin two_hosts 3 first (set views k (record (open_view x) { peer = Some terms.peer; size = terms.size; number = number; done = nat_lt (length piece) terms.size; text = text_of_end x ++ piece })) (messages ++ message x.address from (Says_ack number) ∷ [])
   pub refused : (t : List ℕ) → IsBeginningOf t (text_of_end x ++ piece) →
-      IsShownWithin 3 first (set views k (record (open_view x) { peer = Some terms.peer; size = terms.size; number = number_of x.state.position.phase; failed = true; text = t })) (messages ++ message x.address from Error ∷ [])
+      IsShownWithin two_hosts 3 first (set views k (record (open_view x) { peer = Some terms.peer; size = terms.size; number = number_of x.state.position.phase; failed = true; text = t })) (messages ++ message x.address from Error ∷ [])
 
 -- the block goes on with netascii, or is octet
 abbrev pub Readable : OpenEnd → Terms → List ℕ → Type 0
@@ -170,7 +171,7 @@ module _ (first : List Rule) (views : List EndView) (messages : List Message) (k
       let shown_now = r.refused (text_of_end y) (subst (λ (z : List ℕ). IsBeginningOf z (text_of_end x ++ piece)) (sym t) begins) in
       record {
         said_now = message x.address from Error ∷ [];
-        shown = subst (λ (b : Bool). IsShownWithin 3 first (set views k (record (open_view y) { failed = not b })) (messages ++ message x.address from Error ∷ []))
+        shown = subst (λ (b : Bool). IsShownWithin two_hosts 3 first (set views k (record (open_view y) { failed = not b })) (messages ++ message x.address from Error ∷ []))
             (sym r.incomplete) shown_now;
         replies = error_says reply x.address from;
         kept = record { phase = tt; held = fits; committed = λ _. un ∙ sym r.incomplete };
@@ -182,11 +183,11 @@ module _ (first : List Rule) (views : List EndView) (messages : List Message) (k
   -- the block is acknowledged: stored, or stored and committed
   acknowledged : (sink : Holding) (more after : List ℕ) → sink.bytes ≡ x.stored ++ more → Decoded x.state.role.mode x.state.position.held piece more after →
       (t : List ℕ) → wire_text x.state.role.mode (x.stored ++ more) ++ after ≡ t → (done : Bool) → nat_lt (length piece) terms.size ≡ done →
-      IsShownWithin 3 first (set views k (record (open_view x) { peer = Some terms.peer; size = terms.size; number = number; done = done; text = t })) (messages ++ message x.address from (Says_ack number) ∷ [])
+      IsShownWithin two_hosts 3 first (set views k (record (open_view x) { peer = Some terms.peer; size = terms.size; number = number; done = done; text = t })) (messages ++ message x.address from (Says_ack number) ∷ [])
   acknowledged sink more after bytes d t text done last =
-      subst (λ (z : List ℕ). IsShownWithin 3 first (set views k (record (open_view x) { peer = Some terms.peer; size = terms.size; number = number; done = done; text = z })) (messages ++ message x.address from (Says_ack number) ∷ []))
+      subst (λ (z : List ℕ). IsShownWithin two_hosts 3 first (set views k (record (open_view x) { peer = Some terms.peer; size = terms.size; number = number; done = done; text = z })) (messages ++ message x.address from (Says_ack number) ∷ []))
       (more_text more after d ∙ text)
-      (subst (λ (b : Bool). IsShownWithin 3 first (set views k (record (open_view x) { peer = Some terms.peer; size = terms.size; number = number; done = b; text = text_of_end x ++ piece })) (messages ++ message x.address from (Says_ack number) ∷ []))
+      (subst (λ (b : Bool). IsShownWithin two_hosts 3 first (set views k (record (open_view x) { peer = Some terms.peer; size = terms.size; number = number; done = b; text = text_of_end x ++ piece })) (messages ++ message x.address from (Says_ack number) ∷ []))
       last r.stored)
 
   failed_not : has_failed x.state.position.phase ≡ false
@@ -194,9 +195,9 @@ module _ (first : List Rule) (views : List EndView) (messages : List Message) (k
 
   -- it is no failure
   sound_view : (t : List ℕ) (done : Bool) (ms : List Message) →
-      IsShownWithin 3 first (set views k (record (open_view x) { peer = Some terms.peer; size = terms.size; number = number; done = done; text = t })) ms →
-      IsShownWithin 3 first (set views k (record (open_view x) { peer = Some terms.peer; size = terms.size; number = number; done = done; failed = false; text = t })) ms
-  sound_view t done ms h = subst (λ (b : Bool). IsShownWithin 3 first (set views k (record (open_view x) { peer = Some terms.peer; size = terms.size; number = number; done = done; failed = b; text = t })) ms) failed_not h
+      IsShownWithin two_hosts 3 first (set views k (record (open_view x) { peer = Some terms.peer; size = terms.size; number = number; done = done; text = t })) ms →
+      IsShownWithin two_hosts 3 first (set views k (record (open_view x) { peer = Some terms.peer; size = terms.size; number = number; done = done; failed = false; text = t })) ms
+  sound_view t done ms h = subst (λ (b : Bool). IsShownWithin two_hosts 3 first (set views k (record (open_view x) { peer = Some terms.peer; size = terms.size; number = number; done = done; failed = b; text = t })) ms) failed_not h
 
   next_goes : (sink : Holding) (more after : List ℕ) → sink.bytes ≡ x.stored ++ more → sink.committed ≡ false → Decoded x.state.role.mode x.state.position.held piece more after →
       nat_lt (length piece) terms.size ≡ false →

@@ -25,6 +25,7 @@ use Rattle.tftp_ends.specs.declared.phase.Terms.{Terms}
 use Rattle.tftp_ends.specs.declared.action.Response.TheVariants.{Complete}
 use Rattle.tftp_ends.specs.End.{EndState, is_sender}
 use Rattle.tftp_ends.specs.Step.{Turn, response_turn, after, Sends, SendsFrom, sent_turn, refused_turn, data_bytes, block_length, filled_turn, result_count_is, after_turn, with_position}
+use Rattle.tftp_machine.specs.Hosts.{two_hosts}
 use Rattle.tftp_machine.specs.Machine.{Endpoint, Data as Says_data, Ack as Says_ack, Message}
 use Rattle.tftp_machine.specs.Rules.{Rule, message}
 use Rattle.tftp_player.specs.Said.{said}
@@ -170,7 +171,7 @@ module _ (first : List Rule) (views : List EndView) (messages : List Message) (k
       let shown_now = sends first views messages k (open_view x) s from (refl, refl) u.sender (ap Some peer) acked room in
       record {
         said_now = message x.address from (said packet) ∷ [];
-        shown = subst (λ (t : List ℕ). IsShownWithin 3 first (set views k (open_view (data_end x terms n from))) (messages ++ message x.address from (Says_data (n + 1) (block t terms.size (n + 1))) ∷ [])) text_is shown_now;
+        shown = subst (λ (t : List ℕ). IsShownWithin two_hosts 3 first (set views k (open_view (data_end x terms n from))) (messages ++ message x.address from (Says_data (n + 1) (block t terms.size (n + 1))) ∷ [])) text_is shown_now;
         replies = (packet, spells_own packet (valid_data text terms.size n u.positive u.size u.fits l), refl);
         kept = data_kept x terms n from kept u.measured u.sender u.positive u.size u.fits l (sym peer);
         side = refl;
@@ -192,8 +193,8 @@ module _ (first : List Rule) (views : List EndView) (messages : List Message) (k
       let still : text_of_end x ≡ text_of_end y = text_is ∙ sym (text_if (is_sender x.state.role.side) text (received_text y) u.sender) in
       record {
         said_now = [];
-        shown = subst (λ (ms : List Message). IsShownWithin 3 first (set views k (open_view y)) ms) (sym (append-nil messages))
-            (subst (λ (t : List ℕ). IsShownWithin 3 first (set views k (record (open_view x) { done = true; text = t })) messages) still shown_now);
+        shown = subst (λ (ms : List Message). IsShownWithin two_hosts 3 first (set views k (open_view y)) ms) (sym (append-nil messages))
+            (subst (λ (t : List ℕ). IsShownWithin two_hosts 3 first (set views k (record (open_view x) { done = true; text = t })) messages) still shown_now);
         replies = refl;
         kept = record { phase = tt; held = kept.held; committed = λ r. absurd (true≢false (sym u.sender ∙ r)) };
         side = refl;

@@ -9,6 +9,7 @@ use Rattle.tftp_ends.specs.declared.phase.Phase.TheVariants.{Waiting, Sending, R
 use Rattle.tftp_ends.specs.End.{is_sender, is_client, terms_of, number_of, is_complete, outcome_of, size_of, record_of}
 use Rattle.tftp_ends.specs.Step.{with_position}
 use Rattle.tftp_player.specs.Requests.{is_transfer}
+use Rattle.tftp_machine.specs.Hosts.{two_hosts}
 use Rattle.tftp_machine.specs.Machine.{Message}
 use Rattle.tftp_machine.proofs.Shown.{shown_forgets}
 use Rattle.tftp_machine.specs.Rules.{Rule}
@@ -102,10 +103,10 @@ open_is x e = open_in x.state.position.phase x e where
 
 -- and so it is shown: a closed one without its request
 pub standing_shown : (first : List Rule) (views : List EndView) (messages : List Message) (k : ℕ) (d : EndView) (x : OpenEnd) → slice_get views k ≡ Some d →
-    IsShownWithin 3 first (set views k (open_view x)) messages → IsShownWithin 3 first (set views k (view_of_end (standing x))) messages
+    IsShownWithin two_hosts 3 first (set views k (open_view x)) messages → IsShownWithin two_hosts 3 first (set views k (view_of_end (standing x))) messages
 standing_shown first views messages k d x at shown = elim (cases_Bool (is_some (outcome_of x.state.position.phase))) [
-  | inl closed ↦ shown_forgets 3 first views messages k d (open_view x) (view_of_end (standing x)) at (standing_view x) (closed_over x closed) shown
-  | inr open_now ↦ subst (λ (v : EndView). IsShownWithin 3 first (set views k v) messages) (sym (ap view_of_end (standing_open x open_now) ∙ open_is x open_now)) shown
+  | inl closed ↦ shown_forgets two_hosts 3 first views messages k d (open_view x) (view_of_end (standing x)) at (standing_view x) (closed_over x closed) shown
+  | inr open_now ↦ subst (λ (v : EndView). IsShownWithin two_hosts 3 first (set views k v) messages) (sym (ap view_of_end (standing_open x open_now) ∙ open_is x open_now)) shown
 ]
 
 -- a closed one has its record

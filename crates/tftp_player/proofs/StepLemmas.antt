@@ -9,7 +9,9 @@ use Rattle.tftp_file.specs.Netascii.{wire_text}
 use Rattle.tftp_file.specs.Sink.{Holding}
 use Rattle.tftp_ends.specs.End.{is_client}
 use Rattle.tftp_ends.specs.Step.{Turn, timeout_turn}
-use Rattle.tftp_machine.specs.Machine.{Endpoint, request_port}
+use Rattle.tftp_machine.specs.Hosts.{request_port}
+use Rattle.tftp_machine.specs.Machine.{Endpoint}
+use Rattle.tftp_player.specs.WorldKept.{HasPorts}
 use Rattle.tftp_player.specs.World.{WorldState, OpenEnd, ClosedEnd, WorldEnd, Open_end, Closed_end, end_address, StoredFile, file_at, in_the_way, files_of, end_after, has_committed, world_after, report_of, no_report, opened_in, sent_report}
 use Rattle.tftp_player.specs.WorldSteps.{EndStep, FilesAfter, Turns, At_open_end, At_closed_end, At_nobody, HasPort, IsAtPort, armed_end, Arrives, WorldStep}
 use Rattle.tftp_player.specs.Openings.{reading_client, writing_client, MayGet, MayPut}
@@ -63,10 +65,6 @@ open_arrives w k x from bytes turn held files at steps stored =
 pub closed_arrives : (w : WorldState) (k : ℕ) (x : ClosedEnd) (from : Endpoint) (bytes : List ℕ) → slice_get w.ends k ≡ Some (Closed_end x) →
     Arrives w from x.address bytes no_report w
 closed_arrives w k x from bytes at = At_closed_end k x at refl (record { reports = refl; is = refl })
-
--- each end has the port of its index
-abbrev pub HasPorts : WorldState → Type 0
-HasPorts w = (k : ℕ) (x : WorldEnd) → slice_get w.ends k ≡ Some x → (end_address x).port ≡ 1024 + k
 
 -- if no end has the port
 pub none_arrives : (w : WorldState) (from to : Endpoint) (bytes : List ℕ) → HasPorts w → to ≢ request_port → (to.port < 1024) ⊎ (1024 + length w.ends ≤ to.port) →

@@ -29,7 +29,8 @@ use Rattle.tftp_ends.specs.Receiver.{receiver_action}
 use Rattle.tftp_ends.specs.Step.{ack_bytes, data_bytes}
 use Rattle.tftp_ends.specs.Waiting.{default_terms, agreed_terms, no_answer, accept_action, begin_action, begin_with_action}
 use Rattle.tftp_server.specs.Port.{Service, Sends, Takes}
-use Rattle.tftp_machine.specs.Machine.{Endpoint, request_port}
+use Rattle.tftp_machine.specs.Hosts.{request_port}
+use Rattle.tftp_machine.specs.Machine.{Endpoint}
 use Rattle.tftp_player.specs.Openings.{reading_client, writing_client, sending_end, receiving_end}
 use Rattle.tftp_player.specs.Straight.{IsAccepted, IsThrough, Ends, ReadsStraight, WritesStraight, ReadsComplete, WritesComplete, read_count, write_count}
 use Rattle.tftp_player.specs.World.{WorldState, OpenEnd, StoredFile, file_at, datagram, WorldEnd, Open_end}

@@ -18,11 +18,12 @@ use Rattle.tftp_file.specs.declared.path.PathFault.{PathFault}
 use Rattle.tftp_ends.specs.declared.error_reply.ErrorReply.TheVariants.{FileTooLarge, ServerBusy}
 use Rattle.tftp_server.specs.Port.{Ask, Ignores, Refuses, Reads, Service, Refused, Sends, Takes, by_draft, by_file, by_length, by_name, by_options, by_packet}
 use Rattle.tftp_store.specs.Store.{measured}
-use Rattle.tftp_machine.specs.Machine.{Endpoint, request_port}
+use Rattle.tftp_machine.specs.Hosts.{request_port}
+use Rattle.tftp_machine.specs.Machine.{Endpoint}
 use Rattle.tftp_player.specs.Requests.{IsRepeated, begun_of, open_transfers, opened_of, served, service}
 use Rattle.tftp_player.specs.Straight.{IsAccepted}
 use Rattle.tftp_player.specs.World.{WorldState, OpenEnd, file_at, in_the_way, datagram, opened_in, WorldEnd, Open_end, Closed_end, end_address}
-use Rattle.tftp_player.specs.WorldKept.{IsOk}
+use Rattle.tftp_player.specs.WorldKept.{HasPorts, IsOk}
 use Rattle.tftp_player.specs.WorldRuns.{MayHappen}
 use Rattle.tftp_player.specs.WorldSteps.{Serves, Arrives, At_request_port, At_open_end, At_closed_end, At_nobody, Opens, WorldStep}
 use Rattle.tftp_player.specs.declared.datagram.Datagram.{Datagram}
@@ -31,7 +32,6 @@ use Rattle.tftp_player.specs.declared.event.Event.TheVariants.{Deliver}
 use Rattle.tftp_player.specs.declared.report.Report.{Report}
 use Rattle.tftp_machine.proofs.Indices.{slice_get-push_new}
 use Rattle.tftp_player.proofs.ServerLemmas.{says_one}
-use Rattle.tftp_player.proofs.StepLemmas.{HasPorts}
 use Rattle.tftp_player.proofs.WorldRuns.{step_keeps}
 
 -- ---- a client asked

@@ -33,7 +33,7 @@ use Rattle.tftp_ends.specs.Text.{Decoded}
 use Rattle.tftp_machine.specs.Machine.{Endpoint}
 use Rattle.tftp_player.specs.Straight.{TookAll}
 use Rattle.tftp_player.specs.World.{WorldState, OpenEnd, file_at, in_the_way, is_closed, datagram, replied, files_of, holding_of, with_files, in_state, end_after, closed_at, standing, WorldEnd, Open_end, Closed_end, end_address}
-use Rattle.tftp_player.specs.WorldKept.{HeldFits, IsOk}
+use Rattle.tftp_player.specs.WorldKept.{HasPorts, HeldFits, IsOk}
 use Rattle.tftp_player.specs.WorldSafety.{IsComplete}
 use Rattle.tftp_player.specs.WorldSteps.{may_refuse_append, may_refuse_commit, EndStep, OnDatagram, Arrives, At_request_port, At_open_end, At_closed_end, At_nobody, WorldStep, world_sink}
 use Rattle.tftp_player.specs.declared.datagram.Datagram.{Datagram}
@@ -43,12 +43,10 @@ use Rattle.tftp_player.proofs.HostBytes.{stored_more}
 use Rattle.tftp_player.proofs.SaidLemmas.{data_of}
 use Rattle.tftp_player.proofs.SinkMoves.{Took, All_of_it, None_of_it, took, Kept_all, For_good, Not_yet, kept_by, stores_in, goes_on_with, held_fits}
 use Rattle.tftp_player.proofs.SourceMoves.{sends_from, block_sent}
-use Rattle.tftp_player.proofs.StepLemmas.{HasPorts}
-use Rattle.tftp_player.proofs.WorldTurns.{view_at}
 
 -- the end at index k of a world has port 1024 + k
 pub ports_of : (strangers : Bool) (w : WorldState) → IsOk strangers w → HasPorts w
-ports_of strangers w ok k x e = (ok.shown.1.1.ends k _ (view_at w.ends k x e)).1
+ports_of strangers w ok = ok.ports
 
 -- a delivery at an open end is this turn of it
 pub record Handles (w : WorldState) (k : ℕ) (x : OpenEnd) (from : Endpoint) (bytes : List ℕ) (report : Report) (v : WorldState) : Type 0 where

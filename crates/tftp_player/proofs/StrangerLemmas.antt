@@ -17,7 +17,8 @@ use Rattle.tftp_ends.specs.declared.phase.Phase.TheVariants.{Waiting, Sending, R
 use Rattle.tftp_ends.specs.End.{is_client, terms_of, outcome_of, record_of, Position}
 use Rattle.tftp_ends.specs.Action.{same_address, same_endpoint, is_stranger, garbled_response, packet_action}
 use Rattle.tftp_ends.specs.Step.{Turn, Acts, with_position}
-use Rattle.tftp_machine.specs.Machine.{Endpoint, At_server, Elsewhere, host_of, request_port}
+use Rattle.tftp_machine.specs.Hosts.{host_of, request_port, two_hosts}
+use Rattle.tftp_machine.specs.Machine.{Endpoint, At_server, Elsewhere}
 use Rattle.tftp_player.specs.Strangers.{HasNoStranger, IsRecordedSo, StraysChangeNoRecord, ClientsHaveServers}
 use Rattle.tftp_player.specs.World.{WorldState, OpenEnd, WorldEnd, Open_end, end_record, end_address, file_at, in_the_way, files_of, end_after, standing, peer_of, view_of_end}
 use Rattle.tftp_player.specs.WorldKept.{PhaseKept, IsOk}
@@ -121,9 +122,9 @@ strays_change_no_record strangers old new from to bytes report k x ok s there ho
 
 pub clients_have_servers : ClientsHaveServers
 clients_have_servers strangers w x p ok i client peer =
-    let by = shown_by (map view_of_end w.ends) ok.messages ok.shown in
+    let by = shown_by two_hosts (map view_of_end w.ends) ok.messages ok.shown in
     let shows = by.3 in
     let m = by.0 in
     let h = shows.ends i.0 (view_of_end x) (view_at w.ends i.0 x i.1) in
     let party = m.party (end_address x) in
-    ((by.1.ends (end_address x) h.0.is_open).serving (h.0.client ∙ client) p (h.0.peer ∙ peer)).0
+    ((by.1.ends (end_address x) h.is_open).serving (h.client ∙ client) p (h.peer ∙ peer)).0

@@ -41,7 +41,8 @@ use Rattle.tftp_ends.specs.Sender.{illegal_action}
 use Rattle.tftp_ends.specs.Step.{StoresIn, response_turn, after, with_position}
 use Rattle.tftp_ends.specs.Text.{is_readable}
 use Rattle.tftp_ends.specs.Waiting.{default_terms, agreed_terms, no_answer, refusal_action, accept_action, begin_action, begin_with_action, reader_action, writer_action}
-use Rattle.tftp_machine.specs.Machine.{Endpoint, server_ip, Data as Says_data, Ack as Says_ack, Oack as Says_oack, Message}
+use Rattle.tftp_machine.specs.Hosts.{server_ip, two_hosts}
+use Rattle.tftp_machine.specs.Machine.{Endpoint, Data as Says_data, Ack as Says_ack, Oack as Says_oack, Message}
 use Rattle.tftp_machine.specs.Rules.{Rule, message}
 use Rattle.tftp_player.specs.Said.{said, oack_size}
 use Rattle.tftp_machine.specs.Shows.{EndView, IsShownWithin}
@@ -170,7 +171,7 @@ module _ (first : List Rule) (views : List EndView) (messages : List Message) (k
 
   -- a writer begins
   begin_acts : is_sender x0.state.role.side ≡ true → (terms : Terms) → terms.peer ≡ from → 0 < terms.size → terms.size ≤ MAX_BLOCK →
-      (Fits (text_of_end waiter) terms.size → IsShownWithin 3 first (set views k (record (open_view waiter) { peer = Some from; size = terms.size; number = 1 })) (messages ++ message x0.address from (Says_data 1 (block (text_of_end waiter) terms.size 1)) ∷ [])) →
+      (Fits (text_of_end waiter) terms.size → IsShownWithin two_hosts 3 first (set views k (record (open_view waiter) { peer = Some from; size = terms.size; number = 1 })) (messages ++ message x0.address from (Says_data 1 (block (text_of_end waiter) terms.size 1)) ∷ [])) →
       Answers (begin_action x0.state.role.length terms)
   begin_acts writer terms peer positive small shown =
       if_acts Answers (nat_lt x0.state.role.length (65535 * terms.size)) (Send terms 1) (Respond (Refuse None replies.FileTooLarge outcomes.TooLarge))
@@ -185,8 +186,8 @@ module _ (first : List Rule) (views : List EndView) (messages : List Message) (k
       let packet = Data 1 (block text terms.size 1) in
       let goes_now : Goes first views messages k waiter (data_turn waiter terms 0 from) (data_end waiter terms 0 from) = record {
         said_now = message x0.address from (said packet) ∷ [];
-        shown = subst (λ (p : Endpoint). IsShownWithin 3 first (set views k (record (open_view waiter) { peer = Some p; size = terms.size; number = 1 })) (messages ++ message x0.address from (said packet) ∷ [])) (sym peer)
-            (subst (λ (t : List ℕ). IsShownWithin 3 first (set views k (record (open_view waiter) { peer = Some from; size = terms.size; number = 1 })) (messages ++ message x0.address from (Says_data 1 (block t terms.size 1)) ∷ [])) text_is
+        shown = subst (λ (p : Endpoint). IsShownWithin two_hosts 3 first (set views k (record (open_view waiter) { peer = Some p; size = terms.size; number = 1 })) (messages ++ message x0.address from (said packet) ∷ [])) (sym peer)
+            (subst (λ (t : List ℕ). IsShownWithin two_hosts 3 first (set views k (record (open_view waiter) { peer = Some from; size = terms.size; number = 1 })) (messages ++ message x0.address from (Says_data 1 (block t terms.size 1)) ∷ [])) text_is
             (shown (subst (λ (t : List ℕ). Fits t terms.size) (sym text_is) fits)));
         replies = (packet, spells_own packet (valid_data text terms.size 0 positive small fits l), refl);
         kept = data_kept waiter terms 0 from kept measured writer positive small fits l (sym peer);

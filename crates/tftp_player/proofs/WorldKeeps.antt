@@ -1,8 +1,8 @@
 -- Clients that open, and the request port, keep a world.
-use Rattle.std.proofs.Common.{◌≡◌, ℕ, ◌+◌, ◌*◌, ◌<◌, ◌≤◌, Bool, true, false, List, [], ◌∷◌, ◌++◌, length, map, drop, Option, Some, None, Result, Ok, Err, sym, refl, ap, ◌∙◌, subst, arith, suc}
+use Rattle.std.proofs.Common.{◌≡◌, ℕ, ◌+◌, ◌*◌, ◌<◌, ◌≤◌, Bool, true, false, List, [], ◌∷◌, ◌++◌, length, map, drop, Option, Some, None, Result, Ok, Err, sym, refl, ap, ◌∙◌, subst, arith}
 use Rattle.std.specs.Prelude.{◌≢◌, if◌then◌else◌, nat_lt, nat_le}
 use Rattle.std.specs.List.{Contains, AllByRecursion}
-use Rattle.std.proofs.lemmas.Option.{same_Some}
+use Rattle.std.proofs.lemmas.Option.{same_Some, slice_get_within}
 use Rattle.std.proofs.lemmas.Bool.{true≢false, ltb-true}
 use Rattle.std.proofs.lemmas.List.{append-nil}
 use Rattle.tftp_wire.specs.declared.limits.TheConstants.{MAX_BLOCK}
@@ -34,10 +34,11 @@ use Rattle.tftp_ends.specs.ErrorReply.{error_packet}
 use Rattle.tftp_wire.specs.Reading.{has_error_opcode}
 use Rattle.tftp_ends.specs.Step.{error_bytes}
 use Rattle.tftp_store.specs.Store.{measured}
-use Rattle.tftp_machine.specs.Machine.{Endpoint, Elsewhere, host_of, server_ip, client_ip, request_port, Message, Request as Says_request, Oack as Says_oack}
+use Rattle.tftp_machine.specs.Hosts.{host_of, server_ip, client_ip, request_port, two_hosts}
+use Rattle.tftp_machine.specs.Machine.{Endpoint, Elsewhere, Message, Request as Says_request, Oack as Says_oack}
 use Rattle.tftp_machine.specs.Rules.{Rule, message}
 use Rattle.tftp_player.specs.Said.{said}
-use Rattle.tftp_machine.specs.Shows.{requested, NoneAnswers, EndView, IsShownAt, IsShownWithin}
+use Rattle.tftp_machine.specs.Shows.{NoneAt, requested, NoneAnswers, EndView, IsShownAt, IsShownWithin}
 use Rattle.tftp_player.specs.World.{WorldState, WorldEnd, Open_end, file_at, in_the_way, datagram, said_in, view_of_end}
 use Rattle.tftp_player.specs.Openings.{request_of, reading_client, writing_client, MayGet, MayPut, sending_end, receiving_end}
 use Rattle.tftp_server.specs.Port.{Ask, Ignores, Refuses, Reads, Service, Refused, Sends, accept_reply, by_draft, by_file, by_length, by_name, by_options, by_packet, by_repeat}
@@ -54,7 +55,7 @@ use Rattle.tftp_player.proofs.SourceMoves.{valid_data}
 use Rattle.tftp_player.proofs.WaitingMoves.{agreed_size}
 use Rattle.tftp_player.proofs.Measured.{measured_fits}
 use Rattle.tftp_player.proofs.OackLemmas.{valid_oack}
-use Rattle.tftp_player.proofs.WorldTurns.{opening_keeps, saying_keeps}
+use Rattle.tftp_player.proofs.WorldTurns.{viewed_at, opening_keeps, saying_keeps}
 
 at_server : (a : Endpoint) → a.ip ≡ server_ip → host_of a ≢ Elsewhere
 at_server a e f = let h = sym (host_server a e) ∙ f in cc
@@ -62,11 +63,14 @@ at_server a e f = let h = sym (host_server a e) ∙ f in cc
 at_client : (a : Endpoint) → a.ip ≡ client_ip → host_of a ≢ Elsewhere
 at_client a e f = let h = sym (host_client a e) ∙ f in cc
 
-length_views : (w : WorldState) → length (map view_of_end w.ends) ≡ length w.ends
-length_views w = counted w.ends where
-  counted : (ends : List WorldEnd) → length (map view_of_end ends) ≡ length ends
-  counted [] = refl
-  counted (x ∷ ends) = ap suc (counted ends)
+-- no end has the next port
+none_at_next : (first : List Rule) (strangers : Bool) (w : WorldState) → IsOkAt first strangers w → (a : Endpoint) → a.port ≡ 1024 + length w.ends → NoneAt (map view_of_end w.ends) a
+none_at_next first strangers w ok a port k e i same =
+    let h = viewed_at w.ends k e i in
+    let own : e.address.port ≡ 1024 + k = ap (λ (v : EndView). v.address.port) (sym h.2) ∙ ok.ports k h.0 h.1 in
+    let there : e.address.port ≡ a.port = ap (λ (q : Endpoint). q.port) same in
+    let within = slice_get_within w.ends k h.0 h.1 in
+    omega (arith, own, there, port, within)
 
 empty_text : (mode : Mode) → wire_text mode [] ≡ []
 empty_text Octet = refl
@@ -81,8 +85,8 @@ no_text : (mode : Mode) → wire_text mode [] ++ [] ≡ []
 no_text mode = append-nil (wire_text mode []) ∙ empty_text mode
 
 -- no rule is a few
-pub none_more : (first : List Rule) (views : List EndView) (messages : List Message) → IsShownAt first views messages → IsShownWithin 3 first views messages
-none_more first views messages shown = shown_within 0 3 first views messages (omega arith) (shown_still first views messages shown)
+pub none_more : (first : List Rule) (views : List EndView) (messages : List Message) → IsShownAt two_hosts first views messages → IsShownWithin two_hosts 3 first views messages
+none_more first views messages shown = shown_within two_hosts 0 3 first views messages (omega arith) (shown_still two_hosts first views messages shown)
 
 -- a world is kept by how it is shown
 unfoldable pub shown_as : (P Q : List EndView → List Message → Type 0) (strangers : Bool) (w : WorldState) (ok : IsOkBy P strangers w) → Q (map view_of_end w.ends) ok.messages → IsOkBy Q strangers w
@@ -92,6 +96,7 @@ shown_as P Q strangers w ok shown = record {
   sent = ok.sent;
   only = ok.only;
   speakers = ok.speakers;
+  ports = ok.ports;
   max_block = ok.max_block;
   ends = ok.ends;
 }
@@ -99,7 +104,7 @@ shown_as P Q strangers w ok shown = record {
 pub stays_ok : (first : List Rule) (strangers : Bool) (w v : WorldState) (report : Report) → IsOkAt first strangers w → Stays w report v → IsOkWithin 3 first strangers v
 stays_ok first strangers w v report ok s =
     subst (λ (z : WorldState). IsOkWithin 3 first strangers z) (sym s.is)
-    (shown_as (IsShownAt first) (IsShownWithin 3 first) strangers w ok (none_more first (map view_of_end w.ends) ok.messages ok.shown))
+    (shown_as (IsShownAt two_hosts first) (IsShownWithin two_hosts 3 first) strangers w ok (none_more first (map view_of_end w.ends) ok.messages ok.shown))
 
 -- a client opens
 pub reading_keeps : (first : List Rule) (strangers : Bool) (w v : WorldState) (name : List ℕ) (mode : Mode) (asked : Asked) (report : Report) → IsOkAt first strangers w → MayGet name mode asked →
@@ -108,8 +113,8 @@ reading_keeps first strangers w v name mode asked report ok may o =
     let x = reading_client w name mode asked in
     let p = Read (request_of name mode asked) in
     let a = x.address in
-    let shown_now = asks first (map view_of_end w.ends) ok.messages ok.shown a false (request_of name mode asked) (wire_text mode [] ++ []) refl (ap (λ (n : ℕ). 1024 + n) (sym (length_views w))) (λ _. no_text mode) in
-    opening_keeps first strangers w v ok x report p (spells_own p may.valid) shown_now (at_client a refl) refl
+    let shown_now = asks first (map view_of_end w.ends) ok.messages ok.shown a false (request_of name mode asked) (wire_text mode [] ++ []) refl (none_at_next first strangers w ok x.address refl) (λ _. no_text mode) in
+    opening_keeps first strangers w v ok x report p (spells_own p may.valid) shown_now (at_client a refl) refl refl
     (record { phase = (refl, may.options.askable, refl, refl, λ _. refl, λ e. absurd (true≢false (sym e))); held = empty_held mode; committed = λ _. refl }) refl o
 
 pub writing_keeps : (first : List Rule) (strangers : Bool) (w v : WorldState) (name : List ℕ) (mode : Mode) (asked : Asked) (file : List ℕ) (report : Report) → IsOkAt first strangers w → MayPut name mode asked (length (wire_text mode file)) →
@@ -118,8 +123,8 @@ writing_keeps first strangers w v name mode asked file report ok may o =
     let x = writing_client w name mode asked file in
     let p = Write (request_of name mode asked) in
     let a = x.address in
-    let shown_now = asks first (map view_of_end w.ends) ok.messages ok.shown a true (request_of name mode asked) (wire_text mode file) refl (ap (λ (n : ℕ). 1024 + n) (sym (length_views w))) (λ e. absurd (true≢false e)) in
-    opening_keeps first strangers w v ok x report p (spells_own p may.valid) shown_now (at_client a refl) refl
+    let shown_now = asks first (map view_of_end w.ends) ok.messages ok.shown a true (request_of name mode asked) (wire_text mode file) refl (none_at_next first strangers w ok x.address refl) (λ e. absurd (true≢false e)) in
+    opening_keeps first strangers w v ok x report p (spells_own p may.valid) shown_now (at_client a refl) refl refl
     (record { phase = (refl, may.options.askable, refl, refl, λ _. refl, λ _. refl); held = empty_held mode; committed = λ e. absurd (true≢false e) }) refl o
 
 -- a request that these bytes spell was sent, and no open end answers it
@@ -143,8 +148,8 @@ sending_keeps first strangers w v from bytes request path file [] report ok come
     let x = sending_end w from bytes request.mode path file [] in
     let one : 1 ≤ block_count text DEFAULT_BLOCK = omega arith in
     let p = Data 1 (block text DEFAULT_BLOCK 1) in
-    let shown_now = serves_plainly first (map view_of_end w.ends) ok.messages ok.shown x.address from bytes false request text refl (ap (λ (n : ℕ). 1024 + n) (sym (length_views w))) come.sent fits come.spells come.unanswered in
-    opening_keeps first strangers w v ok x report p (spells_own p (valid_data text DEFAULT_BLOCK 0 (omega arith) (omega arith) fits one)) shown_now (at_server x.address refl) refl
+    let shown_now = serves_plainly first (map view_of_end w.ends) ok.messages ok.shown x.address from bytes false request text refl (none_at_next first strangers w ok x.address refl) come.sent fits come.spells come.unanswered in
+    opening_keeps first strangers w v ok x report p (spells_own p (valid_data text DEFAULT_BLOCK 0 (omega arith) (omega arith) fits one)) shown_now (at_server x.address refl) refl refl
     (record {
       phase = record { sender = refl; positive = omega arith; size = omega arith; fits = fits; so_far = one; left = refl; last_sent_to = refl; measured = refl };
       held = empty_held request.mode;
@@ -155,10 +160,10 @@ sending_keeps first strangers w v from bytes request path file (known ∷ agreed
     let x = sending_end w from bytes request.mode path file (known ∷ agreed) in
     let b = agreed_size (known ∷ agreed) agreeable in
     let p = Oack (agreed_options (known ∷ agreed)) in
-    let shown_now = serves_with first (map view_of_end w.ends) ok.messages ok.shown x.address from bytes false request text (size (known ∷ agreed)) refl (ap (λ (n : ℕ). 1024 + n) (sym (length_views w))) come.sent fits b.0 come.spells come.unanswered in
-    let says = subst (λ (n : ℕ). IsShownWithin 3 first (map view_of_end w.ends ++ view_of_end (Open_end x) ∷ []) (ok.messages ++ message x.address from (Says_oack n) ∷ [])) (sym (own_oack (known ∷ agreed) agreeable)) shown_now in
+    let shown_now = serves_with first (map view_of_end w.ends) ok.messages ok.shown x.address from bytes false request text (size (known ∷ agreed)) refl (none_at_next first strangers w ok x.address refl) come.sent fits b.0 come.spells come.unanswered in
+    let says = subst (λ (n : ℕ). IsShownWithin two_hosts 3 first (map view_of_end w.ends ++ view_of_end (Open_end x) ∷ []) (ok.messages ++ message x.address from (Says_oack n) ∷ [])) (sym (own_oack (known ∷ agreed) agreeable)) shown_now in
     let none : 0 * size (known ∷ agreed) ≡ 0 = omega arith in
-    opening_keeps first strangers w v ok x report p (spells_own p (valid (λ e. cc))) says (at_server x.address refl) refl
+    opening_keeps first strangers w v ok x report p (spells_own p (valid (λ e. cc))) says (at_server x.address refl) refl refl
     (record {
       phase = record { sender = refl; positive = b.0; size = b.1; fits = fits; so_far = omega arith; left = ap (λ (n : ℕ). drop n text) (sym none); last_sent_to = refl; measured = refl };
       held = empty_held request.mode;
@@ -171,16 +176,16 @@ taking_keeps : (first : List Rule) (strangers : Bool) (w v : WorldState) (from :
     Opens w (receiving_end w from bytes request.mode path agreed) report v → IsOkWithin 3 first strangers v
 taking_keeps first strangers w v from bytes request path [] report ok come agreeable valid o =
     let x = receiving_end w from bytes request.mode path [] in
-    let shown_now = serves_plainly first (map view_of_end w.ends) ok.messages ok.shown x.address from bytes true request (wire_text request.mode [] ++ []) refl (ap (λ (n : ℕ). 1024 + n) (sym (length_views w))) come.sent (no_text request.mode) come.spells come.unanswered in
-    opening_keeps first strangers w v ok x report (Ack 0) (spells_own (Ack 0) (omega arith)) shown_now (at_server x.address refl) refl
+    let shown_now = serves_plainly first (map view_of_end w.ends) ok.messages ok.shown x.address from bytes true request (wire_text request.mode [] ++ []) refl (none_at_next first strangers w ok x.address refl) come.sent (no_text request.mode) come.spells come.unanswered in
+    opening_keeps first strangers w v ok x report (Ack 0) (spells_own (Ack 0) (omega arith)) shown_now (at_server x.address refl) refl refl
     (record { phase = (refl, refl); held = empty_held request.mode; committed = λ _. refl }) refl o
 taking_keeps first strangers w v from bytes request path (known ∷ agreed) report ok come agreeable valid o =
     let x = receiving_end w from bytes request.mode path (known ∷ agreed) in
     let b = agreed_size (known ∷ agreed) agreeable in
     let p = Oack (agreed_options (known ∷ agreed)) in
-    let shown_now = serves_with first (map view_of_end w.ends) ok.messages ok.shown x.address from bytes true request (wire_text request.mode [] ++ []) (size (known ∷ agreed)) refl (ap (λ (n : ℕ). 1024 + n) (sym (length_views w))) come.sent (no_text request.mode) b.0 come.spells come.unanswered in
-    let says = subst (λ (n : ℕ). IsShownWithin 3 first (map view_of_end w.ends ++ view_of_end (Open_end x) ∷ []) (ok.messages ++ message x.address from (Says_oack n) ∷ [])) (sym (own_oack (known ∷ agreed) agreeable)) shown_now in
-    opening_keeps first strangers w v ok x report p (spells_own p (valid (λ e. cc))) says (at_server x.address refl) refl
+    let shown_now = serves_with first (map view_of_end w.ends) ok.messages ok.shown x.address from bytes true request (wire_text request.mode [] ++ []) (size (known ∷ agreed)) refl (none_at_next first strangers w ok x.address refl) come.sent (no_text request.mode) b.0 come.spells come.unanswered in
+    let says = subst (λ (n : ℕ). IsShownWithin two_hosts 3 first (map view_of_end w.ends ++ view_of_end (Open_end x) ∷ []) (ok.messages ++ message x.address from (Says_oack n) ∷ [])) (sym (own_oack (known ∷ agreed) agreeable)) shown_now in
+    opening_keeps first strangers w v ok x report p (spells_own p (valid (λ e. cc))) says (at_server x.address refl) refl refl
     (record { phase = (refl, refl); held = empty_held request.mode; committed = λ _. refl }) refl o
 
 -- the request port refuses

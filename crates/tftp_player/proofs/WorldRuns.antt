@@ -16,7 +16,8 @@ use Rattle.tftp_ends.specs.declared.phase.Phase.TheVariants.{Waiting, Sending, R
 use Rattle.tftp_ends.specs.End.{is_sender, is_client}
 use Rattle.tftp_ends.specs.Action.{Decodes, timeout_response}
 use Rattle.tftp_ends.specs.Step.{timeout_turn}
-use Rattle.tftp_machine.specs.Machine.{Endpoint, Elsewhere, host_of, Message}
+use Rattle.tftp_machine.specs.Hosts.{host_of, two_hosts}
+use Rattle.tftp_machine.specs.Machine.{Endpoint, Elsewhere, Message}
 use Rattle.tftp_machine.specs.Rules.{Rule, message}
 use Rattle.tftp_player.specs.Said.{said}
 use Rattle.tftp_machine.specs.Shows.{EndView, IsShownAt, IsShownWithin, IsShown}
@@ -36,7 +37,7 @@ use Rattle.tftp_machine.proofs.Shown.{shown_start, shown_within}
 use Rattle.tftp_machine.proofs.ViewSafe.{shown_at_home}
 use Rattle.tftp_player.proofs.EndMoves.{IsThere, from_response}
 use Rattle.tftp_player.proofs.EndTurns.{by_datagram, by_timeout}
-use Rattle.tftp_player.proofs.WorldTurns.{nothing_in, one_in, turn_keeps, view_at}
+use Rattle.tftp_player.proofs.WorldTurns.{ports_set, nothing_in, one_in, turn_keeps, view_at}
 use Rattle.tftp_player.proofs.WorldKeeps.{reading_keeps, writing_keeps, serving_keeps, asked_so, stays_ok, none_more, shown_as}
 
 pub contains_at : {X : Type 0} (xs : List X) (k : ℕ) (x : X) → slice_get xs k ≡ Some x → Contains xs x
@@ -162,10 +163,11 @@ armed_keeps first strangers w ok k x at =
     ∙ set_same (map view_of_end w.ends) k (view_of_end x) (view_at w.ends k x at)) in
     record {
       messages = ok.messages;
-      shown = subst (λ (vs : List EndView). IsShownWithin 3 first vs ok.messages) (sym same) (none_more first (map view_of_end w.ends) ok.messages ok.shown);
+      shown = subst (λ (vs : List EndView). IsShownWithin two_hosts 3 first vs ok.messages) (sym same) (none_more first (map view_of_end w.ends) ok.messages ok.shown);
       sent = ok.sent;
       only = ok.only;
       speakers = ok.speakers;
+      ports = ports_set w k x y ok.ports at (ap (λ (e : EndView). e.address) (armed_view x));
       max_block = ok.max_block;
       ends = λ j z i. elim (slice_get-set_cases w.ends k j y z i) [
         | inl h ↦ subst (λ (u : WorldEnd). IsKeptIn v u) (sym h.1) (same_kept w v.ends y (end_armed w x (ok.ends k x at)))
@@ -186,6 +188,7 @@ stray_ok first w ok from to p far =
         | inr e ↦ inr (subst (λ (z : Message). host_of z.from ≡ Elsewhere) (one_in n m e) far)
       ];
       speakers = λ n i e. absurd (true≢false e);
+      ports = ok.ports;
       max_block = ok.max_block;
       ends = ok.ends;
     }
@@ -204,7 +207,7 @@ with_decoded first w ok from to bytes (Some q) far says =
     let h = stray_ok first w ok from to q far in record {
       more = h.shown.0;
       few = h.shown.1;
-      ok = shown_as (IsShownWithin 1 first) (IsShownAt (first ++ h.shown.0)) true w h h.shown.2;
+      ok = shown_as (IsShownWithin two_hosts 1 first) (IsShownAt two_hosts (first ++ h.shown.0)) true w h h.shown.2;
       come = λ p s. let e = one_meaning q p bytes says s in
           subst (λ (z : WirePacket). Contains (ok.messages ++ message from to (said q) ∷ []) (message from to (said z))) e (Contains-push ok.messages (message from to (said q)));
     }
@@ -220,13 +223,13 @@ within_four : (first more : List Rule) (strangers : Bool) (v : WorldState) → l
 within_four first more strangers v few ok =
     let s = ok.shown in
     let l : length (more ++ s.0) ≤ 4 = (let a = length-append more s.0 in let b = s.1 in omega (arith, a, b, few)) in
-    shown_as (IsShownWithin 3 (first ++ more)) (IsShownWithin 4 first) strangers v ok
-    (more ++ s.0, l, subst (λ (rs : List Rule). IsShownAt rs (map view_of_end v.ends) ok.messages) (append_assoc first more s.0) s.2)
+    shown_as (IsShownWithin two_hosts 3 (first ++ more)) (IsShownWithin two_hosts 4 first) strangers v ok
+    (more ++ s.0, l, subst (λ (rs : List Rule). IsShownAt two_hosts rs (map view_of_end v.ends) ok.messages) (append_assoc first more s.0) s.2)
 
 -- no more than three are no more than four
 three_or_four : (first : List Rule) (strangers : Bool) (v : WorldState) → IsOkWithin 3 first strangers v → IsOkWithin 4 first strangers v
 three_or_four first strangers v ok =
-    shown_as (IsShownWithin 3 first) (IsShownWithin 4 first) strangers v ok (shown_within 3 4 first (map view_of_end v.ends) ok.messages (omega arith) ok.shown)
+    shown_as (IsShownWithin two_hosts 3 first) (IsShownWithin two_hosts 4 first) strangers v ok (shown_within two_hosts 3 4 first (map view_of_end v.ends) ok.messages (omega arith) ok.shown)
 
 pub stray_keeps : (first : List Rule) (w v : WorldState) (ok : IsOkAt first true w) (report : Report) (from to : Endpoint) (bytes : List ℕ) → host_of from ≡ Elsewhere → Arrives w from to bytes report v → IsOkWithin 4 first true v
 stray_keeps first w v ok report from to bytes far (At_request_port here port decoded says repeated same served) =
@@ -252,12 +255,12 @@ step_after first false w v (Stray from to bytes) report may ok s = absurd may
 
 pub steps_are_rules : StepsAreRules
 steps_are_rules strangers w v event report may ok s =
-    step_after ok.shown.0 strangers w v event report may (shown_as IsShown (IsShownAt ok.shown.0) strangers w ok ok.shown.1) s
+    step_after ok.shown.0 strangers w v event report may (shown_as (IsShown two_hosts) (IsShownAt two_hosts ok.shown.0) strangers w ok ok.shown.1) s
 
 pub step_keeps : StepsKeep
 step_keeps strangers w v event report may ok s =
     let next = steps_are_rules strangers w v event report may ok s in
-    shown_as (IsShownWithin (most_rules event) ok.shown.0) IsShown strangers v next (ok.shown.0 ++ next.shown.0, next.shown.2)
+    shown_as (IsShownWithin two_hosts (most_rules event) ok.shown.0) (IsShown two_hosts) strangers v next (ok.shown.0 ++ next.shown.0, next.shown.2)
 
 -- so do all of them
 pub run_keeps : (strangers : Bool) (events : List Event) (w v : WorldState) → MayAllHappen strangers events → IsOk strangers w → Runs w events v → IsOk strangers v
@@ -268,10 +271,11 @@ run_keeps strangers (event ∷ events) w v may ok r = run_keeps strangers events
 pub new_ok : (strangers : Bool) (files : List StoredFile) (config : Config) → IsBlockSize config.limits.max_block → IsOk strangers (new_world files config)
 new_ok strangers files config ok = record {
   messages = [];
-  shown = shown_start;
+  shown = shown_start two_hosts;
   sent = λ d i. absurd (nothing_in d i);
   only = λ m i. absurd (nothing_in m i);
   speakers = λ m i. absurd (nothing_in m i);
+  ports = λ k x i. absurd (let f : None ≡ Some x = i in cc);
   max_block = ok;
   ends = λ k x i. absurd (let f : None ≡ Some x = i in cc);
 }
@@ -283,4 +287,4 @@ any_may (event ∷ events) = (tt, any_may events)
 -- a world without strangers has its peers at home
 pub ok_at_home : (w : WorldState) → IsOk false w → HasPeersAtHome w
 ok_at_home w ok x p i e =
-    shown_at_home (map view_of_end w.ends) ok.messages ok.shown (λ d c. ok.speakers d c refl) (view_of_end x) p (i.0, view_at w.ends i.0 x i.1) e
+    shown_at_home two_hosts (map view_of_end w.ends) ok.messages ok.shown (λ d c. ok.speakers d c refl) (view_of_end x) p (i.0, view_at w.ends i.0 x i.1) e

@@ -1,10 +1,10 @@
 -- A world that is kept is safe.
-use Rattle.std.proofs.Common.{◌≡◌, ℕ, Bool, true, false, List, [], ◌++◌, map, Option, Some, None, sym, refl, ap, ◌∙◌, subst, arith}
-use Rattle.std.specs.Prelude.{if◌then◌else◌, slice_get, option_map}
+use Rattle.std.proofs.Common.{◌≡◌, ℕ, Bool, true, false, List, [], ◌++◌, map, Some, sym, refl, ap, ◌∙◌, subst, arith}
+use Rattle.std.specs.Prelude.{if◌then◌else◌, slice_get}
 use Rattle.std.specs.Cmp.Lexicographic.{same_text}
 use Rattle.std.proofs.lemmas.Bool.{true≢false}
 use Rattle.std.proofs.lemmas.List.{append-nil}
-use Rattle.std.proofs.lemmas.Option.{same_Some, slice_get-map}
+use Rattle.std.proofs.lemmas.Option.{same_Some}
 use Rattle.tftp_wire.specs.declared.mode.Mode.{Mode}
 use Rattle.tftp_wire.specs.declared.mode.Mode.TheVariants.{Octet, Netascii}
 use Rattle.tftp_file.specs.Block.{IsBeginningOf}
@@ -13,7 +13,8 @@ use Rattle.tftp_ends.specs.declared.phase.Phase.{Phase}
 use Rattle.tftp_ends.specs.declared.phase.Phase.TheVariants.{Waiting, Sending, Receiving, Dallying, Closed}
 use Rattle.tftp_ends.specs.End.{is_sender, is_client, is_complete}
 use Rattle.tftp_machine.specs.Facts.{home, IsSoundParty}
-use Rattle.tftp_machine.specs.Machine.{Endpoint, At_server, At_client, Elsewhere, host_of, is_same_ip, server_ip, client_ip}
+use Rattle.tftp_machine.specs.Hosts.{host_of, server_ip, client_ip, two_hosts}
+use Rattle.tftp_machine.specs.Machine.{Endpoint, At_server, At_client, Elsewhere, is_same_ip}
 use Rattle.tftp_machine.specs.Shows.{EndView, Matches}
 use Rattle.tftp_machine.specs.ViewSafety.{IsAmong, IsSafeViews}
 use Rattle.tftp_player.specs.World.{WorldState, WorldEnd, Open_end, Closed_end, end_record, end_address, end_mode, end_file, end_stored, end_committed, end_text, new_world, goes_on, received_text, view_of_end}
@@ -25,19 +26,12 @@ use Rattle.tftp_player.proofs.SourceMoves.{text_if}
 use Rattle.tftp_player.proofs.SinkMoves.{text_else}
 use Rattle.tftp_machine.proofs.Endpoints.{endpoint_from}
 use Rattle.tftp_machine.proofs.ViewSafe.{IsBeginningOf-trans, first_of_empty, shown_safe}
-use Rattle.tftp_player.proofs.WorldTurns.{view_at}
+use Rattle.tftp_player.proofs.WorldTurns.{view_at, viewed_at}
 use Rattle.tftp_machine.proofs.Shown.{shown_by}
 use Rattle.tftp_player.proofs.WorldRuns.{run_keeps, new_ok, any_may, ok_at_home}
 
--- an end that is shown is one of the world
-viewed : (e : EndView) (o : Option WorldEnd) → option_map view_of_end o ≡ Some e → (x : WorldEnd) × (o ≡ Some x) × (view_of_end x ≡ e)
-viewed e None h = absurd (let f : None ≡ Some e = h in cc)
-viewed e (Some x) h = (x, refl, same_Some (view_of_end x) e h)
-
 end_of : (w : WorldState) (e : EndView) → IsAmong (map view_of_end w.ends) e → (x : WorldEnd) × IsIn w x × (view_of_end x ≡ e)
-end_of w e i =
-    let h = viewed e (slice_get w.ends i.0) (sym (slice_get-map view_of_end w.ends i.0) ∙ i.1) in
-    (h.0, (i.0, h.1), h.2)
+end_of w e i = let h = viewed_at w.ends i.0 e i.1 in (h.0, (i.0, h.1), h.2)
 
 -- what a receiver stored begins its text
 stored_begins : (b g : Bool) (f w h : List ℕ) → b ≡ false → IsBeginningOf w (if b then f else if g then w ++ h else w)
@@ -72,8 +66,8 @@ nothing_travels Octet = refl
 nothing_travels Netascii = refl
 
 module _ (strangers : Bool) (w : WorldState) (ok : IsOk strangers w) where
-  safe : IsSafeViews (map view_of_end w.ends)
-  safe = shown_safe (map view_of_end w.ends) ok.messages ok.shown
+  safe : IsSafeViews two_hosts (map view_of_end w.ends)
+  safe = shown_safe two_hosts (map view_of_end w.ends) ok.messages ok.shown
 
   among : (x : WorldEnd) → IsIn w x → IsAmong (map view_of_end w.ends) (view_of_end x)
   among x i = (i.0, view_at w.ends i.0 x i.1)
@@ -97,11 +91,11 @@ module _ (strangers : Bool) (w : WorldState) (ok : IsOk strangers w) where
   committed (Open_end x) h r d = h.stands.kept.committed r ∙ d
   committed (Closed_end x) h r d = h.stands r ∙ d
 
-  matched : (k : ℕ) (x : WorldEnd) → slice_get w.ends k ≡ Some x → Matches (view_of_end x) ((shown_by (map view_of_end w.ends) ok.messages ok.shown).0.party (end_address x))
-  matched k x i = ((shown_by (map view_of_end w.ends) ok.messages ok.shown).3.ends k (view_of_end x) (view_at w.ends k x i)).0
+  matched : (k : ℕ) (x : WorldEnd) → slice_get w.ends k ≡ Some x → Matches (view_of_end x) ((shown_by two_hosts (map view_of_end w.ends) ok.messages ok.shown).0.party (end_address x))
+  matched k x i = (shown_by two_hosts (map view_of_end w.ends) ok.messages ok.shown).3.ends k (view_of_end x) (view_at w.ends k x i)
 
-  sound : (k : ℕ) (x : WorldEnd) → slice_get w.ends k ≡ Some x → IsSoundParty (shown_by (map view_of_end w.ends) ok.messages ok.shown).0.party (end_address x) ((shown_by (map view_of_end w.ends) ok.messages ok.shown).0.party (end_address x))
-  sound k x i = (shown_by (map view_of_end w.ends) ok.messages ok.shown).1.ends (end_address x) (matched k x i).is_open
+  sound : (k : ℕ) (x : WorldEnd) → slice_get w.ends k ≡ Some x → IsSoundParty two_hosts (shown_by two_hosts (map view_of_end w.ends) ok.messages ok.shown).0.party (end_address x) ((shown_by two_hosts (map view_of_end w.ends) ok.messages ok.shown).0.party (end_address x))
+  sound k x i = (shown_by two_hosts (map view_of_end w.ends) ok.messages ok.shown).1.ends (end_address x) (matched k x i).is_open
 
   pub ok_safe : IsSafe w
   ok_safe = record {
@@ -109,11 +103,11 @@ module _ (strangers : Bool) (w : WorldState) (ok : IsOk strangers w) where
         let client = is_client (end_record x).side in
         endpoint_from (end_address x) (endpoint_of_end (end_record x).side k)
         (ip_at_home (end_address x) client ((sound k x i).at_home ∙ ap home (matched k x i).client))
-        (ok.shown.1.1.ends k (view_of_end x) (view_at w.ends k x i)).1;
+        (ok.ports k x i);
     at_server = λ x p i client peer. ((sound i.0 x i.1).serving ((matched i.0 x i.1).client ∙ client) p ((matched i.0 x i.1).peer ∙ peer)).0;
     unique = λ x y i j e.
-        let p = (ok.shown.1.1.ends i.0 (view_of_end x) (view_at w.ends i.0 x i.1)).1 in
-        let q = (ok.shown.1.1.ends j.0 (view_of_end y) (view_at w.ends j.0 y j.1)).1 in
+        let p = ok.ports i.0 x i.1 in
+        let q = ok.ports j.0 y j.1 in
         let f : (end_address x).port ≡ (end_address y).port = ap (λ (a : Endpoint). a.port) e in
         let k : i.0 ≡ j.0 = omega (arith, p, q, f) in
         same_Some x y (sym i.1 ∙ (ap (slice_get w.ends) k ∙ j.1));

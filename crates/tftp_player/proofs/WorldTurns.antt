@@ -1,11 +1,11 @@
 -- A turn of an end, an opening and an ERROR keep a world.
-use Rattle.std.proofs.Common.{◌≡◌, ℕ, Bool, true, false, List, [], ◌∷◌, ◌++◌, map, Option, Some, None, sym, refl, ap, ◌∙◌, subst, arith, inl, inr}
+use Rattle.std.proofs.Common.{◌≡◌, ℕ, ◌+◌, length, Bool, true, false, List, [], ◌∷◌, ◌++◌, map, set, Option, Some, None, sym, refl, ap, ◌∙◌, subst, arith, inl, inr}
 use Rattle.std.specs.Prelude.{◌≢◌, ◌⊎◌, ◌&&◌, not, slice_get, option_map}
 use Rattle.std.specs.List.{Contains}
 use Rattle.std.proofs.lemmas.Bool.{true≢false}
 use Rattle.std.proofs.lemmas.List.{map-set, map-append}
 use Rattle.std.proofs.lemmas.List.Elements.{Contains-append_cases, Contains-append_left, Contains-append_right, Contains-push, Contains-push_cases}
-use Rattle.std.proofs.lemmas.Option.{slice_get-map}
+use Rattle.std.proofs.lemmas.Option.{same_Some, slice_get-map}
 use Rattle.tftp_wire.specs.declared.packet.Packet.{Packet as WirePacket}
 use Rattle.tftp_wire.specs.Spelling.{Spells}
 use Rattle.tftp_file.specs.declared.files.Files.{Files}
@@ -13,7 +13,8 @@ use Rattle.tftp_file.specs.declared.files.Files.TheVariants.{Source, Sink}
 use Rattle.tftp_file.specs.Sink.{Holding}
 use Rattle.tftp_ends.specs.End.{is_sender, is_client, is_complete, outcome_of}
 use Rattle.tftp_ends.specs.Step.{Turn, Reply, after_turn}
-use Rattle.tftp_machine.specs.Machine.{Endpoint, Elsewhere, host_of, Message, Machine}
+use Rattle.tftp_machine.specs.Hosts.{host_of, two_hosts}
+use Rattle.tftp_machine.specs.Machine.{Endpoint, Elsewhere, Message, Machine}
 use Rattle.tftp_machine.specs.Rules.{Rule, message}
 use Rattle.tftp_player.specs.Said.{said}
 use Rattle.tftp_machine.specs.Facts.{home, Holds}
@@ -22,12 +23,12 @@ use Rattle.tftp_machine.specs.Shows.{EndView, Shows, IsShownWithin}
 use Rattle.tftp_machine.proofs.Shown.{shown_by}
 use Rattle.tftp_player.specs.World.{WorldState, OpenEnd, WorldEnd, Open_end, Closed_end, end_address, end_path, end_stored, StoredFile, file_at, in_the_way, datagram, replied, standing, end_after, with_files, has_committed, world_after, opened_in, said_in, view_of_end}
 use Rattle.tftp_player.specs.WorldSteps.{FilesAfter, Turns, Opens}
-use Rattle.tftp_player.specs.WorldKept.{EndKept, IsOpenIn, StandsIn, IsKeptIn, SaysSo, MaySpeak, IsOkAt, IsOkWithin}
+use Rattle.tftp_player.specs.WorldKept.{HasPorts, EndKept, IsOpenIn, StandsIn, IsKeptIn, SaysSo, MaySpeak, IsOkAt, IsOkWithin}
 use Rattle.tftp_player.specs.declared.datagram.Datagram.{Datagram}
 use Rattle.tftp_player.specs.declared.report.Report.{Report}
 use Rattle.tftp_machine.proofs.Indices.{slice_get-set_cases, slice_get-push_cases}
 use Rattle.tftp_player.proofs.EndMoves.{Goes, Replies, Newest}
-use Rattle.tftp_player.proofs.Standing.{standing_shown, standing_kept}
+use Rattle.tftp_player.proofs.Standing.{standing_address, standing_shown, standing_kept}
 
 pub nothing_in : {X : Type 0} (x : X) → Contains [] x → ⊥
 nothing_in x h = let l = h.1 in omega arith
@@ -76,17 +77,39 @@ home_not_elsewhere false e = cc
 pub view_at : (ends : List WorldEnd) (k : ℕ) (x : WorldEnd) → slice_get ends k ≡ Some x → slice_get (map view_of_end ends) k ≡ Some (view_of_end x)
 view_at ends k x e = slice_get-map view_of_end ends k ∙ ap (option_map view_of_end) e
 
+viewed : (e : EndView) (o : Option WorldEnd) → option_map view_of_end o ≡ Some e → (x : WorldEnd) × (o ≡ Some x) × (view_of_end x ≡ e)
+viewed e None h = absurd (let f : None ≡ Some e = h in cc)
+viewed e (Some x) h = (x, refl, same_Some (view_of_end x) e h)
+
+-- an end that is shown is one of the world
+pub viewed_at : (ends : List WorldEnd) (k : ℕ) (e : EndView) → slice_get (map view_of_end ends) k ≡ Some e → (x : WorldEnd) × (slice_get ends k ≡ Some x) × (view_of_end x ≡ e)
+viewed_at ends k e i = viewed e (slice_get ends k) (sym (slice_get-map view_of_end ends k) ∙ i)
+
 -- a machine that keeps its invariant shows a world that keeps its own
-pub world_machine : (first : List Rule) (strangers : Bool) (w : WorldState) (ok : IsOkAt first strangers w) → (m : Machine) × Holds m × AreRecorded m × Shows (map view_of_end w.ends) ok.messages m
-world_machine first strangers w ok = shown_by (map view_of_end w.ends) ok.messages (first, ok.shown)
+pub world_machine : (first : List Rule) (strangers : Bool) (w : WorldState) (ok : IsOkAt first strangers w) → (m : Machine) × Holds two_hosts m × AreRecorded two_hosts m × Shows (map view_of_end w.ends) ok.messages m
+world_machine first strangers w ok = shown_by two_hosts (map view_of_end w.ends) ok.messages (first, ok.shown)
 
 -- each end is at one of the two hosts
 pub at_home : (first : List Rule) (strangers : Bool) (w : WorldState) → IsOkAt first strangers w → (k : ℕ) (x : WorldEnd) → slice_get w.ends k ≡ Some x → host_of (end_address x) ≢ Elsewhere
 at_home first strangers w ok k x e f =
     let by = world_machine first strangers w ok in
-    let there = (by.3.ends k (view_of_end x) (view_at w.ends k x e)).0 in
+    let there = by.3.ends k (view_of_end x) (view_at w.ends k x e) in
     let h = (by.1.ends (end_address x) there.is_open).at_home in
     home_not_elsewhere (by.0.party (end_address x)).client (sym h ∙ f)
+
+-- an end that stays at its endpoint has the port of its index
+pub ports_set : (w : WorldState) (k : ℕ) (x y : WorldEnd) → HasPorts w → slice_get w.ends k ≡ Some x → end_address y ≡ end_address x → HasPorts (record w { ends = set w.ends k y })
+ports_set w k x y ports at same j z i = elim (slice_get-set_cases w.ends k j y z i) [
+  | inl h ↦ ap (λ (u : WorldEnd). (end_address u).port) h.1 ∙ (ap (λ (a : Endpoint). a.port) same ∙ (ports k x at ∙ ap (λ (n : ℕ). 1024 + n) (sym h.0)))
+  | inr h ↦ ports j z h.1
+]
+
+-- so has an end that opens at the next port
+ports_push : (w : WorldState) (x : OpenEnd) → HasPorts w → x.address.port ≡ 1024 + length w.ends → HasPorts (record w { ends = w.ends ++ Open_end x ∷ [] })
+ports_push w x ports port j z i = elim (slice_get-push_cases w.ends j (Open_end x) z i) [
+  | inl h ↦ ports j z h
+  | inr h ↦ ap (λ (u : WorldEnd). (end_address u).port) h.1 ∙ (port ∙ ap (λ (n : ℕ). 1024 + n) (sym h.0))
+]
 
 same_end : (x : OpenEnd) (held : Files (List ℕ) Holding) → ((with_files x held).address ≡ x.address) × ((with_files x held).path ≡ x.path) × ((with_files x held).state ≡ x.state)
 same_end x (Source left) = (refl, refl, refl)
@@ -195,11 +218,12 @@ turn_keeps first strangers w v ok k x turn held report at g t = subst (λ (z : W
       let own = at_home first strangers w ok k (Open_end x) at in
       record {
         messages = ok.messages ++ g.said_now;
-        shown = subst (λ (vs : List EndView). IsShownWithin 3 first vs (ok.messages ++ g.said_now)) (sym (map-set view_of_end w.ends k (standing y)))
+        shown = subst (λ (vs : List EndView). IsShownWithin two_hosts 3 first vs (ok.messages ++ g.said_now)) (sym (map-set view_of_end w.ends k (standing y)))
             (standing_shown first (map view_of_end w.ends) (ok.messages ++ g.said_now) k (view_of_end (Open_end x)) y (view_at w.ends k (Open_end x) at) g.shown);
         sent = sent_then first strangers w ok x.address own turn.reply g.said_now g.replies;
         only = only_then first strangers w ok x.address own turn.reply g.said_now g.replies;
         speakers = speakers_then first strangers w ok x.address own turn.reply g.said_now g.replies;
+        ports = ports_set w k (Open_end x) (standing y) ok.ports at (standing_address y ∙ same_address);
         max_block = ok.max_block;
         ends = λ j z i. elim (slice_get-set_cases w.ends k j (standing y) z i) [
           | inl h ↦ subst (λ (u : WorldEnd). IsKeptIn (world_after w k x turn held t.files) u) (sym h.1)
@@ -212,9 +236,9 @@ turn_keeps first strangers w v ok k x turn held report at g t = subst (λ (z : W
 
 -- an end that opened keeps the world
 pub opening_keeps : (first : List Rule) (strangers : Bool) (w v : WorldState) (ok : IsOkAt first strangers w) (x : OpenEnd) (report : Report) (p : WirePacket) →
-    Spells p x.state.position.last_sent → IsShownWithin 3 first (map view_of_end w.ends ++ view_of_end (Open_end x) ∷ []) (ok.messages ++ message x.address x.state.position.last_sent_to (said p) ∷ []) →
-    host_of x.address ≢ Elsewhere → outcome_of x.state.position.phase ≡ None → EndKept x → is_complete x.state.position.phase ≡ false → Opens w x report v → IsOkWithin 3 first strangers v
-opening_keeps first strangers w v ok x report p spells shown own still kept incomplete o = subst (λ (z : WorldState). IsOkWithin 3 first strangers z) (sym o.is) later where
+    Spells p x.state.position.last_sent → IsShownWithin two_hosts 3 first (map view_of_end w.ends ++ view_of_end (Open_end x) ∷ []) (ok.messages ++ message x.address x.state.position.last_sent_to (said p) ∷ []) →
+    host_of x.address ≢ Elsewhere → x.address.port ≡ 1024 + length w.ends → outcome_of x.state.position.phase ≡ None → EndKept x → is_complete x.state.position.phase ≡ false → Opens w x report v → IsOkWithin 3 first strangers v
+opening_keeps first strangers w v ok x report p spells shown own port still kept incomplete o = subst (λ (z : WorldState). IsOkWithin 3 first strangers z) (sym o.is) later where
   later : IsOkWithin 3 first strangers (opened_in w x)
   later =
       let reply : Option Reply = Some (record { to = x.state.position.last_sent_to; bytes = x.state.position.last_sent }) in
@@ -222,10 +246,11 @@ opening_keeps first strangers w v ok x report p spells shown own still kept inco
       let r : Replies x.address reply (m ∷ []) = (p, spells, refl) in
       record {
         messages = ok.messages ++ m ∷ [];
-        shown = subst (λ (vs : List EndView). IsShownWithin 3 first vs (ok.messages ++ m ∷ [])) (sym (map-append view_of_end w.ends (Open_end x ∷ []))) shown;
+        shown = subst (λ (vs : List EndView). IsShownWithin two_hosts 3 first vs (ok.messages ++ m ∷ [])) (sym (map-append view_of_end w.ends (Open_end x ∷ []))) shown;
         sent = sent_then first strangers w ok x.address own reply (m ∷ []) r;
         only = only_then first strangers w ok x.address own reply (m ∷ []) r;
         speakers = speakers_then first strangers w ok x.address own reply (m ∷ []) r;
+        ports = ports_push w x ok.ports port;
         max_block = ok.max_block;
         ends = λ j z i. elim (slice_get-push_cases w.ends j (Open_end x) z i) [
           | inl h ↦ still_kept w (opened_in w x) (replied x.address reply) z refl refl (λ o q c e. e) (ok.ends j z h)
@@ -242,7 +267,7 @@ opening_keeps first strangers w v ok x report p spells shown own still kept inco
 
 -- a datagram that changes no end keeps the world
 pub saying_keeps : (first : List Rule) (strangers : Bool) (w : WorldState) (ok : IsOkAt first strangers w) (from to : Endpoint) (bytes : List ℕ) (p : WirePacket) →
-    Spells p bytes → IsShownWithin 3 first (map view_of_end w.ends) (ok.messages ++ message from to (said p) ∷ []) → host_of from ≢ Elsewhere →
+    Spells p bytes → IsShownWithin two_hosts 3 first (map view_of_end w.ends) (ok.messages ++ message from to (said p) ∷ []) → host_of from ≢ Elsewhere →
     IsOkWithin 3 first strangers (said_in w (datagram from to bytes))
 saying_keeps first strangers w ok from to bytes p spells shown own =
     let reply : Option Reply = Some (record { to = to; bytes = bytes }) in
@@ -254,6 +279,7 @@ saying_keeps first strangers w ok from to bytes p spells shown own =
       sent = sent_then first strangers w ok from own reply (m ∷ []) r;
       only = only_then first strangers w ok from own reply (m ∷ []) r;
       speakers = speakers_then first strangers w ok from own reply (m ∷ []) r;
+      ports = ok.ports;
       max_block = ok.max_block;
       ends = λ j z i. still_kept w (said_in w (datagram from to bytes)) (replied from reply) z refl refl (λ o q c e. e) (ok.ends j z i);
     }

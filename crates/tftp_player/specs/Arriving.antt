@@ -1,7 +1,8 @@
 -- The effect of a datagram on the ends of a world and the server, for every list of sent datagrams.
 use Rattle.std.specs.Prelude.{ℕ, ◌≡◌, ◌+◌, ◌<◌, ⊤, List, ◌++◌, length}
 use Rattle.tftp_player.specs.Effect.{said_by, report_by}
-use Rattle.tftp_machine.specs.Machine.{Endpoint, host_of, request_port}
+use Rattle.tftp_machine.specs.Hosts.{host_of, request_port}
+use Rattle.tftp_machine.specs.Machine.{Endpoint}
 use Rattle.tftp_machine.specs.Machine.{Elsewhere as Far}
 use Rattle.tftp_player.specs.Serving.{PlayedServer}
 use Rattle.tftp_player.specs.Stage.{world_of}

@@ -9,7 +9,8 @@ use Rattle.tftp_file.specs.Netascii.{wire_text}
 use Rattle.tftp_ends.specs.End.{EndState}
 pub use Rattle.tftp_ends.specs.Opening.{request_of, getting, putting, serving_read, serving_write}
 pub use Rattle.tftp_ends.specs.Opening.{MayGet, MayPut}
-use Rattle.tftp_machine.specs.Machine.{Endpoint, request_port}
+use Rattle.tftp_machine.specs.Hosts.{request_port}
+use Rattle.tftp_machine.specs.Machine.{Endpoint}
 use Rattle.tftp_player.specs.World.{WorldState, OpenEnd, next_port, ip_of}
 
 -- an end as it opens at the next port, for this request and the file at a path, with this text left

@@ -1,6 +1,6 @@
 -- The invariant of every world, which makes it safe.
-use Rattle.std.specs.Prelude.{◌≡◌, ◌≢◌, ℕ, ◌*◌, ◌<◌, ◌≤◌, ◌⊎◌, Bool, true, false, List, [], map}
-use Rattle.std.specs.Prelude.{length, drop, slice_get, Some, None}
+use Rattle.std.specs.Prelude.{◌≡◌, ◌≢◌, ℕ, ◌+◌, ◌*◌, ◌<◌, ◌≤◌, ◌⊎◌, Bool, true, false, List, []}
+use Rattle.std.specs.Prelude.{map, length, drop, slice_get, Some, None}
 use Rattle.std.specs.List.{Contains}
 use Rattle.tftp_wire.specs.declared.limits.TheConstants.{MAX_BLOCK}
 use Rattle.tftp_wire.specs.declared.mode.Mode.{Mode}
@@ -16,13 +16,14 @@ use Rattle.tftp_ends.specs.declared.phase.Phase.TheVariants.{Waiting, Sending, R
 use Rattle.tftp_ends.specs.declared.phase.Phase.TheVariants.{Closed}
 use Rattle.tftp_ends.specs.declared.phase.Terms.{Terms}
 use Rattle.tftp_ends.specs.End.{is_sender, is_client, is_complete, outcome_of}
-use Rattle.tftp_machine.specs.Machine.{Endpoint, Elsewhere, host_of, request_port, Message}
+use Rattle.tftp_machine.specs.Hosts.{host_of, request_port, two_hosts}
+use Rattle.tftp_machine.specs.Machine.{Endpoint, Elsewhere, Message}
 use Rattle.tftp_machine.specs.Rules.{Rule, message}
 use Rattle.tftp_player.specs.Said.{said}
 use Rattle.tftp_machine.specs.Shows.{EndView, IsShownAt, IsShown, IsShownWithin}
 use Rattle.tftp_player.specs.World.{WorldState, OpenEnd, ClosedEnd, WorldEnd, Open_end, Closed_end}
-use Rattle.tftp_player.specs.World.{end_record, end_path, end_stored, file_at, datagram}
-use Rattle.tftp_player.specs.World.{view_of_end}
+use Rattle.tftp_player.specs.World.{end_record, end_address, end_path, end_stored, file_at}
+use Rattle.tftp_player.specs.World.{datagram, view_of_end}
 use Rattle.tftp_player.specs.declared.datagram.Datagram.{Datagram}
 
 -- the wire text of a sender's file
@@ -104,6 +105,11 @@ pub record SaysSo (d : Datagram) (m : Message) : Type 0 where
 abbrev pub MaySpeak : Bool → Endpoint → Type 0
 MaySpeak strangers a = strangers ≡ false → host_of a ≢ Elsewhere
 
+-- the end at index k has port 1024 + k
+abbrev pub HasPorts : WorldState → Type 0
+HasPorts w =
+    (k : ℕ) (x : WorldEnd) → slice_get w.ends k ≡ Some x → (end_address x).port ≡ 1024 + k
+
 -- the guarded machine shows the world's ends and what was sent, as `IsShownSo` says; `strangers`
 -- says that an endpoint at neither host may have sent
 pub record IsOkBy (IsShownSo : List EndView → List Message → Type 0) (strangers : Bool)
@@ -116,17 +122,18 @@ pub record IsOkBy (IsShownSo : List EndView → List Message → Type 0) (strang
   pub only : (m : Message) → Contains messages m →
       ((d : Datagram) × Contains w.sent d × SaysSo d m) ⊎ (host_of m.from ≡ Elsewhere)
   pub speakers : (m : Message) → Contains messages m → MaySpeak strangers m.from
+  pub ports : HasPorts w
   pub max_block : IsBlockSize w.limits.max_block
   pub ends : (k : ℕ) (x : WorldEnd) → slice_get w.ends k ≡ Some x → IsKeptIn w x
 
 -- it is shown after a legal list of rules
 abbrev pub IsOk : Bool → WorldState → Type 0
-IsOk strangers w = IsOkBy IsShown strangers w
+IsOk strangers w = IsOkBy (IsShown two_hosts) strangers w
 
 -- it is shown after these rules
 abbrev pub IsOkAt : List Rule → Bool → WorldState → Type 0
-IsOkAt rules strangers w = IsOkBy (IsShownAt rules) strangers w
+IsOkAt rules strangers w = IsOkBy (IsShownAt two_hosts rules) strangers w
 
 -- it is shown after these and `most` more at most
 abbrev pub IsOkWithin : ℕ → List Rule → Bool → WorldState → Type 0
-IsOkWithin most rules strangers w = IsOkBy (IsShownWithin most rules) strangers w
+IsOkWithin most rules strangers w = IsOkBy (IsShownWithin two_hosts most rules) strangers w

@@ -3,7 +3,8 @@ use Rattle.std.specs.Prelude.{◌≡◌, ◌≢◌, ℕ, ◌+◌, true, false, [
 use Rattle.tftp_file.specs.Block.{IsBeginningOf}
 use Rattle.tftp_ends.specs.End.{is_sender, is_client}
 use Rattle.tftp_ends.specs.declared.side.Side.{Side}
-use Rattle.tftp_machine.specs.Machine.{Endpoint, At_server, Elsewhere, host_of}
+use Rattle.tftp_machine.specs.Hosts.{host_of}
+use Rattle.tftp_machine.specs.Machine.{Endpoint, At_server, Elsewhere}
 use Rattle.tftp_player.specs.World.{WorldState, WorldEnd, ip_of, end_record, end_address, end_path}
 use Rattle.tftp_player.specs.World.{end_file, end_stored, end_committed, file_at}
 

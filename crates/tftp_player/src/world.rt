@@ -4,7 +4,8 @@ ghost use Rattle.std.specs.Prelude.{◌≡◌, true, false, option_map, IfOk, If
 ghost use Rattle.std.specs.Prelude.{◌↔◌};
 ghost use Rattle.tftp_server.specs.Config.{IsConfig};
 ghost use Rattle.tftp_store.specs.Memory.{contents, has_distinct_paths, in_path_order};
-ghost use Rattle.tftp_machine.specs.Machine.{host_of, Elsewhere};
+ghost use Rattle.tftp_machine.specs.Hosts.{host_of};
+ghost use Rattle.tftp_machine.specs.Machine.{Elsewhere};
 ghost use Rattle.tftp_player.specs.Played.{records_from};
 ghost use Rattle.tftp_player.specs.PlayedWorld.{strayed_after, HasSentEach, IsHome, WasPlayed};
 ghost use Rattle.tftp_player.specs.Stage.{stored_at, committed_at};

@@ -1,7 +1,8 @@
 //! The statements of a script.
 
 ghost use Rattle.std.specs.Prelude.{◌≡◌};
-ghost use Rattle.tftp_machine.specs.Machine.{host_of, Elsewhere};
+ghost use Rattle.tftp_machine.specs.Hosts.{host_of};
+ghost use Rattle.tftp_machine.specs.Machine.{Elsewhere};
 
 use crate::script::line::LineFault;
 use crate::script::word::{asked, bytes, content, endpoint, mode, number};

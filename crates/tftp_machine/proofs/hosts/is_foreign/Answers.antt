@@ -1,7 +1,8 @@
 -- An endpoint with neither address is at neither host.
 use Rattle.std.proofs.Common.{◌≡◌, Bool, ap, sym, ◌∙◌, subst}
 use Rattle.std.specs.Prelude.{IsTrue, ◌&&◌, ◌↔◌, not}
-use Rattle.tftp_machine.specs.Machine.{Elsewhere, host_of, client_ip, is_same_ip}
+use Rattle.tftp_machine.specs.Hosts.{host_of, client_ip}
+use Rattle.tftp_machine.specs.Machine.{Elsewhere, is_same_ip}
 use Rattle.tftp_machine.proofs.HostLemmas.{foreign_by}
 use Rattle.tftp_machine.proofs.hosts.is_foreign.Goals as goal
 

@@ -4,7 +4,8 @@ use Rattle.tftp_wire.specs.declared.mode.Mode.TheVariants.{Octet}
 use Rattle.std.specs.Prelude.{if◌then◌else◌}
 use Rattle.std.proofs.lemmas.Bool.{true≢false}
 use Rattle.tftp_wire.specs.declared.packet.Request.{Request as WireRequest}
-use Rattle.tftp_machine.specs.Machine.{Endpoint, is_same, nobody, client_ip, server_ip, At_server, At_client, host_of, start}
+use Rattle.tftp_machine.specs.Hosts.{client_ip, server_ip, host_of, two_hosts}
+use Rattle.tftp_machine.specs.Machine.{Endpoint, is_same, nobody, At_server, At_client, start}
 use Rattle.tftp_machine.specs.Rules.{Rule, Asks, Opens_with, Takes_oack, Sends_next, Appends, Completes, IsLegal, IsOpenedBy, AreOver, asking, after}
 use Rattle.tftp_machine.proofs.laws.some_run_completes.Goals as goal
 
@@ -35,10 +36,10 @@ no_end : (b : Bool) → IsOpenedBy (if b then asking false request [] else nobod
 no_end true h = true≢false h.server
 no_end false h = true≢false (sym h.is_open)
 
-no_duplicate : AreOver (after (Asks c false request []) start) c false request
+no_duplicate : AreOver (after two_hosts (Asks c false request []) start) c false request
 no_duplicate a h = absurd (no_end (is_same a c) h)
 
-legal : IsLegal rules_of start
+legal : IsLegal two_hosts rules_of start
 legal = (
   (refl, at_client, λ _. refl),
   tt,
