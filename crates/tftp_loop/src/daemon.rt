@@ -141,7 +141,9 @@ impl<S: ServedStore + Drop> Daemon<S> {
     pub(crate) fn look<C: Clock>(&mut self, clock: &C, events: &mut Events, millis: u64)
         ensures { OnlyServes S.meaning S.Source.meaning self.old self.new }
     {
-        self.sockets.wait(clock, &mut self.journal, events, millis);
+        let open = self.ports.len();
+        self.sockets
+            .wait(clock, &mut self.journal, events, millis, open);
         note_all(
             events,
             &mut self.sockets.is_ready,
