@@ -16,8 +16,8 @@ use tftp_sockets::{Journal, ServerSocket, read_watch};
 /// The token of the request port. The token of a transfer is its port, which is never 0.
 pub(crate) const REQUESTS: Token = Token(0);
 
-/// The most polls before a wait that may sleep: some 25 microseconds.
-const MOST_POLLS: u32 = 64;
+/// The number of polls before a wait that may sleep: some 25 microseconds.
+const POLLS: u32 = 64;
 
 /// The request port, the poll of all ports, and the time.
 #[derive(Drop)]
@@ -30,8 +30,6 @@ pub(crate) struct Sockets {
     pub(crate) is_ready: bool,
     /// A bound port without a transfer.
     spare: Option<ServerSocket>,
-    /// The number of polls before the next wait that may sleep, 1 to `MOST_POLLS`.
-    polls: u32,
     /// The time, read after each wait.
     pub(crate) watch: Watch,
 }
@@ -51,7 +49,6 @@ impl Sockets {
             ip,
             is_ready: false,
             spare: None,
-            polls: 1,
             watch: Watch::new(read_clock(net, 0)),
         })
     }
@@ -81,7 +78,7 @@ impl Sockets {
         ensures forward { self.old.watch.now ≤ self.new.watch.now }
         ensures port { self.new.requests.port ≡ self.old.requests.port }
     {
-        wait_for_event(&mut self.poll, &mut self.polls, events, millis, open);
+        wait_for_event(&mut self.poll, events, millis, open);
         read_watch(clock, journal, &mut self.watch);
     }
 
@@ -142,24 +139,21 @@ impl Sockets {
 /// Waits for an event, for at most `millis` milliseconds. With several open transfers it polls
 /// first: the client that sends to a sleeping server has to wake it, which slows all clients of
 /// one processor.
-fn wait_for_event(poll: &mut Poll, polls: &mut u32, events: &mut Events, millis: u64, open: usize) {
-    if millis > 0 && open > 1 && finds_event(poll, polls, events) {
+fn wait_for_event(poll: &mut Poll, events: &mut Events, millis: u64, open: usize) {
+    if millis > 0 && open > 1 && finds_event(poll, events) {
         return;
     }
     let _ = poll.poll(events, Some(Duration::from_millis(millis)));
 }
 
-/// Polls without a sleep, until there is an event. A success doubles the number of polls next time,
-/// and without one there are an eighth fewer, so that rare datagrams cost few polls.
-fn finds_event(poll: &mut Poll, polls: &mut u32, events: &mut Events) -> bool {
-    for _ in 0..*polls {
+/// Polls without a sleep, until there is an event.
+fn finds_event(poll: &mut Poll, events: &mut Events) -> bool {
+    for _ in 0..POLLS {
         let _ = poll.poll(events, Some(Duration::from_millis(0)));
         if !events.is_empty() {
-            *polls = polls.saturating_add(*polls).min(MOST_POLLS);
             return true;
         }
     }
-    *polls = polls.saturating_sub((*polls / 8).max(1)).max(1);
     false
 }
 
