@@ -7,8 +7,8 @@ use Rattle.tftp_file.specs.declared.files.Files.{Files}
 use Rattle.tftp_file.specs.declared.files.Files.TheVariants.{Source, Sink}
 use Rattle.tftp_client.specs.declared.local.LocalFile.{LocalFile}
 
-module _ {S R F D : Type 0} {reads : read.Ghosts F} {writes : write.Ghosts F} {seeks : seek.Ghosts F}
-    {lists : read.Ghosts D} where
+module _ {S R F D : Type 0} {reads : read.Ghosts F} {writes : write.Ghosts F}
+    {seeks : seek.Ghosts F} {lists : read.Ghosts D} where
   -- how many bytes a received file took
   abbrev pub stored : Files S (LocalFile R F D reads writes seeks lists) → Option ℕ
   stored (Source source) = None

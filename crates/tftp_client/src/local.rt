@@ -84,8 +84,9 @@ pub(crate) fn read_error<F: Read + Drop>(source: LocalSource<F>) -> Option<io::E
 ///
 /// It buffers what is appended, and writes it after a datagram is sent.
 ///
-/// Its model is what it took: the bytes of the appends that succeeded, and whether a commit succeeded
-/// after them. A failed append may leave a part of its bytes in the buffer and on the disk.
+/// Its model is what it took: the bytes of the appends that succeeded, and whether a commit
+/// succeeded after them. A failed append may leave a part of its bytes in the buffer and on the
+/// disk.
 #[derive(Drop)]
 pub(crate) struct LocalFile<R: Files + Drop> {
     files: R,
