@@ -1,29 +1,21 @@
 -- N of a complete transfer, from its file and the length with which its end was opened.
-use Rattle.std.proofs.Common.{◌≡◌, ◌≤◌, ◌<◌, ◌*◌, ℕ, arith, List, Option, Some, None, IfSome, refl, ◌∙◌}
+use Rattle.std.proofs.Common.{◌≡◌, ℕ, List, Some, refl, ◌∙◌}
 use Rattle.std.specs.declared.io.traits.Read as read
 use Rattle.std.specs.declared.io.traits.Write as write
 use Rattle.std.specs.declared.io.traits.Seek as seek
 use Rattle.tftp_wire.specs.declared.mode.Mode.{Mode}
 use Rattle.tftp_wire.specs.declared.mode.Mode.TheVariants.{Octet, Netascii}
 use Rattle.tftp_negotiate.specs.declared.known.Kind.{Kind}
-use Rattle.tftp_negotiate.specs.Ranges.{IsBlockSize}
 use Rattle.tftp_file.specs.Sink.{SinkMeaning}
 use Rattle.tftp_file.specs.Source.{SourceMeaning}
 use Rattle.tftp_file.specs.declared.files.Files.{Files}
 use Rattle.tftp_file.specs.declared.files.Files.TheVariants.{Source, Sink}
-use Rattle.tftp_file.specs.declared.length.TheConstants.{MAX_WIRE}
-use Rattle.tftp_ends.specs.Opening.{asked_size}
 use Rattle.tftp_sockets.specs.Journal.{Event}
 use Rattle.tftp_client.specs.declared.local.LocalFile.{LocalFile}
 use Rattle.tftp_client.specs.declared.transfer.Job.{Job}
 use Rattle.tftp_client.specs.Converses.{State}
 use Rattle.tftp_client.specs.Runs.{Counts, Runs, RunsAs, opens}
 use Rattle.tftp_client.specs.Stored.{count_of}
-
--- a file whose blocks can be numbered is no longer than the longest
-pub fits_wire : (size : Option ℕ) (length : ℕ) → IfSome size IsBlockSize → length < 65535 * asked_size size → length ≤ MAX_WIRE
-fits_wire None length block fits = omega (arith, fits)
-fits_wire (Some size) length block fits = omega (arith, fits, block)
 
 module _ {S R F D : Type 0} {reads : read.Ghosts F} {writes : write.Ghosts F} {seeks : seek.Ghosts F} {lists : read.Ghosts D} where
   -- a received file holds as many bytes as it counted; a file that is sent in octet has its own length on the wire
