@@ -1,2 +1,4 @@
+pub mod Committing
 pub mod Conversing
+pub mod Counting
 pub mod Running

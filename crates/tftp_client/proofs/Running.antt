@@ -12,7 +12,7 @@ use Rattle.tftp_host.specs.declared.client.client_outcome.ClientOutcome.TheVaria
 use Rattle.tftp_sockets.specs.Journal.{Event}
 use Rattle.tftp_client.specs.declared.transfer.Job.{Job}
 use Rattle.tftp_client.specs.Converses.{Converses, EndsBy, State}
-use Rattle.tftp_client.specs.Runs.{FailsBy, FailsEnd, FailsTransfer, GoesOn, Refused, Runs, RunsJob, Stops, Transfers, begun, opens, plain}
+use Rattle.tftp_client.specs.Runs.{FailsBy, FailsEnd, FailsTransfer, GoesOn, IsNew, Refused, Runs, RunsAs, RunsJob, Stops, Transfers, begun, opens, plain}
 
 -- for a last call whose result is returned as it is
 pub if_err : {T E : Type 0} (r : Result T E) (P Q : E → Type 0) → ((e : E) → P e → Q e) → IfErr r P → IfErr r Q
@@ -52,18 +52,18 @@ module _ {S K : Type 0} (sources : SourceMeaning S) (sinks : SinkMeaning K) wher
 
   -- a run that began by its request
   pub runs : {e : EndState} {before : List Event} {port port' : ℕ} {first last : State} {file files : Files S K}
-      → first ≡ begun port e before → (port' ≡ port) × Converses sources sinks port first file last files
+      → first ≡ begun port e before → IsNew sources sinks file → (port' ≡ port) × Converses sources sinks port first file last files
       → Runs sources sinks port' e before last files
-  runs {e} {before} {port} {port'} {first} {last} {file} {files} is run =
+  runs {e} {before} {port} {port'} {first} {last} {file} {files} is new run =
       let From : State → Type 0 = λ s. Converses sources sinks port s file last files in
       let Of : ℕ → Type 0 = λ p. Runs sources sinks p e before last files in
-      subst Of (sym run.0) (record { file = file; converses = subst From is run.1 })
+      subst Of (sym run.0) (record { file = file; new = new; converses = subst From is run.1 })
 
   -- the run of a job of this kind
-  pub runs_job : (job : Job) {kind : Kind} (length : ℕ) {port : ℕ} {before : List Event} {last : State} {files : Files S K} → job.kind ≡ kind
-      → Runs sources sinks port (opens kind job length) before last files → RunsJob sources sinks port job before last files
-  runs_job job {kind} length {port} {before} {last} {files} is run =
-      let Of : Kind → Type 0 = λ k. Runs sources sinks port (opens k job length) before last files in (length, subst Of (sym is) run)
+  pub runs_job : (job : Job) {kind : Kind} {port : ℕ} {before : List Event} {last : State} {files : Files S K} {count : ℕ} → job.kind ≡ kind
+      → RunsAs sources sinks port kind job before last files count → RunsJob sources sinks port job before last files count
+  runs_job job {kind} {port} {before} {last} {files} {count} is run =
+      let Of : Kind → Type 0 = λ k. RunsAs sources sinks port k job before last files count in subst Of (sym is) run
 
   -- a job of this kind failed
   pub fails_job : (job : Job) {kind : Kind} (length : ℕ) (before after : List Event) (end : ClientOutcome) → job.kind ≡ kind
@@ -72,10 +72,10 @@ module _ {S K : Type 0} (sources : SourceMeaning S) (sinks : SinkMeaning K) wher
       let Of : Kind → Type 0 = λ k. FailsEnd sources sinks (opens k job length) before after end in (length, subst Of (sym is) failed)
 
   -- a job ran, or failed, without the options that were refused
-  pub runs_again : (port : ℕ) (job other : Job) (before middle : List Event) (last : State) (files : Files S K) → Refused sources sinks job before middle
-      → other ≡ plain job → RunsJob sources sinks port other middle last files → Transfers sources sinks port job before last files
-  runs_again port job other before middle last files refused is run =
-      let Of : Job → Type 0 = λ j. RunsJob sources sinks port j middle last files in inr (middle, refused, subst Of is run)
+  pub runs_again : (port : ℕ) (job other : Job) (before middle : List Event) (last : State) (files : Files S K) (count : ℕ) → Refused sources sinks job before middle
+      → other ≡ plain job → RunsJob sources sinks port other middle last files count → Transfers sources sinks port job before last files count
+  runs_again port job other before middle last files count refused is run =
+      let Of : Job → Type 0 = λ j. RunsJob sources sinks port j middle last files count in inr (middle, refused, subst Of is run)
 
   pub fails_again : (job other : Job) (before middle after : List Event) (end : ClientOutcome) → Refused sources sinks job before middle
       → other ≡ plain job → FailsBy sources sinks other middle after end → FailsTransfer sources sinks job before after end

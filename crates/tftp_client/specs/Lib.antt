@@ -3,3 +3,4 @@ pub mod Converses
 pub mod Reason
 pub mod Runs
 pub mod Stored
+pub mod Taken

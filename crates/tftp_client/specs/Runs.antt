@@ -1,12 +1,16 @@
 -- What the program did for a job: the run of one end from its request on, or of a second one, where
 -- options were refused.
-use Rattle.std.specs.Prelude.{ℕ, ◌≡◌, ◌⊎◌, true, List, ◌∷◌, Option, None, IfSome, option_map}
+use Rattle.std.specs.Prelude.{ℕ, ◌≡◌, ◌⊎◌, true, List, ◌∷◌, length as list_length, Some}
+use Rattle.std.specs.Prelude.{None, option_map}
+use Rattle.tftp_wire.specs.declared.mode.Mode.{Mode}
+use Rattle.tftp_wire.specs.declared.mode.Mode.TheVariants.{Octet, Netascii}
 use Rattle.tftp_negotiate.specs.declared.asked.Asked.{Asked}
 use Rattle.tftp_negotiate.specs.declared.known.Kind.{Kind}
 use Rattle.tftp_negotiate.specs.declared.known.Kind.TheVariants.{Read, Write}
-use Rattle.tftp_file.specs.Sink.{SinkMeaning}
+use Rattle.tftp_file.specs.Sink.{Holding, SinkMeaning}
 use Rattle.tftp_file.specs.Source.{SourceMeaning}
 use Rattle.tftp_file.specs.declared.files.Files.{Files}
+use Rattle.tftp_file.specs.declared.files.Files.TheVariants.{Source, Sink}
 use Rattle.tftp_file.specs.declared.length.TheConstants.{MAX_WIRE}
 use Rattle.tftp_ends.specs.End.{EndState, is_complete}
 use Rattle.tftp_ends.specs.Opening.{getting, putting}
@@ -20,6 +24,7 @@ use Rattle.tftp_sockets.specs.Journal.{Event}
 use Rattle.tftp_sockets.specs.Journal.Event.{Printed, Sent}
 use Rattle.tftp_client.specs.declared.transfer.Job.{Job}
 use Rattle.tftp_client.specs.Converses.{Converses, EndsBy, State, deadline_at}
+use Rattle.tftp_client.specs.Taken.{nothing}
 
 -- a client whose end opened, once its request was sent from the port (RFC 1350, section 4)
 abbrev pub sent_from : ℕ → EndState → Endpoint → List ℕ → List Event → State
@@ -60,10 +65,16 @@ MayFallBack job (ends.Failed outcome) = (job.falls_back ≡ true) × FallsBack o
 MayFallBack job _ = ⊥
 
 module _ {S K : Type 0} (sources : SourceMeaning S) (sinks : SinkMeaning K) where
-  -- the program did this for an end at the port, from its request on
+  -- a received file has taken nothing
+  abbrev pub IsNew : Files S K → Type 0
+  IsNew (Source source) = Unit {0}
+  IsNew (Sink sink) = sinks.held sink ≡ Some nothing
+
+  -- the program did this for an end at the port, from its request on; a received file is new then
   pub record Runs (port : ℕ) (end : EndState) (before : List Event) (s : State)
       (files : Files S K) : Type 0 where
     pub file : Files S K
+    pub new : IsNew file
     pub converses : Converses sources sinks port (begun port end before) file s files
 
   -- the run of an end from that state stopped, and is not complete
@@ -96,10 +107,31 @@ module _ {S K : Type 0} (sources : SourceMeaning S) (sinks : SinkMeaning K) wher
   FailsBy job before after end =
       (length : ℕ) × FailsEnd (opens job.kind job length) before after end
 
+  -- N of a file: how many bytes a received one holds; of one that is sent in octet, the length on
+  -- the wire. In netascii only the system states the length of a file that is sent
+  abbrev pub Counts : Files S K → Mode → ℕ → ℕ → Type 0
+  Counts (Sink sink) mode length count =
+      (holding : Holding) × (sinks.held sink ≡ Some holding) × (count ≡ list_length holding.bytes)
+  Counts (Source source) Octet length count = count ≡ length
+  Counts (Source source) Netascii length count = Unit {0}
+
+  -- the run of an end of this kind, as a job opens it, and N of its file
+  pub record RunsAs (port : ℕ) (kind : Kind) (job : Job) (before : List Event) (s : State)
+      (files : Files S K) (count : ℕ) : Type 0 where
+    -- the length on the wire with which the end opened
+    pub length : ℕ
+    pub runs : Runs port (opens kind job length) before s files
+    pub counts : Counts files job.mode length count
+
   -- the run of a job's end
-  abbrev pub RunsJob : ℕ → Job → List Event → State → Files S K → Type 0
-  RunsJob port job before s files =
-      (length : ℕ) × Runs port (opens job.kind job length) before s files
+  abbrev pub RunsJob : ℕ → Job → List Event → State → Files S K → ℕ → Type 0
+  RunsJob port job before s files count = RunsAs port job.kind job before s files count
+
+  -- a received file holds bytes that are committed
+  abbrev pub IsCommitted : Files S K → Type 0
+  IsCommitted (Source source) = Unit {0}
+  IsCommitted (Sink sink) =
+      (holding : Holding) × (sinks.held sink ≡ Some holding) × (holding.committed ≡ true)
 
   -- a job failed by the run of its end, since its options were refused by ERROR 8, and may be tried
   -- without (RFC 2347)
@@ -109,11 +141,11 @@ module _ {S K : Type 0} (sources : SourceMeaning S) (sinks : SinkMeaning K) wher
     pub allowed : MayFallBack job end
 
   -- a job ran to that state, at once or without its options, once these were refused
-  abbrev pub Transfers : ℕ → Job → List Event → State → Files S K → Type 0
-  Transfers port job before s files =
-      RunsJob port job before s files
+  abbrev pub Transfers : ℕ → Job → List Event → State → Files S K → ℕ → Type 0
+  Transfers port job before s files count =
+      RunsJob port job before s files count
       ⊎ ((middle : List Event) × Refused job before middle
-      × RunsJob port (plain job) middle s files)
+      × RunsJob port (plain job) middle s files count)
 
   -- a job failed, at once or without its options, once these were refused
   abbrev pub FailsTransfer : Job → List Event → List Event → ClientOutcome → Type 0
@@ -130,20 +162,18 @@ module _ {S K : Type 0} (sources : SourceMeaning S) (sinks : SinkMeaning K) wher
     pub converses : Converses sources sinks port first file last files
     pub events : last.events ≡ after
 
-  -- a job is complete: its end is, then its line was printed, and from then on its end stayed
-  -- (RFC 1350, section 6); the line has the bytes that were stored, where the file counts them
-  pub record Completes (stored : Files S K → Option ℕ) (job : Job)
-      (before after : List Event) : Type 0 where
+  -- a job is complete: its end is, and a received file is committed; then its line was printed,
+  -- with N of the file, and from then on its end stayed (RFC 1350, section 6)
+  pub record Completes (job : Job) (before after : List Event) : Type 0 where
     pub port : ℕ
     pub last : State
     pub files : Files S K
-    pub transfers : Transfers port job before last files
-    pub complete : is_complete last.end.position.phase ≡ true
     pub count : ℕ
-    pub counts : ∥ IfSome (stored files) (λ n. count ≡ n) ∥₁
+    pub transfers : Transfers port job before last files count
+    pub complete : is_complete last.end.position.phase ≡ true
+    pub committed : IsCommitted files
     pub stays : GoesOn port (printed count last) files after
 
   -- what a status of 0 says: nothing was done over UDP, as for a help text, or a job is complete
-  abbrev pub Succeeds : (Files S K → Option ℕ) → List Event → List Event → Type 0
-  Succeeds stored before after =
-      (after ≡ before) ⊎ ((job : Job) × Completes stored job before after)
+  abbrev pub Succeeds : List Event → List Event → Type 0
+  Succeeds before after = (after ≡ before) ⊎ ((job : Job) × Completes job before after)

@@ -1,10 +1,20 @@
--- What a client's file counts of the bytes that it stores (own).
+-- How many bytes a client's file has (own).
 use Rattle.std.specs.Prelude.{ℕ, Option, Some, None}
+use Rattle.std.specs.declared.io.traits.Read as read
+use Rattle.std.specs.declared.io.traits.Write as write
+use Rattle.std.specs.declared.io.traits.Seek as seek
 use Rattle.tftp_file.specs.declared.files.Files.{Files}
 use Rattle.tftp_file.specs.declared.files.Files.TheVariants.{Source, Sink}
 use Rattle.tftp_client.specs.declared.local.LocalFile.{LocalFile}
 
--- the bytes that were stored, where the file is received
-abbrev pub stored : {S R F D : Type 0} → Files S (LocalFile R F D) → Option ℕ
-stored (Source source) = None
-stored (Sink local) = Some local.count
+module _ {S R F D : Type 0} {reads : read.Ghosts F} {writes : write.Ghosts F}
+    {seeks : seek.Ghosts F} {lists : read.Ghosts D} where
+  -- how many bytes a received file took
+  abbrev pub stored : Files S (LocalFile R F D reads writes seeks lists) → Option ℕ
+  stored (Source source) = None
+  stored (Sink local) = Some local.count
+
+  -- the length of a file here: what a received one took, or that of one that is sent
+  abbrev pub count_of : ℕ → Files S (LocalFile R F D reads writes seeks lists) → ℕ
+  count_of sent (Source source) = sent
+  count_of sent (Sink local) = local.count

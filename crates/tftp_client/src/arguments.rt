@@ -6,7 +6,6 @@ ghost use Rattle.tftp_host.specs.declared.client.client_outcome.ClientOutcome.Th
 ghost use Rattle.tftp_sockets.specs.Journal.Event.{Printed as Line};
 ghost use Rattle.tftp_client.specs.Conversation.{state_of};
 ghost use Rattle.tftp_client.specs.Runs.{Completes, GoesOn, Succeeds, printed};
-ghost use Rattle.tftp_client.specs.Stored.{stored};
 
 use crate::client_udp::ClientUdp;
 use crate::local::{LocalFile, LocalSource};
@@ -73,7 +72,7 @@ pub fn tftp_noted<R: Runtime + AllocGlobal + Net, S: AsStr, E: IsTerminal>(
 ) -> u8
     ensures status { result ≤ 2 }
     ensures succeeds { result ≡ 0 → Succeeds ⟦<LocalSource<R::File> as Source>⟧.meaning
-        ⟦<LocalFile<R> as Sink>⟧.meaning stored journal.old.events journal.new.events }
+        ⟦<LocalFile<R> as Sink>⟧.meaning journal.old.events journal.new.events }
 {
     match transfer_words(rt, words, errors.is_terminal(), journal) {
         Ok(status) => status,
@@ -90,7 +89,7 @@ fn transfer_words<'a, R: Runtime + AllocGlobal + Net, S: AsStr>(
 ) -> anyhow::Result<u8>
     ensures status { IfOk result (λ status. status ≤ 2) }
     ensures succeeds { IfOk result (λ status. status ≡ 0 → Succeeds ⟦<LocalSource<R::File> as Source>⟧.meaning
-        ⟦<LocalFile<R> as Sink>⟧.meaning stored journal.old.events journal.new.events) }
+        ⟦<LocalFile<R> as Sink>⟧.meaning journal.old.events journal.new.events) }
 {
     let texts = BlockTexts::new(rt.alloc())?;
     transfer_texts(rt, rt.alloc(), &texts, words, has_terminal, journal)
@@ -107,7 +106,7 @@ fn transfer_texts<'a, R: Files + Clone + Drop + ClientUdp + Clock + Print + Epri
 ) -> anyhow::Result<u8>
     ensures status { IfOk result (λ status. status ≤ 2) }
     ensures succeeds { IfOk result (λ status. status ≡ 0 → Succeeds ⟦<LocalSource<R::File> as Source>⟧.meaning
-        ⟦<LocalFile<R> as Sink>⟧.meaning stored journal.old.events journal.new.events) }
+        ⟦<LocalFile<R> as Sink>⟧.meaning journal.old.events journal.new.events) }
 {
     match read_words(rt, alloc, texts, words, has_terminal) {
         Ok(ordered) => run_ordered(rt, alloc, &ordered, journal),
@@ -125,7 +124,7 @@ fn run_ordered<R: Files + Clone + Drop + ClientUdp + Clock + Print + Eprint>(
     requires { IfErr ordered.now (λ status. status ≤ 2) }
     ensures status { IfOk result (λ status. status ≤ 2) }
     ensures succeeds { IfOk result (λ status. status ≡ 0 → Succeeds ⟦<LocalSource<R::File> as Source>⟧.meaning
-        ⟦<LocalFile<R> as Sink>⟧.meaning stored journal.old.events journal.new.events) }
+        ⟦<LocalFile<R> as Sink>⟧.meaning journal.old.events journal.new.events) }
 {
     match ordered {
         Ok(order) => Ok(run_order(rt, alloc, order, journal)?),
@@ -227,7 +226,7 @@ fn run_order<R: Files + Clone + Drop + ClientUdp + Clock + Print + Eprint>(
     ensures status { IfOk result (λ status. status ≤ 2) }
     ensures complete { IfOk result (λ status. status ≡ 0
         → Completes ⟦<LocalSource<R::File> as Source>⟧.meaning ⟦<LocalFile<R> as Sink>⟧.meaning
-        stored order.now.job journal.old.events journal.new.events) }
+        order.now.job journal.old.events journal.new.events) }
 {
     match transfer(rt, alloc, &order.job, journal) {
         Ok(completed) => conclude(rt, completed, order.lingers, journal),

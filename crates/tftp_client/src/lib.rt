@@ -6,6 +6,7 @@
 mod arguments;
 mod client_udp;
 mod local;
+mod taken;
 mod transfer;
 
 pub use arguments::{tftp_command, tftp_noted, tftp_words};

@@ -1,9 +1,15 @@
 //! The local file of a client. A fetched file is written under another name, and gets its name at
 //! the commit. A file to send is measured first.
+//!
+//! Clauses state which bytes were passed to a fetched file, and how long a file to send was when it
+//! was measured. No contract states what a disk holds.
 
-ghost use Rattle.std.specs.Prelude.{◌≡◌, ◌≢◌};
+ghost use Rattle.std.specs.Prelude.{◌≡◌, ◌≢◌, ◌≤◌, false, length, IfOk};
+ghost use Rattle.tftp_wire.specs.declared.mode.Mode.TheVariants.{Octet};
 ghost use Rattle.tftp_file.specs.declared.fault.StoreFault.TheVariants.{Memory};
+ghost use Rattle.tftp_client.specs.Taken.{nothing};
 
+use crate::taken::Taken;
 use std::alloc::Global;
 use std::fs::{self, OpenFile, OpenOptions};
 use std::io::{self, BufReader, ErrorKind, Read, Seek};
@@ -37,21 +43,34 @@ impl<F: Read + Seek + OpenFile + Drop> Outbound<F> {
         alloc: Global,
         local: &str,
         mode: Mode,
-    ) -> io::Result<Outbound<F>> {
+    ) -> io::Result<Outbound<F>>
+        ensures octet { IfOk result (λ outbound. mode ≡ Octet → outbound.wire_bytes ≤ MAX_WIRE
+            → outbound.host_bytes ≡ outbound.wire_bytes) }
+    {
         if !fs::metadata(files, local)?.is_file() {
             return Err(io::Error::from(ErrorKind::InvalidInput));
         }
         let mut file = fs::open(files, local)?;
         let host_bytes = file.metadata()?.len();
-        let Ok(wire_bytes) = length_on_wire(&mut file, mode, host_bytes, MAX_WIRE) else {
-            return Err(io::Error::from(ErrorKind::InvalidData));
-        };
+        let wire_bytes = wire_bytes(&mut file, mode, host_bytes)?;
         let reader = BufReader::with_capacity(alloc, READ_BUFFER, ErrorKeeper::new(file))?;
         Ok(Outbound {
             source: Ahead::new(alloc, ReadSource::new(reader, mode)),
             host_bytes,
-            wire_bytes: wire_bytes.unwrap_or(MAX_WIRE + 1),
+            wire_bytes,
         })
+    }
+}
+
+/// The length of a file's text on the wire, in bytes; `MAX_WIRE + 1` if it exceeds `MAX_WIRE`.
+fn wire_bytes<F: Read + Seek>(file: &mut F, mode: Mode, host_bytes: u64) -> io::Result<u64>
+    ensures octet { IfOk result (λ count. mode ≡ Octet → count ≤ MAX_WIRE
+        → host_bytes ≡ count) }
+{
+    match length_on_wire(file, mode, host_bytes, MAX_WIRE) {
+        Ok(Some(count)) => Ok(count),
+        Ok(None) => Ok(MAX_WIRE + 1),
+        Err(_) => Err(io::Error::from(ErrorKind::InvalidData)),
     }
 }
 
@@ -64,6 +83,10 @@ pub(crate) fn read_error<F: Read + Drop>(source: LocalSource<F>) -> Option<io::E
 /// Without a commit `LOCAL.part` remains.
 ///
 /// It buffers what is appended, and writes it after a datagram is sent.
+///
+/// Its model is what it took: the bytes of the appends that succeeded, and whether a commit
+/// succeeded after them. A failed append may leave a part of its bytes in the buffer and on the
+/// disk.
 #[derive(Drop)]
 pub(crate) struct LocalFile<R: Files + Drop> {
     files: R,
@@ -71,13 +94,18 @@ pub(crate) struct LocalFile<R: Files + Drop> {
     local: String,
     part: String,
     count: u64,
+    taken: Taken,
     error: Option<io::Error>,
+    ghost counts: { count ≡ length taken.holding.bytes },
+    ghost never_refuses: { taken.holding.refuses ≡ false },
 }
 
 impl<R: Files + Drop> LocalFile<R> {
     /// Creates `LOCAL.part`. An old one is removed first; a link there is not followed.
     /// `AlreadyExists` if `LOCAL` exists.
-    pub(crate) fn create(files: R, alloc: Global, local: &str) -> io::Result<LocalFile<R>> {
+    pub(crate) fn create(files: R, alloc: Global, local: &str) -> io::Result<LocalFile<R>>
+        ensures { IfOk result (λ local. local.taken.holding ≡ nothing) }
+    {
         if fs::symlink_metadata(&files, local).is_ok() {
             return Err(io::Error::from(ErrorKind::AlreadyExists));
         }
@@ -93,11 +121,12 @@ impl<R: Files + Drop> LocalFile<R> {
             local: String::from_str(alloc, local)?,
             part,
             count: 0,
+            taken: Taken::new(),
             error: None,
         })
     }
 
-    /// The bytes that were stored.
+    /// The number of bytes that it took.
     pub(crate) fn count(&self) -> u64
         ensures { result ≡ self.now.count }
     {
@@ -111,7 +140,8 @@ impl<R: Files + Drop> LocalFile<R> {
 
     /// Records the error of a call, and returns its fault.
     fn record_error(&mut self, error: io::Error) -> StoreFault
-        ensures { result ≢ Memory }
+        ensures fault { result ≢ Memory }
+        ensures taken { self.new.taken ≡ self.old.taken }
     {
         let fault = name_fault(&error, false);
         self.error = Some(error);
@@ -151,10 +181,10 @@ impl<R: Files + Drop> LocalFile<R> {
 }
 
 impl<R: Files + Drop> Sink for LocalFile<R> {
-    ghost use Rattle.std.specs.Prelude.{None, ⊤};
+    ghost use Rattle.std.specs.Prelude.{Some, ⊤};
 
     ghost meaning = { record {
-      held = λ _. None;
+      held = λ file. Some file.taken.holding;
       may_refuse_append = λ _ _ _. ⊤;
       may_refuse_commit = λ _ _. ⊤;
       becomes = λ _ _ _. ⊤;
@@ -168,10 +198,15 @@ impl<R: Files + Drop> Sink for LocalFile<R> {
 
     ghost unmoved = { λ _. tt };
 
+    /// It takes at most 2^64 - 1 bytes, as many as it can count.
     fn append(&mut self, bytes: &[u8]) -> Result<(), StoreFault> {
+        let Some(count) = self.count.checked_add(bytes.len() as u64) else {
+            return Err(self.record_error(io::Error::from(ErrorKind::FileTooLarge)));
+        };
         match self.writer.append(bytes) {
             Ok(()) => {
-                self.count = self.count.saturating_add(bytes.len() as u64);
+                self.taken.appended(bytes);
+                self.count = count;
                 Ok(())
             }
             Err(error) => Err(self.record_error(error)),
@@ -190,7 +225,10 @@ impl<R: Files + Drop> Sink for LocalFile<R> {
             return Err(self.record_error(error));
         }
         match self.name() {
-            Ok(()) => Ok(()),
+            Ok(()) => {
+                self.taken.committed();
+                Ok(())
+            }
             Err(error) => Err(self.record_error(error)),
         }
     }

@@ -4,16 +4,17 @@ mod completed;
 mod conversation;
 mod failure;
 
-ghost use Rattle.std.specs.Prelude.{ℕ, ◌≡◌, IfOk, IfErr, IsTrue};
+ghost use Rattle.std.specs.Prelude.{ℕ, ◌≡◌, ◌≤◌, IfOk, IfErr, OnOk, IsTrue};
 ghost use Rattle.tftp_negotiate.specs.declared.known.Kind.TheVariants.{Read, Write};
 ghost use Rattle.tftp_ends.specs.Files.{AreFilesOf};
 ghost use Rattle.tftp_host.specs.ClientOutcome.{status_of};
 ghost use Rattle.tftp_host.specs.declared.client.client_outcome.ClientOutcome.TheVariants as ends;
 ghost use Rattle.tftp_client.specs.Conversation.{state_of};
 ghost use Rattle.tftp_client.specs.Converses.{Converses, deadline_at};
-ghost use Rattle.tftp_client.specs.Stored.{stored};
+ghost use Rattle.tftp_client.specs.Stored.{count_of, stored};
+ghost use Rattle.tftp_client.specs.Taken.{nothing};
 ghost use Rattle.tftp_client.specs.Runs.{FailsBy, FailsEnd, FailsTransfer, MayFallBack, Runs};
-ghost use Rattle.tftp_client.specs.Runs.{RunsJob, Stops, Transfers};
+ghost use Rattle.tftp_client.specs.Runs.{RunsAs, RunsJob, Stops, Transfers};
 ghost use Rattle.tftp_client.specs.Runs.{begun, measured, opens, plain, sent_from};
 
 use crate::client_udp::ClientUdp;
@@ -83,7 +84,8 @@ pub(crate) fn transfer<R: FileSystem + Clone + Drop + ClientUdp + Clock + Eprint
     ensures ok { IfOk result (λ completed. Transfers
         ⟦<LocalSource<R::File> as Source>⟧.meaning ⟦<LocalFile<R> as Sink>⟧.meaning
         completed.conversation.socket.port job.now
-        journal.old.events (state_of completed.conversation journal.new.events) completed.files) }
+        journal.old.events (state_of completed.conversation journal.new.events) completed.files
+        completed.count) }
     ensures err { IfErr result (λ failure. FailsTransfer
         ⟦<LocalSource<R::File> as Source>⟧.meaning ⟦<LocalFile<R> as Sink>⟧.meaning job.now
         journal.old.events journal.new.events failure.end) }
@@ -132,7 +134,8 @@ fn transfer_once<R: FileSystem + Clone + Drop + ClientUdp + Clock + Eprint>(
     ensures ok { IfOk result (λ completed. RunsJob
         ⟦<LocalSource<R::File> as Source>⟧.meaning ⟦<LocalFile<R> as Sink>⟧.meaning
         completed.conversation.socket.port job.now
-        journal.old.events (state_of completed.conversation journal.new.events) completed.files) }
+        journal.old.events (state_of completed.conversation journal.new.events) completed.files
+        completed.count) }
     ensures err { IfErr result (λ failure. FailsBy
         ⟦<LocalSource<R::File> as Source>⟧.meaning ⟦<LocalFile<R> as Sink>⟧.meaning job.now
         journal.old.events journal.new.events failure.end) }
@@ -150,10 +153,10 @@ fn get<R: FileSystem + Clone + Drop + ClientUdp + Clock + Eprint>(
     job: &Job<'_>,
     journal: &mut Journal,
 ) -> Result<Completed<R>, Failure>
-    ensures ok { IfOk result (λ completed. Runs
+    ensures ok { IfOk result (λ completed. RunsAs
         ⟦<LocalSource<R::File> as Source>⟧.meaning ⟦<LocalFile<R> as Sink>⟧.meaning
-        completed.conversation.socket.port (opens Read job.now 0) journal.old.events
-        (state_of completed.conversation journal.new.events) completed.files) }
+        completed.conversation.socket.port Read job.now journal.old.events
+        (state_of completed.conversation journal.new.events) completed.files completed.count) }
     ensures err { IfErr result (λ failure. FailsEnd
         ⟦<LocalSource<R::File> as Source>⟧.meaning ⟦<LocalFile<R> as Sink>⟧.meaning
         (opens Read job.now 0) journal.old.events journal.new.events failure.end) }
@@ -170,7 +173,8 @@ fn create_local<R: FileSystem + Clone + Drop>(
     alloc: Global,
     path: &str,
 ) -> Result<LocalFile<R>, Failure>
-    ensures { IfErr result (λ failure. status_of failure.end ≡ 2) }
+    ensures ok { IfOk result (λ local. local.taken.holding ≡ nothing) }
+    ensures err { IfErr result (λ failure. status_of failure.end ≡ 2) }
 {
     let Ok(system) = rt.clone() else {
         return Err(Failure::memory());
@@ -181,7 +185,7 @@ fn create_local<R: FileSystem + Clone + Drop>(
     }
 }
 
-/// Fetches a file into the local file.
+/// Fetches a file into the local file, which is new.
 fn get_into<N: ClientUdp + Clock + Eprint, R: FileSystem + Drop>(
     rt: &N,
     alloc: Global,
@@ -189,10 +193,11 @@ fn get_into<N: ClientUdp + Clock + Eprint, R: FileSystem + Drop>(
     local: LocalFile<R>,
     journal: &mut Journal,
 ) -> Result<Completed<R>, Failure>
-    ensures ok { IfOk result (λ completed. Runs
+    requires { local.taken.holding ≡ nothing }
+    ensures ok { IfOk result (λ completed. RunsAs
         ⟦<LocalSource<R::File> as Source>⟧.meaning ⟦<LocalFile<R> as Sink>⟧.meaning
-        completed.conversation.socket.port (opens Read job.now 0) journal.old.events
-        (state_of completed.conversation journal.new.events) completed.files) }
+        completed.conversation.socket.port Read job.now journal.old.events
+        (state_of completed.conversation journal.new.events) completed.files completed.count) }
     ensures err { IfErr result (λ failure. FailsEnd
         ⟦<LocalSource<R::File> as Source>⟧.meaning ⟦<LocalFile<R> as Sink>⟧.meaning
         (opens Read job.now 0) journal.old.events journal.new.events failure.end) }
@@ -274,10 +279,10 @@ fn put<R: FileSystem + Clone + Drop + ClientUdp + Clock + Eprint>(
     job: &Job<'_>,
     journal: &mut Journal,
 ) -> Result<Completed<R>, Failure>
-    ensures ok { IfOk result (λ completed. (length : ℕ) × Runs
+    ensures ok { IfOk result (λ completed. RunsAs
         ⟦<LocalSource<R::File> as Source>⟧.meaning ⟦<LocalFile<R> as Sink>⟧.meaning
-        completed.conversation.socket.port (opens Write job.now length) journal.old.events
-        (state_of completed.conversation journal.new.events) completed.files) }
+        completed.conversation.socket.port Write job.now journal.old.events
+        (state_of completed.conversation journal.new.events) completed.files completed.count) }
     ensures err { IfErr result (λ failure. (length : ℕ) × FailsEnd
         ⟦<LocalSource<R::File> as Source>⟧.meaning ⟦<LocalFile<R> as Sink>⟧.meaning
         (opens Write job.now length) journal.old.events journal.new.events failure.end) }
@@ -299,7 +304,9 @@ fn put_from<R: FileSystem + Drop + ClientUdp + Clock + Eprint>(
     ensures ok { IfOk result (λ completed. Runs
         ⟦<LocalSource<R::File> as Source>⟧.meaning ⟦<LocalFile<R> as Sink>⟧.meaning
         completed.conversation.socket.port (opens Write job.now outbound.wire_bytes)
-        journal.old.events (state_of completed.conversation journal.new.events) completed.files) }
+        journal.old.events (state_of completed.conversation journal.new.events) completed.files
+        × (completed.count ≡ count_of outbound.host_bytes completed.files)
+        × (outbound.wire_bytes ≤ MAX_WIRE)) }
     ensures err { IfErr result (λ failure. FailsEnd
         ⟦<LocalSource<R::File> as Source>⟧.meaning ⟦<LocalFile<R> as Sink>⟧.meaning
         (opens Write job.now outbound.wire_bytes) journal.old.events journal.new.events
@@ -324,6 +331,7 @@ fn ask_to_put<N: ClientUdp + Clock>(
 ) -> Result<Conversation, Failure>
     ensures begins { IfOk result (λ conversation. state_of conversation journal.new.events
         ≡ begun conversation.socket.port (opens Write job.now length) journal.old.events) }
+    ensures fits { OnOk result (length ≤ MAX_WIRE) }
     ensures err { IfErr result (λ failure. (status_of failure.end ≡ 2)
         × (journal.new.events ≡ journal.old.events)) }
 {
@@ -373,32 +381,45 @@ fn converse<C: Clock + Eprint, R: FileSystem + Drop>(
         (completed.conversation.socket.port ≡ conversation.socket.port)
         × Converses ⟦<LocalSource<R::File> as Source>⟧.meaning ⟦<LocalFile<R> as Sink>⟧.meaning
         conversation.socket.port (state_of conversation journal.old.events) files
-        (state_of completed.conversation journal.new.events) completed.files) }
+        (state_of completed.conversation journal.new.events) completed.files
+        × (completed.count ≡ count_of sent completed.files)) }
     ensures err { IfErr result (λ failure. Stops
         ⟦<LocalSource<R::File> as Source>⟧.meaning ⟦<LocalFile<R> as Sink>⟧.meaning
         conversation.socket.port (state_of conversation journal.old.events) files
         journal.new.events failure.end) }
 {
     let ended = conversation.run(rt, journal, &mut files);
-    let stored = stored(&files);
-    conversation.finish(rt, stored);
+    conversation.finish(rt, stored(&files));
     match ended {
-        Ok(()) => Ok(Completed {
-            conversation,
-            files,
-            count: stored.unwrap_or(sent),
-        }),
+        Ok(()) => {
+            let count = count_of(&files, sent);
+            Ok(Completed {
+                conversation,
+                files,
+                count,
+            })
+        }
         Err(outcome) => Err(failed(outcome, files, conversation.into_peer_reason())),
     }
 }
 
-/// The bytes that were stored, where the file is received.
+/// The number of bytes that a received file took.
 fn stored<S, R: FileSystem + Drop>(files: &Files<S, LocalFile<R>>) -> Option<u64>
     ensures { result ≡ stored files.now }
 {
     match files {
         Files::Sink(local) => Some(local.count()),
         Files::Source(_) => None,
+    }
+}
+
+/// The length of a file here, in bytes: what a received one took, or `sent`.
+fn count_of<S, R: FileSystem + Drop>(files: &Files<S, LocalFile<R>>, sent: u64) -> u64
+    ensures { result ≡ count_of sent files.now }
+{
+    match files {
+        Files::Sink(local) => local.count(),
+        Files::Source(_) => sent,
     }
 }
 

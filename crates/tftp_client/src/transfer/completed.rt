@@ -1,9 +1,8 @@
 //! A transfer that is complete.
 
-ghost use Rattle.std.specs.Prelude.{◌≡◌, true, IfSome};
+ghost use Rattle.std.specs.Prelude.{◌≡◌, true};
 ghost use Rattle.tftp_ends.specs.End.{is_complete};
 ghost use Rattle.tftp_ends.specs.Files.{AreFilesOf};
-ghost use Rattle.tftp_client.specs.Stored.{stored};
 ghost use Rattle.tftp_host.specs.declared.client.client_outcome.ClientOutcome.TheVariants as ends;
 
 use crate::local::{LocalFile, LocalSource};
@@ -23,7 +22,6 @@ pub(crate) struct Completed<R: FileSystem + Drop> {
     /// The length of the file on this host, in bytes.
     pub(crate) count: u64,
     ghost complete: { is_complete conversation.end.position.phase ≡ true },
-    ghost counts: { ∥ IfSome (stored files) (λ n. count ≡ n) ∥₁ },
     ghost files_fit: { ∥ AreFilesOf conversation.end.role.side files ∥₁ },
 }
 

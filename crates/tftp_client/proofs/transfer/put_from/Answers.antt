@@ -5,7 +5,7 @@ use Rattle.tftp_client.proofs.transfer.put_from.Goals as goal
 
 pub returns-in-Ok-clause-ok : goal.returns-in-Ok-clause-ok
 returns-in-Ok-clause-ok g c =
-    IfOk-weaker c.converse.result _ _ (λ completed converses. runs _ _ c.in-Ok.ensures.begins converses) c.converse.ensures.ok
+    IfOk-weaker c.converse.result _ _ (λ completed ran. (runs _ _ c.in-Ok.ensures.begins tt (ran.0, ran.1), ran.2, c.in-Ok.ensures.fits)) c.converse.ensures.ok
 
 pub returns-in-Ok-clause-err : goal.returns-in-Ok-clause-err
 returns-in-Ok-clause-err g c =

@@ -4,7 +4,7 @@ use Rattle.tftp_client.proofs.Running.{fails_job, if_err, runs_job}
 use Rattle.tftp_client.proofs.transfer.transfer_once.Goals as goal
 
 pub returns-in-Read-clause-ok : goal.returns-in-Read-clause-ok
-returns-in-Read-clause-ok g c = IfOk-weaker c.get.result _ _ (λ completed run. runs_job _ _ c.args.job.now 0 c.in-Read.is run) c.get.ensures.ok
+returns-in-Read-clause-ok g c = IfOk-weaker c.get.result _ _ (λ completed run. runs_job _ _ c.args.job.now c.in-Read.is run) c.get.ensures.ok
 
 pub returns-in-Read-clause-err : goal.returns-in-Read-clause-err
 returns-in-Read-clause-err g c =
@@ -12,7 +12,7 @@ returns-in-Read-clause-err g c =
 
 pub returns-in-Write-clause-ok : goal.returns-in-Write-clause-ok
 returns-in-Write-clause-ok g c =
-    IfOk-weaker c.put.result _ _ (λ completed run. runs_job _ _ c.args.job.now run.0 c.in-Write.is run.1) c.put.ensures.ok
+    IfOk-weaker c.put.result _ _ (λ completed run. runs_job _ _ c.args.job.now c.in-Write.is run) c.put.ensures.ok
 
 pub returns-in-Write-clause-err : goal.returns-in-Write-clause-err
 returns-in-Write-clause-err g c =

@@ -1,5 +1,5 @@
 -- A timeout: its step, its note and its answer.
-use Rattle.std.proofs.Common.{◌∙◌, ap, refl, ◌∷◌, ℕ, Some, sym, subst}
+use Rattle.std.proofs.Common.{◌∙◌, ap, refl, ◌∷◌, ℕ, sym, subst}
 use Rattle.tftp_ends.specs.Step.{timeout_turn}
 use Rattle.tftp_host.specs.Watch.{deadline_of}
 use Rattle.tftp_client.specs.Conversation.{state_of}
