@@ -18,7 +18,7 @@ use std::io::{self, IsTerminal};
 use std::net::Net;
 use std::rt::{Files, Runtime};
 use std::time::Clock;
-use tftp_arguments::{VERSION, flag, number, own_words, print_usage, word};
+use tftp_arguments::{VERSION, flag, number, own_words, print_no_memory, print_usage, word};
 use tftp_file::{Sink, Source};
 use tftp_host::endpoint_in;
 use tftp_negotiate::{Asked, DEFAULT_BLOCK, Kind, MAX_BLOCK, MIN_BLOCK};
@@ -42,7 +42,7 @@ pub fn tftp_command<R: Runtime + AllocGlobal + Net, E: IsTerminal>(rt: &R, error
 {
     match own_words(rt) {
         Ok(words) => tftp_words(rt, words.as_slice(), errors),
-        Err(_) => 2,
+        Err(_) => print_no_memory(rt, "tftp"),
     }
 }
 
@@ -76,7 +76,7 @@ pub fn tftp_noted<R: Runtime + AllocGlobal + Net, S: AsStr, E: IsTerminal>(
 {
     match transfer_words(rt, words, errors.is_terminal(), journal) {
         Ok(status) => status,
-        Err(_) => 2,
+        Err(_) => print_no_memory(rt, "tftp"),
     }
 }
 
@@ -88,7 +88,8 @@ fn transfer_words<'a, R: Runtime + AllocGlobal + Net, S: AsStr>(
     journal: &mut Journal,
 ) -> anyhow::Result<u8>
     ensures status { IfOk result (λ status. status ≤ 2) }
-    ensures succeeds { IfOk result (λ status. status ≡ 0 → Succeeds ⟦<LocalSource<R::File> as Source>⟧.meaning
+    ensures succeeds { IfOk result (λ status. status ≡ 0
+        → Succeeds ⟦<LocalSource<R::File> as Source>⟧.meaning
         ⟦<LocalFile<R> as Sink>⟧.meaning journal.old.events journal.new.events) }
 {
     let texts = BlockTexts::new(rt.alloc())?;
@@ -105,7 +106,8 @@ fn transfer_texts<'a, R: Files + Clone + Drop + ClientUdp + Clock + Print + Epri
     journal: &mut Journal,
 ) -> anyhow::Result<u8>
     ensures status { IfOk result (λ status. status ≤ 2) }
-    ensures succeeds { IfOk result (λ status. status ≡ 0 → Succeeds ⟦<LocalSource<R::File> as Source>⟧.meaning
+    ensures succeeds { IfOk result (λ status. status ≡ 0
+        → Succeeds ⟦<LocalSource<R::File> as Source>⟧.meaning
         ⟦<LocalFile<R> as Sink>⟧.meaning journal.old.events journal.new.events) }
 {
     match read_words(rt, alloc, texts, words, has_terminal) {
@@ -123,7 +125,8 @@ fn run_ordered<R: Files + Clone + Drop + ClientUdp + Clock + Print + Eprint>(
 ) -> anyhow::Result<u8>
     requires { IfErr ordered.now (λ status. status ≤ 2) }
     ensures status { IfOk result (λ status. status ≤ 2) }
-    ensures succeeds { IfOk result (λ status. status ≡ 0 → Succeeds ⟦<LocalSource<R::File> as Source>⟧.meaning
+    ensures succeeds { IfOk result (λ status. status ≡ 0
+        → Succeeds ⟦<LocalSource<R::File> as Source>⟧.meaning
         ⟦<LocalFile<R> as Sink>⟧.meaning journal.old.events journal.new.events) }
 {
     match ordered {
