@@ -1,12 +1,12 @@
 -- A client that has sent its request to a server, which has received it.
-use Rattle.std.proofs.Common.{◌≡◌, ℕ, ◌∷◌, List, [], true, false, None, Some, refl, sym, ap, ◌∙◌, subst, inl, inr, arith, rules, zero, suc}
+use Rattle.std.proofs.Common.{◌≡◌, ℕ, ◌∷◌, List, [], false, None, Some, refl, sym, ap, ◌∙◌, subst, inl, inr, arith, rules, zero, suc}
 use Rattle.std.specs.Prelude.{◌≢◌, slice_get, IsSome}
 use Rattle.std.specs.List.{Contains}
 use Rattle.std.proofs.lemmas.List.Elements.{Contains-push_cases}
 use Rattle.tftp_wire.specs.declared.mode.Mode.TheVariants.{Octet}
 use Rattle.tftp_negotiate.specs.Ranges.{IsBlockSize}
 use Rattle.tftp_negotiate.specs.declared.asked.Asked.{Asked}
-use Rattle.tftp_file.specs.Memory.{MemSinkState, new_mem_sink, memory_sink, memory_source}
+use Rattle.tftp_file.specs.Memory.{new_mem_sink, memory_sink, memory_source}
 use Rattle.tftp_file.specs.declared.files.Files.TheVariants.{Sink}
 use Rattle.tftp_ends.specs.End.{EndState}
 use Rattle.tftp_ends.specs.Opening.{MayGet, getting}

@@ -1,13 +1,12 @@
 -- The ends at which the journals arrive, as the guarded machine views them.
 use Rattle.std.specs.Prelude.{ℕ, ◌≡◌, ◌&&◌, not, Bool, true, false, is_some, if◌then◌else◌, List}
-use Rattle.std.specs.Prelude.{[], ◌++◌, Option, Some}
-use Rattle.tftp_wire.specs.declared.mode.Mode.{Mode}
+use Rattle.std.specs.Prelude.{◌++◌, Option, Some}
 use Rattle.tftp_file.specs.Netascii.{wire_text}
 use Rattle.tftp_file.specs.Sink.{Holding, SinkMeaning}
 use Rattle.tftp_file.specs.Source.{SourceMeaning}
 use Rattle.tftp_file.specs.declared.files.Files.{Files}
 use Rattle.tftp_file.specs.declared.files.Files.TheVariants.{Source, Sink}
-use Rattle.tftp_ends.specs.End.{EndState, is_sender, is_client, is_complete, outcome_of, record_of}
+use Rattle.tftp_ends.specs.End.{EndState, is_sender, is_client, is_complete, record_of}
 use Rattle.tftp_ends.specs.declared.phase.Phase.{Phase}
 use Rattle.tftp_ends.specs.declared.phase.Phase.TheVariants.{Waiting, Sending, Receiving, Dallying}
 use Rattle.tftp_ends.specs.declared.phase.Phase.TheVariants.{Closed}
@@ -15,7 +14,6 @@ use Rattle.tftp_store.specs.Store.{StoreMeaning, holding_of}
 use Rattle.tftp_machine.specs.Machine.{Endpoint}
 use Rattle.tftp_machine.specs.Shows.{EndView}
 use Rattle.tftp_server.specs.State.{HeldTransfer}
-use Rattle.tftp_loop.specs.Serves.{LoopState}
 use Rattle.tftp_network.specs.Ports.{IsStored, WasStored}
 use Rattle.tftp_network.specs.Programs.{endpoint, ServerProgram, arrived, ClientProgram, client_at}
 
