@@ -1,0 +1,3 @@
+pub mod ClientJournals
+pub mod Places
+pub mod OneRequest

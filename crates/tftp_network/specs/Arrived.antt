@@ -1,0 +1,99 @@
+-- The ends at which the journals arrive, as the guarded machine views them.
+use Rattle.std.specs.Prelude.{ℕ, ◌≡◌, ◌&&◌, not, Bool, true, false, is_some, if◌then◌else◌, List}
+use Rattle.std.specs.Prelude.{◌++◌, Option, Some}
+use Rattle.tftp_file.specs.Netascii.{wire_text}
+use Rattle.tftp_file.specs.Sink.{Holding, SinkMeaning}
+use Rattle.tftp_file.specs.Source.{SourceMeaning}
+use Rattle.tftp_file.specs.declared.files.Files.{Files}
+use Rattle.tftp_file.specs.declared.files.Files.TheVariants.{Source, Sink}
+use Rattle.tftp_ends.specs.End.{EndState, is_sender, is_client, is_complete, record_of}
+use Rattle.tftp_ends.specs.declared.phase.Phase.{Phase}
+use Rattle.tftp_ends.specs.declared.phase.Phase.TheVariants.{Waiting, Sending, Receiving, Dallying}
+use Rattle.tftp_ends.specs.declared.phase.Phase.TheVariants.{Closed}
+use Rattle.tftp_store.specs.Store.{StoreMeaning, holding_of}
+use Rattle.tftp_machine.specs.Machine.{Endpoint}
+use Rattle.tftp_machine.specs.Shows.{EndView}
+use Rattle.tftp_server.specs.State.{HeldTransfer}
+use Rattle.tftp_network.specs.Ports.{IsStored, WasStored}
+use Rattle.tftp_network.specs.Programs.{endpoint, ServerProgram, arrived, ClientProgram, client_at}
+
+-- the view is of an end in this state at this endpoint
+pub record ViewsEnd (a : Endpoint) (e : EndState) (view : EndView) : Type 0 where
+  pub address : view.address ≡ a
+  pub client : view.client ≡ is_client e.role.side
+  pub sender : view.sender ≡ is_sender e.role.side
+  pub mode : view.mode ≡ e.role.mode
+  pub peer : view.peer ≡ (record_of e).peer
+  pub size : view.size ≡ (record_of e).size
+  pub number : view.number ≡ (record_of e).number
+  pub done : view.done ≡ (record_of e).complete
+  pub failed : view.failed ≡ is_some (record_of e).outcome && not (record_of e).complete
+
+-- neither complete nor closed
+abbrev pub goes_on : Phase → Bool
+goes_on (Waiting asked limit) = true
+goes_on (Sending terms number) = true
+goes_on (Receiving terms number) = true
+goes_on (Dallying terms number dally) = false
+goes_on (Closed terms number complete outcome) = false
+
+-- what a receiver has of its peer's text: what it stored, as wire text, and the text held back
+abbrev pub received_text : EndState → List ℕ → List ℕ
+received_text e stored =
+    if goes_on e.position.phase then wire_text e.role.mode stored ++ e.position.held
+    else wire_text e.role.mode stored
+
+-- the text of a receiver is that of what its sink holds, which it has committed if it is complete
+pub record ViewsSink (e : EndState) (held : Option Holding) (view : EndView) : Type 0 where
+  pub holding : Holding
+  pub holds : held ≡ Some holding
+  pub text : view.text ≡ received_text e holding.bytes
+  pub committed : is_complete e.position.phase ≡ true → holding.committed ≡ true
+
+-- the text of a sender is that of this file
+pub record ViewsFile (e : EndState) (file : List ℕ) (view : EndView) : Type 0 where
+  pub text : view.text ≡ wire_text e.role.mode file
+
+module _ {G K : Type 0} (inputs : SourceMeaning G) (outputs : SinkMeaning K) (to : Endpoint) where
+  -- what a client sends, or what it stored
+  abbrev pub ViewsOwn : EndState → List ℕ → Files G K → EndView → Type 0
+  ViewsOwn e file (Source source) view = ViewsFile e file view
+  ViewsOwn e file (Sink sink) view = ViewsSink e (outputs.held sink) view
+
+  -- the view is of the end of a client where its journal arrives
+  pub record ViewsClient (client : ClientProgram inputs outputs to) (view : EndView) : Type 0 where
+    pub end : ViewsEnd (client_at inputs outputs to client) client.last.end view
+    pub own : ViewsOwn client.last.end client.file client.files view
+
+module _ {S F D : Type 0} (stores : StoreMeaning S D) (sources : SourceMeaning F) where
+  -- a transfer sends a file that was under its path, and still is unless writes may replace files
+  pub record SendsStored (server : ServerProgram stores sources) (transfer : HeldTransfer F D)
+      (view : EndView) : Type 0 where
+    pub file : List ℕ
+    pub views : ViewsFile transfer.end file view
+    pub was : WasStored server.serves.1 transfer.path file
+    pub stays : server.first.config.overwrite ≡ false →
+        IsStored stores (arrived stores sources server) transfer.path file
+
+  -- a transfer has stored this; once it is complete that is under its path, unless writes may
+  -- replace files
+  pub record KeepsStored (server : ServerProgram stores sources) (transfer : HeldTransfer F D)
+      (draft : D) (view : EndView) : Type 0 where
+    pub views : ViewsSink transfer.end
+        (holding_of (stores.stored (arrived stores sources server).server.store)
+        (stores.drafted draft)) view
+    pub stays : server.first.config.overwrite ≡ false →
+        is_complete transfer.end.position.phase ≡ true →
+        IsStored stores (arrived stores sources server) transfer.path views.holding.bytes
+
+  -- what a transfer of the server sends, or what it stored
+  abbrev pub ViewsStored : ServerProgram stores sources → HeldTransfer F D → Files F D → EndView
+      → Type 0
+  ViewsStored server transfer (Source source) view = SendsStored server transfer view
+  ViewsStored server transfer (Sink draft) view = KeepsStored server transfer draft view
+
+  -- the view is of the end of this transfer of the server
+  pub record ViewsTransfer (server : ServerProgram stores sources) (port : ℕ)
+      (transfer : HeldTransfer F D) (view : EndView) : Type 0 where
+    pub end : ViewsEnd (endpoint server.ip port) transfer.end view
+    pub own : ViewsStored server transfer transfer.files view

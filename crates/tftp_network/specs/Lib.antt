@@ -1,0 +1,9 @@
+pub mod Programs
+pub mod Order
+pub mod Ports
+pub mod Arrived
+pub mod Promises
+pub mod Hosts
+pub mod Journals
+pub mod Joined
+pub mod Witness
