@@ -106,7 +106,7 @@ def test_gets_survive(scene):
 def test_puts_survive(scene):
     """A file that is put through such a network is whole or missing, and whole if the client reports completion. The
     server may close before the client has its last ACK, but not each time."""
-    content, seeds = bytes_of(2_500), [4, 5, 6]
+    content, seeds = bytes_of(2_500), [4, 5, 6, 7, 8]
     scene.make("local", content)
     scene.make_folder("served")
     server = scene.serve("--retries", "10", "--transfers", "9", root="served")

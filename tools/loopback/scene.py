@@ -155,4 +155,6 @@ class Scene:
 def end(process):
     """Kills a program if it runs."""
     process.kill()
-    process.communicate()
+    process.wait(PATIENCE)
+    process.stdout.close()
+    process.stderr.close()
