@@ -16,7 +16,7 @@ PROGRAMS := bin/tftp-show bin/tftp-play bin/tftp bin/tftpd
 SOURCES := $(shell find crates -path '*/out' -prune -o \( -name '*.rt' -o -name '*.antt' \) -print) crates.txt
 
 # what is run behind `rt ci`, over the programs in crates/*/out: the first that fails ends the gate
-CHECKS := tools/same_options.py tools/check_documents.py tools/same_pictures.sh tools/statuses.py tools/memory_in_turn.py tools/lost_requests.py
+CHECKS := tools/same_options.py tools/check_documents.py tools/same_pictures.sh tools/statuses.py tools/loopback/run.py tools/memory_in_turn.py tools/lost_requests.py
 
 .PHONY: build run sample tftp-show tftp-play tftp tftpd test install uninstall dist bench bench-udp clean
 # one after another: each crate is proved by as many processors as there are

@@ -1,14 +1,27 @@
 //! A folder for one test, and the files in it.
 
 use crate::expect::expect;
-use crate::programs::run_beside;
 use std::os::unix::fs::symlink;
-use std::process::{Abort, Command, Processes};
+use std::process::{Abort, Command, Processes, Stdio};
 use std::rt::Runtime;
 use std::{env, fs};
 
 /// A shell script that removes a folder once the test has ended, in any way.
 const REMOVED: &str = "while kill -0 $PPID; do sleep 1; done; rm -rf \"$1\"";
+
+/// Has a folder removed by a shell beside the test.
+fn remove_after<R: AllocGlobal + Processes + Abort>(rt: &R, folder: &str) {
+    let mut command = Command::new(rt.alloc(), "sh").expect(rt, "memory");
+    for word in ["-c", REMOVED, "sh", folder] {
+        command.arg(word).expect(rt, "memory");
+    }
+    command
+        .stdin(Stdio::null())
+        .stdout(Stdio::null())
+        .stderr(Stdio::null())
+        .spawn(rt)
+        .expect(rt, "a shell starts");
+}
 
 /// A new folder in the system's folder for temporary files. It is removed after the test.
 pub(crate) fn scratch_folder<R: Runtime + AllocGlobal + Processes + Abort>(
@@ -20,7 +33,7 @@ pub(crate) fn scratch_folder<R: Runtime + AllocGlobal + Processes + Abort>(
     let temp = temp.as_path().as_str();
     let folder = format!(in rt.alloc(); "{temp}/tftp-{name}-{id}").expect(rt, "memory");
     fs::create_dir_all(rt, folder.as_str()).expect(rt, name);
-    run_beside(rt, REMOVED, folder.as_str());
+    remove_after(rt, folder.as_str());
     folder
 }
 

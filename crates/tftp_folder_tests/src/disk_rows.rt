@@ -2,7 +2,6 @@
 //! names are synced, and why a call was refused.
 
 use crate::expect::{expect, expect_equal};
-use crate::loopback::bytes_of;
 use crate::scratch::{
     has_bytes, has_file, lacks, make_folder, remove_folder, scratch_folder, write_file,
 };
@@ -151,7 +150,7 @@ fn a_long_put_is_synced_on_its_way(rt: HostRuntime) {
     let folder = folder.as_str();
     let (mut store, calls) = watched(&rt, alloc, rt, folder);
     let mut draft = begun(&rt, alloc, &mut store, false);
-    let block = bytes_of(&rt, alloc, 65_536);
+    let block = Vec::from_elem(alloc, 7u8, 65_536).expect(&rt, "memory");
     for _ in 0..192 {
         appends(&rt, &mut store, &mut draft, block.as_slice());
     }
@@ -281,7 +280,7 @@ fn reasons(rt: HostRuntime) {
         refused(&rt, &store, begun_with, fault, reason);
         calls.fail_with(None);
         let mut draft = begun(&rt, alloc, &mut store, false);
-        let block = bytes_of(&rt, alloc, 20_000);
+        let block = Vec::from_elem(alloc, 7u8, 20_000).expect(&rt, "memory");
         calls.fail_with(Some(number));
         appends(&rt, &mut store, &mut draft, block.as_slice());
         calls.fail_with(None);

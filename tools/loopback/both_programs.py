@@ -1,0 +1,197 @@
+"""`tftp` gets files from `tftpd`, and puts files to it."""
+import re
+from itertools import product
+
+from datagrams import expect
+
+MODES = {"octet": [], "netascii": ["--netascii"]}
+
+
+def bytes_of(length):
+    """Test bytes of this length, among them CR, LF and NUL."""
+    return bytes(at % 251 for at in range(length))
+
+
+def length_on_wire(content, mode):
+    """The bytes of the DATA of a file: in netascii LF is CR LF, and CR is CR NUL (RFC 764)."""
+    return len(content) + (mode == "netascii") * (content.count(b"\n") + content.count(b"\r"))
+
+
+def test_failures_are_reported(scene):
+    """A missing name, a put of an existing one, a get, and an existing local file."""
+    scene.make("a", b"ABC")
+    server = scene.serve("--rounds", "50")
+    scene.tftp("get", server.word, "b", "local").fails("PeerError(1)")
+    scene.tftp("put", server.word, "a", "a").fails("PeerError(6)")
+    scene.tftp("get", server.word, "a", "local").completes(3)
+    scene.tftp("get", server.word, "a", "local").ends(2, "", "tftp: file fault\n")
+    server.has_closed("Complete")
+    scene.has(a=b"ABC", local=b"ABC")
+
+
+def test_sixteen_at_once(scene):
+    """Sixteen clients at once, each with a file of its own length, at the boundaries of blocks of 512 bytes."""
+    lengths = [0, 1, 2, 511, 512, 513, 1023, 1024, 1025, 1535, 1536, 1537, 5119, 5120, 5121, 40_000]
+    for length in lengths:
+        scene.make(f"{length}", bytes_of(length))
+    server = scene.serve("--transfers", "16")
+    clients = [scene.tftp("get", server.word, f"{length}", f"{length}.local") for length in lengths]
+    for length, client in zip(lengths, clients):
+        client.completes(length)
+    server.has_closed(*["Complete"] * 16)
+    names = product(lengths, ["", ".local"])
+    scene.has_files({f"{length}{ending}": bytes_of(length) for length, ending in names})
+
+
+def transfers_at_once(scene, server, way, size, files):
+    """Gets or puts these files in both modes at once, in blocks of this size. Returns the copies, and for each the end
+    of its line in the log."""
+    clients, copies, lines = [], {}, []
+    for (name, content), mode in product(files.items(), MODES):
+        copy = f"{way}.{mode}.{name}"
+        words = [way, server.word, name, copy, "--blksize", f"{size}", *MODES[mode]]
+        clients.append((scene.tftp(*words), len(content)))
+        copies[copy] = content
+        request = f"RRQ {name}" if way == "get" else f"WRQ {copy}"
+        lines.append(f"{request} {mode} blksize={size}: OACK blksize={size}, {length_on_wire(content, mode)} bytes")
+    for client, length in clients:
+        client.completes(length)
+    return copies, lines
+
+
+def serves_blocks(scene, size, lengths):
+    """Files of these lengths arrive in blocks of this size, in both modes, those of a direction at once."""
+    files = {f"file{length}": bytes_of(length) for length in lengths}
+    for name, content in files.items():
+        scene.make(name, content)
+    server = scene.serve("--max-block", "65464", "--transfers", "24", "--log")
+    got, got_lines = transfers_at_once(scene, server, "get", size, files)
+    put, put_lines = transfers_at_once(scene, server, "put", size, files)
+    log = server.has_closed(*["Complete"] * 24)
+    scene.has_files({**files, **got, **put})
+    found = [re.fullmatch(r"closed \d+ \S+ (.*), \d+ ms, Complete", line) for line in log]
+    expect(sorted(line[1] for line in found if line), sorted(got_lines + put_lines), "the transfers in the log")
+
+
+def test_blocks_of_512(scene):
+    serves_blocks(scene, 512, [0, 1, 511, 512, 513, 1_536])
+
+
+def test_blocks_of_1428(scene):
+    serves_blocks(scene, 1428, [0, 1, 1_427, 1_428, 1_429, 4_284])
+
+
+def test_blocks_of_8192(scene):
+    serves_blocks(scene, 8192, [0, 1, 8_191, 8_192, 8_193, 24_576])
+
+
+def test_blocks_of_65464(scene):
+    serves_blocks(scene, 65_464, [0, 1, 65_463, 65_464, 65_465, 196_392])
+
+
+def test_gets_survive(scene):
+    """Ten retries are enough for each get through a network that loses, duplicates and reorders."""
+    content = bytes_of(2_500)
+    scene.make("file", content)
+    server = scene.serve("--retries", "10", "--transfers", "9")
+    clients = []
+    for seed in [1, 2, 3]:
+        proxy = scene.proxy(server, seed)
+        clients.append(scene.tftp("get", proxy.word, "file", f"got{seed}", "--retries", "10"))
+    for client in clients:
+        client.completes(2_500)
+    scene.has(file=content, got1=content, got2=content, got3=content)
+
+
+def test_puts_survive(scene):
+    """A file that is put through such a network is whole or missing, and whole if the client reports completion. The
+    server may close before the client has its last ACK, but not each time."""
+    content, seeds = bytes_of(2_500), [4, 5, 6, 7, 8]
+    scene.make("local", content)
+    scene.make_folder("served")
+    server = scene.serve("--retries", "10", "--transfers", "9", root="served")
+    clients = []
+    for seed in seeds:
+        proxy = scene.proxy(server, seed)
+        clients.append(scene.tftp("put", proxy.word, "local", f"put{seed}", "--retries", "10"))
+    complete = {f"served/put{seed}" for seed, client in zip(seeds, clients) if client.completes_or_times_out(2_500)}
+    expect(bool(complete), True, "whether some put is complete")
+    named = {name: found for name, found in scene.files().items() if name.startswith("served/put")}
+    expect(complete - set(named), set(), "the files of complete puts that are missing")
+    for name, found in named.items():
+        expect(found, content, name)
+
+
+def test_serves_forever(scene):
+    """No count ends the server. By default it ends with the first transfer."""
+    scene.make("a", b"ABC")
+    server = scene.serve("--forever")
+    for name in ["first", "second", "third"]:
+        scene.tftp("get", server.word, "a", name).completes(3)
+    expect(server.process.poll(), None, "the status of the server")
+
+
+def test_refuses_writes(scene):
+    """Puts of a new name and of an existing file are access violations (RFC 1350, appendix I), leave no draft and change
+    no file; a get still succeeds."""
+    scene.make("served/a", b"ABC")
+    scene.make("local", b"newer")
+    server = scene.serve("--read-only", root="served")
+    for name in ["n", "a"]:
+        scene.tftp("put", server.word, "local", name).fails("PeerError(2)")
+    scene.tftp("get", server.word, "a", "got").completes(3)
+    server.has_closed("Complete")
+    scene.has_files({"served/a": b"ABC", "local": b"newer", "got": b"ABC"})
+
+
+def test_a_file_is_replaced(scene):
+    """With `--overwrite` a put replaces the existing file."""
+    scene.make("a", b"old")
+    scene.make("local", b"newer")
+    server = scene.serve("--overwrite", "--rounds", "50")
+    scene.tftp("put", server.word, "local", "a").completes(5)
+    server.has_closed("Complete")
+    scene.has(a=b"newer", local=b"newer")
+
+
+def test_the_disk_is_full(scene):
+    """Puts to a server with a limit of file sizes, in units of 512 bytes: the client receives the ERROR of a full disk,
+    and no file gets the name. The first file is written at the commit, the second as it arrives; of the third only the
+    last bytes are refused."""
+    for limit, length in [("-f 8", 20_000), ("-f 8", 200_000), ("-f 384", 200_000)]:
+        scene.make("local", bytes_of(length))
+        server = scene.serve("--max-block", "8192", "--rounds", "500", limit=limit)
+        client = scene.tftp("put", server.word, "local", "n", "--verbose")
+        client.ends(1, "", "tftp: PeerError(3)\ntftp: ERROR 3 (disk full)\n")
+        server.has_closed("StoreFault")
+        scene.lacks("n")
+
+
+def logs(log, patterns):
+    """A log has exactly these lines."""
+    fits = len(log) == len(patterns) and all(map(re.fullmatch, patterns, log))
+    expect(bool(fits), True, f"the log {log}")
+
+
+def test_log_lines(scene):
+    """An invalid name, and a get: a line for each request, and one for the close."""
+    scene.make("a", b"ABC")
+    server = scene.serve("--log", "--rounds", "50")
+    scene.tftp("get", server.word, "b c", "local").fails("PeerError(2)")
+    scene.tftp("get", server.word, "a", "local").completes(3)
+    logs(server.has_closed("Complete"), [
+        r"refused 127\.0\.0\.1:\d+ RRQ b%20c octet: ERROR 2 \(access violation\)",
+        r"opened \d+ 127\.0\.0\.1:\d+ RRQ a octet: DATA 1 3",
+        r"closed \d+ 127\.0\.0\.1:\d+ RRQ a octet: DATA 1 3, 3 bytes, \d+ ms, Complete",
+    ])
+
+
+def test_the_log_says_why(scene):
+    """The log has the system's reason why a file was not stored."""
+    scene.make("long", bytes_of(20_000))
+    server = scene.serve("--log", "--rounds", "500", limit="-f 8")
+    scene.tftp("put", server.word, "long", "n").fails("PeerError(3)")
+    logs(server.has_closed("StoreFault"), [
+        r"opened \d+ 127\.0\.0\.1:\d+ WRQ n octet: ACK 0",
+        r"closed \d+ 127\.0\.0\.1:\d+ WRQ n octet: ACK 0, \d+ bytes, \d+ ms, StoreFault, file too large",
+    ])

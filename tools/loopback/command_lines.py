@@ -1,0 +1,49 @@
+"""Help texts, and invalid command lines: each fault names the option and its range."""
+from datagrams import expect
+
+GET, PUT = (("tftp", way, "127.0.0.1:69", "a", "b") for way in ("get", "put"))
+
+# Command lines that end with status 0, and a part of what they print
+HELP = [
+    (("tftpd", "--version"), "tftpd 0.1.0 (rattle-kit-"),
+    (("tftp", "--version"), "tftp 0.1.0 (rattle-kit-"),
+    (("tftpd", "--help"), "Examples:\n  tftpd "),
+    (("tftp", "--help"), "Examples:\n  tftp get "),
+    (("tftp", "get", "--help"), "--blksize <8..65464>"),
+    (("tftp", "get", "--help"), "--no-linger "),
+]
+
+# Command lines that end with status 2, and a part of what they write to standard error
+FAULTS = [
+    ((*PUT, "--no-linger"), "'--no-linger'"),
+    (("tftpd", ".", "--max-block", "7"), "'--max-block <8..65464>'"),
+    (("tftpd", ".", "--max-file", "18446744073709551616"), "'--max-file <0..2^64-1>'"),
+    (("tftpd", ".", "--retries", "11"), "'--retries <0..10>'"),
+    (("tftpd", ".", "--cap", "65"), "'--cap <1..64>'"),
+    (("tftpd", ".", "--transfers", "0"), "'--transfers <1..4294967295>'"),
+    (("tftpd", ".", "--rounds", "0"), "'--rounds <1..4294967295>'"),
+    (("tftpd", ".", "--forever", "--transfers", "2"),
+     "'--forever' cannot be used with '--transfers <1..4294967295>'"),
+    (("tftpd", ".", "--rounds", "2", "--forever"), "cannot be used with '--forever'"),
+    (("tftpd", ".", "--listen", "localhost:69"), "'--listen <ADDR:PORT>'"),
+    (("tftp", "get", "a:69", "a", "b"), "'<ADDR:PORT>'"),
+    ((*GET, "--blksize", "65465"), "'--blksize <8..65464>'"),
+    ((*PUT, "--timeout", "0"), "'--timeout <1..255>'"),
+    ((*PUT, "--retries", "11"), "'--retries <0..10>'"),
+]
+
+
+def writes(scene, words, status, parts):
+    """A command ends with this status, and what it writes to standard output and error has these parts, or is empty."""
+    process = scene.start(words[0], words[1:])
+    wrote = [text.decode() for text in process.communicate(timeout=20)]
+    expect(process.returncode, status, f"the status of {words}")
+    for text, part in zip(wrote, parts):
+        expect(part in text if part else not text, True, f"what {words} writes, {text!r}, has {part!r}")
+
+
+def test_help_and_faults(scene):
+    for words, part in HELP:
+        writes(scene, words, 0, (part, ""))
+    for words, part in FAULTS:
+        writes(scene, words, 2, ("", part))

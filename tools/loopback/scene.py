@@ -1,0 +1,160 @@
+"""What one test has: a folder of its own, the two programs, ports and proxies. All end with the test."""
+import os
+import re
+import select
+import signal
+import subprocess
+from contextlib import ExitStack
+
+from datagrams import PATIENCE, Port, expect
+from proxy import Proxy
+
+# The longest life of a program, in seconds
+LIFE = 60
+
+# A shell script that runs a program under a limit of `ulimit`. A write beyond a file's limit is an error and no signal.
+LIMITED = "trap '' XFSZ; ulimit $1; shift; exec \"$@\""
+
+
+def first_line(process):
+    """The first line that a program prints."""
+    if not select.select([process.stdout], [], [], PATIENCE)[0]:
+        raise AssertionError(f"no line after {PATIENCE} seconds")
+    return process.stdout.readline().decode()
+
+
+class Client:
+    """A tftp that was started."""
+
+    def __init__(self, process):
+        self.process = process
+
+    def ends(self, status, printed="", errors=""):
+        """It ends with this status, and has written exactly this."""
+        wrote = [text.decode() for text in self.process.communicate(timeout=LIFE)]
+        expect((self.process.returncode, *wrote), (status, printed, errors), "the client")
+
+    def completes(self, length):
+        """It reports a complete transfer of a file of this length."""
+        self.ends(0, f"complete {length}\n")
+
+    def completes_or_times_out(self, length):
+        """It reports either. Returns whether the transfer is complete."""
+        if self.process.wait(LIFE) == 0:
+            self.completes(length)
+        else:
+            self.fails("TimedOut")
+        return self.process.returncode == 0
+
+    def fails(self, outcome):
+        """It reports a transfer that failed with this outcome."""
+        self.ends(1, "", f"tftp: {outcome}\n")
+
+
+class Server:
+    """A tftpd that listens: its address, also as a word of a command line."""
+
+    def __init__(self, process):
+        self.process = process
+        line = first_line(process)
+        found = re.fullmatch(r"listening ((\d+\.\d+\.\d+\.\d+):(\d+))\n", line)
+        expect(bool(found), True, f"the first line of the server, {line!r}")
+        self.word, self.address = found[1], (found[2], int(found[3]))
+
+    def has_closed(self, *outcomes):
+        """It ends with status 0, and has printed a line for each closed transfer, with these outcomes. Returns the
+        lines of its log, without those of requests that a slow client repeated."""
+        printed, log = (text.decode().splitlines() for text in self.process.communicate(timeout=LIFE))
+        found = [re.fullmatch(r"\d+ \d+ (\S+)", line) for line in printed]
+        expect([line and line[1] for line in found], list(outcomes), f"the outcomes in {printed}, {log}")
+        expect(self.process.returncode, 0, "the status of the server")
+        return [line for line in log if not line.startswith("ignored ")]
+
+    def stop(self):
+        """Stops it until `go_on`."""
+        os.kill(self.process.pid, signal.SIGSTOP)
+        os.waitid(os.P_PID, self.process.pid, os.WSTOPPED | os.WEXITED | os.WNOWAIT)
+
+    def go_on(self):
+        os.kill(self.process.pid, signal.SIGCONT)
+
+    def kill(self):
+        self.process.kill()
+        self.process.wait(PATIENCE)
+
+
+class Scene:
+    """The folder, and what runs for the test."""
+
+    def __init__(self, programs, folder):
+        self.programs, self.folder, self.ending = programs, folder, ExitStack()
+
+    def __enter__(self):
+        self.folder.mkdir()
+        return self
+
+    def __exit__(self, *_):
+        self.ending.close()
+
+    def make(self, name, content):
+        """Makes a file, and the folders on its path."""
+        path = self.folder / name
+        path.parent.mkdir(parents=True, exist_ok=True)
+        path.write_bytes(content)
+
+    def make_folder(self, name):
+        (self.folder / name).mkdir()
+
+    def files(self):
+        """The regular files in the folder and below, with their bytes."""
+        paths = [path for path in self.folder.rglob("*") if path.is_file() and not path.is_symlink()]
+        return {str(path.relative_to(self.folder)): path.read_bytes() for path in paths}
+
+    def has(self, **files):
+        self.has_files(files)
+
+    def has_files(self, files):
+        """The folder and those below have these regular files, with these bytes, and no other."""
+        found = self.files()
+        expect(sorted(found), sorted(files), "the files")
+        for name, content in files.items():
+            expect(found[name], content, name)
+
+    def lacks(self, name):
+        """No file has this name."""
+        expect(os.path.lexists(self.folder / name), False, f"whether there is {name}")
+
+    def start(self, program, words, limit=None):
+        command = [self.programs[program], *words]
+        if limit:
+            command = ["sh", "-c", LIMITED, "sh", limit, *command]
+        process = subprocess.Popen(command, cwd=self.folder, bufsize=0, stdin=subprocess.DEVNULL,
+                                   stdout=subprocess.PIPE, stderr=subprocess.PIPE)
+        self.ending.callback(end, process)
+        return process
+
+    def tftp(self, *words):
+        """Starts a client with these words."""
+        return Client(self.start("tftp", words))
+
+    def serve(self, *words, root=".", listen="127.0.0.1", limit=None):
+        """Starts a server of a folder with these words, under a limit such as `-f 8`: 8 times 512 bytes in a file."""
+        return Server(self.start("tftpd", [root, "--listen", f"{listen}:0", *words], limit))
+
+    def port(self):
+        port = Port()
+        self.ending.callback(port.close)
+        return port
+
+    def proxy(self, server, seed):
+        proxy = Proxy(server.address, seed)
+        self.ending.callback(proxy.close)
+        return proxy
+
+
+def end(process):
+    """Kills a program if it runs."""
+    process.kill()
+    process.wait(PATIENCE)
+    process.stdout.close()
+    process.stderr.close()

@@ -1,0 +1,216 @@
+"""`tftpd` answers the datagrams of a test."""
+import os
+
+from both_programs import bytes_of, logs
+from datagrams import End, ack, data, error, expect, oack, rrq, wrq
+
+FILE_NOT_FOUND = error(1, "file not found")
+ACCESS_VIOLATION = error(2, "access violation")
+DISK_FULL = error(3, "disk full")
+FILE_EXISTS = error(6, "file exists")
+FILE_CHANGED = error(0, "file changed")
+
+# Requests and the ERRORs that answer them (RFC 1350, appendix I): a missing file, a folder, links out of the folder, a
+# FIFO, an invalid name; then writes of an existing file, of a link, through a link, and into a missing folder.
+REFUSALS = [
+    (rrq("none"), FILE_NOT_FOUND),
+    (rrq("sub"), FILE_NOT_FOUND),
+    (rrq("outer"), ACCESS_VIOLATION),
+    (rrq("up/secret"), ACCESS_VIOLATION),
+    (rrq("fifo"), ACCESS_VIOLATION),
+    (rrq("../secret"), ACCESS_VIOLATION),
+    (wrq("a"), FILE_EXISTS),
+    (wrq("outer"), FILE_EXISTS),
+    (wrq("up/new"), ACCESS_VIOLATION),
+    (wrq("none/new"), ACCESS_VIOLATION),
+]
+
+
+def opened(scene, server, request, expected):
+    """Sends a request, and expects this answer from a new port. Returns the end of the transfer."""
+    port = scene.port()
+    port.send(request, server.address)
+    answer, transfer = port.receive()
+    expect(answer, expected, "the answer")
+    expect(transfer != server.address, True, "whether the transfer has a port of its own")
+    return End(port, transfer)
+
+
+def is_refused(scene, server, request, expected):
+    """The request port answers a request by this ERROR."""
+    End(scene.port(), server.address).is_answered(request, expected)
+
+
+def test_requests_are_refused(scene):
+    scene.make("served/a", b"ABC")
+    scene.make("secret", b"S")
+    scene.make_folder("served/sub")
+    (scene.folder / "served/outer").symlink_to("../secret")
+    (scene.folder / "served/up").symlink_to("..")
+    os.mkfifo(scene.folder / "served/fifo")
+    server = scene.serve("--rounds", "50", root="served")
+    for request, expected in REFUSALS:
+        is_refused(scene, server, request, expected)
+    scene.has_files({"served/a": b"ABC", "secret": b"S"})
+
+
+def test_a_server_is_busy(scene):
+    """At `--cap` another client receives the ERROR of a busy server. A repeated request gets no second answer: what
+    comes is a retransmission."""
+    scene.make("a", b"ABC")
+    server = scene.serve("--cap", "1", "--rounds", "50")
+    first, block = scene.port(), data(1, b"ABC")
+    first.send(rrq("a"), server.address)
+    first.send(rrq("a"), server.address)
+    is_refused(scene, server, rrq("a"), error(0, "server busy"))
+    answer, transfer = first.receive()
+    expect(answer, block, "the answer")
+    first.send(ack(1), transfer)
+    server.has_closed("Complete")
+    others = [other for other in first.waiting() if other != (block, transfer)]
+    expect(others, [], "the other answers")
+
+
+def vanishes(scene, server):
+    """Requests to write the file `n`, sends one full block, and nothing more."""
+    end = opened(scene, server, wrq("n"), ack(0))
+    end.is_answered(data(1, b"\7" * 512), ack(1), other_than=ack(0))
+
+
+def test_a_client_vanishes(scene):
+    """The transfer times out, and no file has its name."""
+    server = scene.serve("--retries", "1", "--rounds", "50")
+    vanishes(scene, server)
+    server.has_closed("TimedOut")
+    scene.lacks("n")
+
+
+def test_a_server_is_killed(scene):
+    """The server is killed during the transfer, and no file has its name."""
+    server = scene.serve("--rounds", "50")
+    vanishes(scene, server)
+    server.kill()
+    scene.lacks("n")
+
+
+def test_the_disk_is_full_in_mid_transfer(scene):
+    """If the write of a block fails after its acknowledgement, a later block is answered by the ERROR of a full disk, long
+    before the last. With a timeout of 20 seconds nothing is retransmitted."""
+    server = scene.serve("--max-block", "8192", "--rounds", "500", limit="-f 8")
+    asked = {"blksize": 8192, "timeout": 20}
+    end = opened(scene, server, wrq("n", **asked), oack(**asked))
+    answers = []
+    while len(answers) < 25 and DISK_FULL not in answers:
+        number = len(answers) + 1
+        answers.append(end.answer_to(data(number, b"\7" * 8192)))
+    expect(answers, [*map(ack, range(1, len(answers))), DISK_FULL], "the answers")
+    expect(1 < len(answers) < 25, True, f"whether block {len(answers)} is one in between")
+    server.has_closed("StoreFault")
+    scene.lacks("n")
+
+
+def test_few_open_files(scene):
+    """A request that is lost or refused for lack of open files is in the log: no port can be bound; a port is bound, and
+    the file cannot be opened."""
+    scene.make("a", b"ABC")
+    for limit, line in [
+        ("-n 5", r"lost 127\.0\.0\.1:\d+ RRQ a octet: no port"),
+        ("-n 6", r"refused 127\.0\.0\.1:\d+ RRQ a octet: ERROR 2 \(access violation\), too many open files"),
+    ]:
+        server = scene.serve("--log", "--rounds", "5", limit=limit)
+        scene.port().send(rrq("a"), server.address)
+        logs(server.has_closed(), [line])
+
+
+def first_block(port, older):
+    """Receives the first block of a new transfer. On a slow host an older one may retransmit its own."""
+    for _ in range(20):
+        answer, transfer = port.receive()
+        if transfer != older:
+            expect(answer, data(1, b"ABC"), "the answer")
+            return transfer
+    raise AssertionError("no new transfer")
+
+
+def test_a_slot_is_freed_first(scene):
+    """A server with one slot is never busy for a client that acknowledges before it requests again: first with the
+    server stopped in between, then as fast as possible. Successive requests are of the same file, and of the other."""
+    for name in ["a", "b"]:
+        scene.make(name, b"ABC")
+    server = scene.serve("--cap", "1", "--transfers", "105")
+    port = scene.port()
+    port.send(rrq("b"), server.address)
+    transfer = first_block(port, None)
+    for at in range(104):
+        is_stopped = at < 4
+        if is_stopped:
+            server.stop()
+        port.send(ack(1), transfer)
+        port.send(rrq("aabb"[at % 4]), server.address)
+        if is_stopped:
+            server.go_on()
+        transfer = first_block(port, transfer)
+    port.send(ack(1), transfer)
+    server.has_closed(*["Complete"] * 105)
+
+
+def test_an_error_to_the_server_is_seen_soon(scene):
+    """An ERROR immediately after an acknowledgement closes the transfer within a few waits, each of at most a second,
+    though the agreed timeout is 255 seconds."""
+    scene.make("a", b"ABC")
+    server = scene.serve("--rounds", "10")
+    end = opened(scene, server, rrq("a", timeout=255), oack(timeout=255))
+    server.stop()
+    end.send(ack(0))
+    end.send(error(0, "stop"))
+    server.go_on()
+    server.has_closed("PeerError(0)")
+
+
+def test_two_addresses(scene):
+    """The source of an answer is the address that the server listens at; with 0.0.0.0, that of the system's route to the
+    client, whatever the destination of the request."""
+    scene.make("a", b"ABC")
+    for listen, asked, expected in [
+        ("127.0.0.1", "127.0.0.1", "127.0.0.1"),
+        ("127.0.0.2", "127.0.0.2", "127.0.0.2"),
+        ("0.0.0.0", "127.0.0.1", "127.0.0.1"),
+        ("0.0.0.0", "127.0.0.2", "127.0.0.1"),
+    ]:
+        server = scene.serve("--rounds", "50", listen=listen)
+        expect(server.address[0], listen, "the address that is printed")
+        port = scene.port()
+        port.send(rrq("a"), (asked, server.address[1]))
+        answer, transfer = port.receive()
+        expect((answer, transfer[0]), (data(1, b"ABC"), expected), f"the answer at {listen} to {asked}")
+        port.send(ack(1), transfer)
+        server.has_closed("Complete")
+
+
+# Blocks of at least the length of one read of a file: six full ones and a short one
+CUT_SIZE = 32_768
+CUT_FILE = bytes_of(200_000)
+
+
+def is_given_up(end, first, cut):
+    """The datagram `first` is answered by block 1, and then the file is cut short. No short block follows, which would be
+    mistaken for the last (RFC 1350, section 6): the sender gives up before."""
+    blocks = [CUT_FILE[at:at + CUT_SIZE] for at in range(0, len(CUT_FILE), CUT_SIZE)]
+    end.is_answered(first, data(1, blocks[0]))
+    cut()
+    for number in range(1, 6):
+        answer = end.answer_to(ack(number))
+        if answer == FILE_CHANGED:
+            return
+        expect(answer, data(number + 1, blocks[number]), "the answer")
+    raise AssertionError("blocks of a file that is cut short")
+
+
+def test_a_served_file_is_cut(scene):
+    """With a timeout of 20 seconds nothing is retransmitted."""
+    scene.make("a", CUT_FILE)
+    server = scene.serve("--max-block", "65464", "--rounds", "50")
+    asked = {"blksize": CUT_SIZE, "timeout": 20}
+    end = opened(scene, server, rrq("a", **asked), oack(**asked))
+    is_given_up(end, ack(0), lambda: scene.make("a", b"cut"))
+    server.has_closed("SourceFault")
