@@ -91,7 +91,7 @@ client = record {
   before = [];
   last = begun 5000 asking [];
   files = Sink (new_mem_sink 0 false);
-  runs = record { file = Sink (new_mem_sink 0 false); converses = Begins };
+  runs = record { file = Sink (new_mem_sink 0 false); new = refl; converses = Begins };
   file = [];
   opens = To_read (record {
     name = 97 ∷ [];
