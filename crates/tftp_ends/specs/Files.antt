@@ -1,11 +1,16 @@
 -- The files of an end, by their models.
-use Rattle.std.specs.Prelude.{◌≡◌, true, false, Option, Some, None}
+use Rattle.std.specs.Prelude.{ℕ, ◌≡◌, true, false, Option, Some, None}
 use Rattle.tftp_file.specs.Source.{SourceMeaning}
 use Rattle.tftp_file.specs.Sink.{Holding, SinkMeaning}
 use Rattle.tftp_file.specs.declared.files.Files.{Files}
 use Rattle.tftp_file.specs.declared.files.Files.TheVariants.{Source, Sink}
 use Rattle.tftp_ends.specs.declared.side.Side.{Side}
 use Rattle.tftp_ends.specs.End.{is_sender}
+
+-- a source has the same bytes left, and if each fill failed before, each fill fails
+pub record KeepsSource {S : Type 0} (sources : SourceMeaning S) (before after : S) : Type 0 where
+  pub left : sources.left after ≡ sources.left before
+  pub fails : ((want : ℕ) → sources.fails before want) → (want : ℕ) → sources.fails after want
 
 -- a sink with a model holds the same
 abbrev pub KeepsHolding : Option Holding → Option Holding → Type 0
@@ -23,9 +28,9 @@ module _ {S K : Type 0} where
   AreFilesOf side (Source source) = is_sender side ≡ true
   AreFilesOf side (Sink sink) = is_sender side ≡ false
 
-  -- a source has the same bytes left, or a sink is kept as above
+  -- a source or a sink is kept as above
   abbrev pub KeepsFiles : SourceMeaning S → SinkMeaning K → Files S K → Files S K → Type 0
-  KeepsFiles sources sinks (Source old) (Source new) = sources.left new ≡ sources.left old
+  KeepsFiles sources sinks (Source old) (Source new) = KeepsSource sources old new
   KeepsFiles sources sinks (Sink old) (Sink new) = KeepsSink sinks old new
   KeepsFiles sources sinks (Source old) (Sink new) = ⊥
   KeepsFiles sources sinks (Sink old) (Source new) = ⊥

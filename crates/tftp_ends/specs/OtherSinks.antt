@@ -1,5 +1,6 @@
 -- A step with one file is a step with another file that has the same model.
-use Rattle.std.specs.Prelude.{ℕ, ◌≡◌, Bool, true, false, List, [], ◌∷◌, Result, Ok, Err, IfErr}
+use Rattle.std.specs.Prelude.{ℕ, ◌≡◌, ◌↔◌, Bool, true, false, List, [], ◌∷◌, Result, Ok, Err}
+use Rattle.std.specs.Prelude.{IfErr}
 use Rattle.std.proofs.Common.{ap, sym, subst}
 use Rattle.tftp_file.specs.Source.{SourceMeaning}
 use Rattle.tftp_file.specs.Sink.{SinkMeaning}
@@ -15,13 +16,14 @@ use Rattle.tftp_ends.specs.Files.{KeepsFiles}
 use Rattle.tftp_ends.specs.Step.{Done, Turn, Sends, Appended, Committed, GoesOn, Stores, Acts}
 use Rattle.tftp_ends.specs.Step.{DatagramStep}
 
--- sources seen as values of another type: the same bytes are left, and their faults are allowed
+-- sources seen as values of another type: the same bytes are left, their faults are allowed, and
+-- the same fills must fail
 pub record SourcesModel {S T : Type 0} (seen : S → T) (sources : SourceMeaning S)
     (sources' : SourceMeaning T) : Type 0 where
   pub models : (source : S) → sources'.left (seen source) ≡ sources.left source
   pub fails : (source : S) (want : ℕ) → sources.may_fail source want
       → sources'.may_fail (seen source) want
-  pub must : (source : S) (want : ℕ) → sources'.fails (seen source) want → sources.fails source want
+  pub must : (source : S) (want : ℕ) → sources'.fails (seen source) want ↔ sources.fails source want
 
 -- the same, of sinks for which `holds`, which an append preserves
 pub record SinksModel {K L : Type 0} (seen : K → L) (holds : K → Type 0) (sinks : SinkMeaning K)
@@ -76,7 +78,7 @@ module _ {S T K L : Type 0} (sources : SourceMeaning S) (sinks : SinkMeaning K)
               record {
                 fills = rw (source_models.models s, source_models.models s') h.reads.fills;
                 read = λ q. source_models.fails s _ (h.reads.read q);
-                fails = λ f. h.reads.fails (source_models.must s _ f);
+                fails = λ f. h.reads.fails ((source_models.must s _).0 f);
                 memory = h.reads.memory;
               };
           answers = h.answers;
@@ -109,7 +111,12 @@ module _ {S T K L : Type 0} (sources : SourceMeaning S) (sinks : SinkMeaning K)
     -- a source whose model is unchanged is seen as one whose model is unchanged
     pub source_keeps_as : (s s' : S) → KeepsFiles sources sinks (Source s) (Source s') →
         KeepsFiles sources' sinks' (Source (source_as s)) (Source (source_as s'))
-    source_keeps_as s s' h = rw (source_models.models s, source_models.models s') h
+    source_keeps_as s s' h =
+        record {
+          left = rw (source_models.models s, source_models.models s') h.left;
+          fails = λ f want.
+              (source_models.must s' want).1 (h.fails (λ w. (source_models.must s w).0 (f w)) want);
+        }
 
   -- ---- a sink, whatever the sources are
   module _ (sink_as : K → L) (holds : K → Type 0)

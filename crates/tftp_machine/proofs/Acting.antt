@@ -1,5 +1,5 @@
 -- Rules that act in sequence at one end, by the view of that end.
-use Rattle.std.proofs.Common.{◌≡◌, ◌+◌, Bool, true, false, List, [], ◌∷◌, ◌++◌, append_assoc, sym, refl, ap, ◌∙◌, subst}
+use Rattle.std.proofs.Common.{◌≡◌, ◌+◌, Bool, true, false, List, [], ◌∷◌, ◌++◌, append_assoc, sym, refl, ap, ◌∙◌, subst, inl, inr}
 use Rattle.std.specs.Prelude.{◌≢◌}
 use Rattle.std.specs.List.{Contains}
 use Rattle.std.proofs.lemmas.Bool.{true≢false}
@@ -7,7 +7,7 @@ use Rattle.std.proofs.lemmas.List.{append-nil}
 use Rattle.std.proofs.lemmas.List.Elements.{Contains-append_left}
 use Rattle.tftp_wire.specs.declared.packet.Request.{Request as WireRequest}
 use Rattle.tftp_machine.specs.Machine.{Endpoint, Request, Data, Ack, Oack, Message, Party, Machine, Network}
-use Rattle.tftp_machine.specs.Rules.{Rule, Asks, Opens_plainly, Opens_with, Takes_oack, Takes_ack, Takes_data, Appends, Sends_next, Completes, Fails, Fails_with, Says_error, Repeats, Strays, message, actor, MayAct, Guard, OpensNoDuplicate, packets, party_after, after, IsLegal, run}
+use Rattle.tftp_machine.specs.Rules.{Rule, Asks, Opens_plainly, Opens_with, Takes_oack, Takes_ack, Takes_data, Appends, Sends_next, Completes, Fails, Fails_with, Fails_to_begin, Says_error, Repeats, Strays, message, actor, MayAct, Guard, OpensNoDuplicate, packets, party_after, after, IsLegal, run}
 use Rattle.tftp_machine.specs.Shows.{ActInTurn, party_then, sent_by}
 use Rattle.tftp_machine.proofs.Grows.{with_at, with_other}
 
@@ -32,6 +32,7 @@ same_after b (Sends_next at peer) x = (b, refl)
 same_after b (Completes at peer) x = (b, refl)
 same_after b (Fails at) x = (b, refl)
 same_after b (Fails_with at peer bytes) x = (b, refl)
+same_after b (Fails_to_begin at peer size) x = (b, refl)
 same_after b (Says_error at to) x = (b, refl)
 same_after b (Repeats old) x = (b, refl)
 same_after b (Strays stray) x = (b, refl)
@@ -75,6 +76,7 @@ module _ (network : Network) where
   may_act b (Completes at peer) sent x h = h
   may_act b (Fails at) sent x h = h
   may_act b (Fails_with at peer bytes) sent x h = h
+  may_act b (Fails_to_begin at peer size) sent x h = h
   may_act b (Says_error at to) sent x h = h
   may_act b (Repeats old) sent x h = h
   may_act b (Strays stray) sent x h = h
@@ -91,6 +93,7 @@ module _ (network : Network) where
   same_packets b (Completes at peer) x = refl
   same_packets b (Fails at) x = refl
   same_packets b (Fails_with at peer bytes) x = refl
+  same_packets b (Fails_to_begin at peer size) x = refl
   same_packets b (Says_error at to) x = refl
   same_packets b (Repeats old) x = refl
   same_packets b (Strays stray) x = refl
@@ -107,6 +110,7 @@ module _ (network : Network) where
   keeps_on (Completes at peer) sent x o h = on x (party_after (Completes at peer) x) o refl refl refl h.0.0.1
   keeps_on (Fails at) sent x o h = on x (party_after (Fails at) x) o refl refl refl h.1
   keeps_on (Fails_with at peer bytes) sent x o h = on x (party_after (Fails_with at peer bytes) x) o refl refl refl h.0.1
+  keeps_on (Fails_to_begin at peer size) sent x o h = on x (party_after (Fails_to_begin at peer size) x) o refl refl refl h.0.0.1
   keeps_on (Says_error at to) sent x o h = unchanged x o
   keeps_on (Repeats old) sent x o h = unchanged x o
   keeps_on (Strays stray) sent x o h = unchanged x o
@@ -124,6 +128,7 @@ module _ (network : Network) where
   opens_none (Completes at peer) sent x m o h = tt
   opens_none (Fails at) sent x m o h = tt
   opens_none (Fails_with at peer bytes) sent x m o h = tt
+  opens_none (Fails_to_begin at peer size) sent x m o h = tt
   opens_none (Says_error at to) sent x m o h = tt
   opens_none (Repeats old) sent x m o h = tt
   opens_none (Strays stray) sent x m o h = tt
@@ -141,6 +146,14 @@ module _ (network : Network) where
   may_act_still (Completes at peer) sent more x f h = ((h.0.0, h.0.1, h.0.2, f (message peer at (Ack x.number)) h.0.3), h.1)
   may_act_still (Fails at) sent more x f h = h
   may_act_still (Fails_with at peer bytes) sent more x f h = (h.0, h.1, h.2, f (message peer at (Data (x.number + 1) bytes)) h.3, h.4)
+  may_act_still (Fails_to_begin at peer size) sent more x f h = (
+    h.0,
+    h.1,
+    elim h.2 [
+      | inl o ↦ inl (f (message peer at (Oack size)) o)
+      | inr a ↦ inr (a.0, f (message peer at (Ack 0)) a.1)
+    ],
+  )
   may_act_still (Says_error at to) sent more x f h = h
   may_act_still (Repeats old) sent more x f h = f old h
   may_act_still (Strays stray) sent more x f h = h

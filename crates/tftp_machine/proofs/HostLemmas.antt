@@ -5,6 +5,15 @@ use Rattle.std.proofs.lemmas.Bool.{true≢false}
 use Rattle.tftp_machine.specs.Hosts.{host_of, server_ip, client_ip}
 use Rattle.tftp_machine.specs.Machine.{Endpoint, Host, At_server, At_client, Elsewhere, is_same_ip}
 
+-- an endpoint with the server's address is at the server, and one with the clients' at a client
+pub host_server : (a : Endpoint) → a.ip ≡ server_ip → host_of a ≡ At_server
+unfolding host_of
+host_server a e = rw e refl
+
+pub host_client : (a : Endpoint) → a.ip ≡ client_ip → host_of a ≡ At_client
+unfolding host_of
+host_client a e = rw e refl
+
 -- the host of an endpoint, by whether its address is the server's or the clients'
 host_by : (a : Endpoint) (s c : Bool) → is_same_ip a.ip server_ip ≡ s → is_same_ip a.ip client_ip ≡ c → host_of a ≡ (if s then At_server else if c then At_client else Elsewhere)
 unfolding host_of

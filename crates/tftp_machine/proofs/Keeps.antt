@@ -5,11 +5,11 @@ use Rattle.std.proofs.lemmas.Bool.{true≢false, cases_Bool}
 use Rattle.tftp_negotiate.specs.declared.limits.TheConstants.{DEFAULT_BLOCK}
 use Rattle.tftp_file.specs.Block.{block}
 use Rattle.tftp_machine.specs.Machine.{Data, Ack, Oack, Error, Machine, with_end, Network}
-use Rattle.tftp_machine.specs.Rules.{Rule, Asks, Opens_plainly, Opens_with, Takes_oack, Takes_ack, Takes_data, Appends, Sends_next, Completes, Fails, Fails_with, Says_error, Repeats, Strays, message, taken, Guard, after}
+use Rattle.tftp_machine.specs.Rules.{Rule, Asks, Opens_plainly, Opens_with, Takes_oack, Takes_ack, Takes_data, Appends, Sends_next, Completes, Fails, Fails_with, Fails_to_begin, Says_error, Repeats, Strays, message, taken, Guard, after}
 use Rattle.tftp_machine.specs.Facts.{Holds}
 use Rattle.tftp_machine.proofs.Steps.{own_server, own_of, server_end}
 use Rattle.tftp_machine.proofs.Attesting.{attested_one, attested_none}
-use Rattle.tftp_machine.proofs.Opening.{asks, opens, takes, attested_first}
+use Rattle.tftp_machine.proofs.Opening.{asks, opens, accepting, takes, attested_first}
 use Rattle.tftp_machine.proofs.Moving.{received_more, received_failed, receives, sends, last_acked, fails, says}
 
 module _ (network : Network) where
@@ -31,14 +31,14 @@ module _ (network : Network) where
       let w = g.0 in
       let t = h.attested (message peer at (Oack size)) g.1 (own_server network peer w.3) in
       let x = m.party at in
-      takes network m h at peer size w t.is_open t.client t.peer t.size (message at peer (if x.sender then Data 1 (block x.text size 1) else Ack 0) ∷ [])
+      takes network m h at peer size (if x.sender then 1 else 0) x.failed w (λ z. rw z refl) t.is_open t.client t.peer t.size (message at peer (if x.sender then Data 1 (block x.text size 1) else Ack 0) ∷ [])
       (attested_one network m.party at (taken x peer size) peer (if x.sender then Data 1 (block x.text size 1) else Ack 0) (attested_first x peer size w.0.0 w.1))
   keeps (Takes_ack at peer) m h g =
       let w = g.0 in
       let t = h.attested (message peer at (Ack 0)) g.2 (own_server network peer w.3) in
       let x = m.party at in
       let c = server_end network m h peer t.is_open w.3 in
-      takes network m h at peer DEFAULT_BLOCK w t.is_open c t.peer ((h.ends peer t.is_open).plain c (t.plain refl c)) (message at peer (Data 1 (block x.text DEFAULT_BLOCK 1)) ∷ [])
+      takes network m h at peer DEFAULT_BLOCK (if x.sender then 1 else 0) x.failed w (λ z. rw z refl) t.is_open c t.peer ((h.ends peer t.is_open).plain c (t.plain refl c)) (message at peer (Data 1 (block x.text DEFAULT_BLOCK 1)) ∷ [])
       (attested_one network m.party at (taken x peer DEFAULT_BLOCK) peer (Data 1 (block x.text DEFAULT_BLOCK 1))
       (record { is_open = w.0.0; sender = g.1; peer = refl; first = omega arith; number = rw g.1 (omega arith); bytes = refl }))
   keeps (Takes_data at peer bytes) m h g =
@@ -51,7 +51,7 @@ module _ (network : Network) where
         | inl p ↦ s.plain c p
         | inr p ↦ absurd (let k : Some peer ≡ None = sym (s.begun c t.sender p t.number at t.peer (own_of network m h at w.0.0)) ∙ w.2 in cc)
       ] in
-      takes network m h at peer DEFAULT_BLOCK w t.is_open c t.peer small [] (attested_none network (with_end m.party at (taken x peer DEFAULT_BLOCK)))
+      takes network m h at peer DEFAULT_BLOCK (if x.sender then 1 else 0) x.failed w (λ z. rw z refl) t.is_open c t.peer small [] (attested_none network (with_end m.party at (taken x peer DEFAULT_BLOCK)))
   keeps (Appends at peer bytes) m h g =
       let x = m.party at in
       let y = record x { number = x.number + 1; done = nat_lt (length bytes) x.size; text = x.text ++ bytes } in
@@ -88,6 +88,20 @@ module _ (network : Network) where
       (omega arith)
       (λ z q. received_failed x z bytes g.0.1 q)
       [] (attested_none network (with_end m.party at y))
+  keeps (Fails_to_begin at peer size) m h g =
+      let w = g.0 in
+      let x = m.party at in
+      let y = accepting x peer size x.number true in
+      let begins : x.sender ≡ false → x.number ≡ 0 = λ z. absurd (true≢false (sym g.1 ∙ z)) in
+      elim g.2 [
+        | inl oack ↦
+            let t = h.attested (message peer at (Oack size)) oack (own_server network peer w.3) in
+            takes network m h at peer size x.number true w begins t.is_open t.client t.peer t.size [] (attested_none network (with_end m.party at y))
+        | inr ack ↦
+            let t = h.attested (message peer at (Ack 0)) ack.1 (own_server network peer w.3) in
+            let c = server_end network m h peer t.is_open w.3 in
+            takes network m h at peer size x.number true w begins t.is_open c t.peer ((h.ends peer t.is_open).plain c (t.plain refl c) ∙ sym ack.0) [] (attested_none network (with_end m.party at y))
+      ]
   keeps (Says_error at to) m h g = says network m h (message at to Error) (λ _. tt)
   keeps (Repeats old) m h g = says network m h old (h.attested old g)
   keeps (Strays stray) m h g = says network m h stray (λ o. absurd (o g))

@@ -13,3 +13,13 @@ pub mod Acting
 pub mod Shown
 pub mod ViewSafe
 pub mod HostLemmas
+pub mod SaidLemmas
+pub mod Actions
+pub mod EndMoves
+pub mod StoredTexts
+pub mod SourceMoves
+pub mod SinkMoves
+pub mod PhaseMoves
+pub mod WaitingMoves
+pub mod EndTurns
+pub mod KnownSteps

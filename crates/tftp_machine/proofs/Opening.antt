@@ -20,6 +20,10 @@ attested_first x peer size o c =
     (λ e. record { is_open = o; sender = e; peer = refl; first = omega arith; number = rw e (omega arith); bytes = refl })
     (λ e. record { is_open = o; sender = e; peer = refl; number = omega arith; plain = λ _ f. absurd (true≢false (sym c ∙ f)) })
 
+-- a client that has accepted this peer and size
+abbrev pub accepting : Party → Endpoint → ℕ → ℕ → Bool → Party
+accepting x peer size number failed = record x { peer = Some peer; size = size; number = number; failed = failed }
+
 module _ (network : Network) where
   pub asks : (m : Machine) → Holds network m → (at : Endpoint) (write : Bool) (request : WireRequest) (text : List ℕ) → Guard network (Asks at write request text) m → Holds network (after network (Asks at write request text) m)
   asks m h at write request text g =
@@ -70,15 +74,15 @@ module _ (network : Network) where
       })
       (attested_one network m.party at x peer k t)
 
-  -- a waiting client accepts this peer and size
-  pub takes : (m : Machine) → Holds network m → (at peer : Endpoint) (size : ℕ) → Waits network (m.party at) peer →
+  -- a waiting client accepts this peer and size, with this number, and may fail
+  pub takes : (m : Machine) → Holds network m → (at peer : Endpoint) (size number : ℕ) (failed : Bool) → Waits network (m.party at) peer → ((m.party at).sender ≡ false → number ≡ 0) →
       (m.party peer).is_open ≡ true → (m.party peer).client ≡ false → (m.party peer).peer ≡ Some at → (m.party peer).size ≡ size →
       (added : List Message) →
-      ((d : Message) → Contains added d → network.host_of d.from ≢ Elsewhere → Attests (with_end m.party at (taken (m.party at) peer size) d.from) d.to d.packet) →
-      Holds network (record { sent = m.sent ++ added; party = with_end m.party at (taken (m.party at) peer size) })
-  takes m h at peer size w opens_there client back sized added attested =
+      ((d : Message) → Contains added d → network.host_of d.from ≢ Elsewhere → Attests (with_end m.party at (accepting (m.party at) peer size number failed) d.from) d.to d.packet) →
+      Holds network (record { sent = m.sent ++ added; party = with_end m.party at (accepting (m.party at) peer size number failed) })
+  takes m h at peer size number failed w begins opens_there client back sized added attested =
       let old = m.party at in
-      let x = taken old peer size in
+      let x = accepting old peer size number failed in
       let s = h.ends at w.0.0 in
       let y = h.ends peer opens_there in
       let own : network.host_of at ≢ Elsewhere = own_of network m h at w.0.0 in
@@ -109,7 +113,7 @@ module _ (network : Network) where
         asked = λ c p e u. absurd (true≢false (sym w.1 ∙ c));
         plain = λ c p. absurd (true≢false (sym w.1 ∙ c));
         begun = λ c z f n p e u. absurd (true≢false (sym w.1 ∙ c));
-        received = λ z p e u. received_nothing x (new p) (none.2 z) (rw z refl) none.1;
+        received = λ z p e u. received_nothing x (new p) (none.2 z) (begins z) none.1;
         ended = λ z d p e u. absurd (true≢false (sym d ∙ none.1));
       })
       attested

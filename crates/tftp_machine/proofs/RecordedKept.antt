@@ -7,12 +7,13 @@ use Rattle.std.proofs.lemmas.List.Elements.{Contains-append_cases, Contains-appe
 use Rattle.tftp_negotiate.specs.declared.limits.TheConstants.{DEFAULT_BLOCK}
 use Rattle.tftp_file.specs.Block.{block, block_count}
 use Rattle.tftp_machine.specs.Machine.{Endpoint, Elsewhere, Packet, Request, Data, Ack, Oack, Error, Message, Party, Machine, with_end, start, Network}
-use Rattle.tftp_machine.specs.Rules.{Rule, Asks, Opens_plainly, Opens_with, Takes_oack, Takes_ack, Takes_data, Appends, Sends_next, Completes, Fails, Fails_with, Says_error, Repeats, Strays, message, Waits, taken, opened, asking, Guard, after, IsLegal, run}
+use Rattle.tftp_machine.specs.Rules.{Rule, Asks, Opens_plainly, Opens_with, Takes_oack, Takes_ack, Takes_data, Appends, Sends_next, Completes, Fails, Fails_with, Fails_to_begin, Says_error, Repeats, Strays, message, Waits, taken, opened, asking, Guard, after, IsLegal, run}
 use Rattle.tftp_machine.specs.Facts.{Holds}
 use Rattle.tftp_machine.specs.Recorded.{IsRecorded, IsFirstAck, AreRecorded}
 use Rattle.tftp_machine.proofs.Endpoints.{cases_same}
 use Rattle.tftp_machine.proofs.Grows.{with_at, with_other}
 use Rattle.tftp_machine.proofs.Steps.{not-not, none_sent, one_sent}
+use Rattle.tftp_machine.proofs.Opening.{accepting}
 use Rattle.tftp_machine.proofs.Keeps.{keeps}
 
 module _ (network : Network) where
@@ -86,11 +87,11 @@ module _ (network : Network) where
       (first_one (λ y p. IsFirstAck (m.sent ++ added) y (with_end m.party at x y) p) (message at peer k)
       (λ z _. subst (λ (v : Party). IsFirstAck (m.sent ++ added) at v peer) (sym (with_at m.party at x)) (λ c. plain z, λ c. absurd (true≢false (sym c ∙ client)))))
 
-  takes : (m : Machine) → Holds network m → AreRecorded network m → (at peer : Endpoint) (size : ℕ) → Waits network (m.party at) peer → (added : List Message) →
-      ((y p : Endpoint) → network.host_of y ≢ Elsewhere → Contains added (message y p (Ack 0)) → IsFirstAck (m.sent ++ added) y (with_end m.party at (taken (m.party at) peer size) y) p) →
-      AreRecorded network (record { sent = m.sent ++ added; party = with_end m.party at (taken (m.party at) peer size) })
-  takes m h r at peer size w added first =
-      kept m at (taken (m.party at) peer size) added h r
+  takes : (m : Machine) → Holds network m → AreRecorded network m → (at peer : Endpoint) (size number : ℕ) (failed : Bool) → Waits network (m.party at) peer → (added : List Message) →
+      ((y p : Endpoint) → network.host_of y ≢ Elsewhere → Contains added (message y p (Ack 0)) → IsFirstAck (m.sent ++ added) y (with_end m.party at (accepting (m.party at) peer size number failed) y) p) →
+      AreRecorded network (record { sent = m.sent ++ added; party = with_end m.party at (accepting (m.party at) peer size number failed) })
+  takes m h r at peer size number failed w added first =
+      kept m at (accepting (m.party at) peer size number failed) added h r
       (λ _. (refl, refl, λ p e. absurd (let z : None ≡ Some p = sym w.2 ∙ e in cc)))
       (λ _. record {
         requested = λ c p e. absurd (true≢false (sym w.1 ∙ c));
@@ -175,17 +176,18 @@ module _ (network : Network) where
   recorded_keeps (Takes_oack at peer size) m h r g =
       let x = m.party at in
       let d = message at peer (if x.sender then Data 1 (block x.text size 1) else Ack 0) in
-      takes m h r at peer size g.0 (d ∷ [])
+      takes m h r at peer size (if x.sender then 1 else 0) x.failed g.0 (d ∷ [])
       (first_one (λ y p. IsFirstAck (m.sent ++ d ∷ []) y (with_end m.party at (taken x peer size) y) p) d
       (λ z _. subst (λ (v : Party). IsFirstAck (m.sent ++ d ∷ []) at v peer) (sym (with_at m.party at (taken x peer size)))
       (λ c. absurd (true≢false (sym g.0.1 ∙ c)), λ c. Contains-append_left m.sent (d ∷ []) (message peer at (Oack size)) g.1)))
   recorded_keeps (Takes_ack at peer) m h r g =
       let x = m.party at in
       let k = Data 1 (block x.text DEFAULT_BLOCK 1) in
-      takes m h r at peer DEFAULT_BLOCK g.0 (message at peer k ∷ [])
+      takes m h r at peer DEFAULT_BLOCK (if x.sender then 1 else 0) x.failed g.0 (message at peer k ∷ [])
       (other (λ y p. IsFirstAck (m.sent ++ message at peer k ∷ []) y (with_end m.party at (taken x peer DEFAULT_BLOCK) y) p) at peer k (λ e. cc))
   recorded_keeps (Takes_data at peer bytes) m h r g =
-      takes m h r at peer DEFAULT_BLOCK g.0 [] (nothing (λ y p. IsFirstAck (m.sent ++ []) y (with_end m.party at (taken (m.party at) peer DEFAULT_BLOCK) y) p))
+      let x = m.party at in
+      takes m h r at peer DEFAULT_BLOCK (if x.sender then 1 else 0) x.failed g.0 [] (nothing (λ y p. IsFirstAck (m.sent ++ []) y (with_end m.party at (taken x peer DEFAULT_BLOCK) y) p))
   recorded_keeps (Appends at peer bytes) m h r g =
       let old = m.party at in
       let x = record old { number = old.number + 1; done = nat_lt (length bytes) old.size; text = old.text ++ bytes } in
@@ -196,6 +198,9 @@ module _ (network : Network) where
       let old = m.party at in
       let x = record old { failed = true; text = old.text ++ bytes } in
       receives m h r at x g.0.0 refl refl refl refl refl refl g.1 [] (nothing (λ y p. IsFirstAck (m.sent ++ []) y (with_end m.party at x y) p))
+  recorded_keeps (Fails_to_begin at peer size) m h r g =
+      let x = m.party at in
+      takes m h r at peer size x.number true g.0 [] (nothing (λ y p. IsFirstAck (m.sent ++ []) y (with_end m.party at (accepting x peer size x.number true) y) p))
   recorded_keeps (Says_error at to) m h r g = says m h r (message at to Error) (λ e. cc)
   recorded_keeps (Repeats old) m h r g =
       says m h r old (λ z own. r.first old.from old.to own (subst (λ (k : Packet). Contains m.sent (message old.from old.to k)) z g))

@@ -10,7 +10,7 @@ use Rattle.tftp_wire.specs.declared.packet.Request.{Request as WireRequest}
 use Rattle.tftp_machine.specs.Facts.{Holds}
 use Rattle.tftp_machine.specs.Recorded.{AreRecorded}
 use Rattle.tftp_machine.specs.Rules.{Rule, Asks, Opens_plainly, Opens_with, Says_error, Repeats, Strays, actor, MayAct, Guard, OpensNoDuplicate, AreOver, packets, party_after, after, IsLegal, run}
-use Rattle.tftp_machine.specs.Shows.{EndView, party_of, Matches, requested, answered_by, IsInService, AreApart, NoneAt, Shows, IsShownAt, IsShownWithin, IsShown, ActInTurn, party_then, sent_by, Opens, Speaks, NoneAnswers, AsksUnanswered}
+use Rattle.tftp_machine.specs.Shows.{EndView, party_of, Matches, requested, answered_by, IsInService, AreApart, NoneAt, Shows, IsShownAt, IsShownWithin, IsShown, ActInTurn, party_then, sent_by, OpensEnd, Speaks, NoneAnswers, AsksUnanswered}
 use Rattle.tftp_machine.proofs.Acting.{Unshown, with_unshown, KeepsOn, act_in_turn}
 use Rattle.tftp_machine.proofs.Endpoints.{cases_same}
 use Rattle.tftp_machine.proofs.Grows.{with_at, with_other}
@@ -127,7 +127,7 @@ all_over views messages m s peer write request none a by = one_over (cases_Bool 
       none there.0 e there.2 (record { serving = busy; peer_is = sym t.peer ∙ by.peer_is; spells = subst (λ (p : WirePacket). Spells p e.request) same says })
       )
 
-opens_no_duplicate : (views : List EndView) (messages : List Message) (m : Machine) (r : Rule) (bytes : List ℕ) → Shows views messages m → Opens r → AsksUnanswered r bytes views → OpensNoDuplicate r m
+opens_no_duplicate : (views : List EndView) (messages : List Message) (m : Machine) (r : Rule) (bytes : List ℕ) → Shows views messages m → OpensEnd r → AsksUnanswered r bytes views → OpensNoDuplicate r m
 opens_no_duplicate views messages m (Asks at write request text) bytes s o h = tt
 opens_no_duplicate views messages m (Opens_plainly at peer write request text) bytes s o h = all_over views messages m s peer write request h.1
 opens_no_duplicate views messages m (Opens_with at peer write request text size) bytes s o h = all_over views messages m s peer write request h.1
@@ -137,7 +137,7 @@ opens_no_duplicate views messages m r bytes s o h = absurd o
 answers_so : (write : Bool) (request : WireRequest) (bytes : List ℕ) → Spells (requested write request) bytes → Spells (requested (not (not write)) request) bytes
 answers_so write request bytes s = subst (λ (b : Bool). Spells (requested b request) bytes) (sym (not-not write)) s
 
-new_answer : (views : List EndView) (f : EndView) (r : Rule) → Opens r → AsksUnanswered r f.request views → Matches f (party_after r nobody) → IsInService f → Spells (answered_by (party_after r nobody)) f.request
+new_answer : (views : List EndView) (f : EndView) (r : Rule) → OpensEnd r → AsksUnanswered r f.request views → Matches f (party_after r nobody) → IsInService f → Spells (answered_by (party_after r nobody)) f.request
 new_answer views f (Asks at write request text) o h t busy = absurd (true≢false (t.client ∙ busy.0))
 new_answer views f (Opens_plainly at peer write request text) o h t busy = answers_so write request f.request h.0
 new_answer views f (Opens_with at peer write request text size) o h t busy = answers_so write request f.request h.0
@@ -275,19 +275,19 @@ module _ (network : Network) where
         ),
       )
 
-  may_open : (r : Rule) → Opens r → (sent : List Message) (x : Party) → x.is_open ≡ false → MayAct network r sent nobody → MayAct network r sent x
+  may_open : (r : Rule) → OpensEnd r → (sent : List Message) (x : Party) → x.is_open ≡ false → MayAct network r sent nobody → MayAct network r sent x
   may_open (Asks at write request text) o sent x c h = (c, h.1, h.2)
   may_open (Opens_plainly at peer write request text) o sent x c h = (c, h.1, h.2, h.3)
   may_open (Opens_with at peer write request text size) o sent x c h = (c, h.1, h.2, h.3, h.4)
   may_open r o sent x c h = absurd o
 
-  opens_alike : (r : Rule) → Opens r → (x : Party) → (party_after r x ≡ party_after r nobody) × (packets network r x ≡ packets network r nobody)
+  opens_alike : (r : Rule) → OpensEnd r → (x : Party) → (party_after r x ≡ party_after r nobody) × (packets network r x ≡ packets network r nobody)
   opens_alike (Asks at write request text) o x = (refl, refl)
   opens_alike (Opens_plainly at peer write request text) o x = (refl, refl)
   opens_alike (Opens_with at peer write request text size) o x = (refl, refl)
   opens_alike r o x = absurd o
 
-  pub shown_opens : (first : List Rule) (views : List EndView) (messages : List Message) (f : EndView) (r : Rule) → IsShownAt network first views messages → Opens r → MayAct network r messages nobody →
+  pub shown_opens : (first : List Rule) (views : List EndView) (messages : List Message) (f : EndView) (r : Rule) → IsShownAt network first views messages → OpensEnd r → MayAct network r messages nobody →
       f.address ≡ actor r → NoneAt views f.address → Matches f (party_after r nobody) → AsksUnanswered r f.request views →
       IsShownWithin network 1 first (views ++ f ∷ []) (messages ++ packets network r nobody)
   shown_opens first views messages f r shown opening may same none matches asks =

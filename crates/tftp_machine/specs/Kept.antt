@@ -4,8 +4,8 @@ use Rattle.std.specs.Prelude.{Some}
 use Rattle.tftp_machine.specs.Machine.{Message, nobody, Network}
 use Rattle.tftp_machine.specs.Rules.{Rule, actor, MayAct, packets, party_after}
 use Rattle.tftp_machine.specs.Shows.{EndView, party_of, Matches, NoneAt, IsShownAt}
-use Rattle.tftp_machine.specs.Shows.{IsShownWithin, ActInTurn, party_then, sent_by, Opens, Speaks}
-use Rattle.tftp_machine.specs.Shows.{AsksUnanswered}
+use Rattle.tftp_machine.specs.Shows.{IsShownWithin, ActInTurn, party_then, sent_by, OpensEnd}
+use Rattle.tftp_machine.specs.Shows.{Speaks, AsksUnanswered}
 
 module _ (network : Network) where
   -- a step of one end is shown, if it is the result of rules of that end that may act in sequence,
@@ -25,7 +25,7 @@ module _ (network : Network) where
   EndsOpen =
       (first : List Rule) (views : List EndView) (messages : List Message) (f : EndView)
       (rule : Rule) →
-      IsShownAt network first views messages → Opens rule → MayAct network rule messages nobody →
+      IsShownAt network first views messages → OpensEnd rule → MayAct network rule messages nobody →
       f.address ≡ actor rule → NoneAt views f.address →
       Matches f (party_after rule nobody) → AsksUnanswered rule f.request views →
       IsShownWithin network 1 first (views ++ f ∷ []) (messages ++ packets network rule nobody)

@@ -1,4 +1,5 @@
 pub mod Machine
+pub mod KnownFiles
 pub mod Hosts
 pub mod Rules
 pub mod MachineSafety
@@ -8,3 +9,7 @@ pub mod Shows
 pub mod Kept
 pub mod ViewSafety
 pub mod Texts
+pub mod Said
+pub mod OpenEnds
+pub mod EndKept
+pub mod EndShown

@@ -37,6 +37,8 @@ pub data Rule : Type 0 where
   Fails : (at : Endpoint) → Rule
   -- a receiver fails after it has stored some of the next block
   Fails_with : (at peer : Endpoint) → (bytes : List ℕ) → Rule
+  -- a waiting writer accepts its peer, and fails before it sends DATA 1
+  Fails_to_begin : (at peer : Endpoint) (size : ℕ) → Rule
   -- an ERROR is sent from any endpoint to any endpoint (RFC 1350, section 7)
   Says_error : (at to : Endpoint) → Rule
   -- a datagram is repeated
@@ -63,6 +65,12 @@ abbrev pub IsAcked : List Message → Party → Endpoint → Endpoint → Type 0
 IsAcked sent x at peer =
     IsLive x × (x.sender ≡ true) × (x.peer ≡ Some peer)
     × Contains sent (message peer at (Ack x.number))
+
+-- the peer answered a write by an OACK with this block size, or by ACK 0
+abbrev pub HasAccepted : List Message → Endpoint → Endpoint → ℕ → Type 0
+HasAccepted sent at peer size =
+    Contains sent (message peer at (Oack size))
+    ⊎ ((size ≡ DEFAULT_BLOCK) × Contains sent (message peer at (Ack 0)))
 
 -- a new end at the server has a text only if it sends; the blocks of the text can be numbered
 abbrev pub HasText : Bool → List ℕ → ℕ → Type 0
@@ -118,6 +126,7 @@ actor (Sends_next at peer) = at
 actor (Completes at peer) = at
 actor (Fails at) = at
 actor (Fails_with at peer bytes) = at
+actor (Fails_to_begin at peer size) = at
 actor (Says_error at to) = at
 actor (Repeats old) = old.from
 actor (Strays stray) = stray.from
@@ -137,6 +146,8 @@ party_after (Sends_next at peer) x = record x { number = x.number + 1 }
 party_after (Completes at peer) x = record x { done = true }
 party_after (Fails at) x = record x { failed = true }
 party_after (Fails_with at peer bytes) x = record x { failed = true; text = x.text ++ bytes }
+party_after (Fails_to_begin at peer size) x =
+    record x { peer = Some peer; size = size; failed = true }
 party_after (Says_error at to) x = x
 party_after (Repeats old) x = x
 party_after (Strays stray) x = x
@@ -194,6 +205,8 @@ module _ (network : Network) where
       IsAcked sent x at peer × (x.number ≡ block_count x.text x.size)
   MayAct (Fails at) sent x = IsLive x
   MayAct (Fails_with at peer bytes) sent x = IsNext sent x at peer bytes
+  MayAct (Fails_to_begin at peer size) sent x =
+      Waits x peer × (x.sender ≡ true) × HasAccepted sent at peer size
   MayAct (Says_error at to) sent x = Unit {0}
   MayAct (Repeats old) sent x = Contains sent old
   MayAct (Strays stray) sent x = network.host_of stray.from ≡ Elsewhere
@@ -215,6 +228,7 @@ module _ (network : Network) where
   packets (Completes at peer) x = []
   packets (Fails at) x = []
   packets (Fails_with at peer bytes) x = []
+  packets (Fails_to_begin at peer size) x = []
   packets (Says_error at to) x = message at to Error ∷ []
   packets (Repeats old) x = old ∷ []
   packets (Strays stray) x = stray ∷ []

@@ -120,11 +120,11 @@ party_then [] x = x
 party_then (r ∷ rs) x = party_then rs (party_after r x)
 
 -- the rule opens an end
-abbrev pub Opens : Rule → Type 0
-Opens (Asks at write request text) = Unit {0}
-Opens (Opens_plainly at peer write request text) = Unit {0}
-Opens (Opens_with at peer write request text size) = Unit {0}
-Opens _ = ⊥
+abbrev pub OpensEnd : Rule → Type 0
+OpensEnd (Asks at write request text) = Unit {0}
+OpensEnd (Opens_plainly at peer write request text) = Unit {0}
+OpensEnd (Opens_with at peer write request text size) = Unit {0}
+OpensEnd _ = ⊥
 
 -- the rule changes no end
 abbrev pub Speaks : Rule → Type 0

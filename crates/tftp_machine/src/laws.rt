@@ -2,6 +2,7 @@
 //! the proofs of the crates above.
 
 ghost use Rattle.std.specs.Prelude.{List, []};
+ghost use Rattle.tftp_machine.specs.EndShown.{DatagramTurnsAreShown, TimeoutTurnsAreShown};
 ghost use Rattle.tftp_machine.specs.Facts.{Holds};
 ghost use Rattle.tftp_machine.specs.Kept.{EndsGoOn, EndsOpen, DatagramsAreAdded};
 ghost use Rattle.tftp_machine.specs.Hosts.{two_hosts};
@@ -56,6 +57,13 @@ pub fn an_end_opens()
 /// A datagram that changes no end is shown: an ERROR, a repeated datagram, one from elsewhere.
 pub fn a_datagram_is_added()
     ensures { (network : Network) → DatagramsAreAdded network }
+{}
+
+/// A turn of an open end of `tftp_ends` is shown, for a datagram and for a timeout, in any network.
+/// Its file has a known content: each read may fail, and each append and commit be refused.
+pub fn an_open_end_takes_its_turn()
+    ensures datagrams { (network : Network) → DatagramTurnsAreShown network }
+    ensures timeouts { (network : Network) → TimeoutTurnsAreShown network }
 {}
 
 /// Facts of texts and endpoints, for the proofs of the crates above.

@@ -6,13 +6,14 @@ use Rattle.std.proofs.lemmas.Option.{same_Some, slice_get_within}
 use Rattle.tftp_server.specs.declared.config.Config.{Config}
 use Rattle.tftp_machine.specs.Hosts.{request_port}
 use Rattle.tftp_machine.specs.Machine.{Endpoint}
+use Rattle.tftp_machine.specs.OpenEnds.{OpenEnd}
 use Rattle.tftp_player.specs.WorldKept.{HasPorts}
 use Rattle.tftp_player.specs.Effect.{no_effect, said_by, report_by}
 use Rattle.tftp_player.specs.Played.{ends_from, end_at, address_of, AllKept}
 use Rattle.tftp_player.specs.Serving.{PlayedServer, Transfer}
 use Rattle.tftp_player.specs.Stage.{ends_of, world_of, StageDatagramStep, DatagramAt, LostAt, EndTakes}
 use Rattle.tftp_player.specs.Arriving.{ArrivalRefuses, StageAsks, StageArrives, StageRefuses}
-use Rattle.tftp_player.specs.World.{WorldState, OpenEnd, StoredFile, replied, report_of, no_report, WorldEnd, Open_end, Closed_end, end_address, world_after}
+use Rattle.tftp_player.specs.World.{WorldState, StoredFile, replied, report_of, no_report, WorldEnd, Open_end, Closed_end, end_address, world_after}
 use Rattle.tftp_player.specs.declared.datagram.Datagram.{Datagram}
 use Rattle.tftp_player.specs.WorldSteps.{Arrives, LacksPort, EventRefuses, WorldRefuses, WorldStep}
 use Rattle.tftp_player.specs.declared.event.Event.TheVariants.{Deliver}

@@ -16,6 +16,7 @@ use Rattle.tftp_server.specs.Request.{RequestStep}
 use Rattle.tftp_server.specs.State.{at, draft_of}
 use Rattle.tftp_server.specs.State as server
 use Rattle.tftp_store.specs.Store.{Stored}
+use Rattle.tftp_machine.specs.OpenEnds.{OpenEnd}
 use Rattle.tftp_player.specs.Arriving.{StageAsks}
 use Rattle.tftp_player.specs.Clients.{server_at, left_in}
 use Rattle.tftp_player.specs.Effect.{said_by, report_by}
@@ -26,7 +27,7 @@ use Rattle.tftp_player.specs.Requested.{IsRequested, OpensNone, IsAdmitted, new_
 use Rattle.tftp_player.specs.Requests.{is_transfer, IsRepeated, open_transfers, served, service}
 use Rattle.tftp_player.specs.Serving.{PlayedServer, ServedKept, Transfer}
 use Rattle.tftp_player.specs.Stage.{IsOwned, IsRising, IsStaged, ends_of, world_of}
-use Rattle.tftp_player.specs.World.{WorldState, OpenEnd, datagram, next_port, no_report, said_in, opened_in, sent_report, WorldEnd, Open_end}
+use Rattle.tftp_player.specs.World.{WorldState, datagram, next_port, no_report, said_in, opened_in, sent_report, WorldEnd, Open_end}
 use Rattle.tftp_player.specs.WorldSteps.{At_request_port, HasPort, Arrives}
 use Rattle.tftp_player.specs.declared.datagram.Datagram.{Datagram}
 use Rattle.tftp_player.specs.declared.effect.Effect.{Effect}

@@ -14,13 +14,14 @@ use Rattle.tftp_server.specs.Draft.{files_in}
 use Rattle.tftp_store.specs.Memory.{memory_meaning, with_armed}
 use Rattle.tftp_server.specs.Steps.{StepIn}
 use Rattle.tftp_machine.specs.Machine.{Endpoint}
+use Rattle.tftp_machine.specs.OpenEnds.{OpenEnd, files_of, end_after}
 use Rattle.tftp_player.specs.Clients.{ClientDatagramStep}
 use Rattle.tftp_player.specs.Effect.{no_effect}
 use Rattle.tftp_player.specs.PlayedClient.{PlayedClient}
 use Rattle.tftp_player.specs.Played.{client_end, end_at, PlayerKept, PlayerDatagramStep, has_ended, address_of}
 use Rattle.tftp_player.specs.Serving.{PlayedServer, Transfer, CommitsLast, ServedKept, ServedDatagramStep}
 use Rattle.tftp_player.specs.Stage.{ends_of, IsStaged, LostAt, StageDatagramStep, record_closed, EndTakes}
-use Rattle.tftp_player.specs.World.{OpenEnd, file_at, in_the_way, is_closed, files_of, end_after, has_committed, WorldEnd, Open_end, Closed_end, end_address}
+use Rattle.tftp_player.specs.World.{file_at, in_the_way, is_closed, has_committed, WorldEnd, Open_end, Closed_end, end_address}
 use Rattle.tftp_player.specs.WorldSteps.{EndStep, FilesAfter}
 use Rattle.tftp_player.specs.declared.effect.Effect.{Effect}
 use Rattle.tftp_player.specs.declared.player.Player.{Player}

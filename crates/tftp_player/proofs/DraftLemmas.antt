@@ -30,10 +30,11 @@ use Rattle.tftp_server.specs.State.{draft_of}
 use Rattle.tftp_server.specs.Steps.{StepIn}
 use Rattle.tftp_store.specs.Store.{Stored, Drafted, FileList, with_file}
 use Rattle.tftp_machine.specs.Machine.{Endpoint}
+use Rattle.tftp_machine.specs.OpenEnds.{OpenEnd, end_after}
 use Rattle.tftp_player.specs.Clients.{left_in}
 use Rattle.tftp_player.specs.Played.{served_as}
 use Rattle.tftp_player.specs.Serving.{CommitsLast}
-use Rattle.tftp_player.specs.World.{StoredFile, OpenEnd, end_after, has_committed}
+use Rattle.tftp_player.specs.World.{StoredFile, has_committed}
 use Rattle.tftp_player.specs.WorldSteps.{IsStored, FilesAfter}
 use Rattle.tftp_player.specs.declared.served.Served.{Served}
 use Rattle.tftp_player.proofs.FileLemmas.{stored_so}

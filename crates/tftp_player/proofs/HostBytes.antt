@@ -3,7 +3,6 @@ use Rattle.std.proofs.Common.{◌≡◌, ℕ, List, [], ◌∷◌, ◌++◌, sym
 use Rattle.std.specs.Prelude.{◌≢◌, ◌==◌, if◌then◌else◌}
 use Rattle.std.proofs.lemmas.Bool.{cases_eq, eq-eqb, ne_eqb, cond-true, cond-false}
 use Rattle.std.proofs.lemmas.List.{append-nil, length-append, nil_from_length}
-use Rattle.std.proofs.lemmas.List.Concat.{flat_map-append}
 use Rattle.tftp_wire.specs.declared.mode.Mode.{Mode}
 use Rattle.tftp_wire.specs.declared.mode.Mode.TheVariants.{Octet, Netascii}
 use Rattle.tftp_file.specs.Block.{IsBeginningOf}
@@ -74,10 +73,6 @@ pub wire_beginning : (mode : Mode) (xs ys : List ℕ) → IsBeginningOf (wire_te
 wire_beginning Octet xs ys h = h
 wire_beginning Netascii xs ys h = netascii_beginning xs ys h.0 h.1
 
-pub wire_text-append : (mode : Mode) (xs ys : List ℕ) → wire_text mode (xs ++ ys) ≡ wire_text mode xs ++ wire_text mode ys
-wire_text-append Octet xs ys = refl
-wire_text-append Netascii xs ys = flat_map-append wire_byte xs ys
-
 -- each of two is a beginning of the other only if they are the same
 both_beginnings : (xs ys : List ℕ) → IsBeginningOf xs ys → IsBeginningOf ys xs → xs ≡ ys
 both_beginnings xs ys a b =
@@ -91,10 +86,3 @@ both_beginnings xs ys a b =
 pub wire_same : (mode : Mode) (xs ys : List ℕ) → wire_text mode xs ≡ wire_text mode ys → xs ≡ ys
 wire_same mode xs ys e =
     both_beginnings xs ys (wire_beginning mode xs ys ([], append-nil (wire_text mode xs) ∙ e)) (wire_beginning mode ys xs ([], append-nil (wire_text mode ys) ∙ sym e))
-
--- a block continues with what is stored of it and the text that is held back then
-pub stored_more : (mode : Mode) (stored held bytes more after : List ℕ) → held ++ bytes ≡ wire_text mode more ++ after →
-    (wire_text mode stored ++ held) ++ bytes ≡ wire_text mode (stored ++ more) ++ after
-stored_more mode stored held bytes more after e =
-    append_assoc (wire_text mode stored) held bytes ∙ (ap (λ (zs : List ℕ). wire_text mode stored ++ zs) e
-    ∙ (sym (append_assoc (wire_text mode stored) (wire_text mode more) after) ∙ ap (λ (zs : List ℕ). zs ++ after) (sym (wire_text-append mode stored more))))

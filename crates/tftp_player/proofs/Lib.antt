@@ -1,9 +1,7 @@
-pub mod Actions
 pub mod HostBytes
 pub mod StandardFacts
-pub mod SaidLemmas
-pub mod EndMoves
 pub mod Standing
+pub mod KnownSteps
 pub mod Measured
 pub mod HeldLemmas
 pub mod OwnedLemmas
@@ -23,11 +21,6 @@ pub mod PortLemmas
 pub mod EndsByPort
 pub mod ClientLemmas
 pub mod StepLemmas
-pub mod SourceMoves
-pub mod SinkMoves
-pub mod PhaseMoves
-pub mod WaitingMoves
-pub mod EndTurns
 pub mod UnansweredLemmas
 pub mod WorldTurns
 pub mod WorldKeeps

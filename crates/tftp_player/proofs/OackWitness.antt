@@ -23,12 +23,13 @@ use Rattle.tftp_ends.specs.Step.{Turn, Done, committed_turn, filled_turn, respon
 use Rattle.tftp_ends.specs.Waiting.{agreed_terms}
 use Rattle.tftp_server.specs.declared.config.Config.{Config}
 use Rattle.tftp_server.specs.Port.{Takes}
+use Rattle.tftp_machine.specs.OpenEnds.{OpenEnd, end_after}
 use Rattle.tftp_player.specs.Completing.{blocks_of_8, two_blocks}
 use Rattle.tftp_player.specs.Openings.{writing_client, receiving_end}
 use Rattle.tftp_player.specs.Requests.{service}
 use Rattle.tftp_player.specs.Straight.{IsAccepted, TakesAnswer, SomeWriteIsStraight}
-use Rattle.tftp_player.specs.World.{WorldState, OpenEnd, new_world, end_after, replied, report_of, opened_in, sent_report, standing}
-use Rattle.tftp_player.specs.WorldSteps.{Serves, At_request_port, WorldStep}
+use Rattle.tftp_player.specs.World.{WorldState, new_world, replied, report_of, opened_in, sent_report, standing}
+use Rattle.tftp_player.specs.WorldSteps.{ServiceStep, At_request_port, WorldStep}
 use Rattle.tftp_player.specs.declared.datagram.Datagram.{Datagram}
 use Rattle.tftp_player.specs.declared.event.Event.TheVariants.{Put, Deliver}
 use Rattle.tftp_player.proofs.OptionsWitness.{eight, read_8}
@@ -156,7 +157,7 @@ asks = put_step w0 name Octet blocks_of_8 two_blocks (omega arith) (record { val
 request_spelled : Decodes d0.bytes (Some (packet_in d0.bytes))
 request_spelled = fault_where_nothing d0.bytes (bytes_below d0.bytes (rw eight refl)) (rw eight refl)
 
-request_served : Serves (service w1 false d0.bytes (Some (packet_in d0.bytes))) w1 client.address d0.bytes (sent_report w1) w2
+request_served : ServiceStep (service w1 false d0.bytes (Some (packet_in d0.bytes))) w1 client.address d0.bytes (sent_report w1) w2
 unfolding occurrences_of name_of answered_option
 request_served = rw (eight, read_8) (record { reports = refl; is = rw eight refl })
 

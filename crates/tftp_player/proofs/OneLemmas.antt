@@ -6,9 +6,10 @@ use Rattle.tftp_file.specs.declared.files.Files.{Files}
 use Rattle.tftp_file.specs.Sink.{Holding}
 use Rattle.tftp_server.specs.Port.{Service, Silent, Refused, Sends, Takes}
 use Rattle.tftp_machine.specs.Machine.{Endpoint}
+use Rattle.tftp_machine.specs.OpenEnds.{OpenEnd}
 use Rattle.tftp_player.specs.OneAtMost.{AddsOneAtMost, EventsAddOneAtMost}
-use Rattle.tftp_player.specs.World.{WorldState, OpenEnd, WorldEnd, Open_end, Closed_end, replied}
-use Rattle.tftp_player.specs.WorldSteps.{Serves, Arrives, At_request_port, At_open_end, At_closed_end, At_nobody, Opens, Stays, Turns, TimesOut}
+use Rattle.tftp_player.specs.World.{WorldState, WorldEnd, Open_end, Closed_end, replied}
+use Rattle.tftp_player.specs.WorldSteps.{ServiceStep, Arrives, At_request_port, At_open_end, At_closed_end, At_nobody, OpeningStep, Stays, Turns, TimeoutStep}
 use Rattle.tftp_player.specs.declared.event.Event.TheVariants.{Get, Put, Deliver, Timeout, RefuseStore, Stray}
 use Rattle.tftp_player.specs.declared.report.Report.{Report}
 
@@ -20,7 +21,7 @@ stays : (old new : WorldState) (report : Report) → Stays old report new → Ad
 stays old new report s = none old new (ap (λ (w : WorldState). w.sent) s.is)
 
 -- an end opened
-opens : (old new : WorldState) (x : OpenEnd) (report : Report) → Opens old x report new → AddsOneAtMost old new
+opens : (old new : WorldState) (x : OpenEnd) (report : Report) → OpeningStep old x report new → AddsOneAtMost old new
 opens old new x report o = record {
   said = record { from = x.address; to = x.state.position.last_sent_to; bytes = x.state.position.last_sent } ∷ [];
   few = omega arith;
@@ -39,7 +40,7 @@ turns old new k x turn held report t = record {
   sent = ap (λ (w : WorldState). w.sent) t.is;
 }
 
-serves : (service : Service) (old new : WorldState) (from : Endpoint) (bytes : List ℕ) (report : Report) → Serves service old from bytes report new → AddsOneAtMost old new
+serves : (service : Service) (old new : WorldState) (from : Endpoint) (bytes : List ℕ) (report : Report) → ServiceStep service old from bytes report new → AddsOneAtMost old new
 serves Silent old new from bytes report s = stays old new report s
 serves (Refused reply) old new from bytes report s = record { said = _; few = omega arith; sent = ap (λ (w : WorldState). w.sent) s.1 }
 serves (Sends path mode length agreed) old new from bytes report s = opens old new _ report s.2
@@ -51,7 +52,7 @@ arrives old new from to bytes report (At_open_end k x there at takes) = turns ol
 arrives old new from to bytes report (At_closed_end k x there at s) = stays old new report s
 arrives old new from to bytes report (At_nobody away nobody s) = stays old new report s
 
-times_out : (old new : WorldState) (k : ℕ) (x : WorldEnd) (report : Report) → TimesOut old k x report new → AddsOneAtMost old new
+times_out : (old new : WorldState) (k : ℕ) (x : WorldEnd) (report : Report) → TimeoutStep old k x report new → AddsOneAtMost old new
 times_out old new k (Closed_end x) report s = stays old new report s
 times_out old new k (Open_end x) report t = turns old new k x _ _ report t
 

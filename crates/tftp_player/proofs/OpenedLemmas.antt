@@ -1,5 +1,6 @@
 -- A client that opens.
 use Rattle.std.proofs.Common.{◌≡◌, ℕ, suc, zero, ◌+◌, ◌<◌, ◌≤◌, true, List, [], ◌∷◌, ◌++◌, length, Some, None, refl, sym, ap, ◌∙◌, subst, arith, length-append}
+use Rattle.tftp_machine.specs.OpenEnds.{OpenEnd}
 use Rattle.tftp_player.specs.Clients.{AskRefuses}
 use Rattle.tftp_player.specs.WorldSteps.{EventRefuses, WorldRefuses}
 use Rattle.tftp_player.specs.declared.fault.WorldFault.{WorldFault}
@@ -20,7 +21,7 @@ use Rattle.tftp_player.specs.Played.{client_end, end_at, ends_from, records_from
 use Rattle.tftp_player.specs.Requests.{open_transfers}
 use Rattle.tftp_player.specs.Serving.{PlayedServer}
 use Rattle.tftp_player.specs.Stage.{ends_of, IsStaged, Enters, world_of}
-use Rattle.tftp_player.specs.World.{WorldState, OpenEnd, next_port, sent_report, opened_in, WorldEnd, Open_end, end_record, standing}
+use Rattle.tftp_player.specs.World.{WorldState, next_port, sent_report, opened_in, WorldEnd, Open_end, end_record, standing}
 use Rattle.tftp_player.specs.WorldSteps.{WorldStep, HasPort}
 use Rattle.tftp_player.specs.Openings.{reading_client, writing_client}
 use Rattle.tftp_player.specs.declared.datagram.Datagram.{Datagram}

@@ -19,11 +19,12 @@ use Rattle.tftp_ends.specs.Action.{Decodes}
 use Rattle.tftp_ends.specs.Step.{Turn, Done, committed_turn, filled_turn, response_turn, ack_bytes}
 use Rattle.tftp_ends.specs.Waiting.{agreed_terms}
 use Rattle.tftp_server.specs.declared.config.Config.{Config}
+use Rattle.tftp_machine.specs.OpenEnds.{OpenEnd, end_after}
 use Rattle.tftp_player.specs.Completing.{Transfers, blocks_of_8}
 use Rattle.tftp_player.specs.Openings.{reading_client, sending_end}
 use Rattle.tftp_player.specs.Requests.{service}
-use Rattle.tftp_player.specs.World.{WorldState, OpenEnd, StoredFile, new_world, end_after, replied, report_of, opened_in, sent_report, standing}
-use Rattle.tftp_player.specs.WorldSteps.{Serves, At_request_port, WorldStep}
+use Rattle.tftp_player.specs.World.{WorldState, StoredFile, new_world, replied, report_of, opened_in, sent_report, standing}
+use Rattle.tftp_player.specs.WorldSteps.{ServiceStep, At_request_port, WorldStep}
 use Rattle.tftp_player.specs.declared.datagram.Datagram.{Datagram}
 use Rattle.tftp_player.specs.declared.event.Event.TheVariants.{Get, Deliver}
 use Rattle.tftp_player.proofs.StepLemmas.{get_step}
@@ -127,7 +128,7 @@ asks = get_step w0 name Octet blocks_of_8 (omega arith) (record { valid = rw eig
 request_spelled : Decodes d0.bytes (Some (packet_in d0.bytes))
 request_spelled = fault_where_nothing d0.bytes (bytes_below d0.bytes (rw eight refl)) (rw eight refl)
 
-request_served : Serves (service w1 false d0.bytes (Some (packet_in d0.bytes))) w1 client.address d0.bytes (sent_report w1) w2
+request_served : ServiceStep (service w1 false d0.bytes (Some (packet_in d0.bytes))) w1 client.address d0.bytes (sent_report w1) w2
 unfolding occurrences_of name_of answered_option
 request_served = rw (eight, read_8) (file, refl, record { reports = refl; is = rw eight refl })
 

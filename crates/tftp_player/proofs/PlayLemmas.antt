@@ -5,6 +5,7 @@ use Rattle.std.proofs.lemmas.Bool.{true≢false}
 use Rattle.std.specs.List.{AllByRecursion}
 use Rattle.std.proofs.Math.ListN.{length-set}
 use Rattle.std.proofs.lemmas.List.{append-nil, set-get_or}
+use Rattle.tftp_machine.specs.OpenEnds.{OpenEnd, files_of, end_after}
 use Rattle.tftp_player.specs.Requests.{is_transfer, open_transfers}
 use Rattle.std.proofs.lemmas.Option.{slice_get_read}
 use Rattle.tftp_file.specs.declared.files.Files.{Files}
@@ -25,7 +26,7 @@ use Rattle.tftp_player.specs.Effect.{effect_of, no_effect, said_by, index_after,
 use Rattle.tftp_player.specs.Played.{served_end, end_at, ends_from, records_from, PlayerKept, IsServed, AllKept, PlayerTimeoutStep, has_ended, address_of, client_end}
 use Rattle.tftp_player.specs.Serving.{PlayedServer, Transfer, CommitsLast}
 use Rattle.tftp_player.specs.Stage.{ends_of, IsStaged, SameStore, EndTimesOut, StageTimeoutStep, record_closed, world_of}
-use Rattle.tftp_player.specs.World.{WorldState, OpenEnd, WorldEnd, Open_end, Closed_end, end_record, end_address, is_closed, files_of, end_after, standing, replied, added_at, closed_at, world_after, report_of, no_report}
+use Rattle.tftp_player.specs.World.{WorldState, WorldEnd, Open_end, Closed_end, end_record, end_address, is_closed, standing, replied, added_at, closed_at, world_after, report_of, no_report}
 use Rattle.tftp_player.specs.WorldSteps.{WorldStep, IsAtPort, NoneAt, EventRefuses, WorldRefuses}
 use Rattle.tftp_player.specs.declared.fault.WorldFault.{WorldFault}
 use Rattle.tftp_player.specs.declared.fault.WorldFault.TheVariants.{NoSuchDatagram, NoSuchEnd, NoPort, BadRequest, Memory}

@@ -20,6 +20,7 @@ use Rattle.tftp_wire.specs.Reading.{has_error_opcode}
 use Rattle.tftp_server.specs.Port.{Ask, Ignores, Refuses, Reads, Writes, Service, Silent, Refused, Sends, Takes, asks_store, by_draft, by_file, by_length, by_name, by_options, by_packet}
 use Rattle.tftp_server.specs.State.{draft_of, with_new}
 use Rattle.tftp_store.specs.Store.{measured}
+use Rattle.tftp_machine.specs.OpenEnds.{OpenEnd}
 use Rattle.tftp_player.specs.Clients.{server_at, left_in}
 use Rattle.tftp_machine.specs.Hosts.{request_port}
 use Rattle.tftp_machine.specs.Machine.{Endpoint}
@@ -28,8 +29,8 @@ use Rattle.tftp_player.specs.Played.{served_as}
 use Rattle.tftp_player.specs.Requested.{new_served, receiver_at, requested_by, sender_at}
 use Rattle.tftp_player.specs.Requests.{begun_of, open_transfers, opened_of, served, service}
 use Rattle.tftp_player.specs.Serving.{Transfer, CommitsLast}
-use Rattle.tftp_player.specs.World.{WorldState, OpenEnd, file_at, in_the_way, next_port, datagram, no_report, opened_in, said_in, sent_report}
-use Rattle.tftp_player.specs.WorldSteps.{Serves}
+use Rattle.tftp_player.specs.World.{WorldState, file_at, in_the_way, next_port, datagram, no_report, opened_in, said_in, sent_report}
+use Rattle.tftp_player.specs.WorldSteps.{ServiceStep}
 use Rattle.tftp_player.specs.declared.served.Served.{Served}
 use Rattle.tftp_player.proofs.ServerLemmas.{PortAsking, PortLeft, PortDid, held_sender, held_receiver}
 
@@ -205,14 +206,14 @@ module _ (w : WorldState) (asking : PortAsking) (result : PortLeft) where
     pub to : result.opened.to ≡ Some asking.from
     pub sent : result.sent ≡ end.state.position.last_sent
     pub new : result.new ≡ record asking.old { held = with_new asking.tid transfer asking.old.held }
-    pub serves : Serves what w asking.from asking.bytes (sent_report w) (opened_in w end)
+    pub serves : ServiceStep what w asking.from asking.bytes (sent_report w) (opened_in w end)
 
   -- an ERROR was sent from the request port, and nothing opened
   pub record PortRefused (what : Service) : Type 0 where
     pub tid : result.opened.tid ≡ None
     pub to : result.opened.to ≡ Some asking.from
     pub new : result.new ≡ asking.old
-    pub serves : Serves what w asking.from asking.bytes (sent_report w) (said_in w (datagram request_port asking.from result.sent))
+    pub serves : ServiceStep what w asking.from asking.bytes (sent_report w) (said_in w (datagram request_port asking.from result.sent))
 
   -- nothing happened
   pub record PortSilent (what : Service) : Type 0 where
@@ -220,7 +221,7 @@ module _ (w : WorldState) (asking : PortAsking) (result : PortLeft) where
     pub to : result.opened.to ≡ None
     pub sent : result.sent ≡ []
     pub new : result.new ≡ asking.old
-    pub serves : Serves what w asking.from asking.bytes no_report w
+    pub serves : ServiceStep what w asking.from asking.bytes no_report w
 
   -- one of the three
   pub port_seen : (what : Service) → PortDid w what asking result → PortOpened what ⊎ (PortRefused what ⊎ PortSilent what)

@@ -11,10 +11,11 @@ use Rattle.tftp_ends.specs.declared.action.Response.TheVariants.{Complete}
 use Rattle.tftp_ends.specs.Step.{Turn, Done, committed_turn, response_turn, ack_bytes}
 use Rattle.tftp_ends.specs.Waiting.{default_terms}
 use Rattle.tftp_server.specs.declared.config.Config.{Config}
+use Rattle.tftp_machine.specs.OpenEnds.{OpenEnd, end_after}
 use Rattle.tftp_player.specs.Completing.{Transfers, nothing_asked}
 use Rattle.tftp_player.specs.Openings.{reading_client, sending_end}
 use Rattle.tftp_player.specs.Straight.{SomeReadIsStraight}
-use Rattle.tftp_player.specs.World.{WorldState, OpenEnd, StoredFile, new_world, end_after, replied, report_of, opened_in, sent_report, standing}
+use Rattle.tftp_player.specs.World.{WorldState, StoredFile, new_world, replied, report_of, opened_in, sent_report, standing}
 use Rattle.tftp_player.specs.WorldSteps.{At_request_port, WorldStep}
 use Rattle.tftp_player.specs.declared.datagram.Datagram.{Datagram}
 use Rattle.tftp_player.specs.declared.event.Event.TheVariants.{Get, Deliver}

@@ -15,13 +15,14 @@ use Rattle.tftp_ends.specs.Files.{AreFilesOf}
 use Rattle.tftp_server.specs.State.{at, draft_of, draft_at}
 use Rattle.tftp_store.specs.Store.{Drafted}
 use Rattle.tftp_server.specs.declared.config.Config.{Config}
+use Rattle.tftp_machine.specs.OpenEnds.{OpenEnd}
 use Rattle.tftp_player.specs.Clients.{left_in, armed_files}
 use Rattle.tftp_player.specs.Played.{client_end, served_as, served_end, end_at, ends_from, records_from, PlayerKept, IsServed, armed_by, armed_served, armed_served_end, armed_player}
 use Rattle.tftp_player.specs.PlayedClient.{PlayedClient}
 use Rattle.tftp_player.specs.Requests.{is_transfer, open_transfers}
 use Rattle.tftp_player.specs.Serving.{PlayedServer, Transfer, ServedKept}
 use Rattle.tftp_player.specs.Stage.{ends_of, IsStaged, world_of}
-use Rattle.tftp_player.specs.World.{WorldState, OpenEnd, is_closed, no_report, WorldEnd, Open_end, Closed_end, end_record, standing}
+use Rattle.tftp_player.specs.World.{WorldState, is_closed, no_report, WorldEnd, Open_end, Closed_end, end_record, standing}
 use Rattle.tftp_player.specs.WorldSteps.{WorldStep, armed_to_refuse, armed_end}
 use Rattle.tftp_player.specs.declared.datagram.Datagram.{Datagram}
 use Rattle.tftp_player.specs.declared.event.Event.TheVariants.{RefuseStore}

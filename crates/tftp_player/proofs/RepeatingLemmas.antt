@@ -23,12 +23,13 @@ use Rattle.tftp_ends.specs.Step.{Turn, timeout_turn}
 use Rattle.tftp_server.specs.Port.{Service, Silent, Refused, Sends, Takes, Ignores, Refuses}
 use Rattle.tftp_machine.specs.Hosts.{request_port}
 use Rattle.tftp_machine.specs.Machine.{Endpoint}
+use Rattle.tftp_machine.specs.OpenEnds.{OpenEnd, files_of, end_after, peer_of}
 use Rattle.tftp_player.specs.Openings.{sending_end, receiving_end}
 use Rattle.tftp_player.specs.Repeating.{AsksForTransfer, RepeatsOpenNothing, IsNewRequest, OnlyNewRequestsOpen, RequestsLast}
 use Rattle.tftp_player.specs.Requests.{IsRepeated, WasAskedBy, Repeats, AnyRepeats, served, service}
-use Rattle.tftp_player.specs.World.{WorldState, OpenEnd, WorldEnd, Open_end, Closed_end, by_outcome, standing, end_after, files_of, is_closed, peer_of}
+use Rattle.tftp_player.specs.World.{WorldState, WorldEnd, Open_end, Closed_end, by_outcome, standing, is_closed}
 use Rattle.tftp_player.specs.WorldKept.{IsOk}
-use Rattle.tftp_player.specs.WorldSteps.{Serves, Arrives, At_request_port, At_open_end, At_closed_end, At_nobody, Opens, Stays, Turns, TimesOut, armed_end, WorldStep}
+use Rattle.tftp_player.specs.WorldSteps.{ServiceStep, Arrives, At_request_port, At_open_end, At_closed_end, At_nobody, OpeningStep, Stays, Turns, TimeoutStep, armed_end, WorldStep}
 use Rattle.tftp_player.specs.declared.event.Event.{Event}
 use Rattle.tftp_player.specs.declared.event.Event.TheVariants.{Get, Put, Deliver, Timeout, RefuseStore, Stray}
 use Rattle.tftp_player.specs.declared.report.Report.{Report}
@@ -59,15 +60,15 @@ repeat_silent w bytes (Error code text) asks = absurd asks
 repeat_silent w bytes (Oack options) asks = absurd asks
 
 module _ (old new : WorldState) (from : Endpoint) (packet : Packet) (bytes : List ℕ) (report : Report) (asks : AsksForTransfer packet) (spells : Spells packet bytes) (any : AnyRepeats from packet old.ends) where
-  at_port : (repeated : Bool) → IsRepeated repeated from (Some packet) old.ends → Serves (service old repeated bytes (Some packet)) old from bytes report new → Stays old report new
-  at_port true same s = subst (λ (what : Service). Serves what old from bytes report new) (repeat_silent old bytes packet asks) s
+  at_port : (repeated : Bool) → IsRepeated repeated from (Some packet) old.ends → ServiceStep (service old repeated bytes (Some packet)) old from bytes report new → Stays old report new
+  at_port true same s = subst (λ (what : Service). ServiceStep what old from bytes report new) (repeat_silent old bytes packet asks) s
   at_port false same s = absurd (true≢false (sym (same.1 any)))
 
   stays : (strangers : Bool) (to : Endpoint) → IsOk strangers old → to ≡ request_port → Arrives old from to bytes report new → Stays old report new
   stays strangers to ok here (At_request_port _ port decoded says repeated same s) =
       let e = says_one bytes decoded (Some packet) says spells in
       at_port repeated (subst (λ (d : Option Packet). IsRepeated repeated from d old.ends) e same)
-      (subst (λ (d : Option Packet). Serves (service old repeated bytes d) old from bytes report new) e s)
+      (subst (λ (d : Option Packet). ServiceStep (service old repeated bytes d) old from bytes report new) e s)
   stays strangers to ok here (At_open_end k x there at t) = absurd (none_at_port strangers old k x ok there (at ∙ here))
   stays strangers to ok here (At_closed_end k x there at s) = s
   stays strangers to ok here (At_nobody away nobody s) = absurd (away here)
@@ -95,7 +96,7 @@ receiver_repeats w from bytes mode path (known ∷ agreed) packet spells = recor
 
 module _ (old new : WorldState) (from : Endpoint) (bytes : List ℕ) (report : Report) (more : length old.ends < length new.ends) where
   abbrev Serves_so : Service → Type 0
-  Serves_so what = Serves what old from bytes report new
+  Serves_so what = ServiceStep what old from bytes report new
 
   -- the same ends are no more
   same : length new.ends ≡ length old.ends → ⊥
@@ -107,7 +108,7 @@ module _ (old new : WorldState) (from : Endpoint) (bytes : List ℕ) (report : R
   said : (w : WorldState) → new ≡ w → w.ends ≡ old.ends → ⊥
   said w is e = same (ap (λ (v : WorldState). length v.ends) is ∙ ap length e)
 
-  opened_repeats : (packet : Packet) (x : OpenEnd) → Opens old x report new → WasAskedBy from packet x → AnyRepeats from packet new.ends
+  opened_repeats : (packet : Packet) (x : OpenEnd) → OpeningStep old x report new → WasAskedBy from packet x → AnyRepeats from packet new.ends
   opened_repeats packet x o r = subst (λ (w : WorldState). AnyRepeats from packet w.ends) (sym o.is) (any_last from packet old.ends (Open_end x) r)
 
   served_repeats : (what : Service) (packet : Packet) → Spells packet bytes → Serves_so what → AnyRepeats from packet new.ends
@@ -194,7 +195,7 @@ module _ (from : Endpoint) (packet : Packet) where
     same_world : Stays old report new → Lasts z
     same_world s = same_end (ap (λ (w : WorldState). w.ends) s.is)
 
-    pushed : (y : OpenEnd) → Opens old y report new → Lasts z
+    pushed : (y : OpenEnd) → OpeningStep old y report new → Lasts z
     pushed y opens o = subst (Repeats from packet) (same_Some x z (sym (slice_get-push_old old.ends k (Open_end y) x there) ∙ (ap (λ (w : WorldState). slice_get w.ends k) (sym opens.is) ∙ here))) r
 
     -- the end at an index was replaced
@@ -204,7 +205,7 @@ module _ (from : Endpoint) (packet : Packet) where
       | inr h ↦ λ o. subst (Repeats from packet) (same_Some x z (sym there ∙ h.1)) r
     ]
 
-    at_service : (what : Service) (bytes : List ℕ) (asker : Endpoint) → Serves what old asker bytes report new → Lasts z
+    at_service : (what : Service) (bytes : List ℕ) (asker : Endpoint) → ServiceStep what old asker bytes report new → Lasts z
     at_service Silent bytes asker s = same_world s
     at_service (Refused reply) bytes asker s = same_end (ap (λ (w : WorldState). w.ends) s.1)
     at_service (Sends path mode count agreed) bytes asker s = pushed _ s.2
@@ -218,7 +219,7 @@ module _ (from : Endpoint) (packet : Packet) where
     at_arrival by to bytes (At_closed_end j y there_now at s) = same_world s
     at_arrival by to bytes (At_nobody away nobody s) = same_world s
 
-    at_timeout : (j : ℕ) (y : WorldEnd) → slice_get old.ends j ≡ Some y → TimesOut old j y report new → Lasts z
+    at_timeout : (j : ℕ) (y : WorldEnd) → slice_get old.ends j ≡ Some y → TimeoutStep old j y report new → Lasts z
     at_timeout j (Closed_end y) at s = same_world s
     at_timeout j (Open_end y) at t =
         set_at j (Open_end y) (standing (end_after y (timeout_turn y.state) (files_of y))) (ap (λ (w : WorldState). w.ends) t.is) at

@@ -10,18 +10,19 @@ use Rattle.tftp_file.specs.Sink.{Holding}
 use Rattle.tftp_server.specs.Port.{Service, Silent, Refused, Sends, Takes}
 use Rattle.rand_pcg.specs.Lcg.{Lcg}
 use Rattle.rand_pcg.specs.Pcg.{pcg32}
+use Rattle.tftp_machine.specs.OpenEnds.{OpenEnd, end_after}
 use Rattle.tftp_player.specs.Draw.{drawn, words_drawn}
 use Rattle.tftp_machine.specs.Machine.{Endpoint}
 use Rattle.tftp_player.specs.Played.{records_from}
 use Rattle.tftp_player.specs.PlayedWorld.{HasSentEach}
-use Rattle.tftp_player.specs.World.{WorldState, OpenEnd, WorldEnd, Open_end, Closed_end, standing, replied, end_after}
-use Rattle.tftp_player.specs.WorldSteps.{Serves, Arrives, At_request_port, At_open_end, At_closed_end, At_nobody, Opens, Stays, Turns, TimesOut, armed_end, WorldStep}
+use Rattle.tftp_player.specs.World.{WorldState, WorldEnd, Open_end, Closed_end, standing, replied}
+use Rattle.tftp_player.specs.WorldSteps.{ServiceStep, Arrives, At_request_port, At_open_end, At_closed_end, At_nobody, OpeningStep, Stays, Turns, TimeoutStep, armed_end, WorldStep}
 use Rattle.tftp_player.specs.declared.event.Event.{Event}
 use Rattle.tftp_player.specs.declared.event.Event.TheVariants.{Get, Put, Deliver, Timeout, RefuseStore, Stray}
 use Rattle.tftp_player.specs.declared.report.Report.{Report}
 
 -- an end opened, and sent
-opens : (old new : WorldState) (x : OpenEnd) (report : Report) → Opens old x report new → HasSentEach old → HasSentEach new
+opens : (old new : WorldState) (x : OpenEnd) (report : Report) → OpeningStep old x report new → HasSentEach old → HasSentEach new
 opens old new x report o h =
     subst HasSentEach (sym o.is)
     (let a = length-append old.ends (Open_end x ∷ []) in let b = length-append old.sent (record { from = x.address; to = x.state.position.last_sent_to; bytes = x.state.position.last_sent } ∷ []) in
@@ -39,7 +40,7 @@ turns old new k x turn held report t h =
     let l : length (slice_set old.ends k (standing (end_after x turn held))) ≤ length (old.sent ++ replied x.address turn.reply) = omega (arith, a, b, h) in l)
 
 -- the request port was asked
-serves : (service : Service) (old new : WorldState) (from : Endpoint) (bytes : List ℕ) (report : Report) → Serves service old from bytes report new → HasSentEach old → HasSentEach new
+serves : (service : Service) (old new : WorldState) (from : Endpoint) (bytes : List ℕ) (report : Report) → ServiceStep service old from bytes report new → HasSentEach old → HasSentEach new
 serves Silent old new from bytes report s h = stays old new report s h
 serves (Refused reply) old new from bytes report s h =
     subst HasSentEach (sym s.1) (let b = length-append old.sent in let l : length old.ends ≤ length (old.sent ++ _) = omega (arith, h, b) in l)
@@ -52,7 +53,7 @@ arrives old new from to bytes report (At_open_end k x there at takes) h = turns 
 arrives old new from to bytes report (At_closed_end k x there at s) h = stays old new report s h
 arrives old new from to bytes report (At_nobody away nobody s) h = stays old new report s h
 
-times_out : (old new : WorldState) (k : ℕ) (x : WorldEnd) (report : Report) → TimesOut old k x report new → HasSentEach old → HasSentEach new
+times_out : (old new : WorldState) (k : ℕ) (x : WorldEnd) (report : Report) → TimeoutStep old k x report new → HasSentEach old → HasSentEach new
 times_out old new k (Closed_end x) report s h = stays old new report s h
 times_out old new k (Open_end x) report t h = turns old new k x _ _ report t h
 

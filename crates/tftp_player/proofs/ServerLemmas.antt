@@ -39,12 +39,13 @@ use Rattle.tftp_store.specs.Memory.{MayRefuseBegin, MayRefuseOpen, memory_meanin
 use Rattle.tftp_store.specs.Store.{Stored, Drafted, Opens, Begins, is_taken, measured, new_draft}
 use Rattle.tftp_store.specs.declared.store.Opening.{Opening}
 use Rattle.tftp_machine.specs.Machine.{Endpoint}
-use Rattle.tftp_player.specs.World.{WorldState, StoredFile, OpenEnd, file_at, in_the_way}
+use Rattle.tftp_machine.specs.OpenEnds.{OpenEnd}
+use Rattle.tftp_machine.proofs.WaitingMoves.{agreed_size}
+use Rattle.tftp_player.specs.World.{WorldState, StoredFile, file_at, in_the_way}
 use Rattle.tftp_player.specs.Openings.{sending_end, receiving_end}
 use Rattle.tftp_server.specs.Port.{Ask, Ignores, Refuses, Reads, Writes, Service, Silent, Refused, Sends, Takes, accept_reply, asks, by_draft, by_file, by_length}
 use Rattle.tftp_player.specs.Requests.{begun_of, open_transfers, opened_of, served, service}
 use Rattle.tftp_player.specs.Serving.{PlayedServer, Transfer}
-use Rattle.tftp_player.proofs.WaitingMoves.{agreed_size}
 use Rattle.tftp_player.proofs.WorldKeeps.{answered_values}
 use Rattle.tftp_player.proofs.Measured.{measured_whole}
 

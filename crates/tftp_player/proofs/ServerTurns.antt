@@ -16,7 +16,8 @@ use Rattle.tftp_store.specs.Memory.{memory_meaning}
 use Rattle.tftp_server.specs.Steps.{StepIn}
 use Rattle.tftp_store.specs.Store.{Stored, Drafted, FileList, is_taken}
 use Rattle.tftp_machine.specs.Machine.{Endpoint}
-use Rattle.tftp_player.specs.World.{OpenEnd, StoredFile, file_at, in_the_way, in_state, files_of, holding_of, with_files, end_after}
+use Rattle.tftp_machine.specs.OpenEnds.{OpenEnd, holding_of, files_of, with_files, in_state, end_after}
+use Rattle.tftp_player.specs.World.{StoredFile, file_at, in_the_way}
 use Rattle.tftp_player.specs.WorldSteps.{EndStep, may_refuse_append, may_refuse_commit, FilesAfter, world_sink}
 use Rattle.tftp_player.proofs.FileLemmas.{not_taken, is_in_the_way}
 use Rattle.tftp_player.proofs.StageLemmas.{held_files}
@@ -83,7 +84,7 @@ module _ (replace : Bool) (path : List ℕ) (files : FileList) where
   sinks = record { models = λ d. refl; keeps = still_for; appends = may_append; commits = may_commit; leaves = λ d d' committed p h. tt }
 
 sources : SourcesModel (λ (s : List ℕ). s) memory_source memory_source
-sources = record { models = λ s. refl; fails = λ s want h. h; must = λ s want h. h }
+sources = record { models = λ s. refl; fails = λ s want h. h; must = λ s want. (λ h. h, λ h. h) }
 
 -- a step of the transfer is a step of the end
 module _ (from : Endpoint) (bytes : List ℕ) (e : EndState) (store store' : Stored) (path path' : List ℕ) (replace : Bool) (turn : Turn) where

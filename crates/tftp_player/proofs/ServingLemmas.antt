@@ -154,7 +154,7 @@ files_or (Some files) = files
 files_kept : (files files' : Files (List ℕ) Drafted) (store store' : Stored) (path path' : List ℕ) (replace : Bool) → KeepsStore files store store' →
     KeepsFiles memory_source (drafting_sink memory_meaning) (files_in store path replace files) (files_in store' path' replace files') →
     (files' ≡ files) × (store' ≡ store)
-files_kept (Source left) (Source left') store store' path path' replace stays k = (ap Source (same_Some left' left k), stays)
+files_kept (Source left) (Source left') store store' path path' replace stays k = (ap Source (same_Some left' left k.left), stays)
 files_kept (Sink draft) (Sink draft') store store' path path' replace stays k = (
   ap (λ (o : Option Holding). Sink (draft_in o)) k.holding,
   ap (λ (o : Option Holding). record { files = store'.files; refuses = refuses_in o }) k.holding

@@ -12,11 +12,12 @@ use Rattle.tftp_ends.specs.Step.{Turn}
 use Rattle.tftp_server.specs.Port.{Service, Silent, Refused, Sends, Takes}
 use Rattle.tftp_machine.specs.Machine.{Endpoint}
 use Rattle.tftp_machine.proofs.Indices.{slice_get-push_old}
+use Rattle.tftp_machine.specs.OpenEnds.{OpenEnd, end_after}
 use Rattle.tftp_player.specs.Requests.{service}
 use Rattle.tftp_player.specs.Settling.{Settled}
 use Rattle.tftp_player.specs.Straight.{TookAll, AllTaken, HaveTaken, IsThrough, Ends, RunsStraight, ReadsStraight, WritesStraight, ReadsSettle, WritesSettle, read_adds, write_adds}
-use Rattle.tftp_player.specs.World.{WorldState, OpenEnd, ClosedEnd, WorldEnd, Open_end, Closed_end, is_closed, closed_end, closed_at, by_outcome, standing, end_after}
-use Rattle.tftp_player.specs.WorldSteps.{Serves, Arrives, At_request_port, At_open_end, At_closed_end, At_nobody, Settles}
+use Rattle.tftp_player.specs.World.{WorldState, ClosedEnd, WorldEnd, Open_end, Closed_end, is_closed, closed_end, closed_at, by_outcome, standing}
+use Rattle.tftp_player.specs.WorldSteps.{ServiceStep, Arrives, At_request_port, At_open_end, At_closed_end, At_nobody, Settles}
 use Rattle.tftp_player.specs.declared.event.Event.TheVariants.{Get, Put}
 use Rattle.tftp_player.specs.declared.report.Report.{Report}
 use Rattle.tftp_player.proofs.StraightOpenings.{reads_complete, writes_complete}
@@ -54,7 +55,7 @@ record ClosedAs (w : WorldState) (outcome : Outcome) : Type 0 where
   pub there : slice_get w.ends k ≡ Some (Closed_end x)
   pub outcome_is : x.recorded.outcome ≡ Some outcome
 
-served_closes : (service : Service) (w v : WorldState) (from : Endpoint) (bytes : List ℕ) (report : Report) → Serves service w from bytes report v → report.closed ≡ None
+served_closes : (service : Service) (w v : WorldState) (from : Endpoint) (bytes : List ℕ) (report : Report) → ServiceStep service w from bytes report v → report.closed ≡ None
 served_closes Silent w v from bytes report s = ap (λ (r : Report). r.closed) s.reports
 served_closes (Refused reply) w v from bytes report s = ap (λ (r : Report). r.closed) s.0
 served_closes (Sends path mode length agreed) w v from bytes report s = ap (λ (r : Report). r.closed) s.2.reports
@@ -78,7 +79,7 @@ closing w v from to bytes report c (At_open_end k x there at h) e =
 closing w v from to bytes report c (At_closed_end k x there at s) e = none_closed v report c (ap (λ (r : Report). r.closed) s.reports) e
 closing w v from to bytes report c (At_nobody away nobody s) e = none_closed v report c (ap (λ (r : Report). r.closed) s.reports) e
 
-served_stays : (service : Service) (w v : WorldState) (from : Endpoint) (bytes : List ℕ) (report : Report) (k : ℕ) (x : WorldEnd) → Serves service w from bytes report v → slice_get w.ends k ≡ Some x → slice_get v.ends k ≡ Some x
+served_stays : (service : Service) (w v : WorldState) (from : Endpoint) (bytes : List ℕ) (report : Report) (k : ℕ) (x : WorldEnd) → ServiceStep service w from bytes report v → slice_get w.ends k ≡ Some x → slice_get v.ends k ≡ Some x
 served_stays Silent w v from bytes report k x s there = ap (λ (u : WorldState). slice_get u.ends k) s.is ∙ there
 served_stays (Refused reply) w v from bytes report k x s there = ap (λ (u : WorldState). slice_get u.ends k) s.1 ∙ there
 served_stays (Sends path mode length agreed) w v from bytes report k x s there = ap (λ (u : WorldState). slice_get u.ends k) s.2.is ∙ slice_get-push_old w.ends k _ x there

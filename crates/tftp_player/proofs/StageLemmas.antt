@@ -14,13 +14,14 @@ use Rattle.tftp_server.specs.Draft.{KeepsStore}
 use Rattle.tftp_store.specs.Memory.{with_armed}
 use Rattle.tftp_server.specs.State.{at, draft_of, with_next}
 use Rattle.tftp_store.specs.Store.{Stored, Drafted}
+use Rattle.tftp_machine.specs.OpenEnds.{OpenEnd, files_of, end_after}
 use Rattle.tftp_player.specs.Clients.{server_at, left_in, holding_in, no_holding, ClientTurns}
 use Rattle.tftp_player.specs.Effect.{effect_of}
 use Rattle.tftp_player.specs.PlayedClient.{PlayedClient}
 use Rattle.tftp_player.specs.Played.{client_end, served_as, served_end, end_at, PlayerKept, IsServed}
 use Rattle.tftp_player.specs.Serving.{PlayedServer, Transfer, CommitsLast, ServedKept, ServedTurns, concluded_served, concluded_held}
 use Rattle.tftp_player.specs.Stage.{IsOwned, IsRising}
-use Rattle.tftp_player.specs.World.{OpenEnd, Open_end, Closed_end, end_record, closed_end, files_of, end_after, standing}
+use Rattle.tftp_player.specs.World.{Open_end, Closed_end, end_record, closed_end, standing}
 use Rattle.tftp_player.specs.declared.effect.Effect.{Effect}
 use Rattle.tftp_player.specs.declared.player.Player.{Player}
 use Rattle.tftp_player.specs.declared.player.Player.TheVariants.{Client, Server}

@@ -6,45 +6,17 @@ use Rattle.std.proofs.lemmas.Bool.{true≢false, cases_Bool}
 use Rattle.tftp_ends.specs.declared.outcome.Outcome.{Outcome}
 use Rattle.tftp_ends.specs.declared.phase.Phase.{Phase}
 use Rattle.tftp_ends.specs.declared.phase.Phase.TheVariants.{Waiting, Sending, Receiving, Dallying, Closed}
-use Rattle.tftp_ends.specs.End.{is_sender, is_client, terms_of, number_of, is_complete, outcome_of, size_of, record_of}
-use Rattle.tftp_ends.specs.Step.{with_position}
+use Rattle.tftp_ends.specs.End.{is_sender, is_client, is_complete, outcome_of, record_of}
+use Rattle.tftp_machine.specs.OpenEnds.{OpenEnd, with_phase, has_failed, open_view}
+use Rattle.tftp_machine.specs.EndKept.{EndKept}
 use Rattle.tftp_player.specs.Requests.{is_transfer}
 use Rattle.tftp_machine.specs.Hosts.{two_hosts}
 use Rattle.tftp_machine.specs.Machine.{Message}
 use Rattle.tftp_machine.proofs.Shown.{shown_forgets}
 use Rattle.tftp_machine.specs.Rules.{Rule}
 use Rattle.tftp_machine.specs.Shows.{EndView, IsInService, IsShownWithin}
-use Rattle.tftp_player.specs.World.{WorldState, OpenEnd, WorldEnd, Open_end, Closed_end, end_record, end_address, is_closed, datagram, in_state, closed_end, by_outcome, standing, text_of, peer_of, view_of_end, end_request, file_at}
-use Rattle.tftp_player.specs.WorldKept.{EndKept, IsKeptIn}
-
--- it is closed, and not complete
-abbrev pub has_failed : Phase → Bool
-has_failed (Waiting asked limit) = false
-has_failed (Sending terms number) = false
-has_failed (Receiving terms number) = false
-has_failed (Dallying terms number dally) = false
-has_failed (Closed terms number complete outcome) = not complete
-
--- the view of an end after a turn, which may have closed it
-abbrev pub open_view : OpenEnd → EndView
-open_view x =
-    record {
-      address = x.address;
-      client = is_client x.state.role.side;
-      sender = is_sender x.state.role.side;
-      mode = x.state.role.mode;
-      peer = peer_of x.state.position.phase;
-      size = size_of (terms_of x.state.position.phase);
-      number = number_of x.state.position.phase;
-      done = is_complete x.state.position.phase;
-      failed = has_failed x.state.position.phase;
-      text = text_of x;
-      request = x.request;
-    }
-
--- an end in this phase
-abbrev pub with_phase : Phase → OpenEnd → OpenEnd
-with_phase phase x = in_state (with_position (record x.state.position { phase = phase }) x.state) x
+use Rattle.tftp_player.specs.World.{WorldState, WorldEnd, Open_end, Closed_end, end_record, end_address, is_closed, datagram, closed_end, by_outcome, standing, view_of_end, end_request, file_at}
+use Rattle.tftp_player.specs.WorldKept.{IsKeptIn}
 
 -- an end in the world is open or closed
 pub stands_as : {A : Type 0} (f : WorldEnd → A) (a : A) (x : OpenEnd) → f (Open_end x) ≡ a → f (Closed_end (closed_end x)) ≡ a → f (standing x) ≡ a
@@ -139,7 +111,7 @@ standing_transfer x = by_case (outcome_of x.state.position.phase) where
   by_case (Some outcome) = and_false (not (is_client x.state.role.side))
 
 -- and it is kept in its world
-pub standing_kept : (w : WorldState) (x : OpenEnd) → EndKept x → Contains w.sent (datagram x.address x.state.position.last_sent_to x.state.position.last_sent) →
+pub standing_kept : (w : WorldState) (x : OpenEnd) → EndKept two_hosts x → Contains w.sent (datagram x.address x.state.position.last_sent_to x.state.position.last_sent) →
     (w.overwrite ≡ false → is_client x.state.role.side ≡ false → is_sender x.state.role.side ≡ false → is_complete x.state.position.phase ≡ true → file_at w.files x.path ≡ Some x.stored) →
     IsKeptIn w (standing x)
 standing_kept w x kept last_sent stored = by_case (outcome_of x.state.position.phase) refl where

@@ -11,8 +11,9 @@ use Rattle.tftp_ends.specs.End.{is_client}
 use Rattle.tftp_ends.specs.Step.{Turn, timeout_turn}
 use Rattle.tftp_machine.specs.Hosts.{request_port}
 use Rattle.tftp_machine.specs.Machine.{Endpoint}
+use Rattle.tftp_machine.specs.OpenEnds.{OpenEnd, files_of, end_after}
 use Rattle.tftp_player.specs.WorldKept.{HasPorts}
-use Rattle.tftp_player.specs.World.{WorldState, OpenEnd, ClosedEnd, WorldEnd, Open_end, Closed_end, end_address, StoredFile, file_at, in_the_way, files_of, end_after, has_committed, world_after, report_of, no_report, opened_in, sent_report}
+use Rattle.tftp_player.specs.World.{WorldState, ClosedEnd, WorldEnd, Open_end, Closed_end, end_address, StoredFile, file_at, in_the_way, has_committed, world_after, report_of, no_report, opened_in, sent_report}
 use Rattle.tftp_player.specs.WorldSteps.{EndStep, FilesAfter, Turns, At_open_end, At_closed_end, At_nobody, HasPort, IsAtPort, armed_end, Arrives, WorldStep}
 use Rattle.tftp_player.specs.Openings.{reading_client, writing_client, MayGet, MayPut}
 use Rattle.tftp_player.specs.declared.event.Event.TheVariants.{Get, Put, Timeout, RefuseStore}

@@ -27,7 +27,8 @@ use Rattle.tftp_ends.specs.Text.{is_readable, begins_netascii, ends_in_cr}
 use Rattle.tftp_ends.proofs.TextLemmas.{decoded_begins, decoded_ends}
 use Rattle.tftp_machine.specs.Machine.{Endpoint}
 use Rattle.tftp_machine.proofs.Blocks.{length-block}
-use Rattle.tftp_player.proofs.HostBytes.{wire_beginning, wire_text-append}
+use Rattle.tftp_machine.proofs.StoredTexts.{wire_text-append}
+use Rattle.tftp_player.proofs.HostBytes.{wire_beginning}
 
 -- ---- from whom it is
 same_list : (xs : List ℕ) → pointwise nat_eq xs xs ≡ true

@@ -31,22 +31,24 @@ use Rattle.tftp_ends.specs.Waiting.{default_terms, agreed_terms, no_answer, acce
 use Rattle.tftp_server.specs.Port.{Service, Sends, Takes}
 use Rattle.tftp_machine.specs.Hosts.{request_port}
 use Rattle.tftp_machine.specs.Machine.{Endpoint}
+use Rattle.tftp_machine.specs.OpenEnds.{OpenEnd}
+use Rattle.tftp_machine.specs.EndKept.{HeldFits}
+use Rattle.tftp_machine.proofs.WaitingMoves.{agreed_size}
+use Rattle.tftp_machine.proofs.SaidLemmas.{spells_own, own_oack, taken_oack}
 use Rattle.tftp_player.specs.Openings.{reading_client, writing_client, sending_end, receiving_end}
 use Rattle.tftp_player.specs.Straight.{IsAccepted, IsThrough, Ends, ReadsStraight, WritesStraight, ReadsComplete, WritesComplete, read_count, write_count}
-use Rattle.tftp_player.specs.World.{WorldState, OpenEnd, StoredFile, file_at, datagram, WorldEnd, Open_end}
-use Rattle.tftp_player.specs.WorldKept.{HeldFits, IsOk}
+use Rattle.tftp_player.specs.World.{WorldState, StoredFile, file_at, datagram, WorldEnd, Open_end}
+use Rattle.tftp_player.specs.WorldKept.{IsOk}
 use Rattle.tftp_player.specs.WorldRuns.{MayHappen}
-use Rattle.tftp_player.specs.WorldSteps.{Serves, Opens}
+use Rattle.tftp_player.specs.WorldSteps.{ServiceStep, OpeningStep}
 use Rattle.tftp_player.specs.declared.event.Event.TheVariants.{Get, Put}
 use Rattle.tftp_player.specs.declared.report.Report.{Report}
 use Rattle.tftp_player.proofs.OackLemmas.{valid_oack}
 use Rattle.tftp_machine.proofs.Indices.{slice_get-push_old, slice_get-push_new}
-use Rattle.tftp_player.proofs.SaidLemmas.{spells_own, own_oack, taken_oack}
 use Rattle.tftp_player.proofs.StraightActions.{from_server, data_next, block_within}
 use Rattle.tftp_player.proofs.StraightPort.{HasAsked, has_asked, port_comes, has_opened, accepted_answers}
 use Rattle.tftp_player.proofs.StraightRuns.{IsLeft, Reaches, walks, IsReady, ready_next, IsOver, stays_at, set_at, SendsAt, AwaitsAt, fit_of, next_is_stored, awaits_now, ack_ready, ack_sender, ack_receiver, from_data}
 use Rattle.tftp_player.proofs.StraightSteps.{ports_of, delivered, handles_send, handles_oack}
-use Rattle.tftp_player.proofs.WaitingMoves.{agreed_size}
 use Rattle.tftp_player.proofs.WorldKeeps.{answered_values}
 
 -- ---- both ends are open
@@ -58,7 +60,7 @@ pub record HasBegun (reads strangers : Bool) (old new : WorldState) (c x : OpenE
   pub left : IsLeft reads w (length old.sent + 1) new
 
 begins : (reads strangers : Bool) (old new w : WorldState) (c x : OpenEnd) (accepts : Service) (one other rest : ℕ) → HasAsked strangers old w c → c.state.position.last_sent_to ≡ request_port → (l : IsLeft reads w (length old.sent) new) → IsAccepted w c accepts →
-    ((report : Report) (mid : WorldState) → Serves accepts w c.address c.state.position.last_sent report mid → Opens w x report mid) →
+    ((report : Report) (mid : WorldState) → ServiceStep accepts w c.address c.state.position.last_sent report mid → OpeningStep w x report mid) →
     ((b : HasBegun reads strangers old new c x) → Reaches new one other (length old.sent + 1) (length b.left.reports) rest) → Reaches new one other (length old.sent) (length l.reports) (rest + 1)
 begins reads strangers old new w c x accepts one other rest has to left accepted opens then_on =
     let i = length old.sent in
@@ -149,7 +151,7 @@ module _ (strangers : Bool) (old new : WorldState) (name : List ℕ) (mode : Mod
       begins true strangers old new h.run.asked reader (server_of agreed h) (Sends h.accepts.path mode h.accepts.length agreed) one other rest has refl (read_left agreed h) h.accepts.accepted
       (λ report mid s.
       let same : s.0 ≡ file = same_Some s.0 file (sym s.1 ∙ (ap (λ (files : List StoredFile). file_at files h.accepts.path) has.files ∙ h.accepts.there)) in
-      subst (λ (f : List ℕ). Opens h.run.asked (sending_end h.run.asked reader.address reader.state.position.last_sent mode h.accepts.path f agreed) report mid) same s.2)
+      subst (λ (f : List ℕ). OpeningStep h.run.asked (sending_end h.run.asked reader.address reader.state.position.last_sent mode h.accepts.path f agreed) report mid) same s.2)
       then_on
 
   read_plainly : IsOk strangers old → (h : ReadsStraight old new name mode asked file []) → Ends old new (length h.run.reports) (read_count [] (block_count text DEFAULT_BLOCK))

@@ -20,12 +20,13 @@ use Rattle.tftp_server.specs.Port.{Ask, Ignores, Refuses, Reads, Service, Refuse
 use Rattle.tftp_store.specs.Store.{measured}
 use Rattle.tftp_machine.specs.Hosts.{request_port}
 use Rattle.tftp_machine.specs.Machine.{Endpoint}
+use Rattle.tftp_machine.specs.OpenEnds.{OpenEnd}
 use Rattle.tftp_player.specs.Requests.{IsRepeated, begun_of, open_transfers, opened_of, served, service}
 use Rattle.tftp_player.specs.Straight.{IsAccepted}
-use Rattle.tftp_player.specs.World.{WorldState, OpenEnd, file_at, in_the_way, datagram, opened_in, WorldEnd, Open_end, Closed_end, end_address}
+use Rattle.tftp_player.specs.World.{WorldState, file_at, in_the_way, datagram, opened_in, WorldEnd, Open_end, Closed_end, end_address}
 use Rattle.tftp_player.specs.WorldKept.{HasPorts, IsOk}
 use Rattle.tftp_player.specs.WorldRuns.{MayHappen}
-use Rattle.tftp_player.specs.WorldSteps.{Serves, Arrives, At_request_port, At_open_end, At_closed_end, At_nobody, Opens, WorldStep}
+use Rattle.tftp_player.specs.WorldSteps.{ServiceStep, Arrives, At_request_port, At_open_end, At_closed_end, At_nobody, OpeningStep, WorldStep}
 use Rattle.tftp_player.specs.declared.datagram.Datagram.{Datagram}
 use Rattle.tftp_player.specs.declared.event.Event.{Event}
 use Rattle.tftp_player.specs.declared.event.Event.TheVariants.{Deliver}
@@ -75,7 +76,7 @@ same_repeated from (Some packet) ends a b f g = same_answer a b f g
 module _ (w v : WorldState) (i : ℕ) (c : OpenEnd) (report : Report) (accepts : Service) (ports : HasPorts w) (accepted : IsAccepted w c accepts) where
   -- what the port did
   abbrev pub Comes : Type 0
-  Comes = Serves accepts w c.address c.state.position.last_sent report v
+  Comes = ServiceStep accepts w c.address c.state.position.last_sent report v
 
   -- no end has the request port
   outside : (k : ℕ) (x : WorldEnd) → slice_get w.ends k ≡ Some x → end_address x ≡ request_port → ⊥
@@ -89,7 +90,7 @@ module _ (w v : WorldState) (i : ℕ) (c : OpenEnd) (report : Report) (accepts :
       let two : repeated ≡ accepted.repeated = same_repeated c.address accepted.decoded w.ends repeated accepted.repeated same_now accepted.repeats in
       let all : service w repeated bytes decoded ≡ accepts =
       ap (service w repeated bytes) one ∙ (ap (λ (b : Bool). service w b bytes accepted.decoded) two ∙ accepted.is) in
-      subst (λ (s : Service). Serves s w c.address bytes report v) all serves
+      subst (λ (s : Service). ServiceStep s w c.address bytes report v) all serves
   arrived (At_open_end k x at here h) = absurd (outside k (Open_end x) at here)
   arrived (At_closed_end k x at here s) = absurd (outside k (Closed_end x) at here)
   arrived (At_nobody away nobody s) = absurd (away refl)
@@ -105,7 +106,7 @@ pub record HasOpened (w v : WorldState) (x : OpenEnd) : Type 0 where
   pub sent : v.sent ≡ w.sent ++ datagram x.address x.state.position.last_sent_to x.state.position.last_sent ∷ []
   pub ends : v.ends ≡ w.ends ++ Open_end x ∷ []
 
-pub has_opened : (w v : WorldState) (x : OpenEnd) (report : Report) → Opens w x report v → HasOpened w v x
+pub has_opened : (w v : WorldState) (x : OpenEnd) (report : Report) → OpeningStep w x report v → HasOpened w v x
 has_opened w v x report o = record { sent = ap (λ (u : WorldState). u.sent) o.is; ends = ap (λ (u : WorldState). u.ends) o.is }
 
 -- ---- what the port agreed to is its answer to some options

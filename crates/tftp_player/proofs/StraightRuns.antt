@@ -20,10 +20,15 @@ use Rattle.tftp_ends.specs.End.{is_sender, is_client, is_complete}
 use Rattle.tftp_ends.specs.Action.{datagram_action}
 use Rattle.tftp_ends.specs.Receiver.{next_action}
 use Rattle.tftp_ends.specs.Step.{ack_bytes, data_bytes}
+use Rattle.tftp_machine.specs.Hosts.{two_hosts}
 use Rattle.tftp_machine.specs.Machine.{Endpoint}
+use Rattle.tftp_machine.specs.OpenEnds.{OpenEnd}
+use Rattle.tftp_machine.specs.EndKept.{IsUnderWay, PhaseKept, HeldFits, sent_text}
+use Rattle.tftp_machine.proofs.SourceMoves.{valid_data, number_fits}
+use Rattle.tftp_machine.proofs.SaidLemmas.{spells_own}
 use Rattle.tftp_player.specs.Straight.{TookAll, AllTaken}
-use Rattle.tftp_player.specs.World.{WorldState, OpenEnd, datagram, WorldEnd, Open_end}
-use Rattle.tftp_player.specs.WorldKept.{IsUnderWay, PhaseKept, HeldFits, IsOk, sent_text}
+use Rattle.tftp_player.specs.World.{WorldState, datagram, WorldEnd, Open_end}
+use Rattle.tftp_player.specs.WorldKept.{IsOk}
 use Rattle.tftp_player.specs.WorldRuns.{MayHappen}
 use Rattle.tftp_player.specs.WorldSafety.{IsComplete}
 use Rattle.tftp_player.specs.WorldSteps.{WorldStep, Settles}
@@ -32,8 +37,6 @@ use Rattle.tftp_player.specs.declared.event.Event.TheVariants.{Deliver}
 use Rattle.tftp_player.specs.declared.report.Report.{Report}
 use Rattle.tftp_machine.proofs.Blocks.{take-block}
 use Rattle.tftp_machine.proofs.Indices.{slice_get-set_same, slice_get-set_other, slice_get-push_new}
-use Rattle.tftp_player.proofs.SaidLemmas.{spells_own}
-use Rattle.tftp_player.proofs.SourceMoves.{valid_data, number_fits}
 use Rattle.tftp_player.proofs.StraightActions.{from_peer, acked_more, acked_last, piece_readable, next_stores, data_next, block_full, block_last, block_within, never_long, last_rest}
 use Rattle.tftp_player.proofs.StraightSteps.{ports_of, Handles, delivered, Becomes, handles_send, handles_last, is_armed, HasStored, stored_phase, takes_data, handles_data}
 use Rattle.tftp_player.proofs.WorldRuns.{step_keeps}
@@ -218,7 +221,7 @@ module _ (strangers : Bool) (ks kr : ℕ) (apart : kr ≢ ks) (sa ra : Endpoint)
   text_of_sender w n s = ap (λ (m : Mode). wire_text m s.x.file) s.mode_is ∙ ap (wire_text mode) s.file_is
 
   under_way : (w : WorldState) (n : ℕ) → IsOk strangers w → (s : SendsAt w n) → IsUnderWay s.x st n
-  under_way w n ok s = subst (λ (p : Phase). PhaseKept s.x p) s.phase (ok.ends ks (Open_end s.x) s.there).stands.kept.phase
+  under_way w n ok s = subst (λ (p : Phase). PhaseKept two_hosts s.x p) s.phase (ok.ends ks (Open_end s.x) s.there).stands.kept.phase
 
   pub fit_of : (w : WorldState) (n : ℕ) → IsOk strangers w → SendsAt w n → IsFit
   fit_of w n ok s =

@@ -1,5 +1,5 @@
 -- The delivery of a datagram at the open end that it is for, if that sends, stores or is complete.
-use Rattle.std.proofs.Common.{◌≡◌, ℕ, ◌+◌, ◌*◌, Bool, true, false, List, [], ◌∷◌, ◌++◌, length, drop, Option, Some, None, Result, Ok, Err, refl, sym, ap, ◌∙◌, subst, arith}
+use Rattle.std.proofs.Common.{◌≡◌, ℕ, ◌+◌, ◌*◌, Bool, true, false, List, [], ◌∷◌, ◌++◌, length, drop, Option, Some, None, Result, Ok, Err, refl, sym, ap, ◌∙◌, subst, arith, inl, inr}
 use Rattle.std.specs.Prelude.{◌≢◌, if◌then◌else◌, nat_lt, slice_get, slice_set, IfErr}
 use Rattle.std.proofs.lemmas.Bool.{true≢false}
 use Rattle.std.proofs.lemmas.Option.{same_Some}
@@ -31,18 +31,20 @@ use Rattle.tftp_ends.specs.Action.{Decodes, datagram_action}
 use Rattle.tftp_ends.specs.Step.{Turn, Done, Acts, Appended, GoesOn, Stores, StoresIn, response_turn, sent_turn, refused_turn, committed_turn, commit_reply, holding, ack_bytes, data_bytes, after_turn}
 use Rattle.tftp_ends.specs.Text.{Decoded}
 use Rattle.tftp_machine.specs.Machine.{Endpoint}
+use Rattle.tftp_machine.specs.OpenEnds.{OpenEnd, holding_of, files_of, with_files, in_state, end_after}
+use Rattle.tftp_machine.specs.EndKept.{HeldFits}
+use Rattle.tftp_machine.proofs.SinkMoves.{Took, All_of_it, Some_of_it, took, Kept_all, For_good, Not_yet, kept_by, stores_in, goes_on_with, held_fits}
+use Rattle.tftp_machine.proofs.SourceMoves.{BlockSent, sends_from, block_sent}
+use Rattle.tftp_machine.proofs.SaidLemmas.{data_of}
+use Rattle.tftp_machine.proofs.StoredTexts.{stored_more}
 use Rattle.tftp_player.specs.Straight.{TookAll}
-use Rattle.tftp_player.specs.World.{WorldState, OpenEnd, file_at, in_the_way, is_closed, datagram, replied, files_of, holding_of, with_files, in_state, end_after, closed_at, standing, WorldEnd, Open_end, Closed_end, end_address}
-use Rattle.tftp_player.specs.WorldKept.{HasPorts, HeldFits, IsOk}
+use Rattle.tftp_player.specs.World.{WorldState, file_at, in_the_way, is_closed, datagram, replied, closed_at, standing, WorldEnd, Open_end, Closed_end, end_address}
+use Rattle.tftp_player.specs.WorldKept.{HasPorts, IsOk}
 use Rattle.tftp_player.specs.WorldSafety.{IsComplete}
 use Rattle.tftp_player.specs.WorldSteps.{may_refuse_append, may_refuse_commit, EndStep, OnDatagram, Arrives, At_request_port, At_open_end, At_closed_end, At_nobody, WorldStep, world_sink}
 use Rattle.tftp_player.specs.declared.datagram.Datagram.{Datagram}
 use Rattle.tftp_player.specs.declared.event.Event.TheVariants.{Deliver}
 use Rattle.tftp_player.specs.declared.report.Report.{Report}
-use Rattle.tftp_player.proofs.HostBytes.{stored_more}
-use Rattle.tftp_player.proofs.SaidLemmas.{data_of}
-use Rattle.tftp_player.proofs.SinkMoves.{Took, All_of_it, None_of_it, took, Kept_all, For_good, Not_yet, kept_by, stores_in, goes_on_with, held_fits}
-use Rattle.tftp_player.proofs.SourceMoves.{sends_from, block_sent}
 
 -- the end at index k of a world has port 1024 + k
 pub ports_of : (strangers : Bool) (w : WorldState) → IsOk strangers w → HasPorts w
@@ -173,8 +175,11 @@ module _ (w v : WorldState) (k : ℕ) (x : OpenEnd) (from : Endpoint) (bytes : L
       (y : OpenEnd) × (y.state.position.phase ≡ Sending terms (n + 1)) × Becomes y (datagram x.address from (data_bytes (n + 1) (block text terms.size (n + 1))) ∷ [])
   handles_send packet terms n text spelled is sender measured left =
       let a = acts_as packet (Send terms (n + 1)) spelled is in
-      let f = sends_from (is_sender x.state.role.side) sender refuses_commit terms (n + 1) from x.state x.left (holding_of x) h.turn h.held a in
-      let b = block_sent terms n from x.state text x.left h.turn f.0 measured left f.2 in
+      let f = sends_from (is_sender x.state.role.side) sender memory_source (world_sink refuses_commit) terms (n + 1) from x.state x.left (holding_of x) h.turn h.held a in
+      let b : BlockSent terms n from x.state text h.turn f.0 = elim (block_sent memory_source (λ source. refl) terms n from x.state text x.left h.turn f.0 measured left f.2) [
+        | inl sent ↦ sent
+        | inr failed ↦ absurd failed.may
+      ] in
       let turn = data_turn_at terms n (block text terms.size (n + 1)) in
       let y = end_after x turn (Source f.0) in (
         y,
@@ -250,7 +255,7 @@ module _ (w v : WorldState) (k : ℕ) (x : OpenEnd) (from : Endpoint) (bytes : L
   stores_here terms number piece spelled is receiver =
       let a = acts_as (Data number piece) (Store terms number) spelled is in
       let s = subst (λ (bs : List ℕ). StoresIn memory_source (world_sink refuses_commit) terms number from bs x.state (files_of x) h.turn h.held) (sym (data_of number a.0 bytes a.1) ∙ data_of number piece bytes spelled) a.2 in
-      stores_in (is_sender x.state.role.side) receiver refuses_commit terms number from piece x.state x.left (holding_of x) h.turn h.held s
+      stores_in (is_sender x.state.role.side) receiver memory_source (world_sink refuses_commit) terms number from piece x.state x.left (holding_of x) h.turn h.held s
 
   -- a client that was not set to refuse stores the block, and is not set to afterwards
   module _ (terms : Terms) (number : ℕ) (piece : List ℕ) (client : is_client x.state.role.side ≡ true) where
@@ -339,7 +344,7 @@ module _ (w v : WorldState) (k : ℕ) (x : OpenEnd) (from : Endpoint) (bytes : L
         Decoded x.state.role.mode x.state.position.held piece bytes_now after → Took (holding_of x) mid bytes_now answer →
         GoesOn (world_sink refuses_commit) terms number from x.state last after mid answer h.turn sink → (y : OpenEnd) × HasStored terms number piece y
     appends_as mid sink bytes_now after (Err fault) last is held d took_now g = absurd (fault_none DiskFull x.state g.0)
-    appends_as mid sink bytes_now after (Ok done) last is held d (None_of_it fault err same still) g = absurd (let e : Ok done ≡ Err fault = err in cc)
+    appends_as mid sink bytes_now after (Ok done) last is held d (Some_of_it fault kept err begins same un) g = absurd (let e : Ok done ≡ Err fault = err in cc)
     appends_as mid sink bytes_now after (Ok done) true is held d (All_of_it ok same un) g =
         commits_as mid sink bytes_now after is held same d g.answer g.answers (kept_by mid.refuses mid sink g.answer g.commits)
     appends_as mid sink bytes_now after (Ok done) false is held d (All_of_it ok same un) g =
@@ -351,4 +356,4 @@ module _ (w v : WorldState) (k : ℕ) (x : OpenEnd) (from : Endpoint) (bytes : L
         let f = stores_here terms number piece spelled is receiver in
         let b = f.2 in
         appends_as b.mid f.0 b.bytes b.after b.answer (nat_lt (length piece) terms.size) refl f.1 b.decoded
-        (took (holding_of x) b.mid b.bytes b.answer refuses_commit b.appended b.memory) b.rest
+        (took (world_sink refuses_commit) (λ sink. refl) (holding_of x) b.mid b.bytes b.answer b.appended) b.rest

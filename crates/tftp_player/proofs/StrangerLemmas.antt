@@ -19,17 +19,19 @@ use Rattle.tftp_ends.specs.Action.{same_address, same_endpoint, is_stranger, gar
 use Rattle.tftp_ends.specs.Step.{Turn, Acts, with_position}
 use Rattle.tftp_machine.specs.Hosts.{host_of, request_port, two_hosts}
 use Rattle.tftp_machine.specs.Machine.{Endpoint, At_server, Elsewhere}
+use Rattle.tftp_machine.specs.OpenEnds.{OpenEnd, files_of, end_after, peer_of, with_phase}
+use Rattle.tftp_machine.specs.EndKept.{PhaseKept}
+use Rattle.tftp_machine.proofs.PhaseMoves.{same_ips, same_endpoints}
 use Rattle.tftp_player.specs.Strangers.{HasNoStranger, IsRecordedSo, StraysChangeNoRecord, ClientsHaveServers}
-use Rattle.tftp_player.specs.World.{WorldState, OpenEnd, WorldEnd, Open_end, end_record, end_address, file_at, in_the_way, files_of, end_after, standing, peer_of, view_of_end}
-use Rattle.tftp_player.specs.WorldKept.{PhaseKept, IsOk}
-use Rattle.tftp_player.specs.WorldSteps.{may_refuse_commit, Serves, Arrives, At_request_port, At_open_end, At_closed_end, At_nobody, Opens, OnDatagram, world_sink}
+use Rattle.tftp_player.specs.World.{WorldState, WorldEnd, Open_end, end_record, end_address, file_at, in_the_way, standing, view_of_end}
+use Rattle.tftp_player.specs.WorldKept.{IsOk}
+use Rattle.tftp_player.specs.WorldSteps.{may_refuse_commit, ServiceStep, Arrives, At_request_port, At_open_end, At_closed_end, At_nobody, OpeningStep, OnDatagram, world_sink}
 use Rattle.tftp_server.specs.Port.{Service, Silent, Refused, Sends, Takes}
 use Rattle.tftp_player.specs.declared.report.Report.{Report}
-use Rattle.tftp_player.proofs.PhaseMoves.{same_ips, same_endpoints}
 use Rattle.tftp_machine.proofs.Indices.{slice_get-set_same, slice_get-set_other, slice_get-push_old}
 use Rattle.tftp_player.proofs.WorldTurns.{view_at}
 use Rattle.tftp_machine.proofs.Shown.{shown_by}
-use Rattle.tftp_player.proofs.Standing.{with_phase, standing_record}
+use Rattle.tftp_player.proofs.Standing.{standing_record}
 
 -- a test that cannot hold
 fails : (b : Bool) → (b ≡ true → ⊥) → not b ≡ true
@@ -43,7 +45,7 @@ not_server from far same =
     let e : At_server ≡ Elsewhere = subst (λ (ip : List ℕ). host_of (record from { ip = ip }) ≡ Elsewhere) same far in cc
 
 -- to an open end whose peer is no stranger
-is_strange : (phase : Phase) (x0 : OpenEnd) (from : Endpoint) → PhaseKept (with_phase phase x0) phase → host_of from ≡ Elsewhere → ((p : Endpoint) → peer_of phase ≡ Some p → host_of p ≢ Elsewhere) →
+is_strange : (phase : Phase) (x0 : OpenEnd) (from : Endpoint) → PhaseKept two_hosts (with_phase phase x0) phase → host_of from ≡ Elsewhere → ((p : Endpoint) → peer_of phase ≡ Some p → host_of p ≢ Elsewhere) →
     is_some (outcome_of phase) ≡ false → is_stranger (terms_of phase) x0.state.position.last_sent_to from ≡ true
 is_strange (Waiting asked limit) x0 from kept far home o =
     fails (same_address x0.state.position.last_sent_to from) (λ e. not_server from far (sym (same_ips x0.state.position.last_sent_to from e) ∙ ap (λ (p : Endpoint). p.ip) kept.2))
@@ -85,11 +87,11 @@ equal_or_not a b = elim (eqb_tells a b) [
 as_is : (old new : WorldState) (k : ℕ) (x : WorldEnd) → new.ends ≡ old.ends → slice_get old.ends k ≡ Some x → IsRecordedSo new k x
 as_is old new k x e there = (x, ap (λ (ends : List WorldEnd). slice_get ends k) e ∙ there, refl)
 
-opened_more : (old new : WorldState) (y : OpenEnd) (report : Report) (k : ℕ) (x : WorldEnd) → Opens old y report new → slice_get old.ends k ≡ Some x → IsRecordedSo new k x
+opened_more : (old new : WorldState) (y : OpenEnd) (report : Report) (k : ℕ) (x : WorldEnd) → OpeningStep old y report new → slice_get old.ends k ≡ Some x → IsRecordedSo new k x
 opened_more old new y report k x o there =
     (x, ap (λ (w : WorldState). slice_get w.ends k) o.is ∙ slice_get-push_old old.ends k (Open_end y) x there, refl)
 
-served : (service : Service) (old new : WorldState) (from : Endpoint) (bytes : List ℕ) (report : Report) (k : ℕ) (x : WorldEnd) → Serves service old from bytes report new → slice_get old.ends k ≡ Some x → IsRecordedSo new k x
+served : (service : Service) (old new : WorldState) (from : Endpoint) (bytes : List ℕ) (report : Report) (k : ℕ) (x : WorldEnd) → ServiceStep service old from bytes report new → slice_get old.ends k ≡ Some x → IsRecordedSo new k x
 served Silent old new from bytes report k x s there = as_is old new k x (ap (λ (w : WorldState). w.ends) s.is) there
 served (Refused reply) old new from bytes report k x s there = as_is old new k x (ap (λ (w : WorldState). w.ends) s.1) there
 served (Sends path mode length agreed) old new from bytes report k x s there = opened_more old new _ report k x s.2 there

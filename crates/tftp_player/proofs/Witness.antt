@@ -8,8 +8,9 @@ use Rattle.tftp_ends.specs.End.{is_client}
 use Rattle.tftp_ends.specs.Step.{Turn}
 use Rattle.tftp_wire.specs.declared.packet.Packet.{Packet}
 use Rattle.tftp_machine.specs.Machine.{Endpoint}
+use Rattle.tftp_machine.specs.OpenEnds.{OpenEnd, files_of, end_after}
 use Rattle.tftp_player.specs.Requests.{IsRepeated}
-use Rattle.tftp_player.specs.World.{WorldState, OpenEnd, Open_end, StoredFile, file_at, in_the_way, files_of, end_after, has_committed, world_after, report_of}
+use Rattle.tftp_player.specs.World.{WorldState, Open_end, StoredFile, file_at, in_the_way, has_committed, world_after, report_of}
 use Rattle.tftp_player.specs.WorldSteps.{EndStep, FilesAfter, At_open_end, WorldStep}
 use Rattle.tftp_player.specs.declared.datagram.Datagram.{Datagram}
 use Rattle.tftp_player.specs.declared.event.Event.TheVariants.{Deliver}

@@ -37,22 +37,24 @@ use Rattle.tftp_store.specs.Store.{measured}
 use Rattle.tftp_machine.specs.Hosts.{host_of, server_ip, client_ip, request_port, two_hosts}
 use Rattle.tftp_machine.specs.Machine.{Endpoint, Elsewhere, Message, Request as Says_request, Oack as Says_oack}
 use Rattle.tftp_machine.specs.Rules.{Rule, message}
-use Rattle.tftp_player.specs.Said.{said}
+use Rattle.tftp_machine.specs.Said.{said}
+use Rattle.tftp_machine.specs.EndKept.{HeldFits}
+use Rattle.tftp_machine.proofs.Actions.{asks, serves_plainly, serves_with, says_error}
+use Rattle.tftp_machine.proofs.EndMoves.{valid_error}
+use Rattle.tftp_machine.proofs.SourceMoves.{valid_data}
+use Rattle.tftp_machine.proofs.WaitingMoves.{agreed_size}
+use Rattle.tftp_machine.proofs.SaidLemmas.{spells_own, own_oack}
+use Rattle.tftp_machine.proofs.HostLemmas.{host_server, host_client}
 use Rattle.tftp_machine.specs.Shows.{NoneAt, requested, NoneAnswers, EndView, IsShownAt, IsShownWithin}
 use Rattle.tftp_player.specs.World.{WorldState, WorldEnd, Open_end, file_at, in_the_way, datagram, said_in, view_of_end}
 use Rattle.tftp_player.specs.Openings.{request_of, reading_client, writing_client, MayGet, MayPut, sending_end, receiving_end}
 use Rattle.tftp_server.specs.Port.{Ask, Ignores, Refuses, Reads, Service, Refused, Sends, accept_reply, by_draft, by_file, by_length, by_name, by_options, by_packet, by_repeat}
 use Rattle.tftp_player.specs.Requests.{IsRepeated, open_transfers, opened_of, begun_of, served, service}
-use Rattle.tftp_player.specs.WorldSteps.{Stays, Serves, Opens}
-use Rattle.tftp_player.specs.WorldKept.{HeldFits, IsOkBy, IsOkAt, IsOkWithin}
+use Rattle.tftp_player.specs.WorldSteps.{Stays, ServiceStep, OpeningStep}
+use Rattle.tftp_player.specs.WorldKept.{IsOkBy, IsOkAt, IsOkWithin}
 use Rattle.tftp_player.specs.declared.report.Report.{Report}
-use Rattle.tftp_player.proofs.Actions.{host_server, host_client, asks, serves_plainly, serves_with, says_error}
 use Rattle.tftp_machine.proofs.Shown.{shown_still, shown_within}
 use Rattle.tftp_player.proofs.UnansweredLemmas.{none_answers}
-use Rattle.tftp_player.proofs.SaidLemmas.{spells_own, own_oack}
-use Rattle.tftp_player.proofs.EndMoves.{valid_error}
-use Rattle.tftp_player.proofs.SourceMoves.{valid_data}
-use Rattle.tftp_player.proofs.WaitingMoves.{agreed_size}
 use Rattle.tftp_player.proofs.Measured.{measured_fits}
 use Rattle.tftp_player.proofs.OackLemmas.{valid_oack}
 use Rattle.tftp_player.proofs.WorldTurns.{viewed_at, opening_keeps, saying_keeps}
@@ -108,22 +110,22 @@ stays_ok first strangers w v report ok s =
 
 -- a client opens
 pub reading_keeps : (first : List Rule) (strangers : Bool) (w v : WorldState) (name : List ℕ) (mode : Mode) (asked : Asked) (report : Report) → IsOkAt first strangers w → MayGet name mode asked →
-    Opens w (reading_client w name mode asked) report v → IsOkWithin 3 first strangers v
+    OpeningStep w (reading_client w name mode asked) report v → IsOkWithin 3 first strangers v
 reading_keeps first strangers w v name mode asked report ok may o =
     let x = reading_client w name mode asked in
     let p = Read (request_of name mode asked) in
     let a = x.address in
-    let shown_now = asks first (map view_of_end w.ends) ok.messages ok.shown a false (request_of name mode asked) (wire_text mode [] ++ []) refl (none_at_next first strangers w ok x.address refl) (λ _. no_text mode) in
+    let shown_now = asks two_hosts first (map view_of_end w.ends) ok.messages ok.shown a false (request_of name mode asked) (wire_text mode [] ++ []) (host_client a refl) (none_at_next first strangers w ok x.address refl) (λ _. no_text mode) in
     opening_keeps first strangers w v ok x report p (spells_own p may.valid) shown_now (at_client a refl) refl refl
     (record { phase = (refl, may.options.askable, refl, refl, λ _. refl, λ e. absurd (true≢false (sym e))); held = empty_held mode; committed = λ _. refl }) refl o
 
 pub writing_keeps : (first : List Rule) (strangers : Bool) (w v : WorldState) (name : List ℕ) (mode : Mode) (asked : Asked) (file : List ℕ) (report : Report) → IsOkAt first strangers w → MayPut name mode asked (length (wire_text mode file)) →
-    Opens w (writing_client w name mode asked file) report v → IsOkWithin 3 first strangers v
+    OpeningStep w (writing_client w name mode asked file) report v → IsOkWithin 3 first strangers v
 writing_keeps first strangers w v name mode asked file report ok may o =
     let x = writing_client w name mode asked file in
     let p = Write (request_of name mode asked) in
     let a = x.address in
-    let shown_now = asks first (map view_of_end w.ends) ok.messages ok.shown a true (request_of name mode asked) (wire_text mode file) refl (none_at_next first strangers w ok x.address refl) (λ e. absurd (true≢false e)) in
+    let shown_now = asks two_hosts first (map view_of_end w.ends) ok.messages ok.shown a true (request_of name mode asked) (wire_text mode file) (host_client a refl) (none_at_next first strangers w ok x.address refl) (λ e. absurd (true≢false e)) in
     opening_keeps first strangers w v ok x report p (spells_own p may.valid) shown_now (at_client a refl) refl refl
     (record { phase = (refl, may.options.askable, refl, refl, λ _. refl, λ _. refl); held = empty_held mode; committed = λ e. absurd (true≢false e) }) refl o
 
@@ -142,13 +144,13 @@ answered_values kind mode file_length limits options known ok e =
 -- a read is served
 sending_keeps : (first : List Rule) (strangers : Bool) (w v : WorldState) (from : Endpoint) (bytes : List ℕ) (request : Request) (path file : List ℕ) (agreed : List Known) (report : Report) (ok : IsOkAt first strangers w) →
     IsNewly ok.messages w.ends from bytes false request → AllByRecursion IsAgreeable agreed → (agreed ≢ [] → IsValid (Oack (agreed_options agreed))) → Fits (wire_text request.mode file) (size agreed) →
-    Opens w (sending_end w from bytes request.mode path file agreed) report v → IsOkWithin 3 first strangers v
+    OpeningStep w (sending_end w from bytes request.mode path file agreed) report v → IsOkWithin 3 first strangers v
 sending_keeps first strangers w v from bytes request path file [] report ok come agreeable valid fits o =
     let text = wire_text request.mode file in
     let x = sending_end w from bytes request.mode path file [] in
     let one : 1 ≤ block_count text DEFAULT_BLOCK = omega arith in
     let p = Data 1 (block text DEFAULT_BLOCK 1) in
-    let shown_now = serves_plainly first (map view_of_end w.ends) ok.messages ok.shown x.address from bytes false request text refl (none_at_next first strangers w ok x.address refl) come.sent fits come.spells come.unanswered in
+    let shown_now = serves_plainly two_hosts first (map view_of_end w.ends) ok.messages ok.shown x.address from bytes false request text (host_server x.address refl) (none_at_next first strangers w ok x.address refl) come.sent fits come.spells come.unanswered in
     opening_keeps first strangers w v ok x report p (spells_own p (valid_data text DEFAULT_BLOCK 0 (omega arith) (omega arith) fits one)) shown_now (at_server x.address refl) refl refl
     (record {
       phase = record { sender = refl; positive = omega arith; size = omega arith; fits = fits; so_far = one; left = refl; last_sent_to = refl; measured = refl };
@@ -160,7 +162,7 @@ sending_keeps first strangers w v from bytes request path file (known ∷ agreed
     let x = sending_end w from bytes request.mode path file (known ∷ agreed) in
     let b = agreed_size (known ∷ agreed) agreeable in
     let p = Oack (agreed_options (known ∷ agreed)) in
-    let shown_now = serves_with first (map view_of_end w.ends) ok.messages ok.shown x.address from bytes false request text (size (known ∷ agreed)) refl (none_at_next first strangers w ok x.address refl) come.sent fits b.0 come.spells come.unanswered in
+    let shown_now = serves_with two_hosts first (map view_of_end w.ends) ok.messages ok.shown x.address from bytes false request text (size (known ∷ agreed)) (host_server x.address refl) (none_at_next first strangers w ok x.address refl) come.sent fits b.0 come.spells come.unanswered in
     let says = subst (λ (n : ℕ). IsShownWithin two_hosts 3 first (map view_of_end w.ends ++ view_of_end (Open_end x) ∷ []) (ok.messages ++ message x.address from (Says_oack n) ∷ [])) (sym (own_oack (known ∷ agreed) agreeable)) shown_now in
     let none : 0 * size (known ∷ agreed) ≡ 0 = omega arith in
     opening_keeps first strangers w v ok x report p (spells_own p (valid (λ e. cc))) says (at_server x.address refl) refl refl
@@ -173,17 +175,17 @@ sending_keeps first strangers w v from bytes request path file (known ∷ agreed
 -- a write is served
 taking_keeps : (first : List Rule) (strangers : Bool) (w v : WorldState) (from : Endpoint) (bytes : List ℕ) (request : Request) (path : List ℕ) (agreed : List Known) (report : Report) (ok : IsOkAt first strangers w) →
     IsNewly ok.messages w.ends from bytes true request → AllByRecursion IsAgreeable agreed → (agreed ≢ [] → IsValid (Oack (agreed_options agreed))) →
-    Opens w (receiving_end w from bytes request.mode path agreed) report v → IsOkWithin 3 first strangers v
+    OpeningStep w (receiving_end w from bytes request.mode path agreed) report v → IsOkWithin 3 first strangers v
 taking_keeps first strangers w v from bytes request path [] report ok come agreeable valid o =
     let x = receiving_end w from bytes request.mode path [] in
-    let shown_now = serves_plainly first (map view_of_end w.ends) ok.messages ok.shown x.address from bytes true request (wire_text request.mode [] ++ []) refl (none_at_next first strangers w ok x.address refl) come.sent (no_text request.mode) come.spells come.unanswered in
+    let shown_now = serves_plainly two_hosts first (map view_of_end w.ends) ok.messages ok.shown x.address from bytes true request (wire_text request.mode [] ++ []) (host_server x.address refl) (none_at_next first strangers w ok x.address refl) come.sent (no_text request.mode) come.spells come.unanswered in
     opening_keeps first strangers w v ok x report (Ack 0) (spells_own (Ack 0) (omega arith)) shown_now (at_server x.address refl) refl refl
     (record { phase = (refl, refl); held = empty_held request.mode; committed = λ _. refl }) refl o
 taking_keeps first strangers w v from bytes request path (known ∷ agreed) report ok come agreeable valid o =
     let x = receiving_end w from bytes request.mode path (known ∷ agreed) in
     let b = agreed_size (known ∷ agreed) agreeable in
     let p = Oack (agreed_options (known ∷ agreed)) in
-    let shown_now = serves_with first (map view_of_end w.ends) ok.messages ok.shown x.address from bytes true request (wire_text request.mode [] ++ []) (size (known ∷ agreed)) refl (none_at_next first strangers w ok x.address refl) come.sent (no_text request.mode) b.0 come.spells come.unanswered in
+    let shown_now = serves_with two_hosts first (map view_of_end w.ends) ok.messages ok.shown x.address from bytes true request (wire_text request.mode [] ++ []) (size (known ∷ agreed)) (host_server x.address refl) (none_at_next first strangers w ok x.address refl) come.sent (no_text request.mode) b.0 come.spells come.unanswered in
     let says = subst (λ (n : ℕ). IsShownWithin two_hosts 3 first (map view_of_end w.ends ++ view_of_end (Open_end x) ∷ []) (ok.messages ++ message x.address from (Says_oack n) ∷ [])) (sym (own_oack (known ∷ agreed) agreeable)) shown_now in
     opening_keeps first strangers w v ok x report p (spells_own p (valid (λ e. cc))) says (at_server x.address refl) refl refl
     (record { phase = (refl, refl); held = empty_held request.mode; committed = λ _. refl }) refl o
@@ -193,7 +195,7 @@ refusing_keeps : (first : List Rule) (strangers : Bool) (w v : WorldState) (from
 refusing_keeps first strangers w v from reply ok e =
     subst (λ (z : WorldState). IsOkWithin 3 first strangers z) (sym e)
     (saying_keeps first strangers w ok request_port from (error_bytes reply) (error_packet reply) (spells_own (error_packet reply) (valid_error reply))
-    (says_error first (map view_of_end w.ends) ok.messages ok.shown request_port from) (at_server request_port refl))
+    (says_error two_hosts first (map view_of_end w.ends) ok.messages ok.shown request_port from) (at_server request_port refl))
 
 -- either way of a test
 if_served : {A : Type 0} (P : A → Type 0) (b : Bool) (r s : A) → (b ≡ true → P r) → (b ≡ false → P s) → P (if b then r else s)
@@ -220,7 +222,7 @@ asked_so messages ends from bytes repeated decoded come spelled same false r e n
 
 module _ (first : List Rule) (strangers : Bool) (w v : WorldState) (from : Endpoint) (bytes : List ℕ) (report : Report) (ok : IsOkAt first strangers w) where
   abbrev Kept_by : Service → Type 0
-  Kept_by service = Serves service w from bytes report v → IsOkWithin 3 first strangers v
+  Kept_by service = ServiceStep service w from bytes report v → IsOkWithin 3 first strangers v
 
   refused : (reply : ErrorReply) → Kept_by (Refused reply)
   refused reply h = refusing_keeps first strangers w v from reply ok h.1
@@ -239,10 +241,10 @@ module _ (first : List Rule) (strangers : Bool) (w v : WorldState) (from : Endpo
       let fits : Fits (wire_text mode file) (size agreed) = measured_fits mode file (size agreed) b.1 few in
       let small = let c = b.1 in let l : m < 65535 * MAX_BLOCK = omega arith in l in
       let same : o.0 ≡ file = same_Some o.0 file (sym o.1 ∙ there) in
-      subst (λ (n : Mode). Fits (wire_text n file) (size agreed) → Opens w (sending_end w from bytes n path file agreed) report v → IsOkWithin 3 first strangers v) come.1
+      subst (λ (n : Mode). Fits (wire_text n file) (size agreed) → OpeningStep w (sending_end w from bytes n path file agreed) report v → IsOkWithin 3 first strangers v) come.1
       (sending_keeps first strangers w v from bytes come.0 path file agreed report ok come.2 agreeable
       (λ some. valid_oack kinds.Read mode m w.limits options agreed (omega (arith, small)) ok.max_block e some)) fits
-      (subst (λ (g : List ℕ). Opens w (sending_end w from bytes mode path g agreed) report v) same o.2))
+      (subst (λ (g : List ℕ). OpeningStep w (sending_end w from bytes mode path g agreed) report v) same o.2))
       (λ f. refused FileTooLarge)
 
   reading_served : (path : List ℕ) (mode : Mode) (options : List RawOption) (there : Option (List ℕ)) → WasAsked ok.messages w.ends from bytes false mode →
@@ -254,7 +256,7 @@ module _ (first : List Rule) (strangers : Bool) (w v : WorldState) (from : Endpo
   taking_served : (path : List ℕ) (mode : Mode) (options : List RawOption) (there : Option (List ℕ)) (agreed : List Known) → WasAsked ok.messages w.ends from bytes true mode →
       answer options kinds.Write mode 0 w.limits ≡ Ok agreed → Kept_by (by_draft path mode agreed (begun_of there))
   taking_served path mode options None agreed come e =
-      subst (λ (n : Mode). Opens w (receiving_end w from bytes n path agreed) report v → IsOkWithin 3 first strangers v) come.1
+      subst (λ (n : Mode). OpeningStep w (receiving_end w from bytes n path agreed) report v → IsOkWithin 3 first strangers v) come.1
       (taking_keeps first strangers w v from bytes come.0 path agreed report ok come.2 (answered_values kinds.Write mode 0 w.limits options agreed ok.max_block e)
       (λ some. valid_oack kinds.Write mode 0 w.limits options agreed (omega arith) ok.max_block e some))
   taking_served path mode options (Some file) agreed come e = refused FileExists

@@ -14,29 +14,33 @@ use Rattle.tftp_negotiate.specs.Ranges.{IsBlockSize}
 use Rattle.tftp_ends.specs.declared.phase.Phase.{Phase}
 use Rattle.tftp_ends.specs.declared.phase.Phase.TheVariants.{Waiting, Sending, Receiving, Dallying, Closed}
 use Rattle.tftp_ends.specs.End.{is_sender, is_client}
-use Rattle.tftp_ends.specs.Action.{Decodes, timeout_response}
+use Rattle.tftp_ends.specs.Action.{Decodes}
 use Rattle.tftp_ends.specs.Step.{timeout_turn}
 use Rattle.tftp_machine.specs.Hosts.{host_of, two_hosts}
 use Rattle.tftp_machine.specs.Machine.{Endpoint, Elsewhere, Message}
 use Rattle.tftp_machine.specs.Rules.{Rule, message}
-use Rattle.tftp_player.specs.Said.{said}
+use Rattle.tftp_machine.specs.Said.{said}
+use Rattle.tftp_machine.specs.OpenEnds.{OpenEnd, files_of, open_view}
+use Rattle.tftp_machine.specs.EndKept.{PhaseKept}
+use Rattle.tftp_machine.specs.EndShown.{Stands, IsOpenAt, IsThere}
+use Rattle.tftp_machine.proofs.Actions.{strays}
+use Rattle.tftp_machine.proofs.SaidLemmas.{says_spelled}
+use Rattle.tftp_machine.proofs.EndTurns.{datagram_goes, timeout_goes}
 use Rattle.tftp_machine.specs.Shows.{EndView, IsShownAt, IsShownWithin, IsShown}
-use Rattle.tftp_player.specs.World.{WorldState, OpenEnd, WorldEnd, Open_end, Closed_end, StoredFile, file_at, in_the_way, datagram, files_of, new_world, view_of_end}
-use Rattle.tftp_player.specs.WorldSteps.{may_refuse_commit, OnDatagram, Arrives, At_request_port, At_open_end, At_closed_end, At_nobody, TimesOut, armed_end, WorldStep}
-use Rattle.tftp_player.specs.WorldKept.{PhaseKept, IsKeptIn, IsOkAt, IsOkWithin, IsOk}
-use Rattle.tftp_player.specs.WorldRuns.{Runs, MayHappen, MayAllHappen, StepsKeep, StepsAreRules, most_rules}
+use Rattle.tftp_player.specs.World.{WorldState, WorldEnd, Open_end, Closed_end, StoredFile, file_at, in_the_way, datagram, new_world, view_of_end}
+use Rattle.tftp_player.specs.WorldSteps.{may_refuse_commit, OnDatagram, Arrives, At_request_port, At_open_end, At_closed_end, At_nobody, TimeoutStep, armed_end, WorldStep}
+use Rattle.tftp_player.specs.WorldKept.{IsKeptIn, IsOkAt, IsOkWithin, IsOk}
+use Rattle.tftp_player.specs.WorldRuns.{PlaysAll, MayHappen, MayAllHappen, StepsKeep, StepsAreRules, most_rules}
 use Rattle.tftp_player.specs.WorldSafety.{HasPeersAtHome}
 use Rattle.tftp_player.specs.declared.datagram.Datagram.{Datagram}
 use Rattle.tftp_player.specs.declared.event.Event.{Event}
 use Rattle.tftp_player.specs.declared.event.Event.TheVariants.{Get, Put, Deliver, Timeout, RefuseStore, Stray}
 use Rattle.tftp_player.specs.declared.report.Report.{Report}
 use Rattle.tftp_machine.proofs.Indices.{slice_get-set_cases}
-use Rattle.tftp_player.proofs.Standing.{open_view, open_is}
-use Rattle.tftp_player.proofs.Actions.{Stands, strays}
+use Rattle.tftp_player.proofs.Standing.{open_is}
 use Rattle.tftp_machine.proofs.Shown.{shown_start, shown_within}
 use Rattle.tftp_machine.proofs.ViewSafe.{shown_at_home}
-use Rattle.tftp_player.proofs.EndMoves.{IsThere, from_response}
-use Rattle.tftp_player.proofs.EndTurns.{by_datagram, by_timeout}
+use Rattle.tftp_player.proofs.KnownSteps.{from_server, known_step}
 use Rattle.tftp_player.proofs.WorldTurns.{ports_set, nothing_in, one_in, turn_keeps, view_at}
 use Rattle.tftp_player.proofs.WorldKeeps.{reading_keeps, writing_keeps, serving_keeps, asked_so, stays_ok, none_more, shown_as}
 
@@ -62,27 +66,32 @@ there_now first strangers w ok from to bytes i =
     let h = ok.sent (datagram from to bytes) i in
     (h.1.packet, h.1.spells, subst (λ (m : Message). Contains ok.messages m) h.1.says h.2)
 
-pub says_spelled : (bytes : List ℕ) (decoded : Option WirePacket) → Decodes bytes decoded → (p : WirePacket) → decoded ≡ Some p → Spells p bytes
-says_spelled bytes (Some q) s p e = subst (λ (z : WirePacket). Spells z bytes) (same_Some q p e) s
-says_spelled bytes None s p e = absurd (let f : None ≡ Some p = e in cc)
-
 module _ (first : List Rule) (strangers : Bool) (w v : WorldState) (ok : IsOkAt first strangers w) (report : Report) where
   -- an open end is among all that is shown
-  stands : (k : ℕ) (x : OpenEnd) → slice_get w.ends k ≡ Some (Open_end x) → Stands first (map view_of_end w.ends) ok.messages k (open_view x)
+  stands : (k : ℕ) (x : OpenEnd) → slice_get w.ends k ≡ Some (Open_end x) → Stands two_hosts first (map view_of_end w.ends) ok.messages k (open_view x)
   stands k x at = record {
     shown = ok.shown;
     viewed = view_at w.ends k (Open_end x) at ∙ ap (λ (v : EndView). Some v) (open_is x (ap is_some (ok.ends k (Open_end x) at).stands.still));
   }
 
+  -- with what holds of it
+  open_now : (k : ℕ) (x : OpenEnd) → slice_get w.ends k ≡ Some (Open_end x) → IsOpenAt two_hosts first (map view_of_end w.ends) ok.messages k x
+  open_now k x at =
+      let here = (ok.ends k (Open_end x) at).stands in
+      record {
+        stands = stands k x at;
+        kept = here.kept;
+        still = ap is_some here.still;
+        last_sent = there_now first strangers w ok x.address x.state.position.last_sent_to x.state.position.last_sent here.last_sent;
+      }
+
   -- how an end handled a datagram keeps the world
   datagram_keeps : (k : ℕ) (x : OpenEnd) (from : Endpoint) (bytes : List ℕ) → slice_get w.ends k ≡ Some (Open_end x) →
       ((p : WirePacket) → Spells p bytes → Contains ok.messages (message from x.address (said p))) → OnDatagram w k x from bytes report v → IsOkWithin 3 first strangers v
   datagram_keeps k x from bytes at come h =
-      let here = (ok.ends k (Open_end x) at).stands in
-      let spelled = says_spelled bytes h.steps.decoded h.steps.says in
-      let old = there_now first strangers w ok x.address x.state.position.last_sent_to x.state.position.last_sent here.last_sent in
-      let goes_now = by_datagram first (map view_of_end w.ends) ok.messages k x (may_refuse_commit (is_client x.state.role.side) (in_the_way w.overwrite (file_at w.files x.path))) from bytes h.steps.decoded spelled
-      (λ p e. come p (spelled p e)) old x.state.position.phase (stands k x at) here.kept (ap is_some here.still) h.turn h.held h.steps.acts in
+      let may_commit = may_refuse_commit (is_client x.state.role.side) (in_the_way w.overwrite (file_at w.files x.path)) in
+      let goes_now = datagram_goes two_hosts first (map view_of_end w.ends) ok.messages k x from bytes h.turn h.held (open_now k x at) come (from_server x from bytes)
+      (known_step may_commit from bytes x.state (files_of x) h.turn h.held h.steps) in
       turn_keeps first strangers w v ok k x h.turn h.held report at goes_now h.turns
 
   -- a datagram that arrived keeps the world
@@ -98,14 +107,11 @@ module _ (first : List Rule) (strangers : Bool) (w v : WorldState) (ok : IsOkAt 
   arrives_keeps from to bytes come (At_nobody away nobody_there s) = stays_ok first strangers w v report ok s
 
   -- a timeout keeps the world
-  timeout_keeps : (k : ℕ) (x : WorldEnd) → slice_get w.ends k ≡ Some x → TimesOut w k x report v → IsOkWithin 3 first strangers v
+  timeout_keeps : (k : ℕ) (x : WorldEnd) → slice_get w.ends k ≡ Some x → TimeoutStep w k x report v → IsOkWithin 3 first strangers v
   timeout_keeps k (Closed_end x) at s = stays_ok first strangers w v report ok s
   timeout_keeps k (Open_end x) at t =
-      let here = (ok.ends k (Open_end x) at).stands in
-      let old = there_now first strangers w ok x.address x.state.position.last_sent_to x.state.position.last_sent here.last_sent in
-      let g = by_timeout first (map view_of_end w.ends) ok.messages k x old x.state.position.phase (stands k x at) here.kept (ap is_some here.still) in
       turn_keeps first strangers w v ok k x (timeout_turn x.state) (files_of x) report at
-      (from_response first (map view_of_end w.ends) ok.messages k x (timeout_response x.state.position.retries_left x.state.position.phase) x.state.position.last_sent_to (timeout_turn x.state) (files_of x) g (refl, refl)) t
+      (timeout_goes two_hosts first (map view_of_end w.ends) ok.messages k x (open_now k x at)) t
 
 -- what is to be refused is not shown of an end
 armed_open : (b : Bool) (x : OpenEnd) → view_of_end (Open_end (if b then x else record x { refuses = true })) ≡ view_of_end (Open_end x)
@@ -116,7 +122,7 @@ armed_view : (x : WorldEnd) → view_of_end (armed_end x) ≡ view_of_end x
 armed_view (Open_end x) = armed_open (is_sender x.state.role.side) x
 armed_view (Closed_end x) = refl
 
-phase_armed : (phase : Phase) (x : OpenEnd) → PhaseKept x phase → PhaseKept (record x { refuses = true }) phase
+phase_armed : (phase : Phase) (x : OpenEnd) → PhaseKept two_hosts x phase → PhaseKept two_hosts (record x { refuses = true }) phase
 phase_armed (Waiting asked limit) x h = h
 phase_armed (Sending terms number) x h = record {
   sender = h.sender;
@@ -181,7 +187,7 @@ stray_ok first w ok from to p far =
     let m = message from to (said p) in
     record {
       messages = ok.messages ++ m ∷ [];
-      shown = strays first (map view_of_end w.ends) ok.messages ok.shown m far;
+      shown = strays two_hosts first (map view_of_end w.ends) ok.messages ok.shown m far;
       sent = λ d i. let h = ok.sent d i in (h.0, h.1, Contains-append_left ok.messages (m ∷ []) h.0 h.2);
       only = λ n i. elim (Contains-append_cases ok.messages (m ∷ []) n i) [
         | inl o ↦ ok.only n o
@@ -263,7 +269,7 @@ step_keeps strangers w v event report may ok s =
     shown_as (IsShownWithin two_hosts (most_rules event) ok.shown.0) (IsShown two_hosts) strangers v next (ok.shown.0 ++ next.shown.0, next.shown.2)
 
 -- so do all of them
-pub run_keeps : (strangers : Bool) (events : List Event) (w v : WorldState) → MayAllHappen strangers events → IsOk strangers w → Runs w events v → IsOk strangers v
+pub run_keeps : (strangers : Bool) (events : List Event) (w v : WorldState) → MayAllHappen strangers events → IsOk strangers w → PlaysAll w events v → IsOk strangers v
 run_keeps strangers [] w v may ok r = subst (λ (z : WorldState). IsOk strangers z) (sym r) ok
 run_keeps strangers (event ∷ events) w v may ok r = run_keeps strangers events r.0 v may.1 (step_keeps strangers w r.0 event r.1 may.0 ok r.2) r.3
 

@@ -17,13 +17,14 @@ use Rattle.tftp_machine.specs.Hosts.{host_of, server_ip, client_ip, two_hosts}
 use Rattle.tftp_machine.specs.Machine.{Endpoint, At_server, At_client, Elsewhere, is_same_ip}
 use Rattle.tftp_machine.specs.Shows.{EndView, Matches}
 use Rattle.tftp_machine.specs.ViewSafety.{IsAmong, IsSafeViews}
-use Rattle.tftp_player.specs.World.{WorldState, WorldEnd, Open_end, Closed_end, end_record, end_address, end_mode, end_file, end_stored, end_committed, end_text, new_world, goes_on, received_text, view_of_end}
+use Rattle.tftp_machine.specs.OpenEnds.{goes_on, received_text}
+use Rattle.tftp_machine.proofs.SinkMoves.{text_else}
+use Rattle.tftp_machine.proofs.SourceMoves.{text_if}
+use Rattle.tftp_player.specs.World.{WorldState, WorldEnd, Open_end, Closed_end, end_record, end_address, end_mode, end_file, end_stored, end_committed, end_text, new_world, view_of_end}
 use Rattle.tftp_player.specs.WorldSafety.{IsIn, endpoint_of_end, IsSafe}
 use Rattle.tftp_player.specs.WorldKept.{IsKeptIn, IsOk}
 use Rattle.tftp_player.specs.WorldRuns.{WorldsAreSafe, PeersStayHome, KeptIsSafe}
 use Rattle.tftp_player.proofs.HostBytes.{wire_beginning, wire_same}
-use Rattle.tftp_player.proofs.SourceMoves.{text_if}
-use Rattle.tftp_player.proofs.SinkMoves.{text_else}
 use Rattle.tftp_machine.proofs.Endpoints.{endpoint_from}
 use Rattle.tftp_machine.proofs.ViewSafe.{IsBeginningOf-trans, first_of_empty, shown_safe}
 use Rattle.tftp_player.proofs.WorldTurns.{view_at, viewed_at}
@@ -79,12 +80,12 @@ module _ (strangers : Bool) (w : WorldState) (ok : IsOk strangers w) where
   whole : (x : WorldEnd) → is_sender (end_record x).side ≡ false → (end_record x).complete ≡ true → end_text x ≡ wire_text (end_mode x) (end_stored x)
   whole (Open_end x) r d =
       let t = wire_text x.state.role.mode x.stored in
-      text_else (is_sender x.state.role.side) (wire_text x.state.role.mode x.file) (received_text x) r
+      text_else (is_sender x.state.role.side) (wire_text x.state.role.mode x.file) (received_text x.state x.stored) r
       ∙ ap (λ (b : Bool). if b then t ++ x.state.position.held else t) (complete_stops x.state.position.phase d)
   whole (Closed_end x) r d = text_else (is_sender x.recorded.side) (wire_text x.mode x.file) (wire_text x.mode x.stored) r
 
   sends : (x : WorldEnd) → is_sender (end_record x).side ≡ true → end_text x ≡ wire_text (end_mode x) (end_file x)
-  sends (Open_end x) s = text_if (is_sender x.state.role.side) (wire_text x.state.role.mode x.file) (received_text x) s
+  sends (Open_end x) s = text_if (is_sender x.state.role.side) (wire_text x.state.role.mode x.file) (received_text x.state x.stored) s
   sends (Closed_end x) s = text_if (is_sender x.recorded.side) (wire_text x.mode x.file) (wire_text x.mode x.stored) s
 
   committed : (x : WorldEnd) → IsKeptIn w x → is_sender (end_record x).side ≡ false → (end_record x).complete ≡ true → end_committed x ≡ true

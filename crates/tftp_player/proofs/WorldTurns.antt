@@ -16,18 +16,20 @@ use Rattle.tftp_ends.specs.Step.{Turn, Reply, after_turn}
 use Rattle.tftp_machine.specs.Hosts.{host_of, two_hosts}
 use Rattle.tftp_machine.specs.Machine.{Endpoint, Elsewhere, Message, Machine}
 use Rattle.tftp_machine.specs.Rules.{Rule, message}
-use Rattle.tftp_player.specs.Said.{said}
+use Rattle.tftp_machine.specs.Said.{said}
+use Rattle.tftp_machine.specs.OpenEnds.{OpenEnd, with_files, end_after}
+use Rattle.tftp_machine.specs.EndKept.{EndKept}
 use Rattle.tftp_machine.specs.Facts.{home, Holds}
 use Rattle.tftp_machine.specs.Recorded.{AreRecorded}
 use Rattle.tftp_machine.specs.Shows.{EndView, Shows, IsShownWithin}
+use Rattle.tftp_machine.specs.EndShown.{Goes, Replies, Newest}
 use Rattle.tftp_machine.proofs.Shown.{shown_by}
-use Rattle.tftp_player.specs.World.{WorldState, OpenEnd, WorldEnd, Open_end, Closed_end, end_address, end_path, end_stored, StoredFile, file_at, in_the_way, datagram, replied, standing, end_after, with_files, has_committed, world_after, opened_in, said_in, view_of_end}
-use Rattle.tftp_player.specs.WorldSteps.{FilesAfter, Turns, Opens}
-use Rattle.tftp_player.specs.WorldKept.{HasPorts, EndKept, IsOpenIn, StandsIn, IsKeptIn, SaysSo, MaySpeak, IsOkAt, IsOkWithin}
+use Rattle.tftp_player.specs.World.{WorldState, WorldEnd, Open_end, Closed_end, end_address, end_path, end_stored, StoredFile, file_at, in_the_way, datagram, replied, standing, has_committed, world_after, opened_in, said_in, view_of_end}
+use Rattle.tftp_player.specs.WorldSteps.{FilesAfter, Turns, OpeningStep}
+use Rattle.tftp_player.specs.WorldKept.{HasPorts, IsOpenIn, StandsIn, IsKeptIn, SaysSo, MaySpeak, IsOkAt, IsOkWithin}
 use Rattle.tftp_player.specs.declared.datagram.Datagram.{Datagram}
 use Rattle.tftp_player.specs.declared.report.Report.{Report}
 use Rattle.tftp_machine.proofs.Indices.{slice_get-set_cases, slice_get-push_cases}
-use Rattle.tftp_player.proofs.EndMoves.{Goes, Replies, Newest}
 use Rattle.tftp_player.proofs.Standing.{standing_address, standing_shown, standing_kept}
 
 pub nothing_in : {X : Type 0} (x : X) → Contains [] x → ⊥
@@ -177,7 +179,7 @@ complete_then false client old_committed new_committed o n c =
 
 -- a turn of an end keeps the world
 pub turn_keeps : (first : List Rule) (strangers : Bool) (w v : WorldState) (ok : IsOkAt first strangers w) (k : ℕ) (x : OpenEnd) (turn : Turn) (held : Files (List ℕ) Holding) (report : Report) →
-    slice_get w.ends k ≡ Some (Open_end x) → Goes first (map view_of_end w.ends) ok.messages k x turn (end_after x turn held) → Turns w k x turn held report v → IsOkWithin 3 first strangers v
+    slice_get w.ends k ≡ Some (Open_end x) → Goes two_hosts first (map view_of_end w.ends) ok.messages k x turn (end_after x turn held) → Turns w k x turn held report v → IsOkWithin 3 first strangers v
 turn_keeps first strangers w v ok k x turn held report at g t = subst (λ (z : WorldState). IsOkWithin 3 first strangers z) (sym t.is) later where
   was : IsOpenIn w x
   was = (ok.ends k (Open_end x) at).stands
@@ -237,7 +239,7 @@ turn_keeps first strangers w v ok k x turn held report at g t = subst (λ (z : W
 -- an end that opened keeps the world
 pub opening_keeps : (first : List Rule) (strangers : Bool) (w v : WorldState) (ok : IsOkAt first strangers w) (x : OpenEnd) (report : Report) (p : WirePacket) →
     Spells p x.state.position.last_sent → IsShownWithin two_hosts 3 first (map view_of_end w.ends ++ view_of_end (Open_end x) ∷ []) (ok.messages ++ message x.address x.state.position.last_sent_to (said p) ∷ []) →
-    host_of x.address ≢ Elsewhere → x.address.port ≡ 1024 + length w.ends → outcome_of x.state.position.phase ≡ None → EndKept x → is_complete x.state.position.phase ≡ false → Opens w x report v → IsOkWithin 3 first strangers v
+    host_of x.address ≢ Elsewhere → x.address.port ≡ 1024 + length w.ends → outcome_of x.state.position.phase ≡ None → EndKept two_hosts x → is_complete x.state.position.phase ≡ false → OpeningStep w x report v → IsOkWithin 3 first strangers v
 opening_keeps first strangers w v ok x report p spells shown own port still kept incomplete o = subst (λ (z : WorldState). IsOkWithin 3 first strangers z) (sym o.is) later where
   later : IsOkWithin 3 first strangers (opened_in w x)
   later =

@@ -5,7 +5,7 @@ use Rattle.tftp_ends.specs.End.{is_sender}
 use Rattle.tftp_server.specs.declared.config.Config.{Config}
 use Rattle.tftp_player.specs.World.{WorldState, WorldEnd, end_record, end_address, end_file}
 use Rattle.tftp_player.specs.World.{end_stored, StoredFile, new_world}
-use Rattle.tftp_player.specs.WorldRuns.{Runs}
+use Rattle.tftp_player.specs.WorldRuns.{PlaysAll}
 use Rattle.tftp_player.specs.WorldSafety.{IsIn, IsReceiver, HasPeer, IsComplete}
 use Rattle.tftp_player.specs.declared.event.Event.{Event}
 
@@ -44,4 +44,4 @@ pub record IsTransferred (w : WorldState) (bytes : List ℕ) : Type 0 where
 abbrev pub Transfers : Event → List ℕ → Type 0
 Transfers opening bytes =
     (files : List StoredFile) × (config : Config) × (events : List Event) × (w : WorldState)
-    × Runs (new_world files config) (opening ∷ events) w × IsTransferred w bytes
+    × PlaysAll (new_world files config) (opening ∷ events) w × IsTransferred w bytes

@@ -1,4 +1,3 @@
-pub mod Said
 pub mod Fault
 pub mod World
 pub mod Openings

@@ -11,7 +11,8 @@ pub use Rattle.tftp_ends.specs.Opening.{request_of, getting, putting, serving_re
 pub use Rattle.tftp_ends.specs.Opening.{MayGet, MayPut}
 use Rattle.tftp_machine.specs.Hosts.{request_port}
 use Rattle.tftp_machine.specs.Machine.{Endpoint}
-use Rattle.tftp_player.specs.World.{WorldState, OpenEnd, next_port, ip_of}
+use Rattle.tftp_machine.specs.OpenEnds.{OpenEnd}
+use Rattle.tftp_player.specs.World.{WorldState, next_port, ip_of}
 
 -- an end as it opens at the next port, for this request and the file at a path, with this text left
 abbrev pub opening : WorldState → EndState → List ℕ → List ℕ → List ℕ → List ℕ → OpenEnd

@@ -11,12 +11,13 @@ use Rattle.tftp_ends.specs.Step.{timeout_turn}
 use Rattle.tftp_server.specs.State.{at, draft_of, draft_at}
 use Rattle.tftp_store.specs.Store.{Drafted, new_draft}
 use Rattle.tftp_machine.specs.Machine.{Endpoint}
+use Rattle.tftp_machine.specs.OpenEnds.{OpenEnd}
 use Rattle.tftp_player.specs.Clients.{client_at, server_at, left_in, holding_in, ClientTurns}
 use Rattle.tftp_player.specs.Clients.{ClientDatagramStep, stored_by, armed_client}
 use Rattle.tftp_player.specs.PlayedClient.{PlayedClient}
 use Rattle.tftp_player.specs.Serving.{PlayedServer, Transfer, ServedKept, ServedTimeoutStep}
 use Rattle.tftp_player.specs.Serving.{ServedDatagramStep}
-use Rattle.tftp_player.specs.World.{OpenEnd, ClosedEnd, WorldEnd, Open_end, Closed_end, end_record}
+use Rattle.tftp_player.specs.World.{ClosedEnd, WorldEnd, Open_end, Closed_end, end_record}
 use Rattle.tftp_player.specs.World.{standing}
 use Rattle.tftp_player.specs.declared.effect.Effect.{Effect}
 use Rattle.tftp_player.specs.declared.player.Player.{Player}

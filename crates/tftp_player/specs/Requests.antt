@@ -10,8 +10,9 @@ use Rattle.tftp_ends.specs.End.{is_client}
 use Rattle.tftp_server.specs.Port.{Ask, Service, answered, asks}
 use Rattle.tftp_store.specs.Store.{measured}
 use Rattle.tftp_machine.specs.Machine.{Endpoint}
-use Rattle.tftp_player.specs.World.{WorldState, OpenEnd, WorldEnd, Open_end, Closed_end, file_at}
-use Rattle.tftp_player.specs.World.{in_the_way, peer_of}
+use Rattle.tftp_machine.specs.OpenEnds.{OpenEnd, peer_of}
+use Rattle.tftp_player.specs.World.{WorldState, WorldEnd, Open_end, Closed_end, file_at}
+use Rattle.tftp_player.specs.World.{in_the_way}
 
 -- an open end of the server
 abbrev pub is_transfer : WorldEnd → Bool

@@ -16,10 +16,11 @@ use Rattle.tftp_ends.specs.declared.outcome.Outcome.{Outcome}
 use Rattle.tftp_ends.specs.declared.outcome.Outcome.TheVariants.{StoreFault}
 use Rattle.tftp_ends.specs.Action.{Decodes}
 use Rattle.tftp_server.specs.Port.{Service, Sends, Takes}
+use Rattle.tftp_machine.specs.OpenEnds.{OpenEnd}
 use Rattle.tftp_player.specs.Openings.{reading_client, writing_client}
 use Rattle.tftp_player.specs.Requests.{IsRepeated, service}
 use Rattle.tftp_player.specs.Settling.{Settled}
-use Rattle.tftp_player.specs.World.{WorldState, OpenEnd, WorldEnd, end_record, file_at}
+use Rattle.tftp_player.specs.World.{WorldState, WorldEnd, end_record, file_at}
 use Rattle.tftp_player.specs.WorldKept.{IsOk}
 use Rattle.tftp_player.specs.WorldSafety.{IsComplete}
 use Rattle.tftp_player.specs.WorldSteps.{WorldStep, Settles}

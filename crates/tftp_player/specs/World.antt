@@ -1,6 +1,6 @@
 -- The world: all that was sent, the server's files, and every end that was ever opened.
 use Rattle.std.specs.Prelude.{ℕ, ◌+◌, ◌&&◌, not, Bool, true, false, if◌then◌else◌, List, [], ◌∷◌}
-use Rattle.std.specs.Prelude.{◌++◌, length, slice_set, Option, Some, None, option_map}
+use Rattle.std.specs.Prelude.{◌++◌, length, slice_set, Option, Some, None}
 use Rattle.std.specs.BTreeMap.{is_at}
 use Rattle.std.specs.Cmp.Lexicographic.{slice_cmp}
 use Rattle.std.specs.Map.{lookup}
@@ -9,19 +9,16 @@ use Rattle.tftp_wire.specs.declared.mode.Mode.{Mode}
 use Rattle.tftp_negotiate.specs.declared.limits.Limits.{Limits}
 use Rattle.tftp_server.specs.declared.config.Config.{Config}
 use Rattle.tftp_file.specs.declared.files.Files.{Files}
-use Rattle.tftp_file.specs.declared.files.Files.TheVariants.{Source, Sink}
 use Rattle.tftp_file.specs.Netascii.{wire_text}
 use Rattle.tftp_file.specs.Sink.{Holding}
 use Rattle.tftp_ends.specs.declared.outcome.Outcome.{Outcome}
-use Rattle.tftp_ends.specs.declared.phase.Phase.{Phase}
-use Rattle.tftp_ends.specs.declared.phase.Phase.TheVariants.{Waiting, Sending, Receiving, Dallying}
-use Rattle.tftp_ends.specs.declared.phase.Phase.TheVariants.{Closed}
 use Rattle.tftp_ends.specs.declared.record.Record.{Record}
 use Rattle.tftp_ends.specs.declared.side.Side.{Side}
-use Rattle.tftp_ends.specs.End.{EndState, is_sender, is_client, terms_of, outcome_of, record_of}
-use Rattle.tftp_ends.specs.Step.{Turn, Reply, after_turn}
+use Rattle.tftp_ends.specs.End.{is_sender, is_client, outcome_of, record_of}
+use Rattle.tftp_ends.specs.Step.{Turn, Reply}
 use Rattle.tftp_machine.specs.Hosts.{server_ip, client_ip}
 use Rattle.tftp_machine.specs.Machine.{Endpoint}
+use Rattle.tftp_machine.specs.OpenEnds.{OpenEnd, end_after, text_of}
 use Rattle.tftp_machine.specs.Shows.{EndView}
 use Rattle.tftp_player.specs.declared.datagram.Datagram.{Datagram}
 use Rattle.tftp_player.specs.declared.report.Report.{Report}
@@ -38,24 +35,6 @@ file_at files path = lookup (is_at (slice_cmp nat_cmp path)) files
 abbrev pub in_the_way : Bool → Option (List ℕ) → Option (List ℕ)
 in_the_way true there = None
 in_the_way false there = there
-
--- an open end: its role and its position, and the file that it sends or receives
-pub record OpenEnd : Type 0 where
-  pub address : Endpoint
-  pub state : EndState
-  -- the path of a server's end
-  pub path : List ℕ
-  -- the file of a sender, as its host stores it
-  pub file : List ℕ
-  -- the wire text that a sender's source has left
-  pub left : List ℕ
-  -- what a receiver has stored, as its host stores it
-  pub stored : List ℕ
-  pub committed : Bool
-  -- a receiver's next append or commit is to be refused
-  pub refuses : Bool
-  -- the request that opened an end of the server
-  pub request : List ℕ
 
 -- a closed end: its endpoint, its file or what it stored, and its record
 pub record ClosedEnd : Type 0 where
@@ -156,28 +135,6 @@ abbrev pub replied : Endpoint → Option Reply → List Datagram
 replied from None = []
 replied from (Some reply) = datagram from reply.to reply.bytes ∷ []
 
--- what a receiver's sink holds
-abbrev pub holding_of : OpenEnd → Holding
-holding_of x = record { bytes = x.stored; committed = x.committed; refuses = x.refuses }
-
--- the file of an end
-abbrev pub files_of : OpenEnd → Files (List ℕ) Holding
-files_of x = if is_sender x.state.role.side then Source x.left else Sink (holding_of x)
-
--- the end, with these bytes left of its source or held by its sink
-abbrev pub with_files : OpenEnd → Files (List ℕ) Holding → OpenEnd
-with_files x (Source left) = record x { left = left }
-with_files x (Sink holding) =
-    record x { stored = holding.bytes; committed = holding.committed; refuses = holding.refuses }
-
--- the end in another state
-abbrev pub in_state : EndState → OpenEnd → OpenEnd
-in_state state x = record x { state = state }
-
--- the end after a turn
-abbrev pub end_after : OpenEnd → Turn → Files (List ℕ) Holding → OpenEnd
-end_after x turn files = with_files (in_state (after_turn x.state turn) x) files
-
 -- the record of an end that closes, with the state that is kept
 abbrev pub closed_end : OpenEnd → ClosedEnd
 closed_end x =
@@ -253,26 +210,6 @@ said_in w d = record w { sent = w.sent ++ d ∷ [] }
 abbrev pub sent_report : WorldState → Report
 sent_report w = record { added = Some (length w.sent); closed = None }
 
--- neither complete nor closed
-abbrev pub goes_on : Phase → Bool
-goes_on (Waiting asked limit) = true
-goes_on (Sending terms number) = true
-goes_on (Receiving terms number) = true
-goes_on (Dallying terms number dally) = false
-goes_on (Closed terms number complete outcome) = false
-
--- what a receiver has of its peer's text: what it stored, as wire text, and the text held back
-abbrev pub received_text : OpenEnd → List ℕ
-received_text x =
-    if goes_on x.state.position.phase
-    then wire_text x.state.role.mode x.stored ++ x.state.position.held
-    else wire_text x.state.role.mode x.stored
-
--- a sender's text, or what a receiver has of its peer's
-abbrev pub text_of : OpenEnd → List ℕ
-text_of x =
-    if is_sender x.state.role.side then wire_text x.state.role.mode x.file else received_text x
-
 -- the same of a closed end, which holds back no text
 abbrev pub closed_text : ClosedEnd → List ℕ
 closed_text x =
@@ -286,10 +223,6 @@ end_text (Closed_end x) = closed_text x
 abbrev pub end_request : WorldEnd → List ℕ
 end_request (Open_end x) = x.request
 end_request (Closed_end x) = []
-
--- the endpoint of the other end
-abbrev pub peer_of : Phase → Option Endpoint
-peer_of phase = option_map (λ t. t.peer) (terms_of phase)
 
 -- an end as the machine shows it: it has failed if it is closed and not complete
 abbrev pub view_of_end : WorldEnd → EndView

@@ -1,78 +1,27 @@
 -- The invariant of every world, which makes it safe.
-use Rattle.std.specs.Prelude.{◌≡◌, ◌≢◌, ℕ, ◌+◌, ◌*◌, ◌<◌, ◌≤◌, ◌⊎◌, Bool, true, false, List, []}
-use Rattle.std.specs.Prelude.{map, length, drop, slice_get, Some, None}
+use Rattle.std.specs.Prelude.{◌≡◌, ◌≢◌, ℕ, ◌+◌, ◌⊎◌, Bool, true, false, List, map, slice_get}
+use Rattle.std.specs.Prelude.{Some, None}
 use Rattle.std.specs.List.{Contains}
-use Rattle.tftp_wire.specs.declared.limits.TheConstants.{MAX_BLOCK}
-use Rattle.tftp_wire.specs.declared.mode.Mode.{Mode}
-use Rattle.tftp_wire.specs.declared.mode.Mode.TheVariants.{Octet, Netascii}
 use Rattle.tftp_wire.specs.declared.packet.Packet.{Packet as WirePacket}
 use Rattle.tftp_wire.specs.Spelling.{Spells}
-use Rattle.tftp_negotiate.specs.Asked.{IsAskable}
 use Rattle.tftp_negotiate.specs.Ranges.{IsBlockSize}
-use Rattle.tftp_file.specs.Block.{block_count, Fits}
-use Rattle.tftp_file.specs.Netascii.{wire_text}
-use Rattle.tftp_ends.specs.declared.phase.Phase.{Phase}
-use Rattle.tftp_ends.specs.declared.phase.Phase.TheVariants.{Waiting, Sending, Receiving, Dallying}
-use Rattle.tftp_ends.specs.declared.phase.Phase.TheVariants.{Closed}
-use Rattle.tftp_ends.specs.declared.phase.Terms.{Terms}
-use Rattle.tftp_ends.specs.End.{is_sender, is_client, is_complete, outcome_of}
-use Rattle.tftp_machine.specs.Hosts.{host_of, request_port, two_hosts}
+use Rattle.tftp_ends.specs.End.{is_sender, is_client, outcome_of}
+use Rattle.tftp_machine.specs.EndKept.{EndKept}
+use Rattle.tftp_machine.specs.Hosts.{host_of, two_hosts}
 use Rattle.tftp_machine.specs.Machine.{Endpoint, Elsewhere, Message}
+use Rattle.tftp_machine.specs.OpenEnds.{OpenEnd}
 use Rattle.tftp_machine.specs.Rules.{Rule, message}
-use Rattle.tftp_player.specs.Said.{said}
+use Rattle.tftp_machine.specs.Said.{said}
 use Rattle.tftp_machine.specs.Shows.{EndView, IsShownAt, IsShown, IsShownWithin}
-use Rattle.tftp_player.specs.World.{WorldState, OpenEnd, ClosedEnd, WorldEnd, Open_end, Closed_end}
+use Rattle.tftp_player.specs.World.{WorldState, ClosedEnd, WorldEnd, Open_end, Closed_end}
 use Rattle.tftp_player.specs.World.{end_record, end_address, end_path, end_stored, file_at}
 use Rattle.tftp_player.specs.World.{datagram, view_of_end}
 use Rattle.tftp_player.specs.declared.datagram.Datagram.{Datagram}
 
--- the wire text of a sender's file
-abbrev pub sent_text : OpenEnd → List ℕ
-sent_text x = wire_text x.state.role.mode x.file
-
--- a sender at this block: its source has left the text after it
-pub record IsUnderWay (x : OpenEnd) (terms : Terms) (number : ℕ) : Type 0 where
-  pub sender : is_sender x.state.role.side ≡ true
-  pub positive : 0 < terms.size
-  pub size : terms.size ≤ MAX_BLOCK
-  pub fits : Fits (sent_text x) terms.size
-  pub so_far : number ≤ block_count (sent_text x) terms.size
-  pub left : x.left ≡ drop (number * terms.size) (sent_text x)
-  pub last_sent_to : x.state.position.last_sent_to ≡ terms.peer
-  -- its file is as long as it was measured
-  pub measured : x.state.role.length ≡ length (sent_text x)
-
--- what holds of an end in this phase
-abbrev pub PhaseKept : OpenEnd → Phase → Type 0
-PhaseKept x (Waiting asked limit) =
-    (is_client x.state.role.side ≡ true) × IsAskable asked
-    × (x.state.position.last_sent_to ≡ request_port) × (x.left ≡ sent_text x)
-    × (is_sender x.state.role.side ≡ false → x.state.position.held ≡ [])
-    × (is_sender x.state.role.side ≡ true → x.state.role.length ≡ length (sent_text x))
-PhaseKept x (Sending terms number) = IsUnderWay x terms number
-PhaseKept x (Receiving terms number) =
-    (is_sender x.state.role.side ≡ false) × (x.state.position.last_sent_to ≡ terms.peer)
-PhaseKept x (Dallying terms number dally) =
-    (is_sender x.state.role.side ≡ false) × (x.state.position.last_sent_to ≡ terms.peer)
-PhaseKept x (Closed terms number complete outcome) = Unit {0}
-
--- in octet no text is held back
-abbrev pub HeldFits : Mode → List ℕ → Type 0
-HeldFits Octet held = held ≡ []
-HeldFits Netascii held = Unit {0}
-
--- what holds of an end, for every list of sent datagrams
-pub record EndKept (x : OpenEnd) : Type 0 where
-  pub phase : PhaseKept x x.state.position.phase
-  pub held : HeldFits x.state.role.mode x.state.position.held
-  -- a receiver has committed what it stored exactly if it is complete
-  pub committed : is_sender x.state.role.side ≡ false
-      → x.committed ≡ is_complete x.state.position.phase
-
 -- what holds of an open end in its world
 pub record IsOpenIn (w : WorldState) (x : OpenEnd) : Type 0 where
   pub still : outcome_of x.state.position.phase ≡ None
-  pub kept : EndKept x
+  pub kept : EndKept two_hosts x
   -- its last datagram was sent
   pub last_sent : Contains w.sent
       (datagram x.address x.state.position.last_sent_to x.state.position.last_sent)

@@ -11,10 +11,11 @@ use Rattle.tftp_player.specs.declared.event.Event.TheVariants.{Stray}
 use Rattle.tftp_player.specs.declared.report.Report.{Report}
 
 -- the events happened one after another; a refused event changes nothing and is not listed
-abbrev pub Runs : WorldState → List Event → WorldState → Type 0
-Runs old [] new = new ≡ old
-Runs old (event ∷ events) new =
-    (mid : WorldState) × (report : Report) × WorldStep old event report mid × Runs mid events new
+abbrev pub PlaysAll : WorldState → List Event → WorldState → Type 0
+PlaysAll old [] new = new ≡ old
+PlaysAll old (event ∷ events) new =
+    (mid : WorldState) × (report : Report) × WorldStep old event report mid
+    × PlaysAll mid events new
 
 -- the event may happen, by whether there are strangers
 abbrev pub MayHappen : Bool → Event → Type 0
@@ -30,14 +31,14 @@ MayAllHappen strangers (event ∷ events) = MayHappen strangers event × MayAllH
 abbrev pub WorldsAreSafe : Type 0
 WorldsAreSafe =
     (files : List StoredFile) (config : Config) (events : List Event) (w : WorldState) →
-    IsBlockSize config.limits.max_block → Runs (new_world files config) events w → IsSafe w
+    IsBlockSize config.limits.max_block → PlaysAll (new_world files config) events w → IsSafe w
 
 -- without strangers every peer is at one of the two hosts
 abbrev pub PeersStayHome : Type 0
 PeersStayHome =
     (files : List StoredFile) (config : Config) (events : List Event) (w : WorldState) →
     IsBlockSize config.limits.max_block → MayAllHappen false events →
-    Runs (new_world files config) events w → HasPeersAtHome w
+    PlaysAll (new_world files config) events w → HasPeersAtHome w
 
 -- the invariant holds of a world in which nothing has happened
 abbrev pub NewWorldsBegin : Type 0

@@ -14,9 +14,10 @@ use Rattle.tftp_ends.specs.Action.{Decodes}
 use Rattle.tftp_ends.specs.Step.{Turn, DatagramStep, timeout_turn, error_bytes}
 use Rattle.tftp_machine.specs.Hosts.{host_of, request_port}
 use Rattle.tftp_machine.specs.Machine.{Endpoint, Elsewhere}
-use Rattle.tftp_player.specs.World.{StoredFile, file_at, in_the_way, OpenEnd, ClosedEnd, WorldEnd}
+use Rattle.tftp_machine.specs.OpenEnds.{OpenEnd, files_of, end_after}
+use Rattle.tftp_player.specs.World.{StoredFile, file_at, in_the_way, ClosedEnd, WorldEnd}
 use Rattle.tftp_player.specs.World.{Open_end, Closed_end, end_address, WorldState, next_port}
-use Rattle.tftp_player.specs.World.{datagram, files_of, end_after, has_committed, world_after}
+use Rattle.tftp_player.specs.World.{datagram, has_committed, world_after}
 use Rattle.tftp_player.specs.World.{report_of, no_report, opened_in, said_in, sent_report}
 use Rattle.tftp_player.specs.Openings.{reading_client, writing_client, MayGet, MayPut, sending_end}
 use Rattle.tftp_player.specs.Openings.{receiving_end}
@@ -90,7 +91,7 @@ pub record Stays (old : WorldState) (report : Report) (new : WorldState) : Type 
   pub is : new ≡ old
 
 -- an end opened, and sent its first datagram
-pub record Opens (old : WorldState) (x : OpenEnd) (report : Report)
+pub record OpeningStep (old : WorldState) (x : OpenEnd) (report : Report)
     (new : WorldState) : Type 0 where
   pub reports : report ≡ sent_report old
   pub is : new ≡ opened_in old x
@@ -100,16 +101,16 @@ abbrev pub HasPort : WorldState → Type 0
 HasPort w = next_port w ≤ 65535
 
 -- the effect of this service on a datagram at the request port
-abbrev pub Serves : Service → WorldState → Endpoint → List ℕ → Report → WorldState → Type 0
-Serves Silent old from bytes report new = Stays old report new
-Serves (Refused reply) old from bytes report new =
+abbrev pub ServiceStep : Service → WorldState → Endpoint → List ℕ → Report → WorldState → Type 0
+ServiceStep Silent old from bytes report new = Stays old report new
+ServiceStep (Refused reply) old from bytes report new =
     (report ≡ sent_report old)
     × (new ≡ said_in old (datagram request_port from (error_bytes reply)))
-Serves (Sends path mode length agreed) old from bytes report new =
+ServiceStep (Sends path mode length agreed) old from bytes report new =
     (file : List ℕ) × (file_at old.files path ≡ Some file)
-    × Opens old (sending_end old from bytes mode path file agreed) report new
-Serves (Takes path mode agreed) old from bytes report new =
-    Opens old (receiving_end old from bytes mode path agreed) report new
+    × OpeningStep old (sending_end old from bytes mode path file agreed) report new
+ServiceStep (Takes path mode agreed) old from bytes report new =
+    OpeningStep old (receiving_end old from bytes mode path agreed) report new
 
 -- a datagram arrived at an open end
 pub record OnDatagram (old : WorldState) (k : ℕ) (x : OpenEnd) (from : Endpoint) (bytes : List ℕ)
@@ -128,7 +129,7 @@ pub data Arrives (old : WorldState) (from to : Endpoint) (bytes : List ℕ) (rep
   At_request_port : (to ≡ request_port) → HasPort old →
       (decoded : Option Packet) → Decodes bytes decoded →
       (repeated : Bool) → IsRepeated repeated from decoded old.ends →
-      Serves (service old repeated bytes decoded) old from bytes report new →
+      ServiceStep (service old repeated bytes decoded) old from bytes report new →
       Arrives old from to bytes report new
   -- at an open end
   At_open_end : (k : ℕ) (x : OpenEnd) → slice_get old.ends k ≡ Some (Open_end x) → x.address ≡ to →
@@ -142,10 +143,10 @@ pub data Arrives (old : WorldState) (from to : Endpoint) (bytes : List ℕ) (rep
       Stays old report new → Arrives old from to bytes report new
 
 -- the effect of a timeout on the end at index k
-abbrev pub TimesOut : WorldState → ℕ → WorldEnd → Report → WorldState → Type 0
-TimesOut old k (Open_end x) report new =
+abbrev pub TimeoutStep : WorldState → ℕ → WorldEnd → Report → WorldState → Type 0
+TimeoutStep old k (Open_end x) report new =
     Turns old k x (timeout_turn x.state) (files_of x) report new
-TimesOut old k (Closed_end x) report new = Stays old report new
+TimeoutStep old k (Closed_end x) report new = Stays old report new
 
 -- a receiver, set to refuse its next append or commit; a sender is unchanged
 abbrev pub armed_to_refuse : OpenEnd → OpenEnd
@@ -164,14 +165,15 @@ pub record IsAtPort (w : WorldState) (port k : ℕ) (x : WorldEnd) : Type 0 wher
 -- the effect of an event that is not refused
 abbrev pub WorldStep : WorldState → Event → Report → WorldState → Type 0
 WorldStep old (Get name mode asked) report new =
-    HasPort old × MayGet name mode asked × Opens old (reading_client old name mode asked) report new
+    HasPort old × MayGet name mode asked
+    × OpeningStep old (reading_client old name mode asked) report new
 WorldStep old (Put name mode asked bytes) report new =
     HasPort old × MayPut name mode asked (length (wire_text mode bytes))
-    × Opens old (writing_client old name mode asked bytes) report new
+    × OpeningStep old (writing_client old name mode asked bytes) report new
 WorldStep old (Deliver i) report new =
     (d : Datagram) × (slice_get old.sent i ≡ Some d) × Arrives old d.from d.to d.bytes report new
 WorldStep old (Timeout port) report new =
-    (k : ℕ) × (x : WorldEnd) × IsAtPort old port k x × TimesOut old k x report new
+    (k : ℕ) × (x : WorldEnd) × IsAtPort old port k x × TimeoutStep old k x report new
 WorldStep old (RefuseStore port) report new =
     (k : ℕ) × (x : WorldEnd) × IsAtPort old port k x
     × (report ≡ no_report) × (new ≡ record old { ends = slice_set old.ends k (armed_end x) })

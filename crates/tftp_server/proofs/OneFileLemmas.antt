@@ -9,7 +9,7 @@ use Rattle.tftp_ends.specs.declared.endpoint.Endpoint.{Endpoint}
 use Rattle.tftp_ends.specs.declared.fault.EndFault.{EndFault}
 use Rattle.tftp_ends.specs.declared.record.Step.{Step}
 use Rattle.tftp_ends.specs.End.{EndState}
-use Rattle.tftp_ends.specs.Files.{AreSame, KeepsFiles, KeepsSink}
+use Rattle.tftp_ends.specs.Files.{AreSame, KeepsFiles, KeepsSource, KeepsSink}
 use Rattle.tftp_ends.specs.OtherSinks.{source_step_as, sink_step_as}
 use Rattle.tftp_ends.specs.Step.{Turn, DatagramStep, reported}
 use Rattle.tftp_server.specs.Steps.{Gives, MakesStep}
@@ -51,7 +51,7 @@ module _ {S K R : Type 0} (sources : SourceMeaning S) (sinks : SinkMeaning K) (s
       let steps = subst (λ (f : Files (MutBor S) K). DatagramStep (borrowed_source sources) sinks from bytes e (Source first) h.0 f) is h.1 in
       let now : DatagramStep sources sinks from bytes e (Source first.now) h.0 (Source second.now) =
       source_step_as (borrowed_source sources) sinks sources sinks
-      (λ s. s.now) (record { models = λ s. refl; fails = λ s want f. f; must = λ s want f. f }) from bytes e first h.0 second steps in
+      (λ s. s.now) (record { models = λ s. refl; fails = λ s want f. f; must = λ s want. (λ f. f, λ f. f) }) from bytes e first h.0 second steps in
       record {
         turn = h.0;
         steps = subst (λ (s : S). DatagramStep sources sinks from bytes e (Source first.now) h.0 (Source s)) (sym same) now;
@@ -77,10 +77,11 @@ module _ {S K R : Type 0} (sources : SourceMeaning S) (sinks : SinkMeaning K) (s
 
 -- after a fault the borrowed file holds the same
 pub source_kept : {S K R : Type 0} (sources : SourceMeaning S) (sinks : SinkMeaning K) (first second : MutBor S) (files : Files (MutBor S) K) (last : S) (A B : Type 0) (result : Result R EndFault) → files ≡ Source second → last ≡ second.now →
-    (A → KeepsFiles (borrowed_source sources) sinks (Source first) files) → (A → sources.left last ≡ sources.left first.now → B) → OnErr result A → OnErr result B
+    (A → KeepsFiles (borrowed_source sources) sinks (Source first) files) → (A → KeepsSource sources first.now last → B) → OnErr result A → OnErr result B
 source_kept sources sinks first second files last A B (Ok r) is same keeps then h = tt
 source_kept {S = S} {K = K} sources sinks first second files last A B (Err fault) is same keeps then h =
-    then h (ap sources.left same ∙ subst (λ (f : Files (MutBor S) K). KeepsFiles (borrowed_source sources) sinks (Source first) f) is (keeps h))
+    let kept = subst (λ (f : Files (MutBor S) K). KeepsFiles (borrowed_source sources) sinks (Source first) f) is (keeps h) in
+    then h (subst (λ (s : S). KeepsSource sources first.now s) (sym same) (record { left = kept.left; fails = kept.fails }))
 
 pub sink_kept : {S K R : Type 0} (sources : SourceMeaning S) (sinks : SinkMeaning K) (first second : MutBor K) (files : Files S (MutBor K)) (last : K) (A B : Type 0) (result : Result R EndFault) → files ≡ Sink second → last ≡ second.now →
     (A → KeepsFiles sources (borrowed_sink sinks) (Sink first) files) → (A → KeepsSink sinks first.now last → B) → OnErr result A → OnErr result B

@@ -53,7 +53,7 @@ module _ {S F D : Type 0} (meaning : StoreMeaning S D) (sources : SourceMeaning 
         turn = h.turn;
         steps =
             source_step_as sources sinks sources (drafting_sink meaning)
-            (λ s. s) (record { models = λ s. refl; fails = λ s want f. f; must = λ s want f. f }) from bytes e s h.turn s' h.steps;
+            (λ s. s) (record { models = λ s. refl; fails = λ s want f. f; must = λ s want. (λ f. f, λ f. f) }) from bytes e s h.turn s' h.steps;
         carries = h.carries;
         reports = h.reports;
         stays = refl;

@@ -2,7 +2,7 @@
 
 ghost use Rattle.std.specs.Prelude.{◌≡◌, ◌↔◌, true, false, IfOk, OnErr, IsErrOf, IsSome, Option};
 ghost use Rattle.tftp_ends.specs.Action.{Decodes, datagram_action};
-ghost use Rattle.tftp_ends.specs.Files.{KeepsSink};
+ghost use Rattle.tftp_ends.specs.Files.{KeepsSource, KeepsSink};
 ghost use Rattle.tftp_ends.specs.End.{is_sender, outcome_of};
 ghost use Rattle.tftp_ends.specs.Step.{IsAnswered, UsesFile};
 ghost use Rattle.tftp_wire.specs.declared.packet.Packet.{Packet};
@@ -28,7 +28,7 @@ pub(crate) fn on_datagram_of_source<S: Source, K: Sink>(
     ensures memory { IsErrOf result EndFault.Memory → (decoded : Option Packet)
         × Decodes bytes.now decoded × IsAnswered (datagram_action end.old from bytes.now decoded) }
     ensures err { OnErr result ((end.new ≡ end.old) × (out.new.items ≡ out.old.items)
-        × (S.meaning.left source.new ≡ S.meaning.left source.old)) }
+        × KeepsSource S.meaning source.old source.new) }
     ensures side { is_sender end.new.role.side ≡ true }
 {
     let mut files: Files<&mut S, K> = Files::Source(source);
@@ -84,7 +84,7 @@ pub(crate) fn handle_datagram_of_source<S: Source, K: Sink>(
     ensures memory { IsErrOf result EndFault.Memory → (decoded : Option Packet)
         × Decodes bytes.now decoded × UsesFile (datagram_action end.old from bytes.now decoded) }
     ensures err { OnErr result ((end.new ≡ end.old)
-        × (S.meaning.left source.new ≡ S.meaning.left source.old)) }
+        × KeepsSource S.meaning source.old source.new) }
     ensures side { is_sender end.new.role.side ≡ true }
 {
     let mut files: Files<&mut S, K> = Files::Source(source);

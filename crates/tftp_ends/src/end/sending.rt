@@ -1,8 +1,10 @@
 //! How a sender sends a block: it builds DATA in the spare buffer, and swaps that with the buffer
 //! of the last datagram sent.
 
-ghost use Rattle.std.specs.Prelude.{◌≡◌, ◌≤◌, ◌+◌, [], length, OnOk, OnErr, IfOk, Some, vec_capacity};
+ghost use Rattle.std.specs.Prelude.{◌≡◌, ◌≤◌, ◌+◌, [], length, OnOk, OnErr, IfOk, Some};
+ghost use Rattle.std.specs.Prelude.{vec_capacity};
 ghost use Rattle.tftp_ends.specs.BlockRead.{is_whole};
+ghost use Rattle.tftp_ends.specs.Files.{KeepsSource};
 ghost use Rattle.tftp_ends.specs.Step.{Turn, Lends, Sends, block_length, lent};
 ghost use Rattle.tftp_ends.specs.Room.{ReadsData, room_of};
 ghost use Rattle.tftp_ends.specs.Sound.{IsSending};
@@ -50,7 +52,7 @@ pub(crate) fn read_data<S: Source>(
         (S.meaning.left source.new) (S.meaning.may_fail source.old want)
         (S.meaning.fails source.old want) number want buffer.new.items (is_whole read)) }
     ensures room { OnOk result (4 ≤ vec_capacity buffer.new) }
-    ensures err { OnErr result ((S.meaning.left source.new ≡ S.meaning.left source.old)
+    ensures err { OnErr result (KeepsSource S.meaning source.old source.new
         × (buffer.new.items ≡ [])) }
     ensures same { S.is_same source.old source.new }
 {
@@ -95,7 +97,7 @@ impl End {
         ensures room { IfOk result (λ outgoing.
             length (lent outgoing self.new) ≤ room_of self.old (Action.Send terms number)) }
         ensures err { OnErr result ((self.new ≡ self.old)
-            × (S.meaning.left source.new ≡ S.meaning.left source.old)) }
+            × KeepsSource S.meaning source.old source.new) }
         ensures same { S.is_same source.old source.new }
     {
         let want = block_length(self.role.length, terms.size, number);

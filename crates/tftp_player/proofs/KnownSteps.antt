@@ -1,0 +1,48 @@
+-- The step of an end with a file in memory is one with a file of known content, and an answer from
+-- the server's address is from the server.
+use Rattle.std.proofs.Common.{ℕ, List, sym, refl}
+use Rattle.tftp_file.specs.Memory.{memory_source}
+use Rattle.tftp_file.specs.Sink.{Holding}
+use Rattle.tftp_file.specs.declared.fault.StoreFault.{StoreFault}
+use Rattle.tftp_file.specs.declared.files.Files.{Files}
+use Rattle.tftp_file.specs.declared.files.Files.TheVariants.{Source, Sink}
+use Rattle.tftp_ends.specs.End.{EndState}
+use Rattle.tftp_ends.specs.OtherSinks.{SourcesModel, SinksModel, step_as}
+use Rattle.tftp_ends.specs.Step.{Turn, DatagramStep}
+use Rattle.tftp_machine.specs.EndKept.{IsFromServer}
+use Rattle.tftp_machine.specs.Hosts.{request_port, two_hosts}
+use Rattle.tftp_machine.specs.KnownFiles.{known_source, known_sink}
+use Rattle.tftp_machine.specs.Machine.{Endpoint}
+use Rattle.tftp_machine.specs.OpenEnds.{OpenEnd}
+use Rattle.tftp_machine.proofs.HostLemmas.{host_server}
+use Rattle.tftp_machine.proofs.PhaseMoves.{same_ips}
+use Rattle.tftp_player.specs.WorldSteps.{world_sink}
+
+-- an answer from the address of the request port is from the server
+pub from_server : (x : OpenEnd) (from : Endpoint) (bytes : List ℕ) → IsFromServer two_hosts x from bytes
+from_server x from bytes waits near p spells answers = host_server from (sym (same_ips request_port from near))
+
+module _ (may_commit : Holding → StoreFault → Type 0) where
+  sources_known : SourcesModel (λ (text : List ℕ). text) memory_source known_source
+  sources_known = record { models = λ text. refl; fails = λ text want may. tt; must = λ text want. (λ f. f, λ f. f) }
+
+  sinks_known : SinksModel (λ (holding : Holding). holding) (λ holding. Unit {0}) (world_sink may_commit) known_sink
+  sinks_known = record {
+    models = λ holding. refl;
+    keeps = λ before after h b. tt;
+    appends = λ holding bytes fault h may. tt;
+    commits = λ holding fault h may. tt;
+    leaves = λ before after committed h b. tt;
+  }
+
+  -- the step with a file in memory
+  pub known_step : (from : Endpoint) (bytes : List ℕ) (e : EndState) (files : Files (List ℕ) Holding) (turn : Turn) (files' : Files (List ℕ) Holding) →
+      DatagramStep memory_source (world_sink may_commit) from bytes e files turn files' → DatagramStep known_source known_sink from bytes e files turn files'
+  known_step from bytes e (Source s) turn (Source t) h =
+      step_as memory_source (world_sink may_commit) known_source known_sink (λ (text : List ℕ). text) (λ (holding : Holding). holding) (λ holding. Unit {0}) sources_known sinks_known from bytes e (Source s) turn (Source t) tt h
+  known_step from bytes e (Source s) turn (Sink l) h =
+      step_as memory_source (world_sink may_commit) known_source known_sink (λ (text : List ℕ). text) (λ (holding : Holding). holding) (λ holding. Unit {0}) sources_known sinks_known from bytes e (Source s) turn (Sink l) tt h
+  known_step from bytes e (Sink k) turn (Source t) h =
+      step_as memory_source (world_sink may_commit) known_source known_sink (λ (text : List ℕ). text) (λ (holding : Holding). holding) (λ holding. Unit {0}) sources_known sinks_known from bytes e (Sink k) turn (Source t) tt h
+  known_step from bytes e (Sink k) turn (Sink l) h =
+      step_as memory_source (world_sink may_commit) known_source known_sink (λ (text : List ℕ). text) (λ (holding : Holding). holding) (λ holding. Unit {0}) sources_known sinks_known from bytes e (Sink k) turn (Sink l) tt h
