@@ -15,10 +15,10 @@ use Rattle.tftp_client.specs.Converses.Converses.{Begins, Receives, Waits, Times
 use Rattle.tftp_client.specs.Converses.HandlesReceived.{Answers, Loses}
 use Rattle.tftp_client.specs.Converses.MayElapse.{Stays, Elapses}
 use Rattle.tftp_network.specs.Journals.{IsOfPort, AsksFirst}
-use Rattle.tftp_network.specs.Programs.{ClientProgram, Opens, To_read, To_write}
+use Rattle.tftp_network.specs.Programs.{ClientProgram, ClientOpens, To_read, To_write}
 
 -- the events since `first` are of this port
-abbrev Since : ℕ → List Event → List Event → Type 0
+abbrev pub Since : ℕ → List Event → List Event → Type 0
 Since port first events = (more : List Event) × (events ≡ more ++ first) × AllByRecursion (IsOfPort port) more
 
 one_more : {port : ℕ} {first events : List Event} (e : Event) → IsOfPort port e → Since port first events → Since port first (e ∷ events)
@@ -38,7 +38,7 @@ module _ {G K : Type 0} {inputs : SourceMeaning G} {outputs : SinkMeaning K} whe
   handle {port = port} (Answers {turn} still step) since = answer port turn.reply since
   handle (Loses lost keeps) since = since
 
-  converse : {port : ℕ} {first : State} {file : Files G K} {s : State} {files : Files G K} →
+  pub converse : {port : ℕ} {first : State} {file : Files G K} {s : State} {files : Files G K} →
       Converses inputs outputs port first file s files → Since port first.events s.events
   converse Begins = ([], refl, tt)
   converse {port = port} (Receives {from = from} {bytes = bytes} {time = time} run later handles) =
@@ -48,7 +48,7 @@ module _ {G K : Type 0} {inputs : SourceMeaning G} {outputs : SinkMeaning K} whe
   converse (Rests run works) = converse run
 
   -- the request goes to the server
-  asks_there : {to : Endpoint} {first : EndState} {file : Files G K} {bytes : List ℕ} → Opens inputs outputs to first file bytes → first.position.last_sent_to ≡ to
+  asks_there : {to : Endpoint} {first : EndState} {file : Files G K} {bytes : List ℕ} → ClientOpens inputs outputs to first file bytes → first.position.last_sent_to ≡ to
   asks_there (To_read opens) = ap (λ (e : EndState). e.position.last_sent_to) opens.is
   asks_there (To_write opens) = ap (λ (e : EndState). e.position.last_sent_to) opens.is
 

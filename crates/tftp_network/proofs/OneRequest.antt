@@ -154,8 +154,6 @@ joined = record {
     clients = λ j k x y e f same. (only_first client x j e).0 ∙ sym (only_first client y k f).0;
     apart = away;
   };
-  stored = λ source want f. f;
-  sent = λ source want f. f;
 }
 
 pub some_joined : SomeAreJoined

@@ -35,7 +35,7 @@ module _ {G K : Type 0} {inputs : SourceMeaning G} {outputs : SinkMeaning K} {to
   has_own (x ∷ clients) (suc k) client e =
       either_way (is_same (client_at inputs outputs to client) (client_at inputs outputs to x)) (has_client inputs outputs to clients (client_at inputs outputs to client)) (has_own clients k client e)
 
-  has_none : (clients : List (ClientProgram inputs outputs to)) (a : Endpoint) →
+  pub has_none : (clients : List (ClientProgram inputs outputs to)) (a : Endpoint) →
       ((k : ℕ) (client : ClientProgram inputs outputs to) → slice_get clients k ≡ Some client → client_at inputs outputs to client ≢ a) → has_client inputs outputs to clients a ≡ false
   has_none [] a none = refl
   has_none (x ∷ clients) a none =

@@ -1,17 +1,14 @@
 -- The ends at which the journals arrive, as the guarded machine views them.
-use Rattle.std.specs.Prelude.{ℕ, ◌≡◌, ◌&&◌, not, Bool, true, false, is_some, if◌then◌else◌, List}
-use Rattle.std.specs.Prelude.{◌++◌, Option, Some}
+use Rattle.std.specs.Prelude.{ℕ, ◌≡◌, ◌&&◌, not, true, false, is_some, List, Option, Some}
 use Rattle.tftp_file.specs.Netascii.{wire_text}
 use Rattle.tftp_file.specs.Sink.{Holding, SinkMeaning}
 use Rattle.tftp_file.specs.Source.{SourceMeaning}
 use Rattle.tftp_file.specs.declared.files.Files.{Files}
 use Rattle.tftp_file.specs.declared.files.Files.TheVariants.{Source, Sink}
 use Rattle.tftp_ends.specs.End.{EndState, is_sender, is_client, is_complete, record_of}
-use Rattle.tftp_ends.specs.declared.phase.Phase.{Phase}
-use Rattle.tftp_ends.specs.declared.phase.Phase.TheVariants.{Waiting, Sending, Receiving, Dallying}
-use Rattle.tftp_ends.specs.declared.phase.Phase.TheVariants.{Closed}
 use Rattle.tftp_store.specs.Store.{StoreMeaning, holding_of}
 use Rattle.tftp_machine.specs.Machine.{Endpoint}
+use Rattle.tftp_machine.specs.OpenEnds.{received_text}
 use Rattle.tftp_machine.specs.Shows.{EndView}
 use Rattle.tftp_server.specs.State.{HeldTransfer}
 use Rattle.tftp_network.specs.Ports.{IsStored, WasStored}
@@ -28,20 +25,6 @@ pub record ViewsEnd (a : Endpoint) (e : EndState) (view : EndView) : Type 0 wher
   pub number : view.number ≡ (record_of e).number
   pub done : view.done ≡ (record_of e).complete
   pub failed : view.failed ≡ is_some (record_of e).outcome && not (record_of e).complete
-
--- neither complete nor closed
-abbrev pub goes_on : Phase → Bool
-goes_on (Waiting asked limit) = true
-goes_on (Sending terms number) = true
-goes_on (Receiving terms number) = true
-goes_on (Dallying terms number dally) = false
-goes_on (Closed terms number complete outcome) = false
-
--- what a receiver has of its peer's text: what it stored, as wire text, and the text held back
-abbrev pub received_text : EndState → List ℕ → List ℕ
-received_text e stored =
-    if goes_on e.position.phase then wire_text e.role.mode stored ++ e.position.held
-    else wire_text e.role.mode stored
 
 -- the text of a receiver is that of what its sink holds, which it has committed if it is complete
 pub record ViewsSink (e : EndState) (held : Option Holding) (view : EndView) : Type 0 where

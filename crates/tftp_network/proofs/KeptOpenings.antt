@@ -1,0 +1,318 @@
+-- A request that a transfer answers keeps the invariant.
+use Rattle.std.proofs.Common.{◌≡◌, ◌≢◌, ℕ, suc, zero, Bool, true, false, List, [], ◌∷◌, ◌++◌, length, Option, Some, None, refl, sym, ap, ◌∙◌, subst, inl, inr, arith}
+use Rattle.std.specs.Prelude.{◌⊎◌, IsSome, if◌then◌else◌, option_to_list, slice_get}
+use Rattle.std.specs.List.{Contains}
+use Rattle.std.proofs.lemmas.Bool.{true≢false}
+use Rattle.std.proofs.lemmas.List.{append_cancel_right}
+use Rattle.std.proofs.lemmas.List.Elements.{Contains-append_left, Contains-append_right, Contains-push}
+use Rattle.std.proofs.lemmas.Option.{slice_get_read}
+use Rattle.tftp_wire.specs.Spelling.{Spells}
+use Rattle.tftp_wire.specs.declared.mode.Mode.{Mode}
+use Rattle.tftp_wire.specs.declared.options.RawOption.{RawOption}
+use Rattle.tftp_wire.specs.declared.packet.Packet.{Packet as WirePacket}
+use Rattle.tftp_negotiate.specs.declared.known.Known.{Known}
+use Rattle.tftp_negotiate.specs.Ranges.{IsBlockSize}
+use Rattle.tftp_file.specs.Netascii.{wire_text}
+use Rattle.tftp_file.specs.Sink.{SinkMeaning}
+use Rattle.tftp_file.specs.Source.{SourceMeaning}
+use Rattle.tftp_file.specs.declared.files.Files.TheVariants.{Source, Sink}
+use Rattle.tftp_ends.specs.Action.{Decodes}
+use Rattle.tftp_ends.specs.End.{EndState, is_complete, is_sender}
+use Rattle.tftp_ends.specs.Opening.{serving_write}
+use Rattle.tftp_store.specs.Store.{StoreMeaning, Stored, files_of}
+use Rattle.tftp_server.specs.Request.{A_transfer, Left, left_by}
+use Rattle.tftp_server.specs.State.{HeldTransfer, ServerState, at, with_new}
+use Rattle.tftp_server.specs.declared.config.Config.{Config}
+use Rattle.tftp_sockets.specs.Journal.{Event}
+use Rattle.tftp_sockets.specs.Journal.Event.{Sent}
+use Rattle.tftp_loop.specs.Serves.{AnswersRequest, Does, LoopState, Request_answered, after_request}
+use Rattle.tftp_machine.specs.Machine.{At_client, At_server, Endpoint, Message, Packet}
+use Rattle.tftp_machine.specs.OpenEnds.{OpenEnd, open_view}
+use Rattle.tftp_machine.specs.Rules.{message}
+use Rattle.tftp_machine.specs.Said.{said}
+use Rattle.tftp_machine.specs.Shows.{EndView, NoneAt, requested}
+use Rattle.tftp_machine.proofs.Indices.{slice_get-push_new}
+use Rattle.tftp_machine.proofs.SaidLemmas.{spells_own}
+use Rattle.tftp_network.specs.Order.{Programs}
+use Rattle.tftp_network.specs.Ports.{AreDistinct, HasClosed, IsStored, opened_by, opened_ports}
+use Rattle.tftp_network.specs.Programs.{endpoint, requests_at}
+use Rattle.tftp_network.specs.Promises.{joined}
+use Rattle.tftp_network.specs.Snapshots.{Snapshot, server_did}
+use Rattle.tftp_network.proofs.FirstSent.{sending}
+use Rattle.tftp_network.proofs.Kept.{AreKeyedOnce, HasStored, HasTransferBy, IsFreshBy, IsKept, IsThere, ServerKept, TransferKept}
+use Rattle.tftp_network.proofs.KeptAsks.{says_request}
+use Rattle.tftp_network.proofs.KeptRefusals.{closed_earlier, files_stay, left_is, new_is, one_sent, refusal_keeps, silent_keeps}
+use Rattle.tftp_network.proofs.KeptServer.{ServerTurns, server_keeps}
+use Rattle.tftp_network.proofs.KeptViews.{among_push, there_says, viewed_before}
+use Rattle.tftp_network.proofs.NewEnds.{IsNewly, EndOpens, new_receiver, new_sender, opens_to_send, opens_to_store}
+use Rattle.tftp_network.proofs.NewIdentifiers.{at-with_new, at-with_new_cases, at-with_new_other, once-with_new}
+use Rattle.tftp_network.proofs.Places.{has_none}
+use Rattle.tftp_network.proofs.PortAnswers.{Begins_to_send, Begins_to_store, OpensToSend, OpensToStore, PortAnswers, Says_error, Silent, port_answers}
+use Rattle.tftp_network.proofs.Requested.{IsAsked}
+use Rattle.tftp_network.proofs.ServerStays.{stored_after}
+use Rattle.tftp_network.proofs.Unanswered.{none_answers}
+
+-- the end of a read sends, and that of a write has stored nothing yet
+read_sends : (agreed : List Known) (peer : Endpoint) (mode : Mode) (text : List ℕ) (retries : ℕ) → is_sender (sending agreed peer mode text retries).role.side ≡ true
+read_sends [] peer mode text retries = refl
+read_sends (known ∷ agreed) peer mode text retries = refl
+
+write_stores : (agreed : List Known) (peer : Endpoint) (mode : Mode) (retries : ℕ) → is_sender (serving_write agreed peer mode retries).role.side ≡ false
+write_stores [] peer mode retries = refl
+write_stores (known ∷ agreed) peer mode retries = refl
+
+write_begins : (agreed : List Known) (peer : Endpoint) (mode : Mode) (retries : ℕ) → is_complete (serving_write agreed peer mode retries).position.phase ≡ false
+write_begins [] peer mode retries = refl
+write_begins (known ∷ agreed) peer mode retries = refl
+
+-- the second of distinct ports is none of those after it
+second_apart : (first second port : ℕ) (ports : List ℕ) → AreDistinct (first ∷ (second ∷ ports)) → Contains ports port → port ≢ second
+second_apart first second port ports distinct c same =
+    let there : slice_get ports c.0 ≡ Some port = slice_get_read ports (length ports) c.0 port refl c.1 (sym c.2) in
+    let one : suc zero ≡ suc (suc c.0) = distinct (suc zero) (suc (suc c.0)) second refl (there ∙ ap (λ (p : ℕ). Some p) same) in
+    omega (arith, one)
+
+module _ {S F D G K : Type 0} {stores : StoreMeaning S D} {sources : SourceMeaning F} {inputs : SourceMeaning G} {outputs : SinkMeaning K}
+    (programs : Programs stores sources inputs outputs) (old : Snapshot programs) (kept : IsKept programs old) {new : LoopState S F D} (answers : AnswersRequest stores sources old.state new)
+    (added : List Event) (noted : new.events ≡ added ++ old.state.events) (fresh : IsFreshBy programs (server_did programs old (Request_answered answers) added)) where
+  abbrev server : ServerState S F D
+  server = old.state.server
+
+  abbrev does : Does stores sources old.state new
+  does = Request_answered answers
+
+  abbrev now : Snapshot programs
+  now = server_did programs old does added
+
+  -- the new port, and its endpoint
+  abbrev tid : ℕ
+  tid = answers.tid
+
+  abbrev a : Endpoint
+  a = endpoint programs.server.ip tid
+
+  abbrev opened : List ℕ
+  opened = opened_ports old.run
+
+  -- ---- a transfer opens
+  module _ (transfer : HeldTransfer F D) (store : S) (is : answers.steps.came ≡ A_transfer transfer store) where
+    opens_port : opened_by does ≡ tid ∷ []
+    opens_port = ap (λ (l : Left S F D). option_to_list l.opened.tid) (left_is programs old kept answers (A_transfer transfer store) is)
+
+    ports_are : opened_ports now.run ≡ tid ∷ opened
+    ports_are = ap (λ (ports : List ℕ). ports ++ opened) opens_port
+
+    its_port : Contains (opened_ports now.run) tid
+    its_port = subst (λ (ports : List ℕ). Contains ports tid) (sym ports_are) (Contains-append_left (tid ∷ []) opened tid (Contains-push [] tid))
+
+    -- no transfer before had this port
+    port_is_new : (port : ℕ) → Contains opened port → port ≢ tid
+    port_is_new port c =
+        second_apart programs.server.port tid port opened (subst (λ (ports : List ℕ). AreDistinct (programs.server.port ∷ ports)) ports_are fresh.server) c
+
+    none_there : NoneAt kept.views a
+    none_there k view at same = elim (kept.only view (k, at)) [
+      | inl h ↦ fresh.apart h.k tid h.client h.found (Contains-append_right (programs.server.port ∷ []) (opened_ports now.run) tid its_port) (sym h.address ∙ same)
+      | inr h ↦ port_is_new h.port (kept.server.opened h.port h.transfer h.is_transfer) (ap (λ (e : Endpoint). e.port) (sym h.address ∙ same))
+    ]
+
+    -- it is at the server
+    at_server : (joined programs).host_of a ≡ At_server
+    at_server =
+        ap (λ (client : Bool). if client then At_client else At_server)
+        (has_none programs.clients a (λ k client found. fresh.apart k tid client found (Contains-append_right (programs.server.port ∷ []) (opened_ports now.run) tid its_port)))
+
+    state_is : new ≡ after_request old.state answers.from (left_by (A_transfer transfer store) server answers.from tid)
+    state_is = new_is programs old kept answers (A_transfer transfer store) is
+
+    held_is : new.server.held ≡ with_new tid transfer server.held
+    held_is = ap (λ (s : LoopState S F D). s.server.held) state_is
+
+    store_is : new.server.store ≡ store
+    store_is = ap (λ (s : LoopState S F D). s.server.store) state_is
+
+    module _ (same : stores.stored store ≡ stores.stored server.store) (x : OpenEnd) (address : x.address ≡ a) (state : x.state ≡ transfer.end) (path : x.path ≡ transfer.path) (request : x.request ≡ transfer.request)
+        (opens : EndOpens (joined programs) kept.views kept.messages kept.shown a answers.from answers.bytes x) (has : HasStored programs now x transfer.files) where
+      abbrev said_now : List Message
+      said_now = message a answers.from (said opens.packet) ∷ []
+
+      abbrev messages : List Message
+      messages = kept.messages ++ said_now
+
+      abbrev views : List EndView
+      views = kept.views ++ open_view x ∷ []
+
+      stored : stores.stored new.server.store ≡ stores.stored server.store
+      stored = ap stores.stored store_is ∙ same
+
+      -- its first datagram is among the messages
+      spelled : Spells opens.packet x.state.position.last_sent
+      spelled = subst (λ (b : List ℕ). Spells opens.packet b) (sym opens.last_sent) (spells_own opens.packet opens.valid)
+
+      says_first : IsThere messages a answers.from x.state.position.last_sent
+      says_first = (opens.packet, spelled, Contains-push kept.messages (message a answers.from (said opens.packet)))
+
+      last_sent : IsThere messages x.address x.state.position.last_sent_to x.state.position.last_sent
+      last_sent =
+          subst (λ (e : Endpoint). IsThere messages e x.state.position.last_sent_to x.state.position.last_sent) (sym address)
+          (subst (λ (e : Endpoint). IsThere messages a e x.state.position.last_sent) (sym opens.last_sent_to) says_first)
+
+      one : Sent tid answers.from x.state.position.last_sent ∷ [] ≡ added
+      one =
+          ap (λ (e : EndState). Sent tid answers.from e.position.last_sent ∷ []) state
+          ∙ append_cancel_right (Sent tid answers.from transfer.end.position.last_sent ∷ []) added old.state.events (sym (ap (λ (s : LoopState S F D). s.events) state_is) ∙ noted)
+
+      own : TransferKept programs views messages now tid transfer
+      own = record {
+        end = x;
+        address = address;
+        state = state;
+        path = path;
+        request = request;
+        side = opens.side;
+        viewed = record { kept = opens.kept; index = length kept.views; viewed = slice_get-push_new kept.views (open_view x); last_sent = last_sent };
+        has = has;
+      }
+
+      other : (port : ℕ) (t : HeldTransfer F D) → HasTransferBy programs old port t → TransferKept programs views messages now port t
+      other port t was =
+          let h = kept.transfers port t was in
+          record {
+            end = h.end;
+            address = h.address;
+            state = h.state;
+            path = h.path;
+            request = h.request;
+            side = h.side;
+            viewed = viewed_before (joined programs) kept.views kept.messages said_now (open_view x) h.end h.viewed;
+            has = stored_after programs old does added (files_stay programs old kept answers stored) h.end t.files h.has;
+          }
+
+      new_own : (port : ℕ) (t : HeldTransfer F D) → port ≡ tid → transfer ≡ t → TransferKept programs views messages now port t
+      new_own port t here this =
+          subst (λ (n : ℕ). TransferKept programs views messages now n t) (sym here) (subst (λ (u : HeldTransfer F D). TransferKept programs views messages now tid u) this own)
+
+      found_now : (port : ℕ) (t : HeldTransfer F D) → at port new.server.held ≡ Some t → ((port ≡ tid) × (transfer ≡ t)) ⊎ ((port ≢ tid) × (at port server.held ≡ Some t))
+      found_now port t found = at-with_new_cases tid port transfer t server.held (ap (at port) (sym held_is) ∙ found)
+
+      all_transfers : (port : ℕ) (t : HeldTransfer F D) → HasTransferBy programs now port t → TransferKept programs views messages now port t
+      all_transfers port t (inl found) = elim (found_now port t found) [
+        | inl this ↦ new_own port t this.0 this.1
+        | inr was ↦ other port t (inl was.1)
+      ]
+      all_transfers port t (inr closed) = other port t (inr (closed_earlier programs old kept answers added port t closed))
+
+      opened_still : (port : ℕ) → Contains opened port → Contains (opened_ports now.run) port
+      opened_still port c = Contains-append_right (opened_by does) opened port c
+
+      all_opened : (port : ℕ) (t : HeldTransfer F D) → HasTransferBy programs now port t → Contains (opened_ports now.run) port
+      all_opened port t (inl found) = elim (found_now port t found) [
+        | inl this ↦ subst (λ (n : ℕ). Contains (opened_ports now.run) n) (sym this.0) its_port
+        | inr was ↦ opened_still port (kept.server.opened port t (inl was.1))
+      ]
+      all_opened port t (inr closed) = opened_still port (kept.server.opened port t (inr (closed_earlier programs old kept answers added port t closed)))
+
+      still_gone : (port : ℕ) (t : HeldTransfer F D) → HasClosed now.run port t → at port new.server.held ≡ None
+      still_gone port t closed =
+          let was = closed_earlier programs old kept answers added port t closed in
+          let n : port ≢ tid = port_is_new port (kept.server.opened port t (inr was)) in
+          ap (at port) held_is ∙ (at-with_new_other tid port transfer server.held n ∙ kept.server.gone port t was)
+
+      server_kept : ServerKept programs messages now
+      server_kept = record {
+        requests = ap (λ (s : LoopState S F D). s.requests) state_is ∙ kept.server.requests;
+        config = ap (λ (s : LoopState S F D). s.server.config) state_is ∙ kept.server.config;
+        known = subst (λ (s : Option Stored). IsSome s) (sym stored) kept.server.known;
+        pending = λ from bytes e. absurd (let f : None ≡ Some (from, bytes) = sym (ap (λ (s : LoopState S F D). s.pending) state_is) ∙ e in cc);
+        once = subst (λ (held : List (ℕ × HeldTransfer F D)). AreKeyedOnce held) (sym held_is) (once-with_new tid transfer server.held answers.free kept.server.once);
+        gone = still_gone;
+        opened = all_opened;
+      }
+
+      still_there : (port : ℕ) (t : HeldTransfer F D) → HasTransferBy programs old port t → HasTransferBy programs now port t
+      still_there port t (inl found) =
+          let n : port ≢ tid = port_is_new port (kept.server.opened port t (inl found)) in
+          inl (ap (at port) held_is ∙ (at-with_new_other tid port transfer server.held n ∙ found))
+      still_there port t (inr closed) = inr (inr closed)
+
+      there_now : HasTransferBy programs now tid transfer
+      there_now = inl (ap (at tid) held_is ∙ at-with_new tid transfer server.held)
+
+      turns : ServerTurns programs old kept now added
+      turns = record {
+        views = views;
+        said_now = said_now;
+        shown = opens.shown_now;
+        sends = one_sent programs old kept answers messages tid (record { to = answers.from; bytes = x.state.position.last_sent }) added one says_first;
+        server = server_kept;
+        clients = λ k client found z here v. viewed_before (joined programs) kept.views kept.messages said_now (open_view x) z v;
+        transfers = all_transfers;
+        only = λ view among. elim (among_push kept.views (open_view x) view among) [
+          | inl was ↦ inl was
+          | inr this ↦ inr (record { port = tid; transfer = transfer; is_transfer = there_now; address = ap (λ (v : EndView). v.address) this ∙ address })
+        ];
+        were = λ e h. record { port = h.port; transfer = h.transfer; is_transfer = still_there h.port h.transfer h.is_transfer; address = h.address };
+      }
+
+      pub opening_keeps : IsKept programs now
+      opening_keeps = server_keeps programs old kept does added turns
+
+  -- ---- what the request is
+  -- it was sent, and no end answers it
+  newly : (write : Bool) (mode : Mode) (options : List RawOption) (asked : IsAsked answers.steps.decoded answers.steps.repeated write mode options) →
+      IsNewly (joined programs) kept.views kept.messages kept.shown a answers.from answers.bytes write asked.request
+  newly write mode options asked =
+      let packet = requested write asked.request in
+      let spells : Spells packet answers.bytes = subst (λ (d : Option WirePacket). Decodes answers.bytes d) asked.packet answers.steps.says in
+      let come = kept.server.pending answers.from answers.bytes answers.pending in
+      record {
+        sent = subst (λ (p : Packet). Contains kept.messages (message answers.from (joined programs).request_port p)) (says_request write asked.request)
+            (there_says kept.messages answers.from (requests_at stores sources programs.server) answers.bytes come packet spells);
+        spells = spells;
+        unanswered = none_answers programs old kept answers.from packet answers.steps.repeated answers.steps.decoded answers.steps.repeats asked.packet asked.new;
+      }
+
+  -- a read
+  sending_keeps : (path : List ℕ) (mode : Mode) (options : List RawOption) → IsAsked answers.steps.decoded answers.steps.repeated false mode options →
+      OpensToSend stores sources server answers.from answers.bytes path mode answers.steps.came → IsKept programs now
+  sending_keeps path mode options asked opens =
+      let r = asked.request in
+      let o = subst (λ (m : Mode). OpensToSend stores sources server answers.from answers.bytes path m answers.steps.came) (sym asked.same_mode) opens in
+      let x = new_sender a answers.bytes o.agreed answers.from r.mode path o.file server.config.retries in
+      let transfer : HeldTransfer F D = record { end = x.state; files = Source o.rest; path = path; request = answers.bytes } in
+      let under : IsStored stores new path o.file = (o.stored.files, ap (λ (s : S). files_of (stores.stored s)) (store_is transfer server.store o.is) ∙ ap files_of o.is_stored, o.there) in
+      opening_keeps transfer server.store o.is refl x refl refl refl refl
+      (opens_to_send (joined programs) kept.views kept.messages kept.shown a answers.from answers.bytes (at_server transfer server.store o.is) (none_there transfer server.store o.is)
+      r path o.file o.agreed server.config.retries (newly false mode options asked) o.granted o.fits)
+      (record { sender = read_sends o.agreed answers.from r.mode (wire_text r.mode o.file) server.config.retries; left = λ _. inl o.left; was = inl under; stays = λ _. under })
+
+  -- a write
+  storing_keeps : (path : List ℕ) (mode : Mode) (options : List RawOption) → IsAsked answers.steps.decoded answers.steps.repeated true mode options →
+      OpensToStore stores sources server answers.from answers.bytes path mode answers.steps.came → IsKept programs now
+  storing_keeps path mode options asked opens =
+      let r = asked.request in
+      let o = subst (λ (m : Mode). OpensToStore stores sources server answers.from answers.bytes path m answers.steps.came) (sym asked.same_mode) opens in
+      let x = new_receiver a answers.bytes o.agreed answers.from r.mode path server.config.retries in
+      let transfer : HeldTransfer F D = record { end = x.state; files = Sink o.draft; path = path; request = answers.bytes } in
+      opening_keeps transfer o.store o.is o.same x refl refl refl refl
+      (opens_to_store (joined programs) kept.views kept.messages kept.shown a answers.from answers.bytes (at_server transfer o.store o.is) (none_there transfer o.store o.is)
+      r path o.agreed server.config.retries (newly true mode options asked) o.granted)
+      (record {
+        receiver = write_stores o.agreed answers.from r.mode server.config.retries;
+        drafted = o.drafted;
+        stays = λ _ done. absurd (true≢false (sym done ∙ write_begins o.agreed answers.from r.mode server.config.retries));
+      })
+
+  -- ---- the answer
+  kept_by : PortAnswers stores sources server answers.from answers.bytes answers.steps.decoded answers.steps.repeated answers.steps.came → IsKept programs now
+  kept_by (Silent is) = silent_keeps programs old kept answers added noted is
+  kept_by (Says_error r) = refusal_keeps programs old kept answers added noted r
+  kept_by (Begins_to_send path mode options asked opens) = sending_keeps path mode options asked opens
+  kept_by (Begins_to_store path mode options asked opens) = storing_keeps path mode options asked opens
+
+  max_block : IsBlockSize server.config.limits.max_block
+  max_block = subst (λ (c : Config). IsBlockSize c.limits.max_block) (sym kept.server.config) programs.server.max_block
+
+  -- each answer to a request keeps the invariant
+  pub request_keeps : IsKept programs now
+  request_keeps = kept_by (port_answers stores sources server answers.from answers.bytes max_block kept.server.known tid answers.left answers.steps)

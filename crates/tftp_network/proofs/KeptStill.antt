@@ -1,0 +1,88 @@
+-- A step of the server that changes no transfer keeps the invariant, if what it sends is shown.
+use Rattle.std.proofs.Common.{◌≡◌, ℕ, List, [], ◌++◌, sym, ap, ◌∙◌, subst, inl, inr}
+use Rattle.std.specs.List.{Contains}
+use Rattle.std.proofs.lemmas.List.{append-nil}
+use Rattle.tftp_file.specs.Sink.{SinkMeaning}
+use Rattle.tftp_file.specs.Source.{SourceMeaning}
+use Rattle.tftp_store.specs.Store.{StoreMeaning}
+use Rattle.tftp_server.specs.State.{HeldTransfer, at}
+use Rattle.tftp_sockets.specs.Journal.{Event}
+use Rattle.tftp_sockets.specs.Journal.Event.{Sent}
+use Rattle.tftp_loop.specs.Serves.{LoopState, Does}
+use Rattle.tftp_machine.specs.Machine.{Endpoint, Message}
+use Rattle.tftp_machine.specs.Shows.{IsShown}
+use Rattle.tftp_network.specs.Order.{Programs}
+use Rattle.tftp_network.specs.Programs.{endpoint, requests_at}
+use Rattle.tftp_network.specs.Promises.{joined}
+use Rattle.tftp_network.specs.Snapshots.{Snapshot, server_did}
+use Rattle.tftp_network.proofs.Kept.{AreKeyedOnce, HasTransferBy, IsThere, TransferKept, ServerKept, IsKept}
+use Rattle.tftp_network.proofs.KeptEvents.{IsSilent}
+use Rattle.tftp_network.proofs.KeptServer.{ServerTurns, server_keeps}
+use Rattle.tftp_network.proofs.KeptViews.{there_still, viewed_still}
+use Rattle.tftp_network.proofs.ServerStays.{ServerStays, stored_after, closed_before, opened_still}
+
+module _ {S F D G K : Type 0} {stores : StoreMeaning S D} {sources : SourceMeaning F} {inputs : SourceMeaning G} {outputs : SinkMeaning K}
+    (programs : Programs stores sources inputs outputs) (old : Snapshot programs) (kept : IsKept programs old) {new : LoopState S F D} (does : Does stores sources old.state new)
+    (stays : ServerStays programs old kept does) (held : new.server.held ≡ old.state.server.held) (added : List Event) where
+  abbrev now : Snapshot programs
+  now = server_did programs old does added
+
+  held_before : (port : ℕ) (transfer : HeldTransfer F D) → HasTransferBy programs now port transfer → HasTransferBy programs old port transfer
+  held_before port transfer (inl e) = inl (ap (at port) (sym held) ∙ e)
+  held_before port transfer (inr closed) = inr (closed_before programs old kept does stays added port transfer closed)
+
+  held_after : (port : ℕ) (transfer : HeldTransfer F D) → HasTransferBy programs old port transfer → HasTransferBy programs now port transfer
+  held_after port transfer (inl e) = inl (ap (at port) held ∙ e)
+  held_after port transfer (inr closed) = inr (inr closed)
+
+  -- what it sends is shown
+  module _ (said_now : List Message) (shown : IsShown (joined programs) kept.views (kept.messages ++ said_now))
+      (sends : (port : ℕ) (to : Endpoint) (bytes : List ℕ) → Contains added (Sent port to bytes) → IsThere (kept.messages ++ said_now) (endpoint programs.server.ip port) to bytes) where
+    abbrev messages : List Message
+    messages = kept.messages ++ said_now
+
+    all_transfers : (port : ℕ) (transfer : HeldTransfer F D) → HasTransferBy programs now port transfer → TransferKept programs kept.views messages now port transfer
+    all_transfers port transfer is =
+        let h = kept.transfers port transfer (held_before port transfer is) in
+        record {
+          end = h.end;
+          address = h.address;
+          state = h.state;
+          path = h.path;
+          request = h.request;
+          side = h.side;
+          viewed = viewed_still (joined programs) kept.views kept.messages said_now h.end h.viewed;
+          has = stored_after programs old does added stays.files h.end transfer.files h.has;
+        }
+
+    server_kept : ServerKept programs messages now
+    server_kept = record {
+      requests = stays.requests ∙ kept.server.requests;
+      config = stays.config ∙ kept.server.config;
+      known = stays.known;
+      pending = λ from bytes e. there_still kept.messages said_now from (requests_at stores sources programs.server) bytes (stays.pending from bytes e);
+      once = subst (λ (hs : List (ℕ × HeldTransfer F D)). AreKeyedOnce hs) (sym held) kept.server.once;
+      gone = λ port transfer closed. ap (at port) held ∙ kept.server.gone port transfer (closed_before programs old kept does stays added port transfer closed);
+      opened = λ port transfer is. opened_still programs old kept does stays added port (kept.server.opened port transfer (held_before port transfer is));
+    }
+
+    turns : ServerTurns programs old kept now added
+    turns = record {
+      views = kept.views;
+      said_now = said_now;
+      shown = shown;
+      sends = sends;
+      server = server_kept;
+      clients = λ k client found z at_client h. viewed_still (joined programs) kept.views kept.messages said_now z h;
+      transfers = all_transfers;
+      only = λ view among. inl among;
+      were = λ a h. record { port = h.port; transfer = h.transfer; is_transfer = held_after h.port h.transfer h.is_transfer; address = h.address };
+    }
+
+    pub says_keeps : IsKept programs now
+    says_keeps = server_keeps programs old kept does added turns
+
+  -- it sends nothing
+  pub still_keeps : IsSilent added → IsKept programs now
+  still_keeps silent =
+      says_keeps [] (subst (λ (ms : List Message). IsShown (joined programs) kept.views ms) (sym (append-nil kept.messages)) kept.shown) (λ port to bytes c. absurd (silent port to bytes c))

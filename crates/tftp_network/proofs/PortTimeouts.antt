@@ -1,0 +1,148 @@
+-- A timeout that the server delivers to a transfer keeps the invariant.
+use Rattle.std.proofs.Common.{◌≡◌, ℕ, Bool, true, List, [], ◌∷◌, ◌++◌, None, refl, sym, ap, ◌∙◌, subst, inl, inr}
+use Rattle.std.specs.Prelude.{◌==◌, if◌then◌else◌, is_some, IsSome}
+use Rattle.std.proofs.lemmas.Bool.{true≢false, cases_Bool}
+use Rattle.tftp_file.specs.Sink.{SinkMeaning}
+use Rattle.tftp_file.specs.Source.{SourceMeaning}
+use Rattle.tftp_file.specs.declared.files.Files.{Files}
+use Rattle.tftp_file.specs.declared.files.Files.TheVariants.{Source, Sink}
+use Rattle.tftp_ends.specs.declared.phase.Phase.{Phase}
+use Rattle.tftp_ends.specs.declared.phase.Phase.TheVariants.{Waiting, Sending, Receiving, Dallying, Closed}
+use Rattle.tftp_ends.specs.declared.record.Step.{Step}
+use Rattle.tftp_ends.specs.declared.action.Response.{Response}
+use Rattle.tftp_ends.specs.declared.action.Response.TheVariants.{Retransmit, Close}
+use Rattle.tftp_ends.specs.declared.outcome.Outcome.TheVariants as outcomes
+use Rattle.tftp_ends.specs.Action.{timeout_response}
+use Rattle.tftp_ends.specs.End.{EndState, is_sender, is_complete, outcome_of}
+use Rattle.tftp_ends.specs.Step.{Turn, after, after_turn, timeout_turn}
+use Rattle.tftp_store.specs.Store.{StoreMeaning}
+use Rattle.tftp_server.specs.State.{HeldTransfer, ServerState, with_next}
+use Rattle.tftp_server.specs.Steps.{TimesOutLent, with_end}
+use Rattle.tftp_sockets.specs.Journal.{Event}
+use Rattle.tftp_sockets.specs.Journal.Event.{Elapsed}
+use Rattle.tftp_loop.specs.Serves.{LoopState, ServesPort, At_port, AnswersTimeout}
+use Rattle.tftp_machine.specs.EndShown.{Stands, Goes}
+use Rattle.tftp_machine.specs.OpenEnds.{OpenEnd, files_of, holding_of, in_state, end_after, open_view}
+use Rattle.tftp_machine.proofs.EndTurns.{timeout_goes}
+use Rattle.tftp_machine.proofs.PhaseMoves.{if_acts}
+use Rattle.tftp_network.specs.Order.{Programs}
+use Rattle.tftp_network.specs.Promises.{joined}
+use Rattle.tftp_network.specs.Snapshots.{Snapshot, server_did}
+use Rattle.tftp_network.proofs.ClosedEnds.{closed_timeout_goes}
+use Rattle.tftp_network.proofs.Kept.{HasStored, TransferKept, IsKept, IsFreshBy}
+use Rattle.tftp_network.proofs.KeptEvents.{SendsOnly, elapsed_silent}
+use Rattle.tftp_network.proofs.PortDatagrams.{after_rest}
+use Rattle.tftp_network.proofs.PortSteps.{no_outcome, server_is, stays_by, sends_only}
+use Rattle.tftp_network.proofs.ServerStays.{FilesStay}
+use Rattle.tftp_network.proofs.StoredFiles.{IsIn}
+use Rattle.tftp_network.proofs.TurnsAtPort.{Becomes, turn_keeps}
+
+-- an end that is open after a timeout was open before
+abbrev phase_then : Response → EndState → Phase
+phase_then response e = (after response e.position.last_sent_to e).phase
+
+closed_still : (e : EndState) (phase : Phase) → e.position.phase ≡ phase → is_some (outcome_of phase) ≡ true → is_some (outcome_of (phase_then (timeout_response e.position.retries_left phase) e)) ≡ true
+closed_still e (Closed terms n complete outcome) is c =
+    if_acts (λ (r : Response). is_some (outcome_of (phase_then r e)) ≡ true) (e.position.retries_left == 0) (Close outcomes.TimedOut) Retransmit
+    (λ b. refl) (λ b. ap (λ (p : Phase). is_some (outcome_of p)) is)
+closed_still e (Waiting asked limit) is c = absurd (true≢false (sym c))
+closed_still e (Sending terms n) is c = absurd (true≢false (sym c))
+closed_still e (Receiving terms n) is c = absurd (true≢false (sym c))
+closed_still e (Dallying terms n dally) is c = absurd (true≢false (sym c))
+
+open_before : (e : EndState) → outcome_of (timeout_turn e).position.phase ≡ None → outcome_of e.position.phase ≡ None
+open_before e o = elim (cases_Bool (is_some (outcome_of e.position.phase))) [
+  | inl c ↦ absurd (true≢false (sym (closed_still e e.position.phase refl c) ∙ ap is_some o))
+  | inr n ↦ no_outcome (outcome_of e.position.phase) n
+]
+
+module _ {S F D G K : Type 0} {stores : StoreMeaning S D} {sources : SourceMeaning F} {inputs : SourceMeaning G} {outputs : SinkMeaning K}
+    (programs : Programs stores sources inputs outputs) (old : Snapshot programs) (kept : IsKept programs old) (fresh : IsFreshBy programs old)
+    {new : LoopState S F D} (serves : ServesPort stores sources old.state new) (added : List Event) (events : new.events ≡ added ++ old.state.events) where
+  abbrev port : ℕ
+  port = serves.timer.port
+
+  abbrev now : Snapshot programs
+  now = server_did programs old (At_port serves) added
+
+  module _ (step : Step) (answers : AnswersTimeout port old.state.server serves.next.server (Elapsed port old.state.now ∷ old.state.events) serves.next.events step) where
+    abbrev timed : TimesOutLent port old.state.server.held serves.next.server.held step answers.outgoing
+    timed = answers.times_out
+
+    abbrev was : TransferKept programs kept.views kept.messages old port timed.transfer
+    was = kept.transfers port timed.transfer (inl timed.found)
+
+    abbrev x : OpenEnd
+    x = was.end
+
+    abbrev turn : Turn
+    turn = timeout_turn x.state
+
+    abbrev y : OpenEnd
+    y = end_after x turn (files_of x)
+
+    abbrev next : HeldTransfer F D
+    next = with_end timed.end timed.transfer
+
+    abbrev elapsed : List Event
+    elapsed = Elapsed port old.state.now ∷ []
+
+    held : new.server.held ≡ with_next port next old.state.server.held
+    held = ap (λ (s : ServerState S F D). s.held) (server_is programs old kept serves added events) ∙ timed.held
+
+    -- the store is the same
+    store_is : new.server.store ≡ old.state.server.store
+    store_is = ap (λ (s : ServerState S F D). s.store) (server_is programs old kept serves added events ∙ answers.rest)
+
+    stay : FilesStay programs old.state new
+    stay o path file h = subst (λ (s : S). IsIn (stores.stored s) path file) (sym store_is) h
+
+    -- so is the file
+    has : (files : Files F D) → HasStored programs old x files → Goes (joined programs) kept.shown.0 kept.views kept.messages was.viewed.index x turn y → HasStored programs now y files
+    has (Source source) h goes =
+        let P : Bool → Type 0 = λ (b : Bool). HasStored programs now (end_after x turn (if b then Source x.left else Sink (holding_of x))) (Source source) in
+        subst P (sym h.sender) (record { sender = h.sender; left = λ o. h.left (open_before x.state o); was = inr h.was; stays = λ o. stay o x.path x.file (h.stays o) })
+    has (Sink draft) h goes =
+        let committed : x.committed ≡ is_complete turn.position.phase =
+        subst (λ (b : Bool). (end_after x turn (if b then Source x.left else Sink (holding_of x))).committed ≡ is_complete (end_after x turn (if b then Source x.left else Sink (holding_of x))).state.position.phase) h.receiver
+        (goes.kept.committed (ap (λ (e : EndState). is_sender e.role.side) (after_rest (in_state (after_turn x.state turn) x) (files_of x)).1 ∙ h.receiver))
+        in
+        let P : Bool → Type 0 = λ (b : Bool). HasStored programs now (end_after x turn (if b then Source x.left else Sink (holding_of x))) (Sink draft) in
+        subst P (sym h.receiver) (record {
+          receiver = h.receiver;
+          drafted = h.drafted;
+          stays = λ o c. stay o x.path x.stored (h.stays o (sym (was.viewed.kept.committed h.receiver) ∙ (committed ∙ c)));
+        })
+
+    becomes : Goes (joined programs) kept.shown.0 kept.views kept.messages was.viewed.index x turn y → Becomes programs old kept (At_port serves) added port timed.transfer timed.found x turn next
+    becomes goes =
+        let rest = after_rest (in_state (after_turn x.state turn) x) (files_of x) in
+        record {
+          end = y;
+          goes = goes;
+          address = rest.0;
+          state = rest.1 ∙ (ap (λ (e : EndState). after_turn e (timeout_turn e)) was.state ∙ sym timed.carries.state);
+          path = rest.2 ∙ was.path;
+          request = rest.3 ∙ was.request;
+          has = has timed.transfer.files was.has goes;
+        }
+
+    stands : Stands (joined programs) kept.shown.0 kept.views kept.messages was.viewed.index (open_view x)
+    stands = record { shown = kept.shown.1; viewed = was.viewed.viewed }
+
+    its_turn : Goes (joined programs) kept.shown.0 kept.views kept.messages was.viewed.index x turn y
+    its_turn = elim (cases_Bool (is_some (outcome_of x.state.position.phase))) [
+      | inl c ↦ closed_timeout_goes (joined programs) kept.shown.0 kept.views kept.messages was.viewed.index x stands was.viewed.kept c was.viewed.last_sent
+      | inr o ↦ timeout_goes (joined programs) kept.shown.0 kept.views kept.messages was.viewed.index x (record { stands = stands; kept = was.viewed.kept; still = o; last_sent = was.viewed.last_sent })
+    ]
+
+    only_reply : SendsOnly port turn.reply added
+    only_reply =
+        subst (λ (e : EndState). SendsOnly port (timeout_turn e).reply added) (sym was.state)
+        (sends_only programs old kept serves added events (timeout_turn timed.transfer.end).reply elapsed answers.events (elapsed_silent port old.state.now))
+
+    pub timeout_keeps : IsKept programs now
+    timeout_keeps =
+        turn_keeps programs old kept (At_port serves) added port timed.transfer timed.found fresh
+        (stays_by programs old kept serves added events (ap (λ (s : ServerState S F D). s.config) answers.rest) (subst (λ (s : S). IsSome (stores.stored s)) (sym store_is) kept.server.known) stay)
+        x was.address was.side was.viewed.last_sent turn next held (becomes its_turn) only_reply

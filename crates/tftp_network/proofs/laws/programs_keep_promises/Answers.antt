@@ -1,0 +1,9 @@
+-- The lemmas that are the law.
+use Rattle.tftp_network.proofs.ProgramsShown.{programs_keep, programs_shown}
+use Rattle.tftp_network.proofs.laws.programs_keep_promises.Goals as goal
+
+pub returns-clause-promises : goal.returns-clause-promises
+returns-clause-promises g c = programs_keep _ _ _ _
+
+pub returns-clause-shown : goal.returns-clause-shown
+returns-clause-shown g c = programs_shown _ _ _ _

@@ -1,0 +1,41 @@
+-- The lines that a server prints while it serves: one for each transfer that it removes (ours).
+use Rattle.std.specs.Prelude.{ℕ, ◌≡◌, List, [], ◌∷◌, ◌++◌}
+use Rattle.tftp_file.specs.Source.{SourceMeaning}
+use Rattle.tftp_store.specs.Store.{StoreMeaning}
+use Rattle.tftp_host.specs.Printed.{line_text}
+use Rattle.tftp_host.specs.declared.server.printed.Printed.TheVariants.{Closed}
+use Rattle.tftp_server.specs.State.{ServerState}
+use Rattle.tftp_sockets.specs.Journal.{Event}
+use Rattle.tftp_sockets.specs.Journal.Event.{Printed}
+use Rattle.tftp_loop.specs.Run.{Run}
+use Rattle.tftp_loop.specs.Run.Run.{Start, Then}
+use Rattle.tftp_loop.specs.Serves.{LoopState, Does, Transfer_closed, at_start}
+
+-- the printed lines of a journal, the newest first
+abbrev pub lines_of : List Event → List (List ℕ)
+lines_of [] = []
+lines_of (Printed line ∷ events) = line ∷ lines_of events
+lines_of (event ∷ events) = lines_of events
+
+module _ {S F D : Type 0} {stores : StoreMeaning S D} {sources : SourceMeaning F} where
+  -- the line of the transfer that a step removes, with its port, the port of its timer's peer and
+  -- its outcome
+  abbrev pub close_lines : {old new : LoopState S F D} → Does stores sources old new
+      → List (List ℕ)
+  close_lines (Transfer_closed closes) =
+      line_text (Closed closes.timer.port closes.timer.peer.port closes.outcome) ∷ []
+  close_lines does = []
+
+  -- the line of each transfer that a run removed, the newest first
+  abbrev pub closed_lines : {first last : LoopState S F D} → Run (Does stores sources) first last
+      → List (List ℕ)
+  closed_lines Start = []
+  closed_lines (Then run does) = close_lines does ++ closed_lines run
+
+module _ {S F D : Type 0} where
+  -- at each time of a run its lines are those of the transfers that it removed, in their order
+  abbrev pub EachLineIsAClose : StoreMeaning S D → SourceMeaning F → Type 0
+  EachLineIsAClose stores sources =
+      (port : ℕ) (first : ServerState S F D) (before : List Event) (now : LoopState S F D)
+      (run : Run (Does stores sources) (at_start port first before) now)
+      → lines_of now.events ≡ closed_lines run ++ lines_of before
