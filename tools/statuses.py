@@ -122,10 +122,15 @@ def test_show(check):
     check.ends("tftp-show", [], 0, "", "ACK 0\n", input=b"00040000")
     check.ends("tftp-show", [], 1, "", "ACK 0\nnot hex\nfault EmptyOack 2\n", input=b"00040000\n0\n0006")
     with open("/dev/full", "wb") as full:
-        check.ends("tftp-show", [], 2, input=b"00040000\n", stdout=full)
+        check.ends("tftp-show", [], 2, "tftp-show: output unwritable\n", input=b"00040000\n", stdout=full)
     folder = os.open(check.folder, os.O_RDONLY)
-    check.ends("tftp-show", [], 2, output="", stdin=folder)
+    check.ends("tftp-show", [], 2, "tftp-show: input unreadable\n", "", stdin=folder)
     os.close(folder)
+    # a pipe that nobody reads any more
+    read, write = os.pipe()
+    os.close(read)
+    check.ends("tftp-show", [], 2, input=b"00040000\n", stdout=write)
+    os.close(write)
 
 
 def test_play(check):

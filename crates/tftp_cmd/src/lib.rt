@@ -11,4 +11,4 @@ pub use tftp_host::{
     fallback, index_of, is_due, wait_for,
 };
 pub use tftp_play::{play_command, play_run, play_words};
-pub use tftp_show::{show_command, show_lines, show_run, show_words};
+pub use tftp_show::{ShowFault, show_command, show_lines, show_reported, show_run, show_words};

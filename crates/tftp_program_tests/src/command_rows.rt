@@ -15,7 +15,8 @@ const SHOW: [(&str, u8); 4] = [
 #[test]
 fn show_command_lines(rt: HostRuntime) {
     for &(word, status) in &SHOW {
-        let answer = show_words(&rt, &["tftp-show", word]);
+        let mut errors = Vec::new(rt.alloc());
+        let answer = show_words(&rt, &["tftp-show", word], &mut errors);
         expect_equal(&rt, &answer, &status, word);
     }
 }

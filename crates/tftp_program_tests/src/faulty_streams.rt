@@ -1,4 +1,4 @@
-//! A reader and a writer that fail, for the runs of the programs.
+//! A reader and writers that fail, for the runs of the programs.
 
 use std::io::{self, ErrorKind, Read, Write};
 
@@ -15,13 +15,27 @@ impl Read for Breaks {
     }
 }
 
-/// Accepts nothing.
+/// Accepts nothing: the disk is full.
 #[derive(Drop)]
 pub(crate) struct Full;
 
 impl Write for Full {
     fn write(&mut self, _: &[u8]) -> io::Result<usize> {
         Err(io::Error::from(ErrorKind::StorageFull))
+    }
+
+    fn flush(&mut self) -> io::Result<()> {
+        Ok(())
+    }
+}
+
+/// Accepts nothing: it is a pipe that nobody reads any more.
+#[derive(Drop)]
+pub(crate) struct Closed;
+
+impl Write for Closed {
+    fn write(&mut self, _: &[u8]) -> io::Result<usize> {
+        Err(io::Error::from(ErrorKind::BrokenPipe))
     }
 
     fn flush(&mut self) -> io::Result<()> {

@@ -57,7 +57,15 @@ end 1025 server-read peer=1024 size=512 number=2 complete=yes Complete
     ),
     // a repeated ACK sends nothing again (RFC 1123, section 4.2.3.1)
     (
-        "file blocks 0F*1024\nget blocks octet\ndeliver 0\ndeliver 1\ndeliver 2\ndeliver 2\ndeliver 2\n",
+        "\
+file blocks 0F*1024
+get blocks octet
+deliver 0
+deliver 1
+deliver 2
+deliver 2
+deliver 2
+",
         "\
 #0 10.0.0.2:1024 > 10.0.0.1:69 RRQ blocks octet
 #1 10.0.0.1:1025 > 10.0.0.2:1024 DATA 1 512

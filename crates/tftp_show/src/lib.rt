@@ -8,4 +8,4 @@ mod arguments;
 mod show;
 
 pub use arguments::{show_command, show_words};
-pub use show::{show_lines, show_run};
+pub use show::{ShowFault, show_lines, show_reported, show_run};

@@ -1,18 +1,21 @@
 //! `tftp-show`: reads lines of hexadecimal digits, and writes a line for each datagram.
 
 mod digits;
+mod fault;
 
-ghost use Rattle.std.specs.Prelude.{◌≡◌, ◌≤◌, ◌++◌, ◌⊎◌, IfOk, IfSome, OnOk};
-ghost use Rattle.std.specs.Io.BufRead.{strip_last};
-ghost use Rattle.std.specs.Io.KnownBytes.{Appends};
+ghost use Rattle.std.specs.Prelude.{◌≡◌, ◌≤◌, ◌+◌, ◌++◌, ◌⊎◌, IfErr, IfOk, IfSome, OnOk, vec_len};
+ghost use Rattle.std.specs.Io.BufRead.{DropsThrough, strip_last, take_through};
+ghost use Rattle.std.specs.Io.KnownBytes.{Appends, IsAtEnd};
 ghost use Rattle.std.specs.String.{string_bytes};
 ghost use Rattle.hex.specs.Hex.{decode_of};
 ghost use Rattle.tftp_show.specs.Show.{line_shown, spells_packet, are_packets, input_shown};
 ghost use Rattle.tftp_show.specs.Show.{status_of};
+ghost use Rattle.tftp_show.specs.declared.show.fault.ShowFault.TheVariants.{Memory, Unreadable};
 
 use crate::show::digits::decode_digits;
+pub use fault::ShowFault;
 use std::alloc::{AllocError, Global};
-use std::io::{self, BufRead, BufReader, BufWriter, ErrorKind, Read, Write};
+use std::io::{self, BufRead, BufReader, BufWriter, Read, Write};
 use tftp_wire::show_datagram;
 
 /// Reads lines of hexadecimal digits, each a datagram, and writes for each its packet, or
@@ -24,10 +27,24 @@ pub fn show_run<R: Read + Drop, W: Write + Drop>(alloc: Global, input: R, output
     ensures bound { result ≤ 2 }
     ensures known { IfSome (R.remaining input) (λ all. (result ≡ status_of all) ⊎ (result ≡ 2)) }
 {
+    show_reported(alloc, input, output, io::sink())
+}
+
+/// As [`show_run`], and a status of 2 comes with the line of its [`ShowFault`] on `errors`; with
+/// none if the output is a closed pipe.
+pub fn show_reported<R: Read + Drop, W: Write + Drop, E: Write + Drop>(
+    alloc: Global,
+    input: R,
+    output: W,
+    mut errors: E,
+) -> u8
+    ensures bound { result ≤ 2 }
+    ensures known { IfSome (R.remaining input) (λ all. (result ≡ status_of all) ⊎ (result ≡ 2)) }
+{
     match show_buffered(alloc, input, output) {
         Ok(true) => 0,
         Ok(false) => 1,
-        Err(_) => 2,
+        Err(fault) => fault.report(&mut errors),
     }
 }
 
@@ -35,7 +52,7 @@ fn show_buffered<R: Read + Drop, W: Write + Drop>(
     alloc: Global,
     input: R,
     output: W,
-) -> io::Result<bool>
+) -> Result<bool, ShowFault>
     ensures { IfOk result (λ packets. IfSome (R.remaining input) (λ all.
         packets ≡ are_packets all)) }
 {
@@ -51,7 +68,7 @@ pub fn show_lines<R: BufRead, W: Write>(
     alloc: Global,
     input: &mut R,
     output: &mut W,
-) -> io::Result<bool>
+) -> Result<bool, ShowFault>
     ensures written { OnOk result (IfSome (R.remaining input.old) (λ all.
         Appends (W.contents output.old) (W.contents output.new) (input_shown all))) }
     ensures packets { IfOk result (λ packets. IfSome (R.remaining input.old) (λ all.
@@ -63,7 +80,7 @@ pub fn show_lines<R: BufRead, W: Write>(
     let mut packets = true;
     for _ in 0..u64::MAX {
         line.clear();
-        if input.read_until(b'\n', &mut line)? == 0 {
+        if read_line(input, &mut line)? == 0 {
             output.flush()?;
             return Ok(packets);
         }
@@ -72,7 +89,22 @@ pub fn show_lines<R: BufRead, W: Write>(
         text.push('\n')?;
         output.write_all(text.as_bytes())?;
     }
-    Err(io::Error::from(ErrorKind::Other))
+    Err(ShowFault::Unreadable)
+}
+
+/// Appends the next line with its line feed, and returns its length, which is 0 at the end.
+fn read_line<R: BufRead>(input: &mut R, line: &mut Vec<u8>) -> Result<usize, ShowFault>
+    ensures ok { IfOk result (λ n. vec_len line.new ≡ vec_len line.old + n) }
+    ensures bytes { OnOk result (IfSome (R.remaining input.old) (λ left.
+        line.new.items ≡ line.old.items ++ take_through 10 left)) }
+    ensures rest { OnOk result (DropsThrough (R.remaining input.old) (R.remaining input.new) 10) }
+    ensures end { IfOk result (λ n. n ≡ 0 → IsAtEnd (R.remaining input.old)) }
+    ensures fault { IfErr result (λ fault. (fault ≡ Memory) ⊎ (fault ≡ Unreadable)) }
+{
+    match input.read_until(b'\n', line) {
+        Ok(count) => Ok(count),
+        Err(error) => Err(ShowFault::of_reading(&error)),
+    }
 }
 
 /// The line without its line feed.
