@@ -12,7 +12,7 @@ use Rattle.tftp_host.specs.declared.client.client_outcome.ClientOutcome.TheVaria
 use Rattle.tftp_sockets.specs.Journal.{Event}
 use Rattle.tftp_client.specs.declared.transfer.Job.{Job}
 use Rattle.tftp_client.specs.Converses.{Converses, EndsBy, State}
-use Rattle.tftp_client.specs.Runs.{FailsBy, FailsEnd, FailsTransfer, GoesOn, IsNew, Refused, Runs, RunsAs, RunsJob, Stops, Transfers, begun, opens, plain}
+use Rattle.tftp_client.specs.Runs.{FailsBy, FailsEnd, FailsTransfer, StaysOn, IsNew, Refused, Runs, RunsAs, RunsJob, Stops, Transfers, begun, opens, plain}
 
 -- for a last call whose result is returned as it is
 pub if_err : {T E : Type 0} (r : Result T E) (P Q : E → Type 0) → ((e : E) → P e → Q e) → IfErr r P → IfErr r Q
@@ -84,5 +84,5 @@ module _ {S K : Type 0} (sources : SourceMeaning S) (sinks : SinkMeaning K) wher
 
   -- a client continued from this state, which is that one
   pub goes_on : {port : ℕ} {first first' : State} {file : Files S K} {after : List Event} → first ≡ first'
-      → GoesOn sources sinks port first file after → GoesOn sources sinks port first' file after
-  goes_on {port} {file = file} {after = after} is run = let From : State → Type 0 = λ s. GoesOn sources sinks port s file after in subst From is run
+      → StaysOn sources sinks port first file after → StaysOn sources sinks port first' file after
+  goes_on {port} {file = file} {after = after} is run = let From : State → Type 0 = λ s. StaysOn sources sinks port s file after in subst From is run

@@ -109,11 +109,11 @@ module _ {S K : Type 0} (sources : SourceMeaning S) (sinks : SinkMeaning K) wher
 
   -- N of a file: how many bytes a received one holds; of one that is sent in octet, the length on
   -- the wire. In netascii only the system states the length of a file that is sent
-  abbrev pub Counts : Files S K → Mode → ℕ → ℕ → Type 0
-  Counts (Sink sink) mode length count =
+  abbrev pub IsCountOf : Files S K → Mode → ℕ → ℕ → Type 0
+  IsCountOf (Sink sink) mode length count =
       (holding : Holding) × (sinks.held sink ≡ Some holding) × (count ≡ list_length holding.bytes)
-  Counts (Source source) Octet length count = count ≡ length
-  Counts (Source source) Netascii length count = Unit {0}
+  IsCountOf (Source source) Octet length count = count ≡ length
+  IsCountOf (Source source) Netascii length count = Unit {0}
 
   -- the run of an end of this kind, as a job opens it, and N of its file
   pub record RunsAs (port : ℕ) (kind : Kind) (job : Job) (before : List Event) (s : State)
@@ -121,7 +121,7 @@ module _ {S K : Type 0} (sources : SourceMeaning S) (sinks : SinkMeaning K) wher
     -- the length on the wire with which the end opened
     pub length : ℕ
     pub runs : Runs port (opens kind job length) before s files
-    pub counts : Counts files job.mode length count
+    pub counts : IsCountOf files job.mode length count
 
   -- the run of a job's end
   abbrev pub RunsJob : ℕ → Job → List Event → State → Files S K → ℕ → Type 0
@@ -155,7 +155,7 @@ module _ {S K : Type 0} (sources : SourceMeaning S) (sinks : SinkMeaning K) wher
       × FailsBy (plain job) middle after end)
 
   -- the client went on from that state
-  pub record GoesOn (port : ℕ) (first : State) (file : Files S K)
+  pub record StaysOn (port : ℕ) (first : State) (file : Files S K)
       (after : List Event) : Type 0 where
     pub last : State
     pub files : Files S K
@@ -172,7 +172,7 @@ module _ {S K : Type 0} (sources : SourceMeaning S) (sinks : SinkMeaning K) wher
     pub transfers : Transfers port job before last files count
     pub complete : is_complete last.end.position.phase ≡ true
     pub committed : IsCommitted files
-    pub stays : GoesOn port (printed count last) files after
+    pub stays : StaysOn port (printed count last) files after
 
   -- what a status of 0 says: nothing was done over UDP, as for a help text, or a job is complete
   abbrev pub Succeeds : List Event → List Event → Type 0

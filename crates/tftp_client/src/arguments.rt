@@ -5,7 +5,7 @@ ghost use Rattle.tftp_host.specs.ClientOutcome.{end_text, status_of};
 ghost use Rattle.tftp_host.specs.declared.client.client_outcome.ClientOutcome.TheVariants as ends;
 ghost use Rattle.tftp_sockets.specs.Journal.Event.{Printed as Line};
 ghost use Rattle.tftp_client.specs.Conversation.{state_of};
-ghost use Rattle.tftp_client.specs.Runs.{Completes, GoesOn, Succeeds, printed};
+ghost use Rattle.tftp_client.specs.Runs.{Completes, StaysOn, Succeeds, printed};
 
 use crate::client_udp::ClientUdp;
 use crate::local::{LocalFile, LocalSource};
@@ -31,9 +31,9 @@ Examples:
   tftp put 127.0.0.1:6969 notes.txt notes.txt --netascii";
 
 const LINGERING: &str = "\
-Once LOCAL has its name, `complete N` is printed. The client then stays for two timeouts to
-acknowledge the last block again where it comes again (RFC 1350, section 6): 2 seconds by default,
-twice the agreed timeout else.";
+Once LOCAL has its name, `complete N` is printed. The client then stays for two timeouts, 2 seconds
+or twice the agreed timeout, to acknowledge the last block again if the server repeats it (RFC 1350,
+section 6).";
 
 /// Runs `tftp` with the program's own command line, as [`tftp_words`] does, and returns its exit
 /// status.
@@ -245,7 +245,7 @@ fn conclude<N: Clock + Print + Eprint, R: Files + Drop>(
     journal: &mut Journal,
 ) -> io::Result<u8>
     ensures status { IfOk result (λ status. status ≡ 0) }
-    ensures goes { GoesOn ⟦<LocalSource<R::File> as Source>⟧.meaning
+    ensures goes { StaysOn ⟦<LocalSource<R::File> as Source>⟧.meaning
         ⟦<LocalFile<R> as Sink>⟧.meaning completed.conversation.socket.port
         (printed completed.count (state_of completed.conversation journal.old.events))
         completed.files journal.new.events }
@@ -426,7 +426,8 @@ impl BlockTexts {
         Ok(BlockTexts {
             range: format!(in alloc; "{MIN_BLOCK}..{MAX_BLOCK}")?,
             help: format!(in alloc;
-                "Block size that is asked, in bytes, {MIN_BLOCK} to {MAX_BLOCK}; without it blocks have {DEFAULT_BLOCK}"
+                "Block size that is asked, in bytes, {MIN_BLOCK} to {MAX_BLOCK}; \
+                 without it blocks have {DEFAULT_BLOCK}"
             )?,
         })
     }

@@ -27,7 +27,7 @@ pub(crate) struct Completed<R: FileSystem + Drop> {
 
 impl<R: FileSystem + Drop> Completed<R> {
     ghost use Rattle.tftp_client.specs.Conversation.{state_of};
-    ghost use Rattle.tftp_client.specs.Runs.{GoesOn};
+    ghost use Rattle.tftp_client.specs.Runs.{StaysOn};
 
     /// How the program ends.
     pub(crate) fn client_end(&self) -> ClientOutcome
@@ -38,7 +38,7 @@ impl<R: FileSystem + Drop> Completed<R> {
 
     /// Waits until the end is closed: a receiver's after two timeouts, a sender's at once.
     pub(crate) fn linger<C: Clock>(self, clock: &C, journal: &mut Journal)
-        ensures { GoesOn ⟦<LocalSource<R::File> as Source>⟧.meaning
+        ensures { StaysOn ⟦<LocalSource<R::File> as Source>⟧.meaning
             ⟦<LocalFile<R> as Sink>⟧.meaning self.conversation.socket.port
             (state_of self.conversation journal.old.events) self.files journal.new.events }
     {
