@@ -1,11 +1,11 @@
 //! A source that is read ahead of its fills.
 
-ghost use Rattle.std.specs.Prelude.{◌≡◌, ◌≤◌, ◌<◌, ◌+◌, ◌++◌, ◌⊎◌, [], length, drop, take, true, false};
-ghost use Rattle.std.specs.Prelude.{Ok, Err, IfOk, IfErr, OnOk, OnErr, vec_len, vec_capacity};
+ghost use Rattle.std.specs.Prelude.{◌≡◌, ◌≤◌, ◌<◌, ◌+◌, ◌++◌, ◌⊎◌, [], length, drop, take};
+ghost use Rattle.std.specs.Prelude.{true, false, Ok, Err, IfOk, IfErr, OnOk, OnErr};
 ghost use Rattle.std.specs.Io.KnownBytes.{prepend_known};
 ghost use Rattle.tftp_file.specs.Source.{Fills, StaysKnown};
 ghost use Rattle.tftp_file.specs.Ahead.{new_ahead};
-ghost use Rattle.std.specs.Prelude.{ℕ};
+ghost use Rattle.std.specs.Prelude.{ℕ, vec_len, vec_capacity};
 
 use crate::{FileFault, Source};
 use std::alloc::Global;

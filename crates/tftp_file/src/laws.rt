@@ -8,8 +8,8 @@ ghost use Rattle.tftp_file.specs.declared.netascii.NetFault.{NetFault};
 ghost use Rattle.tftp_file.specs.Netascii.{wire_text};
 ghost use Rattle.tftp_file.specs.Block.{block, block_count, first_blocks, IsBeginningOf};
 ghost use Rattle.tftp_file.specs.Path.{IsPath, path_of_name, without_slash};
-ghost use Rattle.tftp_file.specs.Decoding.{IsHeld, DecodesPiece, BeginsWireText, FirstWrong, TakesAll};
-ghost use Rattle.tftp_file.specs.Decoding.{RefusesAt};
+ghost use Rattle.tftp_file.specs.Decoding.{IsHeld, DecodesPiece, BeginsWireText, FirstWrong};
+ghost use Rattle.tftp_file.specs.Decoding.{TakesAll, RefusesAt};
 
 /// Netascii is decoded in the same way wherever it is cut (RFC 764).
 ///

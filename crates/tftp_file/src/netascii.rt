@@ -3,8 +3,8 @@
 ghost use Rattle.std.specs.Prelude.{◌≡◌, ◌≢◌, ◌≤◌, ◌+◌, ◌++◌, ◌↔◌, ◌∷◌, [], ℕ, List, length};
 ghost use Rattle.std.specs.Prelude.{option_to_list, vec_len, vec_capacity, IsOk, IfOk, IfErr};
 ghost use Rattle.std.specs.Prelude.{IsErrOf, OnErr, OnOk, MatchOption};
-ghost use Rattle.tftp_file.specs.Decoding.{net_fault_number, held_bytes, IsHeld, DecodesPiece, Refuses};
-ghost use Rattle.tftp_file.specs.Decoding.{BeginsWireText, IsWrong};
+ghost use Rattle.tftp_file.specs.Decoding.{net_fault_number, held_bytes, IsHeld, DecodesPiece};
+ghost use Rattle.tftp_file.specs.Decoding.{Refuses, BeginsWireText, IsWrong};
 ghost use Rattle.tftp_file.specs.Netascii.{netascii_text, wire_byte};
 ghost use Rattle.tftp_file.specs.Lines.{EndsAtLine};
 ghost use Rattle.tftp_file.specs.declared.netascii.NetFault.TheVariants.{LoneCr, EndsInCr, Memory};

@@ -131,7 +131,8 @@ impl fmt::Display for LogLine<'_> {
                 let why = Why(reason);
                 write!(
                     f,
-                    "closed {port} {peer} {request}: {answer}, {bytes} bytes, {millis} ms, {outcome}{why}"
+                    "closed {port} {peer} {request}: {answer}, {bytes} bytes, \
+                     {millis} ms, {outcome}{why}"
                 )
             }
         }
