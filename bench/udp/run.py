@@ -206,29 +206,32 @@ def measure_client(client, running, case, room):
 def compare(names, rounds, run):
     """Runs each peer once a round, and prints a line for each. The first is ours."""
     results = {name: [] for name in names}
-    ratios = []
-    for _ in range(rounds):
-        for name in names:
+    for turn in range(rounds):
+        first = turn % len(names)
+        for name in names[first:] + names[:first]:
             results[name].append(run(name))
-        ours, *others = [results[name][-1] for name in names]
-        best = max((result.rate for result in others if result), default=None)
-        if ours and best:
-            ratios.append(ours.rate / best)
-    rates = [max((result.rate for result in results[name] if result), default=0) for name in names]
-    if max(rates[1:], default=0) > 0:
-        print(f"  ratio of the best rounds {rates[0] / max(rates[1:]):.2f}")
-    for at, name in enumerate(names):
-        done = [result for result in results[name] if result]
-        if not done:
+    done = {name: [result for result in results[name] if result] for name in names}
+    medians = {name: statistics.median(result.rate for result in done[name]) for name in names if done[name]}
+    best = {name: max(result.rate for result in done[name]) for name in medians}
+    ours, *others = names
+    if ours in medians and any(name in medians for name in others):
+        print(f"  ratio of the best rounds {ratio_to_best(best, ours):.2f}")
+    for name in names:
+        if name not in medians:
             print(f"  {name:12}", "not supported" if False in results[name] else "failed")
             continue
-        rate, peak = max(result.rate for result in done), max(result.peak for result in done)
-        cpu = min((result.cpu for result in done if result.cpu is not None), default=float("nan"))
+        peak = max(result.peak for result in done[name])
+        cpu = min((result.cpu for result in done[name] if result.cpu is not None), default=float("nan"))
         peak = f"{peak:7.1f}" if peak else f"{'-':>7}"
-        ratio = f"{statistics.median(ratios):6.2f}" if at == 0 and ratios else " " * 6
-        lost = f"  {rounds - len(done)} failed" if len(done) < rounds else ""
-        print(f"  {name:12} {rate:9.1f} {ratio} {cpu:8.2f} {peak}{lost}")
+        ratio = f"{ratio_to_best(medians, ours):6.2f}" if name == ours and len(medians) > 1 else " " * 6
+        lost = f"  {rounds - len(done[name])} failed" if len(done[name]) < rounds else ""
+        print(f"  {name:12} {medians[name]:9.1f} {ratio} {cpu:8.2f} {peak}{lost}")
     sys.stdout.flush()
+
+
+def ratio_to_best(rates, ours):
+    """Our rate as a multiple of the best of the others."""
+    return rates[ours] / max(rate for name, rate in rates.items() if name != ours)
 
 
 def read_tiny(port):
