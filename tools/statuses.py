@@ -115,6 +115,15 @@ def answering(answer, first=lambda: None):
             thread.join()
 
 
+@contextmanager
+def closed_pipe():
+    """The end of a pipe that nobody reads any more."""
+    read, write = os.pipe()
+    os.close(read)
+    yield write
+    os.close(write)
+
+
 def test_show(check):
     check.has_help("tftp-show")
     check.is_usage_fault("tftp-show", "--verbose")
@@ -126,11 +135,8 @@ def test_show(check):
     folder = os.open(check.folder, os.O_RDONLY)
     check.ends("tftp-show", [], 2, "tftp-show: input unreadable\n", "", stdin=folder)
     os.close(folder)
-    # a pipe that nobody reads any more
-    read, write = os.pipe()
-    os.close(read)
-    check.ends("tftp-show", [], 2, input=b"00040000\n", stdout=write)
-    os.close(write)
+    with closed_pipe() as write:
+        check.ends("tftp-show", [], 2, input=b"00040000\n", stdout=write)
 
 
 def test_play(check):
@@ -149,6 +155,8 @@ def test_play(check):
     check.ends("tftp-play", ["."], 2, "script: unreadable\n", "")
     with open("/dev/full", "wb") as full:
         check.ends("tftp-play", ["read.script"], 2, "output: unwritable\n", stdout=full)
+    with closed_pipe() as write:
+        check.ends("tftp-play", ["read.script"], 2, stdout=write)
 
 
 # Datagrams of a server, and how a client ends that is answered by them: what is no packet, an ACK to a read, an ERROR,

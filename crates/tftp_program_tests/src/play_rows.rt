@@ -2,7 +2,7 @@
 //! sections 2, 4 and 6, and RFC 1123, section 4.2.3.1.
 
 use crate::expect::{expect, expect_bytes, expect_equal};
-use crate::faulty_streams::{Breaks, Full};
+use crate::faulty_streams::{Breaks, Closed, Full};
 use crate::playing::plays;
 use std::test::Fail;
 use tftp_play::play_run;
@@ -206,6 +206,15 @@ fn an_output_takes_nothing(rt: HostRuntime) {
     expect_equal(&rt, &status, &2, "the status");
     let message = b"output: unwritable\n".as_slice();
     expect_bytes(&rt, errors.as_slice(), message, "the message");
+}
+
+#[test]
+fn an_output_is_closed(rt: HostRuntime) {
+    let mut errors = Vec::new(rt.alloc());
+    let script = b"get a octet\n".as_slice();
+    let status = play_run(rt.alloc(), script, Closed, &mut errors);
+    expect_equal(&rt, &status, &2, "the status");
+    expect(&rt, errors.is_empty(), "no message");
 }
 
 #[test]

@@ -3,8 +3,9 @@
 ghost use Rattle.std.specs.Prelude.{◌≡◌, ◌≢◌, ◌⊎◌, IsTrue, ◌↔◌};
 ghost use Rattle.std.specs.IoError.{error_kind};
 ghost use Rattle.std.specs.declared.io.ErrorKind.TheVariants as error_kinds;
-ghost use Rattle.tftp_play.specs.declared.play.fault.PlayFault.TheVariants.{Memory, Unreadable};
-ghost use Rattle.tftp_play.specs.declared.play.fault.PlayFault.TheVariants.{Unwritable, Undrawn};
+ghost use Rattle.tftp_play.specs.declared.play.fault.PlayFault.TheVariants.{Closed, Memory};
+ghost use Rattle.tftp_play.specs.declared.play.fault.PlayFault.TheVariants.{Undrawn, Unreadable};
+ghost use Rattle.tftp_play.specs.declared.play.fault.PlayFault.TheVariants.{Unwritable};
 ghost use Rattle.tftp_play.specs.Play.{play_fault_of};
 
 use std::alloc::AllocError;
@@ -13,7 +14,7 @@ use std::io::{self, ErrorKind, Write};
 use tftp_script::ScriptFault;
 
 /// Why a script was not played to its end.
-#[derive(Clone, Copy)]
+#[derive(Clone, Copy, PartialEq, Eq)]
 pub(crate) enum PlayFault {
     /// The script could not be opened or read.
     Unreadable,
@@ -21,6 +22,8 @@ pub(crate) enum PlayFault {
     Line(usize),
     /// Writing failed.
     Unwritable,
+    /// The output is a pipe that nobody reads any more.
+    Closed,
     /// The picture could not be opened or written.
     Undrawn,
     /// An allocation failed.
@@ -34,7 +37,7 @@ impl PlayFault {
         ensures unreadable { error_kind error.now ≢ ErrorKind.OutOfMemory → result ≡ Unreadable }
         ensures either { (result ≡ Memory) ⊎ (result ≡ Unreadable) }
     {
-        if is_out_of_memory(error) {
+        if is_of(error, ErrorKind::OutOfMemory) {
             PlayFault::Memory
         } else {
             PlayFault::Unreadable
@@ -47,18 +50,21 @@ impl PlayFault {
         ensures undrawn { error_kind error.now ≢ ErrorKind.OutOfMemory → result ≡ Undrawn }
         ensures either { (result ≡ Memory) ⊎ (result ≡ Undrawn) }
     {
-        if is_out_of_memory(error) {
+        if is_of(error, ErrorKind::OutOfMemory) {
             PlayFault::Memory
         } else {
             PlayFault::Undrawn
         }
     }
 
-    /// Writes the message of the fault, and returns the status of the program.
+    /// Writes the message of the fault, and returns the status of the program. There is none for a
+    /// closed pipe: whoever closed it wants no more, as `head` does after its last line.
     pub(crate) fn report<E: Write>(self, errors: &mut E) -> u8
         ensures { result ≡ 2 }
     {
-        let _ = writeln!(errors, "{self}");
+        if self != PlayFault::Closed {
+            let _ = writeln!(errors, "{self}");
+        }
         2
     }
 }
@@ -74,6 +80,7 @@ impl fmt::Display for PlayFault {
             PlayFault::Unreadable => write!(f, "script: unreadable"),
             PlayFault::Line(number) => write!(f, "line {number}: fault"),
             PlayFault::Unwritable => write!(f, "output: unwritable"),
+            PlayFault::Closed => write!(f, "output: closed"),
             PlayFault::Undrawn => write!(f, "svg: unwritable"),
             PlayFault::Memory => write!(f, "out of memory"),
         }
@@ -103,19 +110,23 @@ impl From<AllocError> for PlayFault {
 impl From<io::Error> for PlayFault {
     ghost from_gives = { λ error fault.
         (error_kind error ≡ error_kinds.OutOfMemory → fault ≡ Memory)
-        × (error_kind error ≢ error_kinds.OutOfMemory → fault ≡ Unwritable) };
+        × (error_kind error ≡ error_kinds.BrokenPipe → fault ≡ Closed)
+        × (error_kind error ≢ error_kinds.OutOfMemory → error_kind error ≢ error_kinds.BrokenPipe
+        → fault ≡ Unwritable) };
 
     fn from(error: io::Error) -> PlayFault {
-        if is_out_of_memory(&error) {
+        if is_of(&error, ErrorKind::OutOfMemory) {
             PlayFault::Memory
+        } else if is_of(&error, ErrorKind::BrokenPipe) {
+            PlayFault::Closed
         } else {
             PlayFault::Unwritable
         }
     }
 }
 
-fn is_out_of_memory(error: &io::Error) -> bool
-    ensures { IsTrue result ↔ (error_kind error.now ≡ ErrorKind.OutOfMemory) }
+fn is_of(error: &io::Error, kind: ErrorKind) -> bool
+    ensures { IsTrue result ↔ (error_kind error.now ≡ kind) }
 {
-    error.kind() == ErrorKind::OutOfMemory
+    error.kind() == kind
 }
