@@ -19,7 +19,7 @@ use tftp_server::{Opening, Store};
 use tftp_wire::Mode;
 
 /// The capacity of a read buffer in bytes. Blocks of at least this size bypass it.
-const READ_BUFFER: usize = 32_768;
+const READ_BUFFER: usize = 8_192;
 
 /// The source of a file of a [`FolderStore`].
 pub type FolderSource<F> = Ahead<ReadSource<BufReader<F>>>;
