@@ -8,7 +8,7 @@ use Rattle.tftp_negotiate.specs.Ranges.{IsBlockSize}
 use Rattle.tftp_file.specs.Memory.{memory_source}
 use Rattle.tftp_ends.specs.declared.record.Record.{Record}
 use Rattle.tftp_ends.specs.Action.{Decodes}
-use Rattle.tftp_ends.specs.End.{EndState, is_client, outcome_of, record_of}
+use Rattle.tftp_ends.specs.End.{EndState, is_client, outcome_of, record_of, terms_of}
 use Rattle.tftp_server.specs.declared.opened.Opened.{Opened}
 use Rattle.tftp_store.specs.Memory.{memory_meaning}
 use Rattle.tftp_server.specs.Port.{Service, asks, asks_store}
@@ -228,6 +228,7 @@ module _ (from : Endpoint) (bytes : List ℕ) (before : PlayedServer) (ps : List
           side = ap (λ (e : EndState). is_client e.role.side) new.state ∙ new.side;
           files = new.files;
           commits = new.commits;
+          known = ap (λ (e : EndState). is_some (terms_of e.position.phase)) new.state ∙ new.known;
           mode = new.mode;
           path = new.path;
         }

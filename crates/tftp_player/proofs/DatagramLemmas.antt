@@ -7,7 +7,7 @@ use Rattle.tftp_file.specs.Memory.{memory_source}
 use Rattle.tftp_file.specs.declared.files.Files.{Files}
 use Rattle.tftp_file.specs.Sink.{Holding}
 use Rattle.tftp_ends.specs.declared.record.Record.{Record}
-use Rattle.tftp_ends.specs.End.{EndState, is_client, outcome_of}
+use Rattle.tftp_ends.specs.End.{EndState, is_client, outcome_of, terms_of}
 use Rattle.tftp_ends.specs.Files.{AreFilesOf}
 use Rattle.tftp_ends.specs.Step.{Turn}
 use Rattle.tftp_server.specs.Draft.{files_in}
@@ -29,6 +29,7 @@ use Rattle.tftp_player.specs.declared.player.Player.TheVariants.{Client, Server}
 use Rattle.tftp_player.specs.declared.served.Served.{Served}
 use Rattle.tftp_player.proofs.DraftLemmas.{ServedLeaves, served_leaves}
 use Rattle.tftp_player.proofs.ServerTurns.{end_step}
+use Rattle.tftp_player.proofs.TermsKept.{step_has, still_known}
 use Rattle.tftp_player.proofs.StageLemmas.{Stepped, client_files, client_open, held_end, held_files, served_files, served_kept, served_steps, same_transfer, keeps_armed}
 use Rattle.tftp_player.proofs.StepLemmas.{client_files as client_commits}
 use Rattle.tftp_player.proofs.PlayLemmas.{ends_get, kept_at, list_get, turn_ends, turn_staged, closed_is, has_not_ended, address_is}
@@ -100,6 +101,11 @@ module _ (port : ℕ) (s s' : Served) (before after : PlayedServer) (from : Endp
   steps_end : EndStep false in_way from bytes h.end (held_files s.refuses h.files) t.turn held_now
   steps_end = end_step from bytes h.end (with_armed before.store s.refuses) t.store s.path t.next.path before.config.overwrite t.turn h.files t.next.files steps_so
 
+  known : is_some (terms_of t.turn.position.phase) ≡ true
+  known =
+      still_known (terms_of h.end.position.phase) (terms_of t.turn.position.phase) (λ agreed e. step_has agreed _ from bytes h.end (held_files s.refuses h.files) held_now t.turn e steps_end)
+      (ap (λ (k : Transfer). is_some (terms_of k.end.position.phase)) is_kept ∙ kept_here.known)
+
   steps_here : EndStep (is_client h.end.role.side) in_way from bytes h.end (files_of x0) t.turn held_now
   steps_here =
       subst (λ (f : Files (List ℕ) Holding). EndStep (is_client h.end.role.side) in_way from bytes h.end f t.turn held_now) (sym (served_files port s h.end h.files h.request files_fit))
@@ -116,7 +122,7 @@ module _ (port : ℕ) (s s' : Served) (before after : PlayedServer) (from : Endp
   stepped_here : Stepped port (Server s) x0 (Server s') before after t.turn held_now effect r
   stepped_here =
       served_steps port s s' before after h t.next t.turn t.store.refuses (with_armed t.store false) effect r t.found open_now kept
-      t.kind t.path t.request (keeps_armed h.files before.store t.store s.refuses t.stays) leaves.commits (λ quiet. refl) t.turns
+      t.kind t.path t.request (keeps_armed h.files before.store t.store s.refuses t.stays) leaves.commits known (λ quiet. refl) t.turns
 
   served_stepped : PlayerStepped port (Server s) (Server s') before after from bytes effect r
   served_stepped = record { end = x0; turn = t.turn; held = held_now; steps = steps_here; commits = commits_here; stepped = stepped_here }

@@ -27,6 +27,7 @@ pub mod WorldKeeps
 pub mod OackLemmas
 pub mod WorldRuns
 pub mod WorldSafe
+pub mod RoomLemmas
 pub mod ServingLemmas
 pub mod StageLemmas
 pub mod PlayLemmas

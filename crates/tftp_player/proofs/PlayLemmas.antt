@@ -16,7 +16,7 @@ use Rattle.tftp_ends.specs.declared.phase.Phase.{Phase}
 use Rattle.tftp_ends.specs.declared.phase.Phase.TheVariants.{Waiting, Sending, Receiving, Dallying, Closed}
 use Rattle.tftp_ends.specs.declared.phase.Dally.TheVariants.{Fresh, Waited}
 use Rattle.tftp_ends.specs.Files.{AreFilesOf}
-use Rattle.tftp_ends.specs.End.{EndState, is_complete, outcome_of}
+use Rattle.tftp_ends.specs.End.{EndState, is_complete, outcome_of, terms_of}
 use Rattle.tftp_ends.specs.Step.{Turn, Reply, reply_bytes, timeout_turn, after_turn, with_position}
 use Rattle.tftp_server.specs.State.{at}
 use Rattle.tftp_server.specs.declared.config.Config.{Config}
@@ -43,6 +43,7 @@ use Rattle.tftp_player.proofs.EndsByPort.{mapped-length, mapped-get, mapped-set,
 use Rattle.tftp_player.proofs.Standing.{standing_record, standing_address, standing_closed}
 use Rattle.tftp_player.proofs.StageLemmas.{by_port, kept_by_port, Stepped, same_kind, client_files, client_steps, held_end, served_steps, served_kept, served_files, same_transfer, same_draft_kind, same_armed}
 use Rattle.tftp_player.proofs.StepLemmas.{timeout_step, timeout_stays}
+use Rattle.tftp_player.proofs.TermsKept.{still_known, timeout_has}
 
 -- the ends, one after another
 pub ends_length : (held : List (ℕ × Transfer)) (ps : List Player) → length (ends_from 1024 held ps) ≡ length ps
@@ -150,12 +151,14 @@ player_times_out port (Server s) (Server s') before after effect r kept open_now
     let fits : AreFilesOf h.end.role.side h.files = subst (λ (v : Transfer). AreFilesOf v.end.role.side v.files) (sym here) k.files in
     let commits : CommitsLast h.files (timeout_turn h.end).position.phase =
     timeout_commits h.files h.end (ap (λ (v : Transfer). is_some (outcome_of v.end.position.phase)) here ∙ k.is_open) (subst (λ (v : Transfer). CommitsLast v.files v.end.position.phase) (sym here) k.commits) in
+    let known : is_some (terms_of (timeout_turn h.end).position.phase) ≡ true =
+    still_known (terms_of h.end.position.phase) (terms_of (timeout_turn h.end).position.phase) (λ agreed e. timeout_has agreed h.end e) (ap (λ (v : Transfer). is_some (terms_of v.end.position.phase)) here ∙ k.known) in
     record {
       end = held_end port s h;
       stepped =
           subst (λ (f : Files (List ℕ) Holding). Stepped port (Server s) (held_end port s h) (Server s') before after (timeout_turn h.end) f effect r) (sym (served_files port s h.end h.files h.request fits))
           (served_steps port s s' before after h (with_end (after_turn h.end (timeout_turn h.end)) h) (timeout_turn h.end) s.refuses before.store effect r t.1 open_now kept
-          (same_draft_kind h.files) refl refl (same_armed h.files s.refuses) commits (λ q. q) t.2);
+          (same_draft_kind h.files) refl refl (same_armed h.files s.refuses) commits known (λ q. q) t.2);
     }
 player_times_out port (Client c) (Server s') before after effect r kept open_now t = absurd t
 player_times_out port (Server s) (Client c') before after effect r kept open_now t = absurd t

@@ -1,6 +1,6 @@
 -- What is visible of what the server's request port did.
 use Rattle.std.proofs.Common.{◌≡◌, ℕ, Bool, true, false, List, [], ◌∷◌, Option, Some, None, Result, Ok, Err, refl, sym, ap, ◌∙◌, inl, inr}
-use Rattle.std.specs.Prelude.{◌⊎◌, ◌*◌, if◌then◌else◌, nat_lt, nat_le, option_map}
+use Rattle.std.specs.Prelude.{◌⊎◌, ◌*◌, if◌then◌else◌, nat_lt, nat_le, is_some, option_map}
 use Rattle.tftp_wire.specs.declared.mode.Mode.{Mode}
 use Rattle.tftp_wire.specs.declared.options.RawOption.{RawOption}
 use Rattle.tftp_wire.specs.declared.packet.Packet.{Packet}
@@ -14,7 +14,7 @@ use Rattle.tftp_negotiate.specs.declared.refusal.Refusal.{Refusal}
 use Rattle.tftp_file.specs.Path.{path_of_name}
 use Rattle.tftp_file.specs.declared.path.PathFault.{PathFault}
 use Rattle.tftp_ends.specs.declared.error_reply.ErrorReply.TheVariants.{FileTooLarge, ServerBusy}
-use Rattle.tftp_ends.specs.End.{is_client, outcome_of}
+use Rattle.tftp_ends.specs.End.{is_client, outcome_of, terms_of}
 use Rattle.tftp_ends.specs.Files.{AreFilesOf}
 use Rattle.tftp_wire.specs.Reading.{has_error_opcode}
 use Rattle.tftp_server.specs.Port.{Ask, Ignores, Refuses, Reads, Writes, Service, Silent, Refused, Sends, Takes, asks_store, by_draft, by_file, by_length, by_name, by_options, by_packet}
@@ -129,6 +129,7 @@ pub record IsNewEnd (w : WorldState) (from : Endpoint) (s : Served) (transfer : 
   pub side : is_client x.state.role.side ≡ false
   pub files : AreFilesOf transfer.end.role.side transfer.files
   pub commits : CommitsLast transfer.files transfer.end.position.phase
+  pub known : is_some (terms_of x.state.position.phase) ≡ true
   pub mode : transfer.end.role.mode ≡ s.mode
   pub path : transfer.path ≡ s.path
   pub ended : s.ended ≡ None
@@ -144,6 +145,7 @@ new_sender w from bytes mode path file [] = record {
   side = refl;
   files = refl;
   commits = tt;
+  known = refl;
   mode = refl;
   path = refl;
   ended = refl;
@@ -157,6 +159,7 @@ new_sender w from bytes mode path file (known ∷ agreed) = record {
   side = refl;
   files = refl;
   commits = tt;
+  known = refl;
   mode = refl;
   path = refl;
   ended = refl;
@@ -173,6 +176,7 @@ new_receiver w from bytes mode path [] = record {
   side = refl;
   files = refl;
   commits = λ _. refl;
+  known = refl;
   mode = refl;
   path = refl;
   ended = refl;
@@ -186,6 +190,7 @@ new_receiver w from bytes mode path (known ∷ agreed) = record {
   side = refl;
   files = refl;
   commits = λ _. refl;
+  known = refl;
   mode = refl;
   path = refl;
   ended = refl;

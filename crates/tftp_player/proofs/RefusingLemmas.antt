@@ -93,6 +93,7 @@ armed_kept port s (Some draft) held k = record {
   side = k.side;
   files = k.files;
   commits = k.commits;
+  known = k.known;
   mode = k.mode;
   path = k.path;
 }

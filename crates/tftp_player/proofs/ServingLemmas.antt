@@ -1,5 +1,5 @@
 -- What an end of the server did, from what the server did.
-use Rattle.std.proofs.Common.{◌≡◌, ◌≢◌, ℕ, Bool, true, false, List, [], ◌∷◌, ◌++◌, Option, Some, None, cond, refl, sym, ap, ◌∙◌, subst}
+use Rattle.std.proofs.Common.{◌≡◌, ◌≤◌, ℕ, Bool, true, false, List, [], ◌∷◌, length, Option, Some, None, cond, refl, sym, ap, ◌∙◌, subst, arith}
 use Rattle.std.specs.Prelude.{is_some, option_map}
 use Rattle.std.specs.BTreeMap.{is_at}
 use Rattle.std.proofs.lemmas.Option.{same_Some}
@@ -8,24 +8,28 @@ use Rattle.tftp_file.specs.Memory.{memory_source}
 use Rattle.tftp_file.specs.Sink.{Holding}
 use Rattle.tftp_file.specs.declared.files.Files.{Files}
 use Rattle.tftp_file.specs.declared.files.Files.TheVariants.{Source, Sink}
-use Rattle.tftp_ends.specs.declared.outcome.Outcome.{Outcome}
+use Rattle.tftp_negotiate.specs.declared.limits.TheConstants.{DEFAULT_BLOCK}
+use Rattle.tftp_ends.specs.declared.outgoing.Outgoing.{Outgoing}
+use Rattle.tftp_ends.specs.declared.outgoing.Outgoing.TheVariants.{LastSent}
 use Rattle.tftp_ends.specs.declared.record.Record.{Record}
 use Rattle.tftp_ends.specs.declared.record.Step.{Step}
 use Rattle.tftp_ends.specs.End.{EndState, outcome_of, record_of}
-use Rattle.tftp_ends.specs.Files.{KeepsFiles}
-use Rattle.tftp_ends.specs.Step.{Turn, Carries, after_turn, timeout_turn, reported, reply_bytes}
+use Rattle.tftp_ends.specs.Files.{AreFilesOf, KeepsFiles}
+use Rattle.tftp_ends.specs.Step.{Turn, Lends, after_turn, lent, timeout_turn, reported, reply_bytes}
 use Rattle.tftp_server.specs.Draft.{files_in, KeepsStore, drafting_sink}
 use Rattle.tftp_store.specs.Memory.{memory_meaning, with_armed}
 use Rattle.tftp_server.specs.State.{at, with_next, draft_of, is_closed}
-use Rattle.tftp_server.specs.Steps.{TimesOut, TakesDatagram, TakesRecorded, KeepsHeld, with_end}
+use Rattle.tftp_server.specs.Steps.{StepIn, TimesOutLent, TakesDatagramLent, KeepsHeld, with_end}
 use Rattle.tftp_store.specs.Store.{Stored, Drafted, FileList, new_draft}
 use Rattle.tftp_machine.specs.Machine.{Endpoint}
 use Rattle.tftp_player.specs.Clients.{server_at}
 use Rattle.tftp_player.specs.Effect.{effect_of}
-use Rattle.tftp_player.specs.Serving.{server_armed, PlayedServer, Transfer, ServedKept, ServedTurns, ServedTimeoutStep, ServedDatagramStep, Concludes, ClosesAs, concluded_served, concluded_held}
+use Rattle.tftp_player.specs.Serving.{server_armed, PlayedServer, Transfer, ServedKept, ServedTurns, ServedTimeoutStep, ServedDatagramStep, Concludes, ClosesAs, IsRoomFor, IsSentBy, concluded_served, concluded_held}
+use Rattle.tftp_player.specs.Room.{AgreesWithin, answer_room}
 use Rattle.tftp_player.specs.declared.effect.Effect.{Effect}
 use Rattle.tftp_player.specs.declared.served.Served.{Served}
 use Rattle.tftp_player.proofs.HeldLemmas.{at-with_next}
+use Rattle.tftp_player.proofs.RoomLemmas.{answer_short, known_agrees, timeout_short}
 
 -- a transfer that made a step has closed as the step returned
 pub closes_as : (port : ℕ) (h next : Transfer) (held held' : List (ℕ × Transfer)) (turn : Turn) (step : Step) → at port held ≡ Some h → held' ≡ with_next port next held → next.end ≡ after_turn h.end turn → step ≡ reported h.end turn →
@@ -33,20 +37,15 @@ pub closes_as : (port : ℕ) (h next : Transfer) (held held' : List (ℕ × Tran
 closes_as port h next held held' turn step found e is reports =
     subst (ClosesAs step.closed) (sym (ap (at port) e ∙ at-with_next port h next held found)) (ap (λ (s : Step). s.closed) reports ∙ ap (λ (e : EndState). outcome_of e.position.phase) (sym is))
 
-pub times_out_closes : (port : ℕ) (old new : List (ℕ × Transfer)) (step : Step) (before after : List ℕ) → TimesOut port old new step before after → ClosesAs step.closed (at port new)
-times_out_closes port old new step before after t = closes_as port t.transfer (with_end t.end t.transfer) old new (timeout_turn t.transfer.end) step t.found t.held t.carries.state t.reports
-
--- and is still held
-pub is_recorded : (closed : Option Outcome) (o : Option Transfer) (r : Option Record) → ClosesAs closed o → r ≡ option_map (λ (h : Transfer). record_of h.end) o → r ≢ None
-is_recorded closed None r c e none = c
-is_recorded closed (Some h) r c e none = let f : Some (record_of h.end) ≡ None = sym e ∙ none in cc
+pub times_out_closes : (port : ℕ) (old new : List (ℕ × Transfer)) (step : Step) (outgoing : Outgoing) → TimesOutLent port old new step outgoing → ClosesAs step.closed (at port new)
+times_out_closes port old new step outgoing t = closes_as port t.transfer (with_end t.end t.transfer) old new (timeout_turn t.transfer.end) step t.found t.held t.carries.state t.reports
 
 -- the result of a step of an end there
-pub effect_is : (at : Endpoint) (e e' : EndState) (turn : Turn) (step : Step) (start out : List ℕ) → start ≡ [] → Carries e turn e' step.to start out → step ≡ reported e turn →
+pub effect_is : (at : Endpoint) (e e' : EndState) (turn : Turn) (step : Step) (outgoing : Outgoing) (out : List ℕ) → out ≡ lent outgoing e' → Lends e turn e' step.to outgoing → step ≡ reported e turn →
     (let effect : Effect = record { from = at; to = step.to; bytes = out; closed = step.closed } in effect) ≡ effect_of at turn
-effect_is at e e' turn step start out none c reports =
+effect_is at e e' turn step outgoing out copied c reports =
     ap (λ (s : Step). record { from = at; to = s.to; bytes = out; closed = s.closed }) reports
-    ∙ ap (λ (bytes : List ℕ). record { from = at; to = (reported e turn).to; bytes = bytes; closed = outcome_of turn.position.phase }) (c.appended ∙ ap (λ (s : List ℕ). s ++ reply_bytes turn.reply) none)
+    ∙ ap (λ (bytes : List ℕ). record { from = at; to = (reported e turn).to; bytes = bytes; closed = outcome_of turn.position.phase }) (copied ∙ c.bytes)
 
 -- the server after it: the transfer is removed if it has closed
 turns_served : (port : ℕ) (was old new : Served) (before mid after : PlayedServer) (e : EndState) (turn : Turn) (next : Transfer) (refuses : Bool) (store : Stored) (effect : Effect) (r : Record) →
@@ -66,16 +65,20 @@ turns_served port was old new before mid after e turn next refuses store effect 
           ∙ ap (λ (m : PlayedServer). record m { held = concluded_held (is_some (outcome_of turn.position.phase)) port m.held }) server);
     }
 
-pub served_times_out : (port : ℕ) (old new : Served) (before mid after : PlayedServer) (step : Step) (start out : List ℕ) (effect : Effect) (r : Record) → start ≡ [] →
-    TimesOut port before.held mid.held step start out → mid ≡ record before { held = mid.held } →
-    Concludes port (at port mid.held) old new mid after → Some r ≡ option_map (λ (h : Transfer). record_of h.end) (at port mid.held) →
+-- what a transfer sent is what it lent
+sent_is : (outgoing : Outgoing) (o : Option Transfer) (h : Transfer) (out : List ℕ) (r : Record) → o ≡ Some h → IsSentBy outgoing o out r → (out ≡ lent outgoing h.end) × (r ≡ record_of h.end)
+sent_is outgoing o h out r found sent = subst (λ (p : Option Transfer). IsSentBy outgoing p out r) found sent
+
+pub served_times_out : (port : ℕ) (old new : Served) (before mid after : PlayedServer) (step : Step) (outgoing : Outgoing) (out : List ℕ) (effect : Effect) (r : Record) →
+    TimesOutLent port before.held mid.held step outgoing → mid ≡ record before { held = mid.held } →
+    Concludes port (at port mid.held) old new mid after → IsSentBy outgoing (at port mid.held) out r →
     (from_here : Endpoint) → from_here ≡ server_at port → effect ≡ record { from = from_here; to = step.to; bytes = out; closed = step.closed } →
     ServedTimeoutStep port old new before after effect r
-served_times_out port old new before mid after step start out effect r none t rest c recorded here is_here made =
+served_times_out port old new before mid after step outgoing out effect r t rest c sent here is_here made =
     let turn : Turn = timeout_turn t.transfer.end in
     let next : Transfer = with_end (after_turn t.transfer.end turn) t.transfer in
     let held : mid.held ≡ with_next port next before.held = t.held ∙ ap (λ (e : EndState). with_next port (with_end e t.transfer) before.held) t.carries.state in
-    let found : at port mid.held ≡ Some next = ap (at port) held ∙ at-with_next port t.transfer next before.held t.found in (
+    let lends = sent_is outgoing (at port mid.held) (with_end t.end t.transfer) out r (ap (at port) t.held ∙ at-with_next port t.transfer (with_end t.end t.transfer) before.held t.found) sent in (
       t.transfer,
       t.found,
       turns_served port old old new before mid after t.transfer.end turn next old.refuses before.store effect r refl
@@ -83,46 +86,84 @@ served_times_out port old new before mid after step start out effect r none t re
           (rest ∙ ap (λ (held : List (ℕ × Transfer)). record before { held = held }) held)
           refl
           c
-          (same_Some r (record_of next.end) (recorded ∙ ap (option_map (λ (h : Transfer). record_of h.end)) found))
-          (made ∙ ap (λ (a : Endpoint). record { from = a; to = step.to; bytes = out; closed = step.closed }) is_here ∙ effect_is (server_at port) t.transfer.end t.end turn step start out none t.carries t.reports),
+          (lends.1 ∙ ap record_of t.carries.state)
+          (made ∙ ap (λ (a : Endpoint). record { from = a; to = step.to; bytes = out; closed = step.closed }) is_here ∙ effect_is (server_at port) t.transfer.end t.end turn step outgoing out lends.0 t.carries t.reports),
     )
 
+-- the room for its last datagram is that of its answer to a timeout
+pub fits_last : (port : ℕ) (old new : List (ℕ × Transfer)) (step : Step) (outgoing : Outgoing) (capacity : ℕ) (last : List ℕ) → TimesOutLent port old new step outgoing →
+    Some last ≡ option_map (λ (h : Transfer). lent LastSent h.end) (at port old) → length last ≤ capacity → IsRoomFor outgoing (at port new) capacity
+fits_last port old new step outgoing capacity last t lends room =
+    let is : last ≡ t.transfer.end.position.last_sent = same_Some last t.transfer.end.position.last_sent (lends ∙ ap (option_map (λ (h : Transfer). lent LastSent h.end)) t.found) in
+    let short = timeout_short t.transfer.end in
+    let same : length (lent outgoing t.end) ≡ length (reply_bytes (timeout_turn t.transfer.end).reply) = ap length t.carries.bytes in
+    subst (λ (o : Option Transfer). IsRoomFor outgoing o capacity) (sym (ap (at port) t.held ∙ at-with_next port t.transfer (with_end t.end t.transfer) old t.found))
+    (let l : length last ≡ length t.transfer.end.position.last_sent = ap length is in omega (arith, short, same, l, room))
+
 -- ---- a datagram: the store was set to refuse as the end is, and afterwards not to
-module _ (port : ℕ) (from : Endpoint) (bytes : List ℕ) (was old new : Served) (before mid quieted after : PlayedServer) (step : Step) (start out : List ℕ) (effect : Effect) (r : Record) where
-  steps_so : start ≡ [] → (t : TakesDatagram memory_meaning memory_source port from bytes (server_armed before was.refuses) mid step start out) → r ≡ record_of t.next.end →
+-- a transfer's answer fits the room by its record
+served_short : (from : Endpoint) (bytes : List ℕ) (e : EndState) (store store' : Stored) (path path' : List ℕ) (replace : Bool) (turn : Turn) (files files' : Files (List ℕ) Drafted) →
+    AgreesWithin DEFAULT_BLOCK e.position.phase → AreFilesOf e.role.side files → StepIn memory_meaning memory_source from bytes e (files_in store path replace files) turn (files_in store' path' replace files') →
+    length (reply_bytes turn.reply) ≤ answer_room DEFAULT_BLOCK (record_of e)
+served_short from bytes e store store' path path' replace turn (Source left) files' w side d =
+    answer_short memory_source (drafting_sink memory_meaning) from bytes e DEFAULT_BLOCK (Source left) _ turn w side d
+served_short from bytes e store store' path path' replace turn (Sink draft) files' w side d =
+    answer_short memory_source (drafting_sink memory_meaning) from bytes e DEFAULT_BLOCK (files_in store path replace (Sink draft)) _ turn w side d
+
+-- the room for the answer of an end with this record is that of its datagram
+pub fits_room : (port : ℕ) (from : Endpoint) (bytes : List ℕ) (was : Served) (before armed mid quieted : PlayedServer) (step : Step) (outgoing : Outgoing) (r : Record) (capacity : ℕ) →
+    ServedKept port was before.held → armed ≡ server_armed before was.refuses → Some r ≡ option_map (λ (h : Transfer). record_of h.end) (at port before.held) → answer_room DEFAULT_BLOCK r ≤ capacity →
+    TakesDatagramLent memory_meaning memory_source port from bytes armed mid step outgoing → quieted ≡ server_armed mid false → IsRoomFor outgoing (at port quieted.held) capacity
+fits_room port from bytes was before armed mid quieted step outgoing r capacity kept armed_is recorded room takes quiet =
+    let t : TakesDatagramLent memory_meaning memory_source port from bytes (server_armed before was.refuses) mid step outgoing =
+    subst (λ (s : PlayedServer). TakesDatagramLent memory_meaning memory_source port from bytes s mid step outgoing) armed_is takes in
+    let here : t.transfer ≡ kept.transfer = same_Some t.transfer kept.transfer (sym t.found ∙ kept.found) in
+    let agrees : AgreesWithin DEFAULT_BLOCK t.transfer.end.position.phase =
+    subst (λ (h : Transfer). AgreesWithin DEFAULT_BLOCK h.end.position.phase) (sym here) (known_agrees DEFAULT_BLOCK kept.transfer.end.position.phase kept.known) in
+    let side : AreFilesOf t.transfer.end.role.side t.transfer.files = subst (λ (h : Transfer). AreFilesOf h.end.role.side h.files) (sym here) kept.files in
+    let short = served_short from bytes t.transfer.end (with_armed before.store was.refuses) mid.store t.transfer.path t.next.path before.config.overwrite t.takes.turn t.transfer.files t.next.files agrees side t.takes.steps in
+    let lends : length (lent outgoing t.next.end) ≡ length (reply_bytes t.takes.turn.reply) = ap length t.takes.carries.bytes in
+    let same : answer_room DEFAULT_BLOCK r ≡ answer_room DEFAULT_BLOCK (record_of t.transfer.end) =
+    ap (answer_room DEFAULT_BLOCK) (same_Some r (record_of t.transfer.end) (recorded ∙ ap (option_map (λ (h : Transfer). record_of h.end)) t.found)) in
+    subst (λ (o : Option Transfer). IsRoomFor outgoing o capacity) (sym (ap (λ (s : PlayedServer). at port s.held) quiet ∙ (ap (at port) t.held ∙ at-with_next port t.transfer t.next before.held t.found)))
+    (omega (arith, lends, same, short, room))
+
+module _ (port : ℕ) (from : Endpoint) (bytes : List ℕ) (was old new : Served) (before mid quieted after : PlayedServer) (step : Step) (outgoing : Outgoing) (out : List ℕ) (effect : Effect) (r : Record) where
+  steps_so : TakesDatagramLent memory_meaning memory_source port from bytes (server_armed before was.refuses) mid step outgoing → IsSentBy outgoing (at port quieted.held) out r →
       mid ≡ record before { store = mid.store; held = mid.held } → old ≡ record was { refuses = mid.store.refuses } → quieted ≡ server_armed mid false →
       Concludes port (at port quieted.held) old new quieted after → effect ≡ record { from = server_at port; to = step.to; bytes = out; closed = step.closed } →
       ServedDatagramStep port from bytes was new before after effect r
-  steps_so none t recorded rest armed_so quiet c made = record {
-    transfer = t.transfer;
-    next = t.next;
-    turn = t.takes.turn;
-    store = mid.store;
-    found = t.found;
-    steps = t.takes.steps;
-    stays = t.takes.stays;
-    kind = t.takes.kind;
-    path = t.takes.path;
-    request = t.takes.request;
-    turns = turns_served port was old new before quieted after t.transfer.end t.takes.turn t.next mid.store.refuses (with_armed mid.store false) effect r t.takes.carries.state
-        (ap (λ (s : PlayedServer). at port s.held) quiet ∙ (ap (at port) t.held ∙ at-with_next port t.transfer t.next before.held t.found))
-        (quiet ∙ (ap (λ (s : PlayedServer). server_armed (record s { store = mid.store }) false) rest
-        ∙ ap (λ (held : List (ℕ × Transfer)). record before { store = with_armed mid.store false; held = held }) t.held))
-        armed_so
-        c
-        recorded
-        (made ∙ effect_is (server_at port) t.transfer.end t.next.end t.takes.turn step start out none t.takes.carries t.takes.reports);
-  }
+  steps_so t sent rest armed_so quiet c made =
+      let found : at port quieted.held ≡ Some t.next = ap (λ (s : PlayedServer). at port s.held) quiet ∙ (ap (at port) t.held ∙ at-with_next port t.transfer t.next before.held t.found) in
+      let lends = sent_is outgoing (at port quieted.held) t.next out r found sent in
+      record {
+        transfer = t.transfer;
+        next = t.next;
+        turn = t.takes.turn;
+        store = mid.store;
+        found = t.found;
+        steps = t.takes.steps;
+        stays = t.takes.stays;
+        kind = t.takes.kind;
+        path = t.takes.path;
+        request = t.takes.request;
+        turns = turns_served port was old new before quieted after t.transfer.end t.takes.turn t.next mid.store.refuses (with_armed mid.store false) effect r t.takes.carries.state
+            found
+            (quiet ∙ (ap (λ (s : PlayedServer). server_armed (record s { store = mid.store }) false) rest
+            ∙ ap (λ (held : List (ℕ × Transfer)). record before { store = with_armed mid.store false; held = held }) t.held))
+            armed_so
+            c
+            lends.1
+            (made ∙ effect_is (server_at port) t.transfer.end t.next.end t.takes.turn step outgoing out lends.0 t.takes.carries t.takes.reports);
+      }
 
   -- the server, and the datagram to send, are given by equations
-  pub served_steps : (armed : PlayedServer) → armed ≡ server_armed before was.refuses → start ≡ [] → TakesRecorded memory_meaning memory_source port from bytes armed mid step r start out →
+  pub served_steps : (armed : PlayedServer) → armed ≡ server_armed before was.refuses → TakesDatagramLent memory_meaning memory_source port from bytes armed mid step outgoing → IsSentBy outgoing (at port quieted.held) out r →
       mid ≡ record armed { store = mid.store; held = mid.held } → old ≡ record was { refuses = mid.store.refuses } → quieted ≡ server_armed mid false →
       Concludes port (at port quieted.held) old new quieted after → (from_here : Endpoint) → from_here ≡ server_at port → effect ≡ record { from = from_here; to = step.to; bytes = out; closed = step.closed } →
       ServedDatagramStep port from bytes was new before after effect r
-  served_steps armed armed_is none t rest armed_so quiet c here is_here made =
-      let taken : TakesRecorded memory_meaning memory_source port from bytes (server_armed before was.refuses) mid step r start out =
-      subst (λ (s : PlayedServer). TakesRecorded memory_meaning memory_source port from bytes s mid step r start out) armed_is t in
-      steps_so none taken.0 taken.1
+  served_steps armed armed_is t sent rest armed_so quiet c here is_here made =
+      steps_so (subst (λ (s : PlayedServer). TakesDatagramLent memory_meaning memory_source port from bytes s mid step outgoing) armed_is t) sent
       (rest ∙ ap (λ (s : PlayedServer). record s { store = mid.store; held = mid.held }) armed_is) armed_so quiet c
       (made ∙ ap (λ (a : Endpoint). record { from = a; to = step.to; bytes = out; closed = step.closed }) is_here)
 

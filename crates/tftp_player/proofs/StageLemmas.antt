@@ -7,7 +7,7 @@ use Rattle.tftp_file.specs.declared.files.Files.TheVariants.{Source, Sink}
 use Rattle.tftp_file.specs.Sink.{Holding}
 use Rattle.tftp_wire.specs.declared.mode.Mode.{Mode}
 use Rattle.tftp_ends.specs.declared.record.Record.{Record}
-use Rattle.tftp_ends.specs.End.{EndState, is_sender, is_client, outcome_of, record_of}
+use Rattle.tftp_ends.specs.End.{EndState, is_sender, is_client, outcome_of, record_of, terms_of}
 use Rattle.tftp_ends.specs.Files.{AreFilesOf, AreSame}
 use Rattle.tftp_ends.specs.Step.{Turn, after_turn}
 use Rattle.tftp_server.specs.Draft.{KeepsStore}
@@ -45,6 +45,7 @@ served_by_port port s None held held' e k = record {
   side = k.side;
   files = k.files;
   commits = k.commits;
+  known = k.known;
   mode = k.mode;
   path = k.path;
 }
@@ -218,6 +219,7 @@ pub record TransferGoes (h next : Transfer) (turn : Turn) (was refuses : Bool) :
   pub request : next.request ≡ h.request
   pub armed : KeepsArmed h.files was refuses
   pub commits : CommitsLast next.files turn.position.phase
+  pub known : is_some (terms_of turn.position.phase) ≡ true
 
 module _ (port : ℕ) (s : Served) (before : PlayedServer) (h next : Transfer) (turn : Turn) (refuses : Bool) (store : Stored) (effect : Effect) (r : Record)
     (found : at port before.held ≡ Some h) (open_now : is_some s.ended ≡ false) (kept : ServedKept port s before.held) (recorded : r ≡ record_of (after_turn h.end turn))
@@ -283,6 +285,7 @@ module _ (port : ℕ) (s : Served) (before : PlayedServer) (h next : Transfer) (
         side = ap (λ (e : EndState). is_client e.role.side) goes.end ∙ side_is;
         files = subst (λ (e : EndState). AreFilesOf e.role.side next.files) (sym goes.end) fits;
         commits = subst (λ (e : EndState). CommitsLast next.files e.position.phase) (sym goes.end) goes.commits;
+        known = ap (λ (e : EndState). is_some (terms_of e.position.phase)) goes.end ∙ goes.known;
         mode = ap (λ (e : EndState). e.role.mode) goes.end ∙ mode_is;
         path = path_is;
       })
@@ -349,11 +352,11 @@ module _ (port : ℕ) (s : Served) (before : PlayedServer) (h next : Transfer) (
 -- an end of the server whose transfer made a turn, as it is in the world
 pub served_steps : (port : ℕ) (s s' : Served) (before after : PlayedServer) (h next : Transfer) (turn : Turn) (refuses : Bool) (store : Stored) (effect : Effect) (r : Record) →
     at port before.held ≡ Some h → is_some s.ended ≡ false → PlayerKept port before.held (Server s) →
-    SameDraftKind h.files next.files → next.path ≡ h.path → next.request ≡ h.request → KeepsArmed h.files s.refuses refuses → CommitsLast next.files turn.position.phase → (before.store.refuses ≡ false → store.refuses ≡ false) →
+    SameDraftKind h.files next.files → next.path ≡ h.path → next.request ≡ h.request → KeepsArmed h.files s.refuses refuses → CommitsLast next.files turn.position.phase → is_some (terms_of turn.position.phase) ≡ true → (before.store.refuses ≡ false → store.refuses ≡ false) →
     ServedTurns port s s' before after h.end turn next refuses store effect r →
     Stepped port (Server s) (held_end port s h) (Server s') before after turn (held_files refuses next.files) effect r
-served_steps port s s' before after h next turn refuses store effect r found open_now kept kind path request armed commits quiet t =
-    let goes : TransferGoes h next turn s.refuses refuses = record { end = t.end; kind = kind; path = path; request = request; armed = armed; commits = commits } in
+served_steps port s s' before after h next turn refuses store effect r found open_now kept kind path request armed commits known quiet t =
+    let goes : TransferGoes h next turn s.refuses refuses = record { end = t.end; kind = kind; path = path; request = request; armed = armed; commits = commits; known = known } in
     subst (λ (q : Served). Stepped port (Server s) (held_end port s h) (Server q) before after turn (held_files refuses next.files) effect r) (sym t.served)
     (subst (λ (v : PlayedServer). Stepped port (Server s) (held_end port s h) (Server (concluded_served (is_some (outcome_of turn.position.phase)) r (draft_of next.files) (record s { refuses = refuses }))) before v turn (held_files refuses next.files) effect r) (sym t.server)
     (stepped_so port s before h next turn refuses store effect r found open_now (served_kept port s before.held open_now kept) t.recorded goes t.effects quiet))

@@ -1,6 +1,7 @@
 -- The agreed terms stay, for all later steps of an end.
 use Rattle.std.proofs.Common.{◌≡◌, ℕ, Bool, true, false, List, Option, Some, None, Result, Ok, Err, refl, sym, ap, ◌∙◌, subst}
-use Rattle.std.specs.Prelude.{◌==◌, ◌+◌, ◌/◌, nat_lt, length, is_none, ◌&&◌, if◌then◌else◌}
+use Rattle.std.specs.Prelude.{◌==◌, ◌+◌, ◌/◌, nat_lt, length, is_none, is_some, ◌&&◌, if◌then◌else◌}
+use Rattle.std.proofs.lemmas.Bool.{true≢false}
 use Rattle.std.proofs.lemmas.Option.{same_Some}
 use Rattle.tftp_wire.specs.Reading.{has_error_opcode}
 use Rattle.tftp_wire.specs.declared.mode.Mode.{Mode}
@@ -180,3 +181,8 @@ module _ (agreed : Terms) where
     pub step_has : (files files' : Files (List ℕ) Holding) (turn : Turn) → Has e.position →
         DatagramStep memory_source (world_sink refuses_commit) from bytes e files turn files' → Has turn.position
     step_has files files' turn h d = acts_has (datagram_action e from bytes d.decoded) files files' turn (datagram_names e from bytes d.decoded h) h d.acts
+
+-- the peer stays known
+pub still_known : (old new : Option Terms) → ((agreed : Terms) → old ≡ Some agreed → new ≡ Some agreed) → is_some old ≡ true → is_some new ≡ true
+still_known None new kept known = absurd (true≢false (sym known))
+still_known (Some agreed) new kept known = ap is_some (kept agreed refl)

@@ -9,6 +9,7 @@ pub mod WorldRuns
 pub mod PlayedClient
 pub mod PlayedWorld
 pub mod Effect
+pub mod Room
 pub mod Clients
 pub mod Serving
 pub mod Requested

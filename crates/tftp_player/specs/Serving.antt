@@ -1,14 +1,16 @@
 -- An end of a world's server, by what the world holds of it beside the server.
-use Rattle.std.specs.Prelude.{ℕ, ◌≡◌, Bool, true, false, is_some, List, Option, Some, None, ⊤}
+use Rattle.std.specs.Prelude.{ℕ, ◌≡◌, ◌≤◌, Bool, true, false, is_some, List, length, Option, Some}
+use Rattle.std.specs.Prelude.{None, ⊤}
 use Rattle.tftp_file.specs.Memory.{memory_source}
 use Rattle.tftp_file.specs.declared.files.Files.{Files}
 use Rattle.tftp_file.specs.declared.files.Files.TheVariants.{Source, Sink}
 use Rattle.tftp_ends.specs.declared.outcome.Outcome.{Outcome}
 use Rattle.tftp_ends.specs.declared.phase.Phase.{Phase}
 use Rattle.tftp_ends.specs.declared.record.Record.{Record}
-use Rattle.tftp_ends.specs.End.{EndState, is_client, is_complete, outcome_of, record_of}
+use Rattle.tftp_ends.specs.declared.outgoing.Outgoing.{Outgoing}
+use Rattle.tftp_ends.specs.End.{EndState, is_client, is_complete, outcome_of, record_of, terms_of}
 use Rattle.tftp_ends.specs.Files.{AreFilesOf, AreSame}
-use Rattle.tftp_ends.specs.Step.{Turn, after_turn, timeout_turn}
+use Rattle.tftp_ends.specs.Step.{Turn, after_turn, lent, timeout_turn}
 use Rattle.tftp_server.specs.Draft.{files_in, KeepsStore}
 use Rattle.tftp_store.specs.Memory.{memory_meaning, with_armed}
 use Rattle.tftp_server.specs.State.{HeldTransfer, ServerState, at, draft_of, with_next, without}
@@ -37,7 +39,7 @@ abbrev pub CommitsLast : Files (List ℕ) Drafted → Phase → Type 0
 CommitsLast (Source left) phase = Unit {0}
 CommitsLast (Sink draft) phase = is_complete phase ≡ false → draft.committed ≡ false
 
--- an open end of the server: the server holds its transfer, with the same mode and path
+-- an open end of the server: the server holds its transfer, with a peer and the same mode and path
 pub record ServedKept (port : ℕ) (s : Served) (held : List (ℕ × Transfer)) : Type 0 where
   pub transfer : Transfer
   pub found : at port held ≡ Some transfer
@@ -45,6 +47,7 @@ pub record ServedKept (port : ℕ) (s : Served) (held : List (ℕ × Transfer)) 
   pub side : is_client transfer.end.role.side ≡ false
   pub files : AreFilesOf transfer.end.role.side transfer.files
   pub commits : CommitsLast transfer.files transfer.end.position.phase
+  pub known : is_some (terms_of transfer.end.position.phase) ≡ true
   pub mode : transfer.end.role.mode ≡ s.mode
   pub path : transfer.path ≡ s.path
 
@@ -99,6 +102,16 @@ pub record ServedDatagramStep (port : ℕ) (from : Endpoint) (bytes : List ℕ) 
   pub request : next.request ≡ transfer.request
   pub turns : ServedTurns port old new before after transfer.end turn next store.refuses
       (with_armed store false) effect r
+
+-- a buffer of this capacity has room for what the transfer lends
+abbrev pub IsRoomFor : Outgoing → Option Transfer → ℕ → Type 0
+IsRoomFor outgoing None capacity = ⊥
+IsRoomFor outgoing (Some h) capacity = length (lent outgoing h.end) ≤ capacity
+
+-- the transfer lends these bytes, and has this record
+abbrev pub IsSentBy : Outgoing → Option Transfer → List ℕ → Record → Type 0
+IsSentBy outgoing None bytes r = ⊥
+IsSentBy outgoing (Some h) bytes r = (bytes ≡ lent outgoing h.end) × (r ≡ record_of h.end)
 
 -- the outcome of the transfer, if it has closed
 abbrev pub ClosesAs : Option Outcome → Option Transfer → Type 0

@@ -15,10 +15,11 @@ ghost use Rattle.tftp_player.specs.Clients.{AskRefuses};
 use crate::effect::{Effect, effect_of};
 use crate::fault::WorldFault;
 use crate::hosts::{REQUEST_PORT, client_at};
+use crate::room::{answer_room, copied, largest_block, reserved};
 use crate::shelf::Shelf;
 use std::alloc::Global;
 use std::marker::Model;
-use tftp_ends::{End, EndConfig, EndFault, Endpoint, OpenFault, Record};
+use tftp_ends::{End, EndConfig, EndFault, Endpoint, OpenFault, Outgoing, Record};
 use tftp_file::{Files, MAX_WIRE, MemSource, SharedBytes, wire_length_within};
 use tftp_negotiate::Asked;
 use tftp_wire::{Bytes, Mode};
@@ -30,17 +31,21 @@ pub(crate) struct Client {
     files: Files<MemSource, Shelf>,
     /// The file that it sends, as its host stores it; empty for one that receives.
     file: SharedBytes,
+    /// The largest block size that it may agree to.
+    max_block: u16,
 }
 
 impl Model for Client {
     ghost use Rattle.tftp_ends.specs.Files.{AreFilesOf};
     ghost use Rattle.tftp_player.specs.PlayedClient.{PlayedClient};
+    ghost use Rattle.tftp_player.specs.Room.{AgreesWithin};
 
     ghost Value = { PlayedClient };
 
     ghost view = { λ c. record { end = c.end; files = c.files; file = c.file } };
 
-    ghost invariant = { λ c. AreFilesOf c.end.role.side c.files };
+    ghost invariant = { λ c. AreFilesOf c.end.role.side c.files
+        × AgreesWithin c.max_block c.end.position.phase };
 }
 
 impl Client {
@@ -68,6 +73,7 @@ impl Client {
                     end,
                     files: Files::Sink(Shelf::new(alloc)),
                     file: SharedBytes::new(),
+                    max_block: largest_block(asked),
                 },
                 effect_of(client_at(port), step, out),
             )),
@@ -119,6 +125,7 @@ impl Client {
                         end,
                         files: Files::Source(MemSource::of_shared(shared, mode)),
                         file,
+                        max_block: largest_block(asked),
                     },
                     effect_of(client_at(port), step, out),
                 ))
@@ -147,9 +154,15 @@ impl Client {
         ensures memory { IfErr result (λ fault. fault ≡ WorldFault.Memory) }
         ensures err { OnErr result (self.new ≡ self.old) }
     {
-        let mut out = Vec::new(alloc);
-        match self.end.on_datagram(&mut self.files, from, bytes, &mut out) {
-            Ok(step) => Ok((effect_of(client_at(port), step, out), self.end.record())),
+        let room = answer_room(self.max_block, &self.end.record());
+        let Ok(out) = reserved(alloc, room) else {
+            return Err(WorldFault::Memory);
+        };
+        match self.end.handle_datagram(&mut self.files, from, bytes) {
+            Ok((step, outgoing)) => {
+                let out = copied(out, self.end.bytes_of(outgoing));
+                Ok((effect_of(client_at(port), step, out), self.end.record()))
+            }
             Err(EndFault::Memory) => Err(WorldFault::Memory),
             Err(EndFault::Closed) => unreachable!(),
         }
@@ -167,11 +180,15 @@ impl Client {
         ensures memory { IfErr result (λ fault. fault ≡ WorldFault.Memory) }
         ensures err { OnErr result (self.new ≡ self.old) }
     {
-        let mut out = Vec::new(alloc);
-        match self.end.on_timeout(&mut out) {
-            Ok(step) => Ok((effect_of(client_at(port), step, out), self.end.record())),
-            Err(EndFault::Memory) => Err(WorldFault::Memory),
-            Err(EndFault::Closed) => unreachable!(),
+        let Ok(out) = reserved(alloc, self.end.bytes_of(Outgoing::LastSent).len()) else {
+            return Err(WorldFault::Memory);
+        };
+        match self.end.handle_timeout() {
+            Ok((step, outgoing)) => {
+                let out = copied(out, self.end.bytes_of(outgoing));
+                Ok((effect_of(client_at(port), step, out), self.end.record()))
+            }
+            Err(_) => unreachable!(),
         }
     }
 

@@ -17,6 +17,7 @@ pub mod laws;
 mod player;
 mod random;
 mod report;
+mod room;
 mod served;
 mod shelf;
 mod stage;

@@ -1,7 +1,7 @@
 //! A server's end, as the world holds it beside the server that plays it.
 
 ghost use Rattle.std.specs.Prelude.{◌≡◌, false, Some, Ok, option_copied, option_map, IfOk, IfErr};
-ghost use Rattle.std.specs.Prelude.{OnErr};
+ghost use Rattle.std.specs.Prelude.{OnErr, [], vec_capacity};
 ghost use Rattle.tftp_wire.specs.Borrowed.{owned};
 ghost use Rattle.tftp_file.specs.Path.{path_of_name};
 ghost use Rattle.tftp_player.specs.Requested.{IsRequested, IsAdmitted, new_served, receiver_at};
@@ -11,13 +11,16 @@ ghost use Rattle.tftp_server.specs.State.{at};
 ghost use Rattle.tftp_player.specs.Played.{IsServed, draft_or_new, served_draft, armed_served_end};
 ghost use Rattle.tftp_player.specs.Serving.{ServedKept, ServedTimeoutStep, ServedDatagramStep};
 ghost use Rattle.tftp_player.specs.Serving.{Concludes, ClosesAs, server_armed};
+ghost use Rattle.tftp_player.specs.Serving.{IsRoomFor, IsSentBy};
 
 use crate::effect::{Effect, effect_of};
 use crate::fault::WorldFault;
 use crate::hosts::server_at;
+use crate::room::{answer_room, copied, reserved};
 use std::alloc::Global;
-use tftp_ends::{Endpoint, Outcome, Record};
+use tftp_ends::{Endpoint, Outcome, Outgoing, Record};
 use tftp_file::{Path, PathFault, SharedBytes, path_of};
+use tftp_negotiate::DEFAULT_BLOCK;
 use tftp_server::{MemDraft, MemStore, Server, ServerFault};
 use tftp_wire::{Mode, PacketRef, decode_ref};
 
@@ -64,16 +67,18 @@ impl Served {
         ensures memory { IfErr result (λ fault. fault ≡ WorldFault.Memory) }
         ensures err { OnErr result ((self.new ≡ self.old) × (server.new ≡ server.old)) }
     {
-        let mut out = Vec::new(alloc);
-        match server.on_timeout(port, &mut out) {
-            Ok(step) => {
-                let Some(record) = server.record(port) else {
-                    unreachable!()
-                };
+        let Some(last_sent) = server.bytes_of(port, Outgoing::LastSent) else {
+            unreachable!()
+        };
+        let Ok(out) = reserved(alloc, last_sent.len()) else {
+            return Err(WorldFault::Memory);
+        };
+        match server.handle_timeout(port) {
+            Ok((step, outgoing)) => {
+                let (out, record) = sent_by(server, port, outgoing, out);
                 self.conclude(server, port, step.closed);
                 Ok((effect_of(server_at(port), step, out), record))
             }
-            Err(ServerFault::Memory) => Err(WorldFault::Memory),
             Err(_) => unreachable!(),
         }
     }
@@ -95,13 +100,20 @@ impl Served {
         ensures memory { IfErr result (λ fault. fault ≡ WorldFault.Memory) }
         ensures err { OnErr result ((self.new ≡ self.old) × (server.new ≡ server.old)) }
     {
-        let mut out = Vec::new(alloc);
+        let Some(before) = server.record(port) else {
+            unreachable!()
+        };
+        // it has a peer, and so the block size of its record
+        let Ok(out) = reserved(alloc, answer_room(DEFAULT_BLOCK, &before)) else {
+            return Err(WorldFault::Memory);
+        };
         arm_store(server, self.refuses);
-        let answer = server.on_datagram_recorded(port, from, bytes, &mut out);
+        let answer = server.handle_datagram(port, from, bytes);
         let refuses = server.store().refuses();
         arm_store(server, false);
         match answer {
-            Ok((step, record)) => {
+            Ok((step, outgoing)) => {
+                let (out, record) = sent_by(server, port, outgoing, out);
                 self.refuses = refuses;
                 self.conclude(server, port, step.closed);
                 Ok((effect_of(server_at(port), step, out), record))
@@ -169,6 +181,26 @@ impl Served {
         self.draft = draft;
         self.ended = Some(record);
     }
+}
+
+/// What the transfer at a port sends, in the buffer that was reserved for it, and its record.
+fn sent_by(
+    server: &Server<MemStore>,
+    port: u16,
+    outgoing: Outgoing,
+    out: Vec<u8>,
+) -> (Vec<u8>, Record)
+    requires empty { out.items ≡ [] }
+    requires room { IsRoomFor outgoing (at port server.now.held) (vec_capacity out) }
+    ensures { IsSentBy outgoing (at port server.now.held) result.0.items result.1 }
+{
+    let Some(bytes) = server.bytes_of(port, outgoing) else {
+        unreachable!()
+    };
+    let Some(record) = server.record(port) else {
+        unreachable!()
+    };
+    (copied(out, bytes), record)
 }
 
 /// Sets the server's store to refuse its next append or commit, or not to.
