@@ -1,5 +1,5 @@
 -- An end that borrows its file steps as one that owns it.
-use Rattle.std.proofs.Common.{◌≡◌, ℕ, List, Result, Ok, Err, IfOk, OnErr, refl, sym, ap, subst, ◌∙◌}
+use Rattle.std.proofs.Common.{◌≡◌, ℕ, List, Result, Ok, Err, IfOk, OnErr, refl, sym, subst}
 use Rattle.std.specs.Borrow.{MutBor}
 use Rattle.tftp_file.specs.Source.{SourceMeaning, borrowed_source}
 use Rattle.tftp_file.specs.Sink.{SinkMeaning, borrowed_sink}

@@ -11,11 +11,10 @@ use Rattle.tftp_file.specs.declared.files.Files.TheVariants.{Source, Sink}
 use Rattle.tftp_ends.specs.declared.endpoint.Endpoint.{Endpoint}
 use Rattle.tftp_ends.specs.declared.fault.EndFault.{EndFault}
 use Rattle.tftp_ends.specs.declared.fault.EndFault.TheVariants as ends
-use Rattle.tftp_ends.specs.declared.record.Record.{Record}
 use Rattle.tftp_ends.specs.declared.record.Step.{Step}
 use Rattle.tftp_ends.specs.declared.action.Action.{Action}
 use Rattle.tftp_ends.specs.Action.{Decodes, datagram_action, timeout_action}
-use Rattle.tftp_ends.specs.End.{EndState, record_of}
+use Rattle.tftp_ends.specs.End.{EndState}
 use Rattle.tftp_ends.specs.OtherSinks.{source_step_as, sink_step_as}
 use Rattle.tftp_ends.specs.Step.{IsAnswered, reported, timeout_turn}
 use Rattle.tftp_wire.specs.declared.packet.Packet.{Packet}
@@ -174,11 +173,6 @@ module _ {S F D : Type 0} (meaning : StoreMeaning S D) (sources : SourceMeaning 
         takes = h;
         held = written ∙ ap (with_next tid next) same;
       }
-
-  pub takes_recorded : (gives : Gives) (from : Endpoint) (bytes : List ℕ) (step : Step) (r : Record) → TakesBy meaning sources gives old.config.overwrite from bytes old.store new.store transfer next step → r ≡ record_of next.end →
-      (taken : TakesDatagramBy meaning sources gives tid from bytes old new step) × (r ≡ record_of taken.next.end)
-  unfolding takes_datagram
-  takes_recorded gives from bytes step r h is = (takes_datagram gives from bytes step h, is)
 
   pub keeps_held : StaysAs meaning sources old.config.overwrite old.store new.store transfer next → KeepsHeld meaning sources tid (at tid old.held) old new
   keeps_held h =

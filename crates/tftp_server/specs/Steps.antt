@@ -5,9 +5,8 @@ use Rattle.tftp_file.specs.Source.{SourceMeaning}
 use Rattle.tftp_file.specs.Sink.{SinkMeaning}
 use Rattle.tftp_file.specs.declared.files.Files.{Files}
 use Rattle.tftp_ends.specs.declared.endpoint.Endpoint.{Endpoint}
-use Rattle.tftp_ends.specs.declared.record.Record.{Record}
 use Rattle.tftp_ends.specs.declared.record.Step.{Step}
-use Rattle.tftp_ends.specs.End.{EndState, record_of}
+use Rattle.tftp_ends.specs.End.{EndState}
 use Rattle.tftp_ends.specs.Files.{KeepsFiles, AreSame}
 use Rattle.tftp_ends.specs.Action.{Decodes, datagram_action, timeout_action}
 use Rattle.tftp_ends.specs.Step.{Turn, DatagramStep, Carries, Lends, IsAnswered, UsesFile}
@@ -136,13 +135,6 @@ module _ {S F D : Type 0} (meaning : StoreMeaning S D) (sources : SourceMeaning 
       → Step → Outgoing → Type 0
   TakesDatagramLent tid from bytes old new step outgoing =
       TakesDatagramBy (lends outgoing) tid from bytes old new step
-
-  -- and this is its new record
-  abbrev pub TakesRecorded : ℕ → Endpoint → List ℕ → ServerState S F D → ServerState S F D
-      → Step → Record → List ℕ → List ℕ → Type 0
-  TakesRecorded tid from bytes old new step r before after =
-      (taken : TakesDatagram tid from bytes old new step before after)
-      × (r ≡ record_of taken.next.end)
 
   -- the transfer stays; what its file and the store hold is the same
   pub record StaysAs (replace : Bool) (store store' : S)

@@ -19,7 +19,7 @@ ghost use Rattle.tftp_server.specs.Port.{Ignores, asks, asks_store, granted_size
 ghost use Rattle.tftp_server.specs.State.{IsRepeated, at, draft_at, is_open, open_records};
 ghost use Rattle.tftp_server.specs.State.{taken_of, without};
 ghost use Rattle.tftp_server.specs.Steps.{TimesOut, TimesOutLent, TimeoutFault, TakesDatagram};
-ghost use Rattle.tftp_server.specs.Steps.{TakesDatagramLent, TakesRecorded, DatagramFault};
+ghost use Rattle.tftp_server.specs.Steps.{TakesDatagramLent, DatagramFault};
 ghost use Rattle.tftp_server.specs.Steps.{DatagramFaultLent, KeepsHeld};
 ghost use Rattle.tftp_server.specs.Work.{WorksAt};
 ghost use Rattle.std.specs.Borrow.{Lends, sem};
@@ -147,39 +147,12 @@ impl<S: Store> Server<S> {
         ensures err { OnErr result (KeepsHeld S.meaning S.Source.meaning
             tid (at tid self.old.held) self.old self.new × (out.new.items ≡ out.old.items)) }
     {
-        match self.on_datagram_recorded(tid, from, bytes, out) {
-            Ok((step, _)) => Ok(step),
-            Err(fault) => Err(fault),
-        }
-    }
-
-    /// As [`Server::on_datagram`], and it also returns the new record of the transfer, with one
-    /// look-up for both.
-    pub fn on_datagram_recorded(
-        &mut self,
-        tid: u16,
-        from: Endpoint,
-        bytes: &[u8],
-        out: &mut Vec<u8>,
-    ) -> Result<(Step, Record), ServerFault>
-        ensures takes { IfOk result (λ answer. TakesRecorded S.meaning S.Source.meaning
-            tid from bytes.now self.old self.new answer.0 answer.1 out.old.items out.new.items) }
-        ensures rest { self.new ≡ record self.old { store = self.new.store; held = self.new.held } }
-        ensures no_such_tid { IsErrOf result ServerFault.NoSuchTid
-            ↔ (is_open (at tid self.old.held) ≡ false) }
-        ensures unmoved { IsErrOf result ServerFault.NoSuchTid → self.new ≡ self.old }
-        ensures fault { IfErr result (DatagramFault from bytes.now (at tid self.old.held)) }
-        ensures err { OnErr result (KeepsHeld S.meaning S.Source.meaning
-            tid (at tid self.old.held) self.old self.new × (out.new.items ≡ out.old.items)) }
-    {
         let Some(transfer) = self.table.get_mut(tid) else {
             return Err(ServerFault::NoSuchTid);
         };
         let replace = self.config.overwrite;
-        let answer = transfer.on_datagram(&mut self.store, replace, from, bytes, out);
-        let record = transfer.record();
-        match answer {
-            Ok(step) => Ok((step, record)),
+        match transfer.on_datagram(&mut self.store, replace, from, bytes, out) {
+            Ok(step) => Ok(step),
             Err(fault) => Err(ServerFault::from(fault)),
         }
     }

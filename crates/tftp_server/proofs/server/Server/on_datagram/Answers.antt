@@ -2,17 +2,16 @@
 use Rattle.std.proofs.Common.{◌≡◌, ◌∙◌, refl, ap}
 use Rattle.tftp_server.specs.State.{ServerState, at, with_next}
 use Rattle.tftp_ends.specs.Step.{IsAnswered}
-use Rattle.tftp_ends.specs.declared.record.Record.{Record}
 use Rattle.tftp_ends.specs.declared.record.Step.{Step}
 use Rattle.tftp_server.specs.Steps.{appends}
-use Rattle.tftp_server.proofs.StepsLemmas.{found_now, datagram_fault, takes_recorded, keeps_held, leaves_unmoved}
-use Rattle.tftp_server.proofs.server.Server.on_datagram_recorded.Goals as goal
-use Rattle.tftp_server.proofs.server.Server.on_datagram_recorded.Goals.{in-Ok, in-Err}
+use Rattle.tftp_server.proofs.StepsLemmas.{found_now, datagram_fault, takes_datagram, keeps_held, leaves_unmoved}
+use Rattle.tftp_server.proofs.server.Server.on_datagram.Goals as goal
+use Rattle.tftp_server.proofs.server.Server.on_datagram.Goals.{in-Ok, in-Err}
 
 pub returns-clause-fault : goal.returns-clause-fault
 returns-clause-fault g c =
     let same : c.self.inside.table ≡ c.args.self.now.held = ap (λ (s : ServerState g.row.S.Denot g.row.S-Source.Denot g.row.S-Draft.Denot). s.held) c.self.view_is in
-    elim c.match-answer.branch [
+    elim c.match-on_datagram.branch [
       | in-Ok w ↦ rw w.result-is tt
       | in-Err w ↦
           rw w.result-is
@@ -23,30 +22,30 @@ returns-clause-fault g c =
 
 pub returns-clause-takes : goal.returns-clause-takes
 returns-clause-takes g c =
-    elim c.match-answer.branch [
+    elim c.match-on_datagram.branch [
       | in-Ok w ↦
           rw (w.result-is, ← c.self.view_is)
-          (takes_recorded g.S.Store.meaning g.S.Source.Source.meaning c.args.tid _ _ c.self.inside.table c.in-Some.transfer.now c.on_datagram-answer.new.self refl c.in-Some.ensures.value refl
-          (appends c.args.out.now.items c.on_datagram-answer.new.out.items) c.args.from c.args.bytes.now w.in-Ok.step c.record-record.result w.in-Ok.ensures.takes c.record-record.ensures)
+          (takes_datagram g.S.Store.meaning g.S.Source.Source.meaning c.args.tid _ _ c.self.inside.table c.in-Some.transfer.now c.on_datagram.new.self refl c.in-Some.ensures.value refl
+          (appends c.args.out.now.items c.on_datagram.new.out.items) c.args.from c.args.bytes.now w.in-Ok.step w.in-Ok.ensures.takes)
       | in-Err w ↦ rw w.result-is tt
     ]
 
 pub returns-clause-err : goal.returns-clause-err
 returns-clause-err g c =
     let old : ServerState g.row.S.Denot g.row.S-Source.Denot g.row.S-Draft.Denot = record { config = c.self.inside.config; store = c.self.inside.store; held = c.self.inside.table } in
-    let new : ServerState g.row.S.Denot g.row.S-Source.Denot g.row.S-Draft.Denot = record { config = c.self.inside.config; store = c.on_datagram-answer.new.store; held = with_next c.args.tid c.on_datagram-answer.new.self c.self.inside.table } in
-    elim c.match-answer.branch [
+    let new : ServerState g.row.S.Denot g.row.S-Source.Denot g.row.S-Draft.Denot = record { config = c.self.inside.config; store = c.on_datagram.new.store; held = with_next c.args.tid c.on_datagram.new.self c.self.inside.table } in
+    elim c.match-on_datagram.branch [
       | in-Ok w ↦ rw w.result-is tt
-      | in-Err w ↦ rw (w.result-is, ← c.self.view_is) (keeps_held g.S.Store.meaning g.S.Source.Source.meaning c.args.tid old new c.self.inside.table c.in-Some.transfer.now c.on_datagram-answer.new.self refl c.in-Some.ensures.value refl w.in-Err.ensures.err.0, w.in-Err.ensures.err.1)
+      | in-Err w ↦ rw (w.result-is, ← c.self.view_is) (keeps_held g.S.Store.meaning g.S.Source.Source.meaning c.args.tid old new c.self.inside.table c.in-Some.transfer.now c.on_datagram.new.self refl c.in-Some.ensures.value refl w.in-Err.ensures.err.0, w.in-Err.ensures.err.1)
     ]
 
 pub returns-clause-unmoved : goal.returns-clause-unmoved
 returns-clause-unmoved g c =
-    elim c.match-answer.branch [
+    elim c.match-on_datagram.branch [
       | in-Ok w ↦ rw w.result-is (λ e. absurd (cc))
       | in-Err w ↦
           rw w.result-is
-          (λ e. leaves_unmoved {R = Step} {Q = Step × Record} c.self.inside.config c.self.inside.store c.on_datagram-answer.new.store c.args.tid c.self.inside.table
-          c.in-Some.transfer.now c.on_datagram-answer.new.self w.in-Err.fault w.from.result c.in-Some.ensures.value w.from.ensures w.in-Err.ensures.unmoved e
+          (λ e. leaves_unmoved {R = Step} {Q = Step} c.self.inside.config c.self.inside.store c.on_datagram.new.store c.args.tid c.self.inside.table
+          c.in-Some.transfer.now c.on_datagram.new.self w.in-Err.fault w.from.result c.in-Some.ensures.value w.from.ensures w.in-Err.ensures.unmoved e
           ∙ c.self.view_is)
     ]
