@@ -179,8 +179,9 @@ impl<S: ServedStore + Drop> Daemon<S> {
             return PortStatus::Empty;
         }
         let now = self.sockets.watch.now;
+        let open = self.ports.len();
         let port = &mut self.ports[index];
-        take_ready(&mut self.server, port, &mut self.journal, now, buffer)
+        take_ready(&mut self.server, port, &mut self.journal, now, open, buffer)
     }
 
     /// Serves the due ports, in the order of the server's identifiers: datagrams first, then the
@@ -236,8 +237,9 @@ impl<S: ServedStore + Drop> Daemon<S> {
             return PortStatus::Empty;
         }
         let now = self.sockets.watch.now;
+        let open = self.ports.len();
         let port = &mut self.ports[index];
-        take_due(&mut self.server, port, &mut self.journal, now, buffer)
+        take_due(&mut self.server, port, &mut self.journal, now, open, buffer)
     }
 
     /// Closes the port of a closed transfer, and returns how many transfers are yet to close.

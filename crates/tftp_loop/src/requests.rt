@@ -26,6 +26,10 @@ use tftp_sockets::ServerSocket;
 /// The identifier passed to the server for a datagram that opens no transfer.
 const NO_PORT: u16 = 0;
 
+/// The most bytes that the files of all transfers read ahead: more leave a processor's cache before
+/// they are sent.
+const MOST_AHEAD: usize = 1 << 20;
+
 impl<S: ServedStore + Drop> Daemon<S> {
     /// Handles the datagrams at the request port, at most `MOST_AT_ONCE`. `left` is the number of
     /// transfers yet to close.
@@ -280,6 +284,7 @@ impl<S: ServedStore + Drop> Daemon<S> {
                 peer,
                 interval,
                 times_out_at: due,
+                works_up_to: works_up_to(&self.server, tid),
                 log_entry,
             },
         }
@@ -323,6 +328,18 @@ fn interval_of<S: Store>(server: &Server<S>, tid: u16) -> u8
     match server.record(tid) {
         Some(record) => record.interval(),
         None => DEFAULT_INTERVAL,
+    }
+}
+
+/// The number of open transfers up to which this one's file reads ahead: as many as have a block
+/// each in `MOST_AHEAD` bytes. A file that is written has no bound: its writes go on beside others.
+fn works_up_to<S: Store>(server: &Server<S>, tid: u16) -> usize {
+    match server.record(tid) {
+        Some(record) if record.side.is_sender() => {
+            let block = usize::from(record.size);
+            MOST_AHEAD.checked_div(block).unwrap_or(usize::MAX)
+        }
+        _ => usize::MAX,
     }
 }
 

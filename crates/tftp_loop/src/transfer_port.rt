@@ -45,6 +45,8 @@ pub(crate) struct TransferSocket {
     pub(crate) interval: u8,
     /// When the transfer times out, in milliseconds. The port may be due earlier, to be read again.
     pub(crate) times_out_at: u64,
+    /// The number of open transfers up to which its file reads ahead or is written back.
+    pub(crate) works_up_to: usize,
     /// The log entry, if there is a log.
     pub(crate) log_entry: Option<LogEntry>,
 }
@@ -116,12 +118,16 @@ fn restart_by(port: &mut TransferPort, now: u64, is_progress: bool)
     }
 }
 
-/// Lets the file read ahead or be written back after progress, if the transfer is still open.
-fn work_after<S: Store>(server: &mut Server<S>, tid: u16, step: &Step)
+/// Lets the file read ahead or be written back after progress, if the transfer is still open and
+/// its file may.
+fn work_after<S: Store>(server: &mut Server<S>, tid: u16, step: &Step, may_work: bool)
     ensures works { (server.new ≡ server.old)
         ⊎ WorksAtPort S.meaning S.Source.meaning tid server.old server.new }
     ensures closed { IsSome step.now.closed → server.new ≡ server.old }
 {
+    if !may_work {
+        return;
+    }
     if !step.progress {
         return;
     }
@@ -146,12 +152,13 @@ fn status_of(step: &Step) -> PortStatus
 }
 
 /// Receives a datagram at a transfer's port, if there is one, and handles it. The datagram is lost
-/// when out of memory.
+/// when out of memory. `open` is the number of open transfers.
 fn take_datagram<S: Store>(
     server: &mut Server<S>,
     port: &mut TransferPort,
     journal: &mut Journal,
     now: u64,
+    open: usize,
     buffer: &mut [u8],
 ) -> PortStatus
     ensures serves { OnlyServesPort S.meaning S.Source.meaning now server.old port.old journal.old
@@ -162,7 +169,7 @@ fn take_datagram<S: Store>(
     let Some((from, count)) = port.socket.udp.receive(journal, buffer) else {
         return PortStatus::Empty;
     };
-    answer_received(server, port, journal, now, from, &buffer[..count])
+    answer_received(server, port, journal, now, open, from, &buffer[..count])
 }
 
 /// Handles a datagram received at the port of a transfer, and sends the answer. After that the file
@@ -172,6 +179,7 @@ fn answer_received<S: Store>(
     port: &mut TransferPort,
     journal: &mut Journal,
     now: u64,
+    open: usize,
     from: Endpoint,
     bytes: &[u8],
 ) -> PortStatus
@@ -194,7 +202,8 @@ fn answer_received<S: Store>(
         return PortStatus::Unfinished;
     };
     restart_by(port, now, step.progress);
-    work_after(server, port.socket.udp.port(), &step);
+    let may_work = open <= port.socket.works_up_to;
+    work_after(server, port.socket.udp.port(), &step, may_work);
     status_of(&step)
 }
 
@@ -204,6 +213,7 @@ fn take_datagrams<S: Store>(
     port: &mut TransferPort,
     journal: &mut Journal,
     now: u64,
+    open: usize,
     buffer: &mut [u8],
 ) -> PortStatus
     ensures serves { OnlyServesPort S.meaning S.Source.meaning now server.old port.old journal.old
@@ -212,7 +222,7 @@ fn take_datagrams<S: Store>(
         → IsSome (taken_of (at port.new.socket.udp.port server.new.held)) }
 {
     for _ in 0..MOST_AT_ONCE {
-        let status = take_datagram(server, port, journal, now, buffer);
+        let status = take_datagram(server, port, journal, now, open, buffer);
         if status != PortStatus::Unfinished {
             return status;
         }
@@ -226,6 +236,7 @@ fn take_noted<S: Store>(
     port: &mut TransferPort,
     journal: &mut Journal,
     now: u64,
+    open: usize,
     buffer: &mut [u8],
 ) -> PortStatus
     ensures serves { OnlyServesPort S.meaning S.Source.meaning now server.old port.old journal.old
@@ -233,7 +244,7 @@ fn take_noted<S: Store>(
     ensures closed { result ≡ PortStatus.Closed
         → IsSome (taken_of (at port.new.socket.udp.port server.new.held)) }
 {
-    let status = take_datagrams(server, port, journal, now, buffer);
+    let status = take_datagrams(server, port, journal, now, open, buffer);
     port.is_ready = status == PortStatus::Unfinished;
     status
 }
@@ -244,6 +255,7 @@ pub(crate) fn take_ready<S: Store>(
     port: &mut TransferPort,
     journal: &mut Journal,
     now: u64,
+    open: usize,
     buffer: &mut [u8],
 ) -> PortStatus
     ensures serves { OnlyServesPort S.meaning S.Source.meaning now server.old port.old journal.old
@@ -254,7 +266,7 @@ pub(crate) fn take_ready<S: Store>(
     if !port.is_ready {
         return PortStatus::Empty;
     }
-    take_noted(server, port, journal, now, buffer)
+    take_noted(server, port, journal, now, open, buffer)
 }
 
 /// Handles the datagrams at a due port. Without progress, delivers the timeout if that is due.
@@ -263,6 +275,7 @@ pub(crate) fn take_due<S: Store>(
     port: &mut TransferPort,
     journal: &mut Journal,
     now: u64,
+    open: usize,
     buffer: &mut [u8],
 ) -> PortStatus
     ensures serves { OnlyServesPort S.meaning S.Source.meaning now server.old port.old journal.old
@@ -273,7 +286,7 @@ pub(crate) fn take_due<S: Store>(
     if !is_due(now, port.due) {
         return PortStatus::Empty;
     }
-    let status = take_noted(server, port, journal, now, buffer);
+    let status = take_noted(server, port, journal, now, open, buffer);
     if status == PortStatus::Closed {
         return PortStatus::Closed;
     }
