@@ -45,6 +45,8 @@ TRACED = [
 ]
 TINY = Case("get", 512, 1, 100)
 TINY_FILES = 1_000
+# rounds of a case of several clients for one of a single client: they scatter more
+MANY = 3
 LAST_CPU = os.cpu_count() - 1
 SERVER_CPU, CLIENT_CPU, OWN_CPU = 0, min(1, LAST_CPU), min(2, LAST_CPU)
 
@@ -77,16 +79,20 @@ def answer(port, datagram, wait=1.0):
         return answered
 
 
-def start_server(server, room, stack):
+def start_server(server, room):
     """Starts a server, waits until it answers, and returns its process and its port."""
     with socket.socket(socket.AF_INET, socket.SOCK_DGRAM) as free:
         free.bind((peers.HOST, 0))
         port = server.port or free.getsockname()[1]
     process = started(SERVER_CPU, server.words(room, port))
-    stack.callback(lambda: (process.terminate(), process.wait()))
     if not any(answer(port, request("get", "absent"), 0.1) or time.sleep(0.05) for _ in range(50)):
         sys.exit(f"{server.name} gives no answer")
     return process, port
+
+
+def stop(process):
+    process.terminate()
+    process.wait()
 
 
 @contextmanager
@@ -190,8 +196,6 @@ def clocked(process, log, run):
 
 def measure_server(client, running, case, room):
     process, port = running
-    if case.verb == "put" and case.count > 32:
-        time.sleep(2.1)  # tftpd keeps the places of the round before for two timeouts
     forget_memory(process)
     gave, cpu = clocked(process, f"{room}/perf.log", lambda: transfer(client, port, case, room))
     total = case.count * case.size
@@ -296,10 +300,17 @@ class Bench:
         self.room = room
         found = peers.installed([peers.Tftpd(tftpd), peers.TftpdHpa(), peers.Atftpd(), peers.Dnsmasq()])
         self.servers = {server.name: server for server in found}
-        self.running = {server.name: start_server(server, room, stack) for server in found}
+        self.running = {server.name: start_server(server, room) for server in found}
+        stack.callback(lambda: [stop(process) for process, _ in self.running.values()])
         found = peers.installed([peers.Tftp(tftp), peers.Busybox(), peers.Atftp(), peers.Curl(), peers.TftpHpa()])
         self.clients = {client.name: client for client in found}
         self.able = {}
+
+    def restarted(self, server):
+        """The server, started anew: a run does not depend on what earlier ones left in its memory."""
+        stop(self.running[server][0])
+        self.running[server] = start_server(self.servers[server], self.room)
+        return self.running[server]
 
     def has(self, client, server, case):
         key = client, server, case.verb, case.block
@@ -327,17 +338,18 @@ class Bench:
             client, server = self.client_for(case), self.server_for(case)
             if not client or not server:
                 continue
+            turns = rounds * (MANY if case.count > 1 else 1)
             print(f"\n{title(case)}: servers under {client}       MB/s  ratio    s/GiB      MB")
             compare(
                 list(self.servers),
-                rounds,
+                turns,
                 lambda name: self.has(client, name, case)
-                and measure_server(self.clients[client], self.running[name], case, self.room),
+                and measure_server(self.clients[client], self.restarted(name), case, self.room),
             )
             print(f"{title(case)}: clients over {server}")
             compare(
                 list(self.clients),
-                rounds,
+                turns,
                 lambda name: self.has(name, server, case)
                 and measure_client(self.clients[name], self.running[server], case, self.room),
             )
